@@ -1,0 +1,2 @@
+pub mod Pos
+pub mod Rect

@@ -1,0 +1,8 @@
+//! Positions of a space, rectangular areas of it, and how far they lie apart.
+#![tactic(auto)]
+
+mod pos;
+mod rect;
+
+pub use pos::{Pos, dist};
+pub use rect::Rect;
