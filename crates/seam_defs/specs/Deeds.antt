@@ -1,0 +1,131 @@
+-- Groups of values, and what a deed does to a state.
+use Rattle.std.specs.Prelude.{◌≡◌, ℕ, ℤ, pos, ◌+◌, ◌-◌, ◌+ℤ◌, ◌-ℤ◌, Bool, true, false, IsTrue, List, [], ◌∷◌, ◌++◌, length, map, filter, fold, slice_index_or, slice_set, take}
+use Rattle.std.specs.List.{zip, flat_map}
+use Rattle.std.specs.Int.{int_min, int_max}
+use Rattle.seam_value.specs.Types.{least, greatest}
+use Rattle.seam_value.specs.Values.{text_of}
+use Rattle.seam_value.specs.declared.types.ValueType.{ValueType}
+use Rattle.seam_value.specs.declared.values.Value.{Value}
+use Rattle.seam_value.specs.declared.values.Value.TheVariants.{Number, Text}
+use Rattle.seam_defs.specs.declared.flags.Group.{Group}
+use Rattle.seam_defs.specs.declared.flags.Group.TheVariants as group
+use Rattle.seam_defs.specs.declared.types.Property.{Property}
+use Rattle.seam_defs.specs.declared.types.Operand.{Operand}
+use Rattle.seam_defs.specs.declared.types.Operand.TheVariants.{Arg, Constant}
+use Rattle.seam_defs.specs.declared.types.Operation.{Operation}
+use Rattle.seam_defs.specs.declared.types.Operation.TheVariants.{Put, Add, Sub}
+use Rattle.seam_defs.specs.declared.types.Method.{Method as MethodDef}
+use Rattle.seam_defs.specs.declared.types.TypeDef.{TypeDef}
+use Rattle.seam_defs.specs.declared.states.Deed.{Deed}
+use Rattle.seam_defs.specs.declared.states.Deed.TheVariants.{Move, Method}
+use Rattle.seam_defs.specs.declared.states.State.{State}
+use Rattle.seam_defs.specs.Groups.{in_group, held_by}
+use Rattle.seam_defs.specs.declared.flags.Part.{Part}
+use Rattle.seam_defs.specs.declared.flags.Part.TheVariants as part
+use Rattle.seam_value.specs.declared.types.ValueType.TheVariants as type
+use Rattle.seam_defs.specs.Types.{type_of, method_of}
+
+-- ---- groups
+
+-- the properties of a group, in name order
+abbrev pub properties_of : List Property → Group → List Property
+properties_of ps g = filter (λ p. in_group p.flag g) ps
+
+-- the values that a new entity has
+abbrev pub start_values : List Property → Group → List Value
+start_values ps g = map (λ p. p.default) (properties_of ps g)
+
+-- of the values of a group those whose properties stand in another one too
+abbrev pub taken : List Property → Group → Group → List Value → List Value
+taken ps held g values = map (λ e. e.1) (filter (λ e. in_group e.0.flag g) (zip (properties_of ps held) values))
+
+-- the text of a property: a space, the name, `=` and the value's spelling
+abbrev pub property_text : Property × Value → List ℕ
+property_text e = 32 ∷ e.0.name ++ 61 ∷ text_of e.1
+
+-- the text of a group's values, in name order
+abbrev pub values_text : List Property → Group → List Value → List ℕ
+values_text ps g values = flat_map property_text (zip (properties_of ps g) values)
+
+-- ---- one deed
+
+-- the nearest number of a number type
+abbrev pub nearest : ValueType → ℤ → ℤ
+nearest t z = int_max (int_min z (greatest t)) (least t)
+
+-- a value as a number (well-typed operations never ask it of a text)
+abbrev pub number_of : Value → ℤ
+number_of (Number z) = z
+number_of (Text bytes) = pos 0
+
+-- what an operand stands for (a well-typed one has its argument)
+abbrev pub operand_value : List Value → Operand → Value
+operand_value args (Arg k) = slice_index_or args (k - 1) (Number (pos 0))
+operand_value args (Constant v) = v
+
+abbrev pub target : Operation → ℕ
+target (Put k a) = k
+target (Add k a) = k
+target (Sub k a) = k
+
+abbrev pub operand : Operation → Operand
+operand (Put k a) = a
+operand (Add k a) = a
+operand (Sub k a) = a
+
+-- the value that an operation with the operand's value `by` gives a property of type `t` that had the value `old`
+abbrev pub operated : Operation → ValueType → Value → Value → Value
+operated (Put k a) t old by = by
+operated (Add k a) t old by = Number (nearest t (number_of old +ℤ number_of by))
+operated (Sub k a) t old by = Number (nearest t (number_of old -ℤ number_of by))
+
+-- the place of a property's value among those of its group: as many as the group's properties before it
+abbrev pub place_of : List Property → Group → ℕ → ℕ
+place_of ps g k = length (properties_of (take k ps) g)
+
+abbrev pub type_at : List Property → ℕ → ValueType
+type_at ps k = slice_index_or (map (λ p. p.ty) ps) k type.Text
+
+-- a group's values after an operation, which replaces the value of its property
+abbrev pub after_operation : List Property → Group → List Value → List Value → Operation → List Value
+after_operation ps g args values op =
+  let place = place_of ps g (target op) in
+  slice_set values place (operated op (type_at ps (target op)) (slice_index_or values place (Number (pos 0))) (operand_value args (operand op)))
+
+-- a group's values after a body, whose operations run from left to right
+abbrev pub after_body : List Property → Group → List Value → List Operation → List Value → List Value
+after_body ps g args body values = fold (λ vs op. after_operation ps g args vs op) values body
+
+-- the state after a deed: a move sets the position alone, a method runs its body on the values of its part
+abbrev pub after : List TypeDef → ℕ → State → Deed → State
+after defs ty s (Move p) = record { pos = p; props = s.props }
+after defs ty s (Method m args) =
+  record { pos = s.pos; props = after_body (type_of defs ty).properties (held_by (method_of defs ty m).part) args (method_of defs ty m).body s.props }
+
+-- the part that a deed is done on: a move is for the cell part
+abbrev pub part_of_deed : List TypeDef → ℕ → Deed → Part
+part_of_deed defs ty (Move p) = part.Cell
+part_of_deed defs ty (Method m args) = (method_of defs ty m).part
+
+-- ---- what is held where
+
+-- what a ghost holds of a real's state
+abbrev pub ghost_of : List Property → State → State
+ghost_of ps s = record { pos = s.pos; props = taken ps group.Real group.Ghost s.props }
+
+-- what the own client is shown of the cell part
+abbrev pub own_of : List Property → State → State
+own_of ps s = record { pos = s.pos; props = taken ps group.Real group.Own s.props }
+
+-- what other clients are shown of it
+abbrev pub other_of : List Property → State → State
+other_of ps s = record { pos = s.pos; props = taken ps group.Real group.Other s.props }
+
+-- what the own client is shown of the base part
+abbrev pub client_of : List Property → State → List Value
+client_of ps s = taken ps group.Base group.BaseClient s.props
+
+-- what others may see of a part is as it was: of a cell part what a ghost holds, of a base part what its client is shown
+abbrev pub SameShown : List Property → Part → State → State → Type 0
+SameShown ps part.Cell old new = ghost_of ps old ≡ ghost_of ps new
+SameShown ps part.Base old new = client_of ps old ≡ client_of ps new

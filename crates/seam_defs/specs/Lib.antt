@@ -1,0 +1,6 @@
+pub mod Groups
+pub mod Settings
+pub mod Types
+pub mod Deeds
+pub mod Builtin
+pub mod Rows

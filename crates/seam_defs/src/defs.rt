@@ -1,0 +1,141 @@
+ghost use Rattle.std.specs.Prelude.{◌≡◌, ◌≢◌, ℕ, ◌<◌, ◌≤◌, ◌↔◌, IsTrue, MatchOption, IfSome, IfNone, length, slice_get};
+ghost use Rattle.seam_defs.specs.Types.{AreDefs, type_of, method_of, no_method};
+
+use crate::{Method, Part, TypeDef};
+use seam_value::ValueType;
+use std::alloc::Global;
+use std::marker::Model;
+
+/// The types of entities of a world, numbered by their places. A number that the definitions do not have stands for a type
+/// without properties and methods, or for a method that does nothing.
+#[derive(Debug, Drop)]
+pub struct Defs {
+    pub(crate) alloc: Global,
+    pub(crate) types: Vec<TypeDef>,
+}
+
+impl Model for Defs {
+    ghost use Rattle.std.specs.Prelude.{List};
+    ghost use Rattle.seam_defs.specs.declared.types.TypeDef.{TypeDef as AnyType};
+    ghost use Rattle.seam_defs.specs.Types.{AreDefs};
+
+    ghost Value = { List AnyType };
+
+    ghost view = { λ d. d.types.items };
+
+    ghost invariant = { λ d. AreDefs d.types.items };
+}
+
+impl Defs {
+    /// Definitions of these types, which have to be well formed.
+    pub fn of_types(alloc: Global, types: Vec<TypeDef>) -> Self
+        requires { AreDefs types.items }
+        ensures { result ≡ types.items }
+    {
+        Defs { alloc, types }
+    }
+
+    /// The number of the type of this name.
+    pub fn find_type(&self, name: &[u8]) -> Option<u16> {
+        match self.types.binary_search_by(|t| t.name.bytes().cmp(name)) {
+            Ok(place) => Some(place as u16),
+            Err(_) => None,
+        }
+    }
+
+    /// The number of the method of this name that the type has.
+    pub fn find_method(&self, ty: u16, name: &[u8]) -> Option<u16> {
+        match self.methods(ty).binary_search_by(|m| m.name.bytes().cmp(name)) {
+            Ok(place) => Some(place as u16),
+            Err(_) => None,
+        }
+    }
+
+    // The methods of a type, of which there are few.
+    pub(crate) fn methods(&self, ty: u16) -> &[Method]
+        ensures value { result.now ≡ (type_of self.now ty).methods }
+        ensures few { length result.now ≤ 32 }
+    {
+        match self.types.get(ty as usize) {
+            Some(t) => t.methods.as_slice(),
+            None => &[],
+        }
+    }
+
+    // A method of a type, where there is one of this number.
+    pub(crate) fn method(&self, ty: u16, method: u16) -> Option<&Method>
+        ensures found { IfSome result (λ m. m.now ≡ method_of self.now ty method) }
+        ensures none { IfNone result (method_of self.now ty method ≡ no_method) }
+    {
+        let methods = self.methods(ty);
+        if (method as usize) < methods.len() {
+            Some(&methods[method as usize])
+        } else {
+            None
+        }
+    }
+
+    /// Whether there is a type of this number.
+    pub fn has_type(&self, ty: u16) -> bool
+        ensures { IsTrue result ↔ (ty < length self.now) }
+    {
+        (ty as usize) < self.types.len()
+    }
+
+    /// Whether the type has a method of this number.
+    pub fn has_method(&self, ty: u16, method: u16) -> bool
+        ensures { IsTrue result ↔ (method < length (type_of self.now ty).methods) }
+    {
+        (method as usize) < self.methods(ty).len()
+    }
+
+    /// The name of a type.
+    pub fn type_name(&self, ty: u16) -> &[u8]
+        ensures { result.now ≡ (type_of self.now ty).name }
+    {
+        match self.types.get(ty as usize) {
+            Some(t) => t.name.bytes(),
+            None => b"",
+        }
+    }
+
+    /// The name of a method.
+    pub fn method_name(&self, ty: u16, method: u16) -> &[u8]
+        ensures { result.now ≡ (method_of self.now ty method).name }
+    {
+        match self.method(ty, method) {
+            Some(m) => m.name.bytes(),
+            None => b"",
+        }
+    }
+
+    /// The part whose properties a method works on.
+    pub fn part_of(&self, ty: u16, method: u16) -> Part
+        ensures { result ≡ (method_of self.now ty method).part }
+    {
+        match self.method(ty, method) {
+            Some(m) => m.part,
+            None => Part::Cell,
+        }
+    }
+
+    /// Whether clients may call a method.
+    pub fn is_exposed(&self, ty: u16, method: u16) -> bool
+        ensures { result ≡ (method_of self.now ty method).exposed }
+    {
+        match self.method(ty, method) {
+            Some(m) => m.exposed,
+            None => false,
+        }
+    }
+
+    /// The type of a method's argument, counted from 0: None where it has not so many.
+    pub fn arg_type(&self, ty: u16, method: u16, i: usize) -> Option<ValueType>
+        ensures { result ≡ slice_get (method_of self.now ty method).args i }
+    {
+        match self.method(ty, method) {
+            Some(m) => m.args.as_slice().get(i).copied(),
+            None => None,
+        }
+    }
+}

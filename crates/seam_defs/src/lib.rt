@@ -1,0 +1,20 @@
+//! Definitions of entities: types, properties with their distribution flags, methods whose bodies are lists of simple
+//! operations, and what one deed does to a state.
+#![tactic(auto)]
+
+mod builtin;
+mod deeds;
+mod defs;
+mod flags;
+mod groups;
+mod listed;
+mod settings;
+mod states;
+mod types;
+
+pub use defs::Defs;
+pub use flags::{Flag, Group, Part};
+pub use listed::Listed;
+pub use settings::Settings;
+pub use states::{Args, Deed, Props, State};
+pub use types::{Method, Operand, Operation, Property, TypeDef};
