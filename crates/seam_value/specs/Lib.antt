@@ -1,0 +1,4 @@
+pub mod Types
+pub mod Texts
+pub mod Values
+pub mod Causes

@@ -1,0 +1,13 @@
+//! The values that properties and arguments hold: whole numbers and short texts, their nine types,
+//! and the one way in which each value is spelled.
+#![tactic(auto)]
+
+mod reading;
+mod texts;
+mod types;
+mod values;
+mod writing;
+
+pub use texts::ShortText;
+pub use types::ValueType;
+pub use values::{Value, ValueError};

@@ -1,0 +1,78 @@
+// The types of values.
+ghost use Rattle.std.specs.Prelude.{◌≡◌, ◌≢◌, ◌↔◌, IsTrue, MatchOption};
+ghost use Rattle.seam_value.specs.declared.types.ValueType.{ValueType as Types};
+ghost use Rattle.seam_value.specs.Types.{name_of, least as least_of, greatest as greatest_of};
+
+/// The type of a value: a whole number of 8 to 64 bits, with or without a sign, or a text.
+#[derive(Clone, Copy, Debug, PartialEq, Eq)]
+pub enum ValueType {
+    Int8,
+    Int16,
+    Int32,
+    Int64,
+    Uint8,
+    Uint16,
+    Uint32,
+    Uint64,
+    Text,
+}
+
+impl ValueType {
+    /// The type of this name: `INT8` to `INT64`, `UINT8` to `UINT64`, or `STRING`. `None` for every other text.
+    pub fn named(name: &str) -> Option<ValueType>
+        ensures { MatchOption result ((t : Types) → name_of t ≢ name.now) (λ t. name_of t ≡ name.now) }
+    {
+        match name {
+            "INT8" => Some(ValueType::Int8),
+            "INT16" => Some(ValueType::Int16),
+            "INT32" => Some(ValueType::Int32),
+            "INT64" => Some(ValueType::Int64),
+            "UINT8" => Some(ValueType::Uint8),
+            "UINT16" => Some(ValueType::Uint16),
+            "UINT32" => Some(ValueType::Uint32),
+            "UINT64" => Some(ValueType::Uint64),
+            "STRING" => Some(ValueType::Text),
+            _ => None,
+        }
+    }
+
+    /// Whether values of the type are numbers.
+    pub fn is_number(self) -> bool
+        ensures { IsTrue result ↔ (self ≢ ValueType.Text) }
+    {
+        !matches!(self, ValueType::Text)
+    }
+
+    /// The least number of a number type.
+    pub fn least(self) -> i128
+        requires { self ≢ ValueType.Text }
+        ensures { result ≡ least_of self }
+    {
+        match self {
+            ValueType::Int8 => i128::from(i8::MIN),
+            ValueType::Int16 => i128::from(i16::MIN),
+            ValueType::Int32 => i128::from(i32::MIN),
+            ValueType::Int64 => i128::from(i64::MIN),
+            ValueType::Uint8 | ValueType::Uint16 | ValueType::Uint32 | ValueType::Uint64 => 0,
+            ValueType::Text => unreachable!(),
+        }
+    }
+
+    /// The greatest number of a number type.
+    pub fn greatest(self) -> i128
+        requires { self ≢ ValueType.Text }
+        ensures { result ≡ greatest_of self }
+    {
+        match self {
+            ValueType::Int8 => i128::from(i8::MAX),
+            ValueType::Int16 => i128::from(i16::MAX),
+            ValueType::Int32 => i128::from(i32::MAX),
+            ValueType::Int64 => i128::from(i64::MAX),
+            ValueType::Uint8 => i128::from(u8::MAX),
+            ValueType::Uint16 => i128::from(u16::MAX),
+            ValueType::Uint32 => i128::from(u32::MAX),
+            ValueType::Uint64 => i128::from(u64::MAX),
+            ValueType::Text => unreachable!(),
+        }
+    }
+}
