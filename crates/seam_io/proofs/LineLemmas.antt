@@ -122,6 +122,64 @@ lines_of-whole bs =
     let rest = between_fed (slice_split is_feed bs) (omega (arith, length-slice_split is_feed bs)) in
     (rest.0, ap lines_between (split_fed bs) ∙ rest.1)
 
+-- the texts round the line feeds of two lists, of which the last and the first are one
+glued : List (List ℕ) → List (List ℕ) → List (List ℕ)
+glued [] parts = parts
+glued (text ∷ []) [] = text ∷ []
+glued (text ∷ []) (part ∷ parts) = (text ++ part) ∷ parts
+glued (text ∷ next ∷ texts) parts = text ∷ glued (next ∷ texts) parts
+
+onto_first-glued : (b : ℕ) (texts parts : List (List ℕ)) → 0 < length texts → onto_first b (glued texts parts) ≡ glued (onto_first b texts) parts
+unfolding glued
+onto_first-glued b [] parts some = absurd (omega arith)
+onto_first-glued b (text ∷ []) [] some = refl
+onto_first-glued b (text ∷ []) (part ∷ parts) some = refl
+onto_first-glued b (text ∷ next ∷ texts) parts some = refl
+
+glued-more : (text : List ℕ) (texts parts : List (List ℕ)) → 0 < length texts → glued (text ∷ texts) parts ≡ text ∷ glued texts parts
+unfolding glued
+glued-more text [] parts some = absurd (omega arith)
+glued-more text (next ∷ texts) parts some = refl
+
+glued-none : (parts : List (List ℕ)) → 0 < length parts → glued ([] ∷ []) parts ≡ parts
+unfolding glued
+glued-none [] some = absurd (omega arith)
+glued-none (part ∷ parts) some = refl
+
+split_some : (bs : List ℕ) → 0 < length (slice_split is_feed bs)
+split_some bs = omega (arith, length-slice_split is_feed bs)
+
+split_append_at : (t : Bool) (b : ℕ) (bs more : List ℕ) → is_feed b ≡ t → slice_split is_feed (bs ++ more) ≡ glued (slice_split is_feed bs) (slice_split is_feed more)
+    → slice_split is_feed ((b ∷ bs) ++ more) ≡ glued (slice_split is_feed (b ∷ bs)) (slice_split is_feed more)
+split_append_at true b bs more e h = rw e (ap (λ parts. [] ∷ parts) h ∙ sym (glued-more [] (slice_split is_feed bs) (slice_split is_feed more) (split_some bs)))
+split_append_at false b bs more e h = rw e (ap (onto_first b) h ∙ onto_first-glued b (slice_split is_feed bs) (slice_split is_feed more) (split_some bs))
+
+split_append : (bs more : List ℕ) → slice_split is_feed (bs ++ more) ≡ glued (slice_split is_feed bs) (slice_split is_feed more)
+split_append [] more = sym (glued-none (slice_split is_feed more) (split_some more))
+split_append (b ∷ bs) more = split_append_at (is_feed b) b bs more refl (split_append bs more)
+
+glued_some : (texts parts : List (List ℕ)) → 0 < length texts → 0 < length (glued texts parts)
+unfolding glued
+glued_some [] parts some = absurd (omega arith)
+glued_some (text ∷ []) [] some = omega arith
+glued_some (text ∷ []) (part ∷ parts) some = omega arith
+glued_some (text ∷ next ∷ texts) parts some = omega arith
+
+between_glued : (texts parts : List (List ℕ)) → (rest : List Line) × (lines_between (glued texts parts) ≡ whole_between texts ++ rest)
+unfolding glued
+between_glued [] parts = (lines_between parts, refl)
+between_glued (text ∷ []) parts = (lines_between (glued (text ∷ []) parts), refl)
+between_glued (text ∷ next ∷ texts) parts =
+    let later = between_glued (next ∷ texts) parts in
+    (later.0, between_more text (glued (next ∷ texts) parts) (glued_some (next ∷ texts) parts (omega arith)) ∙ ap (λ ls. line_of text ∷ ls) later.1)
+
+-- the lines that a line feed ended stay the first lines
+pub lines_of-append : (bs more : List ℕ) → (rest : List Line) × (lines_of (bs ++ more) ≡ whole_lines_of bs ++ rest)
+unfolding lines_of whole_lines_of
+lines_of-append bs more =
+    let rest = between_glued (slice_split is_feed bs) (slice_split is_feed more) in
+    (rest.0, ap lines_between (split_append bs more) ∙ rest.1)
+
 -- a line feed in what is left ends at least one line
 pub some_line : (passing : Bool) (bs : List ℕ) → 0 < length (lines_left passing (bs ++ 10 ∷ []))
 some_line true bs = omega arith

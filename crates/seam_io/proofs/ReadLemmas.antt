@@ -6,14 +6,15 @@ use Rattle.std.proofs.KnownBytes.{Consumes-trans, Consumes-kept}
 use Rattle.std.proofs.Math.Nat.{sub-zero}
 use Rattle.std.proofs.Math.Seq.{take-add}
 use Rattle.std.proofs.lemmas.Bool.{false≢true}
-use Rattle.std.proofs.lemmas.List.{length-take, length-drop, same_from_push}
+use Rattle.std.proofs.lemmas.List.{length-take, length-drop, same_from_push, take-append-le}
+use Rattle.std.proofs.lemmas.List.Elements.{All-take}
 use Rattle.seam_io.specs.Causes.{Rose}
-use Rattle.seam_io.specs.Lines.{Line, Content, Long, lines_of, whole_lines_of, lines_left, HasNoFeed}
-use Rattle.seam_io.specs.Reading.{Standing, Reader, Reading, IsExact, NeedsMore, Falls, lines_given, budget}
+use Rattle.seam_io.specs.Lines.{Line, Content, Long, is_feed, lines_of, whole_lines_of, lines_left, HasNoFeed}
+use Rattle.seam_io.specs.Reading.{SourceState, Reader, Reading, IsExact, NeedsMore, IsDone, IsSparing, lines_given}
 use Rattle.seam_io.specs.Steps.{Moves, Answers, Fills}
 use Rattle.seam_io.specs.declared.lines.Next.{Next}
 use Rattle.seam_io.specs.declared.lines.Next.TheVariants as next
-use Rattle.seam_io.proofs.LineLemmas.{lines_of-none, lines_of-whole, left_one, some_line}
+use Rattle.seam_io.proofs.LineLemmas.{no_feed_append, no_feed_tail, lines_of-none, lines_of-whole, left_one, some_line}
 use Rattle.seam_io.proofs.StepLemmas.{reader_of, same_but_held}
 
 pub rose_later : (a b n : ℕ) → a ≤ b → Rose b n → Rose a n
@@ -25,7 +26,7 @@ false_unless false h = refl
 
 -- ---- a read
 
-pub filled : (start now later : Standing) (old new : Reader) (given got : List ℕ) (read : List Line) → Reading start now old given read → Fills old new got
+pub filled : (start now later : SourceState) (old new : Reader) (given got : List ℕ) (read : List Line) → Reading start now old given read → Fills old new got
     → Consumes now.left later.left got → now.faults ≤ later.faults → now.ends ≤ later.ends → old.ended ≡ false → old.taken < old.limit
     → (new.ended ≡ false → later.ends ≡ now.ends) → (new.ended ≡ true → (got ≡ []) × IsAtEnd later.left × Rose now.ends later.ends)
     → Reading start later new (given ++ got) read
@@ -69,28 +70,30 @@ same_view old_items new_items start end p e taken limit line front none =
     ∙ ap (λ (given : List ℕ). reader_of (slice_range old_items start end) p e taken limit given) (sym none)
 
 -- a read that failed took nothing
-pub unread : (start now later : Standing) (old new : Reader) (given : List ℕ) (read : List Line) → Reading start now old given read → new ≡ old → old.ended ≡ false
-    → Keeps now.left later.left → now.faults ≤ later.faults → later.ends ≡ now.ends → (got : List ℕ) × Reading start later new (given ++ got) read
-unread start now later old new given read r same going kept faults ends = (
-  [],
-  rw (append-nil, same) record {
-    took = Consumes-kept start.left now.left later.left given r.took kept;
-    count = r.count;
-    within = r.within;
-    faults = let a = r.faults in omega arith;
-    ends = let a = r.ends in omega arith;
-    going = λ e. ends ∙ r.going e;
-    ended = λ e. absurd (false≢true (sym going ∙ e));
-    room = r.room;
-    lines = r.lines;
-  },
-)
+pub unread : (start now later : SourceState) (old new : Reader) (given : List ℕ) (read : List Line) → Reading start now old given read → new ≡ old → old.ended ≡ false
+    → Keeps now.left later.left → now.faults ≤ later.faults → later.ends ≡ now.ends
+    → (got : List ℕ) × Reading start later new (given ++ got) read × (new.held ≡ old.held ++ got) × (length got ≤ 4096)
+unread start now later old new given read r same going kept faults ends =
+    ([], rw (append-nil, same) unchanged, ap (λ (r : Reader). r.held) same ∙ sym (append-nil old.held), omega arith)
+  where
+    unchanged : Reading start later old given read
+    unchanged = record {
+      took = Consumes-kept start.left now.left later.left given r.took kept;
+      count = r.count;
+      within = r.within;
+      faults = let a = r.faults in omega arith;
+      ends = let a = r.ends in omega arith;
+      going = λ e. ends ∙ r.going e;
+      ended = λ e. absurd (false≢true (sym going ∙ e));
+      room = r.room;
+      lines = r.lines;
+    }
 
 no_bytes : (n : ℕ) (bytes : List ℕ) → eqb n 0 ≡ true → take n bytes ≡ []
 no_bytes n bytes e = ap (λ k. take k bytes) (eqb-true n 0 e)
 
 -- the bytes that a read took
-pub refilled : (start now later : Standing) (old new : Reader) (given : List ℕ) (read : List Line) (count : ℕ) (bytes : List ℕ) → Reading start now old given read
+pub refilled : (start now later : SourceState) (old new : Reader) (given : List ℕ) (read : List Line) (count : ℕ) (bytes : List ℕ) → Reading start now old given read
     → Fills old new (take count bytes) → Consumes now.left later.left (take count bytes) × (count ≡ 0 → 0 < length bytes → IsAtEnd later.left) → 0 < length bytes
     → now.faults ≤ later.faults → now.ends ≤ later.ends → (count ≡ 0 → Rose now.ends later.ends) → (count ≢ 0 → later.ends ≡ now.ends)
     → NeedsMore old → new.ended ≡ eqb count 0 → Reading start later new (given ++ take count bytes) read
@@ -101,7 +104,7 @@ refilled start now later old new given read count bytes r f took some faults end
 
 -- ---- what an answer says
 
-pub moved : (start now : Standing) (old new : Reader) (given : List ℕ) (read gave : List Line) → Reading start now old given read → Moves old new gave
+pub moved : (start now : SourceState) (old new : Reader) (given : List ℕ) (read gave : List Line) → Reading start now old given read → Moves old new gave
     → Reading start now new given (read ++ gave)
 moved start now old new given read gave r m = record {
   took = r.took;
@@ -118,11 +121,11 @@ moved start now old new given read gave r m = record {
 }
 
 -- the same reader, after the front of a long line was let go
-pub kept : (start now : Standing) (old new : Reader) (given : List ℕ) (read : List Line) → Reading start now old given read → Moves old new [] → Reading start now new given read
+pub kept : (start now : SourceState) (old new : Reader) (given : List ℕ) (read : List Line) → Reading start now old given read → Moves old new [] → Reading start now new given read
 kept start now old new given read r m = subst (λ ls. Reading start now new given ls) (append-nil read) (moved start now old new given read [] r m)
 
 -- where no line feed is held, the lines that a line feed ended were given
-whole_given : (start now : Standing) (r : Reader) (given : List ℕ) (read : List Line) → Reading start now r given read → r.ended ≡ false → HasNoFeed r.held
+whole_given : (start now : SourceState) (r : Reader) (given : List ℕ) (read : List Line) → Reading start now r given read → r.ended ≡ false → HasNoFeed r.held
     → whole_lines_of given ≡ read
 whole_given start now r given read h going whole =
     let one = left_one r.passing r.held whole in
@@ -132,18 +135,18 @@ whole_given start now r given read h going whole =
     (same_from_push _ _ _ _ both).0
 
 -- where nothing is held at the end, all lines were given
-all_given : (start now : Standing) (r : Reader) (given : List ℕ) (read : List Line) → Reading start now r given read → r.held ≡ [] → r.passing ≡ false → lines_of given ≡ read
+all_given : (start now : SourceState) (r : Reader) (given : List ℕ) (read : List Line) → Reading start now r given read → r.held ≡ [] → r.passing ≡ false → lines_of given ≡ read
 all_given start now r given read h none passing =
     ap lines_of (sym (append-nil given)) ∙ h.lines [] (λ e. refl) ∙ ap (λ p. read ++ lines_left p (r.held ++ [])) passing
     ∙ ap (λ bytes. read ++ lines_of (bytes ++ [])) none ∙ ap (λ ls. read ++ ls) lines_of-none ∙ append-nil read
 
 -- a line that was given was not given before
-not_all : (start now : Standing) (r : Reader) (given : List ℕ) (read : List Line) (line : Line) → Reading start now r given (read ++ line ∷ []) → lines_of given ≡ read → ⊥
+not_all : (start now : SourceState) (r : Reader) (given : List ℕ) (read : List Line) (line : Line) → Reading start now r given (read ++ line ∷ []) → lines_of given ≡ read → ⊥
 not_all start now r given read line h all =
     let whole = ap length (sym all ∙ ap lines_of (sym (append-nil given)) ∙ h.lines [] (λ e. refl)) in
     omega (arith, whole, length-append (read ++ line ∷ []) (lines_left r.passing (r.held ++ [])), length-append read (line ∷ []))
 
-not_whole : (start now : Standing) (r : Reader) (given : List ℕ) (read : List Line) (line : Line) → Reading start now r given (read ++ line ∷ []) → r.ended ≡ false
+not_whole : (start now : SourceState) (r : Reader) (given : List ℕ) (read : List Line) (line : Line) → Reading start now r given (read ++ line ∷ []) → r.ended ≡ false
     → whole_lines_of given ≡ read → ⊥
 not_whole start now r given read line h going all =
     let fed = lines_of-whole given in
@@ -151,7 +154,7 @@ not_whole start now r given read line h going all =
     let some = some_line r.passing r.held in
     omega (arith, whole, length-append read (fed.0 ∷ []), length-append (read ++ line ∷ []) (lines_left r.passing (r.held ++ 10 ∷ [])), length-append read (line ∷ []))
 
-exact_line : (n : Next) (start now : Standing) (r : Reader) (given : List ℕ) (read : List Line) (line : Line) → (n ≡ next.End → ⊥) → (n ≡ next.Limit → ⊥)
+exact_line : (n : Next) (start now : SourceState) (r : Reader) (given : List ℕ) (read : List Line) (line : Line) → (n ≡ next.End → ⊥) → (n ≡ next.Limit → ⊥)
     → (n ≡ next.ReadFault → ⊥) → Reading start now r given (read ++ line ∷ []) → IsExact n r given read
 exact_line n start now r given read line no_end no_limit no_fault h = record {
   ended = (λ e. absurd (no_end e), λ all. absurd (not_all start now r given read line h all.1));
@@ -164,15 +167,15 @@ exact_line n start now r given read line no_end no_limit no_fault h = record {
   fault = λ e. absurd (no_fault e);
 }
 
-exact_by_answer : (n : Next) (start now : Standing) (old new : Reader) (given : List ℕ) (read : List Line) → Answers n old new
+exact_by_answer : (n : Next) (start now : SourceState) (old new : Reader) (given : List ℕ) (read : List Line) → Answers n old new
     → Reading start now new given (read ++ lines_given n new.line) → IsExact n new given read
 exact_by_answer next.Line start now old new given read a h = exact_line next.Line start now new given read (Content new.line) (λ e. cc) (λ e. cc) (λ e. cc) h
 exact_by_answer next.Long start now old new given read a h = exact_line next.Long start now new given read Long (λ e. cc) (λ e. cc) (λ e. cc) h
 exact_by_answer next.End start now old new given read a h =
     let same = rw append-nil at h in
     record {
-      ended = (λ _. (a.stands.0, all_given start now new given read same a.stands.1 a.stands.2), λ _. refl);
-      full = (λ e. cc, λ all. absurd (let below = (h.ended a.stands.0).2 in let full = all.0 in omega arith));
+      ended = (λ _. (a.stands.ended, all_given start now new given read same a.stands.none a.stands.passing), λ _. refl);
+      full = (λ e. cc, λ all. absurd (let below = (h.ended a.stands.ended).2 in let full = all.0 in omega arith));
       fault = λ e. cc;
     }
 exact_by_answer next.ReadFault start now old new given read a h = absurd a.stands
@@ -185,14 +188,14 @@ exact_by_answer next.Limit start now old new given read a h =
     }
 
 -- an answer without a read
-pub answered : (n : Next) (start now : Standing) (old new : Reader) (given : List ℕ) (read : List Line) → Reading start now old given read → Answers n old new
+pub answered : (n : Next) (start now : SourceState) (old new : Reader) (given : List ℕ) (read : List Line) → Reading start now old given read → Answers n old new
     → Reading start now new given (read ++ lines_given n new.line) × IsExact n new given read
 answered n start now old new given read r a =
     let h = moved start now old new given read (lines_given n new.line) r a.moves in
     (h, exact_by_answer n start now old new given read a h)
 
 -- a fault where more bytes were wanted
-pub faulted : (start now : Standing) (r : Reader) (given : List ℕ) (read : List Line) → Reading start now r given read → NeedsMore r
+pub faulted : (start now : SourceState) (r : Reader) (given : List ℕ) (read : List Line) → Reading start now r given read → NeedsMore r
     → Reading start now r given (read ++ []) × IsExact next.ReadFault r given read
 faulted start now r given read h needs = (
   subst (λ ls. Reading start now r given ls) (sym (append-nil read)) h,
@@ -203,14 +206,31 @@ faulted start now r given read h needs = (
   },
 )
 
--- ---- the budget
+-- ---- an answer by itself
 
-pub falls_by_answer : (n : Next) (first old new : Reader) → budget old ≤ budget first → Answers n old new → Falls n first new
-falls_by_answer next.Line first old new less a = let s = a.moves.spent in omega arith
-falls_by_answer next.Long first old new less a = let s = a.moves.spent in omega arith
-falls_by_answer next.End first old new less a = let s = a.moves.spent in omega arith
-falls_by_answer next.ReadFault first old new less a = absurd a.stands
-falls_by_answer next.Limit first old new less a = let s = a.moves.spent in omega arith
+pub done_by_answer : (n : Next) (old new : Reader) → Answers n old new → n ≡ next.End → IsDone new
+done_by_answer next.Line old new a e = cc
+done_by_answer next.Long old new a e = cc
+done_by_answer next.End old new a e = a.stands
+done_by_answer next.ReadFault old new a e = absurd a.stands
+done_by_answer next.Limit old new a e = cc
+
+left_done : (old : Reader) → IsDone old → lines_left old.passing (old.held ++ []) ≡ []
+left_done old done = ap (λ p. lines_left p (old.held ++ [])) done.passing ∙ ap (λ bytes. lines_of (bytes ++ [])) done.none ∙ lines_of-none
+
+no_line_done : (old new : Reader) (line : Line) → IsDone old → Moves old new (line ∷ []) → ⊥
+no_line_done old new line done moves =
+    let none : length (lines_left old.passing (old.held ++ [])) ≡ 0 = ap length (left_done old done) in
+    let same = ap length (moves.lines [] (λ e. refl)) in
+    omega arith
+
+-- a reader that is done answers so
+pub again_by_answer : (n : Next) (old new : Reader) → Answers n old new → IsDone old → n ≡ next.End
+again_by_answer next.Line old new a done = absurd (no_line_done old new (Content new.line) done a.moves)
+again_by_answer next.Long old new a done = absurd (no_line_done old new Long done a.moves)
+again_by_answer next.End old new a done = refl
+again_by_answer next.ReadFault old new a done = absurd a.stands
+again_by_answer next.Limit old new a done = absurd (false≢true (sym a.stands.1 ∙ a.moves.ended ∙ done.ended))
 
 pub no_fault : (n : Next) (old new : Reader) → Answers n old new → n ≡ next.ReadFault → ⊥
 no_fault next.Line old new a e = cc
@@ -233,3 +253,24 @@ pub turn_falls : (limit taken later : ℕ) (old new : Bool) → old ≡ false �
     → limit - later + cond {A = ℕ} new 0 1 < limit - taken + cond {A = ℕ} old 0 1
 turn_falls limit taken later old new going room (inl more) = let a = one_bound new in let b = one_at false old going in omega arith
 turn_falls limit taken later old new going room (inr end) = let a = one_at true new end.1 in let b = one_at false old going in let same = end.0 in omega arith
+
+-- ---- what a call takes
+
+-- where all that was taken before has no line feed, one more read of 4,096 bytes at most is sparing
+pub sparing_more : (got more : List ℕ) → HasNoFeed got → length more ≤ 4096 → IsSparing (got ++ more)
+sparing_more got more whole small =
+    let size : length (got ++ more) - 4096 ≤ length got = omega (arith, length-append got more) in
+    subst HasNoFeed (sym (take-append-le (length (got ++ more) - 4096) got more size)) (All-take (λ byte. is_feed byte ≡ false) (length (got ++ more) - 4096) got whole)
+
+pub sparing_same : (got : List ℕ) → IsSparing got → IsSparing (got ++ [])
+sparing_same got sparing = subst IsSparing (sym (append-nil got)) sparing
+
+pub no_feed_behind : (front rest : List ℕ) → HasNoFeed (front ++ rest) → HasNoFeed rest
+no_feed_behind [] rest h = h
+no_feed_behind (b ∷ front) rest h = no_feed_behind front rest (no_feed_tail b (front ++ rest) h)
+
+pub no_feed_more : (held got more now : List ℕ) → now ≡ held ++ more → HasNoFeed got → HasNoFeed now → HasNoFeed (got ++ more)
+no_feed_more held got more now same whole h = no_feed_append got more whole (no_feed_behind held more (subst HasNoFeed same h))
+
+pub not_needed : (r : Reader) → IsDone r → ¬ (NeedsMore r)
+not_needed r done needs = false≢true (sym needs.going ∙ done.ended)

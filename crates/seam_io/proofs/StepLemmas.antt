@@ -115,7 +115,7 @@ last_given n old new len size whole ended some same gave empty =
 pub end_found : (old : Reader) → old.ended ≡ true → old.held ≡ [] → old.passing ≡ false → old.line ≡ [] → Answers next.End old old
 end_found old ended none passing empty = record {
   moves = record { ended = refl; taken = refl; limit = refl; spent = omega arith; lines = λ more allowed. refl };
-  stands = (ended, none, passing);
+  stands = record { ended = ended; none = none; passing = passing };
   line = λ _. empty;
 }
 

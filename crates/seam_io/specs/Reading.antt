@@ -1,5 +1,5 @@
 -- What has happened between a source and the lines read from it.
-use Rattle.std.specs.Prelude.{◌≡◌, ℕ, ◌≤◌, ◌<◌, ◌+◌, ◌-◌, ◌↔◌, if◌then◌else◌, Bool, true, false, List, [], ◌∷◌, ◌++◌, length, Option}
+use Rattle.std.specs.Prelude.{◌≡◌, ℕ, ◌≤◌, ◌<◌, ◌+◌, ◌-◌, ◌↔◌, if◌then◌else◌, Bool, true, false, List, [], ◌∷◌, ◌++◌, length, take, Option}
 use Rattle.std.specs.Io.KnownBytes.{Consumes, IsAtEnd}
 use Rattle.seam_io.specs.Causes.{Rose}
 use Rattle.seam_io.specs.Lines.{Line, Content, Long, lines_of, whole_lines_of, lines_left, HasNoFeed}
@@ -7,13 +7,13 @@ use Rattle.seam_io.specs.declared.lines.Next.{Next}
 use Rattle.seam_io.specs.declared.lines.Next.TheVariants as next
 
 -- a source as it stands: the bytes that are left, where it tells them, and its counts of faults and of ends
-pub record Standing : Type 0 where
+pub record SourceState : Type 0 where
   pub left : Option (List ℕ)
   pub faults : ℕ
   pub ends : ℕ
 
-abbrev pub standing : Option (List ℕ) → ℕ → ℕ → Standing
-standing left faults ends = record { left = left; faults = faults; ends = ends }
+abbrev pub source_state : Option (List ℕ) → ℕ → ℕ → SourceState
+source_state left faults ends = record { left = left; faults = faults; ends = ends }
 
 -- A reader of lines: the bytes that it took and did not give, whether the front of a line that is too long is gone
 -- from them, whether the source said that it is at its end, how many bytes it took and may take, and the line that it
@@ -31,7 +31,7 @@ abbrev pub budget : Reader → ℕ
 budget r = (r.limit - r.taken) + length r.held + (if r.passing then 1 else 0)
 
 -- Since the source stood at `start`, the reader took the bytes `given` from it and gave the lines `read`.
-pub record Reading (start now : Standing) (reader : Reader) (given : List ℕ) (read : List Line) : Type 0 where
+pub record Reading (start now : SourceState) (reader : Reader) (given : List ℕ) (read : List Line) : Type 0 where
   pub took : Consumes start.left now.left given
   pub count : reader.taken ≡ length given
   pub within : reader.taken ≤ reader.limit
@@ -68,10 +68,12 @@ pub record NeedsMore (reader : Reader) : Type 0 where
   pub going : reader.ended ≡ false
   pub room : reader.taken < reader.limit
 
--- an answer that gives a line lowers the budget, and no answer raises it
-abbrev pub Falls : Next → Reader → Reader → Type 0
-Falls next.Line old new = budget new < budget old
-Falls next.Long old new = budget new < budget old
-Falls next.End old new = budget new ≤ budget old
-Falls next.ReadFault old new = budget new ≤ budget old
-Falls next.Limit old new = budget new ≤ budget old
+-- a reader that found the end, and holds nothing
+pub record IsDone (reader : Reader) : Type 0 where
+  pub ended : reader.ended ≡ true
+  pub none : reader.held ≡ []
+  pub passing : reader.passing ≡ false
+
+-- a call took these bytes: all but the last 4,096 of them have no line feed
+abbrev pub IsSparing : List ℕ → Type 0
+IsSparing got = HasNoFeed (take (length got - 4096) got)

@@ -1,7 +1,7 @@
 -- What a reader of lines does between its reads, and at a read.
 use Rattle.std.specs.Prelude.{◌≡◌, ◌≢◌, ℕ, ◌≤◌, ◌<◌, ◌+◌, true, false, List, [], ◌++◌, length, take, slice_index}
 use Rattle.seam_io.specs.Lines.{Line, lines_left, HasNoFeed}
-use Rattle.seam_io.specs.Reading.{Reader, budget, lines_given, NeedsMore}
+use Rattle.seam_io.specs.Reading.{Reader, budget, lines_given, NeedsMore, IsDone}
 use Rattle.seam_io.specs.declared.lines.Next.{Next}
 use Rattle.seam_io.specs.declared.lines.Next.TheVariants as next
 
@@ -31,7 +31,7 @@ pub record LetsGo (old new : Reader) : Type 0 where
 abbrev pub StandsAt : Next → Reader → Type 0
 StandsAt next.Line r = Unit {0}
 StandsAt next.Long r = Unit {0}
-StandsAt next.End r = (r.ended ≡ true) × (r.held ≡ []) × (r.passing ≡ false)
+StandsAt next.End r = IsDone r
 StandsAt next.ReadFault r = ⊥
 StandsAt next.Limit r = HasNoFeed r.held × (r.ended ≡ false) × (r.taken ≡ r.limit)
 

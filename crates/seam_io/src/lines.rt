@@ -4,7 +4,7 @@ ghost use Rattle.std.specs.Io.KnownBytes.{ReadConsumes};
 ghost use Rattle.std.specs.Str.Lines.{strip_carriage_return};
 ghost use Rattle.seam_io.specs.Causes.{Rose, HasCause, CountsEnds};
 ghost use Rattle.seam_io.specs.Lines.{Line, Long, line_of, HasNoFeed};
-ghost use Rattle.seam_io.specs.Reading.{Standing, standing, Reader, Reading, IsExact, NeedsMore, Falls, lines_given, budget};
+ghost use Rattle.seam_io.specs.Reading.{SourceState, source_state, Reader, Reading, IsExact, IsSparing, IsDone, NeedsMore, lines_given, budget};
 ghost use Rattle.seam_io.specs.Steps.{IsFeedAt, LetsGo, Answers, Waits};
 
 use crate::{Failed, Source};
@@ -121,7 +121,7 @@ impl Lines {
     ///
     /// The error is want of memory.
     pub fn new(alloc: Global, limit: u64) -> Result<Self, AllocError>
-        ensures reads { IfOk result (λ r. (start : Standing) → Reading start start r [] []) }
+        ensures reads { IfOk result (λ r. (start : SourceState) → Reading start start r [] []) }
         ensures fresh { IfOk result (λ r. r ≡ record { held = []; passing = false; ended = false; taken = 0; limit = limit; line = [] }) }
     {
         Ok(Lines {
@@ -157,16 +157,24 @@ impl Lines {
     /// It reads only where no whole line is left in what was taken, at most 4,096 bytes at a time and never past the
     /// limit. Calls after [`Next::End`] answer it again without a read.
     pub fn next<S: Source>(&mut self, source: &mut S) -> Next
-        ensures reads { (start : Standing) (given : List ℕ) (read : List Line) →
-            Reading start (standing (S.left source.old) (S.faults source.old) (S.ends source.old)) self.old given read →
+        ensures reads { (start : SourceState) (given : List ℕ) (read : List Line) →
+            Reading start (source_state (S.left source.old) (S.faults source.old) (S.ends source.old)) self.old given read →
             (got : List ℕ)
-            × Reading start (standing (S.left source.new) (S.faults source.new) (S.ends source.new)) self.new
+            × Reading start (source_state (S.left source.new) (S.faults source.new) (S.ends source.new)) self.new
             (given ++ got) (read ++ lines_given result self.new.line)
-            × IsExact result self.new (given ++ got) read }
+            × IsExact result self.new (given ++ got) read
+            × IsSparing got }
         ensures fault { result ≡ Next.ReadFault → Rose (S.faults source.old) (S.faults source.new) }
         ensures later { S.faults source.old ≤ S.faults source.new }
-        ensures untouched { ¬ (NeedsMore self.old) → source.new ≡ source.old }
-        ensures falls { Falls result self.old self.new }
+
+        // No read is made where the next answer needs none, and the end is answered again.
+        ensures quiet { ¬ (NeedsMore self.old) → (source.new ≡ source.old) × (self.new.taken ≡ self.old.taken)
+            × (self.new.ended ≡ self.old.ended) }
+        ensures done { result ≡ Next.End → IsDone self.new }
+        ensures again { IsDone self.old → result ≡ Next.End }
+
+        // Each line that is given lowers the budget.
+        ensures budget { length (lines_given result self.new.line) + budget self.new ≤ budget self.old }
         ensures limit { self.new.limit ≡ self.old.limit }
         ensures line { result ≢ Next.Line → self.new.line ≡ [] }
     {
@@ -266,10 +274,12 @@ impl Lines {
         requires needs { NeedsMore self.old }
         requires short { length self.old.held ≤ 4096 }
         requires line { self.old.line ≡ [] }
-        ensures reads { (start : Standing) (given : List ℕ) (read : List Line) →
-            Reading start (standing (S.left source.old) (S.faults source.old) (S.ends source.old)) self.old given read →
+        ensures reads { (start : SourceState) (given : List ℕ) (read : List Line) →
+            Reading start (source_state (S.left source.old) (S.faults source.old) (S.ends source.old)) self.old given read →
             (got : List ℕ)
-            × Reading start (standing (S.left source.new) (S.faults source.new) (S.ends source.new)) self.new (given ++ got) read }
+            × Reading start (source_state (S.left source.new) (S.faults source.new) (S.ends source.new)) self.new (given ++ got) read
+            × (self.new.held ≡ self.old.held ++ got)
+            × (length got ≤ 4096) }
         ensures cause { HasCause (S.faults source.old) (S.faults source.new) result }
         ensures budget { budget self.new ≤ budget self.old }
         ensures limit { self.new.limit ≡ self.old.limit }

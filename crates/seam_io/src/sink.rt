@@ -6,6 +6,7 @@ ghost use Rattle.seam_io.specs.Causes.{HasCause};
 use crate::Failed;
 use std::io::Write;
 use std::marker::Model;
+use thiserror::Error;
 
 /// Where bytes go.
 ///
@@ -74,7 +75,8 @@ impl<W: Write> Sink for RealSink<W> {
 }
 
 /// A sink that failed in the middle of a whole write.
-#[derive(Clone, Copy, Debug, PartialEq, Eq)]
+#[derive(Clone, Copy, Debug, PartialEq, Eq, Error)]
+#[error("the sink failed after {wrote} bytes")]
 pub struct WriteFault {
     /// How many bytes went out before the fault.
     pub wrote: usize,

@@ -6,9 +6,11 @@ ghost use Rattle.seam_io.specs.Causes.{HasCause, CountsEnds};
 
 use std::io::Read;
 use std::marker::Model;
+use thiserror::Error;
 
 /// A call of a source or of a sink that could not be done.
-#[derive(Clone, Copy, Debug, PartialEq, Eq)]
+#[derive(Clone, Copy, Debug, PartialEq, Eq, Error)]
+#[error("the stream failed")]
 pub struct Failed;
 
 /// Where bytes come from.

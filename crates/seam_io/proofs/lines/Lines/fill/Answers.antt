@@ -1,6 +1,6 @@
-use Rattle.std.proofs.Common.{◌≡◌, ◌<◌, ◌≤◌, ◌+◌, ◌-◌, length, take, drop, arith, refl, ap, ◌∙◌, sym, subst, []}
+use Rattle.std.proofs.Common.{eqb, ◌≡◌, ◌<◌, ◌≤◌, ◌+◌, ◌-◌, length, take, drop, arith, refl, ap, ◌∙◌, sym, subst, []}
 use Rattle.std.specs.Prelude.{slice_range}
-use Rattle.std.proofs.lemmas.List.{length-drop}
+use Rattle.std.proofs.lemmas.List.{length-take, length-drop}
 use Rattle.seam_io.specs.Reading.{Reader}
 use Rattle.seam_io.proofs.RangeLemmas.{range_size}
 use Rattle.seam_io.proofs.ReadLemmas.{fills, same_view, unread, refilled}
@@ -26,9 +26,12 @@ returns-clause-reads g c = λ start given read r.
     let bound = c.in_ok-count.ensures.bound in
     let fits : held + c.in_ok-count.count ≤ length c.refill-result.new.buffer.items = omega arith in
     let within : c.self.inside.taken + c.in_ok-count.count ≤ c.self.inside.limit = omega arith in
-    let some : 0 < length bytes = omega (arith, length-drop held c.refill-result.new.buffer.items) in (
+    let some : 0 < length bytes = omega (arith, length-drop held c.refill-result.new.buffer.items) in
+    let filled = fills c.self.inside.buffer.items c.refill-result.new.buffer.items c.self.inside.start c.self.inside.end c.in_ok-count.count c.self.inside.passing
+    c.self.inside.ended (eqb c.in_ok-count.count 0) c.self.inside.taken c.self.inside.limit _ [] c.refill-result.ensures.kept fits within in (
       take c.in_ok-count.count bytes,
-      refilled start _ _ c.args.self.now _ given read c.in_ok-count.count bytes r
-          (rw (← c.self.view_is) (fills c.self.inside.buffer.items c.refill-result.new.buffer.items c.self.inside.start c.self.inside.end c.in_ok-count.count _ _ _ _ _ _ _ c.refill-result.ensures.kept fits within))
+      refilled start _ _ c.args.self.now _ given read c.in_ok-count.count bytes r (rw (← c.self.view_is) filled)
           c.in_ok-count.ensures.bytes some c.refill-result.ensures.cause.later c.refill-result.ensures.end.later c.in_ok-count.ensures.end.ended c.in_ok-count.ensures.end.others c.requires.needs refl,
+      rw (← c.self.view_is) filled.held,
+      omega (arith, length-take c.in_ok-count.count bytes),
     )
