@@ -6,6 +6,8 @@ mod lines;
 mod memory;
 mod sink;
 mod source;
+#[cfg(test)]
+mod tests;
 
 pub use laws::whole_lines_stay;
 pub use lines::{Lines, Next};
