@@ -112,7 +112,9 @@ fn refill<S: Source>(
     ensures end { CountsEnds (S.ends source.old) (S.ends source.new) result }
     ensures cause { HasCause (S.faults source.old) (S.faults source.new) result }
 {
-    buffer.copy_within(start..end, 0);
+    if start > 0 {
+        buffer.copy_within(start..end, 0);
+    }
     read_at(buffer, end - start, want, source)
 }
 
