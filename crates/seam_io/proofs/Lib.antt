@@ -1,0 +1,5 @@
+pub mod Copies
+pub mod LineLemmas
+pub mod RangeLemmas
+pub mod StepLemmas
+pub mod ReadLemmas

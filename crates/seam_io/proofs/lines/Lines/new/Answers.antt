@@ -1,0 +1,17 @@
+use Rattle.std.proofs.Common.{arith}
+use Rattle.std.proofs.lemmas.Bool.{false≢true}
+use Rattle.seam_io.proofs.LineLemmas.{no_feed_none}
+use Rattle.seam_io.proofs.lines.Lines.new.Goals as goal
+
+pub invariant_of-result : goal.invariant_of-result
+invariant_of-result c = record {
+  size = c.in_ok-vec.ensures.len;
+  start = omega arith;
+  seen = omega arith;
+  end = omega arith;
+  line_start = omega arith;
+  line_end = omega arith;
+  feedless = no_feed_none;
+  within = omega arith;
+  ended = λ e. absurd (false≢true e);
+}

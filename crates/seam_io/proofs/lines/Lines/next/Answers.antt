@@ -1,0 +1,62 @@
+use Rattle.std.proofs.Common.{◌++◌, arith, ap, ◌∙◌, sym, subst, append_assoc}
+use Rattle.seam_io.specs.Reading.{Reader, NeedsMore, IsDone}
+use Rattle.seam_io.proofs.ReadLemmas.{answered, faulted, kept, done_by_answer, again_by_answer, not_needed, sparing_more, no_feed_more}
+use Rattle.seam_io.proofs.lines.Lines.next.Goals as goal
+
+pub returns-in-Some-clause-reads : goal.returns-in-Some-clause-reads
+returns-in-Some-clause-reads g c = λ start given read r.
+    let before = c.loop-next.invariant.reads start given read r in
+    let answer = answered c.in-Some.next start _ c.loop-next.self _ (given ++ before.0) read before.1 c.in-Some.ensures.some in
+    (before.0, answer.0, answer.1, before.2)
+
+pub returns-in-Some-clause-quiet : goal.returns-in-Some-clause-quiet
+returns-in-Some-clause-quiet g c = λ not.
+    let same = c.loop-next.invariant.quiet not in
+    let moves = c.in-Some.ensures.some.moves in
+    (same.0, moves.taken ∙ ap (λ (r : Reader). r.taken) same.1, moves.ended ∙ ap (λ (r : Reader). r.ended) same.1)
+
+pub returns-in-Some-clause-done : goal.returns-in-Some-clause-done
+returns-in-Some-clause-done g c = λ e. done_by_answer c.in-Some.next c.loop-next.self _ c.in-Some.ensures.some e
+
+pub returns-in-Some-clause-again : goal.returns-in-Some-clause-again
+returns-in-Some-clause-again g c = λ done.
+    let same = (c.loop-next.invariant.quiet (not_needed _ done)).1 in
+    again_by_answer c.in-Some.next c.loop-next.self _ c.in-Some.ensures.some (subst IsDone (sym same) done)
+
+pub returns-in-Err-clause-reads : goal.returns-in-Err-clause-reads
+returns-in-Err-clause-reads g c = λ start given read r.
+    let before = c.loop-next.invariant.reads start given read r in
+    let waits = c.in-None.ensures.none in
+    let filled = c.fill.ensures.reads start (given ++ before.0) read (kept start _ _ _ (given ++ before.0) read before.1 waits.lets.moves) in
+    let needs : NeedsMore c.fill.new.self = subst NeedsMore (sym c.in-Err.ensures.same) waits.after in
+    let both = rw append_assoc at filled.1 in
+    let answer = faulted start _ c.fill.new.self (given ++ (before.0 ++ filled.0)) read both needs in
+    (before.0 ++ filled.0, answer.0, answer.1, sparing_more before.0 filled.0 (before.3 waits.before.whole) filled.3)
+
+pub returns-in-Err-clause-quiet : goal.returns-in-Err-clause-quiet
+returns-in-Err-clause-quiet g c = λ not.
+    absurd (not (subst NeedsMore (c.loop-next.invariant.quiet not).1 c.in-None.ensures.none.before))
+
+pub returns-in-Err-clause-again : goal.returns-in-Err-clause-again
+returns-in-Err-clause-again g c = λ done.
+    let not = not_needed _ done in
+    absurd (not (subst NeedsMore (c.loop-next.invariant.quiet not).1 c.in-None.ensures.none.before))
+
+pub loop-next-preserved : goal.loop-next-preserved
+loop-next-preserved g c =
+    let waits = c.in-None.ensures.none in
+    record {
+      reads = λ start given read r.
+          let before = c.loop-next.invariant.reads start given read r in
+          let filled = c.fill.ensures.reads start (given ++ before.0) read (kept start _ _ _ (given ++ before.0) read before.1 waits.lets.moves) in
+          let whole = before.3 waits.before.whole in (
+            before.0 ++ filled.0,
+            rw append_assoc at filled.1,
+            sparing_more before.0 filled.0 whole filled.3,
+            λ h. no_feed_more _ before.0 filled.0 _ filled.2 whole h,
+          );
+      later = omega (arith, c.fill.ensures.cause.later);
+      quiet = λ not. absurd (not (subst NeedsMore (c.loop-next.invariant.quiet not).1 waits.before));
+      budget = let a = c.fill.ensures.budget in let b = waits.lets.moves.spent in let d = c.loop-next.invariant.budget in omega arith;
+      limit = c.fill.ensures.limit ∙ waits.lets.moves.limit ∙ c.loop-next.invariant.limit;
+    }

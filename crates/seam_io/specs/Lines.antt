@@ -1,0 +1,45 @@
+-- The lines of a list of bytes.
+use Rattle.std.specs.Prelude.{◌≡◌, ℕ, Bool, false, List, [], ◌∷◌, length, All, if◌then◌else◌, ◌==◌, nat_lt}
+use Rattle.std.specs.List.{slice_split, after_first}
+use Rattle.std.specs.Str.Lines.{strip_carriage_return}
+
+-- a line of an input: its content, or that it is too long
+pub data Line : Type 0 where
+  Content : List ℕ → Line
+  Long : Line
+
+abbrev pub is_feed : ℕ → Bool
+is_feed byte = byte == 10
+
+-- the line of a text without line feeds: one of more than 4,096 bytes is too long, and from another the last carriage
+-- return is dropped
+abbrev pub line_of : List ℕ → Line
+line_of text = if nat_lt 4096 (length text) then Long else Content (strip_carriage_return text)
+
+-- the lines of the texts round the line feeds: the last one has no line feed behind it, and is no line where it is empty
+abbrev pub lines_between : List (List ℕ) → List Line
+lines_between [] = []
+lines_between (text ∷ []) = if length text == 0 then [] else line_of text ∷ []
+lines_between (text ∷ next ∷ more) = line_of text ∷ lines_between (next ∷ more)
+
+-- the lines of the texts round the line feeds that have a line feed behind them
+abbrev pub whole_between : List (List ℕ) → List Line
+whole_between [] = []
+whole_between (text ∷ []) = []
+whole_between (text ∷ next ∷ more) = line_of text ∷ whole_between (next ∷ more)
+
+-- the lines of an input
+unfoldable pub lines_of : List ℕ → List Line
+lines_of bytes = lines_between (slice_split is_feed bytes)
+
+-- the lines of an input that a line feed ends
+unfoldable pub whole_lines_of : List ℕ → List Line
+whole_lines_of bytes = whole_between (slice_split is_feed bytes)
+
+-- no line feed is among the bytes
+abbrev pub HasNoFeed : List ℕ → Type 0
+HasNoFeed bytes = All (λ byte. is_feed byte ≡ false) bytes
+
+-- the lines of what is left of an input, of which the front of a line that is too long may be gone
+abbrev pub lines_left : Bool → List ℕ → List Line
+lines_left passing bytes = if passing then Long ∷ lines_of (after_first is_feed bytes) else lines_of bytes

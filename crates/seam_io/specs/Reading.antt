@@ -1,0 +1,79 @@
+-- What has happened between a source and the lines read from it.
+use Rattle.std.specs.Prelude.{◌≡◌, ℕ, ◌≤◌, ◌<◌, ◌+◌, ◌-◌, ◌↔◌, if◌then◌else◌, Bool, true, false, List, [], ◌∷◌, ◌++◌, length, take, Option}
+use Rattle.std.specs.Io.KnownBytes.{Consumes, IsAtEnd}
+use Rattle.seam_io.specs.Causes.{Rose}
+use Rattle.seam_io.specs.Lines.{Line, Content, Long, lines_of, whole_lines_of, lines_left, HasNoFeed}
+use Rattle.seam_io.specs.declared.lines.Next.{Next}
+use Rattle.seam_io.specs.declared.lines.Next.TheVariants as next
+
+-- a source as it stands: the bytes that are left, where it tells them, and its counts of faults and of ends
+pub record SourceState : Type 0 where
+  pub left : Option (List ℕ)
+  pub faults : ℕ
+  pub ends : ℕ
+
+abbrev pub source_state : Option (List ℕ) → ℕ → ℕ → SourceState
+source_state left faults ends = record { left = left; faults = faults; ends = ends }
+
+-- A reader of lines: the bytes that it took and did not give, whether the front of a line that is too long is gone
+-- from them, whether the source said that it is at its end, how many bytes it took and may take, and the line that it
+-- gave last.
+pub record Reader : Type 0 where
+  pub held : List ℕ
+  pub passing : Bool
+  pub ended : Bool
+  pub taken : ℕ
+  pub limit : ℕ
+  pub line : List ℕ
+
+-- how many lines a reader can still give at most
+abbrev pub budget : Reader → ℕ
+budget r = (r.limit - r.taken) + length r.held + (if r.passing then 1 else 0)
+
+-- Since the source stood at `start`, the reader took the bytes `given` from it and gave the lines `read`.
+pub record Reading (start now : SourceState) (reader : Reader) (given : List ℕ) (read : List Line) : Type 0 where
+  pub took : Consumes start.left now.left given
+  pub count : reader.taken ≡ length given
+  pub within : reader.taken ≤ reader.limit
+  pub faults : start.faults ≤ now.faults
+  pub ends : start.ends ≤ now.ends
+  pub going : reader.ended ≡ false → now.ends ≡ start.ends
+  pub ended : reader.ended ≡ true → IsAtEnd now.left × Rose start.ends now.ends × (reader.taken < reader.limit)
+  -- each line took a byte
+  pub room : length read + budget reader ≤ reader.limit
+  -- however the input goes on, its lines are those that were given and those of what is left
+  pub lines : (more : List ℕ) → (reader.ended ≡ true → more ≡ []) →
+      lines_of (given ++ more) ≡ read ++ lines_left reader.passing (reader.held ++ more)
+
+-- the lines that an answer gives
+abbrev pub lines_given : Next → List ℕ → List Line
+lines_given next.Line line = Content line ∷ []
+lines_given next.Long line = Long ∷ []
+lines_given next.End line = []
+lines_given next.ReadFault line = []
+lines_given next.Limit line = []
+
+-- An answer is told by the bytes taken until then and the lines given before it.
+pub record IsExact (answer : Next) (reader : Reader) (given : List ℕ) (read : List Line) : Type 0 where
+  -- the end was found, and every line of the bytes was given
+  pub ended : (answer ≡ next.End) ↔ ((reader.ended ≡ true) × (lines_of given ≡ read))
+  -- as many bytes as may be were taken, and every whole line in them was given
+  pub full : (answer ≡ next.Limit) ↔ ((reader.taken ≡ reader.limit) × (whole_lines_of given ≡ read))
+  -- more bytes were wanted, since every whole line in those taken was given
+  pub fault : answer ≡ next.ReadFault → (reader.ended ≡ false) × (reader.taken < reader.limit) × (whole_lines_of given ≡ read)
+
+-- a reader that gives its next line only after a read
+pub record NeedsMore (reader : Reader) : Type 0 where
+  pub whole : HasNoFeed reader.held
+  pub going : reader.ended ≡ false
+  pub room : reader.taken < reader.limit
+
+-- a reader that found the end, and holds nothing
+pub record IsDone (reader : Reader) : Type 0 where
+  pub ended : reader.ended ≡ true
+  pub none : reader.held ≡ []
+  pub passing : reader.passing ≡ false
+
+-- a call took these bytes: all but the last 4,096 of them have no line feed
+abbrev pub IsSparing : List ℕ → Type 0
+IsSparing got = HasNoFeed (take (length got - 4096) got)

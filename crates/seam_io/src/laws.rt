@@ -1,0 +1,8 @@
+// Laws of the lines of a list of bytes.
+ghost use Rattle.std.specs.Prelude.{◌≡◌, ◌++◌, ℕ, List};
+ghost use Rattle.seam_io.specs.Lines.{Line, lines_of, whole_lines_of};
+
+/// The lines that a line feed ends stay the first lines, whatever bytes come behind them.
+pub fn whole_lines_stay()
+    ensures { (bytes more : List ℕ) → (rest : List Line) × (lines_of (bytes ++ more) ≡ whole_lines_of bytes ++ rest) }
+{}

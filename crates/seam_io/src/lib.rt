@@ -1,0 +1,16 @@
+//! Sources and sinks of bytes that count their faults, the lines of a source, and whole writes to a sink.
+#![tactic(auto)]
+
+mod laws;
+mod lines;
+mod memory;
+mod sink;
+mod source;
+#[cfg(test)]
+mod tests;
+
+pub use laws::whole_lines_stay;
+pub use lines::{Lines, Next};
+pub use memory::{MemSink, MemSource};
+pub use sink::{RealSink, Sink, WriteFault, write_whole};
+pub use source::{Failed, RealSource, Source};

@@ -1,0 +1,306 @@
+// The lines of a source.
+ghost use Rattle.std.specs.Prelude.{◌≡◌, ◌≢◌, ◌<◌, ◌≤◌, ◌⊎◌, ◌+◌, ◌-◌, ◌++◌, [], ◌∷◌, List, ℕ, true, false, length, take, drop, slice_range, vec_len, IfOk, IfSome, IfNone, OnOk, OnErr, MatchOption, if◌then◌else◌};
+ghost use Rattle.std.specs.Io.KnownBytes.{ReadConsumes};
+ghost use Rattle.std.specs.Str.Lines.{strip_carriage_return};
+ghost use Rattle.seam_io.specs.Causes.{Rose, HasCause, CountsEnds};
+ghost use Rattle.seam_io.specs.Lines.{Line, Long, line_of, HasNoFeed};
+ghost use Rattle.seam_io.specs.Reading.{SourceState, source_state, Reader, Reading, IsExact, IsSparing, IsDone, NeedsMore, lines_given, budget};
+ghost use Rattle.seam_io.specs.Steps.{IsFeedAt, LetsGo, Answers, Waits};
+
+use crate::{Failed, Source};
+use memchr::memchr;
+use std::alloc::{AllocError, Global};
+use std::marker::Model;
+
+/// What [`Lines::next`] found.
+#[derive(Clone, Copy, Debug, PartialEq, Eq)]
+pub enum Next {
+    /// A line, which [`Lines::line`] lends.
+    Line,
+    /// A line whose content, with a carriage return at its end, has more than 4,096 bytes. It is passed over.
+    Long,
+    /// The end of the input, with nothing left.
+    End,
+    /// A fault of the source. Nothing is lost, and a later call goes on.
+    ReadFault,
+    /// As many bytes were taken as may be, and no whole line is left in them.
+    Limit,
+}
+
+// How many bytes are asked for at most at once.
+const CHUNK: usize = 4096;
+// How many bytes the content of a line has at most.
+const LONGEST: usize = 4096;
+
+/// A reader of lines that takes a bounded number of bytes. All its memory is taken when it is made.
+#[derive(Drop)]
+pub struct Lines {
+    // The bytes from `start` to `end` were taken and not given, and up to `seen` they have no line feed.
+    buffer: Vec<u8>,
+    start: usize,
+    seen: usize,
+    end: usize,
+    // Where the content of the line that was given stands.
+    line_start: usize,
+    line_end: usize,
+    // The front of a line that is too long was let go.
+    passing: bool,
+    ended: bool,
+    taken: u64,
+    limit: u64,
+}
+
+impl Model for Lines {
+    ghost use Rattle.seam_io.specs.Reading.{Reader};
+
+    ghost Value = { Reader };
+
+    ghost use Rattle.seam_io.specs.LinesInside.{reader, IsReader};
+
+    ghost view = { reader };
+
+    ghost invariant = { IsReader };
+}
+
+// How many bytes of a text are the content of its line: all but a last carriage return.
+fn content_len(text: &[u8]) -> usize
+    ensures within { result ≤ length text.now }
+    ensures content { take result text.now ≡ strip_carriage_return text.now }
+{
+    let len = text.len();
+    if len > 0 && text[len - 1] == b'\r' {
+        len - 1
+    } else {
+        len
+    }
+}
+
+// Reads at most `want` bytes into the buffer, from place `at` on.
+fn read_at<S: Source>(
+    buffer: &mut [u8],
+    at: usize,
+    want: usize,
+    source: &mut S,
+) -> Result<usize, Failed>
+    requires some { 0 < want }
+    requires fits { at + want ≤ length buffer.old }
+    ensures bound { IfOk result (λ n. n ≤ want) }
+    ensures kept { take at buffer.new ≡ take at buffer.old }
+    ensures bytes { ReadConsumes (S.left source.old) (S.left source.new) result (drop at buffer.new) }
+    ensures end { CountsEnds (S.ends source.old) (S.ends source.new) result }
+    ensures cause { HasCause (S.faults source.old) (S.faults source.new) result }
+{
+    source.read(&mut buffer[at..at + want])
+}
+
+// Moves the part of the buffer between two places to its front, and reads at most `want` bytes behind it.
+fn refill<S: Source>(
+    buffer: &mut Vec<u8>,
+    start: usize,
+    end: usize,
+    want: usize,
+    source: &mut S,
+) -> Result<usize, Failed>
+    requires some { 0 < want }
+    requires order { start ≤ end }
+    requires within { end ≤ vec_len buffer.old }
+    requires fits { (end - start) + want ≤ vec_len buffer.old }
+    ensures bound { IfOk result (λ n. n ≤ want) }
+    ensures len { vec_len buffer.new ≡ vec_len buffer.old }
+    ensures kept { take (end - start) buffer.new.items ≡ slice_range buffer.old.items start end }
+    ensures bytes { ReadConsumes (S.left source.old) (S.left source.new) result (drop (end - start) buffer.new.items) }
+    ensures end { CountsEnds (S.ends source.old) (S.ends source.new) result }
+    ensures cause { HasCause (S.faults source.old) (S.faults source.new) result }
+{
+    if start > 0 {
+        buffer.copy_within(start..end, 0);
+    }
+    read_at(buffer, end - start, want, source)
+}
+
+impl Lines {
+    /// A reader that takes at most `limit` bytes.
+    ///
+    /// The error is want of memory.
+    pub fn new(alloc: Global, limit: u64) -> Result<Self, AllocError>
+        ensures reads { IfOk result (λ r. (start : SourceState) → Reading start start r [] []) }
+        ensures fresh { IfOk result (λ r. r ≡ record { held = []; passing = false; ended = false; taken = 0; limit = limit; line = [] }) }
+    {
+        Ok(Lines {
+            buffer: vec![in alloc; 0; LONGEST + CHUNK]?,
+            start: 0,
+            seen: 0,
+            end: 0,
+            line_start: 0,
+            line_end: 0,
+            passing: false,
+            ended: false,
+            taken: 0,
+            limit,
+        })
+    }
+
+    /// The content of the line that the last call of [`Lines::next`] gave, empty after another answer.
+    pub fn line(&self) -> &[u8]
+        ensures { result.now ≡ self.now.line }
+    {
+        &self.buffer[self.line_start..self.line_end]
+    }
+
+    /// How many bytes were taken from the source.
+    pub fn taken(&self) -> u64
+        ensures { result ≡ self.now.taken }
+    {
+        self.taken
+    }
+
+    /// The next line of the source.
+    ///
+    /// It reads only where no whole line is left in what was taken, at most 4,096 bytes at a time and never past the
+    /// limit. Calls after [`Next::End`] answer it again without a read.
+    pub fn next<S: Source>(&mut self, source: &mut S) -> Next
+        ensures reads { (start : SourceState) (given : List ℕ) (read : List Line) →
+            Reading start (source_state (S.left source.old) (S.faults source.old) (S.ends source.old)) self.old given read →
+            (got : List ℕ)
+            × Reading start (source_state (S.left source.new) (S.faults source.new) (S.ends source.new)) self.new
+            (given ++ got) (read ++ lines_given result self.new.line)
+            × IsExact result self.new (given ++ got) read
+            × IsSparing got }
+        ensures fault { result ≡ Next.ReadFault → Rose (S.faults source.old) (S.faults source.new) }
+        ensures later { S.faults source.old ≤ S.faults source.new }
+
+        // No read is made where the next answer needs none, and the end is answered again.
+        ensures quiet { ¬ (NeedsMore self.old) → (source.new ≡ source.old) × (self.new.taken ≡ self.old.taken)
+            × (self.new.ended ≡ self.old.ended) }
+        ensures done { result ≡ Next.End → IsDone self.new }
+        ensures again { IsDone self.old → result ≡ Next.End }
+
+        // Each line that is given lowers the budget.
+        ensures budget { length (lines_given result self.new.line) + budget self.new ≤ budget self.old }
+        ensures limit { self.new.limit ≡ self.old.limit }
+        ensures line { result ≢ Next.Line → self.new.line ≡ [] }
+    {
+        loop {
+            match self.without_read() {
+                Some(next) => return next,
+                None => {}
+            }
+            match self.fill(source) {
+                Ok(()) => {}
+                Err(Failed) => return Next::ReadFault,
+            }
+        }
+    }
+
+    // The answer that no read is needed for.
+    fn without_read(&mut self) -> Option<Next>
+        ensures some { IfSome result (λ n. Answers n self.old self.new) }
+        ensures none { IfNone result (Waits self.old self.new) }
+    {
+        match self.find_feed() {
+            Some(len) => return Some(self.give(len, 1)),
+            None => {}
+        }
+        self.let_go();
+        if self.ended {
+            return Some(self.finish());
+        }
+        if self.taken == self.limit {
+            return Some(Next::Limit);
+        }
+        None
+    }
+
+    // How many bytes stand before the first line feed that is held.
+    fn find_feed(&self) -> Option<usize>
+        ensures { MatchOption result (HasNoFeed self.now.held) (IsFeedAt self.now.held) }
+    {
+        match memchr(b'\n', &self.buffer[self.seen..self.end]) {
+            Some(place) => Some(self.seen - self.start + place),
+            None => None,
+        }
+    }
+
+    // Gives the line of the first `len` bytes that are held, and lets `skip` bytes behind them go.
+    fn give(&mut self, len: usize, skip: usize) -> Next
+        requires { len + skip ≤ length self.old.held }
+        ensures rest { self.new ≡ record self.old { held = drop (len + skip) self.old.held; passing = false; line = self.new.line } }
+        ensures gave { lines_given result self.new.line ≡ (if self.old.passing then Long else line_of (take len self.old.held)) ∷ [] }
+        ensures line { result ≢ Next.Line → self.new.line ≡ [] }
+    {
+        let text = self.start;
+        let long = self.passing || len > LONGEST;
+        self.start += len + skip;
+        self.seen = self.start;
+        self.passing = false;
+        if long {
+            self.line_start = 0;
+            self.line_end = 0;
+            return Next::Long;
+        }
+        self.line_start = text;
+        self.line_end = text + content_len(&self.buffer[text..text + len]);
+        Next::Line
+    }
+
+    // Lets what is held go where it is the front of a line that is too long.
+    fn let_go(&mut self)
+        requires { HasNoFeed self.old.held }
+        ensures { LetsGo self.old self.new }
+    {
+        self.line_start = 0;
+        self.line_end = 0;
+        self.seen = self.end;
+        if self.passing || self.end - self.start > LONGEST {
+            self.start = self.end;
+            self.passing = true;
+        }
+    }
+
+    // The last line of the input, or its end.
+    fn finish(&mut self) -> Next
+        requires whole { HasNoFeed self.old.held }
+        requires ended { self.old.ended ≡ true }
+        requires line { self.old.line ≡ [] }
+        ensures { Answers result self.old self.new }
+    {
+        let len = self.end - self.start;
+        if self.passing || len > 0 {
+            return self.give(len, 0);
+        }
+        Next::End
+    }
+
+    // Takes more of the input, or finds its end.
+    fn fill<S: Source>(&mut self, source: &mut S) -> Result<(), Failed>
+        requires needs { NeedsMore self.old }
+        requires short { length self.old.held ≤ 4096 }
+        requires line { self.old.line ≡ [] }
+        ensures reads { (start : SourceState) (given : List ℕ) (read : List Line) →
+            Reading start (source_state (S.left source.old) (S.faults source.old) (S.ends source.old)) self.old given read →
+            (got : List ℕ)
+            × Reading start (source_state (S.left source.new) (S.faults source.new) (S.ends source.new)) self.new (given ++ got) read
+            × (self.new.held ≡ self.old.held ++ got)
+            × (length got ≤ 4096) }
+        ensures cause { HasCause (S.faults source.old) (S.faults source.new) result }
+        ensures budget { budget self.new ≤ budget self.old }
+        ensures limit { self.new.limit ≡ self.old.limit }
+        ensures line { self.new.line ≡ [] }
+        ensures falls { OnOk result ((self.old.taken < self.new.taken) ⊎ ((self.new.taken ≡ self.old.taken) × (self.new.ended ≡ true))) }
+        ensures same { OnErr result (self.new ≡ self.old) }
+    {
+        let held = self.end - self.start;
+        let want = (self.limit - self.taken).min(CHUNK as u64) as usize;
+        let result = refill(&mut self.buffer, self.start, self.end, want, source);
+        self.start = 0;
+        self.seen = held;
+        self.end = held;
+        self.line_start = 0;
+        self.line_end = 0;
+        let count = result?;
+        self.end += count;
+        self.taken += count as u64;
+        self.ended = count == 0;
+        Ok(())
+    }
+}
