@@ -1,0 +1,9 @@
+//! The worked rows: what the program prints for small scripts, with sources and sinks over memory.
+#![tactic(auto)]
+
+#[cfg(test)]
+mod faults;
+#[cfg(test)]
+mod rows;
+#[cfg(test)]
+mod runs;

@@ -1,0 +1,13 @@
+//! The world server: from commands on a source to the printed rounds on a sink.
+#![tactic(auto)]
+
+mod command;
+mod run;
+mod status;
+mod table;
+mod text;
+
+
+
+pub use run::run_seamless;
+pub use status::Status;

@@ -1,0 +1,38 @@
+//! Seamless: runs a script of commands from standard input, and prints its rounds to standard output.
+#![tactic(auto)]
+
+use seam_io::{RealSink, RealSource};
+use seam_world::{Status, run_seamless};
+use std::alloc::{AllocError, Global};
+use std::env;
+use std::io::ErrorKind;
+use std::process::ExitCode;
+
+fn main(rt: HostRuntime) -> ExitCode {
+    let alloc = rt.alloc();
+    let status = match words(&rt, alloc) {
+        Ok(words) => {
+            let mut input = RealSource::new(rt.reader());
+            let mut out = RealSink::new(std::io::writer(&rt));
+            run_seamless(alloc, &words, &mut input, &mut out)
+        }
+        Err(AllocError) => Status::NoMemory,
+    };
+    ExitCode::from(status.code())
+}
+
+// The words of the command line behind the program's name. Words that are no text are refused like any others, so an empty
+// word stands for them.
+fn words(rt: &HostRuntime, alloc: Global) -> Result<Vec<String>, AllocError> {
+    let mut words = Vec::new(alloc);
+    match env::args(rt) {
+        Ok(args) => {
+            for word in args.skip(1) {
+                words.push(word)?;
+            }
+        }
+        Err(error) if error.kind() == ErrorKind::OutOfMemory => return Err(AllocError),
+        Err(_) => words.push(String::new(alloc))?,
+    }
+    Ok(words)
+}
