@@ -1,7 +1,8 @@
 pub mod Causes
 pub mod Lines
 pub mod Reading
-pub mod Counted
+pub mod RealSource
+pub mod RealSink
 pub mod MemSource
 pub mod MemSink
 pub mod Steps

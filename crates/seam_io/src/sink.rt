@@ -39,7 +39,7 @@ pub struct RealSink<W> {
 }
 
 impl<W> Model for RealSink<W> {
-    ghost use Rattle.seam_io.specs.Counted.{CountedWriter, writer_code};
+    ghost use Rattle.seam_io.specs.RealSink.{CountedWriter, writer_code};
 
     ghost Value = { CountedWriter W };
 

@@ -50,7 +50,7 @@ pub struct RealSource<R> {
 }
 
 impl<R> Model for RealSource<R> {
-    ghost use Rattle.seam_io.specs.Counted.{CountedReader, reader_code};
+    ghost use Rattle.seam_io.specs.RealSource.{CountedReader, reader_code};
 
     ghost Value = { CountedReader R };
 

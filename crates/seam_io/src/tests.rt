@@ -39,50 +39,51 @@ struct Row {
     told: &'static [u8],
 }
 
+static ROWS: [Row; 5] = [
+    // the limit is reached in the second line
+    Row {
+        input: b"abc\ndefghijk",
+        cuts: &[],
+        fails: &[],
+        limit: 10,
+        told: b"line abc|limit|limit|",
+    },
+    // the bytes come one at a time
+    Row {
+        input: b"ab\r\ncd",
+        cuts: &[1, 0, 1, 1, 1, 1],
+        fails: &[],
+        limit: 99,
+        told: b"line ab|line cd|end|end|",
+    },
+    // a read fails in the first line, and the reading goes on
+    Row {
+        input: b"ab\ncd\n",
+        cuts: &[1],
+        fails: &[2],
+        limit: 99,
+        told: b"fault|line ab|line cd|end|end|",
+    },
+    // an empty line is one, and of two carriage returns one stays
+    Row {
+        input: b"\n\r\r\n\r",
+        cuts: &[],
+        fails: &[],
+        limit: 99,
+        told: b"line |line \r|line |end|end|",
+    },
+    Row {
+        input: b"",
+        cuts: &[],
+        fails: &[1],
+        limit: 99,
+        told: b"fault|end|end|",
+    },
+];
+
 #[test]
 fn lines_of_a_source(rt: HostRuntime) -> Result<(), Fail> {
-    let rows = [
-        // the limit is reached in the second line
-        Row {
-            input: b"abc\ndefghijk",
-            cuts: &[],
-            fails: &[],
-            limit: 10,
-            told: b"line abc|limit|limit|",
-        },
-        // the bytes come one at a time
-        Row {
-            input: b"ab\r\ncd",
-            cuts: &[1, 0, 1, 1, 1, 1],
-            fails: &[],
-            limit: 99,
-            told: b"line ab|line cd|end|end|",
-        },
-        // a read fails in the first line, and the reading goes on
-        Row {
-            input: b"ab\ncd\n",
-            cuts: &[1],
-            fails: &[2],
-            limit: 99,
-            told: b"fault|line ab|line cd|end|end|",
-        },
-        // an empty line is one, and of two carriage returns one stays
-        Row {
-            input: b"\n\r\r\n\r",
-            cuts: &[],
-            fails: &[],
-            limit: 99,
-            told: b"line |line \r|line |end|end|",
-        },
-        Row {
-            input: b"",
-            cuts: &[],
-            fails: &[1],
-            limit: 99,
-            told: b"fault|end|end|",
-        },
-    ];
-    for row in &rows {
+    for row in &ROWS {
         let bytes = row.input.to_vec(rt.alloc())?;
         let mut source = MemSource::new(
             bytes,

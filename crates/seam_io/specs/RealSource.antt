@@ -1,4 +1,4 @@
--- A stream of std with the counts of what it answered.
+-- A reader of std with the counts of what it answered.
 use Rattle.std.specs.Prelude.{ℕ, refl}
 use Rattle.std.specs.Coded.{Coded, code_by, coded×, coded_ℕ}
 
@@ -8,16 +8,7 @@ pub record CountedReader (R : Type 0) : Type 0 where
   pub faults : ℕ
   pub ends : ℕ
 
--- a writer, and how often it has failed
-pub record CountedWriter (W : Type 0) : Type 0 where
-  pub inner : W
-  pub faults : ℕ
-
 abbrev pub reader_code : {R : Type 0} → Coded R → Coded (CountedReader R)
 reader_code {R} code =
     code_by (R × (ℕ × ℕ)) (coded× code (coded× coded_ℕ coded_ℕ)) (λ s. (s.inner, (s.faults, s.ends)))
     (λ p. record { inner = p.0; faults = p.1.0; ends = p.1.1 }) (λ _. refl)
-
-abbrev pub writer_code : {W : Type 0} → Coded W → Coded (CountedWriter W)
-writer_code {W} code =
-    code_by (W × ℕ) (coded× code coded_ℕ) (λ s. (s.inner, s.faults)) (λ p. record { inner = p.0; faults = p.1 }) (λ _. refl)
