@@ -15,24 +15,44 @@ fn check(rt: &HostRuntime, streams: Streams, status: Status, output: &[u8]) -> R
 
 #[test]
 fn a_first_read_that_fails_ends_the_run(rt: HostRuntime) -> Result<(), Fail> {
-    let streams = Streams { bad_reads: &[1], ..GOOD };
+    let streams = Streams {
+        bad_reads: &[1],
+        ..GOOD
+    };
     check(&rt, streams, Status::ReadFault, b"fault read\n")
 }
 
 #[test]
 fn a_later_read_that_fails_comes_after_the_round(rt: HostRuntime) -> Result<(), Fail> {
-    let streams = Streams { cuts: &[27], bad_reads: &[3], ..GOOD };
-    check(&rt, streams, Status::ReadFault, b"line 3 command\nround 1\nhome 1 0 0 100 100 hp=100 mana=50 mood=0 note=\"\" scent=0 xp=0\nbase 1 0 gold=0 rank=1\nend 1\nfault read\n")
+    let streams = Streams {
+        cuts: &[27],
+        bad_reads: &[3],
+        ..GOOD
+    };
+    check(
+        &rt,
+        streams,
+        Status::ReadFault,
+        b"line 3 command\nround 1\nhome 1 0 0 100 100 hp=100 mana=50 mood=0 note=\"\" scent=0 xp=0\nbase 1 0 gold=0 rank=1\nend 1\nfault read\n",
+    )
 }
 
 #[test]
 fn a_first_write_that_fails_writes_nothing(rt: HostRuntime) -> Result<(), Fail> {
-    let streams = Streams { bad_writes: &[1], ..GOOD };
+    let streams = Streams {
+        bad_writes: &[1],
+        ..GOOD
+    };
     check(&rt, streams, Status::WriteFault, b"")
 }
 
 #[test]
 fn a_full_sink_ends_the_run(rt: HostRuntime) -> Result<(), Fail> {
     let streams = Streams { limit: 23, ..GOOD };
-    check(&rt, streams, Status::WriteFault, b"line 3 command\nround 1\n")
+    check(
+        &rt,
+        streams,
+        Status::WriteFault,
+        b"line 3 command\nround 1\n",
+    )
 }

@@ -15,7 +15,8 @@ struct Row {
 
 const FIRST_PATH: &str = "%%\ncreate 1 Avatar 100 100\ncall b1 1 hit 30\ncall b1 1 heal 5\nsync\n";
 
-const FIRST_ROUND: &str = "round 1\ndid 1 b1 1 hit 30\ndid 1 b1 2 heal 5\nhome 1 0 2 100 100 hp=75 mana=50 mood=0 note=\"\" scent=0 xp=0\nbase 1 0 gold=0 rank=1\nend 1\n";
+const FIRST_ROUND: &str =
+    "round 1\ndid 1 b1 1 hit 30\ndid 1 b1 2 heal 5\nhome 1 0 2 100 100 hp=75 mana=50 mood=0 note=\"\" scent=0 xp=0\nbase 1 0 gold=0 rank=1\nend 1\n";
 
 static ROWS: [Row; 8] = [
     Row {
@@ -85,7 +86,10 @@ fn rows_print_what_they_say(rt: HostRuntime) -> Result<(), Fail> {
 #[test]
 fn bytes_may_come_one_at_a_time(rt: HostRuntime) -> Result<(), Fail> {
     let cuts = vec![in rt.alloc(); 1; 100]?;
-    let streams = Streams { cuts: &cuts, ..GOOD };
+    let streams = Streams {
+        cuts: &cuts,
+        ..GOOD
+    };
     let (status, out) = run_with(rt.alloc(), FIRST_PATH, streams)?;
     check_row(&rt, &ROWS[1], status, &out);
     Ok(())
@@ -96,8 +100,14 @@ fn words_are_refused(rt: HostRuntime) -> Result<(), Fail> {
     let alloc = rt.alloc();
     let mut input = MemSource::new(Vec::new(alloc), Vec::new(alloc), Vec::new(alloc));
     let mut out = MemSink::new(alloc, 100, Vec::new(alloc))?;
-    let words = vec![in alloc; String::from_str(alloc, "--workers")?, String::from_str(alloc, "17")?]?;
-    assert_eq!(rt; run_seamless(alloc, &words, &mut input, &mut out), Status::Usage);
+    let words = vec![in alloc;
+        String::from_str(alloc, "--workers")?,
+        String::from_str(alloc, "17")?,
+    ]?;
+    assert_eq!(rt;
+        run_seamless(alloc, &words, &mut input, &mut out),
+        Status::Usage
+    );
     assert_eq!(rt; out.bytes(), b"fault usage\n".as_slice());
     Ok(())
 }
@@ -111,6 +121,9 @@ fn a_long_line_is_named(rt: HostRuntime) -> Result<(), Fail> {
     script.push_str("\ncreate 1 Avatar 100 100")?;
     let (status, out) = run_with(rt.alloc(), &script, GOOD)?;
     assert_eq!(rt; status, Status::Done);
-    assert_eq!(rt; out.bytes(), b"line 2 long\nround 1\nhome 1 0 0 100 100 hp=100 mana=50 mood=0 note=\"\" scent=0 xp=0\nbase 1 0 gold=0 rank=1\nend 1\n".as_slice());
+    assert_eq!(rt;
+        out.bytes(),
+        b"line 2 long\nround 1\nhome 1 0 0 100 100 hp=100 mana=50 mood=0 note=\"\" scent=0 xp=0\nbase 1 0 gold=0 rank=1\nend 1\n".as_slice()
+    );
     Ok(())
 }

@@ -25,7 +25,11 @@ pub const GOOD: Streams<'static> = Streams {
 };
 
 /// Runs a script, and gives its status and what was written.
-pub fn run_with(alloc: Global, script: &str, streams: Streams) -> Result<(Status, MemSink), AllocError> {
+pub fn run_with(
+    alloc: Global,
+    script: &str,
+    streams: Streams,
+) -> Result<(Status, MemSink), AllocError> {
     let mut input = MemSource::new(
         script.as_bytes().to_vec(alloc)?,
         streams.cuts.to_vec(alloc)?,

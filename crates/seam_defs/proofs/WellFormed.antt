@@ -20,14 +20,28 @@ abbrev HasDefault : Property → Type 0
 HasDefault p = Fits p.default p.ty
 
 avatar-defaults : AllByRecursion HasDefault avatar_properties
-avatar-defaults = (((λ e. cc), search rules, search rules),
-    (((λ e. cc), search rules, search rules),
-    (((λ e. cc), search rules, search rules),
-    (((λ e. cc), search rules, search rules),
-    ((refl, record { utf8 = ([], (refl, refl)); short = lit≤ tt }),
-    (((λ e. cc), search rules, search rules),
-    (((λ e. cc), search rules, search rules),
-    (((λ e. cc), search rules, search rules), tt))))))))
+avatar-defaults = (
+  ((λ e. cc), search rules, search rules),
+  (
+    ((λ e. cc), search rules, search rules),
+    (
+      ((λ e. cc), search rules, search rules),
+      (
+        ((λ e. cc), search rules, search rules),
+        (
+          (refl, record { utf8 = ([], (refl, refl)); short = lit≤ tt }),
+          (
+            ((λ e. cc), search rules, search rules),
+            (
+              ((λ e. cc), search rules, search rules),
+              (((λ e. cc), search rules, search rules), tt),
+            ),
+          ),
+        ),
+      ),
+    ),
+  ),
+)
 
 -- a method by its place
 abbrev avatar_method : ℕ → Method
@@ -62,14 +76,30 @@ avatar-write = ((_, refl, refl, (lit< tt, refl)), tt)
 
 avatar-bodies : AllByRecursion (IsMethod avatar_properties) avatar_methods
 avatar-bodies = (
-    record { args = lit≤ tt; operations = lit≤ tt; body = All-each (IsOperation avatar_properties (avatar_method 0)) (avatar_method 0).body avatar-cast }, (
-    record { args = lit≤ tt; operations = lit≤ tt; body = All-each (IsOperation avatar_properties (avatar_method 1)) (avatar_method 1).body avatar-feel }, (
-    record { args = lit≤ tt; operations = lit≤ tt; body = All-each (IsOperation avatar_properties (avatar_method 2)) (avatar_method 2).body avatar-heal }, (
-    record { args = lit≤ tt; operations = lit≤ tt; body = All-each (IsOperation avatar_properties (avatar_method 3)) (avatar_method 3).body avatar-hit }, (
-    record { args = lit≤ tt; operations = lit≤ tt; body = All-each (IsOperation avatar_properties (avatar_method 4)) (avatar_method 4).body avatar-mark }, (
-    record { args = lit≤ tt; operations = lit≤ tt; body = All-each (IsOperation avatar_properties (avatar_method 5)) (avatar_method 5).body avatar-pay }, (
-    record { args = lit≤ tt; operations = lit≤ tt; body = All-each (IsOperation avatar_properties (avatar_method 6)) (avatar_method 6).body avatar-promote }, (
-    record { args = lit≤ tt; operations = lit≤ tt; body = All-each (IsOperation avatar_properties (avatar_method 7)) (avatar_method 7).body avatar-write }, tt))))))))
+  record { args = lit≤ tt; operations = lit≤ tt; body = All-each (IsOperation avatar_properties (avatar_method 0)) (avatar_method 0).body avatar-cast },
+  (
+    record { args = lit≤ tt; operations = lit≤ tt; body = All-each (IsOperation avatar_properties (avatar_method 1)) (avatar_method 1).body avatar-feel },
+    (
+      record { args = lit≤ tt; operations = lit≤ tt; body = All-each (IsOperation avatar_properties (avatar_method 2)) (avatar_method 2).body avatar-heal },
+      (
+        record { args = lit≤ tt; operations = lit≤ tt; body = All-each (IsOperation avatar_properties (avatar_method 3)) (avatar_method 3).body avatar-hit },
+        (
+          record { args = lit≤ tt; operations = lit≤ tt; body = All-each (IsOperation avatar_properties (avatar_method 4)) (avatar_method 4).body avatar-mark },
+          (
+            record { args = lit≤ tt; operations = lit≤ tt; body = All-each (IsOperation avatar_properties (avatar_method 5)) (avatar_method 5).body avatar-pay },
+            (
+              record { args = lit≤ tt; operations = lit≤ tt; body = All-each (IsOperation avatar_properties (avatar_method 6)) (avatar_method 6).body avatar-promote },
+              (
+                record { args = lit≤ tt; operations = lit≤ tt; body = All-each (IsOperation avatar_properties (avatar_method 7)) (avatar_method 7).body avatar-write },
+                tt,
+              ),
+            ),
+          ),
+        ),
+      ),
+    ),
+  ),
+)
 
 chest-lift : AllByRecursion (IsOperation chest_properties (chest_method 0)) (chest_method 0).body
 chest-lift = ((_, refl, refl, ((λ e. cc), search rules, search rules)), tt)
@@ -79,16 +109,21 @@ chest-shut = ((_, refl, refl, ((λ e. cc), search rules, search rules)), tt)
 
 chest-bodies : AllByRecursion (IsMethod chest_properties) chest_methods
 chest-bodies = (
-    record { args = lit≤ tt; operations = lit≤ tt; body = All-each (IsOperation chest_properties (chest_method 0)) (chest_method 0).body chest-lift }, (
-    record { args = lit≤ tt; operations = lit≤ tt; body = All-each (IsOperation chest_properties (chest_method 1)) (chest_method 1).body chest-shut }, tt))
+  record { args = lit≤ tt; operations = lit≤ tt; body = All-each (IsOperation chest_properties (chest_method 0)) (chest_method 0).body chest-lift },
+  (
+    record { args = lit≤ tt; operations = lit≤ tt; body = All-each (IsOperation chest_properties (chest_method 1)) (chest_method 1).body chest-shut },
+    tt,
+  ),
+)
 
 chest-defaults : AllByRecursion HasDefault chest_properties
 chest-defaults = (((λ e. cc), search rules, search rules), tt)
 
 types : AllByRecursion IsType builtin
 types = (
-    record { properties = lit≤ tt; property_names = refl; defaults = All-each HasDefault avatar_properties avatar-defaults; methods = lit≤ tt; method_names = refl; bodies = All-each (IsMethod avatar_properties) avatar_methods avatar-bodies },
-    (record { properties = lit≤ tt; property_names = refl; defaults = All-each HasDefault chest_properties chest-defaults; methods = lit≤ tt; method_names = refl; bodies = All-each (IsMethod chest_properties) chest_methods chest-bodies }, tt))
+  record { properties = lit≤ tt; property_names = refl; defaults = All-each HasDefault avatar_properties avatar-defaults; methods = lit≤ tt; method_names = refl; bodies = All-each (IsMethod avatar_properties) avatar_methods avatar-bodies },
+  (record { properties = lit≤ tt; property_names = refl; defaults = All-each HasDefault chest_properties chest-defaults; methods = lit≤ tt; method_names = refl; bodies = All-each (IsMethod chest_properties) chest_methods chest-bodies }, tt),
+)
 
 pub builtin-are-defs : AreDefs builtin
 builtin-are-defs = record { count = lit≤ tt; names = refl; types = All-each IsType builtin types }

@@ -27,39 +27,39 @@ method name part exposed args body = record { name = name; part = part; exposed 
 
 abbrev pub avatar_properties : List Property
 avatar_properties =
-  property (codes "gold") type.Uint32 flag.Base (number 0) ∷
-  property (codes "hp") type.Int32 flag.AllClients (number 100) ∷
-  property (codes "mana") type.Uint16 flag.CellPublicAndOwn (number 50) ∷
-  property (codes "mood") type.Int8 flag.OtherClients (number 0) ∷
-  property (codes "note") type.Text flag.CellPrivate (Text []) ∷
-  property (codes "rank") type.Uint8 flag.BaseAndClient (number 1) ∷
-  property (codes "scent") type.Uint16 flag.CellPublic (number 0) ∷
-  property (codes "xp") type.Uint64 flag.OwnClient (number 0) ∷
-  []
+    property (codes "gold") type.Uint32 flag.Base (number 0) ∷
+    property (codes "hp") type.Int32 flag.AllClients (number 100) ∷
+    property (codes "mana") type.Uint16 flag.CellPublicAndOwn (number 50) ∷
+    property (codes "mood") type.Int8 flag.OtherClients (number 0) ∷
+    property (codes "note") type.Text flag.CellPrivate (Text []) ∷
+    property (codes "rank") type.Uint8 flag.BaseAndClient (number 1) ∷
+    property (codes "scent") type.Uint16 flag.CellPublic (number 0) ∷
+    property (codes "xp") type.Uint64 flag.OwnClient (number 0) ∷
+    []
 
 abbrev pub avatar_methods : List Method
 avatar_methods =
-  method (codes "cast") part.Cell true (type.Uint16 ∷ []) (Sub 2 (Arg 1) ∷ Add 7 (Constant (number 1)) ∷ []) ∷
-  method (codes "feel") part.Cell true (type.Int8 ∷ []) (Put 3 (Arg 1) ∷ []) ∷
-  method (codes "heal") part.Cell true (type.Int32 ∷ []) (Add 1 (Arg 1) ∷ []) ∷
-  method (codes "hit") part.Cell true (type.Int32 ∷ []) (Sub 1 (Arg 1) ∷ []) ∷
-  method (codes "mark") part.Cell false (type.Uint16 ∷ []) (Put 6 (Arg 1) ∷ []) ∷
-  method (codes "pay") part.Base false (type.Uint32 ∷ []) (Add 0 (Arg 1) ∷ []) ∷
-  method (codes "promote") part.Base true [] (Add 5 (Constant (number 1)) ∷ []) ∷
-  method (codes "write") part.Cell false (type.Text ∷ []) (Put 4 (Arg 1) ∷ []) ∷
-  []
+    method (codes "cast") part.Cell true (type.Uint16 ∷ []) (Sub 2 (Arg 1) ∷ Add 7 (Constant (number 1)) ∷ []) ∷
+    method (codes "feel") part.Cell true (type.Int8 ∷ []) (Put 3 (Arg 1) ∷ []) ∷
+    method (codes "heal") part.Cell true (type.Int32 ∷ []) (Add 1 (Arg 1) ∷ []) ∷
+    method (codes "hit") part.Cell true (type.Int32 ∷ []) (Sub 1 (Arg 1) ∷ []) ∷
+    method (codes "mark") part.Cell false (type.Uint16 ∷ []) (Put 6 (Arg 1) ∷ []) ∷
+    method (codes "pay") part.Base false (type.Uint32 ∷ []) (Add 0 (Arg 1) ∷ []) ∷
+    method (codes "promote") part.Base true [] (Add 5 (Constant (number 1)) ∷ []) ∷
+    method (codes "write") part.Cell false (type.Text ∷ []) (Put 4 (Arg 1) ∷ []) ∷
+    []
 
 abbrev pub chest_properties : List Property
 chest_properties = property (codes "lid") type.Uint8 flag.AllClients (number 0) ∷ []
 
 abbrev pub chest_methods : List Method
 chest_methods =
-  method (codes "lift") part.Cell true [] (Put 0 (Constant (number 1)) ∷ []) ∷
-  method (codes "shut") part.Cell true [] (Put 0 (Constant (number 0)) ∷ []) ∷
-  []
+    method (codes "lift") part.Cell true [] (Put 0 (Constant (number 1)) ∷ []) ∷
+    method (codes "shut") part.Cell true [] (Put 0 (Constant (number 0)) ∷ []) ∷
+    []
 
 abbrev pub builtin : List TypeDef
 builtin =
-  record { name = codes "Avatar"; properties = avatar_properties; methods = avatar_methods } ∷
-  record { name = codes "Chest"; properties = chest_properties; methods = chest_methods } ∷
-  []
+    record { name = codes "Avatar"; properties = avatar_properties; methods = avatar_methods } ∷
+    record { name = codes "Chest"; properties = chest_properties; methods = chest_methods } ∷
+    []

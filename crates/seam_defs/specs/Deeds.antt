@@ -89,8 +89,8 @@ type_at ps k = slice_index_or (map (λ p. p.ty) ps) k type.Text
 -- a group's values after an operation, which replaces the value of its property
 abbrev pub after_operation : List Property → Group → List Value → List Value → Operation → List Value
 after_operation ps g args values op =
-  let place = place_of ps g (target op) in
-  slice_set values place (operated op (type_at ps (target op)) (slice_index_or values place (Number (pos 0))) (operand_value args (operand op)))
+    let place = place_of ps g (target op) in
+    slice_set values place (operated op (type_at ps (target op)) (slice_index_or values place (Number (pos 0))) (operand_value args (operand op)))
 
 -- a group's values after a body, whose operations run from left to right
 abbrev pub after_body : List Property → Group → List Value → List Operation → List Value → List Value
@@ -100,7 +100,7 @@ after_body ps g args body values = fold (λ vs op. after_operation ps g args vs 
 abbrev pub after : List TypeDef → ℕ → State → Deed → State
 after defs ty s (Move p) = record { pos = p; props = s.props }
 after defs ty s (Method m args) =
-  record { pos = s.pos; props = after_body (type_of defs ty).properties (held_by (method_of defs ty m).part) args (method_of defs ty m).body s.props }
+    record { pos = s.pos; props = after_body (type_of defs ty).properties (held_by (method_of defs ty m).part) args (method_of defs ty m).body s.props }
 
 -- the part that a deed is done on: a move is for the cell part
 abbrev pub part_of_deed : List TypeDef → ℕ → Deed → Part

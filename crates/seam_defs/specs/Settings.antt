@@ -11,5 +11,5 @@ standard = record {
   ghost_distance = 400;
   ghost_hysteresis = 20;
   balance_shift = 1000;
-  bases = 2
+  bases = 2;
 }

@@ -43,45 +43,158 @@ enum By {
 
 // The numbers of the properties of an avatar and of a chest.
 const GOLD: u16 = 0;
+
 const HP: u16 = 1;
+
 const MANA: u16 = 2;
+
 const MOOD: u16 = 3;
+
 const NOTE: u16 = 4;
+
 const RANK: u16 = 5;
+
 const SCENT: u16 = 6;
+
 const XP: u16 = 7;
+
 const LID: u16 = 0;
 
 static BUILTIN: [TypeRow; 2] = [
     TypeRow {
         name: "Avatar",
         properties: &[
-            PropertyRow { name: "gold", ty: ValueType::Uint32, flag: Flag::Base, default: Some(0) },
-            PropertyRow { name: "hp", ty: ValueType::Int32, flag: Flag::AllClients, default: Some(100) },
-            PropertyRow { name: "mana", ty: ValueType::Uint16, flag: Flag::CellPublicAndOwn, default: Some(50) },
-            PropertyRow { name: "mood", ty: ValueType::Int8, flag: Flag::OtherClients, default: Some(0) },
-            PropertyRow { name: "note", ty: ValueType::Text, flag: Flag::CellPrivate, default: None },
-            PropertyRow { name: "rank", ty: ValueType::Uint8, flag: Flag::BaseAndClient, default: Some(1) },
-            PropertyRow { name: "scent", ty: ValueType::Uint16, flag: Flag::CellPublic, default: Some(0) },
-            PropertyRow { name: "xp", ty: ValueType::Uint64, flag: Flag::OwnClient, default: Some(0) },
+            PropertyRow {
+                name: "gold",
+                ty: ValueType::Uint32,
+                flag: Flag::Base,
+                default: Some(0),
+            },
+            PropertyRow {
+                name: "hp",
+                ty: ValueType::Int32,
+                flag: Flag::AllClients,
+                default: Some(100),
+            },
+            PropertyRow {
+                name: "mana",
+                ty: ValueType::Uint16,
+                flag: Flag::CellPublicAndOwn,
+                default: Some(50),
+            },
+            PropertyRow {
+                name: "mood",
+                ty: ValueType::Int8,
+                flag: Flag::OtherClients,
+                default: Some(0),
+            },
+            PropertyRow {
+                name: "note",
+                ty: ValueType::Text,
+                flag: Flag::CellPrivate,
+                default: None,
+            },
+            PropertyRow {
+                name: "rank",
+                ty: ValueType::Uint8,
+                flag: Flag::BaseAndClient,
+                default: Some(1),
+            },
+            PropertyRow {
+                name: "scent",
+                ty: ValueType::Uint16,
+                flag: Flag::CellPublic,
+                default: Some(0),
+            },
+            PropertyRow {
+                name: "xp",
+                ty: ValueType::Uint64,
+                flag: Flag::OwnClient,
+                default: Some(0),
+            },
         ],
         methods: &[
-            MethodRow { name: "cast", part: Part::Cell, exposed: true, args: &[ValueType::Uint16], body: &[Step::Sub(MANA, By::Arg(1)), Step::Add(XP, By::Number(1))] },
-            MethodRow { name: "feel", part: Part::Cell, exposed: true, args: &[ValueType::Int8], body: &[Step::Put(MOOD, By::Arg(1))] },
-            MethodRow { name: "heal", part: Part::Cell, exposed: true, args: &[ValueType::Int32], body: &[Step::Add(HP, By::Arg(1))] },
-            MethodRow { name: "hit", part: Part::Cell, exposed: true, args: &[ValueType::Int32], body: &[Step::Sub(HP, By::Arg(1))] },
-            MethodRow { name: "mark", part: Part::Cell, exposed: false, args: &[ValueType::Uint16], body: &[Step::Put(SCENT, By::Arg(1))] },
-            MethodRow { name: "pay", part: Part::Base, exposed: false, args: &[ValueType::Uint32], body: &[Step::Add(GOLD, By::Arg(1))] },
-            MethodRow { name: "promote", part: Part::Base, exposed: true, args: &[], body: &[Step::Add(RANK, By::Number(1))] },
-            MethodRow { name: "write", part: Part::Cell, exposed: false, args: &[ValueType::Text], body: &[Step::Put(NOTE, By::Arg(1))] },
+            MethodRow {
+                name: "cast",
+                part: Part::Cell,
+                exposed: true,
+                args: &[ValueType::Uint16],
+                body: &[Step::Sub(MANA, By::Arg(1)), Step::Add(XP, By::Number(1))],
+            },
+            MethodRow {
+                name: "feel",
+                part: Part::Cell,
+                exposed: true,
+                args: &[ValueType::Int8],
+                body: &[Step::Put(MOOD, By::Arg(1))],
+            },
+            MethodRow {
+                name: "heal",
+                part: Part::Cell,
+                exposed: true,
+                args: &[ValueType::Int32],
+                body: &[Step::Add(HP, By::Arg(1))],
+            },
+            MethodRow {
+                name: "hit",
+                part: Part::Cell,
+                exposed: true,
+                args: &[ValueType::Int32],
+                body: &[Step::Sub(HP, By::Arg(1))],
+            },
+            MethodRow {
+                name: "mark",
+                part: Part::Cell,
+                exposed: false,
+                args: &[ValueType::Uint16],
+                body: &[Step::Put(SCENT, By::Arg(1))],
+            },
+            MethodRow {
+                name: "pay",
+                part: Part::Base,
+                exposed: false,
+                args: &[ValueType::Uint32],
+                body: &[Step::Add(GOLD, By::Arg(1))],
+            },
+            MethodRow {
+                name: "promote",
+                part: Part::Base,
+                exposed: true,
+                args: &[],
+                body: &[Step::Add(RANK, By::Number(1))],
+            },
+            MethodRow {
+                name: "write",
+                part: Part::Cell,
+                exposed: false,
+                args: &[ValueType::Text],
+                body: &[Step::Put(NOTE, By::Arg(1))],
+            },
         ],
     },
     TypeRow {
         name: "Chest",
-        properties: &[PropertyRow { name: "lid", ty: ValueType::Uint8, flag: Flag::AllClients, default: Some(0) }],
+        properties: &[PropertyRow {
+            name: "lid",
+            ty: ValueType::Uint8,
+            flag: Flag::AllClients,
+            default: Some(0),
+        }],
         methods: &[
-            MethodRow { name: "lift", part: Part::Cell, exposed: true, args: &[], body: &[Step::Put(LID, By::Number(1))] },
-            MethodRow { name: "shut", part: Part::Cell, exposed: true, args: &[], body: &[Step::Put(LID, By::Number(0))] },
+            MethodRow {
+                name: "lift",
+                part: Part::Cell,
+                exposed: true,
+                args: &[],
+                body: &[Step::Put(LID, By::Number(1))],
+            },
+            MethodRow {
+                name: "shut",
+                part: Part::Cell,
+                exposed: true,
+                args: &[],
+                body: &[Step::Put(LID, By::Number(0))],
+            },
         ],
     },
 ];

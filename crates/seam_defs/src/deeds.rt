@@ -35,9 +35,9 @@ impl Operation {
         ensures { result ≡ target self.now }
     {
         match self {
-            Operation::Put(property, _) | Operation::Add(property, _) | Operation::Sub(property, _) => {
-                *property
-            }
+            Operation::Put(property, _)
+            | Operation::Add(property, _)
+            | Operation::Sub(property, _) => { *property }
         }
     }
 
@@ -45,9 +45,8 @@ impl Operation {
         ensures { result.now ≡ operand self.now }
     {
         match self {
-            Operation::Put(_, operand) | Operation::Add(_, operand) | Operation::Sub(_, operand) => {
-                operand
-            }
+            Operation::Put(_, operand) | Operation::Add(_, operand) | Operation::Sub(_, operand) =>
+                { operand }
         }
     }
 }
@@ -65,7 +64,13 @@ impl Defs {
             }
             Deed::Method(number, args) => match self.method(ty, *number) {
                 Some(method) => {
-                    run(self.alloc, self.properties(ty), method, args.values(), &mut state.props)
+                    run(
+                        self.alloc,
+                        self.properties(ty),
+                        method,
+                        args.values(),
+                        &mut state.props,
+                    )
                 }
                 None => Ok(false),
             },
@@ -118,7 +123,10 @@ fn any_changed(
 ) -> bool {
     for (i, (operation, old)) in body.iter().zip(replaced).enumerate() {
         let property = operation.target();
-        let is_first = body.iter().take(i).all(|earlier| earlier.target() != property);
+        let is_first = body
+            .iter()
+            .take(i)
+            .all(|earlier| earlier.target() != property);
         if is_first && is_in_group(properties, part.shown(), property) {
             let place = place_of(properties, part.held(), property);
             if props.at(place) != Some(old) {
@@ -189,8 +197,14 @@ fn type_at(properties: &[Property], property: u16) -> ValueType
 fn operated(operation: &Operation, ty: ValueType, old: Option<&Value>, by: Value) -> Value {
     match operation {
         Operation::Put(..) => by,
-        Operation::Add(..) => Value::Number(nearest(ty, number(old).saturating_add(number(Some(&by))))),
-        Operation::Sub(..) => Value::Number(nearest(ty, number(old).saturating_sub(number(Some(&by))))),
+        Operation::Add(..) => Value::Number(nearest(
+            ty,
+            number(old).saturating_add(number(Some(&by))),
+        )),
+        Operation::Sub(..) => Value::Number(nearest(
+            ty,
+            number(old).saturating_sub(number(Some(&by))),
+        )),
     }
 }
 

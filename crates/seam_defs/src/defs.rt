@@ -45,7 +45,10 @@ impl Defs {
 
     /// The number of the method of this name that the type has.
     pub fn find_method(&self, ty: u16, name: &[u8]) -> Option<u16> {
-        match self.methods(ty).binary_search_by(|m| m.name.bytes().cmp(name)) {
+        match self
+            .methods(ty)
+            .binary_search_by(|m| m.name.bytes().cmp(name))
+        {
             Ok(place) => Some(place as u16),
             Err(_) => None,
         }

@@ -1,5 +1,5 @@
 -- A reader of lines by its fields.
-use Rattle.std.specs.Prelude.{◌≡◌, ◌≤◌, ◌<◌, true, slice_range, vec_len}
+use Rattle.std.specs.Prelude.{◌≡◌, ◌≤◌, ◌<◌, ◌+◌, true, slice_range, vec_len}
 use Rattle.seam_io.specs.Lines.{HasNoFeed}
 use Rattle.seam_io.specs.Reading.{Reader}
 use Rattle.seam_io.specs.declared.lines.Lines.TheInside.{Inside}
@@ -21,6 +21,7 @@ pub record IsReader (a : Inside) : Type 0 where
   pub end : a.end ≤ 8192
   pub line_start : a.line_start ≤ a.line_end
   pub line_end : a.line_end ≤ 8192
+  pub line_len : a.line_end ≤ a.line_start + 4096
   pub feedless : HasNoFeed (slice_range a.buffer.items a.start a.seen)
   pub within : a.taken ≤ a.limit
   pub ended : a.ended ≡ true → a.taken < a.limit

@@ -142,7 +142,8 @@ impl Lines {
 
     /// The content of the line that the last call of [`Lines::next`] gave, empty after another answer.
     pub fn line(&self) -> &[u8]
-        ensures { result.now ≡ self.now.line }
+        ensures content { result.now ≡ self.now.line }
+        ensures short { length result.now ≤ 4096 }
     {
         &self.buffer[self.line_start..self.line_end]
     }

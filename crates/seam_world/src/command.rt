@@ -89,7 +89,12 @@ fn read_create<'a>(entity: &[u8], type_name: &'a [u8], x: &[u8], z: &[u8]) -> Co
     }
 }
 
-fn read_call<'a>(sender: &[u8], entity: &[u8], method_name: &'a [u8], arg: &'a [u8]) -> Command<'a> {
+fn read_call<'a>(
+    sender: &[u8],
+    entity: &[u8],
+    method_name: &'a [u8],
+    arg: &'a [u8],
+) -> Command<'a> {
     match (sender_named(sender), entity_number(entity)) {
         (Some(sender), Some(entity)) => Command::Call {
             sender,

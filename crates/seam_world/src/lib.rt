@@ -7,7 +7,5 @@ mod status;
 mod table;
 mod text;
 
-
-
 pub use run::run_seamless;
 pub use status::Status;

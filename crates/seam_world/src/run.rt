@@ -50,11 +50,20 @@ impl Script {
                 let digit = [b'w', b'o', b'r', b'd', b's', b' ', b'0' + error.number()];
                 push_refusal(out, self.line, &digit)
             }
-            Command::Create { entity, type_name, pos } => {
+            Command::Create {
+                entity,
+                type_name,
+                pos,
+            } => {
                 let verdict = self.table.create(entity, type_name, pos)?;
                 self.judged(verdict, out)
             }
-            Command::Call { sender, entity, method_name, arg } => {
+            Command::Call {
+                sender,
+                entity,
+                method_name,
+                arg,
+            } => {
                 let verdict = self.table.call(sender, entity, method_name, arg)?;
                 self.judged(verdict, out)
             }

@@ -89,7 +89,13 @@ impl PartState {
     }
 
     // Executes a call.
-    fn execute(&mut self, defs: &Defs, ty: u16, sender: Sender, deed: Deed) -> Result<(), AllocError> {
+    fn execute(
+        &mut self,
+        defs: &Defs,
+        ty: u16,
+        sender: Sender,
+        deed: Deed,
+    ) -> Result<(), AllocError> {
         let number = self.next_number(sender)?;
         let _changed = defs.apply(ty, &mut self.state, &deed)?;
         self.done.push(Done {
@@ -124,7 +130,12 @@ impl Table {
     }
 
     /// Makes an entity, unless its number was used, its type is none, it stands outside the space, or there are too many.
-    pub fn create(&mut self, entity: u32, type_name: &[u8], pos: Pos) -> Result<Verdict, AllocError> {
+    pub fn create(
+        &mut self,
+        entity: u32,
+        type_name: &[u8],
+        pos: Pos,
+    ) -> Result<Verdict, AllocError> {
         let size = self.settings.size;
         if self.entities.contains_key(&entity)
             || self.entities.len() >= MOST_ENTITIES

@@ -18,7 +18,12 @@ pub fn push_refusal(out: &mut Vec<u8>, line: u64, cause: &[u8]) -> Result<(), Al
 }
 
 /// Appends the text of a round: the executed calls, the homes and the base parts, each in rising entity number.
-pub fn push_round(alloc: Global, out: &mut Vec<u8>, round: u64, table: &Table) -> Result<(), AllocError> {
+pub fn push_round(
+    alloc: Global,
+    out: &mut Vec<u8>,
+    round: u64,
+    table: &Table,
+) -> Result<(), AllocError> {
     push_numbered(out, b"round ", round)?;
     for (number, entity) in table.entities() {
         push_done(alloc, out, table.defs(), *number, entity)?;
@@ -91,7 +96,13 @@ fn push_sender(out: &mut Vec<u8>, sender: Sender) -> Result<(), AllocError> {
     }
 }
 
-fn push_deed(alloc: Global, out: &mut Vec<u8>, defs: &Defs, ty: u16, deed: &Deed) -> Result<(), AllocError> {
+fn push_deed(
+    alloc: Global,
+    out: &mut Vec<u8>,
+    defs: &Defs,
+    ty: u16,
+    deed: &Deed,
+) -> Result<(), AllocError> {
     match deed {
         Deed::Move(to) => {
             out.extend_from_slice(b" move")?;
@@ -111,7 +122,12 @@ fn push_deed(alloc: Global, out: &mut Vec<u8>, defs: &Defs, ty: u16, deed: &Deed
 }
 
 // An entity's home: its cell is 0, the only one.
-fn push_home(out: &mut Vec<u8>, defs: &Defs, number: u32, entity: &Entity) -> Result<(), AllocError> {
+fn push_home(
+    out: &mut Vec<u8>,
+    defs: &Defs,
+    number: u32,
+    entity: &Entity,
+) -> Result<(), AllocError> {
     let part = &entity.cell;
     out.extend_from_slice(b"home ")?;
     push_number(out, u64::from(number))?;
@@ -124,7 +140,12 @@ fn push_home(out: &mut Vec<u8>, defs: &Defs, number: u32, entity: &Entity) -> Re
     Ok(())
 }
 
-fn push_base(out: &mut Vec<u8>, defs: &Defs, number: u32, entity: &Entity) -> Result<(), AllocError> {
+fn push_base(
+    out: &mut Vec<u8>,
+    defs: &Defs,
+    number: u32,
+    entity: &Entity,
+) -> Result<(), AllocError> {
     let part = &entity.base;
     out.extend_from_slice(b"base ")?;
     push_number(out, u64::from(number))?;
