@@ -18,34 +18,42 @@ two_gaps a b p q = list_all-append is_blank a b ∙ grind (arith, p, q)
 -- words may be read behind a gap
 pub skip_gap : (at : ℕ) (gap bytes : List ℕ) (spans : List Span) (tail : List ℕ) → IsGap gap → HaveFirst (at + length gap) bytes spans tail → HaveFirst at (gap ++ bytes) spans tail
 skip_gap at gap bytes [] tail g h = (gap ++ h.0, two_gaps gap h.0 g h.1, ap (λ (xs : List ℕ). gap ++ xs) h.2 ∙ sym (append_assoc gap h.0 tail))
-skip_gap at gap bytes (span ∷ spans) tail g h = (h.0, record {
-  gap = gap ++ h.1.gap;
-  word = h.1.word;
-  blank = two_gaps gap h.1.gap g h.1.blank;
-  good = h.1.good;
-  ends = h.1.ends;
-  whole = ap (λ (xs : List ℕ). gap ++ xs) h.1.whole ∙ simp append_assoc;
-  start = omega (arith, length-append gap h.1.gap, h.1.start);
-  end = h.1.end;
-}, h.2)
+skip_gap at gap bytes (span ∷ spans) tail g h = (
+  h.0,
+  record {
+    gap = gap ++ h.1.gap;
+    word = h.1.word;
+    blank = two_gaps gap h.1.gap g h.1.blank;
+    good = h.1.good;
+    ends = h.1.ends;
+    whole = ap (λ (xs : List ℕ). gap ++ xs) h.1.whole ∙ simp append_assoc;
+    start = omega (arith, length-append gap h.1.gap, h.1.start);
+    end = h.1.end;
+  },
+  h.2,
+)
 
 pub behind_gap : (at later : ℕ) (bytes : List ℕ) (spans : List Span) (tail rest : List ℕ) → HasRun is_blank bytes rest → later + length rest ≡ at + length bytes → HaveFirst later rest spans tail → HaveFirst at bytes spans tail
 behind_gap at later bytes spans tail rest r e h =
-  let place : later ≡ at + length r.run = omega (arith, ap length r.whole, length-append r.run rest) in
-  rw r.whole (skip_gap at r.run rest spans tail r.passes (subst (λ (n : ℕ). HaveFirst n rest spans tail) place h))
+    let place : later ≡ at + length r.run = omega (arith, ap length r.whole, length-append r.run rest) in
+    rw r.whole (skip_gap at r.run rest spans tail r.passes (subst (λ (n : ℕ). HaveFirst n rest spans tail) place h))
 
 -- a word, and then the words behind it
 pub word_first : (at : ℕ) (bytes rest : List ℕ) (span : Span) (spans : List Span) (tail : List ℕ) → IsFirstWord span.quoted bytes rest → span.start ≡ at → span.end + length rest ≡ at + length bytes → HaveFirst span.end rest spans tail → HaveFirst at bytes (span ∷ spans) tail
-word_first at bytes rest span spans tail w s e h = (rest, record {
-  gap = [];
-  word = w.word;
-  blank = refl;
-  good = w.good;
-  ends = w.ends;
-  whole = w.whole;
-  start = omega arith;
-  end = omega (arith, ap length w.whole, length-append w.word rest);
-}, h)
+word_first at bytes rest span spans tail w s e h = (
+  rest,
+  record {
+    gap = [];
+    word = w.word;
+    blank = refl;
+    good = w.good;
+    ends = w.ends;
+    whole = w.whole;
+    start = omega arith;
+    end = omega (arith, ap length w.whole, length-append w.word rest);
+  },
+  h,
+)
 
 -- a fault behind the words so far
 pub fault_of_word : (count : ℕ) (bytes : List ℕ) (e : WordsError) → count < 16 → RefusesWord bytes e → HasFaultAt count bytes e

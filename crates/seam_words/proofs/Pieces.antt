@@ -27,12 +27,15 @@ each_append [] ys p q = q
 each_append (x ∷ xs) ys p q = (p.0, each_append xs ys p.1 q)
 
 pub one_more : (bytes front rest after : List ℕ) → ArePieces front → bytes ≡ front ++ rest → HasPiece rest after → (more : List ℕ) × ArePieces more × (bytes ≡ more ++ after)
-one_more bytes front rest after p e h =
-  (front ++ h.piece, record {
+one_more bytes front rest after p e h = (
+  front ++ h.piece,
+  record {
     pieces = p.pieces ++ h.piece ∷ [];
     each = each_append p.pieces (h.piece ∷ []) p.each (h.good, tt);
     joined = ap (λ (xs : List ℕ). xs ++ h.piece) p.joined ∙ ap (λ (xs : List ℕ). concat p.pieces ++ xs) (sym (append-nil h.piece)) ∙ sym (concat-append p.pieces (h.piece ∷ []));
-  }, e ∙ ap (λ (xs : List ℕ). front ++ xs) h.whole ∙ sym (append_assoc front h.piece after))
+  },
+  e ∙ ap (λ (xs : List ℕ). front ++ xs) h.whole ∙ sym (append_assoc front h.piece after),
+)
 
 pub no_pieces : ArePieces []
 no_pieces = record { pieces = []; each = tt; joined = refl }

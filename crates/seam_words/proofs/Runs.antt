@@ -43,8 +43,8 @@ some_plain [] rest run s q p e = absurd s
 some_plain (b ∷ bytes) rest (r ∷ run) s q p e = omega arith
 some_plain (b ∷ bytes) [] [] s q p e = cc
 some_plain (b ∷ bytes) (x ∷ rest) [] s q p e =
-  let same : b ≡ x = cc in
-  absurd (grind (arith, common_steps))
+    let same : b ≡ x = cc in
+    absurd (grind (arith, common_steps))
 
 quote_first : (bytes : List ℕ) → (slice_index bytes 0 == 34) ≡ true → bytes ≡ 34 ∷ drop 1 bytes
 quote_first [] e = cc

@@ -2,6 +2,8 @@
 ghost use Rattle.std.specs.Prelude.{◌≡◌, ◌≢◌, ◌==◌, ◌+◌, ◌<◌, ◌≤◌, ◌↔◌, ◌∷◌, true, false, List, ℕ, length, drop, All, IsTrue, IfOk, IfErr, IfSome, MatchOption, slice_index};
 ghost use Rattle.std.specs.List.{prefix_len};
 ghost use Rattle.std.specs.Str.{IsUtf8};
+ghost use Rattle.seam_words.specs.declared.words.Span.{Span as Spans};
+ghost use Rattle.seam_words.specs.declared.words.WordsError.{WordsError as Errors};
 ghost use Rattle.seam_words.specs.Words.{is_blank, is_plain, is_escaped, AreWords, IsInside};
 ghost use Rattle.seam_words.specs.Faults.{BeginsWord, IsNoEscape, Refuses};
 ghost use Rattle.seam_words.specs.Parts.{IsFirstWord, RefusesWord, EndsPieces, ClosesWord, HasPiece, HasBadPiece, HasPieces, RefusesPieces};
@@ -16,6 +18,10 @@ pub fn split_line(line: &[u8]) -> Result<Words, WordsError>
     ensures words { IfOk result (λ words. IsUtf8 line.now × AreWords line.now words × (length words ≤ 16)) }
     ensures inside { IfOk result (All (IsInside (length line.now))) }
     ensures cause { IfErr result (Refuses line.now) }
+
+    // And the other way round: each line has one answer.
+    ensures found { (spans : List Spans) → IsUtf8 line.now → AreWords line.now spans → length spans ≤ 16 → result ≡ Ok spans }
+    ensures refused { (error : Errors) → Refuses line.now error → result ≡ Err error }
 {
     if !is_utf8(line) {
         return Err(WordsError::NotUtf8);
