@@ -1,14 +1,12 @@
 -- Numbers with a sign, and their ranges.
-use Rattle.std.proofs.Common.{rules, ◌≡◌, ◌≢◌, ℕ, ◌+◌, ◌*◌, ◌<◌, ◌≤◌, ◌^◌, Bool, true, false, List, [], ◌∷◌, ◌++◌, length, get_or, refl, sym, ◌∙◌, ap, subst, arith, zero, suc, ℤ, pos, negsuc, ◌≤ℤ◌}
-use Rattle.std.specs.Prelude.{slice_index, ◌&&◌}
-use Rattle.std.specs.List.{list_all}
+use Rattle.std.proofs.Common.{◌≡◌, ◌≢◌, ℕ, ◌≤◌, ◌^◌, Bool, true, false, List, [], ◌∷◌, refl, sym, ◌∙◌, ap, subst, arith, zero, suc, ℤ, pos, negsuc}
+use Rattle.std.specs.Prelude.{slice_index}
 use Rattle.std.specs.Str.Parse.{digits_value}
 use Rattle.std.proofs.lemmas.Int.{ints}
-use Rattle.std.proofs.lemmas.Grind.{common_steps}
 use Rattle.seam_value.specs.declared.types.ValueType.{ValueType}
 use Rattle.seam_value.specs.declared.types.ValueType.TheVariants.{Int8, Int16, Int32, Int64, Uint8, Uint16, Uint32, Uint64, Text}
 use Rattle.seam_value.specs.declared.values.Value.TheVariants.{Number}
-use Rattle.seam_value.specs.Numerals.{is_digit, IsNumeral, SplitsSign, IsSignedNumeral, signed}
+use Rattle.seam_value.specs.Numerals.{IsNumeral, SplitsSign, IsSignedNumeral, signed}
 use Rattle.seam_value.specs.Values.{Fits, decimal_of, number_text}
 use Rattle.seam_value.proofs.Decimals.{decimal_of_numeral, decimal_of-digits_value, decimal_of-injective, glyph_is, and_left, decimal_of_zero}
 

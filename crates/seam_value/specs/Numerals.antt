@@ -1,4 +1,4 @@
--- Texts of digits, as the reading of a number tests them.
+-- Texts of digits, as the reading of a number tests them: no clause of a public call cites these.
 use Rattle.std.specs.Prelude.{◌≡◌, ◌≢◌, ℕ, ◌<◌, ◌&&◌, Bool, true, false, List, [], ◌∷◌, length, nat_le, slice_index, ℤ, pos, neg_ℤ}
 use Rattle.std.specs.List.{list_all}
 

@@ -1,16 +1,14 @@
 -- How the words of a line follow one another.
-use Rattle.std.proofs.Common.{rules, ◌≡◌, ◌≢◌, ℕ, ◌+◌, ◌-◌, ◌<◌, ◌≤◌, Bool, true, false, List, [], ◌∷◌, ◌++◌, length, drop, refl, sym, ◌∙◌, ap, subst, arith, append_assoc, append-nil, length-append}
-use Rattle.std.specs.List.{list_all, prefix_len}
+use Rattle.std.proofs.Common.{◌≡◌, ℕ, ◌+◌, ◌<◌, Bool, true, false, List, [], ◌∷◌, ◌++◌, length, refl, sym, ◌∙◌, ap, subst, arith, append_assoc, append-nil, length-append}
 use Rattle.std.proofs.lemmas.List.Folds.{list_all-append}
-use Rattle.std.proofs.lemmas.Grind.{common_steps}
 use Rattle.seam_words.specs.declared.words.Span.{Span}
 use Rattle.seam_words.specs.declared.words.WordsError.{WordsError}
 use Rattle.seam_words.specs.declared.words.WordsError.TheVariants.{NotUtf8, OpenQuote, BadEscape, TooManyWords}
-use Rattle.seam_words.specs.Words.{is_blank, IsGap, HasFirst, HaveFirst, AreWords}
+use Rattle.seam_words.specs.Words.{is_blank, IsGap, HaveFirst, AreWords}
 use Rattle.std.specs.Str.{IsUtf8}
 use Rattle.seam_words.specs.Faults.{HasFaultAt, HasFault, Refuses}
 use Rattle.seam_words.specs.Parts.{IsFirstWord, RefusesWord}
-use Rattle.seam_words.proofs.Runs.{HasRun, has_run}
+use Rattle.seam_words.proofs.Runs.{HasRun}
 
 two_gaps : (a b : List ℕ) → IsGap a → IsGap b → IsGap (a ++ b)
 two_gaps a b p q = list_all-append is_blank a b ∙ grind (arith, p, q)

@@ -1,10 +1,10 @@
 -- How pieces make a quoted word.
-use Rattle.std.proofs.Common.{rules, ◌≡◌, ◌≢◌, ℕ, ◌+◌, ◌-◌, ◌<◌, ◌≤◌, ◌⊎◌, Bool, true, false, List, [], ◌∷◌, ◌++◌, length, take, drop, refl, sym, ◌∙◌, ap, subst, arith, inl, inr, append_assoc, append-nil, Bor, Option, Some, None, eqb-true}
+use Rattle.std.proofs.Common.{◌≡◌, ◌≢◌, ℕ, ◌-◌, ◌<◌, Bool, true, false, List, [], ◌∷◌, ◌++◌, length, take, drop, refl, sym, ◌∙◌, ap, arith, inl, inr, append_assoc, append-nil, Bor, Option, Some, None, eqb-true}
 use Rattle.std.specs.Prelude.{slice_index, MatchOption, ◌==◌}
 use Rattle.std.specs.List.{concat, AllByRecursion}
 use Rattle.std.proofs.lemmas.List.Folds.{concat-append}
 use Rattle.std.proofs.lemmas.Grind.{common_steps}
-use Rattle.seam_words.specs.Words.{is_blank, is_escaped, IsPiece, ArePieces, IsQuotedWord, EndsWord}
+use Rattle.seam_words.specs.Words.{is_blank, is_escaped, IsPiece, ArePieces}
 use Rattle.seam_words.specs.Faults.{HasOpenQuote, HasBadEscape, IsNoEscape}
 use Rattle.seam_words.specs.Faults.HasOpenQuote.{unended, followed}
 use Rattle.seam_words.specs.Parts.{IsFirstWord, EndsPieces, ClosesWord, HasPiece, HasBadPiece, HasPieces, RefusesPieces}

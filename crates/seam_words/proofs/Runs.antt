@@ -1,10 +1,9 @@
 -- Runs of bytes that pass a test: gaps, and plain words.
-use Rattle.std.proofs.Common.{rules, ◌≡◌, ◌≢◌, ℕ, ◌+◌, ◌-◌, ◌<◌, ◌≤◌, Bool, true, false, List, [], ◌∷◌, ◌++◌, length, take, drop, refl, sym, ◌∙◌, ap, subst, arith, suc, eqb-true}
-use Rattle.std.specs.Prelude.{slice_index, ◌==◌, ◌||◌, not}
+use Rattle.std.proofs.Common.{◌≡◌, ℕ, ◌+◌, ◌<◌, Bool, true, false, List, [], ◌∷◌, ◌++◌, length, drop, refl, ◌∙◌, ap, arith, suc, eqb-true}
+use Rattle.std.specs.Prelude.{slice_index, ◌==◌}
 use Rattle.std.specs.List.{list_all, prefix_len}
-use Rattle.std.proofs.lemmas.List.{take-append-drop}
 use Rattle.std.proofs.lemmas.Grind.{common_steps}
-use Rattle.seam_words.specs.Words.{is_blank, is_plain, IsPlainWord, EndsWord}
+use Rattle.seam_words.specs.Words.{is_plain, IsPlainWord, EndsWord}
 use Rattle.seam_words.specs.Faults.{HasOpenQuote, BeginsWord}
 use Rattle.seam_words.specs.Faults.HasOpenQuote.{inside}
 use Rattle.seam_words.specs.Parts.{IsFirstWord}

@@ -1,6 +1,6 @@
 -- A reading of a line byte after byte, which shows that a line has one list of words or one first fault.
-use Rattle.std.proofs.Common.{rules, ◌≡◌, ◌≢◌, ℕ, ◌+◌, ◌-◌, ◌<◌, ◌≤◌, ◌⊎◌, Bool, true, false, List, [], ◌∷◌, ◌++◌, length, refl, sym, ◌∙◌, ap, subst, arith, suc, Result, Ok, Err, append_assoc, append-nil, length-append, add-zero, inl, inr, ne_eqb, eq-eqb, leb, le-leb}
-use Rattle.std.specs.Prelude.{◌==◌, ◌||◌, ◌&&◌, not, if◌then◌else◌, nat_le}
+use Rattle.std.proofs.Common.{◌≡◌, ℕ, ◌+◌, ◌<◌, ◌≤◌, Bool, true, false, List, [], ◌∷◌, ◌++◌, length, refl, sym, ◌∙◌, ap, arith, Result, Ok, Err, append_assoc, append-nil, length-append, add-zero, inl, inr, ne_eqb}
+use Rattle.std.specs.Prelude.{◌==◌, ◌&&◌, if◌then◌else◌, nat_le}
 use Rattle.std.specs.List.{list_all, concat, AllByRecursion}
 use Rattle.std.specs.Str.{IsUtf8}
 use Rattle.std.proofs.lemmas.Grind.{common_steps}
@@ -8,7 +8,7 @@ use Rattle.seam_words.specs.declared.words.Span.{Span}
 use Rattle.seam_words.specs.declared.words.WordsError.{WordsError}
 use Rattle.seam_words.specs.declared.words.WordsError.TheVariants.{NotUtf8, OpenQuote, BadEscape, TooManyWords}
 use Rattle.seam_words.specs.Words.{is_blank, is_plain, is_escaped, IsGap, IsPlainWord, IsPiece, ArePieces, IsQuotedWord, IsWord, EndsWord, HasFirst, HaveFirst, AreWords}
-use Rattle.seam_words.specs.Faults.{HasOpenQuote, HasBadEscape, IsNoEscape, BeginsWord, HasFaultAt, HasFault, Refuses}
+use Rattle.seam_words.specs.Faults.{HasOpenQuote, IsNoEscape, HasFaultAt, HasFault, Refuses}
 use Rattle.seam_words.specs.Faults.HasOpenQuote.{inside, unended, followed}
 
 -- where the reading stands: between words, in a word that began at a place, behind a backslash in it, behind a closing quote

@@ -1,4 +1,7 @@
-use crate::{Span, WordsError, split_line};
+ghost use Rattle.std.specs.Prelude.{length, All};
+ghost use Rattle.seam_words.specs.Words.{IsInside};
+
+use crate::{Span, Words, WordsError, split_line};
 use std::test::Fail;
 
 fn plain(start: u32, end: u32) -> Span {
@@ -9,20 +12,35 @@ fn plain(start: u32, end: u32) -> Span {
     }
 }
 
+fn word_of<'a>(words: &Words, line: &'a [u8], i: usize) -> Option<&'a [u8]>
+    requires { All (IsInside (length line.now)) words.now }
+{
+    let span = words.get(i)?;
+    Some(span.of(line))
+}
+
 #[test]
 fn a_call_has_its_words(rt: HostRuntime) -> Result<(), Fail> {
-    let line = br#"call b1 1 write "a\"b\\c\n""#;
+    let line = br#"call b1 1 write "a\"b\\c\n""#.as_slice();
     let text = Span {
         start: 16,
         end: 27,
         quoted: true,
     };
-    let spans = [plain(0, 4), plain(5, 7), plain(8, 9), plain(10, 15), text];
+    let rows = [
+        (plain(0, 4), b"call".as_slice()),
+        (plain(5, 7), b"b1"),
+        (plain(8, 9), b"1"),
+        (plain(10, 15), b"write"),
+        (text, br#""a\"b\\c\n""#),
+    ];
+    assert!(rt; line.len() <= 4096);
     match split_line(line) {
         Ok(words) => {
-            assert_eq!(rt; words.len(), spans.len());
-            for (i, span) in spans.iter().enumerate() {
+            assert_eq!(rt; words.len(), rows.len());
+            for (i, (span, bytes)) in rows.iter().enumerate() {
                 assert_eq!(rt; words.get(i), Some(*span), "at {i}");
+                assert_eq!(rt; word_of(&words, line, i), Some(*bytes), "at {i}");
             }
             assert_eq!(rt; words.get(5), None);
         }

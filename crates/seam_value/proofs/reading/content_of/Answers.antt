@@ -1,7 +1,5 @@
-use Rattle.std.proofs.Common.{◌≡◌, ◌≢◌, ℕ, List, length, ◌∙◌, arith}
+use Rattle.std.proofs.Common.{◌≢◌, length, arith}
 use Rattle.std.proofs.lemmas.Grind.{common_steps}
-use Rattle.std.specs.List.{flat_map}
-use Rattle.seam_value.specs.Texts.{spelled_byte}
 use Rattle.seam_value.proofs.Spellings.{more_content, less_to_come, none_to_come}
 use Rattle.seam_value.proofs.reading.content_of.Goals as goal
 

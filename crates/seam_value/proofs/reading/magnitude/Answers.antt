@@ -1,5 +1,4 @@
-use Rattle.std.proofs.Common.{rules, ◌≡◌, ℕ, List, sym, subst, ◌^◌, ◌≤◌}
-use Rattle.std.specs.Prelude.{MatchOption}
+use Rattle.std.proofs.Common.{subst}
 use Rattle.std.specs.Str.Parse.{ParsesUnsigned}
 use Rattle.seam_value.proofs.Magnitudes.{parsed, numeral_is_text}
 use Rattle.seam_value.proofs.reading.magnitude.Goals as goal

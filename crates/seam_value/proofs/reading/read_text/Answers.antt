@@ -1,4 +1,4 @@
-use Rattle.std.proofs.Common.{◌≡◌, List, ℕ, refl, ap, sym, ◌∙◌}
+use Rattle.std.proofs.Common.{◌≡◌, refl, ap, ◌∙◌}
 use Rattle.std.specs.List.{flat_map}
 use Rattle.seam_value.specs.Texts.{spelled_byte, quoted}
 use Rattle.seam_value.proofs.Spellings.{quoted_is, no_quoted_inside, no_quotes}

@@ -1,4 +1,4 @@
-use Rattle.std.proofs.Common.{rules, ◌≡◌, ◌≢◌, ◌∙◌, ◌-◌, ◌<◌, ℕ, List, ◌∷◌, ap, arith, length, take, drop}
+use Rattle.std.proofs.Common.{rules, ◌≡◌, ◌≢◌, ◌∙◌, ◌-◌, ℕ, List, ◌∷◌, ap, arith, length, take, drop}
 use Rattle.std.specs.Prelude.{slice_index}
 use Rattle.seam_words.proofs.Pieces.{cons_is, plain_piece, behind_backslash}
 use Rattle.seam_words.proofs.splitting.after_piece.Goals as goal

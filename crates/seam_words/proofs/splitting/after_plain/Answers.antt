@@ -1,5 +1,4 @@
-use Rattle.std.proofs.Common.{rules, ◌≡◌, ◌∙◌, true, false, sym, subst, List, ℕ}
-use Rattle.std.specs.Prelude.{slice_index, ◌==◌}
+use Rattle.std.proofs.Common.{◌∙◌, sym}
 use Rattle.seam_words.specs.Words.{is_plain}
 use Rattle.seam_words.proofs.Runs.{HasRun, has_run, plain_word, quote_inside}
 use Rattle.seam_words.proofs.splitting.after_plain.Goals as goal

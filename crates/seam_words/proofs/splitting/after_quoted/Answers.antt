@@ -1,7 +1,6 @@
-use Rattle.std.proofs.Common.{rules, ◌≡◌, ◌≢◌, ◌∙◌, ◌-◌, ◌<◌, ◌≤◌, ℕ, List, [], ◌∷◌, ap, arith, length, take, drop, eqb-true}
-use Rattle.std.specs.Prelude.{slice_index}
+use Rattle.std.proofs.Common.{rules, ◌-◌, length, take, drop}
 use Rattle.seam_words.specs.Parts.{ClosesWord}
-use Rattle.seam_words.proofs.Pieces.{cons_is, quoted_first, drop_first, quoted_word, open_quote, bad_escape}
+use Rattle.seam_words.proofs.Pieces.{quoted_first, drop_first, quoted_word, open_quote}
 use Rattle.seam_words.proofs.splitting.after_quoted.Goals as goal
 
 pub returns-then-closes_word-clause-word : goal.returns-then-closes_word-clause-word

@@ -1,15 +1,13 @@
-use Rattle.std.proofs.Common.{rules, ◌≡◌, ◌∙◌, ◌+◌, ◌-◌, ◌<◌, ◌≤◌, ◌++◌, ◌∷◌, [], ℕ, List, length, refl, sym, ap, subst, arith, append_assoc, append-nil, length-append, Ok, Err}
-use Rattle.std.specs.List.{All}
+use Rattle.std.proofs.Common.{rules, ◌≡◌, ◌∙◌, ◌-◌, ◌<◌, ◌≤◌, ◌++◌, ◌∷◌, [], ℕ, length, refl, sym, ap, arith, append_assoc, length-append, Ok, Err}
 use Rattle.std.specs.Str.{IsUtf8}
 use Rattle.std.proofs.lemmas.Result.{err_from_is_err_and}
 use Rattle.std.proofs.lemmas.List.Elements.{All-push}
-use Rattle.std.proofs.lemmas.Grind.{common_steps, elements}
 use Rattle.seam_words.specs.declared.words.Span.{Span}
 use Rattle.seam_words.specs.declared.words.WordsError.TheVariants.{TooManyWords}
 use Rattle.seam_words.specs.Words.{is_blank, HaveFirst, AreWords, IsInside}
-use Rattle.seam_words.specs.Faults.{BeginsWord, HasFaultAt, Refuses}
+use Rattle.seam_words.specs.Faults.{BeginsWord, Refuses}
 use Rattle.seam_words.specs.Parts.{IsFirstWord}
-use Rattle.seam_words.proofs.Runs.{HasRun, StopsAt, has_run}
+use Rattle.seam_words.proofs.Runs.{HasRun, has_run}
 use Rattle.seam_words.proofs.Fronts.{behind_gap, word_first, fault_of_word, has_fault, shorter, refused, are_words}
 use Rattle.seam_words.proofs.Scan.{same_words, no_words, same_refusal}
 use Rattle.seam_words.proofs.splitting.split_line.Goals as goal

@@ -1,6 +1,5 @@
-use Rattle.std.proofs.Common.{◌≡◌, ◌≤◌, ◌+◌, ◌-◌, ◌++◌, ℕ, List, length}
+use Rattle.std.proofs.Common.{◌≤◌, ◌-◌, ◌++◌, ℕ, List, length}
 use Rattle.std.specs.List.{All}
-use Rattle.std.specs.Str.{IsUtf8}
 use Rattle.seam_words.specs.declared.words.Span.{Span}
 use Rattle.seam_words.specs.Words.{is_blank, HaveFirst}
 use Rattle.seam_words.specs.Words.{IsInside}

@@ -1,8 +1,6 @@
-use Rattle.std.proofs.Common.{◌≡◌, ◌∙◌, sym}
+use Rattle.std.proofs.Common.{◌∙◌, sym}
 use Rattle.std.proofs.lemmas.Result.{err_from_is_err_and}
 use Rattle.seam_value.specs.declared.values.Value.TheVariants.{Text}
-use Rattle.seam_value.specs.declared.types.ValueType.TheVariants as type
-use Rattle.seam_value.specs.Values.{Fits, text_of}
 use Rattle.seam_value.specs.Causes.{Refuses}
 use Rattle.seam_value.proofs.Answers.{text_of-injective, refuses_none, reads_back}
 use Rattle.seam_value.proofs.values.Value.parse.Goals as goal
