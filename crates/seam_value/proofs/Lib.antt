@@ -1,1 +1,5 @@
-pub mod Numerals
+pub mod Decimals
+pub mod Signs
+pub mod Spellings
+pub mod Magnitudes
+pub mod Answers

@@ -1,4 +1,5 @@
 pub mod Types
 pub mod Texts
 pub mod Values
+pub mod Numerals
 pub mod Causes

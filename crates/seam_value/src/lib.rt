@@ -2,12 +2,16 @@
 //! and the one way in which each value is spelled.
 #![tactic(auto)]
 
+mod laws;
 mod reading;
+#[cfg(test)]
+mod tests;
 mod texts;
 mod types;
 mod values;
 mod writing;
 
+pub use laws::spelling_is_one_to_one;
 pub use texts::ShortText;
 pub use types::ValueType;
 pub use values::{Value, ValueError};

@@ -1,7 +1,10 @@
 // A value from its spelling.
-ghost use Rattle.std.specs.Prelude.{◌≡◌, ◌≢◌, ◌≤ℤ◌, ◌++◌, ◌<◌, length, IfOk, IfErr, IfSome};
-ghost use Rattle.seam_value.specs.Types.{least, greatest};
-ghost use Rattle.seam_value.specs.Texts.{spelled_byte};
+ghost use Rattle.std.specs.Prelude.{◌≡◌, ◌≢◌, ◌≤◌, ◌<◌, ◌^◌, ◌↔◌, ◌∷◌, [], ◌++◌, ℕ, List, length, IsTrue, IfOk, IfErr, IfSome, MatchOption, MatchResult};
+ghost use Rattle.seam_value.specs.declared.values.Value.{Value as Values};
+ghost use Rattle.std.specs.List.{list_all, flat_map};
+ghost use Rattle.std.specs.Str.Parse.{digits_value};
+ghost use Rattle.seam_value.specs.Numerals.{is_digit, IsNumeral, IsSignedNumeral, SplitsSign, signed};
+ghost use Rattle.seam_value.specs.Texts.{spelled_byte, quoted, IsShortText};
 ghost use Rattle.seam_value.specs.Values.{Fits, text_of};
 ghost use Rattle.seam_value.specs.Causes.{Refuses};
 
@@ -12,23 +15,27 @@ impl Value {
     /// The value of type `t` that the bytes spell, else the first cause why there is none: `NotNumber` or `OutOfRange` at
     /// a number type, `BadString` or `TooLong` at the text type, `NoMemory` only there.
     pub fn parse(alloc: Global, bytes: &[u8], t: ValueType) -> Result<Value, ValueError>
-        ensures { IfOk result (λ v. Fits v t) }
+        ensures value { IfOk result (λ v. Fits v t × (text_of v ≡ bytes.now)) }
+        ensures cause { IfErr result (Refuses bytes.now t) }
+
+        // The spelling of a value that fits is read as that value, unless memory is wanting.
+        ensures spelled { (v : Values) → Fits v t → text_of v ≡ bytes.now → MatchResult result (λ read. read ≡ v) (λ e. e ≡ ValueError.NoMemory) }
     {
-        if t.is_number() {
-            Ok(Value::Number(read_number(bytes, t)?))
-        } else {
-            Ok(Value::Text(read_text(alloc, bytes)?))
+        match t {
+            ValueType::Text => Ok(Value::Text(read_text(alloc, bytes)?)),
+            _ => read_number(bytes, t),
         }
     }
 }
 
 // The number of type `t` that the bytes spell.
-fn read_number(bytes: &[u8], t: ValueType) -> Result<i128, ValueError>
+fn read_number(bytes: &[u8], t: ValueType) -> Result<Value, ValueError>
     requires { t ≢ ValueType.Text }
-    ensures { IfOk result (λ z. (least t ≤ℤ z) × (z ≤ℤ greatest t)) }
+    ensures value { IfOk result (λ v. Fits v t × (text_of v ≡ bytes.now)) }
+    ensures cause { IfErr result (Refuses bytes.now t) }
 {
     let (is_negative, digits) = split_sign(bytes);
-    if !is_numeral(digits) || (is_negative && is_zero(digits)) {
+    if !is_signed_numeral(is_negative, digits) {
         return Err(ValueError::NotNumber);
     }
     match magnitude(digits) {
@@ -38,34 +45,56 @@ fn read_number(bytes: &[u8], t: ValueType) -> Result<i128, ValueError>
 }
 
 // Whether a minus sign stands first, and what follows it.
-fn split_sign(bytes: &[u8]) -> (bool, &[u8]) {
+fn split_sign(bytes: &[u8]) -> (bool, &[u8])
+    ensures { SplitsSign bytes.now result.0 result.1.now }
+{
     match bytes {
         [b'-', digits @ ..] => (true, digits),
         _ => (false, bytes),
     }
 }
 
-// Whether the bytes are digits, the first of which is 0 only where it is the only one.
-fn is_numeral(digits: &[u8]) -> bool {
+fn is_signed_numeral(is_negative: bool, digits: &[u8]) -> bool
+    ensures { IsTrue result ↔ IsSignedNumeral is_negative digits.now }
+{
+    is_numeral(digits) && !(is_negative && is_zero(digits))
+}
+
+fn is_numeral(digits: &[u8]) -> bool
+    ensures { IsTrue result ↔ IsNumeral digits.now }
+{
     match digits {
         [] | [b'0', _, ..] => false,
-        _ => digits.iter().all(|b| b.is_ascii_digit()),
+        _ => all_digits(digits),
     }
 }
 
-fn is_zero(digits: &[u8]) -> bool {
+fn all_digits(bytes: &[u8]) -> bool
+    ensures { result ≡ list_all is_digit bytes.now }
+{
+    bytes.iter().all(|b| *b >= b'0' && *b <= b'9')
+}
+
+fn is_zero(digits: &[u8]) -> bool
+    ensures { IsTrue result ↔ (digits.now ≡ 48 ∷ []) }
+{
     matches!(digits, [b'0'])
 }
 
 // The number of these digits, where it is below 2^64.
-fn magnitude(digits: &[u8]) -> Option<u64> {
+fn magnitude(digits: &[u8]) -> Option<u64>
+    requires { IsNumeral digits.now }
+    ensures { MatchOption result (2 ^ 64 ≤ digits_value 10 digits.now) (λ n. n ≡ digits_value 10 digits.now) }
+{
     match std::str::from_utf8(digits) {
         Ok(digits) => digits.parse::<u64>().ok(),
         Err(_) => None,
     }
 }
 
-fn signed(is_negative: bool, size: u64) -> i128 {
+fn signed(is_negative: bool, size: u64) -> i128
+    ensures { result ≡ signed is_negative size }
+{
     if is_negative {
         -i128::from(size)
     } else {
@@ -73,30 +102,47 @@ fn signed(is_negative: bool, size: u64) -> i128 {
     }
 }
 
-fn in_range(number: i128, t: ValueType) -> Result<i128, ValueError>
-    requires { t ≢ ValueType.Text }
-    ensures { IfOk result (λ z. (least t ≤ℤ z) × (z ≤ℤ greatest t)) }
+fn in_range(number: i128, t: ValueType) -> Result<Value, ValueError>
+    ensures value { IfOk result (λ v. Fits v t × (v ≡ Value.Number number)) }
+    ensures cause { IfErr result (λ e. (e ≡ ValueError.OutOfRange) × ¬ (Fits (Value.Number number) t)) }
 {
-    if t.least() <= number && number <= t.greatest() {
-        Ok(number)
+    let value = Value::Number(number);
+    if value.fits(t) {
+        Ok(value)
     } else {
         Err(ValueError::OutOfRange)
     }
 }
 
 // The text that the bytes spell in quotes.
-fn read_text(alloc: Global, bytes: &[u8]) -> Result<ShortText, ValueError> {
-    match bytes {
-        [b'"', spelled @ .., b'"'] => match content_of(alloc, spelled)? {
+fn read_text(alloc: Global, bytes: &[u8]) -> Result<ShortText, ValueError>
+    ensures value { IfOk result (λ s. IsShortText s × (quoted s ≡ bytes.now)) }
+    ensures cause { IfErr result (Refuses bytes.now ValueType.Text) }
+{
+    match between_quotes(bytes) {
+        Some(spelled) => match content_of(alloc, spelled)? {
             Some(content) => ShortText::new(alloc, &content),
             None => Err(ValueError::BadString),
         },
-        _ => Err(ValueError::BadString),
+        None => Err(ValueError::BadString),
+    }
+}
+
+fn between_quotes(bytes: &[u8]) -> Option<&[u8]>
+    ensures { MatchOption result ((inner : List ℕ) → bytes.now ≢ 34 ∷ inner ++ 34 ∷ []) (λ inner. bytes.now ≡ 34 ∷ inner.now ++ 34 ∷ []) }
+{
+    match bytes {
+        [b'"', inner @ .., b'"'] => Some(inner),
+        _ => None,
     }
 }
 
 // The content whose bytes are spelled so, if there is one.
-fn content_of(alloc: Global, spelled: &[u8]) -> Result<Option<Vec<u8>>, AllocError> {
+fn content_of(alloc: Global, spelled: &[u8]) -> Result<Option<Vec<u8>>, AllocError>
+    ensures { IfOk result (λ found. MatchOption found
+        ((content : List ℕ) → flat_map spelled_byte content ≢ spelled.now)
+        (λ content. flat_map spelled_byte content.items ≡ spelled.now)) }
+{
     let mut content = Vec::new(alloc);
     let mut rest = spelled;
     while !rest.is_empty() {
@@ -113,7 +159,8 @@ fn content_of(alloc: Global, spelled: &[u8]) -> Result<Option<Vec<u8>>, AllocErr
 
 // The byte whose spelling stands first, and what follows.
 fn first_byte(spelled: &[u8]) -> Option<(u8, &[u8])>
-    ensures { IfSome result (λ p. (spelled.now ≡ spelled_byte p.0 ++ p.1.now) × (length p.1.now < length spelled.now)) }
+    ensures found { MatchOption result ((b : ℕ) (after : List ℕ) → spelled.now ≢ spelled_byte b ++ after) (λ p. spelled.now ≡ spelled_byte p.0 ++ p.1.now) }
+    ensures shorter { IfSome result (λ p. length p.1.now < length spelled.now) }
 {
     match spelled {
         [b'\\', b'"', rest @ ..] => Some((b'"', rest)),

@@ -1,5 +1,5 @@
 // The types of values.
-ghost use Rattle.std.specs.Prelude.{◌≡◌, ◌≢◌, ◌↔◌, IsTrue, MatchOption};
+ghost use Rattle.std.specs.Prelude.{◌≡◌, ◌≢◌, ◌≤ℤ◌, ◌↔◌, pos, IsTrue, MatchOption};
 ghost use Rattle.seam_value.specs.declared.types.ValueType.{ValueType as Types};
 ghost use Rattle.seam_value.specs.Types.{name_of, least as least_of, greatest as greatest_of};
 
@@ -46,7 +46,9 @@ impl ValueType {
     /// The least number of a number type.
     pub fn least(self) -> i128
         requires { self ≢ ValueType.Text }
-        ensures { result ≡ least_of self }
+        ensures value { result ≡ least_of self }
+        ensures low { i64.MIN ≤ℤ result }
+        ensures high { result ≤ℤ pos 0 }
     {
         match self {
             ValueType::Int8 => i128::from(i8::MIN),
@@ -61,7 +63,9 @@ impl ValueType {
     /// The greatest number of a number type.
     pub fn greatest(self) -> i128
         requires { self ≢ ValueType.Text }
-        ensures { result ≡ greatest_of self }
+        ensures value { result ≡ greatest_of self }
+        ensures low { pos 0 ≤ℤ result }
+        ensures high { result ≤ℤ pos u64.MAX }
     {
         match self {
             ValueType::Int8 => i128::from(i8::MAX),

@@ -1,8 +1,12 @@
 //! The words of a line: what stands between spaces and tabs, or in quotes.
 #![tactic(auto)]
 
+mod laws;
 mod splitting;
+#[cfg(test)]
+mod tests;
 mod words;
 
+pub use laws::{fault_is_one, words_are_one};
 pub use splitting::split_line;
 pub use words::{Span, Words, WordsError};

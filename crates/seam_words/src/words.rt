@@ -1,6 +1,7 @@
 // Words, by their places in a line.
-ghost use Rattle.std.specs.Prelude.{◌≡◌, ◌<◌, ◌≤◌, ◌+◌, ◌∷◌, ◌++◌, [], length, slice_get, slice_range, ◌↔◌, IsTrue};
+ghost use Rattle.std.specs.Prelude.{◌≡◌, ◌<◌, ◌≤◌, ◌+◌, ◌∷◌, ◌++◌, [], length, slice_get, ◌↔◌, IsTrue};
 ghost use Rattle.seam_words.specs.Numbers.{number_of};
+ghost use Rattle.seam_words.specs.Words.{bytes_of, IsInside};
 
 use std::marker::Model;
 
@@ -68,11 +69,10 @@ impl Span {
         quoted: false,
     };
 
-    /// The word's bytes in its line, with both quotes where it is quoted.
+    /// The word's bytes in the line that it is a word of, with both quotes where it is quoted.
     pub fn of(self, line: &[u8]) -> &[u8]
-        requires ordered { self.start ≤ self.end }
-        requires inside { self.end ≤ length line.now }
-        ensures { result.now ≡ slice_range line.now self.start self.end }
+        requires { IsInside (length line.now) self }
+        ensures { result.now ≡ bytes_of line.now self }
     {
         &line[self.start as usize..self.end as usize]
     }

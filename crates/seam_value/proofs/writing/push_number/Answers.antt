@@ -1,5 +1,5 @@
 use Rattle.std.proofs.Common.{rules}
-use Rattle.seam_value.proofs.Numerals.{number_text_is}
+use Rattle.seam_value.proofs.Decimals.{number_text_is}
 use Rattle.seam_value.proofs.writing.push_number.Goals as goal
 
 pub returns-clause-ok : goal.returns-clause-ok

@@ -1,12 +1,18 @@
-use Rattle.std.proofs.Common.{◌≤◌, length}
+use Rattle.std.proofs.Common.{◌≤◌, ◌-◌, ◌++◌, ℕ, List, length}
 use Rattle.std.specs.List.{All}
-use Rattle.seam_words.specs.Table.{IsInside}
+use Rattle.seam_words.specs.declared.words.Span.{Span}
+use Rattle.seam_words.specs.Words.{is_blank, HaveFirst}
+use Rattle.seam_words.specs.Words.{IsInside}
+use Rattle.seam_words.proofs.Runs.{StopsAt}
 use Rattle.seam_words.proofs.splitting.split_line.Given as goal
 
 abbrev pub invariant-loop-rest : goal.invariant-loop-rest
 invariant-loop-rest l = record {
-  rest : length l.rest ≤ length l.line;
+  within : length l.rest ≤ length l.line;
   inside : All (IsInside (length l.line)) l.words;
+  most : length l.words ≤ 16;
+  stripped : StopsAt is_blank l.rest;
+  front : (more : List Span) (tail : List ℕ) → HaveFirst (length l.line - length l.rest) l.rest more tail → HaveFirst 0 l.line (l.words ++ more) tail;
 }
 
 abbrev pub decreases-loop-rest : goal.decreases-loop-rest

@@ -1,0 +1,4 @@
+pub mod Pieces
+pub mod Runs
+pub mod Fronts
+pub mod Scan
