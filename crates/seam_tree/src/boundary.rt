@@ -19,8 +19,8 @@ pub struct Boundary {
 }
 
 impl Axis {
-    // Where the position lies along the axis.
-    pub(crate) fn place_of(self, p: Pos) -> u32
+    /// Where the position lies along the axis.
+    pub fn place_of(self, p: Pos) -> u32
         ensures { result ≡ place_along self p }
     {
         match self {
