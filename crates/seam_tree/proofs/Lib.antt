@@ -1,0 +1,7 @@
+pub mod Steps
+pub mod Parts
+pub mod Areas
+pub mod Agree
+pub mod Padded
+pub mod Changes
+pub mod Sets

@@ -1,0 +1,18 @@
+//! A space cut into at most sixteen cells by boundaries along its axes, and sets of such cells.
+//!
+//! The tree of boundaries is that of the cells of a BigWorld space (BigWorld Server Overview, load balancing).
+#![tactic(auto)]
+
+mod boundary;
+mod cell_set;
+mod corners;
+mod cut;
+mod laws;
+#[cfg(test)]
+mod tests;
+mod tree;
+
+pub use boundary::{Axis, Boundary};
+pub use cell_set::CellSet;
+pub use laws::{areas_partition_the_space, cells_stay};
+pub use tree::{CutError, ShiftError, Tree};
