@@ -1,0 +1,122 @@
+-- The book of what was accepted: which commands it takes, and what it then holds.
+use Rattle.std.specs.Prelude.{◌≡◌, ℕ, ◌+◌, ◌<◌, ◌≤◌, Bool, true, false, ◌&&◌, List, [], ◌∷◌, ◌++◌, length, map, filter, find, ◌==◌, Option, Some, None}
+use Rattle.seam_geo.specs.declared.pos.Pos.{Pos}
+use Rattle.seam_value.specs.Values.{Fits, text_of, decimal_of}
+use Rattle.seam_value.specs.declared.types.ValueType.TheVariants as type
+use Rattle.seam_value.specs.declared.values.Value.{Value}
+use Rattle.seam_defs.specs.Types.{type_of, method_of}
+use Rattle.seam_defs.specs.Settings.{standard}
+use Rattle.seam_defs.specs.Builtin.{builtin}
+use Rattle.seam_defs.specs.declared.settings.Settings.{Settings}
+use Rattle.seam_defs.specs.declared.types.TypeDef.{TypeDef}
+use Rattle.seam_defs.specs.declared.flags.Part.{Part}
+use Rattle.seam_defs.specs.declared.flags.Part.TheVariants as part
+use Rattle.seam_defs.specs.declared.states.Deed.{Deed}
+use Rattle.seam_defs.specs.declared.states.Deed.TheVariants.{Move, Method}
+use Rattle.seam_transcript.specs.declared.sender.Sender.{Sender}
+use Rattle.seam_transcript.specs.declared.sender.Sender.TheVariants.{Base}
+use Rattle.seam_transcript.specs.Language.{Command, Create, Call, Sync}
+
+-- what a header sets: the settings of the world, and the types of its entities
+pub record Header : Type 0 where
+  pub settings : Settings
+  pub defs : List TypeDef
+
+-- the empty header sets the standard settings and the built-in types
+abbrev pub empty_header : Header
+empty_header = record { settings = standard; defs = builtin }
+
+-- an accepted `create`: the entity, the number of its type, and its first position
+pub record Created : Type 0 where
+  pub entity : ℕ
+  pub ty : ℕ
+  pub pos : Pos
+
+-- an accepted call: the part that it is for, its sender, and what it does
+pub record Called : Type 0 where
+  pub entity : ℕ
+  pub part : Part
+  pub sender : Sender
+  pub deed : Deed
+
+-- What was accepted, in the order of the lines, and how many of these lines the open round has.
+pub record Book : Type 0 where
+  pub created : List Created
+  pub calls : List Called
+  pub open_lines : ℕ
+
+abbrev pub empty_book : Book
+empty_book = record { created = []; calls = []; open_lines = 0 }
+
+-- the `create` that made an entity
+abbrev pub created_as : Book → ℕ → Option Created
+created_as b e = find (λ c. c.entity == e) b.created
+
+-- how a sender is written
+abbrev pub sender_text : Sender → List ℕ
+sender_text (Base n) = 98 ∷ decimal_of n
+
+-- the sender is a base node of the world
+abbrev pub IsSender : Header → Sender → Type 0
+IsSender h (Base n) = (1 ≤ n) × (n ≤ h.settings.bases)
+
+-- So far calls are built for methods of the cell part that have one argument, a number of 32 bits with a sign.
+pub record IsBuilt (defs : List TypeDef) (ty m : ℕ) : Type 0 where
+  pub has : m < length (type_of defs ty).methods
+  pub on_cell : (method_of defs ty m).part ≡ part.Cell
+  pub args : (method_of defs ty m).args ≡ type.Int32 ∷ []
+
+-- a `create` is accepted: the number is new, there is room, the type has the name and takes calls that are built, and the
+-- position is in the space
+pub record MayCreate (h : Header) (b : Book) (e : ℕ) (type_name : List ℕ) (pos : Pos) (ty : ℕ) : Type 0 where
+  pub is_new : created_as b e ≡ None
+  pub room : length b.created < 65536
+  pub has : ty < length h.defs
+  pub named : (type_of h.defs ty).name ≡ type_name
+  pub takes_calls : (m : ℕ) × IsBuilt h.defs ty m
+  pub in_x : pos.x < h.settings.size
+  pub in_z : pos.z < h.settings.size
+
+-- a call is accepted: the name is that of a sender, the entity was created, its type has a method of the name, whose calls
+-- are built, and the argument is the spelling of a value that fits
+pub record MayCall (h : Header) (b : Book) (sender_name : List ℕ) (e : ℕ) (method_name argument : List ℕ) (s : Sender) (c : Created) (m : ℕ) (v : Value) : Type 0 where
+  pub sender : IsSender h s
+  pub known_as : sender_text s ≡ sender_name
+  pub entity : created_as b e ≡ Some c
+  pub built : IsBuilt h.defs c.ty m
+  pub named : (method_of h.defs c.ty m).name ≡ method_name
+  pub fits : Fits v type.Int32
+  pub spelled : text_of v ≡ argument
+
+abbrev pub with_create : Book → Created → Book
+with_create b c = record { created = b.created ++ c ∷ []; calls = b.calls; open_lines = b.open_lines + 1 }
+
+abbrev pub with_call : Book → Called → Book
+with_call b c = record { created = b.created; calls = b.calls ++ c ∷ []; open_lines = b.open_lines + 1 }
+
+-- a round ended
+abbrev pub closed : Book → Book
+closed b = record { created = b.created; calls = b.calls; open_lines = 0 }
+
+-- a command other than `sync` is accepted, and the book is then this one
+abbrev pub Accepts : Header → Book → Command → Book → Type 0
+Accepts h b (Create e type_name x z) next =
+    let pos : Pos = record { x = x; z = z } in
+    (ty : ℕ) × MayCreate h b e type_name pos ty × (next ≡ with_create b (record { entity = e; ty = ty; pos = pos }))
+Accepts h b (Call sender_name e method_name argument) next =
+    (s : Sender) × (c : Created) × (m : ℕ) × (v : Value) × MayCall h b sender_name e method_name argument s c m v
+    × (next ≡ with_call b (record { entity = e; part = part.Cell; sender = s; deed = Method m (v ∷ []) }))
+Accepts h b Sync next = ⊥
+
+abbrev pub same_part : Part → Part → Bool
+same_part part.Cell part.Cell = true
+same_part part.Base part.Base = true
+same_part part.Cell part.Base = false
+same_part part.Base part.Cell = false
+
+abbrev pub same_sender : Sender → Sender → Bool
+same_sender (Base m) (Base n) = m == n
+
+-- the deeds accepted from a sender for a part of an entity: the first is its number 1
+abbrev pub accepted : Book → Part → ℕ → Sender → List Deed
+accepted b p e s = map (λ c. c.deed) (filter (λ c. (c.entity == e) && same_part c.part p && same_sender c.sender s) b.calls)
