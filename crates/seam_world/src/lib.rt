@@ -3,6 +3,7 @@
 
 mod command;
 mod run;
+mod script;
 mod status;
 mod table;
 mod text;

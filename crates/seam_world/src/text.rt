@@ -1,10 +1,10 @@
 // The text of refusals and of rounds.
 ghost use Rattle.std.specs.Prelude.{◌≡◌, length, take, OnErr};
 
-use crate::command::Sender;
-use crate::table::{Done, Entity, Table};
+use crate::table::{Entity, Table};
 use itoa::Buffer;
 use seam_defs::{Deed, Defs, Group};
+use seam_transcript::{Executed, Sender};
 use std::alloc::{AllocError, Global};
 
 /// Appends the line of a refused line of the input.
@@ -76,7 +76,7 @@ fn push_did(
     defs: &Defs,
     number: u32,
     ty: u16,
-    done: &Done,
+    done: &Executed,
 ) -> Result<(), AllocError> {
     out.extend_from_slice(b"did ")?;
     push_number(out, u64::from(number))?;
