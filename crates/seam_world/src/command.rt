@@ -1,9 +1,9 @@
 // What a line says, before it is judged by what is in the world.
-ghost use Rattle.std.specs.Prelude.{◌≡◌, ◌≢◌, ◌<◌, ◌≤◌, ◌^◌, ◌↔◌, ℕ, IsTrue, List, map, length, All, MatchOption};
+ghost use Rattle.std.specs.Prelude.{◌≡◌, ◌≢◌, ◌<◌, ◌≤◌, ◌^◌, ◌↔◌, ℕ, IsTrue, List, [], ◌∷◌, map, take, length, All, MatchOption};
 ghost use Rattle.seam_value.specs.Values.{decimal_of};
 ghost use Rattle.seam_words.specs.Words.{IsInside, bytes_of};
 ghost use Rattle.seam_transcript.specs.Language.{IsSkipped, IsWhole};
-ghost use Rattle.seam_world.specs.Said.{SaysWords, SaysLine};
+ghost use Rattle.seam_world.specs.Said.{SaysWords, SaysLine, SaysCreate, SaysCall};
 
 use seam_geo::Pos;
 use seam_value::{Value, ValueType};
@@ -53,21 +53,25 @@ pub fn read_line(alloc: Global, line: &[u8]) -> Said<'_>
 fn is_skipped(line: &[u8]) -> bool
     ensures { IsTrue result ↔ IsSkipped line.now }
 {
-    match line.iter().find(|b| **b != b' ' && **b != b'\t') {
-        Some(first) => *first == b'#',
-        None => true,
+    for byte in line {
+        if *byte != b' ' && *byte != b'\t' {
+            return *byte == b'#';
+        }
     }
+    true
 }
 
 // Puts the bytes of the words into a table that has room for them, and answers how many there are.
 fn fill<'a>(line: &'a [u8], words: &Words, table: &mut [&'a [u8]; 16]) -> usize
     requires { All (IsInside (length line.now)) words.now }
+    ensures most { result ≤ 16 }
+    ensures len { length table.new ≡ 16 }
+    ensures texts { map (λ w. w.now) (take result table.new) ≡ map (bytes_of line.now) words.now }
 {
     let count = words.len();
     for i in 0..count {
-        if let Some(span) = words.get(i) {
-            table[i] = span.of(line);
-        }
+        let span = words.get(i).unwrap();
+        table[i] = span.of(line);
     }
     count
 }
@@ -77,22 +81,42 @@ fn read_words<'a>(alloc: Global, words: &[&'a [u8]]) -> Said<'a>
     ensures { SaysWords (map (λ w. w.now) words.now) result }
 {
     match words {
-        [first] if *first == b"sync".as_slice() => Said::Sync,
-        [first, entity, type_name, x, z] if *first == b"create".as_slice() => {
-            read_create(alloc, entity, type_name, x, z)
-        }
-        [first, sender_name, entity, method_name, argument] if *first == b"call".as_slice() => {
-            match entity_number(alloc, entity) {
-                Some(entity) => Said::Call {
-                    sender_name,
-                    entity,
-                    method_name,
-                    argument,
-                },
-                None => Said::Nothing,
-            }
+        [first] => read_one(first),
+        [first, second, third, fourth, fifth] => {
+            read_five(alloc, first, second, third, fourth, fifth)
         }
         _ => Said::Nothing,
+    }
+}
+
+// What one word says.
+fn read_one<'a>(word: &[u8]) -> Said<'a>
+    ensures { SaysWords (word.now ∷ []) result }
+{
+    if word == b"sync".as_slice() {
+        Said::Sync
+    } else {
+        Said::Nothing
+    }
+}
+
+// What five words say.
+fn read_five<'a>(
+    alloc: Global,
+    first: &[u8],
+    second: &'a [u8],
+    third: &'a [u8],
+    fourth: &'a [u8],
+    fifth: &'a [u8],
+) -> Said<'a>
+    ensures { SaysWords (first.now ∷ second.now ∷ third.now ∷ fourth.now ∷ fifth.now ∷ []) result }
+{
+    if first == b"create".as_slice() {
+        read_create(alloc, second, third, fourth, fifth)
+    } else if first == b"call".as_slice() {
+        read_call(alloc, second, third, fourth, fifth)
+    } else {
+        Said::Nothing
     }
 }
 
@@ -103,18 +127,43 @@ fn read_create<'a>(
     type_name: &'a [u8],
     x: &[u8],
     z: &[u8],
-) -> Said<'a> {
-    let (Some(entity), Some(x), Some(z)) = (
-        entity_number(alloc, entity),
-        whole_number(alloc, x),
-        whole_number(alloc, z),
-    ) else {
+) -> Said<'a>
+    ensures { SaysCreate entity.now type_name.now x.now z.now result }
+{
+    let Some(entity) = entity_number(alloc, entity) else {
+        return Said::Nothing;
+    };
+    let Some(x) = whole_number(alloc, x) else {
+        return Said::Nothing;
+    };
+    let Some(z) = whole_number(alloc, z) else {
         return Said::Nothing;
     };
     Said::Create {
         entity,
         type_name,
         pos: Pos { x, z },
+    }
+}
+
+// What the words behind `call` say.
+fn read_call<'a>(
+    alloc: Global,
+    sender_name: &'a [u8],
+    entity: &[u8],
+    method_name: &'a [u8],
+    argument: &'a [u8],
+) -> Said<'a>
+    ensures { SaysCall sender_name.now entity.now method_name.now argument.now result }
+{
+    match entity_number(alloc, entity) {
+        Some(entity) => Said::Call {
+            sender_name,
+            entity,
+            method_name,
+            argument,
+        },
+        None => Said::Nothing,
     }
 }
 
@@ -125,8 +174,9 @@ fn entity_number(alloc: Global, word: &[u8]) -> Option<u32>
         (λ n. (0 < n) × IsWhole n × (decimal_of n ≡ word.now)) }
 {
     match whole_number(alloc, word) {
-        Some(number) if number > 0 => Some(number),
-        _ => None,
+        Some(0) => None,
+        Some(number) => Some(number),
+        None => None,
     }
 }
 
@@ -137,7 +187,8 @@ pub fn whole_number(alloc: Global, word: &[u8]) -> Option<u32>
         (λ n. IsWhole n × (decimal_of n ≡ word.now)) }
 {
     match Value::parse(alloc, word, ValueType::Uint32) {
-        Ok(Value::Number(number)) => u32::try_from(number).ok(),
-        _ => None,
+        Ok(Value::Number(number)) => Some(number as u32),
+        Ok(Value::Text(_)) => None,
+        Err(_) => None,
     }
 }
