@@ -10,7 +10,8 @@ invariant_of-result c = record {
   seen = omega arith;
   end = omega arith;
   line_start = omega arith;
-  line_end = omega arith; line_len = omega arith;
+  line_end = omega arith;
+  line_len = omega arith;
   feedless = no_feed_none;
   within = omega arith;
   ended = λ e. absurd (false≢true e);
