@@ -8,7 +8,10 @@ use Rattle.seam_value.specs.declared.values.Value.TheVariants.{Number}
 use Rattle.seam_value.specs.declared.values.ValueError.{ValueError}
 use Rattle.seam_value.specs.declared.values.ValueError.TheVariants.{NotNumber, OutOfRange, BadString, TooLong, NoMemory}
 use Rattle.seam_value.proofs.Answers.{refuses_none}
-use Rattle.seam_value.proofs.Decimals.{decimal_of-injective}
+use Rattle.seam_value.proofs.Decimals.{decimal_of-injective, number_text_is}
+use Rattle.std.specs.Fmt.{decimal}
+use mir.Syntax.{w128}
+use mir.Val.{SFits}
 use Rattle.seam_transcript.specs.Language.{IsWhole}
 
 -- a number that 32 bits hold fits the type of such numbers
@@ -33,3 +36,7 @@ pub not_above_zero : (bytes : List ℕ) → decimal_of 0 ≡ bytes → (n : ℕ)
 not_above_zero bytes zero_is n above whole is =
     let same : n ≡ 0 = decimal_of-injective n 0 (is ∙ sym zero_is) in
     absurd (omega arith)
+
+-- what is printed of a number of 64 bits is its decimal
+pub decimal_is : (n : ℕ) → n < 2 ^ 64 → decimal_of n ≡ decimal n
+decimal_is n small = number_text_is (pos n) (search (rules, small))

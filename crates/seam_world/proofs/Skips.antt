@@ -43,9 +43,9 @@ says_something : (gap : List ℕ) (b : ℕ) (rest : List ℕ) → IsGap gap → 
 says_something gap b rest h no_blank no_note skipped =
     let here : behind (gap ++ b ∷ rest) ≡ b ∷ rest = behind_gap gap (b ∷ rest) h ∙ behind_byte b rest no_blank in
     elim skipped.2 [
-      inl e ↦ (let none : b ∷ rest ≡ [] = sym here ∙ ap behind e ∙ behind_none skipped.0 skipped.1 in cc)
+      | inl e ↦ (let none : b ∷ rest ≡ [] = sym here ∙ ap behind e ∙ behind_none skipped.0 skipped.1 in cc)
       | inr n ↦ (let same : b ∷ rest ≡ 35 ∷ n.0 = sym here ∙ ap behind n.1 ∙ behind_gap skipped.0 (35 ∷ n.0) skipped.1 ∙ behind_byte 35 n.0 refl in
-        no_note (cc))
+          no_note (cc))
     ]
 
 -- what the first byte that is no blank decides

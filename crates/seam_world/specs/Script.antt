@@ -12,7 +12,7 @@ pub record ScriptStands (h : Header) (t : Standing) (s : Script) : Type 0 where
   pub line : s.line ≡ t.lines
   pub round : s.round ≡ t.rounds
   pub accepted : s.accepted ≡ t.book.open_lines
-  pub open : t.book.open_lines < 65536
+  pub below_most : t.book.open_lines < 65536
   pub calls : length t.book.calls < t.lines
   pub rounds : t.rounds < t.lines
 

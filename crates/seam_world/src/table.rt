@@ -66,7 +66,13 @@ impl PartState {
     }
 
     // Executes a call, which gets its sender's next number.
-    fn execute(&mut self, defs: &Defs, ty: u16, sender: Sender, deed: Deed) -> Result<(), AllocError> {
+    fn execute(
+        &mut self,
+        defs: &Defs,
+        ty: u16,
+        sender: Sender,
+        deed: Deed,
+    ) -> Result<(), AllocError> {
         let number = self.next_number(sender);
         let _changed = defs.apply(ty, &mut self.state, &deed)?;
         self.done.push(Executed {
@@ -118,12 +124,7 @@ impl Table {
     }
 
     /// Makes an entity, unless its number was used, its type is none, it stands outside the space, or there are too many.
-    pub fn create(
-        &mut self,
-        entity: u32,
-        type_name: &[u8],
-        pos: Pos,
-    ) -> Result<Verdict, AllocError>
+    pub fn create(&mut self, entity: u32, type_name: &[u8], pos: Pos) -> Result<Verdict, AllocError>
         ensures { IfOk result (λ v. (h : Header) (b : Book) (before : Orders) → TableStands h b before self.old
             → Judged h b (Create entity type_name.now pos.x pos.z) before self.new v) }
     {
@@ -226,12 +227,7 @@ impl Table {
     }
 
     // Executes a call on the cell part of an entity.
-    fn execute(
-        &mut self,
-        entity: u32,
-        sender: Sender,
-        deed: Deed,
-    ) -> Result<Verdict, AllocError> {
+    fn execute(&mut self, entity: u32, sender: Sender, deed: Deed) -> Result<Verdict, AllocError> {
         match self.entities.get_mut(&entity) {
             Some(e) => {
                 e.cell.execute(&self.defs, e.ty, sender, deed)?;
