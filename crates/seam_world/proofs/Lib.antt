@@ -1,3 +1,4 @@
 pub mod NumberWords
 pub mod Skips
 pub mod WordTables
+pub mod Sequences

@@ -3,6 +3,7 @@
 
 mod command;
 mod run;
+mod scratch;
 mod script;
 mod status;
 mod table;
