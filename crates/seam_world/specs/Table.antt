@@ -1,7 +1,7 @@
 -- What the table of entities holds, beside the book and the orders of a transcript.
 use Rattle.std.specs.Prelude.{◌≡◌, ℕ, ◌+◌, ◌<◌, ◌≤◌, ◌^◌, Bool, ◌&&◌, List, [], ◌∷◌, ◌++◌, length, fold, ◌==◌, Some, None, MatchOption, slice_index, if◌then◌else◌}
 use Rattle.std.specs.Ordering.{nat_cmp}
-use Rattle.std.specs.BTreeMap.{get, btree_map_len}
+use Rattle.std.specs.BTreeMap.{get, btree_map_len, IsOrdered}
 use Rattle.seam_defs.specs.declared.flags.Part.{Part}
 use Rattle.seam_defs.specs.declared.flags.Part.TheVariants as part
 use Rattle.seam_defs.specs.declared.states.Deed.{Deed}
@@ -54,9 +54,11 @@ pub record TableStands (h : Header) (b : Book) (before : Orders) (t : Table) : T
   pub settings : t.settings ≡ h.settings
   pub count : btree_map_len t.entities ≡ length b.created
   pub each : (e : ℕ) → MatchOption (get nat_cmp t.entities e) (created_as b e ≡ None) (EntityStands h b before e)
+  pub ordered : IsOrdered nat_cmp t.entities
   -- so far no call is for a base part, and none is for an entity that was not created
   pub on_cell : (e : ℕ) → sequence b.calls part.Base e ≡ []
-  pub created : (p : Part) (e : ℕ) → created_as b e ≡ None → sequence b.calls p e ≡ []
+  pub uncalled : (p : Part) (e : ℕ) → created_as b e ≡ None → sequence b.calls p e ≡ []
+  pub unordered : (p : Part) (e : ℕ) → created_as b e ≡ None → before p e ≡ []
 
 -- a command was accepted, and the table holds what it left; or no book accepts it, and nothing changed
 abbrev pub Judged : Header → Book → Command → Orders → Table → Verdict → Type 0
