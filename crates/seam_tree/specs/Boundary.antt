@@ -6,6 +6,10 @@ use Rattle.seam_tree.specs.declared.boundary.Axis.{Axis}
 use Rattle.seam_tree.specs.declared.boundary.Axis.TheVariants.{X, Z}
 use Rattle.seam_tree.specs.declared.boundary.Boundary.{Boundary}
 
+-- the boundary across an axis at a place
+abbrev pub across : Axis → ℕ → Boundary
+across axis at = record { axis = axis; at = at }
+
 -- where a position lies along an axis
 abbrev pub place_along : Axis → Pos → ℕ
 place_along X p = p.x
