@@ -6,52 +6,28 @@ use Rattle.seam_tree.specs.declared.boundary.Axis.{Axis}
 use Rattle.seam_tree.specs.declared.boundary.Axis.TheVariants.{X, Z}
 use Rattle.seam_tree.specs.declared.boundary.Boundary.{Boundary}
 use Rattle.seam_tree.specs.declared.cut.Cut.{Cut}
-use Rattle.seam_tree.specs.Boundary.{below, above, RunsThrough, IsEmptyArea}
+use Rattle.seam_tree.specs.Boundary.{across, below, above, RunsThrough, IsEmptyArea, LiesWithin}
 use Rattle.seam_tree.specs.Division.{Division, area, area_after, cut_after, cells_of, no_cut, NoneEmpty, SomeEmpty, HasBoundary, IsTree, area_divided_by}
 use Rattle.seam_tree.specs.Change.{with_place, cut_moved, cuts_moved}
 use Rattle.seam_tree.proofs.Steps.{is_new, is_cut, is_other, area_step}
 use Rattle.seam_tree.proofs.Padded.{length-cuts_moved}
-use Rattle.seam_tree.proofs.Agree.{AgreeBelow, area-agree}
-use Rattle.seam_tree.proofs.Changes.{get_or-moved_other, get_or-moved_here, get_or-moved_cell}
+use Rattle.seam_tree.proofs.Agree.{area-agree}
+use Rattle.seam_tree.proofs.Changes.{get_or-moved_cell, cut-moved_other, cut-moved_here, agree-with_place}
+use Rattle.seam_tree.proofs.Moves.{within-refl}
 use Rattle.seam_tree.proofs.Areas.{tree-proper, proper_step}
 
--- the second area holds what the first holds
-pub record IsWithin (a b : Area) : Type 0 where
-  pub low_x : b.low.x ≤ a.low.x
-  pub low_z : b.low.z ≤ a.low.z
-  pub high_x : a.high.x ≤ b.high.x
-  pub high_z : a.high.z ≤ b.high.z
-
-within-refl : (a : Area) → IsWithin a a
-within-refl a = record { low_x = omega arith; low_z = omega arith; high_x = omega arith; high_z = omega arith }
-
-proper-within : (a b : Area) → IsWithin a b → IsProper a → IsProper b
+proper-within : (a b : Area) → LiesWithin a b → IsProper a → IsProper b
 proper-within a b w proper = record { wide = omega (arith, w.low_x, w.high_x, proper.wide); deep = omega (arith, w.low_z, w.high_z, proper.deep) }
 
-abbrev at_place : Axis → ℕ → Boundary
-at_place axis at = record { axis = axis; at = at }
-
 -- the lower part is the greater the further its boundary lies
-below-within_along : (axis : Axis) (a b : Area) (at to : ℕ) → IsWithin a b → at ≤ to → IsWithin (below a (at_place axis at)) (below b (at_place axis to))
+below-within_along : (axis : Axis) (a b : Area) (at to : ℕ) → LiesWithin a b → at ≤ to → LiesWithin (below a (across axis at)) (below b (across axis to))
 below-within_along X a b at to w le = record { low_x = w.low_x; low_z = w.low_z; high_x = le; high_z = w.high_z }
 below-within_along Z a b at to w le = record { low_x = w.low_x; low_z = w.low_z; high_x = w.high_x; high_z = le }
 
 -- and the upper part the nearer
-above-within_along : (axis : Axis) (a b : Area) (at to : ℕ) → IsWithin a b → to ≤ at → IsWithin (above a (at_place axis at)) (above b (at_place axis to))
+above-within_along : (axis : Axis) (a b : Area) (at to : ℕ) → LiesWithin a b → to ≤ at → LiesWithin (above a (across axis at)) (above b (across axis to))
 above-within_along X a b at to w le = record { low_x = le; low_z = w.low_z; high_x = w.high_x; high_z = w.high_z }
 above-within_along Z a b at to w le = record { low_x = w.low_x; low_z = le; high_x = w.high_x; high_z = w.high_z }
-
-pub cut-moved_other : (t : Division) (b at k : ℕ) → k ≢ b - 1 → cut_after (with_place t b at) k ≡ cut_after t k
-cut-moved_other t b at k other = get_or-moved_other t.cuts (b - 1) at k other
-
-pub cut-moved_here : (t : Division) (b at : ℕ) → HasBoundary t b → cut_after (with_place t b at) (b - 1) ≡ cut_moved (cut_after t (b - 1)) at
-cut-moved_here t b at there =
-    let from : 1 ≤ b = there.from_one in
-    let to : b < cells_of t = there.to_last in
-    get_or-moved_here t.cuts (b - 1) at (omega arith)
-
-pub agree-with_place : (t : Division) (b at n : ℕ) → n ≤ b - 1 → AgreeBelow (with_place t b at) t n
-agree-with_place t b at n le = record { size = refl; cuts = λ k l. cut-moved_other t b at k (λ e. omega arith) }
 
 -- the cut after n others, whichever the place
 cut_cell : (t : Division) (b at n : ℕ) → (cut_after (with_place t b at) n).cell ≡ (cut_after t n).cell
@@ -60,8 +36,8 @@ cut_cell t b at n = get_or-moved_cell t.cuts (b - 1) at n
 -- between two places each area holds what it holds at one of them
 abbrev HoldsOne : Division → ℕ → ℕ → ℕ → ℕ → ℕ → ℕ → Type 0
 HoldsOne t b low middle high n cell =
-    IsWithin (area_after (with_place t b low) n cell) (area_after (with_place t b middle) n cell)
-    ⊎ IsWithin (area_after (with_place t b high) n cell) (area_after (with_place t b middle) n cell)
+    LiesWithin (area_after (with_place t b low) n cell) (area_after (with_place t b middle) n cell)
+    ⊎ LiesWithin (area_after (with_place t b high) n cell) (area_after (with_place t b middle) n cell)
 
 -- the area after one more cut, by what the cut makes of it
 new-area : (t : Division) (b at n : ℕ) → area_after (with_place t b at) (suc n) (suc n) ≡ above (area_after (with_place t b at) n (cut_after t n).cell) (cut_after (with_place t b at) n).boundary
@@ -102,8 +78,8 @@ boundary-here t b at n there is =
 boundary-other : (t : Division) (b at n : ℕ) → n ≢ b - 1 → (cut_after (with_place t b at) n).boundary ≡ (cut_after t n).boundary
 boundary-other t b at n other = ap (λ (c : Cut). c.boundary) (cut-moved_other t b at n other)
 
-within-by : {a b c d : Area} → a ≡ c → b ≡ d → IsWithin c d → IsWithin a b
-within-by {a} {b} {c} {d} e f w = subst (λ (x : Area). IsWithin x b) (sym e) (subst (λ (y : Area). IsWithin c y) (sym f) w)
+within-by : {a b c d : Area} → a ≡ c → b ≡ d → LiesWithin c d → LiesWithin a b
+within-by {a} {b} {c} {d} e f w = subst (λ (x : Area). LiesWithin x b) (sym e) (subst (λ (y : Area). LiesWithin c y) (sym f) w)
 
 new-area_at : (t : Division) (b at n : ℕ) (x : Boundary) → (cut_after (with_place t b at) n).boundary ≡ x → area_after (with_place t b at) (suc n) (suc n) ≡ above (area_after (with_place t b at) n (cut_after t n).cell) x
 new-area_at t b at n x is = new-area t b at n ∙ ap (λ (y : Boundary). above (area_after (with_place t b at) n (cut_after t n).cell) y) is
@@ -111,8 +87,8 @@ new-area_at t b at n x is = new-area t b at n ∙ ap (λ (y : Boundary). above (
 cut-area_at : (t : Division) (b at n : ℕ) (x : Boundary) → (cut_after t n).cell ≤ n → (cut_after (with_place t b at) n).boundary ≡ x → area_after (with_place t b at) (suc n) (cut_after t n).cell ≡ below (area_after (with_place t b at) n (cut_after t n).cell) x
 cut-area_at t b at n x there is = cut-area t b at n there ∙ ap (λ (y : Boundary). below (area_after (with_place t b at) n (cut_after t n).cell) y) is
 
-same-within : (t : Division) (b at to n cell : ℕ) → n ≤ b - 1 → IsWithin (area_after (with_place t b at) n cell) (area_after (with_place t b to) n cell)
-same-within t b at to n cell le = subst (λ (a : Area). IsWithin (area_after (with_place t b at) n cell) a) (same-before t b at to n cell le) (within-refl _)
+same-within : (t : Division) (b at to n cell : ℕ) → n ≤ b - 1 → LiesWithin (area_after (with_place t b at) n cell) (area_after (with_place t b to) n cell)
+same-within t b at to n cell le = subst (λ (a : Area). LiesWithin (area_after (with_place t b at) n cell) a) (same-before t b at to n cell le) (within-refl _)
 
 holds-here : (t : Division) (b low middle high n cell : ℕ) → HasBoundary t b → n ≡ b - 1 → low ≤ middle → middle ≤ high → (cut_after t n).cell ≤ n → cell ≤ suc n → HoldsOne t b low middle high (suc n) cell
 holds-here t b low middle high n cell there is le_low le_high cut_there within =
@@ -135,10 +111,10 @@ holds-here t b low middle high n cell there is le_low le_high cut_there within =
       ]
     ]
 
-below-within : (x : Boundary) (a b : Area) → IsWithin a b → IsWithin (below a x) (below b x)
+below-within : (x : Boundary) (a b : Area) → LiesWithin a b → LiesWithin (below a x) (below b x)
 below-within x a b w = below-within_along x.axis a b x.at x.at w (omega arith)
 
-above-within : (x : Boundary) (a b : Area) → IsWithin a b → IsWithin (above a x) (above b x)
+above-within : (x : Boundary) (a b : Area) → LiesWithin a b → LiesWithin (above a x) (above b x)
 above-within x a b w = above-within_along x.axis a b x.at x.at w (omega arith)
 
 -- a later cut keeps it so

@@ -10,7 +10,7 @@ use Rattle.seam_tree.specs.declared.tree.ShiftError.{ShiftError}
 use Rattle.seam_tree.specs.declared.tree.ShiftError.TheVariants.{NoBoundary, WouldEmpty}
 use Rattle.seam_tree.specs.Division.{Division, cells_of, HasBoundary, IsTree, NoneEmpty, SomeEmpty, boundary_of}
 use Rattle.seam_tree.specs.Change.{with_place, MovesBoundary, CameBy, by_shift}
-use Rattle.seam_tree.proofs.Changes.{with_place-moves}
+use Rattle.seam_tree.proofs.Moves.{with_place-moves}
 use Rattle.seam_balance.specs.Order.{boundaries_within, boundaries_from_root}
 use Rattle.seam_balance.specs.Balance.{BalancedInTurn, IsBest, IsAllowed, HasSameCuts, difference, places_divided}
 use Rattle.seam_balance.proofs.Convex.{some_not_none}

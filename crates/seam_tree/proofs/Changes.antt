@@ -7,8 +7,8 @@ use Rattle.seam_geo.specs.Rect.{Area, IsProper, Holds}
 use Rattle.seam_tree.specs.declared.boundary.Boundary.{Boundary}
 use Rattle.seam_tree.specs.declared.cut.Cut.{Cut}
 use Rattle.seam_tree.specs.Boundary.{place_along, below, above, RunsThrough}
-use Rattle.seam_tree.specs.Division.{Division, area, area_after, leaf_after, cut_after, whole, cells_of, cut_number, cell_cut_by, no_cut, IsTree, NoneEmpty, HasBoundary}
-use Rattle.seam_tree.specs.Change.{with_cut, with_place, cut_moved, cuts_moved, CutsCell, MovesBoundary, LiesBetween, IsBetween, CameBy, as_it_was, by_cut, by_shift}
+use Rattle.seam_tree.specs.Division.{Division, area, area_after, leaf_after, cut_after, whole, cells_of, cut_number, no_cut, IsTree, NoneEmpty, HasBoundary}
+use Rattle.seam_tree.specs.Change.{with_cut, with_place, cut_moved, cuts_moved, CutsCell, LiesBetween, IsBetween}
 use Rattle.seam_tree.proofs.Steps.{is_new, is_cut, is_other, area_step, goes, stays_below, stays_apart, leaf_step, same_or_not}
 use Rattle.seam_tree.proofs.Parts.{proper-below, proper-above}
 use Rattle.seam_tree.proofs.Areas.{CellsWereThere, leaf_holds}
@@ -37,7 +37,7 @@ slice_get-last (x ∷ cuts) c = slice_get-last cuts c
 pub agree-with_cut : (t : Division) (cell : ℕ) (b : Boundary) → AgreeBelow (with_cut t cell b) t (length t.cuts)
 agree-with_cut t cell b = record { size = refl; cuts = λ k l. get_or-before t.cuts (record { cell = cell; boundary = b }) k l }
 
-cells-with_cut : (t : Division) (cell : ℕ) (b : Boundary) → length (with_cut t cell b).cuts ≡ suc (length t.cuts)
+pub cells-with_cut : (t : Division) (cell : ℕ) (b : Boundary) → length (with_cut t cell b).cuts ≡ suc (length t.cuts)
 cells-with_cut t cell b = length-append t.cuts (record { cell = cell; boundary = b } ∷ []) ∙ add-one (length t.cuts)
 
 -- the areas after a further cut
@@ -156,22 +156,22 @@ slice_get-moved_other (c ∷ cuts) zero at (suc k) other = refl
 slice_get-moved_other (c ∷ cuts) (suc n) at zero other = refl
 slice_get-moved_other (c ∷ cuts) (suc n) at (suc k) other = slice_get-moved_other cuts n at k (λ e. other (ap suc e))
 
-option_moved_boundary : (o : Option Cut) (at : ℕ) → option_map (λ (c : Cut). c.boundary) (option_map (λ (c : Cut). cut_moved c at) o) ≡ option_map (λ (was : Boundary). record { axis = was.axis; at = at }) (option_map (λ (c : Cut). c.boundary) o)
+pub option_moved_boundary : (o : Option Cut) (at : ℕ) → option_map (λ (c : Cut). c.boundary) (option_map (λ (c : Cut). cut_moved c at) o) ≡ option_map (λ (was : Boundary). record { axis = was.axis; at = at }) (option_map (λ (c : Cut). c.boundary) o)
 option_moved_boundary None at = refl
 option_moved_boundary (Some c) at = refl
 
-option_moved_cell : (o : Option Cut) (at : ℕ) → option_map (λ (c : Cut). c.cell) (option_map (λ (c : Cut). cut_moved c at) o) ≡ option_map (λ (c : Cut). c.cell) o
+pub option_moved_cell : (o : Option Cut) (at : ℕ) → option_map (λ (c : Cut). c.cell) (option_map (λ (c : Cut). cut_moved c at) o) ≡ option_map (λ (c : Cut). c.cell) o
 option_moved_cell None at = refl
 option_moved_cell (Some c) at = refl
 
-cut_number-moved : (t : Division) (b at : ℕ) → cut_number (with_place t b at) b ≡ option_map (λ (c : Cut). cut_moved c at) (cut_number t b)
+pub cut_number-moved : (t : Division) (b at : ℕ) → cut_number (with_place t b at) b ≡ option_map (λ (c : Cut). cut_moved c at) (cut_number t b)
 cut_number-moved t zero at = refl
 cut_number-moved t (suc b) at =
     cut_number-from_one (with_place t (suc b) at) (suc b) (omega arith)
     ∙ slice_get-moved_here t.cuts (suc b - 1) at
     ∙ ap (option_map (λ (c : Cut). cut_moved c at)) (sym (cut_number-from_one t (suc b) (omega arith)))
 
-cut_number-unmoved : (t : Division) (b at k : ℕ) → 1 ≤ b → k ≢ b → cut_number (with_place t b at) k ≡ cut_number t k
+pub cut_number-unmoved : (t : Division) (b at k : ℕ) → 1 ≤ b → k ≢ b → cut_number (with_place t b at) k ≡ cut_number t k
 cut_number-unmoved t b at zero from other = refl
 cut_number-unmoved t b at (suc k) from other =
     cut_number-from_one (with_place t b at) (suc k) (omega arith)
@@ -229,7 +229,7 @@ leaf-moved_here t u n at p moved there inside outside leaf =
       ]
     ]
 
-leaf-moved : (t : Division) (b at : ℕ) (p : Pos) → HasBoundary t b → CellsWereThere t (length t.cuts) → Holds (whole t) p → ¬ LiesBetween t b at p
+pub leaf-moved : (t : Division) (b at : ℕ) (p : Pos) → HasBoundary t b → CellsWereThere t (length t.cuts) → Holds (whole t) p → ¬ LiesBetween t b at p
     → (n : ℕ) → n ≤ length t.cuts → leaf_after (with_place t b at) n p ≡ leaf_after t n p
 leaf-moved t b at p has there inside outside zero within = refl
 leaf-moved t b at p has there inside outside (suc n) within =
@@ -245,27 +245,15 @@ leaf-moved t b at p has there inside outside (suc n) within =
       | inr other ↦ leaf-agree_step (with_place t b at) t n p (get_or-moved_other t.cuts (b - 1) at n other) before
     ]
 
-pub with_place-moves : (t : Division) (b at : ℕ) → IsTree t → HasBoundary t b → MovesBoundary t (with_place t b at) b at
-with_place-moves t b at tree there = record {
-  size = refl;
-  cells = ap (λ (n : ℕ). n + 1) (length-cuts_moved t.cuts (b - 1) at);
-  boundary = ap (option_map (λ (c : Cut). c.boundary)) (cut_number-moved t b at) ∙ option_moved_boundary (cut_number t b) at;
-  other_boundaries = λ k other. ap (option_map (λ (c : Cut). c.boundary)) (cut_number-unmoved t b at k there.from_one other);
-  cuts = λ k. elim (same_or_not k b) [
-    | inl e ↦ ap (cell_cut_by (with_place t b at)) e ∙ ap (option_map (λ (c : Cut). c.cell)) (cut_number-moved t b at) ∙ option_moved_cell (cut_number t b) at ∙ ap (cell_cut_by t) (sym e)
-    | inr other ↦ ap (option_map (λ (c : Cut). c.cell)) (cut_number-unmoved t b at k there.from_one other)
-  ];
-  leaves = λ p inside outside.
-      ap (λ (n : ℕ). leaf_after (with_place t b at) n p) (length-cuts_moved t.cuts (b - 1) at)
-      ∙ leaf-moved t b at p there tree.cell_was_there (record { from_x = omega arith; to_x = inside.x_inside; from_z = omega arith; to_z = inside.z_inside }) outside (length t.cuts) (omega arith);
-}
+-- the other cuts stay, and the moved one has the new place
+pub cut-moved_other : (t : Division) (b at k : ℕ) → k ≢ b - 1 → cut_after (with_place t b at) k ≡ cut_after t k
+cut-moved_other t b at k other = get_or-moved_other t.cuts (b - 1) at k other
 
--- what came by cuts and shifts has the first tree's cells
-pub came-cells : (t u : Division) → CameBy t u → (cells_of t ≤ cells_of u) × (u.size ≡ t.size)
-came-cells t _ as_it_was = (omega arith, refl)
-came-cells t _ (by_cut u cell b before) =
-    let ih : (cells_of t ≤ cells_of u) × (u.size ≡ t.size) = came-cells t u before in
-    (omega (arith, ih.0, cells-with_cut u cell b), ih.1)
-came-cells t _ (by_shift u b at before) =
-    let ih : (cells_of t ≤ cells_of u) × (u.size ≡ t.size) = came-cells t u before in
-    (omega (arith, ih.0, length-cuts_moved u.cuts (b - 1) at), ih.1)
+pub cut-moved_here : (t : Division) (b at : ℕ) → HasBoundary t b → cut_after (with_place t b at) (b - 1) ≡ cut_moved (cut_after t (b - 1)) at
+cut-moved_here t b at there =
+    let from : 1 ≤ b = there.from_one in
+    let to : b < cells_of t = there.to_last in
+    get_or-moved_here t.cuts (b - 1) at (omega arith)
+
+pub agree-with_place : (t : Division) (b at n : ℕ) → n ≤ b - 1 → AgreeBelow (with_place t b at) t n
+agree-with_place t b at n le = record { size = refl; cuts = λ k l. cut-moved_other t b at k (λ e. omega arith) }

@@ -5,7 +5,7 @@ use Rattle.seam_geo.specs.declared.pos.Pos.{Pos}
 use Rattle.seam_geo.specs.Rect.{Holds}
 use Rattle.seam_tree.specs.declared.boundary.Boundary.{Boundary}
 use Rattle.seam_tree.specs.declared.cut.Cut.{Cut}
-use Rattle.seam_tree.specs.Boundary.{place_along, below, above, RunsThrough}
+use Rattle.seam_tree.specs.Boundary.{place_along, below, above, RunsThrough, LiesWithin}
 use Rattle.seam_tree.specs.Division.{Division, cells_of, area, area_divided_by, boundary_of, cell_cut_by, cut_after, leaf_at, IsInSpace}
 
 -- the tree with one more cut
@@ -53,14 +53,16 @@ pub record LiesBetween (t : Division) (b at : ℕ) (p : Pos) : Type 0 where
   pub divided : Holds (area_divided_by t b) p
   pub between : IsBetween (cut_after t (b - 1)).boundary.at at (place_along (cut_after t (b - 1)).boundary.axis p)
 
--- a boundary was moved: it lies at another place, the cells and the other boundaries keep their numbers and places, and
--- a position keeps its cell if it does not lie in the divided area between the two places
+-- a boundary was moved: it lies at another place, and the other boundaries keep theirs; a cell keeps its area if that
+-- does not lie within the area that the boundary divides, and a position keeps its cell if it does not lie there
+-- between the two places
 pub record MovesBoundary (old new : Division) (b at : ℕ) : Type 0 where
   pub size : new.size ≡ old.size
   pub cells : cells_of new ≡ cells_of old
   pub boundary : boundary_of new b ≡ option_map (λ (was : Boundary). record { axis = was.axis; at = at }) (boundary_of old b)
   pub other_boundaries : (k : ℕ) → k ≢ b → boundary_of new k ≡ boundary_of old k
   pub cuts : (k : ℕ) → cell_cut_by new k ≡ cell_cut_by old k
+  pub areas : (c : ℕ) → c < cells_of old → (area new c ≡ area old c) ⊎ LiesWithin (area old c) (area_divided_by old b)
   pub leaves : (p : Pos) → IsInSpace old p → ¬ LiesBetween old b at p → leaf_at new p ≡ leaf_at old p
 
 -- the tree came from the first one by cuts and shifts

@@ -2,7 +2,8 @@ use Rattle.std.proofs.Common.{sym, subst, arith}
 use Rattle.std.proofs.lemmas.Grind.{common_steps}
 use Rattle.seam_tree.specs.Division.{Division, IsTree, HasBoundary}
 use Rattle.seam_tree.specs.Change.{MovesBoundary}
-use Rattle.seam_tree.proofs.Changes.{with_place-moves, with_place-tree}
+use Rattle.seam_tree.proofs.Changes.{with_place-tree}
+use Rattle.seam_tree.proofs.Moves.{with_place-moves}
 use Rattle.seam_tree.proofs.tree.Tree.shift.Goals as goal
 
 pub place-requires-clause-tree : goal.place-requires-clause-tree
