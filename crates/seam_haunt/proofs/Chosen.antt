@@ -6,9 +6,9 @@ use Rattle.std.proofs.lemmas.Bool.{cases_eq}
 use Rattle.std.proofs.lemmas.Bool.Decides.{nat_tests}
 use Rattle.std.specs.FinSet as set
 use Rattle.seam_geo.specs.declared.pos.Pos.{Pos}
-use Rattle.seam_tree.specs.Plan.{Plan, cells_of}
+use Rattle.seam_tree.specs.Division.{Division, cells_of}
 use Rattle.seam_tree.specs.Cells.{Cells}
-use Rattle.seam_tree.specs.Marks.{contains-insert_nat}
+use Rattle.seam_tree.specs.Inverse.{contains-insert_nat}
 use Rattle.seam_haunt.specs.Haunts.{distance_to_cell, IsHaunt, is_haunt, haunts_of}
 
 chosen_more : (p : ℕ → Bool) (a n q : ℕ) (rest : Cells) → p a ≡ true → set.contains rest q ≡ ((nat_le (a + 1) q && nat_lt q (a + 1 + n)) && p q)
@@ -51,7 +51,7 @@ or_true true c e = inl refl
 or_true false c e = inr e
 
 -- the test and the fact are one
-pub is_haunt-IsHaunt : (p : Pos) (home : ℕ) (old : Cells) (t : Plan) (near far cell : ℕ) → cell < cells_of t → is_haunt p home old t near far cell ≡ true → IsHaunt p home old t near far cell
+pub is_haunt-IsHaunt : (p : Pos) (home : ℕ) (old : Cells) (t : Division) (near far cell : ℕ) → cell < cells_of t → is_haunt p home old t near far cell ≡ true → IsHaunt p home old t near far cell
 is_haunt-IsHaunt p home old t near far cell there passes =
     let parts : (not (cell == home) ≡ true) × ((nat_le (distance_to_cell t cell p) near || (set.contains old cell && nat_le (distance_to_cell t cell p) far)) ≡ true) = and_true (not (cell == home)) (nat_le (distance_to_cell t cell p) near || (set.contains old cell && nat_le (distance_to_cell t cell p) far)) passes in
     record {
@@ -63,7 +63,7 @@ is_haunt-IsHaunt p home old t near far cell there passes =
       ];
     }
 
-pub IsHaunt-is_haunt : (p : Pos) (home : ℕ) (old : Cells) (t : Plan) (near far cell : ℕ) → IsHaunt p home old t near far cell → is_haunt p home old t near far cell ≡ true
+pub IsHaunt-is_haunt : (p : Pos) (home : ℕ) (old : Cells) (t : Division) (near far cell : ℕ) → IsHaunt p home old t near far cell → is_haunt p home old t near far cell ≡ true
 IsHaunt-is_haunt p home old t near far cell h =
     let away : cell ≢ home = h.away in
     elim h.close [
@@ -72,12 +72,12 @@ IsHaunt-is_haunt p home old t near far cell h =
     ]
 
 -- what the set of all haunts holds
-pub contains-haunts_of : (p : Pos) (home : ℕ) (old : Cells) (t : Plan) (near far cell : ℕ) → set.contains (haunts_of p home old t near far) cell ≡ (nat_lt cell (cells_of t) && is_haunt p home old t near far cell)
+pub contains-haunts_of : (p : Pos) (home : ℕ) (old : Cells) (t : Division) (near far cell : ℕ) → set.contains (haunts_of p home old t near far) cell ≡ (nat_lt cell (cells_of t) && is_haunt p home old t near far cell)
 contains-haunts_of p home old t near far cell =
     contains-chosen (is_haunt p home old t near far) 0 (cells_of t) cell
     ∙ ap (λ (b : Bool). b && is_haunt p home old t near far cell) (in_range cell (cells_of t))
 
-pub haunts_of-each : (p : Pos) (home : ℕ) (old : Cells) (t : Plan) (near far cell : ℕ) → IsTrue (set.contains (haunts_of p home old t near far) cell) ↔ IsHaunt p home old t near far cell
+pub haunts_of-each : (p : Pos) (home : ℕ) (old : Cells) (t : Division) (near far cell : ℕ) → IsTrue (set.contains (haunts_of p home old t near far) cell) ↔ IsHaunt p home old t near far cell
 haunts_of-each p home old t near far cell = (
   λ held.
       let parts : (nat_lt cell (cells_of t) ≡ true) × (is_haunt p home old t near far cell ≡ true) = and_true (nat_lt cell (cells_of t)) (is_haunt p home old t near far cell) (sym (contains-haunts_of p home old t near far cell) ∙ held) in

@@ -4,7 +4,7 @@
 
 ghost use Rattle.std.specs.Prelude.{◌≡◌, ℕ, ◌<◌, ◌↔◌, IsTrue};
 ghost use Rattle.std.specs.FinSet as set;
-ghost use Rattle.seam_tree.specs.Plan.{cells_of};
+ghost use Rattle.seam_tree.specs.Division.{cells_of};
 ghost use Rattle.seam_haunt.specs.Haunts.{haunts_of, is_haunt, IsHaunt};
 
 use seam_geo::Pos;

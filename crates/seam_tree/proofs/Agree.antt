@@ -3,14 +3,14 @@ use Rattle.std.proofs.Common.{◌≡◌, ℕ, zero, suc, ◌<◌, ◌==◌, nat_
 use Rattle.seam_geo.specs.declared.pos.Pos.{Pos}
 use Rattle.seam_tree.specs.declared.cut.Cut.{Cut}
 use Rattle.seam_tree.specs.Boundary.{place_along, below, above}
-use Rattle.seam_tree.specs.Plan.{Plan, area_after, leaf_after, cut_after}
+use Rattle.seam_tree.specs.Division.{Division, area_after, leaf_after, cut_after}
 
 -- the two trees are of one space, and have the same first n cuts
-pub record AgreeBelow (t u : Plan) (n : ℕ) : Type 0 where
+pub record AgreeBelow (t u : Division) (n : ℕ) : Type 0 where
   pub size : t.size ≡ u.size
   pub cuts : (k : ℕ) → k < n → cut_after t k ≡ cut_after u k
 
-pub area-agree : (t u : Plan) (n : ℕ) → AgreeBelow t u n → (cell : ℕ) → area_after t n cell ≡ area_after u n cell
+pub area-agree : (t u : Division) (n : ℕ) → AgreeBelow t u n → (cell : ℕ) → area_after t n cell ≡ area_after u n cell
 area-agree t u zero same cell = λ i. record { low = record { x = 0; z = 0 }; high = record { x = same.size i; z = same.size i } }
 area-agree t u (suc n) same cell =
     let ih : (c : ℕ) → area_after t n c ≡ area_after u n c = area-agree t u n (record { size = same.size; cuts = λ k l. same.cuts k (omega arith) }) in
@@ -21,5 +21,5 @@ area-agree t u (suc n) same cell =
     else (if cell == (cut i).cell then below (ih cell i) (cut i).boundary else ih cell i)
 
 -- one more cut that is the same takes the positions to the same cells
-pub leaf-agree_step : (t u : Plan) (n : ℕ) (p : Pos) → cut_after t n ≡ cut_after u n → leaf_after t n p ≡ leaf_after u n p → leaf_after t (suc n) p ≡ leaf_after u (suc n) p
+pub leaf-agree_step : (t u : Division) (n : ℕ) (p : Pos) → cut_after t n ≡ cut_after u n → leaf_after t n p ≡ leaf_after u n p → leaf_after t (suc n) p ≡ leaf_after u (suc n) p
 leaf-agree_step t u n p cut leaf = λ i. if ((cut i).cell == leaf i) && nat_le (cut i).boundary.at (place_along (cut i).boundary.axis p) then suc n else leaf i

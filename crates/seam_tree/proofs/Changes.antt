@@ -7,8 +7,8 @@ use Rattle.seam_geo.specs.Rect.{Area, IsProper, Holds}
 use Rattle.seam_tree.specs.declared.boundary.Boundary.{Boundary}
 use Rattle.seam_tree.specs.declared.cut.Cut.{Cut}
 use Rattle.seam_tree.specs.Boundary.{place_along, below, above, RunsThrough}
-use Rattle.seam_tree.specs.Plan.{Plan, area, area_after, leaf_after, cut_after, whole, cells_of, cut_number, cell_cut_by, no_cut, IsTree, NoneEmpty, HasBoundary}
-use Rattle.seam_tree.specs.Change.{with_cut, with_place, cut_moved, cuts_moved, CutsCell, MovesBoundary, LiesBetween, IsBetween, CameBy, as_it_was, by_cut, by_shift}
+use Rattle.seam_tree.specs.Division.{Division, area, area_after, leaf_after, cut_after, whole, cells_of, cut_number, no_cut, IsTree, NoneEmpty, HasBoundary}
+use Rattle.seam_tree.specs.Change.{with_cut, with_place, cut_moved, cuts_moved, CutsCell, LiesBetween, IsBetween}
 use Rattle.seam_tree.proofs.Steps.{is_new, is_cut, is_other, area_step, goes, stays_below, stays_apart, leaf_step, same_or_not}
 use Rattle.seam_tree.proofs.Parts.{proper-below, proper-above}
 use Rattle.seam_tree.proofs.Areas.{CellsWereThere, leaf_holds}
@@ -34,22 +34,22 @@ slice_get-last : (cuts : List Cut) (c : Cut) → slice_get (cuts ++ c ∷ []) (l
 slice_get-last [] c = refl
 slice_get-last (x ∷ cuts) c = slice_get-last cuts c
 
-pub agree-with_cut : (t : Plan) (cell : ℕ) (b : Boundary) → AgreeBelow (with_cut t cell b) t (length t.cuts)
+pub agree-with_cut : (t : Division) (cell : ℕ) (b : Boundary) → AgreeBelow (with_cut t cell b) t (length t.cuts)
 agree-with_cut t cell b = record { size = refl; cuts = λ k l. get_or-before t.cuts (record { cell = cell; boundary = b }) k l }
 
-cells-with_cut : (t : Plan) (cell : ℕ) (b : Boundary) → length (with_cut t cell b).cuts ≡ suc (length t.cuts)
+pub cells-with_cut : (t : Division) (cell : ℕ) (b : Boundary) → length (with_cut t cell b).cuts ≡ suc (length t.cuts)
 cells-with_cut t cell b = length-append t.cuts (record { cell = cell; boundary = b } ∷ []) ∙ add-one (length t.cuts)
 
 -- the areas after a further cut
-area-with_cut : (t : Plan) (cell : ℕ) (b : Boundary) (c : ℕ) → area (with_cut t cell b) c ≡ area_after (with_cut t cell b) (suc (length t.cuts)) c
+area-with_cut : (t : Division) (cell : ℕ) (b : Boundary) (c : ℕ) → area (with_cut t cell b) c ≡ area_after (with_cut t cell b) (suc (length t.cuts)) c
 area-with_cut t cell b c = ap (λ (n : ℕ). area_after (with_cut t cell b) n c) (cells-with_cut t cell b)
 
-last_cut : (t : Plan) (cell : ℕ) (b : Boundary) → cut_after (with_cut t cell b) (length t.cuts) ≡ record { cell = cell; boundary = b }
+last_cut : (t : Division) (cell : ℕ) (b : Boundary) → cut_after (with_cut t cell b) (length t.cuts) ≡ record { cell = cell; boundary = b }
 last_cut t cell b = get_or-last t.cuts (record { cell = cell; boundary = b })
 
-area-upper : (t : Plan) (cell : ℕ) (b : Boundary) → cell < cells_of t → area (with_cut t cell b) (cells_of t) ≡ above (area t cell) b
+area-upper : (t : Division) (cell : ℕ) (b : Boundary) → cell < cells_of t → area (with_cut t cell b) (cells_of t) ≡ above (area t cell) b
 area-upper t cell b there =
-    let u : Plan = with_cut t cell b in
+    let u : Division = with_cut t cell b in
     let n : ℕ = length t.cuts in
     let number : cells_of t ≡ suc n = add-one n in
     ap (area u) number ∙ area-with_cut t cell b (suc n) ∙ elim (area_step u n (suc n) (omega arith)) [
@@ -58,9 +58,9 @@ area-upper t cell b there =
       | is_other w _ _ ↦ absurd (omega arith)
     ]
 
-area-lower : (t : Plan) (cell : ℕ) (b : Boundary) → cell < cells_of t → area (with_cut t cell b) cell ≡ below (area t cell) b
+area-lower : (t : Division) (cell : ℕ) (b : Boundary) → cell < cells_of t → area (with_cut t cell b) cell ≡ below (area t cell) b
 area-lower t cell b there =
-    let u : Plan = with_cut t cell b in
+    let u : Division = with_cut t cell b in
     let n : ℕ = length t.cuts in
     let is : (cut_after u n).cell ≡ cell = ap (λ (c : Cut). c.cell) (last_cut t cell b) in
     area-with_cut t cell b cell ∙ elim (area_step u n cell (omega arith)) [
@@ -69,9 +69,9 @@ area-lower t cell b there =
       | is_other _ other _ ↦ absurd (other (sym is))
     ]
 
-area-kept : (t : Plan) (cell : ℕ) (b : Boundary) (c : ℕ) → c < cells_of t → c ≢ cell → area (with_cut t cell b) c ≡ area t c
+area-kept : (t : Division) (cell : ℕ) (b : Boundary) (c : ℕ) → c < cells_of t → c ≢ cell → area (with_cut t cell b) c ≡ area t c
 area-kept t cell b c there other =
-    let u : Plan = with_cut t cell b in
+    let u : Division = with_cut t cell b in
     let n : ℕ = length t.cuts in
     let is : (cut_after u n).cell ≡ cell = ap (λ (x : Cut). x.cell) (last_cut t cell b) in
     area-with_cut t cell b c ∙ elim (area_step u n c (omega arith)) [
@@ -83,23 +83,23 @@ area-kept t cell b c there other =
 number_again : (n : ℕ) → n + 1 - 1 ≡ n
 number_again n = omega arith
 
-pub cut_number-from_one : (t : Plan) (b : ℕ) → 1 ≤ b → cut_number t b ≡ slice_get t.cuts (b - 1)
+pub cut_number-from_one : (t : Division) (b : ℕ) → 1 ≤ b → cut_number t b ≡ slice_get t.cuts (b - 1)
 cut_number-from_one t b from = grind (arith, nat_tests)
 
-cut_number-new : (t : Plan) (cell : ℕ) (b : Boundary) → cut_number (with_cut t cell b) (cells_of t) ≡ Some (record { cell = cell; boundary = b })
+cut_number-new : (t : Division) (cell : ℕ) (b : Boundary) → cut_number (with_cut t cell b) (cells_of t) ≡ Some (record { cell = cell; boundary = b })
 cut_number-new t cell b =
     let at : slice_get (with_cut t cell b).cuts (cells_of t - 1) ≡ Some (record { cell = cell; boundary = b }) =
     ap (slice_get (with_cut t cell b).cuts) (number_again (length t.cuts)) ∙ slice_get-last t.cuts (record { cell = cell; boundary = b }) in
     grind (arith, nat_tests, at)
 
-cut_number-other : (t : Plan) (cell : ℕ) (b : Boundary) (k : ℕ) → k ≢ cells_of t → cut_number (with_cut t cell b) k ≡ cut_number t k
+cut_number-other : (t : Division) (cell : ℕ) (b : Boundary) (k : ℕ) → k ≢ cells_of t → cut_number (with_cut t cell b) k ≡ cut_number t k
 cut_number-other t cell b zero other = refl
 cut_number-other t cell b (suc k) other =
     cut_number-from_one (with_cut t cell b) (suc k) (omega arith)
     ∙ slice_get-before t.cuts (record { cell = cell; boundary = b }) (suc k - 1) (λ e. other (omega arith))
     ∙ sym (cut_number-from_one t (suc k) (omega arith))
 
-pub with_cut-cuts : (t : Plan) (cell : ℕ) (b : Boundary) → cell < cells_of t → CutsCell t (with_cut t cell b) cell b
+pub with_cut-cuts : (t : Division) (cell : ℕ) (b : Boundary) → cell < cells_of t → CutsCell t (with_cut t cell b) cell b
 with_cut-cuts t cell b there = record {
   size = refl;
   cells = omega (arith, cells-with_cut t cell b);
@@ -112,7 +112,7 @@ with_cut-cuts t cell b there = record {
   other_cuts = λ k other. ap (option_map (λ (c : Cut). c.cell)) (cut_number-other t cell b k other);
 }
 
-none_empty-with_cut : (t : Plan) (cell : ℕ) (b : Boundary) → NoneEmpty t → cell < cells_of t → RunsThrough b (area t cell) → NoneEmpty (with_cut t cell b)
+none_empty-with_cut : (t : Division) (cell : ℕ) (b : Boundary) → NoneEmpty t → cell < cells_of t → RunsThrough b (area t cell) → NoneEmpty (with_cut t cell b)
 none_empty-with_cut t cell b proper there runs c within =
     elim (same_or_not c (cells_of t)) [
       | inl e ↦ subst IsProper (sym (ap (area (with_cut t cell b)) e ∙ area-upper t cell b there)) (proper-above (area t cell) b (proper cell there) runs)
@@ -122,7 +122,7 @@ none_empty-with_cut t cell b proper there runs c within =
       ]
     ]
 
-pub with_cut-tree : (t : Plan) (cell : ℕ) (b : Boundary) → IsTree t → cell < cells_of t → RunsThrough b (area t cell) → cells_of t < 16 → IsTree (with_cut t cell b)
+pub with_cut-tree : (t : Division) (cell : ℕ) (b : Boundary) → IsTree t → cell < cells_of t → RunsThrough b (area t cell) → cells_of t < 16 → IsTree (with_cut t cell b)
 with_cut-tree t cell b tree there runs room = record {
   size_from = tree.size_from;
   size_to = tree.size_to;
@@ -137,7 +137,7 @@ with_cut-tree t cell b tree there runs room = record {
   none_empty = none_empty-with_cut t cell b tree.none_empty there runs;
 }
 
-get_or-moved_cell : (cuts : List Cut) (n at k : ℕ) → (get_or (cuts_moved cuts n at) k no_cut).cell ≡ (get_or cuts k no_cut).cell
+pub get_or-moved_cell : (cuts : List Cut) (n at k : ℕ) → (get_or (cuts_moved cuts n at) k no_cut).cell ≡ (get_or cuts k no_cut).cell
 get_or-moved_cell [] n at k = refl
 get_or-moved_cell (c ∷ cuts) zero at zero = refl
 get_or-moved_cell (c ∷ cuts) zero at (suc k) = refl
@@ -156,29 +156,29 @@ slice_get-moved_other (c ∷ cuts) zero at (suc k) other = refl
 slice_get-moved_other (c ∷ cuts) (suc n) at zero other = refl
 slice_get-moved_other (c ∷ cuts) (suc n) at (suc k) other = slice_get-moved_other cuts n at k (λ e. other (ap suc e))
 
-option_moved_boundary : (o : Option Cut) (at : ℕ) → option_map (λ (c : Cut). c.boundary) (option_map (λ (c : Cut). cut_moved c at) o) ≡ option_map (λ (was : Boundary). record { axis = was.axis; at = at }) (option_map (λ (c : Cut). c.boundary) o)
+pub option_moved_boundary : (o : Option Cut) (at : ℕ) → option_map (λ (c : Cut). c.boundary) (option_map (λ (c : Cut). cut_moved c at) o) ≡ option_map (λ (was : Boundary). record { axis = was.axis; at = at }) (option_map (λ (c : Cut). c.boundary) o)
 option_moved_boundary None at = refl
 option_moved_boundary (Some c) at = refl
 
-option_moved_cell : (o : Option Cut) (at : ℕ) → option_map (λ (c : Cut). c.cell) (option_map (λ (c : Cut). cut_moved c at) o) ≡ option_map (λ (c : Cut). c.cell) o
+pub option_moved_cell : (o : Option Cut) (at : ℕ) → option_map (λ (c : Cut). c.cell) (option_map (λ (c : Cut). cut_moved c at) o) ≡ option_map (λ (c : Cut). c.cell) o
 option_moved_cell None at = refl
 option_moved_cell (Some c) at = refl
 
-cut_number-moved : (t : Plan) (b at : ℕ) → cut_number (with_place t b at) b ≡ option_map (λ (c : Cut). cut_moved c at) (cut_number t b)
+pub cut_number-moved : (t : Division) (b at : ℕ) → cut_number (with_place t b at) b ≡ option_map (λ (c : Cut). cut_moved c at) (cut_number t b)
 cut_number-moved t zero at = refl
 cut_number-moved t (suc b) at =
     cut_number-from_one (with_place t (suc b) at) (suc b) (omega arith)
     ∙ slice_get-moved_here t.cuts (suc b - 1) at
     ∙ ap (option_map (λ (c : Cut). cut_moved c at)) (sym (cut_number-from_one t (suc b) (omega arith)))
 
-cut_number-unmoved : (t : Plan) (b at k : ℕ) → 1 ≤ b → k ≢ b → cut_number (with_place t b at) k ≡ cut_number t k
+pub cut_number-unmoved : (t : Division) (b at k : ℕ) → 1 ≤ b → k ≢ b → cut_number (with_place t b at) k ≡ cut_number t k
 cut_number-unmoved t b at zero from other = refl
 cut_number-unmoved t b at (suc k) from other =
     cut_number-from_one (with_place t b at) (suc k) (omega arith)
     ∙ slice_get-moved_other t.cuts (b - 1) at (suc k - 1) (λ e. other (omega arith))
     ∙ sym (cut_number-from_one t (suc k) (omega arith))
 
-pub with_place-tree : (t : Plan) (b at : ℕ) → IsTree t → NoneEmpty (with_place t b at) → IsTree (with_place t b at)
+pub with_place-tree : (t : Division) (b at : ℕ) → IsTree t → NoneEmpty (with_place t b at) → IsTree (with_place t b at)
 with_place-tree t b at tree proper = record {
   size_from = tree.size_from;
   size_to = tree.size_to;
@@ -189,20 +189,20 @@ with_place-tree t b at tree proper = record {
   none_empty = proper;
 }
 
-get_or-moved_other : (cuts : List Cut) (n at k : ℕ) → k ≢ n → get_or (cuts_moved cuts n at) k no_cut ≡ get_or cuts k no_cut
+pub get_or-moved_other : (cuts : List Cut) (n at k : ℕ) → k ≢ n → get_or (cuts_moved cuts n at) k no_cut ≡ get_or cuts k no_cut
 get_or-moved_other [] n at k other = refl
 get_or-moved_other (c ∷ cuts) zero at zero other = absurd (other refl)
 get_or-moved_other (c ∷ cuts) zero at (suc k) other = refl
 get_or-moved_other (c ∷ cuts) (suc n) at zero other = refl
 get_or-moved_other (c ∷ cuts) (suc n) at (suc k) other = get_or-moved_other cuts n at k (λ e. other (ap suc e))
 
-get_or-moved_here : (cuts : List Cut) (n at : ℕ) → n < length cuts → get_or (cuts_moved cuts n at) n no_cut ≡ cut_moved (get_or cuts n no_cut) at
+pub get_or-moved_here : (cuts : List Cut) (n at : ℕ) → n < length cuts → get_or (cuts_moved cuts n at) n no_cut ≡ cut_moved (get_or cuts n no_cut) at
 get_or-moved_here [] n at within = absurd (omega arith)
 get_or-moved_here (c ∷ cuts) zero at within = refl
 get_or-moved_here (c ∷ cuts) (suc n) at within = get_or-moved_here cuts n at (omega arith)
 
 -- at the moved cut itself, a position outside the strip goes where it went
-leaf-moved_here : (t u : Plan) (n at : ℕ) (p : Pos) → cut_after u n ≡ cut_moved (cut_after t n) at → CellsWereThere t n → Holds (whole t) p
+leaf-moved_here : (t u : Division) (n at : ℕ) (p : Pos) → cut_after u n ≡ cut_moved (cut_after t n) at → CellsWereThere t n → Holds (whole t) p
     → (Holds (area_after t n (cut_after t n).cell) p → IsBetween (cut_after t n).boundary.at at (place_along (cut_after t n).boundary.axis p) → ⊥)
     → leaf_after u n p ≡ leaf_after t n p → leaf_after u (suc n) p ≡ leaf_after t (suc n) p
 leaf-moved_here t u n at p moved there inside outside leaf =
@@ -229,7 +229,7 @@ leaf-moved_here t u n at p moved there inside outside leaf =
       ]
     ]
 
-leaf-moved : (t : Plan) (b at : ℕ) (p : Pos) → HasBoundary t b → CellsWereThere t (length t.cuts) → Holds (whole t) p → ¬ LiesBetween t b at p
+pub leaf-moved : (t : Division) (b at : ℕ) (p : Pos) → HasBoundary t b → CellsWereThere t (length t.cuts) → Holds (whole t) p → ¬ LiesBetween t b at p
     → (n : ℕ) → n ≤ length t.cuts → leaf_after (with_place t b at) n p ≡ leaf_after t n p
 leaf-moved t b at p has there inside outside zero within = refl
 leaf-moved t b at p has there inside outside (suc n) within =
@@ -245,27 +245,15 @@ leaf-moved t b at p has there inside outside (suc n) within =
       | inr other ↦ leaf-agree_step (with_place t b at) t n p (get_or-moved_other t.cuts (b - 1) at n other) before
     ]
 
-pub with_place-moves : (t : Plan) (b at : ℕ) → IsTree t → HasBoundary t b → MovesBoundary t (with_place t b at) b at
-with_place-moves t b at tree there = record {
-  size = refl;
-  cells = ap (λ (n : ℕ). n + 1) (length-cuts_moved t.cuts (b - 1) at);
-  boundary = ap (option_map (λ (c : Cut). c.boundary)) (cut_number-moved t b at) ∙ option_moved_boundary (cut_number t b) at;
-  other_boundaries = λ k other. ap (option_map (λ (c : Cut). c.boundary)) (cut_number-unmoved t b at k there.from_one other);
-  cuts = λ k. elim (same_or_not k b) [
-    | inl e ↦ ap (cell_cut_by (with_place t b at)) e ∙ ap (option_map (λ (c : Cut). c.cell)) (cut_number-moved t b at) ∙ option_moved_cell (cut_number t b) at ∙ ap (cell_cut_by t) (sym e)
-    | inr other ↦ ap (option_map (λ (c : Cut). c.cell)) (cut_number-unmoved t b at k there.from_one other)
-  ];
-  leaves = λ p inside outside.
-      ap (λ (n : ℕ). leaf_after (with_place t b at) n p) (length-cuts_moved t.cuts (b - 1) at)
-      ∙ leaf-moved t b at p there tree.cell_was_there (record { from_x = omega arith; to_x = inside.x_inside; from_z = omega arith; to_z = inside.z_inside }) outside (length t.cuts) (omega arith);
-}
+-- the other cuts stay, and the moved one has the new place
+pub cut-moved_other : (t : Division) (b at k : ℕ) → k ≢ b - 1 → cut_after (with_place t b at) k ≡ cut_after t k
+cut-moved_other t b at k other = get_or-moved_other t.cuts (b - 1) at k other
 
--- what came by cuts and shifts has the first tree's cells
-pub came-cells : (t u : Plan) → CameBy t u → (cells_of t ≤ cells_of u) × (u.size ≡ t.size)
-came-cells t _ as_it_was = (omega arith, refl)
-came-cells t _ (by_cut u cell b before) =
-    let ih : (cells_of t ≤ cells_of u) × (u.size ≡ t.size) = came-cells t u before in
-    (omega (arith, ih.0, cells-with_cut u cell b), ih.1)
-came-cells t _ (by_shift u b at before) =
-    let ih : (cells_of t ≤ cells_of u) × (u.size ≡ t.size) = came-cells t u before in
-    (omega (arith, ih.0, length-cuts_moved u.cuts (b - 1) at), ih.1)
+pub cut-moved_here : (t : Division) (b at : ℕ) → HasBoundary t b → cut_after (with_place t b at) (b - 1) ≡ cut_moved (cut_after t (b - 1)) at
+cut-moved_here t b at there =
+    let from : 1 ≤ b = there.from_one in
+    let to : b < cells_of t = there.to_last in
+    get_or-moved_here t.cuts (b - 1) at (omega arith)
+
+pub agree-with_place : (t : Division) (b at n : ℕ) → n ≤ b - 1 → AgreeBelow (with_place t b at) t n
+agree-with_place t b at n le = record { size = refl; cuts = λ k l. cut-moved_other t b at k (λ e. omega arith) }

@@ -5,3 +5,4 @@ pub mod Agree
 pub mod Padded
 pub mod Changes
 pub mod Sets
+pub mod Moves

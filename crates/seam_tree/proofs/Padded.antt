@@ -3,8 +3,9 @@ use Rattle.std.proofs.Common.{◌≡◌, ◌<◌, ◌≤◌, ℕ, zero, suc, ◌
 use Rattle.std.proofs.Math.Seq.{take-append_seam, set-append_seam}
 use Rattle.seam_tree.specs.declared.cut.Cut.{Cut}
 use Rattle.seam_tree.specs.Change.{cut_moved, cuts_moved, with_cut, with_place}
-use Rattle.seam_tree.specs.Plan.{Plan, HasBoundary, cells_of, no_cut}
-use Rattle.seam_tree.specs.Table.{padded, take-padded}
+use Rattle.seam_tree.specs.Division.{Division, HasBoundary, cells_of, no_cut}
+use Rattle.seam_tree.specs.Table.{padded}
+use Rattle.seam_tree.specs.Inverse.{take-padded}
 
 pub take-of_padded : (cuts : List Cut) (n : ℕ) → n ≡ length cuts → take n (padded cuts) ≡ cuts
 take-of_padded cuts n is = ap (λ (k : ℕ). take k (padded cuts)) is ∙ take-append_seam cuts (replicate (15 - length cuts) no_cut)
@@ -37,21 +38,21 @@ set-padded_moved cuts n at within =
     ∙ ap (λ (k : ℕ). cuts_moved cuts n at ++ replicate (15 - k) no_cut) (sym (length-cuts_moved cuts n at))
 
 -- what the fields of a tree say of its cuts
-pub record HoldsCuts (size count : ℕ) (cuts : List Cut) (t : Plan) : Type 0 where
+pub record HoldsCuts (size count : ℕ) (cuts : List Cut) (t : Division) : Type 0 where
   pub most : count ≤ 15
   pub table : cuts ≡ padded (take count cuts)
   pub view : record { size = size; cuts = take count cuts } ≡ t
 
-abbrev view_of : ℕ → ℕ → List Cut → Plan
+abbrev view_of : ℕ → ℕ → List Cut → Division
 view_of size count cuts = record { size = size; cuts = take count cuts }
 
-pub cuts-length : (size count : ℕ) (cuts : List Cut) (t : Plan) → HoldsCuts size count cuts t → length t.cuts ≡ count
-cuts-length size count cuts t h = ap (λ (u : Plan). length u.cuts) (sym h.view) ∙ take-padded count cuts h.most h.table
+pub cuts-length : (size count : ℕ) (cuts : List Cut) (t : Division) → HoldsCuts size count cuts t → length t.cuts ≡ count
+cuts-length size count cuts t h = ap (λ (u : Division). length u.cuts) (sym h.view) ∙ take-padded count cuts h.most h.table
 
-table-is : (size count : ℕ) (cuts : List Cut) (t : Plan) → HoldsCuts size count cuts t → cuts ≡ padded t.cuts
-table-is size count cuts t h = h.table ∙ ap (λ (u : Plan). padded u.cuts) h.view
+table-is : (size count : ℕ) (cuts : List Cut) (t : Division) → HoldsCuts size count cuts t → cuts ≡ padded t.cuts
+table-is size count cuts t h = h.table ∙ ap (λ (u : Division). padded u.cuts) h.view
 
-pub holds-push : (size count : ℕ) (cuts : List Cut) (t : Plan) (n : ℕ) (c : Cut) → HoldsCuts size count cuts t → n ≡ count → cells_of t < 16 → HoldsCuts size (count + 1) (set cuts n c) (with_cut t c.cell c.boundary)
+pub holds-push : (size count : ℕ) (cuts : List Cut) (t : Division) (n : ℕ) (c : Cut) → HoldsCuts size count cuts t → n ≡ count → cells_of t < 16 → HoldsCuts size (count + 1) (set cuts n c) (with_cut t c.cell c.boundary)
 holds-push size count cuts t n c h is room =
     let len : length t.cuts ≡ count = cuts-length size count cuts t h in
     let after : set cuts n c ≡ padded (t.cuts ++ c ∷ []) =
@@ -64,7 +65,7 @@ holds-push size count cuts t n c h is room =
       view = λ i. record { size = (h.view i).size; cuts = taken i };
     }
 
-pub holds-place : (size count : ℕ) (cuts : List Cut) (t : Plan) (n at : ℕ) → HoldsCuts size count cuts t → n < length t.cuts → HoldsCuts size count (set cuts n (cut_moved (get_or cuts n no_cut) at)) (record { size = t.size; cuts = cuts_moved t.cuts n at })
+pub holds-place : (size count : ℕ) (cuts : List Cut) (t : Division) (n at : ℕ) → HoldsCuts size count cuts t → n < length t.cuts → HoldsCuts size count (set cuts n (cut_moved (get_or cuts n no_cut) at)) (record { size = t.size; cuts = cuts_moved t.cuts n at })
 holds-place size count cuts t n at h within =
     let len : length t.cuts ≡ count = cuts-length size count cuts t h in
     let after : set cuts n (cut_moved (get_or cuts n no_cut) at) ≡ padded (cuts_moved t.cuts n at) =
@@ -78,7 +79,7 @@ holds-place size count cuts t n at h within =
     }
 
 -- the table after a write to the place of boundary b, which is the cut after n others
-pub holds-with_place : (size count : ℕ) (cuts : List Cut) (t : Plan) (n b at : ℕ) → HoldsCuts size count cuts t → n ≡ b - 1 → HasBoundary t b → HoldsCuts size count (set cuts n (cut_moved (get_or cuts n no_cut) at)) (with_place t b at)
+pub holds-with_place : (size count : ℕ) (cuts : List Cut) (t : Division) (n b at : ℕ) → HoldsCuts size count cuts t → n ≡ b - 1 → HasBoundary t b → HoldsCuts size count (set cuts n (cut_moved (get_or cuts n no_cut) at)) (with_place t b at)
 holds-with_place size count cuts t n b at h is there =
     let to : b < cells_of t = there.to_last in
     let from : 1 ≤ b = there.from_one in

@@ -5,7 +5,8 @@ use Rattle.std.proofs.lemmas.Bool.Decides.{nat_tests}
 use Rattle.std.proofs.lemmas.Grind.{common_steps}
 use Rattle.std.specs.FinSet as cells
 use Rattle.seam_tree.proofs.Steps.{same_or_not}
-use Rattle.seam_tree.specs.Marks.{marked_from, contains-marked, contains-insert_nat}
+use Rattle.seam_tree.specs.Marks.{marked_from}
+use Rattle.seam_tree.specs.Inverse.{contains-marked, contains-insert_nat}
 
 pub contains-marks : (marks : List Bool) (k : ℕ) → cells.contains (marked_from 0 marks) k ≡ get_or marks k false
 contains-marks marks k = let e : k ≡ 0 + k = omega arith in ap (cells.contains (marked_from 0 marks)) e ∙ contains-marked 0 marks k

@@ -4,24 +4,24 @@ use Rattle.std.proofs.lemmas.Bool.{cases_lt}
 use Rattle.std.proofs.lemmas.Bool.Decides.{nat_tests}
 use Rattle.seam_geo.specs.declared.pos.Pos.{Pos}
 use Rattle.seam_tree.specs.Boundary.{place_along, below, above}
-use Rattle.seam_tree.specs.Plan.{Plan, area_after, leaf_after, cut_after}
+use Rattle.seam_tree.specs.Division.{Division, area_after, leaf_after, cut_after}
 
-pub area-new : (t : Plan) (n cell : ℕ) → cell ≡ n + 1 → area_after t (n + 1) cell ≡ above (area_after t n (cut_after t n).cell) (cut_after t n).boundary
+pub area-new : (t : Division) (n cell : ℕ) → cell ≡ n + 1 → area_after t (n + 1) cell ≡ above (area_after t n (cut_after t n).cell) (cut_after t n).boundary
 area-new t n cell is = rw add-one (grind (arith, nat_tests))
 
-pub area-cut : (t : Plan) (n cell : ℕ) → cell ≢ n + 1 → cell ≡ (cut_after t n).cell → area_after t (n + 1) cell ≡ below (area_after t n cell) (cut_after t n).boundary
+pub area-cut : (t : Division) (n cell : ℕ) → cell ≢ n + 1 → cell ≡ (cut_after t n).cell → area_after t (n + 1) cell ≡ below (area_after t n cell) (cut_after t n).boundary
 area-cut t n cell other is = rw add-one (grind (arith, nat_tests))
 
-pub area-other : (t : Plan) (n cell : ℕ) → cell ≢ n + 1 → cell ≢ (cut_after t n).cell → area_after t (n + 1) cell ≡ area_after t n cell
+pub area-other : (t : Division) (n cell : ℕ) → cell ≢ n + 1 → cell ≢ (cut_after t n).cell → area_after t (n + 1) cell ≡ area_after t n cell
 area-other t n cell other not_cut = rw add-one (grind (arith, nat_tests))
 
-pub leaf-new : (t : Plan) (n : ℕ) (p : Pos) → (cut_after t n).cell ≡ leaf_after t n p → (cut_after t n).boundary.at ≤ place_along (cut_after t n).boundary.axis p → leaf_after t (n + 1) p ≡ n + 1
+pub leaf-new : (t : Division) (n : ℕ) (p : Pos) → (cut_after t n).cell ≡ leaf_after t n p → (cut_after t n).boundary.at ≤ place_along (cut_after t n).boundary.axis p → leaf_after t (n + 1) p ≡ n + 1
 leaf-new t n p cut from = rw add-one (grind (arith, nat_tests))
 
-pub leaf-other : (t : Plan) (n : ℕ) (p : Pos) → (cut_after t n).cell ≢ leaf_after t n p → leaf_after t (n + 1) p ≡ leaf_after t n p
+pub leaf-other : (t : Division) (n : ℕ) (p : Pos) → (cut_after t n).cell ≢ leaf_after t n p → leaf_after t (n + 1) p ≡ leaf_after t n p
 leaf-other t n p other = rw add-one (grind (arith, nat_tests))
 
-pub leaf-below : (t : Plan) (n : ℕ) (p : Pos) → place_along (cut_after t n).boundary.axis p < (cut_after t n).boundary.at → leaf_after t (n + 1) p ≡ leaf_after t n p
+pub leaf-below : (t : Division) (n : ℕ) (p : Pos) → place_along (cut_after t n).boundary.axis p < (cut_after t n).boundary.at → leaf_after t (n + 1) p ≡ leaf_after t n p
 leaf-below t n p to = rw add-one (grind (arith, nat_tests))
 
 pub ruleset area_steps = (area-new, area-cut, area-other)
@@ -32,12 +32,12 @@ pub same_or_not : (m n : ℕ) → (m ≡ n) ⊎ (m ≢ n)
 same_or_not m n = elim (cases_lt m n) [ inl l ↦ inr (λ e. omega arith) | inr g ↦ elim (cases_lt n m) [ inl l ↦ inr (λ e. omega arith) | inr h ↦ inl (omega arith) ] ]
 
 -- a cell after one more cut: the new one, the one that was cut, or another
-pub data AreaStep (t : Plan) (n cell : ℕ) : Type 0 where
+pub data AreaStep (t : Division) (n cell : ℕ) : Type 0 where
   is_new : cell ≡ suc n → area_after t (suc n) cell ≡ above (area_after t n (cut_after t n).cell) (cut_after t n).boundary → AreaStep t n cell
   is_cut : cell ≤ n → cell ≡ (cut_after t n).cell → area_after t (suc n) cell ≡ below (area_after t n cell) (cut_after t n).boundary → AreaStep t n cell
   is_other : cell ≤ n → cell ≢ (cut_after t n).cell → area_after t (suc n) cell ≡ area_after t n cell → AreaStep t n cell
 
-pub area_step : (t : Plan) (n cell : ℕ) → cell ≤ suc n → AreaStep t n cell
+pub area_step : (t : Division) (n cell : ℕ) → cell ≤ suc n → AreaStep t n cell
 area_step t n cell within =
     elim (same_or_not cell (suc n)) [
       | inl e ↦ is_new e (grind (arith, nat_tests))
@@ -48,12 +48,12 @@ area_step t n cell within =
     ]
 
 -- a position after one more cut: it went to the new cell, or stayed in its own
-pub data LeafStep (t : Plan) (n : ℕ) (p : Pos) : Type 0 where
+pub data LeafStep (t : Division) (n : ℕ) (p : Pos) : Type 0 where
   goes : (cut_after t n).cell ≡ leaf_after t n p → (cut_after t n).boundary.at ≤ place_along (cut_after t n).boundary.axis p → leaf_after t (suc n) p ≡ suc n → LeafStep t n p
   stays_below : (cut_after t n).cell ≡ leaf_after t n p → place_along (cut_after t n).boundary.axis p < (cut_after t n).boundary.at → leaf_after t (suc n) p ≡ leaf_after t n p → LeafStep t n p
   stays_apart : (cut_after t n).cell ≢ leaf_after t n p → leaf_after t (suc n) p ≡ leaf_after t n p → LeafStep t n p
 
-pub leaf_step : (t : Plan) (n : ℕ) (p : Pos) → LeafStep t n p
+pub leaf_step : (t : Division) (n : ℕ) (p : Pos) → LeafStep t n p
 leaf_step t n p =
     elim (same_or_not (cut_after t n).cell (leaf_after t n p)) [
       | inl e ↦ elim (cases_lt (place_along (cut_after t n).boundary.axis p) (cut_after t n).boundary.at) [

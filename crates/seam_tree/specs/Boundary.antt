@@ -6,6 +6,10 @@ use Rattle.seam_tree.specs.declared.boundary.Axis.{Axis}
 use Rattle.seam_tree.specs.declared.boundary.Axis.TheVariants.{X, Z}
 use Rattle.seam_tree.specs.declared.boundary.Boundary.{Boundary}
 
+-- the boundary across an axis at a place
+abbrev pub across : Axis → ℕ → Boundary
+across axis at = record { axis = axis; at = at }
+
 -- where a position lies along an axis
 abbrev pub place_along : Axis → Pos → ℕ
 place_along X p = p.x
@@ -36,3 +40,10 @@ LeavesPartEmpty b a = (b.at ≤ place_along b.axis a.low) ⊎ (place_along b.axi
 -- the area is empty on an axis
 abbrev pub IsEmptyArea : Area → Type 0
 IsEmptyArea a = (a.high.x ≤ a.low.x) ⊎ (a.high.z ≤ a.low.z)
+
+-- the second area holds all that the first holds
+pub record LiesWithin (a b : Area) : Type 0 where
+  pub low_x : b.low.x ≤ a.low.x
+  pub low_z : b.low.z ≤ a.low.z
+  pub high_x : a.high.x ≤ b.high.x
+  pub high_z : a.high.z ≤ b.high.z

@@ -1,6 +1,7 @@
 pub mod Boundary
-pub mod Plan
-pub mod Table
+pub mod Division
 pub mod Change
 pub mod Cells
+pub mod Table
 pub mod Marks
+pub mod Inverse

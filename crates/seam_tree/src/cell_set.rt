@@ -14,7 +14,8 @@ impl Model for CellSet {
     ghost use Rattle.std.specs.FinSet as set;
     ghost use Rattle.std.specs.Coded.{coded_ℕ};
     ghost use Rattle.seam_tree.specs.Cells.{Cells};
-    ghost use Rattle.seam_tree.specs.Marks.{marked_from, marks_from, marks-marked};
+    ghost use Rattle.seam_tree.specs.Marks.{marked_from, marks_from};
+    ghost use Rattle.seam_tree.specs.Inverse.{marks-marked};
 
     ghost Value = { Cells };
 

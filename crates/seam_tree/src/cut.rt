@@ -1,5 +1,5 @@
 ghost use Rattle.std.specs.Prelude.{◌≡◌, ◌≤◌, length, MatchBool, ℕ};
-ghost use Rattle.seam_tree.specs.Plan.{Plan, area_after, leaf_after, NoneEmpty, SomeEmpty};
+ghost use Rattle.seam_tree.specs.Division.{Division, area_after, leaf_after, NoneEmpty, SomeEmpty};
 
 use crate::boundary::Boundary;
 use crate::corners::Corners;
@@ -55,7 +55,8 @@ pub(crate) fn leaf_among(cuts: &[Cut], p: Pos) -> u8
 // Whether some cell's area is empty.
 pub(crate) fn has_empty_cell(size: u32, cuts: &[Cut]) -> bool
     requires { length cuts.now ≤ 15 }
-    ensures { let plan : Plan = record { size = size; cuts = cuts.now } in MatchBool result (SomeEmpty plan) (NoneEmpty plan) }
+    ensures { let division : Division = record { size = size; cuts = cuts.now } in
+        MatchBool result (SomeEmpty division) (NoneEmpty division) }
 {
     for cell in 0..cuts.len() as u8 + 1 {
         if corners_after(size, cuts, cuts.len(), cell).is_empty() {

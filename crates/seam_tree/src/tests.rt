@@ -1,9 +1,14 @@
 use crate::{Axis, CellSet, CutError, ShiftError, Tree};
 use seam_geo::Pos;
 
+// Trees and sets go from one thread to another.
+fn sent<T: Send>(value: T) -> T {
+    value
+}
+
 #[test]
 fn sixteen_cells(rt: HostRuntime) {
-    let mut tree = Tree::one(10_000);
+    let mut tree = sent(Tree::one(10_000));
     for k in 0..15u8 {
         assert_eq!(rt; tree.cut(0, Axis::X, 9000 - 500 * u32::from(k)), Ok(k + 1));
     }
@@ -32,6 +37,6 @@ fn lower_edge(rt: HostRuntime) {
 
 #[test]
 fn sets_hold_what_was_put(rt: HostRuntime) {
-    let set = CellSet::none().with(3).with(15).without(3);
+    let set = sent(CellSet::none()).with(3).with(15).without(3);
     assert!(rt; set.holds(15) && !set.holds(3) && !set.holds(16));
 }

@@ -1,9 +1,9 @@
 ghost use Rattle.std.specs.Prelude.{◌≡◌, ℕ, ◌+◌, ◌-◌, ◌<◌, ◌≤◌, ◌↔◌, ◌⊎◌, [], length, IsSome, IfOk, IfSome, OnOk, OnErr, MatchBool};
 ghost use Rattle.std.specs.Option.{SomeIff};
 ghost use Rattle.seam_geo.specs.Rect.{Holds};
-ghost use Rattle.seam_tree.specs.Boundary.{LeavesPartEmpty, RunsThrough};
-ghost use Rattle.seam_tree.specs.Plan.{Plan, area, area_after, area_divided_by, boundary_of, cell_cut_by, cells_of, cut_after, cut_number, HasBoundary, IsInSpace, IsTree, leaf_at, NoneEmpty, SomeEmpty};
-ghost use Rattle.seam_tree.specs.Change.{CutsCell, MovesBoundary, with_cut, with_place};
+ghost use Rattle.seam_tree.specs.Boundary.{across, LeavesPartEmpty, RunsThrough};
+ghost use Rattle.seam_tree.specs.Division.{area, area_after, area_divided_by, boundary_of, cell_cut_by, cells_of, cut_after, cut_number, HasBoundary, IsInSpace, IsTree, leaf_at, NoneEmpty, SomeEmpty};
+ghost use Rattle.seam_tree.specs.Change.{CanCut, CutsCell, MovesBoundary, with_cut, with_place};
 
 use crate::boundary::{Axis, Boundary};
 use crate::corners::Corners;
@@ -56,16 +56,18 @@ pub struct Tree {
 
 impl Model for Tree {
     ghost use Rattle.std.specs.Prelude.{◌≡◌, ◌≤◌, take, length};
-    ghost use Rattle.seam_tree.specs.Plan.{Plan, IsTree};
+    ghost use Rattle.seam_tree.specs.Division.{Division, IsTree};
     ghost use Rattle.seam_tree.specs.Table.{padded};
-    ghost use Rattle.seam_tree.specs.Table.{take-padded};
+    ghost use Rattle.seam_tree.specs.Inverse.{take-padded};
     ghost use Rattle.std.proofs.Common.{sym};
 
-    ghost Value = { Plan };
+    ghost Value = { Division };
 
     ghost view = { λ a. record { size = a.size; cuts = take a.count a.cuts } };
 
-    ghost invariant = { λ a. (a.count ≤ 15) × (a.cuts ≡ padded (take a.count a.cuts)) × IsTree (record { size = a.size; cuts = take a.count a.cuts }) };
+    ghost invariant = { λ a. (a.count ≤ 15)
+        × (a.cuts ≡ padded (take a.count a.cuts))
+        × IsTree (record { size = a.size; cuts = take a.count a.cuts }) };
 
     ghost inverse = { λ t. record { size = t.size; count = length t.cuts; cuts = padded t.cuts } };
 
@@ -149,12 +151,15 @@ impl Tree {
     /// Refused, and then unchanged, by the first that stands: NoCell where there is no such cell, OutsideCell where one of
     /// the two parts would be empty, TooManyCells where there are sixteen cells.
     pub fn cut(&mut self, cell: u32, axis: Axis, at: u32) -> Result<u8, CutError>
-        ensures made { IfOk result (λ new. (new ≡ cells_of self.old) × (self.new ≡ with_cut self.old cell (record { axis = axis; at = at }))) }
-        ensures changed { OnOk result (CutsCell self.old self.new cell (record { axis = axis; at = at })) }
-        ensures allowed { OnOk result ((cell < cells_of self.old) × RunsThrough (record { axis = axis; at = at }) (area self.old cell) × (cells_of self.old < 16)) }
+        ensures made { IfOk result (λ new. new ≡ cells_of self.old) }
+        ensures added { OnOk result (self.new ≡ with_cut self.old cell (across axis at)) }
+        ensures changed { OnOk result (CutsCell self.old self.new cell (across axis at)) }
+        ensures allowed { OnOk result (CanCut self.old cell (across axis at)) }
         ensures no_cell { (result ≡ Err CutError.NoCell) ↔ (cells_of self.old ≤ cell) }
-        ensures outside { (result ≡ Err CutError.OutsideCell) ↔ ((cell < cells_of self.old) × LeavesPartEmpty (record { axis = axis; at = at }) (area self.old cell)) }
-        ensures too_many { (result ≡ Err CutError.TooManyCells) ↔ ((cell < cells_of self.old) × RunsThrough (record { axis = axis; at = at }) (area self.old cell) × (cells_of self.old ≡ 16)) }
+        ensures outside { (result ≡ Err CutError.OutsideCell)
+            ↔ ((cell < cells_of self.old) × LeavesPartEmpty (across axis at) (area self.old cell)) }
+        ensures too_many { (result ≡ Err CutError.TooManyCells)
+            ↔ ((cell < cells_of self.old) × RunsThrough (across axis at) (area self.old cell) × (cells_of self.old ≡ 16)) }
         ensures refused { OnErr result (self.new ≡ self.old) }
         ensures space { self.new.size ≡ self.old.size }
         ensures tree { IsTree self.new }
@@ -214,7 +219,7 @@ impl Tree {
     // Whether some cell's area is empty with the boundary at another place.
     fn has_empty_cell_with(&self, b: u8, at: u32) -> bool
         requires { HasBoundary self.now b }
-        ensures { let moved : Plan = with_place self.now b at in MatchBool result (SomeEmpty moved) (NoneEmpty moved) }
+        ensures { MatchBool result (SomeEmpty (with_place self.now b at)) (NoneEmpty (with_place self.now b at)) }
     {
         let mut cuts = self.cuts;
         cuts[usize::from(b) - 1].boundary.at = at;

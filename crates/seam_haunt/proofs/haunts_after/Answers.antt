@@ -4,7 +4,7 @@ use Rattle.std.specs.Ordering.{nat_cmp}
 use Rattle.std.proofs.lemmas.Bool.Decides.{nat_tests}
 use Rattle.std.specs.FinSet as set
 use Rattle.seam_tree.specs.Cells.{Cells}
-use Rattle.seam_tree.specs.Plan.{cells_of}
+use Rattle.seam_tree.specs.Division.{cells_of}
 use Rattle.seam_haunt.specs.Haunts.{is_haunt, IsHaunt}
 use Rattle.seam_haunt.proofs.Chosen.{contains-haunts_of, haunts_of-each, contains-haunts_more, contains-haunts_same}
 use Rattle.seam_haunt.proofs.haunts_after.Goals as goal

@@ -1,5 +1,5 @@
 use Rattle.std.proofs.Common.{◌≡◌, ℕ}
-use Rattle.seam_tree.specs.Plan.{leaf_after}
+use Rattle.seam_tree.specs.Division.{leaf_after}
 use Rattle.seam_tree.proofs.cut.leaf_among.Given as goal
 
 abbrev pub invariant-loop-made : goal.invariant-loop-made

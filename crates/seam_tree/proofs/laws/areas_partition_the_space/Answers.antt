@@ -1,5 +1,5 @@
 use Rattle.std.proofs.Common.{sym, ◌∙◌}
-use Rattle.seam_tree.specs.Plan.{leaf_at}
+use Rattle.seam_tree.specs.Division.{leaf_at}
 use Rattle.seam_tree.proofs.Areas.{IsLeaf, leaf_at-is, tree-inside}
 use Rattle.seam_tree.proofs.laws.areas_partition_the_space.Goals as goal
 

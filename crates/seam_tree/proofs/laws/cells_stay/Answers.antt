@@ -1,7 +1,7 @@
 use Rattle.std.proofs.Common.{ap, arith, ℕ, ◌+◌, ◌-◌, ◌≤◌}
-use Rattle.seam_tree.specs.Plan.{cells_of}
+use Rattle.seam_tree.specs.Division.{cells_of}
 use Rattle.seam_tree.proofs.Padded.{length-cuts_moved}
-use Rattle.seam_tree.proofs.Changes.{came-cells}
+use Rattle.seam_tree.proofs.Moves.{came-cells}
 use Rattle.seam_tree.proofs.laws.cells_stay.Goals as goal
 
 pub returns-clause-cells : goal.returns-clause-cells

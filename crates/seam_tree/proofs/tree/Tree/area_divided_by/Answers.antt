@@ -1,7 +1,7 @@
 use Rattle.std.proofs.Common.{arith}
 use Rattle.std.proofs.lemmas.Grind.{common_steps}
 use Rattle.seam_geo.specs.Rect.{IsProper}
-use Rattle.seam_tree.specs.Plan.{HasBoundary, area_divided_by}
+use Rattle.seam_tree.specs.Division.{HasBoundary, area_divided_by}
 use Rattle.seam_tree.proofs.Areas.{divided-proper}
 use Rattle.seam_tree.proofs.tree.Tree.area_divided_by.Goals as goal
 

@@ -1,7 +1,7 @@
 use Rattle.std.proofs.Common.{◌<◌, sym, subst, arith}
 use Rattle.std.proofs.lemmas.Grind.{common_steps}
 use Rattle.seam_tree.specs.Boundary.{RunsThrough}
-use Rattle.seam_tree.specs.Plan.{Plan, area, cells_of}
+use Rattle.seam_tree.specs.Division.{Division, area, cells_of}
 use Rattle.seam_tree.specs.Change.{CutsCell}
 use Rattle.seam_tree.proofs.Changes.{with_cut-cuts, with_cut-tree}
 use Rattle.seam_tree.proofs.tree.Tree.cut.Goals as goal
@@ -16,4 +16,4 @@ push-requires-clause-tree c =
 pub returns-clause-changed : goal.returns-clause-changed
 returns-clause-changed c =
     let there : c.args.cell < cells_of c.args.self.now = grind (arith, common_steps) in
-    subst (λ (u : Plan). CutsCell c.args.self.now u c.args.cell (record { axis = c.args.axis; at = c.args.at })) (sym c.push.ensures) (with_cut-cuts c.args.self.now c.args.cell _ there)
+    subst (λ (u : Division). CutsCell c.args.self.now u c.args.cell (record { axis = c.args.axis; at = c.args.at })) (sym c.push.ensures) (with_cut-cuts c.args.self.now c.args.cell _ there)

@@ -1,6 +1,6 @@
 use Rattle.std.proofs.Common.{List, length, sym, ap, subst, ◌∙◌}
 use Rattle.seam_tree.specs.declared.cut.Cut.{Cut}
-use Rattle.seam_tree.specs.Plan.{leaf_after}
+use Rattle.seam_tree.specs.Division.{leaf_after}
 use Rattle.seam_tree.proofs.Areas.{IsLeaf, leaf_at-is}
 use Rattle.seam_tree.proofs.tree.Tree.leaf_of.Goals as goal
 

@@ -1,5 +1,5 @@
 use Rattle.std.proofs.Common.{ℕ, ◌-◌, sym, ap, subst}
-use Rattle.seam_tree.specs.Plan.{IsTree}
+use Rattle.seam_tree.specs.Division.{IsTree}
 use Rattle.seam_tree.proofs.Padded.{holds-with_place}
 use Rattle.seam_tree.proofs.tree.Tree.place.Goals as goal
 

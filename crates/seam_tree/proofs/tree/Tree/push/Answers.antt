@@ -1,5 +1,5 @@
 use Rattle.std.proofs.Common.{sym, subst}
-use Rattle.seam_tree.specs.Plan.{IsTree}
+use Rattle.seam_tree.specs.Division.{IsTree}
 use Rattle.seam_tree.proofs.Padded.{holds-push}
 use Rattle.seam_tree.proofs.tree.Tree.push.Goals as goal
 

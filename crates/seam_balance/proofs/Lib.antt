@@ -1,0 +1,6 @@
+pub mod Convex
+pub mod Range
+pub mod Counts
+pub mod Within
+pub mod Best
+pub mod Turns

@@ -1,0 +1,91 @@
+ghost use Rattle.std.specs.Prelude.{◌≡◌, ℕ, ◌-◌, ◌^◌, ◌<◌, ◌≤◌, IfOk, map, filter, count_by, nat_lt, IsSorted, IsPermutation};
+ghost use Rattle.std.specs.Ordering.{nat_cmp};
+ghost use Rattle.seam_tree.specs.Boundary.{place_along};
+ghost use Rattle.seam_tree.specs.Division.{HasBoundary};
+ghost use Rattle.seam_balance.specs.Balance.{difference, lies_in, places_divided};
+
+use crate::divided::{boundary_of, divided_area};
+use seam_geo::{Pos, Rect};
+use seam_tree::{Axis, Tree};
+use std::alloc::{AllocError, Global};
+
+// Where the positions of the area that the boundary divides lie along its axis, in rising order.
+pub(crate) fn sorted_places(
+    alloc: Global,
+    tree: &Tree,
+    b: u8,
+    positions: &[Pos],
+) -> Result<Vec<u32>, AllocError>
+    requires { HasBoundary tree.now b }
+    ensures same { IfOk result (λ places. IsPermutation (places_divided tree.now b positions.now) places.items) }
+    ensures rising { IfOk result (λ places. IsSorted nat_cmp places.items) }
+{
+    let mut places = places_along(
+        alloc,
+        &divided_area(tree, b),
+        boundary_of(tree, b).axis,
+        positions,
+    )?;
+    places.sort_unstable();
+    Ok(places)
+}
+
+fn places_along(
+    alloc: Global,
+    area: &Rect,
+    axis: Axis,
+    positions: &[Pos],
+) -> Result<Vec<u32>, AllocError>
+    ensures { IfOk result (λ places. places.items ≡ map (place_along axis) (filter (lies_in area.now) positions.now)) }
+{
+    positions
+        .iter()
+        .filter(|p| lies_in(area, **p))
+        .map(|p| axis.place_of(*p))
+        .collect(alloc)
+}
+
+fn lies_in(area: &Rect, p: Pos) -> bool
+    ensures { result ≡ lies_in area.now p }
+{
+    area.holds(p)
+}
+
+// How many of the places lie below one.
+fn count_below(places: &[u32], at: u32) -> usize
+    requires { IsSorted nat_cmp places.now }
+    ensures { result ≡ count_by (λ place. nat_lt place at) places.now }
+{
+    places.partition_point(|place| *place < at)
+}
+
+// How much the number of places below one differs from the number of the others.
+fn difference_at(places: &[u32], at: u32) -> usize
+    requires { IsSorted nat_cmp places.now }
+    ensures { result ≡ difference places.now at }
+{
+    let below = count_below(places, at);
+    below.abs_diff(places.len() - below)
+}
+
+// The place of a range that divides the places with the least difference, and the lowest of those.
+pub(crate) fn best_place(places: &[u32], lowest: u32, highest: u32) -> u32
+    requires rising { IsSorted nat_cmp places.now }
+    requires range { lowest ≤ highest }
+    requires small { highest < 2 ^ 32 - 1 }
+    ensures from { lowest ≤ result }
+    ensures to { result ≤ highest }
+    ensures least { (at : ℕ) → lowest ≤ at → at ≤ highest → difference places.now result ≤ difference places.now at }
+    ensures lowest { (at : ℕ) → lowest ≤ at → at < result → difference places.now result < difference places.now at }
+{
+    let mut best = lowest;
+    let mut least = difference_at(places, lowest);
+    for at in lowest + 1..highest + 1 {
+        let difference = difference_at(places, at);
+        if difference < least {
+            best = at;
+            least = difference;
+        }
+    }
+    best
+}
