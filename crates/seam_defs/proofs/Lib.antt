@@ -1,1 +1,4 @@
 pub mod WellFormed
+pub mod Zipped
+pub mod Names
+pub mod Numbers

@@ -1,9 +1,12 @@
 ghost use Rattle.std.specs.Prelude.{◌≡◌, ◌≢◌, ℕ, ◌<◌, ◌≤◌, ◌↔◌, IsTrue, MatchOption, IfSome, IfNone, length, slice_get};
-ghost use Rattle.seam_defs.specs.Types.{AreDefs, type_of, method_of, no_method};
+ghost use Rattle.std.specs.Ordering.{nat_cmp};
+ghost use Rattle.std.specs.Cmp.Lexicographic.{slice_cmp};
+ghost use Rattle.seam_defs.specs.Types.{AreDefs, type_of, method_of, no_method, names_of_types, names_of_methods, are_rising};
 
 use crate::{Method, Part, TypeDef};
-use seam_value::ValueType;
+use seam_value::{ShortText, ValueType};
 use std::alloc::Global;
+use std::cmp::Ordering;
 use std::marker::Model;
 
 /// The types of entities of a world, numbered by their places. A number that the definitions do not have stands for a type
@@ -35,20 +38,23 @@ impl Defs {
         Defs { alloc, types }
     }
 
-    /// The number of the type of this name.
-    pub fn find_type(&self, name: &[u8]) -> Option<u16> {
-        match self.types.binary_search_by(|t| t.name.bytes().cmp(name)) {
+    /// The number of the type of this name: None exactly where none has it.
+    pub fn find_type(&self, name: &[u8]) -> Option<u16>
+        ensures found { IfSome result (λ k. slice_get (names_of_types self.now) k ≡ Some name.now) }
+        ensures all { (k : ℕ) → slice_get (names_of_types self.now) k ≡ Some name.now → result ≡ Some k }
+    {
+        match self.types.binary_search_by(|t| order(&t.name, name)) {
             Ok(place) => Some(place as u16),
             Err(_) => None,
         }
     }
 
-    /// The number of the method of this name that the type has.
-    pub fn find_method(&self, ty: u16, name: &[u8]) -> Option<u16> {
-        match self
-            .methods(ty)
-            .binary_search_by(|m| m.name.bytes().cmp(name))
-        {
+    /// The number of the method of this name that the type has: None exactly where it has none.
+    pub fn find_method(&self, ty: u16, name: &[u8]) -> Option<u16>
+        ensures found { IfSome result (λ k. slice_get (names_of_methods (type_of self.now ty).methods) k ≡ Some name.now) }
+        ensures all { (k : ℕ) → slice_get (names_of_methods (type_of self.now ty).methods) k ≡ Some name.now → result ≡ Some k }
+    {
+        match self.methods(ty).binary_search_by(|m| order(&m.name, name)) {
             Ok(place) => Some(place as u16),
             Err(_) => None,
         }
@@ -58,6 +64,7 @@ impl Defs {
     pub(crate) fn methods(&self, ty: u16) -> &[Method]
         ensures value { result.now ≡ (type_of self.now ty).methods }
         ensures few { length result.now ≤ 32 }
+        ensures rising { IsTrue (are_rising (names_of_methods result.now)) }
     {
         match self.types.get(ty as usize) {
             Some(t) => t.methods.as_slice(),
@@ -141,4 +148,11 @@ impl Defs {
             None => None,
         }
     }
+}
+
+// How a name stands to the one that is sought, in byte order.
+fn order(name: &ShortText, sought: &[u8]) -> Ordering
+    ensures { result ≡ slice_cmp nat_cmp name.now sought.now }
+{
+    name.bytes().cmp(sought)
 }

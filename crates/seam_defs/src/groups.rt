@@ -1,5 +1,5 @@
 // Groups of values: their start, a group of a group, and their text.
-ghost use Rattle.std.specs.Prelude.{◌≡◌, ◌++◌, OnOk, OnErr, IfOk, length, take};
+ghost use Rattle.std.specs.Prelude.{◌≡◌, ◌++◌, OnOk, OnErr, IfOk, List, [], ◌∷◌, length, take, drop};
 ghost use Rattle.std.specs.List.{flat_map, zip};
 ghost use Rattle.seam_defs.specs.Types.{type_of};
 ghost use Rattle.seam_defs.specs.Deeds.{properties_of, start_values, taken, property_text, values_text};
@@ -41,7 +41,8 @@ impl Defs {
         props: &Props,
         out: &mut Vec<u8>,
     ) -> Result<(), AllocError>
-        ensures { OnErr result (out.new.items ≡ out.old.items) }
+        ensures ok { OnOk result (out.new.items ≡ out.old.items ++ values_text (type_of self.now ty).properties group props.now) }
+        ensures err { OnErr result (out.new.items ≡ out.old.items) }
     {
         let mark = out.len();
         match push_group(self.alloc, self.properties(ty), group, props.values(), out) {
@@ -62,13 +63,34 @@ fn push_group(
     values: &[Value],
     out: &mut Vec<u8>,
 ) -> Result<(), AllocError>
-    ensures { take (length out.old.items) out.new.items ≡ out.old.items }
+    ensures ok { OnOk result (out.new.items ≡ out.old.items ++ values_text properties.now group values.now) }
+    ensures kept { take (length out.old.items) out.new.items ≡ out.old.items }
 {
-    let held = properties.iter().filter(|p| p.flag.in_group(group));
-    for (property, value) in held.zip(values) {
-        push_property(alloc, property, value, out)?;
+    let mut place = 0;
+    for property in properties {
+        if property.flag.in_group(group) {
+            push_at(alloc, property, values, place, out)?;
+            place += 1;
+        }
     }
     Ok(())
+}
+
+// Appends the text of a property with the value at a place, where there is one.
+fn push_at(
+    alloc: Global,
+    property: &Property,
+    values: &[Value],
+    place: usize,
+    out: &mut Vec<u8>,
+) -> Result<(), AllocError>
+    ensures ok { OnOk result (out.new.items ≡ out.old.items ++ flat_map property_text (zip (property.now ∷ []) (drop place values.now))) }
+    ensures kept { take (length out.old.items) out.new.items ≡ out.old.items }
+{
+    match values.get(place) {
+        Some(value) => push_property(alloc, property, value, out),
+        None => Ok(()),
+    }
 }
 
 fn push_property(

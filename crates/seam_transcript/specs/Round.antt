@@ -34,19 +34,19 @@ deed_text defs ty (Move p) = codes " move" ++ field p.x ++ field p.z
 deed_text defs ty (Method m args) = 32 ∷ (method_of defs ty m).name ++ flat_map (λ v. 32 ∷ text_of v) args
 
 -- `did` or `dob`, with the space behind it; the entity, the sender, the call's number, and what it did
-abbrev pub executed_line : List ℕ → Header → Created → Executed → List ℕ
-executed_line word h c x = word ++ decimal_of c.entity ++ 32 ∷ sender_text x.sender ++ field x.number ++ deed_text h.defs c.ty x.deed ++ 10 ∷ []
+abbrev pub executed_line : List ℕ → List TypeDef → (entity ty : ℕ) → Executed → List ℕ
+executed_line word defs entity ty x = word ++ decimal_of entity ++ 32 ∷ sender_text x.sender ++ field x.number ++ deed_text defs ty x.deed ++ 10 ∷ []
 
 -- the entity, its cell, its version, its position, and what its real holds
-abbrev pub home_line : Header → Created → ℕ → ℕ → State → List ℕ
-home_line h c cell version s =
-    codes "home " ++ decimal_of c.entity ++ field cell ++ field version ++ field s.pos.x ++ field s.pos.z
-    ++ values_text (type_of h.defs c.ty).properties group.Real s.props ++ 10 ∷ []
+abbrev pub home_line : List TypeDef → (entity ty cell version : ℕ) → State → List ℕ
+home_line defs entity ty cell version s =
+    codes "home " ++ decimal_of entity ++ field cell ++ field version ++ field s.pos.x ++ field s.pos.z
+    ++ values_text (type_of defs ty).properties group.Real s.props ++ 10 ∷ []
 
 -- the entity, its base part's version, and what the base part holds
-abbrev pub base_line : Header → Created → ℕ → State → List ℕ
-base_line h c version s =
-    codes "base " ++ decimal_of c.entity ++ field version ++ values_text (type_of h.defs c.ty).properties group.Base s.props ++ 10 ∷ []
+abbrev pub base_line : List TypeDef → (entity ty version : ℕ) → State → List ℕ
+base_line defs entity ty version s =
+    codes "base " ++ decimal_of entity ++ field version ++ values_text (type_of defs ty).properties group.Base s.props ++ 10 ∷ []
 
 -- ---- what a legal text is made of
 
@@ -63,16 +63,18 @@ pub record ListsLive (b : Book) (live : List Created) : Type 0 where
 
 -- the lines of the executed calls of a part: for each entity, in the order of execution
 abbrev pub executed_lines : List ℕ → Part → Header → RoundData → List ℕ
-executed_lines word p h r = flat_map (λ c. flat_map (executed_line word h c) (r.done p c.entity)) r.live
+executed_lines word p h r = flat_map (λ c. flat_map (executed_line word h.defs c.entity c.ty) (r.done p c.entity)) r.live
 
 -- the lines of the homes: each entity's state after all calls of its order
 abbrev pub home_lines : Header → Orders → RoundData → List ℕ
 home_lines h after r =
-    flat_map (λ c. let order = after part.Cell c.entity in home_line h c (r.home c.entity) (length order) (flat h part.Cell c order (length order))) r.live
+    flat_map (λ c. let order = after part.Cell c.entity in
+    home_line h.defs c.entity c.ty (r.home c.entity) (length order) (flat h part.Cell c order (length order))) r.live
 
 abbrev pub base_lines : Header → Orders → RoundData → List ℕ
 base_lines h after r =
-    flat_map (λ c. let order = after part.Base c.entity in base_line h c (length order) (flat h part.Base c order (length order))) r.live
+    flat_map (λ c. let order = after part.Base c.entity in
+    base_line h.defs c.entity c.ty (length order) (flat h part.Base c order (length order))) r.live
 
 -- The text is legal for round `number`, which begins after the orders `before` with the book `b` as it stands at the round's
 -- end, and leaves the orders `after`.

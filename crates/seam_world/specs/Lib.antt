@@ -1,1 +1,5 @@
 pub mod Status
+pub mod Said
+pub mod Table
+pub mod Script
+pub mod Text

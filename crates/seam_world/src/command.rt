@@ -1,143 +1,194 @@
 // What a line says, before it is judged by what is in the world.
-ghost use Rattle.std.specs.Prelude.{◌≡◌, ◌<◌, ◌≤◌, ◌^◌, length, All, IfSome};
-ghost use Rattle.seam_words.specs.Table.{IsInside};
+ghost use Rattle.std.specs.Prelude.{◌≡◌, ◌≢◌, ◌<◌, ◌≤◌, ◌^◌, ◌↔◌, ℕ, IsTrue, List, [], ◌∷◌, map, take, length, All, MatchOption};
+ghost use Rattle.seam_value.specs.Values.{decimal_of};
+ghost use Rattle.seam_words.specs.Words.{IsInside, bytes_of};
+ghost use Rattle.seam_transcript.specs.Language.{IsSkipped, IsWhole};
+ghost use Rattle.seam_world.specs.Said.{SaysWords, SaysLine, SaysCreate, SaysCall};
 
 use seam_geo::Pos;
+use seam_value::{Value, ValueType};
 use seam_words::{Words, WordsError, split_line};
+use std::alloc::Global;
 
-/// A sender of calls: the base node of this number, counted from 1.
-#[derive(Clone, Copy, Debug, PartialEq, Eq)]
-pub enum Sender {
-    Base(u8),
-}
-
-/// A line that is read as a command.
-pub enum Command<'a> {
+/// What a line says.
+pub enum Said<'a> {
+    /// It has no words, or is a comment.
+    Skipped,
+    BadWords(WordsError),
     Create {
         entity: u32,
         type_name: &'a [u8],
         pos: Pos,
     },
     Call {
-        sender: Sender,
+        sender_name: &'a [u8],
         entity: u32,
         method_name: &'a [u8],
-        arg: &'a [u8],
+        argument: &'a [u8],
     },
     Sync,
-    /// No words, or a comment.
-    Skipped,
-    BadWords(WordsError),
-    /// None of these.
-    Other,
+    /// Its words are those of no command.
+    Nothing,
 }
 
 /// Reads a line.
-pub fn read_command(line: &[u8]) -> Command<'_>
+pub fn read_line(alloc: Global, line: &[u8]) -> Said<'_>
     requires { length line.now ≤ 4096 }
+    ensures { SaysLine line.now result }
 {
     if is_skipped(line) {
-        return Command::Skipped;
+        return Said::Skipped;
     }
     match split_line(line) {
         Ok(words) => {
             let mut table: [&[u8]; 16] = [b""; 16];
-            read_words(fill(line, &words, &mut table))
+            let count = fill(line, &words, &mut table);
+            read_words(alloc, &table[..count])
         }
-        Err(error) => Command::BadWords(error),
+        Err(error) => Said::BadWords(error),
     }
 }
 
 // Whether the line has no other bytes than spaces and tabs, or begins with `#` behind them.
-fn is_skipped(line: &[u8]) -> bool {
-    match line.iter().find(|b| **b != b' ' && **b != b'\t') {
-        Some(first) => *first == b'#',
-        None => true,
+fn is_skipped(line: &[u8]) -> bool
+    ensures { IsTrue result ↔ IsSkipped line.now }
+{
+    for byte in line {
+        if *byte != b' ' && *byte != b'\t' {
+            return *byte == b'#';
+        }
     }
+    true
 }
 
-// The bytes of the words, in a table that has room for them.
-fn fill<'t, 'a>(line: &'a [u8], words: &Words, table: &'t mut [&'a [u8]; 16]) -> &'t [&'a [u8]]
+// Puts the bytes of the words into a table that has room for them, and answers how many there are.
+fn fill<'a>(line: &'a [u8], words: &Words, table: &mut [&'a [u8]; 16]) -> usize
     requires { All (IsInside (length line.now)) words.now }
+    ensures most { result ≤ 16 }
+    ensures len { length table.new ≡ 16 }
+    ensures texts { map (λ w. w.now) (take result table.new) ≡ map (bytes_of line.now) words.now }
 {
     let count = words.len();
     for i in 0..count {
-        if let Some(span) = words.get(i) {
-            table[i] = span.of(line);
-        }
+        let span = words.get(i).unwrap();
+        table[i] = span.of(line);
     }
-    &table[..count]
+    count
 }
 
-fn read_words<'a>(words: &[&'a [u8]]) -> Command<'a> {
+// What words say.
+fn read_words<'a>(alloc: Global, words: &[&'a [u8]]) -> Said<'a>
+    ensures { SaysWords (map (λ w. w.now) words.now) result }
+{
     match words {
-        [b"create", entity, type_name, x, z] => read_create(entity, type_name, x, z),
-        [b"call", sender, entity, method_name, arg] => read_call(sender, entity, method_name, arg),
-        [b"sync"] => Command::Sync,
-        _ => Command::Other,
+        [first] => read_one(first),
+        [first, second, third, fourth, fifth] => {
+            read_five(alloc, first, second, third, fourth, fifth)
+        }
+        _ => Said::Nothing,
     }
 }
 
-fn read_create<'a>(entity: &[u8], type_name: &'a [u8], x: &[u8], z: &[u8]) -> Command<'a> {
-    match (entity_number(entity), whole_number(x), whole_number(z)) {
-        (Some(entity), Some(x), Some(z)) => Command::Create {
-            entity,
-            type_name,
-            pos: Pos { x, z },
-        },
-        _ => Command::Other,
+// What one word says.
+fn read_one<'a>(word: &[u8]) -> Said<'a>
+    ensures { SaysWords (word.now ∷ []) result }
+{
+    if word == b"sync".as_slice() {
+        Said::Sync
+    } else {
+        Said::Nothing
     }
 }
 
+// What five words say.
+fn read_five<'a>(
+    alloc: Global,
+    first: &[u8],
+    second: &'a [u8],
+    third: &'a [u8],
+    fourth: &'a [u8],
+    fifth: &'a [u8],
+) -> Said<'a>
+    ensures { SaysWords (first.now ∷ second.now ∷ third.now ∷ fourth.now ∷ fifth.now ∷ []) result }
+{
+    if first == b"create".as_slice() {
+        read_create(alloc, second, third, fourth, fifth)
+    } else if first == b"call".as_slice() {
+        read_call(alloc, second, third, fourth, fifth)
+    } else {
+        Said::Nothing
+    }
+}
+
+// What the words behind `create` say.
+fn read_create<'a>(
+    alloc: Global,
+    entity: &[u8],
+    type_name: &'a [u8],
+    x: &[u8],
+    z: &[u8],
+) -> Said<'a>
+    ensures { SaysCreate entity.now type_name.now x.now z.now result }
+{
+    let Some(entity) = entity_number(alloc, entity) else {
+        return Said::Nothing;
+    };
+    let Some(x) = whole_number(alloc, x) else {
+        return Said::Nothing;
+    };
+    let Some(z) = whole_number(alloc, z) else {
+        return Said::Nothing;
+    };
+    Said::Create {
+        entity,
+        type_name,
+        pos: Pos { x, z },
+    }
+}
+
+// What the words behind `call` say.
 fn read_call<'a>(
-    sender: &[u8],
+    alloc: Global,
+    sender_name: &'a [u8],
     entity: &[u8],
     method_name: &'a [u8],
-    arg: &'a [u8],
-) -> Command<'a> {
-    match (sender_named(sender), entity_number(entity)) {
-        (Some(sender), Some(entity)) => Command::Call {
-            sender,
+    argument: &'a [u8],
+) -> Said<'a>
+    ensures { SaysCall sender_name.now entity.now method_name.now argument.now result }
+{
+    match entity_number(alloc, entity) {
+        Some(entity) => Said::Call {
+            sender_name,
             entity,
             method_name,
-            arg,
+            argument,
         },
-        _ => Command::Other,
+        None => Said::Nothing,
     }
 }
 
-// A base node's sender: `b` and its number, from 1.
-fn sender_named(word: &[u8]) -> Option<Sender> {
-    match word {
-        [b'b', number @ ..] => match whole_number(number) {
-            Some(number) if 1 <= number && number <= 8 => Some(Sender::Base(number as u8)),
-            _ => None,
-        },
-        _ => None,
-    }
-}
-
-// A whole number other than 0.
-fn entity_number(word: &[u8]) -> Option<u32>
-    ensures { IfSome result (λ n. 0 < n) }
+// A whole number from 1 on.
+fn entity_number(alloc: Global, word: &[u8]) -> Option<u32>
+    ensures { MatchOption result
+        ((n : ℕ) → 0 < n → IsWhole n → decimal_of n ≢ word.now)
+        (λ n. (0 < n) × IsWhole n × (decimal_of n ≡ word.now)) }
 {
-    match whole_number(word) {
-        Some(number) if number > 0 => Some(number),
-        _ => None,
+    match whole_number(alloc, word) {
+        Some(0) => None,
+        Some(number) => Some(number),
+        None => None,
     }
 }
 
-// A number in decimal, without a leading zero other than 0 itself, that a u32 holds.
-fn whole_number(word: &[u8]) -> Option<u32> {
-    let is_plain = match word {
-        [] | [b'0', _, ..] => false,
-        _ => word.iter().all(|b| b.is_ascii_digit()),
-    };
-    if !is_plain {
-        return None;
-    }
-    match std::str::from_utf8(word) {
-        Ok(digits) => digits.parse::<u32>().ok(),
+// A number in its one spelling that 32 bits hold. Numbers take no memory.
+pub fn whole_number(alloc: Global, word: &[u8]) -> Option<u32>
+    ensures { MatchOption result
+        ((n : ℕ) → IsWhole n → decimal_of n ≢ word.now)
+        (λ n. IsWhole n × (decimal_of n ≡ word.now)) }
+{
+    match Value::parse(alloc, word, ValueType::Uint32) {
+        Ok(Value::Number(number)) => Some(number as u32),
+        Ok(Value::Text(_)) => None,
         Err(_) => None,
     }
 }

@@ -3,6 +3,8 @@
 
 mod command;
 mod run;
+mod scratch;
+mod script;
 mod status;
 mod table;
 mod text;

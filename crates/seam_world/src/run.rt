@@ -5,109 +5,12 @@ ghost use Rattle.seam_io.specs.Reading.{budget};
 ghost use Rattle.seam_world.specs.Status.{IsHeaderEnd, IsPrintEnd, IsRunEnd};
 
 use crate::Status;
-use crate::command::{Command, read_command};
-use crate::table::{MOST_LINES, Table, Verdict};
-use crate::text::{push_refusal, push_round};
-use seam_defs::{Defs, Settings};
+use crate::script::Script;
 use seam_io::{Lines, Next, Sink, Source, write_whole};
 use std::alloc::{AllocError, Global};
 
 // The most bytes of input.
 const LIMIT: u64 = 1 << 40;
-
-/// What has been read of a script: the world, and the counts of its lines and rounds.
-#[derive(Drop)]
-struct Script {
-    alloc: Global,
-    table: Table,
-    // the number of the last line
-    line: u64,
-    // the number of the last round, and how many lines were accepted since
-    round: u64,
-    accepted: u32,
-}
-
-impl Script {
-    fn new(alloc: Global, table: Table) -> Self {
-        Script {
-            alloc,
-            table,
-            line: 1,
-            round: 0,
-            accepted: 0,
-        }
-    }
-
-    // Takes the next line, and appends what is printed for it.
-    fn take_line(&mut self, line: &[u8], out: &mut Vec<u8>) -> Result<(), AllocError>
-        requires { length line.now ≤ 4096 }
-    {
-        self.line = self.line.saturating_add(1);
-        match read_command(line) {
-            Command::Skipped => Ok(()),
-            Command::Sync => self.end_round(out),
-            Command::BadWords(error) => {
-                let digit = [b'w', b'o', b'r', b'd', b's', b' ', b'0' + error.number()];
-                push_refusal(out, self.line, &digit)
-            }
-            Command::Create {
-                entity,
-                type_name,
-                pos,
-            } => {
-                let verdict = self.table.create(entity, type_name, pos)?;
-                self.judged(verdict, out)
-            }
-            Command::Call {
-                sender,
-                entity,
-                method_name,
-                arg,
-            } => {
-                let verdict = self.table.call(sender, entity, method_name, arg)?;
-                self.judged(verdict, out)
-            }
-            Command::Other => self.judged(Verdict::Refused, out),
-        }
-    }
-
-    // Counts an accepted line, or prints that the line was refused.
-    fn judged(&mut self, verdict: Verdict, out: &mut Vec<u8>) -> Result<(), AllocError> {
-        match verdict {
-            Verdict::Kept => {
-                self.accepted = self.accepted.saturating_add(1);
-                if self.accepted >= MOST_LINES {
-                    return self.end_round(out);
-                }
-                Ok(())
-            }
-            Verdict::Refused => push_refusal(out, self.line, b"command"),
-        }
-    }
-
-    // Takes a line that is too long.
-    fn take_long(&mut self, out: &mut Vec<u8>) -> Result<(), AllocError> {
-        self.line = self.line.saturating_add(1);
-        push_refusal(out, self.line, b"long")
-    }
-
-    // Ends the open round, whose text is appended.
-    fn end_round(&mut self, out: &mut Vec<u8>) -> Result<(), AllocError> {
-        self.round = self.round.saturating_add(1);
-        push_round(self.alloc, out, self.round, &self.table)?;
-        self.table.start_round();
-        self.accepted = 0;
-        Ok(())
-    }
-
-    // Ends the input.
-    fn finish(&mut self, out: &mut Vec<u8>) -> Result<(), AllocError> {
-        if self.accepted == 0 {
-            return Ok(());
-        }
-        self.end_round(out)
-    }
-}
 
 /// Runs a script: reads a header and commands, and writes for each round what happened in it. With any words it only
 /// answers `Usage`. Every end but `Done` and `WriteFault` writes a fault line last; if that fails, the status stays.
@@ -148,12 +51,10 @@ fn run_body<S: Source, K: Sink>(alloc: Global, input: &mut S, out: &mut K) -> St
         None => {}
         Some(status) => return status,
     }
-    let defs = match Defs::builtin(alloc) {
-        Ok(defs) => defs,
+    let mut script = match Script::new(alloc) {
+        Ok(script) => script,
         Err(_) => return Status::NoMemory,
     };
-    let table = Table::new(alloc, defs, Settings::standard());
-    let mut script = Script::new(alloc, table);
     let mut text = Vec::new(alloc);
     run_lines(&mut lines, &mut script, &mut text, input, out)
 }

@@ -1,43 +1,34 @@
 // The flat table: one plain table of entities, without cells. It keeps what was accepted, and executes each call as it is
 // accepted.
-ghost use Rattle.std.specs.Prelude.{◌≡◌, ◌<◌, ◌≤◌, ◌^◌, ◌+◌, length, OnOk, IfOk};
+ghost use Rattle.std.specs.Prelude.{◌≡◌, ◌≢◌, ◌<◌, ◌≤◌, ◌^◌, ◌+◌, ◌++◌, ◌∷◌, [], ◌↔◌, ℕ, IsTrue, List, Some, None, length, OnOk, IfOk, MatchOption, slice_index};
+ghost use Rattle.seam_defs.specs.Groups.{held_by};
+ghost use Rattle.seam_defs.specs.Types.{type_of, method_of};
+ghost use Rattle.seam_value.specs.Values.{decimal_of};
+ghost use Rattle.seam_transcript.specs.Language.{Create, Call};
+ghost use Rattle.seam_transcript.specs.Book.{Header, Book, Created, empty_book, closed, sender_text, IsSender, IsBuilt};
+ghost use Rattle.seam_transcript.specs.Orders.{Orders, no_orders, of_sender};
+ghost use Rattle.seam_transcript.specs.FlatTable.{first_state};
+ghost use Rattle.seam_world.specs.Table.{PartStands, TableStands, Judged, next_executed, sequence};
 
-use crate::command::{Command, Sender};
-use seam_defs::{Args, Deed, Defs, Group, Part, Props, Settings, State};
+use crate::command::whole_number;
+use seam_defs::{Args, Deed, Defs, Part, Settings, State};
 use seam_geo::Pos;
+use seam_transcript::{Executed, Sender};
 use seam_value::{Value, ValueError, ValueType};
 use std::alloc::{AllocError, Global};
 use std::collections::BTreeMap;
 
-/// A round ends after so many accepted lines.
-pub const MOST_LINES: u32 = 65_536;
-
 /// So many entities may be created over a run.
-pub const MOST_ENTITIES: usize = 65_536;
+const MOST_ENTITIES: usize = 65_536;
 
-/// A call that was executed: its sender, its number among the sender's calls to this part, and what it did.
-#[derive(Drop)]
-pub struct Done {
-    pub sender: Sender,
-    pub number: u64,
-    pub deed: Deed,
-}
-
-/// The number of the last call that a sender made to a part.
-#[derive(Clone, Copy)]
-struct Last {
-    sender: Sender,
-    number: u64,
-}
-
-/// One part of an entity: its state, how many calls it executed, the last numbers of its senders, and the calls that it
-/// executed in the open round.
+/// One part of an entity: its state, how many calls it executed, the calls that it executed in the open round, and for each
+/// base node the number of its last call.
 #[derive(Drop)]
 pub struct PartState {
     pub state: State,
     pub version: u64,
-    pub done: Vec<Done>,
-    last: Vec<Last>,
+    pub done: Vec<Executed>,
+    last: [u64; 8],
 }
 
 /// An entity of this type.
@@ -48,7 +39,7 @@ pub struct Entity {
     pub base: PartState,
 }
 
-/// What became of a line.
+/// What became of a command.
 #[derive(Clone, Copy, Debug, PartialEq, Eq)]
 pub enum Verdict {
     Kept,
@@ -70,25 +61,11 @@ impl PartState {
             state,
             version: 0,
             done: Vec::new(alloc),
-            last: Vec::new(alloc),
+            last: [0; 8],
         }
     }
 
-    // The next number of a sender, which counts from 1.
-    fn next_number(&mut self, sender: Sender) -> Result<u64, AllocError> {
-        match self.last.iter_mut().find(|last| last.sender == sender) {
-            Some(last) => {
-                last.number = last.number.saturating_add(1);
-                Ok(last.number)
-            }
-            None => {
-                self.last.push(Last { sender, number: 1 })?;
-                Ok(1)
-            }
-        }
-    }
-
-    // Executes a call.
+    // Executes a call, which gets its sender's next number.
     fn execute(
         &mut self,
         defs: &Defs,
@@ -96,9 +73,9 @@ impl PartState {
         sender: Sender,
         deed: Deed,
     ) -> Result<(), AllocError> {
-        let number = self.next_number(sender)?;
+        let number = self.next_number(sender);
         let _changed = defs.apply(ty, &mut self.state, &deed)?;
-        self.done.push(Done {
+        self.done.push(Executed {
             sender,
             number,
             deed,
@@ -106,11 +83,24 @@ impl PartState {
         self.version = self.version.saturating_add(1);
         Ok(())
     }
+
+    // Counts one more call of a sender.
+    fn next_number(&mut self, sender: Sender) -> u64 {
+        match sender {
+            Sender::Base(node) => {
+                let last = &mut self.last[(node as usize).saturating_sub(1).min(7)];
+                *last = last.saturating_add(1);
+                *last
+            }
+        }
+    }
 }
 
 impl Table {
     /// A world without entities.
-    pub fn new(alloc: Global, defs: Defs, settings: Settings) -> Self {
+    pub fn new(alloc: Global, defs: Defs, settings: Settings) -> Self
+        ensures { TableStands (record { settings = settings; defs = defs }) empty_book no_orders result }
+    {
         Table {
             alloc,
             defs,
@@ -120,28 +110,25 @@ impl Table {
     }
 
     /// The definitions of its types.
-    pub fn defs(&self) -> &Defs {
+    pub fn defs(&self) -> &Defs
+        ensures { result.now ≡ self.now.defs }
+    {
         &self.defs
     }
 
     /// The entities, in rising number.
-    pub fn entities(&self) -> &BTreeMap<u32, Entity> {
+    pub fn entities(&self) -> &BTreeMap<u32, Entity>
+        ensures { result.now ≡ self.now.entities }
+    {
         &self.entities
     }
 
     /// Makes an entity, unless its number was used, its type is none, it stands outside the space, or there are too many.
-    pub fn create(
-        &mut self,
-        entity: u32,
-        type_name: &[u8],
-        pos: Pos,
-    ) -> Result<Verdict, AllocError> {
-        let size = self.settings.size;
-        if self.entities.contains_key(&entity)
-            || self.entities.len() >= MOST_ENTITIES
-            || pos.x >= size
-            || pos.z >= size
-        {
+    pub fn create(&mut self, entity: u32, type_name: &[u8], pos: Pos) -> Result<Verdict, AllocError>
+        ensures { IfOk result (λ v. (h : Header) (b : Book) (before : Orders) → TableStands h b before self.old
+            → Judged h b (Create entity type_name.now pos.x pos.z) before self.new v) }
+    {
+        if !self.has_room(entity, pos) {
             return Ok(Verdict::Refused);
         }
         match self.defs.find_type(type_name) {
@@ -152,6 +139,15 @@ impl Table {
             }
             _ => Ok(Verdict::Refused),
         }
+    }
+
+    // Whether an entity of this number may be made at the position.
+    fn has_room(&self, entity: u32, pos: Pos) -> bool {
+        let size = self.settings.size;
+        !self.entities.contains_key(&entity)
+            && self.entities.len() < MOST_ENTITIES
+            && pos.x < size
+            && pos.z < size
     }
 
     fn new_entity(&self, ty: u16, pos: Pos) -> Result<Entity, AllocError> {
@@ -169,37 +165,46 @@ impl Table {
         Ok(State { pos, props })
     }
 
-    // Whether calls of this method are built: cell methods of one number of 32 bits.
-    fn is_built(&self, ty: u16, method: u16) -> bool {
-        self.defs.part_of(ty, method) == Part::Cell
+    // Whether calls of this method are built.
+    fn is_built(&self, ty: u16, method: u16) -> bool
+        ensures { IsTrue result ↔ IsBuilt self.now.defs ty method }
+    {
+        self.defs.has_method(ty, method)
+            && self.defs.part_of(ty, method) == Part::Cell
             && self.defs.arg_type(ty, method, 0) == Some(ValueType::Int32)
             && self.defs.arg_type(ty, method, 1) == None
     }
 
     // Whether entities of the type take calls that are built.
-    fn takes_calls(&self, ty: u16) -> bool {
-        (0..32).any(|method| self.defs.has_method(ty, method) && self.is_built(ty, method))
+    fn takes_calls(&self, ty: u16) -> bool
+        ensures { IsTrue result ↔ ((m : ℕ) × IsBuilt self.now.defs ty m) }
+    {
+        (0..32).any(|method| self.is_built(ty, method))
     }
 
     /// Executes a call, unless there is no such sender, entity or method, or the argument is no spelling of a number of the
     /// method's type.
     pub fn call(
         &mut self,
-        sender: Sender,
+        sender_name: &[u8],
         entity: u32,
         method_name: &[u8],
-        arg: &[u8],
-    ) -> Result<Verdict, AllocError> {
-        if !self.has_sender(sender) {
+        argument: &[u8],
+    ) -> Result<Verdict, AllocError>
+        ensures { IfOk result (λ v. (h : Header) (b : Book) (before : Orders) → TableStands h b before self.old
+            → length b.calls < 2 ^ 61 → h.settings.bases ≤ 8
+            → Judged h b (Call sender_name.now entity method_name.now argument.now) before self.new v) }
+    {
+        let Some(sender) = sender_named(self.alloc, sender_name, self.settings.bases) else {
             return Ok(Verdict::Refused);
-        }
+        };
         let Some(ty) = self.type_of(entity) else {
             return Ok(Verdict::Refused);
         };
         let Some(method) = self.find_built(ty, method_name) else {
             return Ok(Verdict::Refused);
         };
-        match Value::parse(self.alloc, arg, ValueType::Int32) {
+        match Value::parse(self.alloc, argument, ValueType::Int32) {
             Ok(value) => {
                 let args = Args::of(vec![in self.alloc; value]?);
                 self.execute(entity, sender, Deed::Method(method, args))
@@ -209,16 +214,11 @@ impl Table {
         }
     }
 
-    fn has_sender(&self, sender: Sender) -> bool {
-        match sender {
-            Sender::Base(number) => u32::from(number) <= self.settings.bases,
-        }
-    }
-
     fn type_of(&self, entity: u32) -> Option<u16> {
         self.entities.get(&entity).map(|e| e.ty)
     }
 
+    // The method of this name, where calls of it are built.
     fn find_built(&self, ty: u16, method_name: &[u8]) -> Option<u16> {
         match self.defs.find_method(ty, method_name) {
             Some(method) if self.is_built(ty, method) => Some(method),
@@ -226,6 +226,7 @@ impl Table {
         }
     }
 
+    // Executes a call on the cell part of an entity.
     fn execute(&mut self, entity: u32, sender: Sender, deed: Deed) -> Result<Verdict, AllocError> {
         match self.entities.get_mut(&entity) {
             Some(e) => {
@@ -237,10 +238,30 @@ impl Table {
     }
 
     /// Begins a new round: no call was executed in it.
-    pub fn start_round(&mut self) {
+    pub fn start_round(&mut self)
+        ensures { (h : Header) (b : Book) (before : Orders) → TableStands h b before self.old
+            → TableStands h (closed b) (sequence b.calls) self.new }
+    {
         for (_, entity) in &mut self.entities {
             entity.cell.done.clear();
             entity.base.done.clear();
         }
+    }
+}
+
+// The sender of this name: `b`, and the number of a base node from 1 on.
+fn sender_named(alloc: Global, name: &[u8], bases: u32) -> Option<Sender>
+    ensures { MatchOption result
+        ((n : ℕ) → 1 ≤ n → n ≤ bases → bases ≤ 8 → 98 ∷ decimal_of n ≢ name.now)
+        (λ s. (h : Header) → h.settings.bases ≡ bases → bases ≤ 8 → IsSender h s × (sender_text s ≡ name.now)) }
+{
+    match name {
+        [b'b', number @ ..] => match whole_number(alloc, number) {
+            Some(number) if 1 <= number && number <= bases && number <= 8 => {
+                Some(Sender::Base(number as u8))
+            }
+            _ => None,
+        },
+        _ => None,
     }
 }

@@ -1,0 +1,33 @@
+-- Lists beside each other, and the text of one property more.
+use Rattle.std.proofs.Common.{◌≡◌, ℕ, ◌+◌, ◌<◌, refl, ap, sym, ◌∙◌, List, [], ◌∷◌, ◌++◌, length, drop, take, get_or, true, false, arith}
+use Rattle.std.specs.List.{zip, flat_map, filter}
+use Rattle.std.proofs.lemmas.List.{append-nil}
+use Rattle.std.proofs.lemmas.List.Concat.{flat_map-append}
+use Rattle.std.proofs.lemmas.List.Elements.{filter_more}
+use Rattle.seam_defs.specs.Groups.{in_group}
+use Rattle.seam_defs.specs.declared.flags.Group.{Group}
+use Rattle.seam_defs.specs.declared.types.Property.{Property}
+use Rattle.seam_value.specs.declared.values.Value.{Value}
+use Rattle.seam_defs.specs.Deeds.{properties_of, property_text, values_text}
+
+pub zip-append : {A B : Type 0} (xs ys : List A) (vs : List B) → zip (xs ++ ys) vs ≡ zip xs vs ++ zip ys (drop (length xs) vs)
+zip-append [] ys vs = refl
+zip-append (x ∷ xs) [] [] = refl
+zip-append (x ∷ xs) (y ∷ ys) [] = refl
+zip-append (x ∷ xs) ys (v ∷ vs) = ap (λ l. (x, v) ∷ l) (zip-append xs ys vs)
+
+module _ (ps : List Property) (g : Group) (i : ℕ) (p : Property) (within : i < length ps) (here : p ≡ get_or ps i p) where
+  -- a property of the group comes after those before it
+  pub properties-more : in_group p.flag g ≡ true → properties_of (take (i + 1) ps) g ≡ properties_of (take i ps) g ++ p ∷ []
+  properties-more held = rw (filter_more (λ q. in_group q.flag g) ps i p within, ← here, held) refl
+
+  -- one of another group changes nothing
+  pub properties-same : in_group p.flag g ≡ false → properties_of (take (i + 1) ps) g ≡ properties_of (take i ps) g
+  properties-same other = rw (filter_more (λ q. in_group q.flag g) ps i p within, ← here, other) (append-nil (properties_of (take i ps) g))
+
+  pub text-more : (vs : List Value) → in_group p.flag g ≡ true →
+    values_text (take (i + 1) ps) g vs ≡ values_text (take i ps) g vs ++ flat_map property_text (zip (p ∷ []) (drop (length (properties_of (take i ps) g)) vs))
+  text-more vs held = rw (properties-more held, zip-append (properties_of (take i ps) g) (p ∷ []) vs) (flat_map-append property_text (zip (properties_of (take i ps) g) vs) (zip (p ∷ []) (drop (length (properties_of (take i ps) g)) vs)))
+
+  pub text-same : (vs : List Value) → in_group p.flag g ≡ false → values_text (take (i + 1) ps) g vs ≡ values_text (take i ps) g vs
+  text-same vs other = ap (λ qs. flat_map property_text (zip qs vs)) (properties-same other)

@@ -1,0 +1,42 @@
+-- Words that are numbers.
+use Rattle.std.proofs.Common.{◌≡◌, ◌≢◌, ◌<◌, ◌^◌, ℕ, ℤ, pos, negsuc, List, refl, arith, sym, ◌∙◌, rules}
+use Rattle.std.proofs.lemmas.Int.{ints}
+use Rattle.seam_value.specs.Values.{Fits, text_of, decimal_of}
+use Rattle.seam_value.specs.Causes.{Refuses}
+use Rattle.seam_value.specs.declared.types.ValueType.TheVariants as type
+use Rattle.seam_value.specs.declared.values.Value.TheVariants.{Number}
+use Rattle.seam_value.specs.declared.values.ValueError.{ValueError}
+use Rattle.seam_value.specs.declared.values.ValueError.TheVariants.{NotNumber, OutOfRange, BadString, TooLong, NoMemory}
+use Rattle.seam_value.proofs.Answers.{refuses_none}
+use Rattle.seam_value.proofs.Decimals.{decimal_of-injective, number_text_is}
+use Rattle.std.specs.Fmt.{decimal}
+use mir.Syntax.{w128}
+use mir.Val.{SFits}
+use Rattle.seam_transcript.specs.Language.{IsWhole}
+
+-- a number that 32 bits hold fits the type of such numbers
+pub whole-fits : (n : ℕ) → IsWhole n → Fits (Number (pos n)) type.Uint32
+whole-fits n whole = ((λ e. cc), search rules, search rules)
+
+-- want of memory refuses no number
+no_memory_at_numbers : (bytes : List ℕ) (e : ValueError) → Refuses bytes type.Uint32 e → e ≢ NoMemory
+no_memory_at_numbers bytes NotNumber r = λ e. cc
+no_memory_at_numbers bytes OutOfRange r = λ e. cc
+no_memory_at_numbers bytes BadString r = λ e. cc
+no_memory_at_numbers bytes TooLong r = λ e. cc
+no_memory_at_numbers bytes NoMemory r = λ e. cc
+
+-- bytes that are refused as a number spell none that 32 bits hold
+pub refused-whole : (bytes : List ℕ) (e : ValueError) → Refuses bytes type.Uint32 e → (n : ℕ) → IsWhole n → decimal_of n ≢ bytes
+refused-whole bytes e refused n whole is =
+    no_memory_at_numbers bytes e refused (refuses_none bytes type.Uint32 (Number (pos n)) e (whole-fits n whole) is refused)
+
+-- what spells 0 spells no other number
+pub not_above_zero : (bytes : List ℕ) → decimal_of 0 ≡ bytes → (n : ℕ) → 0 < n → IsWhole n → decimal_of n ≢ bytes
+not_above_zero bytes zero_is n above whole is =
+    let same : n ≡ 0 = decimal_of-injective n 0 (is ∙ sym zero_is) in
+    absurd (omega arith)
+
+-- what is printed of a number of 64 bits is its decimal
+pub decimal_is : (n : ℕ) → n < 2 ^ 64 → decimal_of n ≡ decimal n
+decimal_is n small = number_text_is (pos n) (search (rules, small))

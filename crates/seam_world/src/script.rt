@@ -1,0 +1,123 @@
+// A script, line by line.
+ghost use Rattle.std.specs.Prelude.{◌≡◌, ◌<◌, ◌≤◌, ◌^◌, ◌+◌, ◌++◌, List, ℕ, length, OnOk, IfOk};
+ghost use Rattle.seam_io.specs.Lines.{Content, Long};
+ghost use Rattle.seam_transcript.specs.Book.{Header, Book, Accepts, empty_header};
+ghost use Rattle.seam_transcript.specs.Language.{Command};
+ghost use Rattle.seam_transcript.specs.Transcript.{Standing, start, counted, with_book, Step, EndsRound, EndsInput, TakesCommand, IsRefused};
+ghost use Rattle.seam_world.specs.Table.{TableStands, Judged};
+ghost use Rattle.seam_world.specs.Script.{ScriptStands, TakesPiece};
+
+use crate::command::{Said, read_line};
+use crate::table::{Table, Verdict};
+use crate::text::{push_refusal, push_round};
+use seam_defs::{Defs, Settings};
+use std::alloc::{AllocError, Global};
+
+/// A round ends after so many accepted lines.
+const MOST_LINES: u32 = 65_536;
+
+/// How far a script was taken: the world, and the counts of its lines and rounds.
+#[derive(Drop)]
+pub struct Script {
+    alloc: Global,
+    table: Table,
+    // the number of the last line
+    line: u64,
+    // the number of the last round that ended, and how many lines were accepted since
+    round: u64,
+    accepted: u32,
+}
+
+impl Script {
+    /// A script whose header, of one line, was empty.
+    pub fn new(alloc: Global) -> Result<Self, AllocError>
+        ensures { IfOk result (ScriptStands empty_header start) }
+    {
+        let defs = Defs::builtin(alloc)?;
+        Ok(Script {
+            alloc,
+            table: Table::new(alloc, defs, Settings::standard()),
+            line: 1,
+            round: 0,
+            accepted: 0,
+        })
+    }
+
+    /// Takes the next line, and appends what is printed for it.
+    pub fn take_line(&mut self, line: &[u8], out: &mut Vec<u8>) -> Result<(), AllocError>
+        requires { length line.now ≤ 4096 }
+        ensures { OnOk result ((t : Standing) → ScriptStands empty_header t self.old → t.lines < 2 ^ 61
+            → (piece : List ℕ) × TakesPiece empty_header t (Content line.now) self.new piece × (out.new.items ≡ out.old.items ++ piece)) }
+    {
+        self.line = self.line.saturating_add(1);
+        match read_line(self.alloc, line) {
+            Said::Skipped => Ok(()),
+            Said::Sync => self.end_round(out),
+            Said::BadWords(error) => {
+                let cause = [b'w', b'o', b'r', b'd', b's', b' ', b'0' + error.number()];
+                push_refusal(out, self.line, &cause)
+            }
+            Said::Create {
+                entity,
+                type_name,
+                pos,
+            } => {
+                let verdict = self.table.create(entity, type_name, pos)?;
+                self.judged(verdict, out)
+            }
+            Said::Call {
+                sender_name,
+                entity,
+                method_name,
+                argument,
+            } => {
+                let verdict = self.table.call(sender_name, entity, method_name, argument)?;
+                self.judged(verdict, out)
+            }
+            Said::Nothing => push_refusal(out, self.line, b"command"),
+        }
+    }
+
+    // Counts an accepted command, or prints that it was refused.
+    fn judged(&mut self, verdict: Verdict, out: &mut Vec<u8>) -> Result<(), AllocError> {
+        match verdict {
+            Verdict::Kept => {
+                self.accepted = self.accepted.saturating_add(1);
+                if self.accepted == MOST_LINES {
+                    return self.end_round(out);
+                }
+                Ok(())
+            }
+            Verdict::Refused => push_refusal(out, self.line, b"command"),
+        }
+    }
+
+    /// Takes a line that is too long.
+    pub fn take_long(&mut self, out: &mut Vec<u8>) -> Result<(), AllocError>
+        ensures { OnOk result ((t : Standing) → ScriptStands empty_header t self.old → t.lines < 2 ^ 61
+            → (piece : List ℕ) × TakesPiece empty_header t Long self.new piece × (out.new.items ≡ out.old.items ++ piece)) }
+    {
+        self.line = self.line.saturating_add(1);
+        push_refusal(out, self.line, b"long")
+    }
+
+    // Ends the open round, whose text is appended.
+    fn end_round(&mut self, out: &mut Vec<u8>) -> Result<(), AllocError> {
+        self.round = self.round.saturating_add(1);
+        push_round(self.alloc, out, self.round, &self.table)?;
+        self.table.start_round();
+        self.accepted = 0;
+        Ok(())
+    }
+
+    /// Ends the input, and appends the text of a last round, if there is one.
+    pub fn finish(&mut self, out: &mut Vec<u8>) -> Result<(), AllocError>
+        ensures { OnOk result ((t : Standing) → ScriptStands empty_header t self.old → t.lines < 2 ^ 61
+            → (piece : List ℕ) × EndsInput empty_header t piece × (out.new.items ≡ out.old.items ++ piece)) }
+    {
+        if self.accepted == 0 {
+            return Ok(());
+        }
+        self.end_round(out)
+    }
+}
