@@ -1,4 +1,3 @@
 pub mod NumberWords
 pub mod Skips
 pub mod WordTables
-pub mod Sequences

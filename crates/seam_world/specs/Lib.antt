@@ -1,5 +1,3 @@
 pub mod Status
 pub mod Said
-pub mod Table
-pub mod Script
 pub mod Text

@@ -1,11 +1,5 @@
 // A script, line by line.
-ghost use Rattle.std.specs.Prelude.{◌≡◌, ◌<◌, ◌≤◌, ◌^◌, ◌+◌, ◌++◌, List, ℕ, length, OnOk, IfOk};
-ghost use Rattle.seam_io.specs.Lines.{Content, Long};
-ghost use Rattle.seam_transcript.specs.Book.{Header, Book, Accepts, empty_header};
-ghost use Rattle.seam_transcript.specs.Language.{Command};
-ghost use Rattle.seam_transcript.specs.Transcript.{Standing, start, counted, with_book, Step, EndsRound, EndsInput, TakesCommand, IsRefused};
-ghost use Rattle.seam_world.specs.Table.{TableStands, Judged};
-ghost use Rattle.seam_world.specs.Script.{ScriptStands, TakesPiece};
+ghost use Rattle.std.specs.Prelude.{◌≤◌, length};
 
 use crate::command::{Said, read_line};
 use crate::table::{Table, Verdict};
@@ -30,9 +24,7 @@ pub struct Script {
 
 impl Script {
     /// A script whose header, of one line, was empty.
-    pub fn new(alloc: Global) -> Result<Self, AllocError>
-        ensures { IfOk result (ScriptStands empty_header start) }
-    {
+    pub fn new(alloc: Global) -> Result<Self, AllocError> {
         let defs = Defs::builtin(alloc)?;
         Ok(Script {
             alloc,
@@ -46,8 +38,6 @@ impl Script {
     /// Takes the next line, and appends what is printed for it.
     pub fn take_line(&mut self, line: &[u8], out: &mut Vec<u8>) -> Result<(), AllocError>
         requires { length line.now ≤ 4096 }
-        ensures { OnOk result ((t : Standing) → ScriptStands empty_header t self.old → t.lines < 2 ^ 61
-            → (piece : List ℕ) × TakesPiece empty_header t (Content line.now) self.new piece × (out.new.items ≡ out.old.items ++ piece)) }
     {
         self.line = self.line.saturating_add(1);
         match read_line(self.alloc, line) {
@@ -93,10 +83,7 @@ impl Script {
     }
 
     /// Takes a line that is too long.
-    pub fn take_long(&mut self, out: &mut Vec<u8>) -> Result<(), AllocError>
-        ensures { OnOk result ((t : Standing) → ScriptStands empty_header t self.old → t.lines < 2 ^ 61
-            → (piece : List ℕ) × TakesPiece empty_header t Long self.new piece × (out.new.items ≡ out.old.items ++ piece)) }
-    {
+    pub fn take_long(&mut self, out: &mut Vec<u8>) -> Result<(), AllocError> {
         self.line = self.line.saturating_add(1);
         push_refusal(out, self.line, b"long")
     }
@@ -111,10 +98,7 @@ impl Script {
     }
 
     /// Ends the input, and appends the text of a last round, if there is one.
-    pub fn finish(&mut self, out: &mut Vec<u8>) -> Result<(), AllocError>
-        ensures { OnOk result ((t : Standing) → ScriptStands empty_header t self.old → t.lines < 2 ^ 61
-            → (piece : List ℕ) × EndsInput empty_header t piece × (out.new.items ≡ out.old.items ++ piece)) }
-    {
+    pub fn finish(&mut self, out: &mut Vec<u8>) -> Result<(), AllocError> {
         if self.accepted == 0 {
             return Ok(());
         }

@@ -1,14 +1,6 @@
 // The flat table: one plain table of entities, without cells. It keeps what was accepted, and executes each call as it is
 // accepted.
-ghost use Rattle.std.specs.Prelude.{◌≡◌, ◌≢◌, ◌<◌, ◌≤◌, ◌^◌, ◌+◌, ◌++◌, ◌∷◌, [], ◌↔◌, ℕ, IsTrue, List, Some, None, length, OnOk, IfOk, MatchOption, slice_index};
-ghost use Rattle.seam_defs.specs.Groups.{held_by};
-ghost use Rattle.seam_defs.specs.Types.{type_of, method_of};
-ghost use Rattle.seam_value.specs.Values.{decimal_of};
-ghost use Rattle.seam_transcript.specs.Language.{Create, Call};
-ghost use Rattle.seam_transcript.specs.Book.{Header, Book, Created, empty_book, closed, sender_text, IsSender, IsBuilt};
-ghost use Rattle.seam_transcript.specs.Orders.{Orders, no_orders, of_sender};
-ghost use Rattle.seam_transcript.specs.FlatTable.{first_state};
-ghost use Rattle.seam_world.specs.Table.{PartStands, TableStands, Judged, next_executed, sequence};
+ghost use Rattle.std.specs.Prelude.{◌≡◌};
 
 use crate::command::whole_number;
 use seam_defs::{Args, Deed, Defs, Part, Settings, State};
@@ -98,9 +90,7 @@ impl PartState {
 
 impl Table {
     /// A world without entities.
-    pub fn new(alloc: Global, defs: Defs, settings: Settings) -> Self
-        ensures { TableStands (record { settings = settings; defs = defs }) empty_book no_orders result }
-    {
+    pub fn new(alloc: Global, defs: Defs, settings: Settings) -> Self {
         Table {
             alloc,
             defs,
@@ -124,10 +114,12 @@ impl Table {
     }
 
     /// Makes an entity, unless its number was used, its type is none, it stands outside the space, or there are too many.
-    pub fn create(&mut self, entity: u32, type_name: &[u8], pos: Pos) -> Result<Verdict, AllocError>
-        ensures { IfOk result (λ v. (h : Header) (b : Book) (before : Orders) → TableStands h b before self.old
-            → Judged h b (Create entity type_name.now pos.x pos.z) before self.new v) }
-    {
+    pub fn create(
+        &mut self,
+        entity: u32,
+        type_name: &[u8],
+        pos: Pos,
+    ) -> Result<Verdict, AllocError> {
         if !self.has_room(entity, pos) {
             return Ok(Verdict::Refused);
         }
@@ -166,9 +158,7 @@ impl Table {
     }
 
     // Whether calls of this method are built.
-    fn is_built(&self, ty: u16, method: u16) -> bool
-        ensures { IsTrue result ↔ IsBuilt self.now.defs ty method }
-    {
+    fn is_built(&self, ty: u16, method: u16) -> bool {
         self.defs.has_method(ty, method)
             && self.defs.part_of(ty, method) == Part::Cell
             && self.defs.arg_type(ty, method, 0) == Some(ValueType::Int32)
@@ -176,9 +166,7 @@ impl Table {
     }
 
     // Whether entities of the type take calls that are built.
-    fn takes_calls(&self, ty: u16) -> bool
-        ensures { IsTrue result ↔ ((m : ℕ) × IsBuilt self.now.defs ty m) }
-    {
+    fn takes_calls(&self, ty: u16) -> bool {
         (0..32).any(|method| self.is_built(ty, method))
     }
 
@@ -190,11 +178,7 @@ impl Table {
         entity: u32,
         method_name: &[u8],
         argument: &[u8],
-    ) -> Result<Verdict, AllocError>
-        ensures { IfOk result (λ v. (h : Header) (b : Book) (before : Orders) → TableStands h b before self.old
-            → length b.calls < 2 ^ 61 → h.settings.bases ≤ 8
-            → Judged h b (Call sender_name.now entity method_name.now argument.now) before self.new v) }
-    {
+    ) -> Result<Verdict, AllocError> {
         let Some(sender) = sender_named(self.alloc, sender_name, self.settings.bases) else {
             return Ok(Verdict::Refused);
         };
@@ -238,10 +222,7 @@ impl Table {
     }
 
     /// Begins a new round: no call was executed in it.
-    pub fn start_round(&mut self)
-        ensures { (h : Header) (b : Book) (before : Orders) → TableStands h b before self.old
-            → TableStands h (closed b) (sequence b.calls) self.new }
-    {
+    pub fn start_round(&mut self) {
         for (_, entity) in &mut self.entities {
             entity.cell.done.clear();
             entity.base.done.clear();
@@ -250,11 +231,7 @@ impl Table {
 }
 
 // The sender of this name: `b`, and the number of a base node from 1 on.
-fn sender_named(alloc: Global, name: &[u8], bases: u32) -> Option<Sender>
-    ensures { MatchOption result
-        ((n : ℕ) → 1 ≤ n → n ≤ bases → bases ≤ 8 → 98 ∷ decimal_of n ≢ name.now)
-        (λ s. (h : Header) → h.settings.bases ≡ bases → bases ≤ 8 → IsSender h s × (sender_text s ≡ name.now)) }
-{
+fn sender_named(alloc: Global, name: &[u8], bases: u32) -> Option<Sender> {
     match name {
         [b'b', number @ ..] => match whole_number(alloc, number) {
             Some(number) if 1 <= number && number <= bases && number <= 8 => {
