@@ -1,8 +1,8 @@
 -- A binary search by name, among names in strictly rising order, finds exactly the place of the name.
-use Rattle.std.proofs.Common.{◌≡◌, ℕ, ◌+◌, ◌<◌, ◌≤◌, refl, sym, ap, ◌∙◌, List, [], ◌∷◌, length, map, get_or, Bool, true, false, ◌&&◌, zero, suc, Option, Some, None, Result, Ok, Err, IfOk, IfErr, ◌⊎◌, inl, inr, arith}
+use Rattle.std.proofs.Common.{◌≡◌, ℕ, ◌+◌, ◌<◌, refl, ap, List, [], ◌∷◌, length, map, get_or, Bool, true, false, ◌&&◌, zero, suc, Some, Result, Ok, Err, IfOk, inl, inr, arith}
 use Rattle.std.specs.List.{list_all, slice_get}
 use Rattle.std.specs.List.Sorted.{IsSearchInRange, IsBinarySearchResult, IsSortedBy}
-use Rattle.std.specs.Ordering.{nat_cmp, is_lt, is_eq, is_gt, ordering_reverse}
+use Rattle.std.specs.Ordering.{nat_cmp, is_lt, ordering_reverse}
 use Rattle.std.specs.declared.cmp.Ordering.{Ordering}
 use Rattle.std.specs.declared.cmp.Ordering.TheVariants.{Less, Equal, Greater}
 use Rattle.std.specs.Cmp.{tied_itself}
@@ -11,14 +11,13 @@ use Rattle.std.proofs.lemmas.Bool.{cases_lt, cases_order}
 use Rattle.std.proofs.lemmas.Cmp.{nat_list_cmp_total}
 use Rattle.std.proofs.lemmas.Map.Lookups.{exact_bytes}
 use Rattle.std.proofs.lemmas.List.Sorted.{searchable_from_sorted}
-use Rattle.std.proofs.lemmas.Grind.{common_steps}
 use Rattle.seam_defs.specs.Types.{is_name, is_before, are_rising}
 
-and-left : (a b : Bool) → (a && b) ≡ true → a ≡ true
+pub and-left : (a b : Bool) → (a && b) ≡ true → a ≡ true
 and-left true b h = refl
 and-left false b h = cc
 
-and-right : (a b : Bool) → (a && b) ≡ true → b ≡ true
+pub and-right : (a b : Bool) → (a && b) ≡ true → b ≡ true
 and-right true b h = h
 and-right false b h = cc
 
@@ -35,7 +34,7 @@ not-less-back a b h = turned (slice_cmp nat_cmp a b) (slice_cmp nat_cmp b a) (na
 not-before-itself : (n : List ℕ) → is_before n n ≡ true → ⊥
 not-before-itself n h = let level = ap is_lt (tied_itself nat_list_cmp_total n) in cc
 
-item : {X : Type 0} (xs : List X) (k : ℕ) → k < length xs → X
+pub item : {X : Type 0} (xs : List X) (k : ℕ) → k < length xs → X
 item [] k within = absurd (omega arith)
 item (x ∷ xs) k within = x
 
