@@ -1,0 +1,6 @@
+pub mod Views
+pub mod Sends
+pub mod Nets
+pub mod Weights
+pub mod Events
+pub mod Inside
