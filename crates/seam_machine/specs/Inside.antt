@@ -3,7 +3,7 @@ use Rattle.std.specs.Prelude.{◌≡◌, ℕ, ◌+◌, ◌<◌, ◌≤◌, Bool,
 use Rattle.std.specs.List.{All}
 use Rattle.seam_machine.specs.Views.{Stepped, NetView}
 use Rattle.seam_machine.specs.Sends.{AllBelow}
-use Rattle.seam_machine.specs.Nets.{link, letter, input_from, row_less, rows_after_taking, send_all, IsSquare}
+use Rattle.seam_machine.specs.Nets.{link, letter, input_from, row_less, rows_after_taking, put_all, send_all, IsSquare}
 use Rattle.seam_machine.specs.Weights.{total}
 use Rattle.seam_machine.specs.declared.machines.Input.{Input}
 
@@ -25,13 +25,18 @@ filled (x ∷ xs) = 1
 abbrev pub filled_to : {M : Type 0} → ℕ → List (List (List M)) → ℕ
 filled_to b rows = total (λ r. filled (slice_index_or r b [])) rows
 
--- the counts grew as links of one row were filled, and fell as they were emptied
-abbrev pub Counts : {M : Type 0} → List ℕ → List (List M) → List ℕ → List (List M) → Type 0
-Counts busy row busy' row' = (b : ℕ) → slice_index_or busy' b 0 + filled (slice_index_or row b []) ≡ slice_index_or busy b 0 + filled (slice_index_or row' b [])
-
 -- each count is at most 254 without the link of this row
 abbrev pub CountsFit : {M : Type 0} → List ℕ → List (List M) → Type 0
 CountsFit busy row = (b : ℕ) → slice_index_or busy b 0 ≤ 254 + filled (slice_index_or row b [])
+
+-- the first of the items went to the ends of their links, and the counts grew as links were filled
+pub record Delivers {M : Type 0} (row : List (List M)) (items : List (ℕ × M)) (busy : List ℕ) (row' : List (List M)) (items' : List (ℕ × M)) (busy' : List ℕ) : Type 0 where
+  pub moved : put_all row' items' ≡ put_all row items
+  pub wide : length row' ≡ length row
+  pub busy_len : length busy' ≡ length busy
+  pub targets : AllBelow (length row) items'
+  pub counts : (b : ℕ) → slice_index_or busy' b 0 + filled (slice_index_or row b []) ≡ slice_index_or busy b 0 + filled (slice_index_or row' b [])
+  pub fits : CountsFit busy' row'
 
 -- at most 255 nodes, a link for each pair, a count of filled links for each node, and what waits goes from a node to nodes
 pub record IsLinks {M : Type 0} (rows : List (List (List M))) (busy : List ℕ) (sender : ℕ) (out : List (ℕ × M)) : Type 0 where
@@ -41,6 +46,12 @@ pub record IsLinks {M : Type 0} (rows : List (List (List M))) (busy : List ℕ) 
   pub busy_is : (b : ℕ) → b < length rows → slice_index_or busy b 0 ≡ filled_to b rows
   pub targets : AllBelow (length rows) out
   pub sender_in : 0 < length rows → sender < length rows
+
+-- the first of the items, which goes to node `to`, stands at the end of its link
+pub record PutsFirst {M : Type 0} (to : ℕ) (row : List (List M)) (items : List (ℕ × M)) (row' : List (List M)) (items' : List (ℕ × M)) : Type 0 where
+  pub item : M
+  pub items_are : items ≡ (to, item) ∷ items'
+  pub row_is : row' ≡ slice_set row to (slice_index_or row to [] ++ item ∷ [])
 
 -- the node took the first item of its link, and sent what its step sends
 pub record Serves {N M : Type 0} (steps : N → Input M → Stepped N M) (from to : ℕ) (row : List (List M)) (s : N) (out : List (ℕ × M)) (row' : List (List M)) (s' : N) (out' : List (ℕ × M)) : Type 0 where

@@ -4,3 +4,4 @@ pub mod Nets
 pub mod Weights
 pub mod Events
 pub mod Inside
+pub mod Orders

@@ -6,8 +6,12 @@
 //! node's order, tied by messages.
 #![tactic(auto)]
 
+mod links;
 mod machines;
+mod nets;
+mod rows;
 mod sends;
 
 pub use machines::{Event, Input, Machine, NoMemoryFor};
+pub use nets::{Net, NetParts};
 pub use sends::Out;
