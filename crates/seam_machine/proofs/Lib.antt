@@ -1,4 +1,5 @@
 pub mod Counting
+pub mod Flats
 pub mod LinkLemmas
 pub mod Occurring
 pub mod Puts

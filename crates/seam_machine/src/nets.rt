@@ -1,9 +1,9 @@
 //! Nets: nodes, and a link for each ordered pair of them.
 
-ghost use Rattle.std.specs.Prelude.{◌≡◌, ◌≢◌, ℕ, ◌+◌, ◌*◌, ◌<◌, ◌≤◌, [], ◌∷◌, ◌↔◌, length, true, false, Option, Some, None, IsTrue, OnOk, OnErr, IfOk, IfSome, IfNone, option_copied, replicate, slice_get, slice_index_or, vec_len};
+ghost use Rattle.std.specs.Prelude.{◌≡◌, ◌≢◌, ℕ, ◌+◌, ◌*◌, ◌<◌, ◌≤◌, [], ◌∷◌, ◌↔◌, length, true, false, Option, Some, None, IsTrue, OnOk, OnErr, IfOk, IfSome, IfNone, map, option_copied, replicate, slice_get, slice_index_or, vec_len};
 ghost use Rattle.std.specs.List.{All};
 ghost use Rattle.seam_machine.specs.Views.{NetView, PartsView};
-ghost use Rattle.seam_machine.specs.Nets.{link, enabled, happens, with_node, IsQuiet, IsSquare, ArePeers, AreParts};
+ghost use Rattle.seam_machine.specs.Nets.{link, flat, enabled, happens, with_node, IsQuiet, IsSquare, ArePeers, AreParts};
 ghost use Rattle.seam_machine.specs.Orders.{IsBefore};
 ghost use Rattle.seam_machine.specs.Inside.{IsNet};
 
@@ -11,6 +11,7 @@ use crate::links::Links;
 use crate::machines::{Event, Machine};
 use crate::rows::Row;
 use std::alloc::{AllocError, Global};
+use std::collections::VecDeque;
 use std::marker::Model;
 
 /// The nodes and the links of a net; with n nodes, the link from a to b stands at place `a * n + b`.
@@ -60,6 +61,32 @@ fn empty_rows<T: Drop>(alloc: Global, n: usize) -> Result<Vec<Row<T>>, AllocErro
     Ok(rows)
 }
 
+// The links of the rows, row after row.
+fn flattened<T: Drop>(alloc: Global, rows: Vec<Row<T>>) -> Result<Vec<Vec<T>>, AllocError>
+    ensures { IfOk result (λ v. map (λ v. v.items) v.items ≡ flat rows.items) }
+{
+    let mut links = Vec::new(alloc);
+    for row in rows {
+        row.pour(&mut links)?;
+    }
+    Ok(links)
+}
+
+// n rows of n links, in their order.
+fn in_rows<T: Drop>(alloc: Global, n: usize, links: Vec<Vec<T>>) -> Result<Vec<Row<T>>, AllocError>
+    requires { length links.items ≡ n * n }
+    ensures rows { IfOk result (λ v. flat v.items ≡ map (λ v. v.items) links.items) }
+    ensures count { IfOk result (λ v. length v.items ≡ n) }
+    ensures wide { IfOk result (λ v. All (λ r. length r ≡ n) v.items) }
+{
+    let mut rest = VecDeque::from_vec(links);
+    let mut rows = Vec::new(alloc);
+    for _i in 0..n {
+        rows.push(Row::of_next(alloc, n, &mut rest)?)?;
+    }
+    Ok(rows)
+}
+
 impl<M: Machine> Net<M> {
     /// A net with empty links.
     pub fn new(alloc: Global, nodes: Vec<M>) -> Result<Net<M>, AllocError>
@@ -67,6 +94,28 @@ impl<M: Machine> Net<M> {
         ensures { IfOk result (λ w. w ≡ record { nodes = nodes.items; rows = replicate (length nodes.items) (replicate (length nodes.items) []) }) }
     {
         let rows = empty_rows(alloc, nodes.len())?;
+        let links = Links::of_rows(alloc, rows)?;
+        Ok(Net { nodes, links })
+    }
+
+    /// The nodes and the links of the net.
+    pub fn apart(mut self, alloc: Global) -> Result<NetParts<M>, AllocError>
+        ensures { IfOk result (λ p. AreParts p self) }
+    {
+        self.links.settle()?;
+        let Net { nodes, links } = self;
+        let links = flattened(alloc, links.into_rows())?;
+        Ok(NetParts { nodes, links })
+    }
+
+    /// The net of these nodes and links.
+    pub fn of_parts(alloc: Global, parts: NetParts<M>) -> Result<Net<M>, AllocError>
+        requires few { length parts.nodes < 256 }
+        requires links { length parts.links ≡ length parts.nodes * length parts.nodes }
+        ensures { IfOk result (λ w. AreParts parts w) }
+    {
+        let NetParts { nodes, links } = parts;
+        let rows = in_rows(alloc, nodes.len(), links)?;
         let links = Links::of_rows(alloc, rows)?;
         Ok(Net { nodes, links })
     }

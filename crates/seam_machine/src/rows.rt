@@ -36,6 +36,38 @@ impl<T: Drop> Row<T> {
         }
         Ok(Row { links })
     }
+
+    /// The next n of the links.
+    pub fn of_next(
+        alloc: Global,
+        n: usize,
+        rest: &mut VecDeque<Vec<T>>,
+    ) -> Result<Row<T>, AllocError>
+        requires { n ≤ length rest.old.items }
+        ensures taken { IfOk result (λ r. r ++ map (λ v. v.items) rest.new.items ≡ map (λ v. v.items) rest.old.items) }
+        ensures wide { IfOk result (λ r. length r ≡ n) }
+        ensures left { OnOk result (length rest.new.items + n ≡ length rest.old.items) }
+    {
+        let mut links = Vec::new(alloc);
+        for _i in 0..n {
+            let Some(link) = rest.pop_front() else {
+                unreachable!()
+            };
+            links.push(VecDeque::from_vec(link))?;
+        }
+        Ok(Row { links })
+    }
+
+    /// Puts the links, in their order, after the others.
+    pub fn pour(self, others: &mut Vec<Vec<T>>) -> Result<(), AllocError>
+        ensures { OnOk result (map (λ v. v.items) others.new.items ≡ map (λ v. v.items) others.old.items ++ self) }
+    {
+        let Row { links } = self;
+        for link in links {
+            others.push(link.into_vec())?;
+        }
+        Ok(())
+    }
 }
 
 impl<T> Row<T> {
