@@ -1,14 +1,12 @@
 -- How many links to each node hold something, as items are put and taken.
-use Rattle.std.proofs.Common.{◌≡◌, ◌≢◌, ℕ, zero, suc, ◌+◌, ◌-◌, ◌<◌, ◌≤◌, ◌⊎◌, List, [], ◌∷◌, ◌++◌, length, get_or, set, take, drop, refl, sym, ap, ◌∙◌, subst, arith, inl, inr}
-use Rattle.std.specs.List.{All}
+use Rattle.std.proofs.Common.{◌≡◌, ℕ, ◌+◌, ◌-◌, ◌<◌, ◌≤◌, List, [], ◌∷◌, ◌++◌, length, get_or, set, take, refl, sym, ap, ◌∙◌, arith, inl, inr}
 use Rattle.std.proofs.lemmas.Bool.{cases_eq}
-use Rattle.std.proofs.lemmas.List.{length-set, get_or-set_same, get_or-set_other, get_or_past, length-append}
+use Rattle.std.proofs.lemmas.List.{length-set, get_or-set_same, get_or-set_other}
 use Rattle.std.proofs.lemmas.List.Elements.{All-rest}
 use Rattle.seam_machine.specs.Sends.{AllBelow}
 use Rattle.seam_machine.specs.Nets.{put_all}
-use Rattle.seam_machine.specs.Weights.{total}
-use Rattle.seam_machine.specs.Inside.{filled, filled_to, CountsFit, Delivers, PutsFirst, IsLinks}
-use Rattle.seam_machine.proofs.Totals.{total-set, total-take, total-le-others}
+use Rattle.seam_machine.specs.Inside.{filled, filled_to, CountsFit, Delivers, PutsFirst}
+use Rattle.seam_machine.proofs.Totals.{total-take}
 
 pub filled_one : {X : Type 0} (xs : List X) → filled xs ≤ 1
 filled_one [] = omega arith
@@ -41,12 +39,12 @@ module _ {M : Type 0} (to : ℕ) (row row' : List (List M)) (m : M) (busy busy' 
 
   pub count_put : (b : ℕ) → get_or busy' b 0 + filled (get_or row b []) ≡ get_or busy b 0 + filled (get_or row' b [])
   count_put b = elim (cases_eq b to) [
-      inl e ↦ rw e count_here
+    | inl e ↦ rw e count_here
     | inr ne ↦
         let one = ap (λ r. get_or r b 0) busy_is ∙ get_or-set_other busy to b (get_or busy to 0 + (1 - length (get_or row to []))) 0 ne in
         let two = ap (λ r. filled (get_or r b [])) row_is ∙ ap filled (get_or-set_other row to b (get_or row to [] ++ m ∷ []) [] ne) in
         omega (arith, one, two)
-    ]
+  ]
 
 -- one more item was delivered
 pub delivers_more : {M : Type 0} (row0 row row' : List (List M)) (out0 out out' : List (ℕ × M)) (busy0 busy busy' : List ℕ) (to : ℕ) → length busy0 ≡ length row0 → to < length row → Delivers row0 out0 busy0 row out busy → PutsFirst to row out row' out' → busy' ≡ set busy to (get_or busy to 0 + (1 - length (get_or row to []))) → Delivers row0 out0 busy0 row' out' busy'

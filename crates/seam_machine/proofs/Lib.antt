@@ -1,9 +1,16 @@
+pub mod Bridge
 pub mod Counting
 pub mod Flats
+pub mod Keeping
 pub mod LinkLemmas
 pub mod Occurring
+pub mod Parts
 pub mod Puts
+pub mod Quiet
 pub mod RowLemmas
+pub mod Runs
 pub mod SendLemmas
+pub mod Soundness
 pub mod Totals
+pub mod Weighing
 pub mod Writes

@@ -1,14 +1,13 @@
 -- The links with what waits for room in them.
-use Rattle.std.proofs.Common.{◌≡◌, ◌≢◌, ℕ, zero, suc, ◌+◌, ◌-◌, ◌<◌, ◌≤◌, ◌⊎◌, Bool, true, false, cond, eqb, List, [], ◌∷◌, ◌++◌, length, Option, None, Some, get_or, set, drop, refl, sym, ap, ◌∙◌, subst, arith, inl, inr}
+use Rattle.std.proofs.Common.{◌≡◌, ◌≢◌, ℕ, zero, suc, ◌+◌, ◌-◌, ◌<◌, ◌≤◌, Bool, true, false, cond, eqb, List, [], ◌∷◌, ◌++◌, length, None, get_or, set, drop, refl, sym, ap, ◌∙◌, subst, arith, inl, inr}
 use Rattle.std.specs.Prelude.{slice_get}
 use Rattle.std.specs.List.{All}
 use Rattle.std.proofs.lemmas.Bool.{cases_eq, cases_lt}
-use Rattle.std.proofs.lemmas.List.{length-set, set-set, set-get_or, get_or_read, get_or-set_same, get_or-set_other, get_or_past, length-append, append-nil, length-drop}
+use Rattle.std.proofs.lemmas.List.{length-set, set-set, set-get_or, get_or_read, get_or-set_same, get_or-set_other, get_or_past, length-append, append-nil}
 use Rattle.std.proofs.lemmas.List.Elements.{All-set, All-head, All-nil}
 use Rattle.std.proofs.lemmas.Option.{slice_get_past}
 use Rattle.seam_machine.specs.Sends.{items_to, AllBelow}
-use Rattle.seam_machine.specs.Nets.{link, put_all, send_all, row_less, rows_less, rows_after_taking, letter}
-use Rattle.seam_machine.specs.Weights.{total}
+use Rattle.seam_machine.specs.Nets.{link, put_all, send_all, row_less, rows_less}
 use Rattle.seam_machine.specs.Events.{link_added}
 use Rattle.seam_machine.specs.Inside.{is_empty, filled, filled_to, CountsFit, Delivers, IsLinks}
 use Rattle.seam_machine.proofs.Totals.{total-set, total-le-others, get_or-le-total}
@@ -70,9 +69,9 @@ module _ {M : Type 0} where
 
     pub shows_first : (i : ℕ) → i < length (get_or row b []) → slice_get (get_or row b []) i ≡ slice_get (link (send_all rows sender out) a b) i
     shows_first i h = elim (cases_eq a sender) [
-        inl e ↦ sym (ap (λ l. slice_get l i) (link_own e) ∙ slice_get-append_left (get_or row b []) (items_to b out) i h)
+      | inl e ↦ sym (ap (λ l. slice_get l i) (link_own e) ∙ slice_get-append_left (get_or row b []) (items_to b out) i h)
       | inr n ↦ sym (ap (λ l. slice_get l i) (link_other n))
-      ]
+    ]
 
     pub shows_own : (i k : ℕ) → a ≡ sender → i ≡ length (get_or row b []) + k → slice_get (items_to b out) k ≡ slice_get (link (send_all rows sender out) a b) i
     shows_own i k e h = sym (ap (λ l. slice_get l i) (link_own e) ∙ slice_get-append_right (get_or row b []) (items_to b out) i k h)
@@ -113,8 +112,8 @@ module _ {M : Type 0} where
       let n = q.busy_len in
       let others = total-le-others (λ r. filled (get_or r b [])) rows a [] (λ r. filled_one (get_or r b [])) lt in
       elim (cases_lt b (length rows)) [
-        inl in' ↦ let is = q.busy_is b in' in omega (arith, is, others, few)
-      | inr past ↦ let z : get_or busy b 0 ≡ 0 = get_or_past busy b 0 (omega (arith, past, n)) in omega (arith, z)
+        | inl in' ↦ let is = q.busy_is b in' in omega (arith, is, others, few)
+        | inr past ↦ let z : get_or busy b 0 ≡ 0 = get_or_past busy b 0 (omega (arith, past, n)) in omega (arith, z)
       ]
 
   module _ (rows : List (List (List M))) (busy busy' : List ℕ) (sender : ℕ) (out out' : List (ℕ × M)) (q : IsLinks rows busy sender out) (a : ℕ) (row' : List (List M)) (lt : a < length rows) (wide : length row' ≡ length rows) (len : length busy' ≡ length busy) (counts : (b : ℕ) → get_or busy' b 0 + filled (get_or (get_or rows a []) b []) ≡ get_or busy b 0 + filled (get_or row' b [])) (targets : AllBelow (length rows) out') where
@@ -127,10 +126,10 @@ module _ {M : Type 0} where
           square = (let P : ℕ → Type 0 = λ m. All (λ r. length r ≡ m) (set rows a row') in subst P (sym n) (All-set (λ r. length r ≡ length rows) rows a row' wide q.square));
           busy_len = omega (arith, n, len, q.busy_len);
           busy_is = λ b h.
-            let one = total-set (λ r. filled (get_or r b [])) rows a row' [] lt in
-            let two = counts b in
-            let three = q.busy_is b (omega (arith, h, n)) in
-            omega (arith, one, two, three);
+              let one = total-set (λ r. filled (get_or r b [])) rows a row' [] lt in
+              let two = counts b in
+              let three = q.busy_is b (omega (arith, h, n)) in
+              omega (arith, one, two, three);
           targets = rw n targets;
           sender_in = λ _. omega (arith, n, within);
         }
@@ -174,7 +173,7 @@ module _ {M : Type 0} where
 
     count_less : (row' : List (List M)) (busy' : List ℕ) (left : ℕ) → row' ≡ row_less row b → left ≡ length (get_or row' b []) → busy' ≡ set busy b (get_or busy b 0 - (1 - left)) → (k : ℕ) → get_or busy' k 0 + filled (get_or (get_or rows a []) k []) ≡ get_or busy k 0 + filled (get_or row' k [])
     count_less row' busy' left less l c k = elim (cases_eq k b) [
-        inl e ↦
+      | inl e ↦
           let within : b < length row = omega (arith, serves_in.1, ap length at, q.square a [] serves_in.0) in
           let some = counted_some in
           let one = filled-length (get_or row b []) in
@@ -187,7 +186,7 @@ module _ {M : Type 0} where
           let two = ap (λ r. filled (get_or r k [])) less ∙ ap filled (get_or-set_other row b k (drop 1 (get_or row b [])) [] n) in
           let old = ap (λ r. filled (get_or r k [])) (sym at) in
           omega (arith, one, two, old)
-      ]
+    ]
 
     pub links_served : (row' : List (List M)) (busy' : List ℕ) (left : ℕ) (out' : List (ℕ × M)) → row' ≡ row_less row b → left ≡ length (get_or row' b []) → busy' ≡ set busy b (get_or busy b 0 - (1 - left)) → AllBelow (length rows) out' → IsLinks (set rows a row') busy' b out'
     links_served row' busy' left out' less l c t =

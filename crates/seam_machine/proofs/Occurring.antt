@@ -1,15 +1,14 @@
 -- What an enabled event is, what it does, and the shape that it keeps.
-use Rattle.std.proofs.Common.{◌≡◌, ℕ, zero, suc, ◌+◌, ◌<◌, ◌≤◌, Bool, true, false, List, [], ◌∷◌, ◌++◌, length, Option, None, Some, get_or, set, drop, refl, sym, ap, ◌∙◌, subst, arith}
+use Rattle.std.proofs.Common.{◌≡◌, ℕ, ◌<◌, Bool, true, List, [], ◌∷◌, length, Option, None, Some, get_or, set, drop, refl, sym, ap, ◌∙◌, subst, arith}
 use Rattle.std.specs.Prelude.{slice_get}
 use Rattle.std.specs.List.{All}
 use Rattle.std.proofs.lemmas.List.{length-set}
-use Rattle.std.proofs.lemmas.Option.{slice_get_within, slice_get-get_or, get_or_from_slice_get}
+use Rattle.std.proofs.lemmas.Option.{slice_get_within}
 use Rattle.seam_machine.specs.Views.{Stepped, NetView}
-use Rattle.seam_machine.specs.Nets.{link, put_all, send_all, row_less, rows_less, letter, input_from, rows_after_taking, stepped_net, happens_by, happens, is_ready, enabled, IsSquare, ArePeers}
+use Rattle.seam_machine.specs.Nets.{link, put_all, row_less, letter, input_from, rows_after_taking, stepped_net, happens, is_ready, enabled, IsSquare}
 use Rattle.seam_machine.specs.Events.{Occurs}
 use Rattle.seam_machine.specs.Inside.{Feeds, IsNet}
 use Rattle.seam_machine.specs.declared.machines.Input.{Input}
-use Rattle.seam_machine.specs.declared.machines.Input.TheVariants.{Task, From}
 use Rattle.seam_machine.specs.declared.machines.Event.{Event}
 use Rattle.seam_machine.proofs.Puts.{length-put_all}
 use Rattle.seam_machine.proofs.Writes.{All-set_kept}

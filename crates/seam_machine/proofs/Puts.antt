@@ -1,12 +1,11 @@
 -- The links after items were put at their ends, and after the first item of one was taken.
-use Rattle.std.proofs.Common.{◌≡◌, ℕ, zero, suc, ◌+◌, ◌<◌, ◌≤◌, Bool, true, false, cond, eqb, ◌&&◌, List, [], ◌∷◌, ◌++◌, length, Option, None, Some, get_or, set, drop, refl, sym, ap, ◌∙◌, arith, append_assoc}
-use Rattle.std.specs.List.{All}
+use Rattle.std.proofs.Common.{◌≡◌, ℕ, zero, suc, ◌<◌, Bool, true, false, cond, eqb, ◌&&◌, List, [], ◌∷◌, ◌++◌, length, Some, get_or, set, drop, refl, sym, ap, ◌∙◌, arith, append_assoc}
 use Rattle.std.proofs.lemmas.List.{length-set, append-nil}
 use Rattle.std.proofs.lemmas.List.Elements.{All-head, All-tail}
 use Rattle.std.proofs.lemmas.Bool.Decides.{nat_tests}
 use Rattle.seam_machine.specs.Sends.{items_to, AllBelow}
-use Rattle.seam_machine.specs.Nets.{link, put_all, send_all, row_less, rows_less, rows_after_taking, letter}
-use Rattle.seam_machine.specs.Events.{is_from, link_left, link_added}
+use Rattle.seam_machine.specs.Nets.{link, put_all, send_all, row_less, rows_less}
+use Rattle.seam_machine.specs.Events.{link_left, link_added}
 use Rattle.seam_machine.proofs.Writes.{Written, here, other, written}
 
 pub equal_is : (a b : ℕ) → a ≡ b → eqb a b ≡ true

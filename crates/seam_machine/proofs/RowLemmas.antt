@@ -1,9 +1,8 @@
 -- Queues in a vector, seen as a list of lists.
-use Rattle.std.proofs.Common.{◌≡◌, ℕ, zero, suc, ◌+◌, ◌<◌, ◌≤◌, List, [], ◌∷◌, ◌++◌, length, Option, None, Some, get_or, set, drop, map, refl, sym, ap, ◌∙◌, subst, arith}
-use Rattle.std.proofs.lemmas.List.{map-set, length-set, length-map}
+use Rattle.std.proofs.Common.{◌≡◌, ℕ, zero, suc, ◌<◌, ◌≤◌, List, [], ◌∷◌, ◌++◌, length, Some, get_or, set, drop, map, refl, sym, ap, ◌∙◌, arith}
+use Rattle.std.proofs.lemmas.List.{map-set, length-map}
 use Rattle.std.proofs.Math.Seq.{map-set_same}
-use Rattle.seam_machine.specs.declared.machines.Input.{Input}
-use Rattle.seam_machine.specs.declared.machines.Input.TheVariants.{Task, From}
+use Rattle.seam_machine.specs.declared.machines.Input.TheVariants.{From}
 use Rattle.seam_machine.specs.Sends.{first_target}
 use Rattle.seam_machine.specs.Nets.{row_less, letter}
 use Rattle.seam_machine.specs.Inside.{PutsFirst}
@@ -32,10 +31,10 @@ target_is to to' m ps items t e = let h : first_target ((to', m) ∷ ps) ≡ Som
 -- the first of the items moves to the end of its queue
 pub puts_first : {Q M : Type 0} (qs : List Q) (f : Q → List M) (row : List (List M)) (to to' : ℕ) (m : M) (q d : Q) (ps items : List (ℕ × M)) → map f qs ≡ row → first_target items ≡ Some to → items ≡ (to', m) ∷ ps → to < length qs → f q ≡ f d ++ m ∷ [] → d ≡ get_or qs to d → PutsFirst to row items (map f (set qs to q)) ps
 puts_first qs f row to to' m q d ps items v t e lt push h = record {
-    item = m;
-    items_are = e ∙ ap (λ k. (k, m) ∷ ps) (target_is to to' m ps items t e);
-    row_is = map-set f qs to q ∙ (ap (λ l. set (map f qs) to l) (push ∙ ap (λ l. l ++ m ∷ []) (sym (link_read qs f row to d v lt h))) ∙ ap (λ r. set r to (get_or row to [] ++ m ∷ [])) v);
-  }
+  item = m;
+  items_are = e ∙ ap (λ k. (k, m) ∷ ps) (target_is to to' m ps items t e);
+  row_is = map-set f qs to q ∙ (ap (λ l. set (map f qs) to l) (push ∙ ap (λ l. l ++ m ∷ []) (sym (link_read qs f row to d v lt h))) ∙ ap (λ r. set r to (get_or row to [] ++ m ∷ [])) v);
+}
 
 -- the first item of a queue leaves
 pub take_first : {Q M : Type 0} (qs : List Q) (f : Q → List M) (i : ℕ) (q d : Q) → i < length qs → f q ≡ drop 1 (f d) → d ≡ get_or qs i d → map f (set qs i q) ≡ row_less (map f qs) i

@@ -1,5 +1,5 @@
 -- What stands in a list after one place was written.
-use Rattle.std.proofs.Common.{◌≡◌, ℕ, zero, suc, ◌+◌, ◌<◌, ◌≤◌, ◌⊎◌, List, [], ◌∷◌, ◌++◌, length, Option, None, Some, get_or, set, refl, sym, ap, ◌∙◌, arith, inl, inr}
+use Rattle.std.proofs.Common.{◌≡◌, ℕ, zero, suc, ◌+◌, ◌<◌, ◌≤◌, ◌⊎◌, List, [], ◌∷◌, ◌++◌, length, Some, get_or, set, refl, ap, arith, inl, inr}
 use Rattle.std.specs.Prelude.{slice_get}
 use Rattle.std.specs.List.{All}
 use Rattle.std.proofs.lemmas.Bool.{cases_eq}
@@ -16,9 +16,9 @@ written (x ∷ xs) zero v d zero = here refl (omega arith) refl
 written (x ∷ xs) zero v d (suc j) = other (λ e. absurd (omega (arith, e))) refl
 written (x ∷ xs) (suc i) v d zero = other (λ e. absurd (omega (arith, e))) refl
 written (x ∷ xs) (suc i) v d (suc j) = elim (written xs i v d j) [
-    here e lt g ↦ here (ap suc e) (omega (arith, lt)) g
+  | here e lt g ↦ here (ap suc e) (omega (arith, lt)) g
   | other n g ↦ other (λ e. let h = n (omega (arith, e)) in omega (arith, h)) g
-  ]
+]
 
 -- the element at each place, after one was replaced
 pub slice_get-set : {X : Type 0} (xs : List X) (k : ℕ) (y : X) (j : ℕ) → k < length xs → ((j ≡ k) × (slice_get (set xs k y) j ≡ Some y)) ⊎ ((j ≡ k → ⊥) × (slice_get (set xs k y) j ≡ slice_get xs j))
@@ -39,8 +39,8 @@ pub All-set_kept : {X : Type 0} (P : X → Type 0) (xs : List X) (i : ℕ) (y : 
 All-set_kept P xs i y f h j d lt =
     let short : j < length xs = omega (arith, length-set xs i y) in
     elim (cases_eq j i) [
-      inl e ↦ let here : i < length xs = omega arith in rw e (rw get_or-set_same (f here))
-    | inr ne ↦ rw get_or-set_other (h j d short)
+      | inl e ↦ let here : i < length xs = omega arith in rw e (rw get_or-set_same (f here))
+      | inr ne ↦ rw get_or-set_other (h j d short)
     ]
 
 -- an element of two lists one after the other

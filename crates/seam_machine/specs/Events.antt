@@ -1,7 +1,7 @@
 -- What an enabled event meets, and what is true of each node and of each link.
 use Rattle.std.specs.Prelude.{◌≡◌, ℕ, ◌==◌, ◌&&◌, Bool, false, List, [], ◌∷◌, ◌++◌, Option, None, Some, slice_get, drop, if◌then◌else◌}
 use Rattle.std.specs.List.{AllByRecursion}
-use Rattle.seam_machine.specs.Views.{Stepped, NetView}
+use Rattle.seam_machine.specs.Views.{NetView}
 use Rattle.seam_machine.specs.Nets.{link, input_from}
 use Rattle.seam_machine.specs.Sends.{items_to}
 use Rattle.seam_machine.specs.declared.machines.Input.{Input}

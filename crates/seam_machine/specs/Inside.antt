@@ -3,7 +3,7 @@ use Rattle.std.specs.Prelude.{◌≡◌, ℕ, ◌+◌, ◌<◌, ◌≤◌, Bool,
 use Rattle.std.specs.List.{All}
 use Rattle.seam_machine.specs.Views.{Stepped, NetView}
 use Rattle.seam_machine.specs.Sends.{AllBelow}
-use Rattle.seam_machine.specs.Nets.{link, letter, input_from, row_less, rows_after_taking, put_all, send_all, IsSquare}
+use Rattle.seam_machine.specs.Nets.{letter, input_from, row_less, rows_after_taking, put_all, send_all, IsSquare}
 use Rattle.seam_machine.specs.Weights.{total}
 use Rattle.seam_machine.specs.declared.machines.Input.{Input}
 

@@ -1,7 +1,9 @@
 pub mod Views
 pub mod Sends
+pub mod Sound
 pub mod Nets
 pub mod Weights
 pub mod Events
+pub mod Flows
 pub mod Inside
 pub mod Orders

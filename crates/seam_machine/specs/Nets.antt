@@ -1,5 +1,5 @@
 -- Nets of machines: an event, when it is enabled, what it does, a run of events, and a quiet net.
-use Rattle.std.specs.Prelude.{◌≡◌, ℕ, ◌+◌, ◌<◌, Bool, true, false, List, [], ◌∷◌, ◌++◌, length, Option, None, Some, slice_get, slice_index_or, slice_set, drop}
+use Rattle.std.specs.Prelude.{◌≡◌, ℕ, Bool, true, false, List, [], ◌∷◌, ◌++◌, length, Option, None, Some, slice_get, slice_index_or, slice_set, drop}
 use Rattle.std.specs.List.{All}
 use Rattle.seam_machine.specs.Views.{Stepped, NetView, PartsView}
 use Rattle.seam_machine.specs.declared.machines.Input.{Input}

@@ -1,5 +1,5 @@
 -- Numbers that are given to nodes and to messages, and their sum over a net.
-use Rattle.std.specs.Prelude.{ℕ, zero, suc, ◌+◌, ◌≤◌, Bool, List, [], ◌∷◌, if◌then◌else◌}
+use Rattle.std.specs.Prelude.{ℕ, ◌+◌, ◌≤◌, Bool, List, [], ◌∷◌, if◌then◌else◌}
 use Rattle.seam_machine.specs.Views.{Stepped, NetView}
 use Rattle.seam_machine.specs.Nets.{happens}
 use Rattle.seam_machine.specs.declared.machines.Input.{Input}

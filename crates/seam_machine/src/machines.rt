@@ -75,6 +75,8 @@ pub trait Machine: Drop {
 
     // A step sends to nodes of the net alone, keeps the number of peers, and what is true of every state.
     ghost targets: { (s : Self) (i : Input Self.Msg) → valid s → AllBelow (peer_count s) (steps s i).sent };
+
     ghost keeps_peers: { (s : Self) (i : Input Self.Msg) → valid s → peer_count (steps s i).state ≡ peer_count s };
+
     ghost stays_valid: { (s : Self) (i : Input Self.Msg) → valid s → valid (steps s i).state };
 }

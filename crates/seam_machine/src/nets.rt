@@ -121,8 +121,8 @@ impl<M: Machine> Net<M> {
     }
 
     /// How many nodes there are. Each pair of them has a link.
-    pub fn len(&self) -> usize
-        ensures len { result ≡ length self.now.nodes }
+    pub fn node_count(&self) -> usize
+        ensures count { result ≡ length self.now.nodes }
         ensures few { result < 256 }
         ensures square { IsSquare self.now }
     {

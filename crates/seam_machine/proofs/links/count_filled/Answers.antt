@@ -1,4 +1,4 @@
-use Rattle.std.proofs.Common.{◌≡◌, ◌<◌, ◌≤◌, ℕ, length, take, ap, ◌∙◌, sym, arith}
+use Rattle.std.proofs.Common.{◌<◌, length, arith}
 use Rattle.seam_machine.proofs.Counting.{filled_more}
 use Rattle.seam_machine.proofs.links.count_filled.Goals as goal
 use Rattle.seam_machine.proofs.links.count_filled.Goals.{then-len-gt0, else-len-gt0}
@@ -11,6 +11,6 @@ loop-i-preserved g c =
     let len = c.len.ensures.len in
     let so_far = c.loop-i.invariant.so_far in
     elim c.if-len-gt0.branch [
-      then-len-gt0 w ↦ record { so_far = omega (arith, more, len, so_far, w.n-is, w.if-len-gt0); few = omega (arith, w.n-is) }
-    | else-len-gt0 w ↦ record { so_far = omega (arith, more, len, so_far, w.n-is, w.if-len-gt0); few = omega (arith, w.n-is) }
+      | then-len-gt0 w ↦ record { so_far = omega (arith, more, len, so_far, w.n-is, w.if-len-gt0); few = omega (arith, w.n-is) }
+      | else-len-gt0 w ↦ record { so_far = omega (arith, more, len, so_far, w.n-is, w.if-len-gt0); few = omega (arith, w.n-is) }
     ]

@@ -1,4 +1,4 @@
-use Rattle.std.proofs.Common.{set, get_or, ◌+◌, ◌-◌, ◌≡◌, ◌<◌, ◌≤◌, ℕ, length, ap, ◌∙◌, sym, arith}
+use Rattle.std.proofs.Common.{set, get_or, ◌+◌, ◌-◌, ◌<◌, length, ap, ◌∙◌, sym, arith}
 use Rattle.seam_machine.proofs.Counting.{delivers_more}
 use Rattle.seam_machine.proofs.SendLemmas.{target_fits}
 use Rattle.seam_machine.proofs.links.deliver.Goals as goal

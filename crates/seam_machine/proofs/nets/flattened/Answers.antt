@@ -1,5 +1,4 @@
-use Rattle.std.proofs.Common.{◌≡◌, ◌++◌, ◌∷◌, ◌∙◌, [], ap, sym, map}
-use Rattle.seam_machine.specs.Nets.{flat}
+use Rattle.std.proofs.Common.{◌++◌, ◌∙◌, ap, sym}
 use Rattle.seam_machine.proofs.Flats.{flat-push}
 use Rattle.seam_machine.proofs.nets.flattened.Goals as goal
 

@@ -1,4 +1,4 @@
-use Rattle.std.proofs.Common.{◌≡◌, ◌<◌, ◌≤◌, ◌+◌, ◌-◌, ◌∙◌, ap, length, arith}
+use Rattle.std.proofs.Common.{◌<◌, ◌-◌, ◌∙◌, ap, length, arith}
 use Rattle.std.specs.Prelude.{slice_get}
 use Rattle.seam_machine.specs.Nets.{link}
 use Rattle.seam_machine.proofs.LinkLemmas.{shows_first, shows_own, shows_none}

@@ -1,8 +1,5 @@
-use Rattle.std.proofs.Common.{◌≡◌, ◌<◌, ◌++◌, ◌∙◌, ◌-◌, sym, ap, length, get_or, set, arith, ℕ, [], subst, Some}
-use Rattle.std.proofs.lemmas.List.{get_or_read}
-use Rattle.seam_machine.specs.Sends.{AllBelow}
-use Rattle.seam_machine.specs.Nets.{link, letter, send_all, row_less}
-use Rattle.seam_machine.specs.Inside.{Feeds}
+use Rattle.std.proofs.Common.{◌≡◌, ◌<◌, ◌∙◌, sym, ap, length, get_or, arith, []}
+use Rattle.seam_machine.specs.Nets.{link, letter}
 use Rattle.seam_machine.proofs.LinkLemmas.{empty_is, clear_rows, counted_some, links_served, below_none, below_peers, read_row, served_rows}
 use Rattle.seam_machine.proofs.links.Links.serve.Goals as goal
 use Rattle.seam_machine.proofs.links.Links.serve.Goals.{After-index_mut-row}

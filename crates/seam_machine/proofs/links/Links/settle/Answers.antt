@@ -1,7 +1,6 @@
-use Rattle.std.proofs.Common.{◌≡◌, ◌<◌, ◌≤◌, ◌+◌, ◌∙◌, sym, ap, length, get_or, arith, ℕ, [], subst, rules, false}
+use Rattle.std.proofs.Common.{◌≡◌, ◌<◌, ◌∙◌, sym, ap, length, get_or, arith, [], subst}
 use Rattle.std.proofs.lemmas.List.{get_or_read}
-use Rattle.seam_machine.specs.Nets.{link}
-use Rattle.seam_machine.specs.Inside.{CountsFit, is_empty}
+use Rattle.seam_machine.specs.Inside.{CountsFit}
 use Rattle.seam_machine.proofs.LinkLemmas.{sender_within, counts_fit, links_delivered, delivering}
 use Rattle.seam_machine.proofs.links.Links.settle.Goals as goal
 use Rattle.seam_machine.proofs.links.Links.settle.Goals.{Else-is_empty, After-index_mut-row}

@@ -1,6 +1,6 @@
-use Rattle.std.proofs.Common.{◌≡◌, ◌<◌, ◌∙◌, ap, length, arith}
+use Rattle.std.proofs.Common.{◌<◌, ◌∙◌, ap, length, arith}
 use Rattle.seam_machine.specs.Nets.{link}
-use Rattle.seam_machine.proofs.LinkLemmas.{waits_own, waits_other}
+use Rattle.seam_machine.proofs.LinkLemmas.{waits_own}
 use Rattle.seam_machine.proofs.links.Links.waiting.Goals as goal
 
 pub returns-then-from-self : goal.returns-then-from-self

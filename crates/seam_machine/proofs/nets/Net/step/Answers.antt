@@ -1,8 +1,7 @@
-use Rattle.std.proofs.Common.{◌≡◌, ◌<◌, ◌∙◌, refl, sym, ap, length, arith, ℕ, subst, Some, None, Option, true}
+use Rattle.std.proofs.Common.{◌≡◌, ◌<◌, ◌∙◌, refl, sym, ap, length, arith, subst, Some, None}
 use Rattle.std.specs.Prelude.{slice_get}
 use Rattle.std.proofs.lemmas.Option.{slice_get_read}
-use Rattle.seam_machine.specs.Views.{NetView}
-use Rattle.seam_machine.specs.Nets.{link, enabled, ArePeers}
+use Rattle.seam_machine.specs.Nets.{ArePeers}
 use Rattle.seam_machine.specs.Inside.{IsNet}
 use Rattle.seam_machine.proofs.Occurring.{occurs, node_within, enabled_works, fed_happens, net_fed}
 use Rattle.seam_machine.proofs.nets.Net.step.Goals as goal

@@ -1,4 +1,4 @@
-use Rattle.std.proofs.Common.{rules, ◌≡◌, ◌++◌, ◌∷◌, [], ◌∙◌, ap, arith, length}
+use Rattle.std.proofs.Common.{◌++◌, ◌∷◌, [], ◌∙◌, ap, arith, length}
 use Rattle.std.proofs.lemmas.List.{length-map}
 use Rattle.seam_machine.proofs.RowLemmas.{view-same, puts_first}
 use Rattle.seam_machine.proofs.rows.Row.put_first.Goals as goal

@@ -1,6 +1,5 @@
-use Rattle.std.proofs.Common.{rules, ◌≡◌, ◌∷◌, ◌<◌, ℕ, ◌∙◌, ap, List, length, get_or, map, arith, sym}
+use Rattle.std.proofs.Common.{◌≡◌, ◌∷◌, ◌∙◌, ap, sym}
 use Rattle.seam_machine.specs.Nets.{row_less}
-use Rattle.seam_machine.specs.Inside.{Serves}
 use Rattle.seam_machine.specs.declared.machines.Input.TheVariants.{From}
 use Rattle.seam_machine.proofs.RowLemmas.{view-same, take_first, feeds, in_view}
 use Rattle.seam_machine.proofs.rows.Row.serve.Goals as goal
