@@ -9,6 +9,7 @@ use Rattle.seam_machine.specs.Nets.{link, put_all, row_less, letter, input_from,
 use Rattle.seam_machine.specs.Events.{Occurs}
 use Rattle.seam_machine.specs.Inside.{Feeds, IsNet}
 use Rattle.seam_machine.specs.declared.machines.Input.{Input}
+use Rattle.seam_machine.specs.declared.machines.Input.TheVariants.{Task}
 use Rattle.seam_machine.specs.declared.machines.Event.{Event}
 use Rattle.seam_machine.proofs.Puts.{length-put_all}
 use Rattle.seam_machine.proofs.Writes.{All-set_kept}
@@ -23,6 +24,13 @@ pub occurs : {N M : Type 0} (has_work : N → Bool) (w : NetView N M) (e : Event
 occurs has_work w e h =
     let p = ready_parts has_work (slice_get w.nodes e.node) (input_from w.rows e.node e.from) h in
     record { node = p.0; input = p.1; is_node = p.2; is_fed = p.3 }
+
+-- an event that takes a task finds it there
+pub occurs_works : {N M : Type 0} (has_work : N → Bool) (w : NetView N M) (e : Event) → enabled has_work w e ≡ true → (o : Occurs w e) → o.input ≡ Task → has_work o.node ≡ true
+occurs_works has_work w e h o t =
+    let ready : is_ready has_work (Some o.node) (Some o.input) ≡ true = rw (o.is_node, o.is_fed) at h in
+    let P : Input _ → Type 0 = λ i. is_ready has_work (Some o.node) (Some i) ≡ true in
+    subst P t ready
 
 pub happens-is : {N M : Type 0} (steps : N → Input M → Stepped N M) (w : NetView N M) (e : Event) (o : Occurs w e) → happens steps w e ≡ stepped_net w.nodes (rows_after_taking w.rows e.node e.from) e.node (steps o.node o.input)
 happens-is steps w e o = rw (o.is_node, o.is_fed)

@@ -105,11 +105,13 @@ pub fn runs_end<N, T, F: NetFact<N, T>, G: NetMeasure<N, T>>()
     ensures { (has_work : N → Bool) (steps : N → Input T → Stepped N T) → ((w : NetView N T) (e : Event) → F.holds w → enabled has_work w e ≡ true → F.holds (happens steps w e) × Lowers steps G.kind G.number w e) → (w v : NetView N T) (es : List Event) → F.holds w → LeadsTo has_work steps w es v → length es + G.number v ≤ G.number w + counted steps G.kind w es }
 {}
 
-/// An event gives its node what the step gives, and leaves the other nodes as they are.
+/// An enabled event has a node and what it takes, and a task is taken where it is there. An event gives its node what the step
+/// gives, and leaves the other nodes as they are.
 pub fn an_event_leaves_the_others<N, T>()
     ensures own { (steps : N → Input T → Stepped N T) (w : NetView N T) (e : Event) (o : Occurs w e) → slice_get (happens steps w e).nodes e.node ≡ Some (steps o.node o.input).state }
     ensures others { (steps : N → Input T → Stepped N T) (w : NetView N T) (e : Event) (o : Occurs w e) (j : ℕ) → (j ≡ e.node → ⊥) → slice_get (happens steps w e).nodes j ≡ slice_get w.nodes j }
     ensures enabled { (has_work : N → Bool) (w : NetView N T) (e : Event) → enabled has_work w e ≡ true → Occurs w e }
+    ensures task { (has_work : N → Bool) (w : NetView N T) (e : Event) (o : Occurs w e) → enabled has_work w e ≡ true → o.input ≡ Input.Task → has_work o.node ≡ true }
 {}
 
 /// Each link after an event is exactly what was left of it and what the step added at its end.

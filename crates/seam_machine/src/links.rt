@@ -219,6 +219,7 @@ impl<T> Links<T> {
         ensures err_node { OnErr result (node.new ≡ node.old) }
         ensures same_peers { M.peer_count node.new ≡ M.peer_count node.old }
     {
+        node.known();
         match node.step(alloc, Input::Task, &mut self.out) {
             Ok(()) => {
                 self.sender = at as usize;

@@ -69,9 +69,7 @@ pub trait Machine: Drop {
         ensures sent { OnOk result (out.new.items ≡ out.old.items ++ (steps self.old input).sent) }
         ensures err_state { OnErr result (self.new ≡ self.old) }
         ensures err_out { OnErr result (out.new.items ≡ out.old.items) }
-        ensures err_input { IfErr result (λ e. e.item ≡ input) }
-        ensures to_peers { AllBelow (peer_count self.old) (steps self.old input).sent }
-        ensures same_peers { peer_count self.new ≡ peer_count self.old };
+        ensures err_input { IfErr result (λ e. e.item ≡ input) };
 
     // A step sends to nodes of the net alone, keeps the number of peers, and what is true of every state.
     ghost targets: { (s : Self) (i : Input Self.Msg) → valid s → AllBelow (peer_count s) (steps s i).sent };

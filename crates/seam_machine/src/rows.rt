@@ -129,6 +129,7 @@ impl<T> Row<T> {
         ensures to_peers { AllBelow (M.peer_count node.old) out.old.items → AllBelow (M.peer_count node.old) out.new.items }
         ensures same_peers { M.peer_count node.new ≡ M.peer_count node.old }
     {
+        node.known();
         let link = &mut self.links[to];
         let Some(item) = link.pop_front() else {
             unreachable!()
