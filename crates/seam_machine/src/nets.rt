@@ -100,7 +100,8 @@ impl<M: Machine> Net<M> {
 
     /// The nodes and the links of the net.
     pub fn apart(mut self, alloc: Global) -> Result<NetParts<M>, AllocError>
-        ensures { IfOk result (λ p. AreParts p self) }
+        ensures parts { IfOk result (λ p. AreParts p self) }
+        ensures many { IfOk result (λ p. length p.links ≡ length p.nodes * length p.nodes) }
     {
         self.links.settle()?;
         let Net { nodes, links } = self;
