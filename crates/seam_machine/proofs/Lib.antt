@@ -1,8 +1,10 @@
 pub mod Bridge
 pub mod Counting
 pub mod Flats
+pub mod Following
 pub mod Keeping
 pub mod LinkLemmas
+pub mod NewestLemmas
 pub mod Occurring
 pub mod Parts
 pub mod Puts

@@ -6,4 +6,5 @@ pub mod Weights
 pub mod Events
 pub mod Flows
 pub mod Inside
+pub mod Newest
 pub mod Orders

@@ -16,9 +16,10 @@ mod rows;
 mod sends;
 
 pub use laws::{
-    LinkFact, NetFact, NetMeasure, NodeFact, Watch, an_event_is_a_move, an_event_leaves_the_others,
-    each_link_is_kept, each_node_is_kept, links_are_exact, parts_are_the_net, quiet_is_empty,
-    runs_end, runs_go_on, runs_join, runs_keep, soundness_is_kept, weights_move,
+    LetterFact, LinkFact, NetFact, NetMeasure, NodeFact, Register, Watch, a_move_keeps_facts,
+    an_event_is_a_move, an_event_leaves_the_others, each_link_is_kept, each_node_is_kept,
+    links_are_exact, parts_are_the_net, quiet_is_empty, runs_end, runs_go_on, runs_join, runs_keep,
+    soundness_is_kept, the_newest_entry_is_kept, weights_move,
 };
 pub use machines::{Event, Input, Machine, NoMemoryFor};
 pub use nets::{Net, NetParts};

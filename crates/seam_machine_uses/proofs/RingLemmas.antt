@@ -1,12 +1,13 @@
 -- What each event of a net of counters keeps and lowers.
-use Rattle.std.proofs.Common.{◌≡◌, ℕ, zero, suc, ◌+◌, ◌≤◌, true, false, cond, eqb, List, [], ◌∷◌, length, Option, None, Some, is_some, drop, refl, sym, ap, ◌∙◌, arith}
+use Rattle.std.proofs.Common.{◌≡◌, ℕ, zero, suc, ◌+◌, ◌<◌, ◌≤◌, Bool, true, false, cond, eqb, ltb, List, [], ◌∷◌, length, Option, None, Some, is_some, drop, refl, sym, ap, ◌∙◌, subst, arith}
+use Rattle.seam_machine.specs.Flows.{Flow, Goes, comes, flow_of, letters_of, more_letter}
+use Rattle.seam_machine.specs.Newest.{NotAbove, AllBring, entry_in, taken_entry, Newest}
 use Rattle.std.proofs.lemmas.Bool.Decides.{nat_tests}
 use Rattle.seam_machine.specs.Views.{NetView}
 use Rattle.seam_machine.specs.Sends.{AllBelow, items_to}
 use Rattle.seam_machine.specs.Nets.{enabled, happens, LeadsTo}
 use Rattle.seam_machine.specs.Events.{Occurs, StaysTrue}
 use Rattle.seam_machine.specs.Weights.{weight, input_weight, sent_weight, counted, Lowers}
-use Rattle.seam_machine.specs.Flows.{Goes, flow_of, letters_of}
 use Rattle.seam_machine.specs.declared.machines.Input.{Input}
 use Rattle.seam_machine.specs.declared.machines.Input.TheVariants.{Task, From}
 use Rattle.seam_machine.specs.declared.machines.Event.{Event}
@@ -15,10 +16,13 @@ use Rattle.seam_machine.proofs.Runs.{leads-ends, leads-keeps}
 use Rattle.seam_machine.proofs.Weighing.{weight-moves}
 use Rattle.seam_machine.proofs.Keeping.{each-node, each-link}
 use Rattle.seam_machine.proofs.Bridge.{event-goes}
+use Rattle.seam_machine.proofs.Following.{mail-goes}
+use Rattle.seam_machine.proofs.NewestLemmas.{newest-stays}
+use Rattle.std.specs.List.{AllByRecursion}
 use Rattle.seam_machine.proofs.Soundness.{sound_sends, sound-happens}
 use Rattle.seam_machine_uses.specs.Views.{CounterView}
 use Rattle.seam_machine_uses.specs.Counters.{task_steps, passed, counter_steps, counter_work, IsCounter, counter_targets, counter_peers, counter_valid}
-use Rattle.seam_machine_uses.specs.Rings.{IsSoundNet, IsRing, given_to_do, to_do, to_go, small, no_counter, SmallMoves}
+use Rattle.seam_machine_uses.specs.Rings.{IsSoundNet, IsRing, given_to_do, to_do, to_go, small, no_counter, SmallMoves, AllSmall, next_entry, brings_none}
 
 task_falls : (c : CounterView) (o : Option ℕ) → is_some o ≡ true → to_do (task_steps c o).state + sent_weight to_go (task_steps c o).sent + 1 ≡ given_to_do o
 task_falls c None h = cc
@@ -111,7 +115,47 @@ step_alone : (c : CounterView) (i : Input ℕ) (j : ℕ) → (j ≡ c.next → �
 step_alone c Task j ne = task_alone c c.given j ne
 step_alone c (From a n) j ne = passed_alone c n j ne
 
+small_by : (n : ℕ) (b : Bool) → ltb n 10 ≡ b → AllByRecursion (λ n. n < 10) (more_letter (cond b (Some n) None) [])
+small_by n true t = ((let h : n < 10 = grind (arith, nat_tests) in h), tt)
+small_by n false t = tt
+
+one_small_by : (n : ℕ) (b : Bool) → AllByRecursion (λ n. n < 10) (letters_of small (cond b (n ∷ []) []))
+one_small_by n true = small_by n (ltb n 10) refl
+one_small_by n false = tt
+
+one_small : (to n j : ℕ) → AllByRecursion (λ n. n < 10) (letters_of small (items_to j ((to, n) ∷ [])))
+one_small to n j = one_small_by n (eqb to j)
+
+task_small : (c : CounterView) (o : Option ℕ) (j : ℕ) → AllByRecursion (λ n. n < 10) (letters_of small (items_to j (task_steps c o).sent))
+task_small c None j = tt
+task_small c (Some n) j = one_small c.next n j
+
+passed_small : (c : CounterView) (n j : ℕ) → AllByRecursion (λ n. n < 10) (letters_of small (items_to j (passed c n)))
+passed_small c zero j = tt
+passed_small c (suc n) j = one_small c.next n j
+
+step_small : (c : CounterView) (i : Input ℕ) (j : ℕ) → AllByRecursion (λ n. n < 10) (letters_of small (items_to j (counter_steps c i).sent))
+step_small c Task j = task_small c c.given j
+step_small c (From a n) j = passed_small c n j
+
+pub small_stays : {w v : Flow CounterView ℕ} (g : Goes SmallMoves w v) → AllSmall w → AllSmall v
+small_stays g h = mail-goes (λ x y n. n < 10) g h g.moves.below
+
+none_brought : (Q : ℕ × ℕ → Type 0) (ls : List ℕ) → AllBring brings_none Q ls
+none_brought Q [] = tt
+none_brought Q (l ∷ ls) = (tt, none_brought Q ls)
+
+none_in : (o : Option ℕ) → entry_in brings_none o ≡ None
+none_in None = refl
+none_in (Some n) = refl
+
+pub next_stays : {w v : Flow CounterView ℕ} (k c : ℕ) (g : Goes SmallMoves w v) → Newest next_entry brings_none w k c → Newest next_entry brings_none v k c
+next_stays {w} {v} k c g n =
+    newest-stays brings_none next_entry g k c n (λ e.
+    let here : (v.slot k).next ≡ (w.slot k).next = subst (λ j. (v.slot j).next ≡ (w.slot j).next) e g.moves.same in
+    ap (λ m. (0, m)) here ∙ sym (ap (taken_entry (next_entry (w.slot k))) (none_in (comes g.input)))) (none_brought (NotAbove n.key c) (g.out k))
+
 pub small_goes : (w : NetView CounterView ℕ) (e : Event) → IsSoundNet w → enabled counter_work w e ≡ true → Goes SmallMoves (flow_of (λ c. c) no_counter small w) (flow_of (λ c. c) no_counter small (happens counter_steps w e))
 small_goes w e q h =
     let o = occurs counter_work w e h in
-    event-goes small (λ c. c) no_counter SmallMoves counter_steps w e o q.square (sends_in w e o q) (record { same = step_next o.node o.input; alone = λ j ne. step_alone o.node o.input j ne })
+    event-goes small (λ c. c) no_counter SmallMoves counter_steps w e o q.square (sends_in w e o q) (record { same = step_next o.node o.input; alone = λ j ne. step_alone o.node o.input j ne; below = λ j. step_small o.node o.input j })

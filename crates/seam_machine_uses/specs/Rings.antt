@@ -1,5 +1,7 @@
 -- Rings of counters: each sends to one other alone, and what is left to do falls with each event.
-use Rattle.std.specs.Prelude.{◌≡◌, ℕ, ◌+◌, nat_lt, List, [], Option, None, Some, if◌then◌else◌}
+use Rattle.std.specs.Prelude.{◌≡◌, ℕ, ◌+◌, ◌<◌, nat_lt, List, [], Option, None, Some, if◌then◌else◌}
+use Rattle.std.specs.List.{AllByRecursion}
+use Rattle.seam_machine.specs.Flows.{Flow}
 use Rattle.seam_machine.specs.Views.{NetView}
 use Rattle.seam_machine.specs.Events.{EachNode, EachLink}
 use Rattle.seam_machine.specs.Sound.{IsSound}
@@ -36,3 +38,15 @@ no_counter = record { next = 0; peers = 0; given = None }
 pub record SmallMoves (k : ℕ) (s : CounterView) (i : Option ℕ) (t : CounterView) (out : ℕ → List ℕ) : Type 0 where
   pub same : t.next ≡ s.next
   pub alone : (j : ℕ) → (j ≡ s.next → ⊥) → out j ≡ []
+  pub below : (j : ℕ) → AllByRecursion (λ n. n < 10) (out j)
+
+-- the letters are below ten
+abbrev pub AllSmall : Flow CounterView ℕ → Type 0
+AllSmall w = (x y : ℕ) → AllByRecursion (λ n. n < 10) (w.mail x y)
+
+-- a register that no letter writes: to whom the counter sends
+abbrev pub next_entry : CounterView → ℕ × ℕ
+next_entry c = (0, c.next)
+
+abbrev pub brings_none : ℕ → Option (ℕ × ℕ)
+brings_none n = None

@@ -4,11 +4,12 @@ ghost use Rattle.std.specs.Prelude.{◌≡◌, ℕ, ◌+◌, ◌<◌, ◌≤◌,
 ghost use Rattle.seam_machine.specs.Views.{NetView};
 ghost use Rattle.seam_machine.specs.Nets.{enabled, happens, LeadsTo};
 ghost use Rattle.seam_machine.specs.Weights.{weight};
-ghost use Rattle.seam_machine.specs.Flows.{Goes, flow_of};
+ghost use Rattle.seam_machine.specs.Flows.{Flow, Goes, flow_of};
+ghost use Rattle.seam_machine.specs.Newest.{Newest};
 ghost use Rattle.seam_machine.specs.declared.machines.Event.{Event};
 ghost use Rattle.seam_machine_uses.specs.Views.{CounterView};
 ghost use Rattle.seam_machine_uses.specs.Counters.{counter_steps, counter_work, IsCounter, counter_targets, counter_peers, counter_valid};
-ghost use Rattle.seam_machine_uses.specs.Rings.{IsRing, IsSoundNet, to_do, to_go, small, no_counter, SmallMoves};
+ghost use Rattle.seam_machine_uses.specs.Rings.{IsRing, IsSoundNet, to_do, to_go, small, no_counter, SmallMoves, AllSmall, next_entry, brings_none};
 
 use seam_machine::{Input, Machine, NoMemoryFor, Out};
 use std::alloc::Global;
@@ -114,6 +115,12 @@ pub fn runs_of_a_ring_end()
 /// A ring stays a ring over every run.
 pub fn a_ring_stays_a_ring()
     ensures { (after : ℕ → ℕ) (w v : NetView CounterView ℕ) (es : List Event) → IsRing after w → LeadsTo counter_work counter_steps w es v → IsRing after v }
+{}
+
+/// Small numbers on their way stay below ten, and each counter sends on to the same one: the newest entry of its register.
+pub fn small_numbers_stay_small()
+    ensures small { (w v : Flow CounterView ℕ) → Goes SmallMoves w v → AllSmall w → AllSmall v }
+    ensures next { (w v : Flow CounterView ℕ) (k c : ℕ) → Goes SmallMoves w v → Newest next_entry brings_none w k c → Newest next_entry brings_none v k c }
 {}
 
 /// Each event is a step of the flow of small numbers.

@@ -8,4 +8,7 @@ mod counter;
 #[cfg(test)]
 mod tests;
 
-pub use counter::{Counter, a_ring_stays_a_ring, runs_of_a_ring_end, small_numbers_are_seen};
+pub use counter::{
+    Counter, a_ring_stays_a_ring, runs_of_a_ring_end, small_numbers_are_seen,
+    small_numbers_stay_small,
+};
