@@ -1,14 +1,10 @@
 -- The built-in types are well formed.
-use Rattle.std.proofs.Common.{◌≡◌, ◌≢◌, ◌≤◌, ◌<◌, ℕ, refl, rules, arith, All, List, [], ◌∷◌, length, slice_index_or, Some, lit<, lit≤}
+use Rattle.std.proofs.Common.{ℕ, refl, rules, All, List, [], ◌∷◌, slice_index_or, lit<, lit≤}
 use Rattle.std.specs.List.{AllByRecursion}
 use Rattle.std.proofs.lemmas.List.Elements.{All-cons, All-nil}
 use Rattle.seam_value.specs.Values.{Fits}
-use Rattle.seam_value.specs.declared.values.Value.{Value}
-use Rattle.seam_value.specs.declared.values.Value.TheVariants.{Number, Text}
-use Rattle.seam_value.specs.declared.types.ValueType.TheVariants as type
 use Rattle.seam_defs.specs.declared.types.Property.{Property}
 use Rattle.seam_defs.specs.declared.types.Method.{Method}
-use Rattle.seam_defs.specs.declared.types.Operation.{Operation}
 use Rattle.seam_defs.specs.Types.{no_method, AreDefs, IsType, IsMethod, IsOperation}
 use Rattle.seam_defs.specs.Builtin.{builtin, avatar_properties, avatar_methods, chest_properties, chest_methods}
 

@@ -1,6 +1,6 @@
 -- Lists beside each other, and the text of one property more.
-use Rattle.std.proofs.Common.{◌≡◌, ℕ, ◌+◌, ◌<◌, refl, ap, sym, ◌∙◌, List, [], ◌∷◌, ◌++◌, length, drop, take, get_or, true, false, arith}
-use Rattle.std.specs.List.{zip, flat_map, filter}
+use Rattle.std.proofs.Common.{◌≡◌, ℕ, ◌+◌, ◌<◌, refl, ap, List, [], ◌∷◌, ◌++◌, length, drop, take, get_or, true, false}
+use Rattle.std.specs.List.{zip, flat_map}
 use Rattle.std.proofs.lemmas.List.{append-nil}
 use Rattle.std.proofs.lemmas.List.Concat.{flat_map-append}
 use Rattle.std.proofs.lemmas.List.Elements.{filter_more}
@@ -26,7 +26,7 @@ module _ (ps : List Property) (g : Group) (i : ℕ) (p : Property) (within : i <
   properties-same other = rw (filter_more (λ q. in_group q.flag g) ps i p within, ← here, other) (append-nil (properties_of (take i ps) g))
 
   pub text-more : (vs : List Value) → in_group p.flag g ≡ true →
-    values_text (take (i + 1) ps) g vs ≡ values_text (take i ps) g vs ++ flat_map property_text (zip (p ∷ []) (drop (length (properties_of (take i ps) g)) vs))
+      values_text (take (i + 1) ps) g vs ≡ values_text (take i ps) g vs ++ flat_map property_text (zip (p ∷ []) (drop (length (properties_of (take i ps) g)) vs))
   text-more vs held = rw (properties-more held, zip-append (properties_of (take i ps) g) (p ∷ []) vs) (flat_map-append property_text (zip (properties_of (take i ps) g) vs) (zip (p ∷ []) (drop (length (properties_of (take i ps) g)) vs)))
 
   pub text-same : (vs : List Value) → in_group p.flag g ≡ false → values_text (take (i + 1) ps) g vs ≡ values_text (take i ps) g vs

@@ -1,5 +1,5 @@
 -- The types that stand where a header defines none: an avatar and a chest.
-use Rattle.std.specs.Prelude.{ℕ, ℤ, pos, Bool, true, false, List, [], ◌∷◌, codes}
+use Rattle.std.specs.Prelude.{ℕ, pos, Bool, true, false, List, [], ◌∷◌, codes}
 use Rattle.seam_value.specs.declared.types.ValueType.{ValueType}
 use Rattle.seam_value.specs.declared.types.ValueType.TheVariants as type
 use Rattle.seam_value.specs.declared.values.Value.{Value}
@@ -9,7 +9,6 @@ use Rattle.seam_defs.specs.declared.flags.Flag.TheVariants as flag
 use Rattle.seam_defs.specs.declared.flags.Part.{Part}
 use Rattle.seam_defs.specs.declared.flags.Part.TheVariants as part
 use Rattle.seam_defs.specs.declared.types.Property.{Property}
-use Rattle.seam_defs.specs.declared.types.Operand.{Operand}
 use Rattle.seam_defs.specs.declared.types.Operand.TheVariants.{Arg, Constant}
 use Rattle.seam_defs.specs.declared.types.Operation.{Operation}
 use Rattle.seam_defs.specs.declared.types.Operation.TheVariants.{Put, Add, Sub}

@@ -1,5 +1,5 @@
 -- Groups of values, and what a deed does to a state.
-use Rattle.std.specs.Prelude.{◌≡◌, ℕ, ℤ, pos, ◌+◌, ◌-◌, ◌+ℤ◌, ◌-ℤ◌, Bool, true, false, IsTrue, List, [], ◌∷◌, ◌++◌, length, map, filter, fold, slice_index_or, slice_set, take}
+use Rattle.std.specs.Prelude.{◌≡◌, ℕ, ℤ, pos, ◌-◌, ◌+ℤ◌, ◌-ℤ◌, List, ◌∷◌, ◌++◌, length, map, filter, fold, slice_index_or, slice_set, take}
 use Rattle.std.specs.List.{zip, flat_map}
 use Rattle.std.specs.Int.{int_min, int_max}
 use Rattle.seam_value.specs.Types.{least, greatest}
@@ -14,7 +14,6 @@ use Rattle.seam_defs.specs.declared.types.Operand.{Operand}
 use Rattle.seam_defs.specs.declared.types.Operand.TheVariants.{Arg, Constant}
 use Rattle.seam_defs.specs.declared.types.Operation.{Operation}
 use Rattle.seam_defs.specs.declared.types.Operation.TheVariants.{Put, Add, Sub}
-use Rattle.seam_defs.specs.declared.types.Method.{Method as MethodDef}
 use Rattle.seam_defs.specs.declared.types.TypeDef.{TypeDef}
 use Rattle.seam_defs.specs.declared.states.Deed.{Deed}
 use Rattle.seam_defs.specs.declared.states.Deed.TheVariants.{Move, Method}
@@ -73,11 +72,11 @@ operand (Put k a) = a
 operand (Add k a) = a
 operand (Sub k a) = a
 
--- the value that an operation with the operand's value `by` gives a property of type `t` that had the value `old`
-abbrev pub operated : Operation → ValueType → Value → Value → Value
+-- the value that an operation with the operand's value `by` gives a property of type `t` that held the number `old`
+abbrev pub operated : Operation → ValueType → ℤ → Value → Value
 operated (Put k a) t old by = by
-operated (Add k a) t old by = Number (nearest t (number_of old +ℤ number_of by))
-operated (Sub k a) t old by = Number (nearest t (number_of old -ℤ number_of by))
+operated (Add k a) t old by = Number (nearest t (old +ℤ number_of by))
+operated (Sub k a) t old by = Number (nearest t (old -ℤ number_of by))
 
 -- the place of a property's value among those of its group: as many as the group's properties before it
 abbrev pub place_of : List Property → Group → ℕ → ℕ
@@ -86,11 +85,18 @@ place_of ps g k = length (properties_of (take k ps) g)
 abbrev pub type_at : List Property → ℕ → ValueType
 type_at ps k = slice_index_or (map (λ p. p.ty) ps) k type.Text
 
--- a group's values after an operation, which replaces the value of its property
-abbrev pub after_operation : List Property → Group → List Value → List Value → Operation → List Value
-after_operation ps g args values op =
+-- the value at a place of a group (a well-typed operation never asks for a place that the group does not have)
+abbrev pub value_at : List Value → ℕ → Value
+value_at values place = slice_index_or values place (Number (pos 0))
+
+-- a group's values after an operation whose operand stands for the value `by`: the value of its property is replaced
+abbrev pub after_with : List Property → Group → List Value → Operation → Value → List Value
+after_with ps g values op by =
     let place = place_of ps g (target op) in
-    slice_set values place (operated op (type_at ps (target op)) (slice_index_or values place (Number (pos 0))) (operand_value args (operand op)))
+    slice_set values place (operated op (type_at ps (target op)) (number_of (value_at values place)) by)
+
+abbrev pub after_operation : List Property → Group → List Value → List Value → Operation → List Value
+after_operation ps g args values op = after_with ps g values op (operand_value args (operand op))
 
 -- a group's values after a body, whose operations run from left to right
 abbrev pub after_body : List Property → Group → List Value → List Operation → List Value → List Value

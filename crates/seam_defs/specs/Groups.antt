@@ -1,5 +1,5 @@
 -- Distribution flags, and the groups of properties that they make.
-use Rattle.std.specs.Prelude.{ℕ, Bool, true, false}
+use Rattle.std.specs.Prelude.{Bool, true, false}
 use Rattle.seam_defs.specs.declared.flags.Flag.{Flag}
 use Rattle.seam_defs.specs.declared.flags.Flag.TheVariants as flag
 use Rattle.seam_defs.specs.declared.flags.Group.{Group}

@@ -4,3 +4,4 @@ pub mod Types
 pub mod Deeds
 pub mod Builtin
 pub mod Rows
+pub mod Running

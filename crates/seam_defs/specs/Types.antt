@@ -1,17 +1,12 @@
 -- Types of entities: how they are numbered, and which are well formed.
-use Rattle.std.specs.Prelude.{◌≡◌, ◌≢◌, ℕ, ◌+◌, ◌-◌, ◌<◌, ◌≤◌, Bool, true, false, IsTrue, ◌&&◌, ◌||◌, nat_le, nat_lt, ◌==◌, List, [], ◌∷◌, length, map, filter, All, Option, Some, None, slice_get, slice_index_or}
-use Rattle.std.specs.List.{list_all, AllAdjacentBelow}
+use Rattle.std.specs.Prelude.{◌≡◌, ◌≢◌, ℕ, ◌-◌, ◌<◌, ◌≤◌, Bool, true, false, IsTrue, ◌&&◌, ◌||◌, nat_le, ◌==◌, List, [], ◌∷◌, length, map, All, Some, slice_get, slice_index_or}
+use Rattle.std.specs.List.{list_all}
 use Rattle.std.specs.Ordering.{nat_cmp, is_lt}
 use Rattle.std.specs.Cmp.Lexicographic.{slice_cmp}
 use Rattle.seam_value.specs.Values.{Fits}
 use Rattle.seam_value.specs.declared.types.ValueType.{ValueType}
 use Rattle.seam_value.specs.declared.types.ValueType.TheVariants as type
-use Rattle.seam_value.specs.declared.values.Value.{Value}
-use Rattle.seam_value.specs.declared.values.Value.TheVariants.{Number}
-use Rattle.seam_defs.specs.declared.flags.Group.{Group}
-use Rattle.seam_defs.specs.declared.flags.Part.{Part}
 use Rattle.seam_defs.specs.declared.flags.Part.TheVariants as part
-use Rattle.seam_defs.specs.declared.flags.Flag.TheVariants as flag
 use Rattle.seam_defs.specs.declared.types.Property.{Property}
 use Rattle.seam_defs.specs.declared.types.Operand.{Operand}
 use Rattle.seam_defs.specs.declared.types.Operand.TheVariants.{Arg, Constant}

@@ -1,9 +1,11 @@
 // What a deed does to a state.
-ghost use Rattle.std.specs.Prelude.{◌≡◌, ◌≢◌, ◌<◌, ◌≤◌, ◌↔◌, IsTrue, OnOk, OnErr, IfOk, length, take, map, fold, slice_index_or, slice_set};
-ghost use Rattle.seam_value.specs.Types.{least, greatest};
-ghost use Rattle.seam_defs.specs.Groups.{held_by, in_group};
-ghost use Rattle.seam_defs.specs.Types.{type_of, method_of, IsOperation};
-ghost use Rattle.seam_defs.specs.Deeds.{nearest as nearest_number, number_of, operand_value, operated, target, operand, place_of, type_at, after_body, after, part_of_deed, SameShown};
+ghost use Rattle.std.specs.Prelude.{◌≡◌, ◌≢◌, ◌<◌, ◌↔◌, ◌+ℤ◌, ◌-ℤ◌, List, OnOk, OnErr, IfOk, length, map, true, false, slice_index_or};
+ghost use Rattle.seam_value.specs.declared.values.Value.{Value as AnyValue};
+ghost use Rattle.seam_defs.specs.declared.types.Operation.{Operation as AnyOperation};
+ghost use Rattle.seam_defs.specs.Groups.{held_by};
+ghost use Rattle.seam_defs.specs.Types.{type_of, method_of};
+ghost use Rattle.seam_defs.specs.Deeds.{nearest as nearest_number, number_of, operand_value, operated, target, operand, place_of, type_at, value_at, after_with, after_body, after, part_of_deed, taken, SameShown};
+ghost use Rattle.seam_defs.specs.Running.{shown_by, is_in, is_free, OnGroup, WereReplaced, OthersStay, SameOn, IsFirstShown};
 
 use crate::{Args, Deed, Defs, Group, Method, Operand, Operation, Part, Property, Props, State};
 use seam_value::{Value, ValueType};
@@ -21,7 +23,9 @@ impl Part {
     }
 
     // The group of the part that others may see: a cell part's ghosts, or a base part's client.
-    fn shown(self) -> Group {
+    fn shown(self) -> Group
+        ensures { result ≡ shown_by self }
+    {
         match self {
             Part::Cell => Group::Ghost,
             Part::Base => Group::BaseClient,
@@ -55,7 +59,11 @@ impl Defs {
     /// Does a deed on a state of the part that it is for, and answers whether what others may see of the part has changed
     /// in value: of a cell part the position and the ghosted properties, of a base part what its client is shown. After want
     /// of memory the state is as it was.
-    pub fn apply(&self, ty: u16, state: &mut State, deed: &Deed) -> Result<bool, AllocError> {
+    pub fn apply(&self, ty: u16, state: &mut State, deed: &Deed) -> Result<bool, AllocError>
+        ensures ok { OnOk result (state.new ≡ after self.now ty state.old deed.now) }
+        ensures changed { IfOk result (λ c. (c ≡ false) ↔ SameShown (type_of self.now ty).properties (part_of_deed self.now ty deed.now) state.old state.new) }
+        ensures err { OnErr result (state.new ≡ state.old) }
+    {
         match deed {
             Deed::Move(to) => {
                 let changed = state.pos != *to;
@@ -85,12 +93,32 @@ fn run(
     method: &Method,
     args: &[Value],
     props: &mut Props,
-) -> Result<bool, AllocError> {
+) -> Result<bool, AllocError>
+    requires { OnGroup properties.now (held_by method.now.part) method.now.body }
+    ensures ok { OnOk result (props.new ≡ after_body properties.now (held_by method.now.part) args.now method.now.body props.old) }
+    ensures changed { IfOk result (λ c. (c ≡ false) ↔ (taken properties.now (held_by method.now.part) (shown_by method.now.part) props.old ≡ taken properties.now (held_by method.now.part) (shown_by method.now.part) props.new)) }
+    ensures err { OnErr result (props.new ≡ props.old) }
+{
     let body = method.body.as_slice();
     let mut values = operand_values(alloc, args, body)?;
-    let group = method.part.held();
-    replace_values(properties, group, body, props, &mut values);
-    Ok(any_changed(properties, method.part, body, props, &values))
+    Ok(execute(properties, method.part, body, props, &mut values))
+}
+
+// Does the operations of a body with the values of their operands, and answers whether what others may see has changed.
+fn execute(
+    properties: &[Property],
+    part: Part,
+    body: &[Operation],
+    props: &mut Props,
+    values: &mut [Value],
+) -> bool
+    requires long { length values.old ≡ length body.now }
+    requires group { OnGroup properties.now (held_by part) body.now }
+    ensures after { (args : List AnyValue) → values.old ≡ map (λ op. operand_value args (operand op)) body.now → props.new ≡ after_body properties.now (held_by part) args body.now props.old }
+    ensures changed { (result ≡ false) ↔ (taken properties.now (held_by part) (shown_by part) props.old ≡ taken properties.now (held_by part) (shown_by part) props.new) }
+{
+    replace_values(properties, part.held(), body, props, values);
+    any_changed(properties, part, body, props, values)
 }
 
 // Does the operations of a body, from left to right, with the values of their operands. In the place of each operand comes
@@ -102,15 +130,34 @@ fn replace_values(
     props: &mut Props,
     values: &mut [Value],
 )
-    requires { length values.old ≡ length body.now }
+    requires long { length values.old ≡ length body.now }
+    requires group { OnGroup properties.now group body.now }
+    ensures after { (args : List AnyValue) → values.old ≡ map (λ op. operand_value args (operand op)) body.now → props.new ≡ after_body properties.now group args body.now props.old }
+    ensures replaced { WereReplaced properties.now group body.now props.old values.new }
+    ensures others { OthersStay properties.now group body.now props.old props.new }
+    ensures as_long { length props.new ≡ length props.old }
 {
     for (i, operation) in body.iter().enumerate() {
-        let by = std::mem::replace(&mut values[i], Value::Number(0));
-        let place = place_of(properties, group, operation.target());
-        let ty = type_at(properties, operation.target());
-        let value = operated(operation, ty, props.at(place), by);
-        values[i] = props.replace(place, value);
+        operate(properties, group, operation, &mut values[i], props);
     }
+}
+
+// Does an operation with the value of its operand, in whose place comes the value that it replaced.
+fn operate(
+    properties: &[Property],
+    group: Group,
+    operation: &Operation,
+    value: &mut Value,
+    props: &mut Props,
+)
+    ensures after { props.new ≡ after_with properties.now group props.old operation.now value.old }
+    ensures replaced { let place = place_of properties.now group (target operation.now) in place < length props.old → value.new ≡ value_at props.old place }
+{
+    let by = std::mem::replace(value, Value::Number(0));
+    let place = place_of(properties, group, operation.target());
+    let ty = type_at(properties, operation.target());
+    let put = operated(operation, ty, props.number_at(place), by);
+    *value = props.replace(place, put);
 }
 
 // Whether a value that others may see differs from the one that the first operation on it replaced.
@@ -120,25 +167,49 @@ fn any_changed(
     body: &[Operation],
     props: &Props,
     replaced: &[Value],
-) -> bool {
-    for (i, (operation, old)) in body.iter().zip(replaced).enumerate() {
-        let property = operation.target();
-        let is_first = body
-            .iter()
-            .take(i)
-            .all(|earlier| earlier.target() != property);
-        if is_first && is_in_group(properties, part.shown(), property) {
-            let place = place_of(properties, part.held(), property);
-            if props.at(place) != Some(old) {
-                return true;
-            }
+) -> bool
+    requires { length replaced.now ≡ length body.now }
+    ensures { (old : List AnyValue) → length old ≡ length props.now → WereReplaced properties.now (held_by part) body.now old replaced.now → ((result ≡ false) ↔ SameOn properties.now (held_by part) (shown_by part) body.now old props.now) }
+{
+    for (i, old) in replaced.iter().enumerate() {
+        if is_changed_at(properties, part, body, i, props, old) {
+            return true;
         }
     }
     false
 }
 
+// Whether an operation is the first on a property that others may see, whose value was `old`, and is another one now.
+fn is_changed_at(
+    properties: &[Property],
+    part: Part,
+    body: &[Operation],
+    i: usize,
+    props: &Props,
+    old: &Value,
+) -> bool
+    requires { i < length body.now }
+    ensures yes { (op : AnyOperation) → op ≡ slice_index_or body.now i op → let place = place_of properties.now (held_by part) (target op) in result ≡ true → IsFirstShown properties.now (shown_by part) body.now i op × (place < length props.now) × (value_at props.now place ≢ old.now) }
+    ensures no { (op : AnyOperation) → op ≡ slice_index_or body.now i op → let place = place_of properties.now (held_by part) (target op) in result ≡ false → IsFirstShown properties.now (shown_by part) body.now i op → place < length props.now → value_at props.now place ≡ old.now }
+{
+    let property = body[i].target();
+    let place = place_of(properties, part.held(), property);
+    is_free(property, &body[..i])
+        && is_in(properties, part.shown(), property)
+        && props.differs_at(place, old)
+}
+
+// Whether no operation is on the property.
+fn is_free(property: u16, body: &[Operation]) -> bool
+    ensures { result ≡ is_free property body.now }
+{
+    body.iter().all(|operation| operation.target() != property)
+}
+
 // Whether a property stands in the group.
-fn is_in_group(properties: &[Property], group: Group, property: u16) -> bool {
+fn is_in(properties: &[Property], group: Group, property: u16) -> bool
+    ensures { result ≡ is_in properties.now group property }
+{
     match properties.get(property as usize) {
         Some(property) => property.flag.in_group(group),
         None => false,
@@ -193,26 +264,38 @@ fn type_at(properties: &[Property], property: u16) -> ValueType
     }
 }
 
-// The value that an operation gives its property.
-fn operated(operation: &Operation, ty: ValueType, old: Option<&Value>, by: Value) -> Value {
+// The value that an operation gives a property that held the number `old`.
+fn operated(operation: &Operation, ty: ValueType, old: i128, by: Value) -> Value
+    ensures { result ≡ operated operation.now ty old by }
+{
     match operation {
         Operation::Put(..) => by,
-        Operation::Add(..) => Value::Number(nearest(
-            ty,
-            number(old).saturating_add(number(Some(&by))),
-        )),
-        Operation::Sub(..) => Value::Number(nearest(
-            ty,
-            number(old).saturating_sub(number(Some(&by))),
-        )),
+        Operation::Add(..) => Value::Number(nearest_sum(ty, old, number(&by))),
+        Operation::Sub(..) => Value::Number(nearest_difference(ty, old, number(&by))),
     }
 }
 
+// The nearest number of a type to a sum. A sum that does not fit 128 bits has the same one as the nearest that does.
+fn nearest_sum(ty: ValueType, a: i128, b: i128) -> i128
+    ensures { result ≡ nearest_number ty (a +ℤ b) }
+{
+    nearest(ty, a.saturating_add(b))
+}
+
+// The nearest number of a type to a difference.
+fn nearest_difference(ty: ValueType, a: i128, b: i128) -> i128
+    ensures { result ≡ nearest_number ty (a -ℤ b) }
+{
+    nearest(ty, a.saturating_sub(b))
+}
+
 // A value as a number. A text counts as 0, which a well-typed operation never asks for.
-fn number(value: Option<&Value>) -> i128 {
+pub(crate) fn number(value: &Value) -> i128
+    ensures { result ≡ number_of value.now }
+{
     match value {
-        Some(Value::Number(number)) => *number,
-        Some(Value::Text(_)) | None => 0,
+        Value::Number(number) => *number,
+        Value::Text(_) => 0,
     }
 }
 

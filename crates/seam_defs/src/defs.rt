@@ -1,7 +1,7 @@
-ghost use Rattle.std.specs.Prelude.{◌≡◌, ◌≢◌, ℕ, ◌<◌, ◌≤◌, ◌↔◌, IsTrue, MatchOption, IfSome, IfNone, length, slice_get};
+ghost use Rattle.std.specs.Prelude.{◌≡◌, ◌≢◌, ℕ, ◌<◌, ◌≤◌, ◌↔◌, IsTrue, MatchOption, IfSome, IfNone, All, length, slice_get};
 ghost use Rattle.std.specs.Ordering.{nat_cmp};
 ghost use Rattle.std.specs.Cmp.Lexicographic.{slice_cmp};
-ghost use Rattle.seam_defs.specs.Types.{AreDefs, type_of, method_of, no_method, names_of_types, names_of_methods, are_rising};
+ghost use Rattle.seam_defs.specs.Types.{AreDefs, type_of, method_of, no_method, names_of_types, names_of_methods, are_rising, IsMethod};
 
 use crate::{Method, Part, TypeDef};
 use seam_value::{ShortText, ValueType};
@@ -65,6 +65,7 @@ impl Defs {
         ensures value { result.now ≡ (type_of self.now ty).methods }
         ensures few { length result.now ≤ 32 }
         ensures rising { IsTrue (are_rising (names_of_methods result.now)) }
+        ensures sound { All (IsMethod (type_of self.now ty).properties) result.now }
     {
         match self.types.get(ty as usize) {
             Some(t) => t.methods.as_slice(),
@@ -76,6 +77,7 @@ impl Defs {
     pub(crate) fn method(&self, ty: u16, method: u16) -> Option<&Method>
         ensures found { IfSome result (λ m. m.now ≡ method_of self.now ty method) }
         ensures none { IfNone result (method_of self.now ty method ≡ no_method) }
+        ensures sound { IfSome result (λ m. IsMethod (type_of self.now ty).properties m.now) }
     {
         let methods = self.methods(ty);
         if (method as usize) < methods.len() {

@@ -1,5 +1,7 @@
-ghost use Rattle.std.specs.Prelude.{◌≡◌, IfOk, length, option_copied, slice_get, slice_set, slice_index_or};
+ghost use Rattle.std.specs.Prelude.{◌≡◌, ◌≢◌, ◌<◌, true, false, IfOk, length, option_copied, slice_get, slice_set, slice_index_or};
+ghost use Rattle.seam_defs.specs.Deeds.{number_of, value_at};
 
+use crate::deeds::number;
 use seam_geo::Pos;
 use seam_value::Value;
 use std::alloc::{AllocError, Global};
@@ -74,6 +76,27 @@ impl Props {
         match self.values.get_mut(place) {
             Some(old) => std::mem::replace(old, value),
             None => value,
+        }
+    }
+
+    // The number at a place: 0 where there are not so many values, or for a text.
+    pub(crate) fn number_at(&self, place: usize) -> i128
+        ensures { result ≡ number_of (value_at self.now place) }
+    {
+        match self.values.get(place) {
+            Some(value) => number(value),
+            None => 0,
+        }
+    }
+
+    // Whether there is a value at a place, and it is another one.
+    pub(crate) fn differs_at(&self, place: usize, old: &Value) -> bool
+        ensures yes { result ≡ true → (place < length self.now) × (value_at self.now place ≢ old.now) }
+        ensures no { result ≡ false → place < length self.now → value_at self.now place ≡ old.now }
+    {
+        match self.values.get(place) {
+            Some(value) => value != old,
+            None => false,
         }
     }
 

@@ -4,7 +4,7 @@ use Rattle.std.proofs.lemmas.List.Folds.{list_all-append}
 use Rattle.seam_words.specs.declared.words.Span.{Span}
 use Rattle.seam_words.specs.declared.words.WordsError.{WordsError}
 use Rattle.seam_words.specs.declared.words.WordsError.TheVariants.{NotUtf8, OpenQuote, BadEscape, TooManyWords}
-use Rattle.seam_words.specs.Words.{is_blank, IsGap, HaveFirst, AreWords}
+use Rattle.seam_words.specs.Words.{is_blank, IsGap, HasFirstWords, AreWords}
 use Rattle.std.specs.Str.{IsUtf8}
 use Rattle.seam_words.specs.Faults.{HasFaultAt, HasFault, Refuses}
 use Rattle.seam_words.specs.Parts.{IsFirstWord, RefusesWord}
@@ -14,7 +14,7 @@ two_gaps : (a b : List ℕ) → IsGap a → IsGap b → IsGap (a ++ b)
 two_gaps a b p q = list_all-append is_blank a b ∙ grind (arith, p, q)
 
 -- words may be read behind a gap
-pub skip_gap : (at : ℕ) (gap bytes : List ℕ) (spans : List Span) (tail : List ℕ) → IsGap gap → HaveFirst (at + length gap) bytes spans tail → HaveFirst at (gap ++ bytes) spans tail
+pub skip_gap : (at : ℕ) (gap bytes : List ℕ) (spans : List Span) (tail : List ℕ) → IsGap gap → HasFirstWords (at + length gap) bytes spans tail → HasFirstWords at (gap ++ bytes) spans tail
 skip_gap at gap bytes [] tail g h = (gap ++ h.0, two_gaps gap h.0 g h.1, ap (λ (xs : List ℕ). gap ++ xs) h.2 ∙ sym (append_assoc gap h.0 tail))
 skip_gap at gap bytes (span ∷ spans) tail g h = (
   h.0,
@@ -31,13 +31,13 @@ skip_gap at gap bytes (span ∷ spans) tail g h = (
   h.2,
 )
 
-pub behind_gap : (at later : ℕ) (bytes : List ℕ) (spans : List Span) (tail rest : List ℕ) → HasRun is_blank bytes rest → later + length rest ≡ at + length bytes → HaveFirst later rest spans tail → HaveFirst at bytes spans tail
+pub behind_gap : (at later : ℕ) (bytes : List ℕ) (spans : List Span) (tail rest : List ℕ) → HasRun is_blank bytes rest → later + length rest ≡ at + length bytes → HasFirstWords later rest spans tail → HasFirstWords at bytes spans tail
 behind_gap at later bytes spans tail rest r e h =
     let place : later ≡ at + length r.run = omega (arith, ap length r.whole, length-append r.run rest) in
-    rw r.whole (skip_gap at r.run rest spans tail r.passes (subst (λ (n : ℕ). HaveFirst n rest spans tail) place h))
+    rw r.whole (skip_gap at r.run rest spans tail r.passes (subst (λ (n : ℕ). HasFirstWords n rest spans tail) place h))
 
 -- a word, and then the words behind it
-pub word_first : (at : ℕ) (bytes rest : List ℕ) (span : Span) (spans : List Span) (tail : List ℕ) → IsFirstWord span.quoted bytes rest → span.start ≡ at → span.end + length rest ≡ at + length bytes → HaveFirst span.end rest spans tail → HaveFirst at bytes (span ∷ spans) tail
+pub word_first : (at : ℕ) (bytes rest : List ℕ) (span : Span) (spans : List Span) (tail : List ℕ) → IsFirstWord span.quoted bytes rest → span.start ≡ at → span.end + length rest ≡ at + length bytes → HasFirstWords span.end rest spans tail → HasFirstWords at bytes (span ∷ spans) tail
 word_first at bytes rest span spans tail w s e h = (
   rest,
   record {
@@ -60,8 +60,8 @@ fault_of_word count bytes OpenQuote c h = (c, h)
 fault_of_word count bytes BadEscape c h = (c, h)
 fault_of_word count bytes TooManyWords c h = absurd h
 
-pub has_fault : (line : List ℕ) (spans : List Span) (tail : List ℕ) (e : WordsError) → HaveFirst 0 line (spans ++ []) tail → HasFaultAt (length spans) tail e → HasFault line e
-has_fault line spans tail e h f = record { spans = spans; tail = tail; before = subst (λ (xs : List Span). HaveFirst 0 line xs tail) (append-nil spans) h; fault = f }
+pub has_fault : (line : List ℕ) (spans : List Span) (tail : List ℕ) (e : WordsError) → HasFirstWords 0 line (spans ++ []) tail → HasFaultAt (length spans) tail e → HasFault line e
+has_fault line spans tail e h f = record { spans = spans; tail = tail; before = subst (λ (xs : List Span). HasFirstWords 0 line xs tail) (append-nil spans) h; fault = f }
 
 -- a word is not empty
 pub shorter : (quoted : Bool) (bytes rest : List ℕ) → IsFirstWord quoted bytes rest → length rest < length bytes
@@ -76,6 +76,6 @@ refused line BadEscape u h = (u, h)
 refused line TooManyWords u h = (u, h)
 
 -- at the line's end the words so far are its words
-pub are_words : (line rest : List ℕ) (spans : List Span) → length rest ≡ 0 → HaveFirst 0 line (spans ++ []) rest → AreWords line spans
-are_words line [] spans e h = subst (λ (xs : List Span). HaveFirst 0 line xs []) (append-nil spans) h
+pub are_words : (line rest : List ℕ) (spans : List Span) → length rest ≡ 0 → HasFirstWords 0 line (spans ++ []) rest → AreWords line spans
+are_words line [] spans e h = subst (λ (xs : List Span). HasFirstWords 0 line xs []) (append-nil spans) h
 are_words line (b ∷ rest) spans e h = absurd (omega arith)

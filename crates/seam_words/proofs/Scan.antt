@@ -7,7 +7,7 @@ use Rattle.std.proofs.lemmas.Grind.{common_steps}
 use Rattle.seam_words.specs.declared.words.Span.{Span}
 use Rattle.seam_words.specs.declared.words.WordsError.{WordsError}
 use Rattle.seam_words.specs.declared.words.WordsError.TheVariants.{NotUtf8, OpenQuote, BadEscape, TooManyWords}
-use Rattle.seam_words.specs.Words.{is_blank, is_plain, is_escaped, IsGap, IsPlainWord, IsPiece, ArePieces, IsQuotedWord, IsWord, EndsWord, HasFirst, HaveFirst, AreWords}
+use Rattle.seam_words.specs.Words.{is_blank, is_plain, is_escaped, IsGap, IsPlainWord, IsPiece, ArePieces, IsQuotedWord, IsWord, EndsWord, HasFirstWord, HasFirstWords, AreWords}
 use Rattle.seam_words.specs.Faults.{HasOpenQuote, IsNoEscape, HasFaultAt, HasFault, Refuses}
 use Rattle.seam_words.specs.Faults.HasOpenQuote.{inside, unended, followed}
 
@@ -122,7 +122,7 @@ word_scan : (most at : ℕ) (words : List Span) (word rest : List ℕ) (q : Bool
 word_scan most at words word rest true h w e = quoted_scan most at words word rest h w ∙ closed_ends most (at + length word) (words ++ span_of true at (at + length word) ∷ []) rest e
 word_scan most at words word rest false h w e = begin_plain most at words word rest h w ∙ plain_ends most at (at + length word) words rest e
 
-first_scan : (most at : ℕ) (words : List Span) (bytes : List ℕ) (span : Span) (rest : List ℕ) → length words < most → HasFirst at bytes span rest → scan most between at words bytes ≡ scan most between span.end (words ++ span ∷ []) rest
+first_scan : (most at : ℕ) (words : List Span) (bytes : List ℕ) (span : Span) (rest : List ℕ) → length words < most → HasFirstWord at bytes span rest → scan most between at words bytes ≡ scan most between span.end (words ++ span ∷ []) rest
 first_scan most at words bytes span rest h f =
     let start : at + length f.gap ≡ span.start = sym f.start in
     let end : span.start + length f.word ≡ span.end = sym f.end in
@@ -132,7 +132,7 @@ first_scan most at words bytes span rest h f =
     ∙ ap (λ (n : ℕ). scan most between n (words ++ span_of span.quoted span.start n ∷ []) rest) end
 
 -- the words, and what follows them
-words_scan : (most at : ℕ) (words : List Span) (bytes : List ℕ) (spans : List Span) (tail : List ℕ) → length words + length spans ≤ most → HaveFirst at bytes spans tail → (end : ℕ) × (scan most between at words bytes ≡ scan most between end (words ++ spans) tail)
+words_scan : (most at : ℕ) (words : List Span) (bytes : List ℕ) (spans : List Span) (tail : List ℕ) → length words + length spans ≤ most → HasFirstWords at bytes spans tail → (end : ℕ) × (scan most between at words bytes ≡ scan most between end (words ++ spans) tail)
 words_scan most at words bytes [] tail h f =
     (at + length f.0, rw (f.2, append-nil) (gap_scan most at words f.0 tail f.1))
 words_scan most at words bytes (span ∷ spans) tail h f =

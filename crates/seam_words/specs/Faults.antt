@@ -4,7 +4,7 @@ use Rattle.std.specs.Str.{IsUtf8}
 use Rattle.seam_words.specs.declared.words.Span.{Span}
 use Rattle.seam_words.specs.declared.words.WordsError.{WordsError}
 use Rattle.seam_words.specs.declared.words.WordsError.TheVariants.{NotUtf8, OpenQuote, BadEscape, TooManyWords}
-use Rattle.seam_words.specs.Words.{is_blank, is_escaped, IsPlainWord, ArePieces, IsQuotedWord, HaveFirst}
+use Rattle.seam_words.specs.Words.{is_blank, is_escaped, IsPlainWord, ArePieces, IsQuotedWord, HasFirstWords}
 
 -- a quote that stands where none may stand, or is missing, in the bytes where a word should begin
 pub data HasOpenQuote (bytes : List ℕ) : Type 0 where
@@ -44,7 +44,7 @@ HasFaultAt count bytes TooManyWords = (count ≡ 16) × BeginsWord bytes
 pub record HasFault (line : List ℕ) (error : WordsError) : Type 0 where
   pub spans : List Span
   pub tail : List ℕ
-  pub before : HaveFirst 0 line spans tail
+  pub before : HasFirstWords 0 line spans tail
   pub fault : HasFaultAt (length spans) tail error
 
 -- why a line is refused: it is no text, or else it has a fault

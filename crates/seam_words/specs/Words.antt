@@ -50,7 +50,7 @@ EndsWord [] = Unit {0}
 EndsWord (b ∷ bytes) = is_blank b ≡ true
 
 -- behind a gap the bytes from place `at` on have this word first, and `rest` follows it
-pub record HasFirst (at : ℕ) (bytes : List ℕ) (span : Span) (rest : List ℕ) : Type 0 where
+pub record HasFirstWord (at : ℕ) (bytes : List ℕ) (span : Span) (rest : List ℕ) : Type 0 where
   pub gap : List ℕ
   pub word : List ℕ
   pub blank : IsGap gap
@@ -61,13 +61,13 @@ pub record HasFirst (at : ℕ) (bytes : List ℕ) (span : Span) (rest : List ℕ
   pub end : span.end ≡ span.start + length word
 
 -- the bytes from place `at` on have these words first, and behind a gap `tail` follows them
-abbrev pub HaveFirst : ℕ → List ℕ → List Span → List ℕ → Type 0
-HaveFirst at bytes [] tail = (gap : List ℕ) × IsGap gap × (bytes ≡ gap ++ tail)
-HaveFirst at bytes (span ∷ spans) tail = (rest : List ℕ) × HasFirst at bytes span rest × HaveFirst span.end rest spans tail
+abbrev pub HasFirstWords : ℕ → List ℕ → List Span → List ℕ → Type 0
+HasFirstWords at bytes [] tail = (gap : List ℕ) × IsGap gap × (bytes ≡ gap ++ tail)
+HasFirstWords at bytes (span ∷ spans) tail = (rest : List ℕ) × HasFirstWord at bytes span rest × HasFirstWords span.end rest spans tail
 
 -- the words of a line: nothing follows them but a gap
 abbrev pub AreWords : List ℕ → List Span → Type 0
-AreWords line spans = HaveFirst 0 line spans []
+AreWords line spans = HasFirstWords 0 line spans []
 
 -- the bytes of a word in its line
 abbrev pub bytes_of : List ℕ → Span → List ℕ

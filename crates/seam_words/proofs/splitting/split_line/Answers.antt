@@ -4,7 +4,7 @@ use Rattle.std.proofs.lemmas.Result.{err_from_is_err_and}
 use Rattle.std.proofs.lemmas.List.Elements.{All-push}
 use Rattle.seam_words.specs.declared.words.Span.{Span}
 use Rattle.seam_words.specs.declared.words.WordsError.TheVariants.{TooManyWords}
-use Rattle.seam_words.specs.Words.{is_blank, HaveFirst, AreWords, IsInside}
+use Rattle.seam_words.specs.Words.{is_blank, HasFirstWords, AreWords, IsInside}
 use Rattle.seam_words.specs.Faults.{BeginsWord, Refuses}
 use Rattle.seam_words.specs.Parts.{IsFirstWord}
 use Rattle.seam_words.proofs.Runs.{HasRun, has_run}
@@ -71,8 +71,8 @@ loop-rest-preserved c =
       most = rw c.push.ensures (omega (arith, length-append c.loop-rest.words (span ∷ [])));
       stripped = run.stops;
       front = λ more tail h.
-          let later : HaveFirst span.end c.in_ok-after.after.now more tail = behind_gap span.end (line - length c.after_gap-rest-in-loop-rest.result.now) c.in_ok-after.after.now more tail c.after_gap-rest-in-loop-rest.result.now run (omega (arith, c.after_gap-rest-in-loop-rest.ensures.within)) h in
-          let all : HaveFirst 0 c.args.line.now (c.loop-rest.words ++ span ∷ more) tail = c.loop-rest.invariant.front (span ∷ more) tail (word_first (line - length c.loop-rest.rest.now) c.loop-rest.rest.now c.in_ok-after.after.now span more tail word (omega arith) (omega arith) later) in
+          let later : HasFirstWords span.end c.in_ok-after.after.now more tail = behind_gap span.end (line - length c.after_gap-rest-in-loop-rest.result.now) c.in_ok-after.after.now more tail c.after_gap-rest-in-loop-rest.result.now run (omega (arith, c.after_gap-rest-in-loop-rest.ensures.within)) h in
+          let all : HasFirstWords 0 c.args.line.now (c.loop-rest.words ++ span ∷ more) tail = c.loop-rest.invariant.front (span ∷ more) tail (word_first (line - length c.loop-rest.rest.now) c.loop-rest.rest.now c.in_ok-after.after.now span more tail word (omega arith) (omega arith) later) in
           rw (c.push.ensures, append_assoc) all;
     }
 

@@ -1,7 +1,7 @@
 use Rattle.std.proofs.Common.{◌≤◌, ◌-◌, ◌++◌, ℕ, List, length}
 use Rattle.std.specs.List.{All}
 use Rattle.seam_words.specs.declared.words.Span.{Span}
-use Rattle.seam_words.specs.Words.{is_blank, HaveFirst}
+use Rattle.seam_words.specs.Words.{is_blank, HasFirstWords}
 use Rattle.seam_words.specs.Words.{IsInside}
 use Rattle.seam_words.proofs.Runs.{StopsAt}
 use Rattle.seam_words.proofs.splitting.split_line.Given as goal
@@ -12,7 +12,7 @@ invariant-loop-rest l = record {
   inside : All (IsInside (length l.line)) l.words;
   most : length l.words ≤ 16;
   stripped : StopsAt is_blank l.rest;
-  front : (more : List Span) (tail : List ℕ) → HaveFirst (length l.line - length l.rest) l.rest more tail → HaveFirst 0 l.line (l.words ++ more) tail;
+  front : (more : List Span) (tail : List ℕ) → HasFirstWords (length l.line - length l.rest) l.rest more tail → HasFirstWords 0 l.line (l.words ++ more) tail;
 }
 
 abbrev pub decreases-loop-rest : goal.decreases-loop-rest

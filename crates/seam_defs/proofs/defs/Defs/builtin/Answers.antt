@@ -1,4 +1,3 @@
-use Rattle.std.proofs.Common.{◌≡◌}
 use Rattle.seam_defs.proofs.WellFormed.{builtin-are-defs}
 use Rattle.seam_defs.proofs.defs.Defs.builtin.Goals as goal
 

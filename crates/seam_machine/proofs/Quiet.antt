@@ -1,0 +1,40 @@
+-- A quiet net: every link is empty and no node has a task.
+use Rattle.std.proofs.Common.{◌≡◌, ℕ, zero, suc, ◌<◌, Bool, true, false, List, [], ◌∷◌, length, Option, None, Some, refl, sym, ap, ◌∙◌, arith}
+use Rattle.std.specs.Prelude.{slice_get}
+use Rattle.seam_machine.specs.Views.{NetView}
+use Rattle.seam_machine.specs.Nets.{link, letter, input_from, is_ready, enabled, IsQuiet, IsSquare}
+use Rattle.seam_machine.specs.Events.{EachNode, EachLink}
+use Rattle.seam_machine.specs.declared.machines.Event.{Event}
+use Rattle.seam_machine.proofs.Puts.{link_is_in}
+
+some_at : {X : Type 0} (xs : List X) (k : ℕ) → k < length xs → (x : X) × (slice_get xs k ≡ Some x)
+some_at [] k lt = absurd (omega (arith, lt))
+some_at (x ∷ xs) zero lt = (x, refl)
+some_at (x ∷ xs) (suc k) lt = some_at xs k (omega (arith, lt))
+
+module _ {N M : Type 0} (has_work : N → Bool) (w : NetView N M) where
+  empty_by : IsSquare w → IsQuiet has_work w → (a b : ℕ) (ms : List M) → link w.rows a b ≡ ms → ms ≡ []
+  empty_by q quiet a b [] h = refl
+  empty_by q quiet a b (m ∷ ms) h =
+      let within = link_is_in w.rows a b m ms h in
+      let wide = q.links a [] within.0 in
+      let lt = within.1 in
+      let node = some_at w.nodes b (omega (arith, lt, wide)) in
+      let e : Event = record { node = b; from = Some a } in
+      let yes : enabled has_work w e ≡ true = rw (node.1, h) refl in
+      let contrary : true ≡ false = sym yes ∙ quiet e in
+      cc
+
+  pub quiet_links : IsSquare w → IsQuiet has_work w → EachLink (λ a b l. l ≡ []) w.rows
+  quiet_links q quiet a b = empty_by q quiet a b (link w.rows a b) refl
+
+  pub quiet_tasks : IsQuiet has_work w → EachNode (λ k s. has_work s ≡ false) w.nodes
+  quiet_tasks quiet k s h = let e : Event = record { node = k; from = None } in sym (ap (λ o. is_ready {M = M} has_work o (input_from w.rows k None)) h) ∙ quiet e
+
+  not_ready : (k : ℕ) (o : Option N) (from : Option ℕ) → slice_get w.nodes k ≡ o → EachLink (λ a b l. l ≡ []) w.rows → EachNode (λ k s. has_work s ≡ false) w.nodes → is_ready has_work o (input_from w.rows k from) ≡ false
+  not_ready k None from h empty idle = refl
+  not_ready k (Some s) None h empty idle = idle k s h
+  not_ready k (Some s) (Some a) h empty idle = ap (λ l. is_ready has_work (Some s) (letter a l)) (empty a k)
+
+  pub quiet_from : EachLink (λ a b l. l ≡ []) w.rows → EachNode (λ k s. has_work s ≡ false) w.nodes → IsQuiet has_work w
+  quiet_from empty idle e = not_ready e.node (slice_get w.nodes e.node) e.from refl empty idle

@@ -1,0 +1,16 @@
+use Rattle.std.proofs.Common.{◌≡◌, ◌<◌, ◌∙◌, ap, sym, length, arith, ℕ, eqb, true}
+use Rattle.std.proofs.lemmas.Bool.Decides.{nat_tests}
+use Rattle.std.proofs.lemmas.List.{get_or_read}
+use Rattle.seam_machine.specs.Nets.{link}
+use Rattle.seam_machine.proofs.LinkLemmas.{idle}
+use Rattle.seam_machine.proofs.links.Links.is_idle.Goals as goal
+
+is_zero : (n : ℕ) → eqb n 0 ≡ true → n ≡ 0
+is_zero n t = grind (arith, nat_tests)
+
+pub returns-then-index-eq0 : goal.returns-then-index-eq0
+returns-then-index-eq0 g c = λ t a.
+    let n = c.self.inside in
+    let lt : c.args.to < length n.busy.items = omega (arith, n.busy.ok) in
+    let none : length _ ≡ 0 = sym c.count_to.ensures.count ∙ is_zero c.count_to.result t in
+    ap (λ r. link r a c.args.to) (sym (ap (λ w. w.rows) c.self.view_is)) ∙ idle n.rows.items n.busy.items n.sender n.out.items c.self.invariant c.args.to lt (sym (get_or_read n.busy.items c.args.to c.index.result.now lt c.index.ensures 0) ∙ c.if-index-eq0.true) none a

@@ -1,0 +1,74 @@
+-- What a net keeps of its fields.
+use Rattle.std.specs.Prelude.{◌≡◌, ℕ, ◌+◌, ◌<◌, ◌≤◌, Bool, true, false, List, [], ◌∷◌, ◌++◌, length, Option, Some, slice_index_or, slice_set}
+use Rattle.std.specs.List.{All}
+use Rattle.seam_machine.specs.Views.{Stepped, NetView}
+use Rattle.seam_machine.specs.Sends.{AllBelow}
+use Rattle.seam_machine.specs.Nets.{letter, input_from, row_less, rows_after_taking, put_all, send_all, IsSquare}
+use Rattle.seam_machine.specs.Weights.{total}
+use Rattle.seam_machine.specs.declared.machines.Input.{Input}
+
+-- the links, and whether none of their messages waits for room
+pub record LinksView (M : Type 0) : Type 0 where
+  pub rows : List (List (List M))
+  pub clear : Bool
+
+abbrev pub is_empty : {X : Type 0} → List X → Bool
+is_empty [] = true
+is_empty (x ∷ xs) = false
+
+-- 1 where a link holds something, else 0
+abbrev pub filled : {X : Type 0} → List X → ℕ
+filled [] = 0
+filled (x ∷ xs) = 1
+
+-- how many links to node b hold something
+abbrev pub filled_to : {M : Type 0} → ℕ → List (List (List M)) → ℕ
+filled_to b rows = total (λ r. filled (slice_index_or r b [])) rows
+
+-- each count is at most 254 without the link of this row
+abbrev pub CountsFit : {M : Type 0} → List ℕ → List (List M) → Type 0
+CountsFit busy row = (b : ℕ) → slice_index_or busy b 0 ≤ 254 + filled (slice_index_or row b [])
+
+-- the first of the items went to the ends of their links, and the counts grew as links were filled
+pub record Delivers {M : Type 0} (row : List (List M)) (items : List (ℕ × M)) (busy : List ℕ) (row' : List (List M)) (items' : List (ℕ × M)) (busy' : List ℕ) : Type 0 where
+  pub moved : put_all row' items' ≡ put_all row items
+  pub wide : length row' ≡ length row
+  pub busy_len : length busy' ≡ length busy
+  pub targets : AllBelow (length row) items'
+  pub counts : (b : ℕ) → slice_index_or busy' b 0 + filled (slice_index_or row b []) ≡ slice_index_or busy b 0 + filled (slice_index_or row' b [])
+  pub fits : CountsFit busy' row'
+
+-- at most 255 nodes, a link for each pair, a count of filled links for each node, and what waits goes from a node to nodes
+pub record IsLinks {M : Type 0} (rows : List (List (List M))) (busy : List ℕ) (sender : ℕ) (out : List (ℕ × M)) : Type 0 where
+  pub few : length rows < 256
+  pub square : All (λ r. length r ≡ length rows) rows
+  pub busy_len : length busy ≡ length rows
+  pub busy_is : (b : ℕ) → b < length rows → slice_index_or busy b 0 ≡ filled_to b rows
+  pub targets : AllBelow (length rows) out
+  pub sender_in : 0 < length rows → sender < length rows
+
+-- the first of the items, which goes to node `to`, stands at the end of its link
+pub record PutsFirst {M : Type 0} (to : ℕ) (row : List (List M)) (items : List (ℕ × M)) (row' : List (List M)) (items' : List (ℕ × M)) : Type 0 where
+  pub item : M
+  pub items_are : items ≡ (to, item) ∷ items'
+  pub row_is : row' ≡ slice_set row to (slice_index_or row to [] ++ item ∷ [])
+
+-- the node took the first item of its link, and sent what its step sends
+pub record Serves {N M : Type 0} (steps : N → Input M → Stepped N M) (from to : ℕ) (row : List (List M)) (s : N) (out : List (ℕ × M)) (row' : List (List M)) (s' : N) (out' : List (ℕ × M)) : Type 0 where
+  pub input : Input M
+  pub is_fed : letter from (slice_index_or row to []) ≡ Some input
+  pub row_is : row' ≡ row_less row to
+  pub state_is : s' ≡ (steps s input).state
+  pub out_is : out' ≡ out ++ (steps s input).sent
+
+-- node k took its input, and what its step sent stands in its links
+pub record Feeds {N M : Type 0} (steps : N → Input M → Stepped N M) (k : ℕ) (from : Option ℕ) (rows : List (List (List M))) (s : N) (rows' : List (List (List M))) (s' : N) : Type 0 where
+  pub input : Input M
+  pub is_fed : input_from rows k from ≡ Some input
+  pub state_is : s' ≡ (steps s input).state
+  pub rows_is : rows' ≡ send_all (rows_after_taking rows k from) k (steps s input).sent
+
+-- at most 255 nodes, and a link for each pair of them
+pub record IsNet {N M : Type 0} (w : NetView N M) : Type 0 where
+  pub few : length w.nodes < 256
+  pub square : IsSquare w

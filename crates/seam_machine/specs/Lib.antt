@@ -1,0 +1,10 @@
+pub mod Views
+pub mod Sends
+pub mod Sound
+pub mod Nets
+pub mod Weights
+pub mod Events
+pub mod Flows
+pub mod Inside
+pub mod Newest
+pub mod Orders

@@ -1,0 +1,263 @@
+//! The links of a net, and what waits for room in them.
+
+ghost use Rattle.std.specs.Prelude.{◌≡◌, ℕ, ◌+◌, ◌-◌, ◌<◌, ◌≤◌, ◌^◌, List, [], ◌∷◌, ◌++◌, length, true, Some, None, OnOk, OnErr, IfOk, IfSome, IfNone, option_copied, slice_get, slice_index, slice_index_or, slice_set, vec_len};
+ghost use Rattle.std.specs.List.{All};
+ghost use Rattle.seam_machine.specs.Sends.{AllBelow};
+ghost use Rattle.seam_machine.specs.Nets.{link};
+ghost use Rattle.seam_machine.specs.Inside.{CountsFit, Delivers, Feeds, filled_to};
+
+use crate::machines::{Input, Machine};
+use crate::rows::Row;
+use crate::sends::Out;
+use std::alloc::{AllocError, Global};
+use std::marker::Model;
+
+/// The links of a net, by sender.
+#[derive(Drop)]
+pub struct Links<T> {
+    rows: Vec<Row<T>>,
+    // How many of the links to each node hold something, without what waits.
+    busy: Vec<u8>,
+    // What node `sender` sent last and no link had room for yet.
+    out: Out<T>,
+    sender: usize,
+}
+
+impl<T> Model for Links<T> {
+    ghost use Rattle.seam_machine.specs.Nets.{send_all};
+    ghost use Rattle.seam_machine.specs.Inside.{LinksView, IsLinks, is_empty};
+
+    ghost Value = { LinksView T };
+
+    ghost view = { λ l. record { rows = send_all l.rows.items l.sender l.out.items; clear = is_empty l.out.items } };
+
+    ghost invariant = { λ l. IsLinks l.rows.items l.busy.items l.sender l.out.items };
+}
+
+// One link more holds something where it held nothing before.
+fn raise(busy: &mut Vec<u8>, at: usize, held: usize)
+    requires within { at < length busy.old.items }
+    requires fits { held ≡ 0 → slice_index busy.old.items at < 255 }
+    ensures { busy.new.items ≡ slice_set busy.old.items at (slice_index busy.old.items at + (1 - held)) }
+{
+    if held == 0 {
+        busy[at] += 1;
+    }
+}
+
+// One link less holds something where nothing is left in it.
+fn lower(busy: &mut Vec<u8>, at: usize, left: usize)
+    requires within { at < length busy.old.items }
+    requires some { 0 < slice_index busy.old.items at }
+    ensures { busy.new.items ≡ slice_set busy.old.items at (slice_index busy.old.items at - (1 - left)) }
+{
+    if left == 0 {
+        busy[at] -= 1;
+    }
+}
+
+// How many of the links to that node hold something.
+fn count_filled<T>(rows: &Vec<Row<T>>, to: usize) -> u8
+    requires { length rows.now.items < 256 }
+    ensures { result ≡ filled_to to rows.now.items }
+{
+    let mut n = 0;
+    for i in 0..rows.len() {
+        if rows[i].len(to) > 0 {
+            n += 1;
+        }
+    }
+    n
+}
+
+// For each node, how many of the links to it hold something.
+fn count_all<T>(alloc: Global, rows: &Vec<Row<T>>) -> Result<Vec<u8>, AllocError>
+    requires { length rows.now.items < 256 }
+    ensures len { IfOk result (λ v. length v.items ≡ length rows.now.items) }
+    ensures counts { IfOk result (λ v. (b : ℕ) → b < length rows.now.items → slice_index v.items b ≡ filled_to b rows.now.items) }
+{
+    let mut busy = Vec::new(alloc);
+    for b in 0..rows.len() {
+        busy.push(count_filled(rows, b))?;
+    }
+    Ok(busy)
+}
+
+// Moves what waits in `out` to the links of its sender.
+fn deliver<T>(row: &mut Row<T>, busy: &mut Vec<u8>, out: &mut Out<T>) -> Result<(), AllocError>
+    requires targets { AllBelow (length row.old) out.old.items }
+    requires wide { length busy.old.items ≡ length row.old }
+    requires fits { CountsFit busy.old.items row.old }
+    ensures moved { Delivers row.old out.old.items busy.old.items row.new out.new.items busy.new.items }
+    ensures ok { OnOk result (out.new.items ≡ []) }
+{
+    while let Some(to) = out.next_target() {
+        let at = to as usize;
+        let held = row.len(at);
+        row.put_first(at, out)?;
+        raise(busy, at, held);
+    }
+    Ok(())
+}
+
+impl<T> Links<T> {
+    /// How many messages stand in the link.
+    pub fn waiting(&self, from: usize, to: u8) -> usize
+        ensures { result ≡ length (link self.now.rows from to) }
+    {
+        if from >= self.rows.len() {
+            return 0;
+        }
+        let row = &self.rows[from];
+        let held = row.len(to as usize);
+        if from == self.sender {
+            return held + self.out.count_to(to);
+        }
+        held
+    }
+
+    /// The message at place i of the link.
+    pub fn get(&self, from: usize, to: u8, i: usize) -> Option<&T>
+        ensures { option_copied result ≡ slice_get (link self.now.rows from to) i }
+    {
+        if from >= self.rows.len() {
+            return None;
+        }
+        let row = &self.rows[from];
+        let held = row.len(to as usize);
+        if i < held {
+            return row.get(to as usize, i);
+        }
+        if from == self.sender {
+            return self.out.item_to(to, i - held);
+        }
+        None
+    }
+
+    // Nothing stands in a link to that node, where the answer is true.
+    fn is_idle(&self, to: u8) -> bool
+        ensures { result ≡ true → (a : ℕ) → link self.now.rows a to ≡ [] }
+    {
+        let at = to as usize;
+        if at >= self.busy.len() {
+            return false;
+        }
+        self.busy[at] == 0 && self.out.count_to(to) == 0
+    }
+
+    /// The least node from which something stands in a link to that node.
+    pub fn first_from(&self, to: u8) -> Option<u8>
+        ensures some { IfSome result (λ a. 0 < length (link self.now.rows a to)) }
+        ensures first { IfSome result (λ a. (c : ℕ) → c < a → link self.now.rows c to ≡ []) }
+        ensures none { IfNone result ((a : ℕ) → link self.now.rows a to ≡ []) }
+    {
+        if self.is_idle(to) {
+            return None;
+        }
+        for a in 0..self.rows.len() {
+            if self.waiting(a, to) > 0 {
+                return Some(a as u8);
+            }
+        }
+        None
+    }
+
+    /// Moves what waits to the links.
+    pub fn settle(&mut self) -> Result<(), AllocError>
+        ensures rows { self.new.rows ≡ self.old.rows }
+        ensures ok { OnOk result (self.new.clear ≡ true) }
+    {
+        if self.out.is_empty() {
+            return Ok(());
+        }
+        let row = &mut self.rows[self.sender];
+        deliver(row, &mut self.busy, &mut self.out)
+    }
+
+    /// Feeds the first message of the link to its node.
+    pub fn serve<M: Machine<Msg = T>>(
+        &mut self,
+        alloc: Global,
+        from: u8,
+        to: u8,
+        node: &mut M,
+    ) -> Result<(), AllocError>
+        requires clear { self.old.clear ≡ true }
+        requires holds { 0 < length (link self.old.rows from to) }
+        requires peers { M.peer_count node.old ≡ length self.old.rows }
+        ensures fed { OnOk result (Feeds M.steps to (Some from) self.old.rows node.old self.new.rows node.new) }
+        ensures err_rows { OnErr result (self.new.rows ≡ self.old.rows) }
+        ensures err_node { OnErr result (node.new ≡ node.old) }
+        ensures same_peers { M.peer_count node.new ≡ M.peer_count node.old }
+    {
+        let at = to as usize;
+        let row = &mut self.rows[from as usize];
+        match row.serve(alloc, from, at, node, &mut self.out) {
+            Err(refused) => return Err(refused),
+            Ok(()) => {}
+        }
+        let left = row.len(at);
+        lower(&mut self.busy, at, left);
+        self.sender = at;
+        let _ = self.settle();
+        Ok(())
+    }
+
+    /// Lets the node do its task.
+    pub fn work<M: Machine<Msg = T>>(
+        &mut self,
+        alloc: Global,
+        at: u8,
+        node: &mut M,
+    ) -> Result<(), AllocError>
+        requires clear { self.old.clear ≡ true }
+        requires is_node { at < length self.old.rows }
+        requires task { M.has_work node.old ≡ true }
+        requires peers { M.peer_count node.old ≡ length self.old.rows }
+        ensures fed { OnOk result (Feeds M.steps at None self.old.rows node.old self.new.rows node.new) }
+        ensures err_rows { OnErr result (self.new.rows ≡ self.old.rows) }
+        ensures err_node { OnErr result (node.new ≡ node.old) }
+        ensures same_peers { M.peer_count node.new ≡ M.peer_count node.old }
+    {
+        node.known();
+        match node.step(alloc, Input::Task, &mut self.out) {
+            Ok(()) => {
+                self.sender = at as usize;
+                let _ = self.settle();
+                return Ok(());
+            }
+            Err(_) => return Err(AllocError),
+        }
+    }
+}
+
+impl<T: Drop> Links<T> {
+    /// The links of these rows.
+    pub fn of_rows(alloc: Global, rows: Vec<Row<T>>) -> Result<Links<T>, AllocError>
+        requires few { length rows.items < 256 }
+        requires square { All (λ r. length r ≡ length rows.items) rows.items }
+        ensures { IfOk result (λ l. l ≡ record { rows = rows.items; clear = true }) }
+    {
+        let busy = count_all(alloc, &rows)?;
+        Ok(Links {
+            rows,
+            busy,
+            out: Out::new(alloc),
+            sender: 0,
+        })
+    }
+
+    /// The rows, where nothing waits.
+    pub fn into_rows(self) -> Vec<Row<T>>
+        requires { self.clear ≡ true }
+        ensures { result.items ≡ self.rows }
+    {
+        let Links {
+            rows,
+            busy: _,
+            out: _,
+            sender: _,
+        } = self;
+        rows
+    }
+}

@@ -1,0 +1,148 @@
+//! The links from one node.
+
+ghost use Rattle.std.specs.Prelude.{◌≡◌, ◌+◌, ◌<◌, ◌≤◌, ◌^◌, List, [], ◌∷◌, ◌++◌, length, replicate, OnOk, OnErr, IfOk, option_copied, slice_get, slice_index_or, slice_set, map, drop, Some};
+ghost use Rattle.std.specs.VecDeque.{deque_len};
+ghost use Rattle.seam_machine.specs.Sends.{first_target, AllBelow};
+ghost use Rattle.seam_machine.specs.Inside.{Serves, PutsFirst};
+
+use crate::machines::{Input, Machine};
+use crate::sends::Out;
+use std::alloc::{AllocError, Global};
+use std::collections::VecDeque;
+use std::marker::Model;
+
+/// The links from one node, in the order of their targets.
+#[derive(Drop)]
+pub struct Row<T> {
+    links: Vec<VecDeque<T>>,
+}
+
+impl<T> Model for Row<T> {
+    ghost use Rattle.std.specs.Prelude.{List, map};
+
+    ghost Value = { List (List T) };
+
+    ghost view = { λ r. map (λ q. q.items) r.links.items };
+}
+
+impl<T: Drop> Row<T> {
+    /// n empty links.
+    pub fn empty(alloc: Global, n: usize) -> Result<Row<T>, AllocError>
+        ensures { IfOk result (λ r. r ≡ replicate n []) }
+    {
+        let mut links = Vec::new(alloc);
+        for _i in 0..n {
+            links.push(VecDeque::new(alloc))?;
+        }
+        Ok(Row { links })
+    }
+
+    /// The next n of the links.
+    pub fn of_next(
+        alloc: Global,
+        n: usize,
+        rest: &mut VecDeque<Vec<T>>,
+    ) -> Result<Row<T>, AllocError>
+        requires { n ≤ length rest.old.items }
+        ensures taken { IfOk result (λ r. r ++ map (λ v. v.items) rest.new.items ≡ map (λ v. v.items) rest.old.items) }
+        ensures wide { IfOk result (λ r. length r ≡ n) }
+        ensures left { OnOk result (length rest.new.items + n ≡ length rest.old.items) }
+    {
+        let mut links = Vec::new(alloc);
+        for _i in 0..n {
+            let Some(link) = rest.pop_front() else {
+                unreachable!()
+            };
+            links.push(VecDeque::from_vec(link))?;
+        }
+        Ok(Row { links })
+    }
+
+    /// Puts the links, in their order, after the others.
+    pub fn pour(self, others: &mut Vec<Vec<T>>) -> Result<(), AllocError>
+        ensures { OnOk result (map (λ v. v.items) others.new.items ≡ map (λ v. v.items) others.old.items ++ self) }
+    {
+        let Row { links } = self;
+        for link in links {
+            others.push(link.into_vec())?;
+        }
+        Ok(())
+    }
+}
+
+impl<T> Row<T> {
+    /// How many messages stand in the link to that node.
+    pub fn len(&self, to: usize) -> usize
+        ensures len { result ≡ length (slice_index_or self.now to []) }
+        ensures small { result < 2 ^ 63 }
+    {
+        if to < self.links.len() {
+            self.links[to].len()
+        } else {
+            0
+        }
+    }
+
+    /// The message at place i of the link to that node.
+    pub fn get(&self, to: usize, i: usize) -> Option<&T>
+        ensures { option_copied result ≡ slice_get (slice_index_or self.now to []) i }
+    {
+        if to < self.links.len() {
+            return self.links[to].get(i);
+        }
+        None
+    }
+
+    /// Moves the first item of `out`, which goes to that node, to the end of its link.
+    pub fn put_first(&mut self, to: usize, out: &mut Out<T>) -> Result<(), AllocError>
+        requires target { first_target out.old.items ≡ Some to }
+        requires fits { to < length self.old }
+        ensures moved { OnOk result (PutsFirst to self.old out.old.items self.new out.new.items) }
+        ensures err_row { OnErr result (self.new ≡ self.old) }
+        ensures err_out { OnErr result (out.new.items ≡ out.old.items) }
+    {
+        let link = &mut self.links[to];
+        if let Err(refused) = link.reserve(1) {
+            return Err(refused);
+        }
+        let Some((_, item)) = out.take() else {
+            unreachable!()
+        };
+        link.push_back_reserved(item);
+        Ok(())
+    }
+
+    /// Feeds the first message of the link to that node to it.
+    pub fn serve<M: Machine<Msg = T>>(
+        &mut self,
+        alloc: Global,
+        from: u8,
+        to: usize,
+        node: &mut M,
+        out: &mut Out<T>,
+    ) -> Result<(), AllocError>
+        requires { 0 < length (slice_index_or self.old to []) }
+        ensures served { OnOk result (Serves M.steps from to self.old node.old out.old.items self.new node.new out.new.items) }
+        ensures err_row { OnErr result (self.new ≡ self.old) }
+        ensures err_node { OnErr result (node.new ≡ node.old) }
+        ensures err_out { OnErr result (out.new.items ≡ out.old.items) }
+        ensures to_peers { AllBelow (M.peer_count node.old) out.old.items → AllBelow (M.peer_count node.old) out.new.items }
+        ensures same_peers { M.peer_count node.new ≡ M.peer_count node.old }
+    {
+        node.known();
+        let link = &mut self.links[to];
+        let Some(item) = link.pop_front() else {
+            unreachable!()
+        };
+        match node.step(alloc, Input::From(from, item), out) {
+            Ok(()) => return Ok(()),
+            Err(refused) => {
+                let Input::From(_, back) = refused.item else {
+                    unreachable!()
+                };
+                link.push_front_reserved(back);
+                return Err(AllocError);
+            }
+        }
+    }
+}

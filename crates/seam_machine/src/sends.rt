@@ -1,0 +1,123 @@
+//! What a step sends.
+
+ghost use Rattle.std.specs.Prelude.{◌≡◌, ◌+◌, ◌<◌, ◌≤◌, [], ◌∷◌, ◌++◌, ◌^◌, length, OnOk, OnSome, IfNone, IfSome, slice_get, option_copied};
+ghost use Rattle.seam_machine.specs.Views.{OutView};
+ghost use Rattle.seam_machine.specs.Sends.{first_target, items_to};
+ghost use Rattle.seam_machine.specs.Inside.{is_empty};
+
+use std::alloc::{AllocError, Global};
+use std::collections::VecDeque;
+use std::marker::Model;
+
+/// The items that a step sends, in order of sending, and the room that was made for more.
+#[derive(Drop)]
+pub struct Out<T> {
+    items: VecDeque<(u8, T)>,
+}
+
+impl<T> Model for Out<T> {
+    ghost use Rattle.std.specs.Prelude.{◌-◌};
+    ghost use Rattle.std.specs.VecDeque.{deque_capacity, deque_len};
+    ghost use Rattle.seam_machine.specs.Views.{OutView};
+
+    ghost Value = { OutView T };
+
+    ghost view = { λ o. record { items = o.items.items; spare = deque_capacity o.items - deque_len o.items } };
+}
+
+impl<T> Out<T> {
+    pub fn new(alloc: Global) -> Self
+        ensures { result.items ≡ [] }
+    {
+        Out {
+            items: VecDeque::new(alloc),
+        }
+    }
+
+    /// Makes room for n more items.
+    pub fn reserve(&mut self, n: usize) -> Result<(), AllocError>
+        ensures items { self.new.items ≡ self.old.items }
+        ensures room { OnOk result (n ≤ self.new.spare) }
+        ensures kept { self.old.spare ≤ self.new.spare }
+    {
+        self.items.reserve(n)
+    }
+
+    /// Sends an item to that node, in room that was made before.
+    pub fn send(&mut self, to: u8, item: T)
+        requires { 0 < self.old.spare }
+        ensures items { self.new.items ≡ self.old.items ++ (to, item) ∷ [] }
+        ensures spare { self.new.spare + 1 ≡ self.old.spare }
+    {
+        self.items.push_back_reserved((to, item));
+    }
+
+    /// Takes out the item that was sent first, with its target. There is room for one more then.
+    pub fn take(&mut self) -> Option<(u8, T)>
+        ensures first { IfSome result (λ p. self.old.items ≡ p ∷ self.new.items) }
+        ensures spare { OnSome result (self.new.spare ≡ self.old.spare + 1) }
+        ensures none { IfNone result (self.old.items ≡ []) }
+        ensures unchanged { IfNone result (self.new ≡ self.old) }
+    {
+        self.items.pop_front()
+    }
+
+    /// Puts an item back before the others, in room that was made before.
+    pub fn put_back(&mut self, to: u8, item: T)
+        requires { 0 < self.old.spare }
+        ensures items { self.new.items ≡ (to, item) ∷ self.old.items }
+        ensures spare { self.new.spare + 1 ≡ self.old.spare }
+    {
+        self.items.push_front_reserved((to, item));
+    }
+
+    /// To whom the item goes that `take` would give.
+    pub fn next_target(&self) -> Option<u8>
+        ensures { result ≡ first_target self.now.items }
+    {
+        match self.items.front() {
+            None => None,
+            Some((to, _)) => Some(*to),
+        }
+    }
+
+    /// Whether there is no item.
+    pub fn is_empty(&self) -> bool
+        ensures { result ≡ is_empty self.now.items }
+    {
+        self.items.is_empty()
+    }
+
+    #[tactic(auto, using(crate::proofs::SendLemmas::count_yes, crate::proofs::SendLemmas::count_no))]
+    /// How many items go to that node.
+    pub fn count_to(&self, to: u8) -> usize
+        ensures count { result ≡ length (items_to to self.now.items) }
+        ensures small { result < 2 ^ 63 }
+    {
+        let mut n = 0;
+        for i in 0..self.items.len() {
+            if self.items[i].0 == to {
+                n += 1;
+            }
+        }
+        n
+    }
+
+    #[tactic(auto, using(crate::proofs::SendLemmas::count_yes, crate::proofs::SendLemmas::count_no))]
+    /// The item at place i of those that go to that node.
+    pub fn item_to(&self, to: u8, i: usize) -> Option<&T>
+        ensures { option_copied result ≡ slice_get (items_to to self.now.items) i }
+    {
+        let mut n = 0;
+        for k in 0..self.items.len() {
+            let sent = &self.items[k];
+            if sent.0 == to {
+                if n == i {
+                    return Some(&sent.1);
+                }
+                n += 1;
+            }
+        }
+        None
+    }
+}

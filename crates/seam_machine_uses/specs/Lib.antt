@@ -1,0 +1,3 @@
+pub mod Counters
+pub mod Rings
+pub mod Views

@@ -1,0 +1,14 @@
+//! The small machine that shows how `seam_machine` is used: counters in a ring that pass numbers on.
+//!
+//! A counter that was given a number passes it to the next counter. A number that comes is passed on, lowered by one, and is gone
+//! once it is 0. So each event lowers what is left to do by one, and every run ends.
+#![tactic(auto)]
+
+mod counter;
+#[cfg(test)]
+mod tests;
+
+pub use counter::{
+    Counter, a_ring_stays_a_ring, runs_of_a_ring_end, small_numbers_are_seen,
+    small_numbers_stay_small,
+};

@@ -1,0 +1,214 @@
+//! Numbered items, given out in the order of their numbers.
+//!
+//! A sender numbers its items 1, 2, 3 and so on. They may come over several ways, so a later one can come first;
+//! it is kept until its turn. No item is given twice, and none is left out.
+#![tactic(auto)]
+
+ghost use Rattle.std.specs.Prelude.{◌≡◌, ◌<◌, ◌≤◌, ◌^◌, [], ◌∷◌, length, false, IfOk, IfErr, OnOk, OnErr, option_map, slice_get, is_some, option_copied, ℕ, ◌==◌, Some, None, if◌then◌else◌};
+ghost use Rattle.std.specs.List.{AllWithin};
+ghost use Rattle.std.specs.List.Sorted.{IsNonDecreasingBy};
+ghost use Rattle.std.specs.VecDeque.{deque_len};
+ghost use Rattle.seam_order.specs.Held.{OrderView, item_at, IsInOrder};
+ghost use Rattle.seam_order.specs.Offers.{offer_answer, after_offer, next_item, after_taking};
+
+use std::alloc::Global;
+use std::collections::VecDeque;
+use std::marker::Model;
+
+#[cfg(test)]
+mod tests;
+
+/// There was no memory. The item that was given comes back.
+#[derive(Debug, Drop, PartialEq, Eq)]
+pub struct NoMemoryFor<T> {
+    pub item: T,
+}
+
+/// What an offered item meets.
+#[derive(Debug, Drop, PartialEq, Eq)]
+pub enum Offer<T> {
+    /// It is its turn: here it is.
+    Next(T),
+    /// It came early, and is kept.
+    Held,
+    /// Its turn is over: it comes back.
+    Stale(T),
+}
+
+/// The items of one sender, which are given out in the order of their numbers.
+///
+/// Contracts see the next number, and the items that are held with their numbers, in rising number.
+#[derive(Drop)]
+pub struct InOrder<T> {
+    next: u64,
+    // In rising number, none below `next`.
+    held: VecDeque<(u64, T)>,
+}
+
+impl<T> Model for InOrder<T> {
+    ghost use Rattle.seam_order.specs.Held.{OrderView, IsInOrder};
+
+    ghost Value = { OrderView T };
+
+    ghost view = { λ o. record { next = o.next; held = o.held.items } };
+
+    ghost invariant = { λ o. IsInOrder (record { next = o.next; held = o.held.items }) };
+}
+
+/// How many of the items have numbers below n.
+fn place_of<T>(held: &VecDeque<(u64, T)>, n: u64) -> usize
+    requires { IsNonDecreasingBy (λ p. p.0) held.now.items }
+    ensures bound { result ≤ deque_len held.now }
+    ensures below { AllWithin (λ p. p.0 < n) held.now.items 0 result }
+    ensures above { AllWithin (λ p. n ≤ p.0) held.now.items result (length held.now.items) }
+{
+    held.partition_point(|p| p.0 < n)
+}
+
+#[tactic(auto, using(crate::proofs::HeldLemmas::held_laws))]
+impl<T> InOrder<T> {
+    /// Begins at number 1 and holds nothing.
+    pub fn new(alloc: Global) -> Self
+        ensures next { result.next ≡ 1 }
+        ensures held { result.held ≡ [] }
+    {
+        Self::from_number(alloc, 1)
+    }
+
+    /// Begins at number n and holds nothing.
+    pub fn from_number(alloc: Global, n: u64) -> Self
+        requires from_one { 1 ≤ n }
+        requires small { n < 2 ^ 62 }
+        ensures next { result.next ≡ n }
+        ensures held { result.held ≡ [] }
+    {
+        InOrder {
+            next: n,
+            held: VecDeque::new(alloc),
+        }
+    }
+
+    /// Offers the item of number n: `Next` exactly at the next number, `Held` exactly above it, `Stale` exactly below it.
+    ///
+    /// Only an item that is to be held takes memory.
+    pub fn offer(&mut self, n: u64, item: T) -> Result<Offer<T>, NoMemoryFor<T>>
+        requires from_one { 1 ≤ n }
+        requires small { n < 2 ^ 62 }
+        requires not_held { is_some (item_at n self.old.held) ≡ false }
+        ensures answer { IfOk result (λ o. o ≡ offer_answer self.old.next n item) }
+        ensures after { OnOk result (self.new ≡ after_offer self.old n item) }
+
+        // Without memory the item comes back and nothing has changed.
+        ensures err { OnErr result (self.new ≡ self.old) }
+        ensures err_item { IfErr result (λ e. e.item ≡ item) }
+        ensures err_only_above { OnErr result (self.old.next < n) }
+    {
+        if n < self.next {
+            return Ok(Offer::Stale(item));
+        }
+        if n == self.next {
+            self.next = n + 1;
+            return Ok(Offer::Next(item));
+        }
+        let at = place_of(&self.held, n);
+        match self.held.insert(at, (n, item)) {
+            Ok(()) => return Ok(Offer::Held),
+            Err(refused) => {
+                return Err(NoMemoryFor {
+                    item: refused.value.1,
+                });
+            }
+        }
+    }
+
+    /// Takes the held item whose turn it is. The next number rises by one.
+    pub fn take_next(&mut self) -> Option<T>
+        ensures item { result ≡ next_item self.old }
+        ensures after { self.new ≡ after_taking self.old }
+    {
+        if !self.is_ready() {
+            return None;
+        }
+        let Some((_, item)) = self.held.pop_front() else {
+            unreachable!()
+        };
+        self.next += 1;
+        Some(item)
+    }
+
+    /// The item that `take_next` would give.
+    pub fn peek(&self) -> Option<&T>
+        ensures { option_copied result ≡ next_item self.now }
+    {
+        let Some((n, item)) = self.held.front() else {
+            return None;
+        };
+        if *n == self.next { Some(item) } else { None }
+    }
+
+    /// Whether `take_next` would give an item.
+    pub fn is_ready(&self) -> bool
+        ensures { result ≡ is_some (next_item self.now) }
+    {
+        let Some((n, _)) = self.held.front() else {
+            return false;
+        };
+        *n == self.next
+    }
+
+    /// Whether the item of number n is held.
+    pub fn holds(&self, n: u64) -> bool
+        ensures { result ≡ is_some (item_at n self.now.held) }
+    {
+        let at = place_of(&self.held, n);
+        match self.held.get(at) {
+            None => return false,
+            Some((m, _)) => return *m == n,
+        }
+    }
+
+    /// The number whose turn it is. What is held has rising numbers, from that one on.
+    pub fn next_number(&self) -> u64
+        ensures next { result ≡ self.now.next }
+        ensures order { IsInOrder self.now }
+    {
+        self.next
+    }
+
+    /// The held items with their numbers, in rising number; none where i is not below their count.
+    pub fn held_at(&self, i: usize) -> Option<(u64, &T)>
+        ensures { option_map (λ p. (p.0, p.1.now)) result ≡ slice_get self.now.held i }
+    {
+        let Some((n, item)) = self.held.get(i) else {
+            return None;
+        };
+        Some((*n, item))
+    }
+}
+
+fn sent<T: Send>(value: T) -> T
+    ensures { result ≡ value }
+{
+    value
+}
+
+/// Items that may go to another thread may go there in their order.
+pub fn send_in_order<T: Send>(items: InOrder<T>) -> InOrder<T>
+    ensures { result ≡ items }
+{
+    sent(items)
+}
+
+/// The order stays one: numbers rise from the next one on, after each offer and each taking.
+pub fn order_is_kept<T>()
+    ensures offered { (w : OrderView T) (n : ℕ) (item : T) → IsInOrder w → 1 ≤ n → n < 2 ^ 62 → is_some (item_at n w.held) ≡ false → IsInOrder (after_offer w n item) }
+    ensures taken { (w : OrderView T) → IsInOrder w → IsInOrder (after_taking w) }
+{}
+
+/// What is held is exactly what was offered early and not yet given: an early offer adds its item,
+/// any other offer none, and a taking leaves out the item whose turn it is.
+pub fn held_is_what_came_early<T>()
+    ensures early { (w : OrderView T) (n : ℕ) (item : T) (m : ℕ) → is_some (item_at n w.held) ≡ false → w.next < n → item_at m (after_offer w n item).held ≡ (if m == n then Some item else item_at m w.held) }
+    ensures other { (w : OrderView T) (n : ℕ) (item : T) → n ≤ w.next → (after_offer w n item).held ≡ w.held }
+    ensures taken { (w : OrderView T) (m : ℕ) → IsInOrder w → item_at m (after_taking w).held ≡ (if m == w.next then None else item_at m w.held) }
+{}
