@@ -87,6 +87,13 @@ impl Defs {
         }
     }
 
+    /// How many methods a type has.
+    pub fn method_count(&self, ty: u16) -> u16
+        ensures { result ≡ length (type_of self.now ty).methods }
+    {
+        self.methods(ty).len() as u16
+    }
+
     /// Whether there is a type of this number.
     pub fn has_type(&self, ty: u16) -> bool
         ensures { IsTrue result ↔ (ty < length self.now) }

@@ -1,7 +1,13 @@
 -- What the table of entities holds, beside the book and the orders of a transcript.
-use Rattle.std.specs.Prelude.{◌≡◌, ℕ, ◌+◌, ◌<◌, ◌≤◌, ◌^◌, Bool, ◌&&◌, List, [], ◌∷◌, ◌++◌, length, fold, ◌==◌, Some, None, MatchOption, slice_index, if◌then◌else◌}
+use Rattle.std.specs.Prelude.{◌≡◌, ℕ, ◌+◌, ◌<◌, ◌≤◌, ◌^◌, Bool, ◌&&◌, List, [], ◌∷◌, ◌++◌, length, fold, ◌==◌, Some, None, MatchOption, IfSome, slice_index, slice_set, min, ◌-◌, ◌≢◌, if◌then◌else◌}
 use Rattle.std.specs.Ordering.{nat_cmp}
 use Rattle.std.specs.BTreeMap.{get, btree_map_len, IsOrdered}
+use Rattle.seam_geo.specs.declared.pos.Pos.{Pos}
+use Rattle.seam_defs.specs.Types.{type_of, method_of}
+use Rattle.seam_defs.specs.Groups.{held_by}
+use Rattle.seam_defs.specs.Deeds.{start_values, after}
+use Rattle.seam_defs.specs.declared.types.TypeDef.{TypeDef}
+use Rattle.seam_defs.specs.declared.states.State.{State}
 use Rattle.seam_defs.specs.declared.flags.Part.{Part}
 use Rattle.seam_defs.specs.declared.flags.Part.TheVariants as part
 use Rattle.seam_defs.specs.declared.states.Deed.{Deed}
@@ -9,7 +15,7 @@ use Rattle.seam_transcript.specs.declared.sender.Sender.{Sender}
 use Rattle.seam_transcript.specs.declared.sender.Sender.TheVariants.{Base}
 use Rattle.seam_transcript.specs.declared.executed.Executed.{Executed}
 use Rattle.seam_transcript.specs.Language.{Command}
-use Rattle.seam_transcript.specs.Book.{Header, Book, Created, Called, created_as, same_part, same_sender, Accepts}
+use Rattle.seam_transcript.specs.Book.{Header, Book, Created, Called, created_as, same_part, same_sender, Accepts, IsBuilt}
 use Rattle.seam_transcript.specs.Orders.{Orders, of_sender}
 use Rattle.seam_transcript.specs.FlatTable.{flat}
 use Rattle.seam_world.specs.declared.table.PartState.{PartState}
@@ -64,3 +70,70 @@ pub record TableStands (h : Header) (b : Book) (before : Orders) (t : Table) : T
 abbrev pub Judged : Header → Book → Command → Orders → Table → Verdict → Type 0
 Judged h b c before t verdict.Kept = (next : Book) × Accepts h b c next × TableStands h next before t
 Judged h b c before t verdict.Refused = ((next : Book) → ¬ (Accepts h b c next)) × TableStands h b before t
+
+-- ---- what the parts of the table do
+
+-- there is room for an entity of this number, and the position is in the space
+pub record HasRoom (t : Table) (e : ℕ) (pos : Pos) : Type 0 where
+  pub is_new : get nat_cmp t.entities e ≡ None
+  pub room : btree_map_len t.entities < 65536
+  pub in_x : pos.x < t.settings.size
+  pub in_z : pos.z < t.settings.size
+
+-- the state of a part of a new entity
+abbrev pub start_of : List TypeDef → ℕ → Part → Pos → State
+start_of defs ty p pos = record { pos = pos; props = start_values (type_of defs ty).properties (held_by p) }
+
+-- a part that executed nothing
+pub record IsFresh (first : State) (s : PartState) : Type 0 where
+  pub state : s.state ≡ first
+  pub version : s.version ≡ 0
+  pub done : s.done.items ≡ []
+  pub last : (n : ℕ) → n < 8 → slice_index s.last n ≡ 0
+  pub senders : length s.last ≡ 8
+
+-- an entity that executed nothing
+pub record IsNew (defs : List TypeDef) (number : ℕ) (pos : Pos) (v : Entity) : Type 0 where
+  pub ty : v.ty ≡ number
+  pub cell : IsFresh (start_of defs number part.Cell pos) v.cell
+  pub base : IsFresh (start_of defs number part.Base pos) v.base
+
+-- an entity's type has a method of the name, whose calls are built
+pub record HasMethod (h : Header) (b : Book) (e : ℕ) (method_name : List ℕ) (c : Created) (m : ℕ) : Type 0 where
+  pub entity : created_as b e ≡ Some c
+  pub built : IsBuilt h.defs c.ty m
+  pub named : (method_of h.defs c.ty m).name ≡ method_name
+
+-- the place of a base node's count
+abbrev pub place_of_node : ℕ → ℕ
+place_of_node n = min (n - 1) 7
+
+-- a call of a sender is counted, and this is its number
+abbrev pub Counts : Sender → PartState → PartState → ℕ → Type 0
+Counts (Base n) old new number =
+  (number ≡ min (slice_index old.last (place_of_node n) + 1) (2 ^ 64 - 1))
+  × (new ≡ record old { last = slice_set old.last (place_of_node n) number })
+
+-- a part executed a call
+pub record Executes (defs : List TypeDef) (ty : ℕ) (sender : Sender) (deed : Deed) (old new : PartState) : Type 0 where
+  pub number : ℕ
+  pub counted : PartState
+  pub counts : Counts sender old counted number
+  pub last : new.last ≡ counted.last
+  pub state : new.state ≡ after defs ty old.state deed
+  pub version : new.version ≡ min (old.version + 1) (2 ^ 64 - 1)
+  pub done : new.done.items ≡ old.done.items ++ record { sender = sender; number = number; deed = deed } ∷ []
+
+-- the cell part of an entity executed a call, and nothing else changed
+pub record ExecutesOn (old new : Table) (e : ℕ) (sender : Sender) (deed : Deed) : Type 0 where
+  pub defs : new.defs ≡ old.defs
+  pub settings : new.settings ≡ old.settings
+  pub count : btree_map_len new.entities ≡ btree_map_len old.entities
+  pub ordered : IsOrdered nat_cmp old.entities → IsOrdered nat_cmp new.entities
+  pub others : (other : ℕ) → other ≢ e → get nat_cmp new.entities other ≡ get nat_cmp old.entities other
+  pub here : IfSome (get nat_cmp old.entities e) (λ v. (w : Entity) × (get nat_cmp new.entities e ≡ Some w)
+      × (w.ty ≡ v.ty) × (w.base ≡ v.base) × Executes old.defs v.ty sender deed v.cell w.cell)
+
+-- the sender is one of so many base nodes
+abbrev pub IsAmong : ℕ → Sender → Type 0
+IsAmong bases (Base n) = (1 ≤ n) × (n ≤ bases)

@@ -5,10 +5,10 @@ ghost use Rattle.seam_defs.specs.Groups.{held_by};
 ghost use Rattle.seam_defs.specs.Types.{type_of, method_of};
 ghost use Rattle.seam_value.specs.Values.{decimal_of};
 ghost use Rattle.seam_transcript.specs.Language.{Create, Call};
-ghost use Rattle.seam_transcript.specs.Book.{Header, Book, Created, empty_book, closed, sender_text, IsSender, IsBuilt};
+ghost use Rattle.seam_transcript.specs.Book.{Header, Book, Created, empty_book, closed, sender_text, IsBuilt, MayCreate};
 ghost use Rattle.seam_transcript.specs.Orders.{Orders, no_orders, of_sender};
-ghost use Rattle.seam_transcript.specs.FlatTable.{first_state};
-ghost use Rattle.seam_world.specs.Table.{PartStands, TableStands, Judged, next_executed, sequence};
+ghost use Rattle.seam_transcript.specs.declared.sender.Sender.{Sender as Senders};
+ghost use Rattle.seam_world.specs.Table.{TableStands, Judged, sequence, HasRoom, IsNew, start_of, HasMethod, Executes, ExecutesOn, Counts, IsAmong};
 
 use crate::command::whole_number;
 use seam_defs::{Args, Deed, Defs, Part, Settings, State};
@@ -56,7 +56,13 @@ pub struct Table {
 }
 
 impl PartState {
-    fn new(alloc: Global, state: State) -> Self {
+    fn new(alloc: Global, state: State) -> Self
+        ensures state { result.state ≡ state }
+        ensures version { result.version ≡ 0 }
+        ensures done { result.done.items ≡ [] }
+        ensures last { (n : ℕ) → n < 8 → slice_index result.last n ≡ 0 }
+        ensures senders { length result.last ≡ 8 }
+    {
         PartState {
             state,
             version: 0,
@@ -72,7 +78,9 @@ impl PartState {
         ty: u16,
         sender: Sender,
         deed: Deed,
-    ) -> Result<(), AllocError> {
+    ) -> Result<(), AllocError>
+        ensures { OnOk result (Executes defs.now ty sender deed self.old self.new) }
+    {
         let number = self.next_number(sender);
         let _changed = defs.apply(ty, &mut self.state, &deed)?;
         self.done.push(Executed {
@@ -85,12 +93,15 @@ impl PartState {
     }
 
     // Counts one more call of a sender.
-    fn next_number(&mut self, sender: Sender) -> u64 {
+    fn next_number(&mut self, sender: Sender) -> u64
+        ensures { Counts sender self.old self.new result }
+    {
         match sender {
             Sender::Base(node) => {
-                let last = &mut self.last[(node as usize).saturating_sub(1).min(7)];
-                *last = last.saturating_add(1);
-                *last
+                let place = (node as usize).saturating_sub(1).min(7);
+                let number = self.last[place].saturating_add(1);
+                self.last[place] = number;
+                number
             }
         }
     }
@@ -124,25 +135,49 @@ impl Table {
     }
 
     /// Makes an entity, unless its number was used, its type is none, it stands outside the space, or there are too many.
-    pub fn create(&mut self, entity: u32, type_name: &[u8], pos: Pos) -> Result<Verdict, AllocError>
+    pub fn create(
+        &mut self,
+        entity: u32,
+        type_name: &[u8],
+        pos: Pos,
+    ) -> Result<Verdict, AllocError>
         ensures { IfOk result (λ v. (h : Header) (b : Book) (before : Orders) → TableStands h b before self.old
             → Judged h b (Create entity type_name.now pos.x pos.z) before self.new v) }
     {
-        if !self.has_room(entity, pos) {
-            return Ok(Verdict::Refused);
-        }
-        match self.defs.find_type(type_name) {
-            Some(ty) if self.takes_calls(ty) => {
+        match self.type_for(entity, type_name, pos) {
+            Some(ty) => {
                 let made = self.new_entity(ty, pos)?;
                 self.entities.insert(entity, made)?;
                 Ok(Verdict::Kept)
             }
-            _ => Ok(Verdict::Refused),
+            None => Ok(Verdict::Refused),
+        }
+    }
+
+    // The type of the entity, where it may be made.
+    fn type_for(&self, entity: u32, type_name: &[u8], pos: Pos) -> Option<u16>
+        ensures { (h : Header) (b : Book) (before : Orders) → TableStands h b before self.now → MatchOption result
+            ((ty : ℕ) → ¬ (MayCreate h b entity type_name.now pos ty)) (MayCreate h b entity type_name.now pos) }
+    {
+        if !self.has_room(entity, pos) {
+            return None;
+        }
+        match self.defs.find_type(type_name) {
+            Some(ty) => {
+                if self.takes_calls(ty) {
+                    Some(ty)
+                } else {
+                    None
+                }
+            }
+            None => None,
         }
     }
 
     // Whether an entity of this number may be made at the position.
-    fn has_room(&self, entity: u32, pos: Pos) -> bool {
+    fn has_room(&self, entity: u32, pos: Pos) -> bool
+        ensures { IsTrue result ↔ HasRoom self.now entity pos }
+    {
         let size = self.settings.size;
         !self.entities.contains_key(&entity)
             && self.entities.len() < MOST_ENTITIES
@@ -150,7 +185,9 @@ impl Table {
             && pos.z < size
     }
 
-    fn new_entity(&self, ty: u16, pos: Pos) -> Result<Entity, AllocError> {
+    fn new_entity(&self, ty: u16, pos: Pos) -> Result<Entity, AllocError>
+        ensures { IfOk result (IsNew self.now.defs ty pos) }
+    {
         let cell = self.start_state(ty, Part::Cell, pos)?;
         let base = self.start_state(ty, Part::Base, pos)?;
         Ok(Entity {
@@ -160,7 +197,9 @@ impl Table {
         })
     }
 
-    fn start_state(&self, ty: u16, part: Part, pos: Pos) -> Result<State, AllocError> {
+    fn start_state(&self, ty: u16, part: Part, pos: Pos) -> Result<State, AllocError>
+        ensures { IfOk result (λ s. s ≡ start_of self.now.defs ty part pos) }
+    {
         let props = self.defs.start_props(ty, part.held())?;
         Ok(State { pos, props })
     }
@@ -179,7 +218,12 @@ impl Table {
     fn takes_calls(&self, ty: u16) -> bool
         ensures { IsTrue result ↔ ((m : ℕ) × IsBuilt self.now.defs ty m) }
     {
-        (0..32).any(|method| self.is_built(ty, method))
+        for method in 0..self.defs.method_count(ty) {
+            if self.is_built(ty, method) {
+                return true;
+            }
+        }
+        false
     }
 
     /// Executes a call, unless there is no such sender, entity or method, or the argument is no spelling of a number of the
@@ -198,43 +242,49 @@ impl Table {
         let Some(sender) = sender_named(self.alloc, sender_name, self.settings.bases) else {
             return Ok(Verdict::Refused);
         };
-        let Some(ty) = self.type_of(entity) else {
-            return Ok(Verdict::Refused);
-        };
-        let Some(method) = self.find_built(ty, method_name) else {
+        let Some(method) = self.method_for(entity, method_name) else {
             return Ok(Verdict::Refused);
         };
         match Value::parse(self.alloc, argument, ValueType::Int32) {
             Ok(value) => {
                 let args = Args::of(vec![in self.alloc; value]?);
-                self.execute(entity, sender, Deed::Method(method, args))
+                self.execute(entity, sender, Deed::Method(method, args))?;
+                Ok(Verdict::Kept)
             }
             Err(ValueError::NoMemory) => Err(AllocError),
             Err(_) => Ok(Verdict::Refused),
         }
     }
 
-    fn type_of(&self, entity: u32) -> Option<u16> {
-        self.entities.get(&entity).map(|e| e.ty)
-    }
-
-    // The method of this name, where calls of it are built.
-    fn find_built(&self, ty: u16, method_name: &[u8]) -> Option<u16> {
-        match self.defs.find_method(ty, method_name) {
-            Some(method) if self.is_built(ty, method) => Some(method),
-            _ => None,
+    // The method of this name of an entity, where calls of it are built.
+    fn method_for(&self, entity: u32, method_name: &[u8]) -> Option<u16>
+        ensures { (h : Header) (b : Book) (before : Orders) → TableStands h b before self.now → MatchOption result
+            ((c : Created) (m : ℕ) → ¬ (HasMethod h b entity method_name.now c m))
+            (λ m. (c : Created) × HasMethod h b entity method_name.now c m) }
+    {
+        match self.entities.get(&entity) {
+            Some(e) => match self.defs.find_method(e.ty, method_name) {
+                Some(method) => {
+                    if self.is_built(e.ty, method) {
+                        Some(method)
+                    } else {
+                        None
+                    }
+                }
+                None => None,
+            },
+            None => None,
         }
     }
 
-    // Executes a call on the cell part of an entity.
-    fn execute(&mut self, entity: u32, sender: Sender, deed: Deed) -> Result<Verdict, AllocError> {
-        match self.entities.get_mut(&entity) {
-            Some(e) => {
-                e.cell.execute(&self.defs, e.ty, sender, deed)?;
-                Ok(Verdict::Kept)
-            }
-            None => Ok(Verdict::Refused),
+    // Executes a call on the cell part of an entity, which is there.
+    fn execute(&mut self, entity: u32, sender: Sender, deed: Deed) -> Result<(), AllocError>
+        ensures { OnOk result (ExecutesOn self.old self.new entity sender deed) }
+    {
+        if let Some(e) = self.entities.get_mut(&entity) {
+            e.cell.execute(&self.defs, e.ty, sender, deed)?;
         }
+        Ok(())
     }
 
     /// Begins a new round: no call was executed in it.
@@ -251,16 +301,20 @@ impl Table {
 
 // The sender of this name: `b`, and the number of a base node from 1 on.
 fn sender_named(alloc: Global, name: &[u8], bases: u32) -> Option<Sender>
-    ensures { MatchOption result
-        ((n : ℕ) → 1 ≤ n → n ≤ bases → bases ≤ 8 → 98 ∷ decimal_of n ≢ name.now)
-        (λ s. (h : Header) → h.settings.bases ≡ bases → bases ≤ 8 → IsSender h s × (sender_text s ≡ name.now)) }
+    ensures { bases ≤ 8 → MatchOption result
+        ((s : Senders) → IsAmong bases s → sender_text s ≢ name.now)
+        (λ s. IsAmong bases s × (sender_text s ≡ name.now)) }
 {
     match name {
         [b'b', number @ ..] => match whole_number(alloc, number) {
-            Some(number) if 1 <= number && number <= bases && number <= 8 => {
-                Some(Sender::Base(number as u8))
+            Some(number) => {
+                if 1 <= number && number <= bases && number <= 8 {
+                    Some(Sender::Base(number as u8))
+                } else {
+                    None
+                }
             }
-            _ => None,
+            None => None,
         },
         _ => None,
     }
