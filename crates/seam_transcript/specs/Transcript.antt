@@ -46,7 +46,7 @@ abbrev pub IsRefused : Standing → List ℕ → List ℕ → Standing → Type 
 IsRefused s cause text t = (text ≡ refusal s.lines cause) × (t ≡ s)
 
 -- A command other than `sync` is taken.
-abbrev TakesOther : Header → Standing → Command → List ℕ → Standing → Type 0
+abbrev pub TakesOther : Header → Standing → Command → List ℕ → Standing → Type 0
 TakesOther h s c text t =
     ((b : Book) × Accepts h s.book c b × MatchBool (b.open_lines == 65536) (EndsRound h s b text t) ((text ≡ []) × (t ≡ with_book s b)))
     ⊎ (((b : Book) → ¬ (Accepts h s.book c b)) × IsRefused s (codes "command") text t)

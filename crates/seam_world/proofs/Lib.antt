@@ -3,3 +3,4 @@ pub mod Skips
 pub mod WordTables
 pub mod Sequences
 pub mod Rounds
+pub mod RunLemmas

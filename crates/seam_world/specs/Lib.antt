@@ -3,3 +3,5 @@ pub mod Said
 pub mod Table
 pub mod Script
 pub mod Text
+pub mod Ends
+pub mod Histories

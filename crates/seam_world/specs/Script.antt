@@ -1,23 +1,53 @@
 -- How far a script was taken, beside the standing of a transcript.
-use Rattle.std.specs.Prelude.{◌≡◌, ℕ, ◌+◌, ◌<◌, ◌≤◌, List, [], ◌++◌, length}
+use Rattle.std.specs.Prelude.{◌≡◌, ℕ, ◌+◌, ◌<◌, ◌≤◌, ◌^◌, List, [], ◌++◌, length}
 use Rattle.seam_io.specs.Lines.{Line}
+use Rattle.seam_transcript.specs.Language.{Command}
 use Rattle.seam_transcript.specs.Book.{Header}
-use Rattle.seam_transcript.specs.Transcript.{Standing, Step, EndsInput}
-use Rattle.seam_world.specs.Table.{TableStands}
+use Rattle.seam_transcript.specs.Transcript.{Standing, Step, EndsRound, TakesOther, counted}
+use Rattle.seam_world.specs.Table.{TableStands, Judged}
 use Rattle.seam_world.specs.declared.script.Script.{Script}
+use Rattle.seam_world.specs.declared.table.Verdict.{Verdict}
+
+-- the script's table and counts are those of the standing, but for the accepted lines of the open round; fewer calls were
+-- accepted, and fewer rounds ended, than lines were taken
+pub record IsReady (h : Header) (t : Standing) (s : Script) : Type 0 where
+  pub table : TableStands h t.book t.orders s.table
+  pub line : s.line ≡ t.lines
+  pub round : s.round ≡ t.rounds
+  pub calls : length t.book.calls < t.lines
+  pub rounds : t.rounds < t.lines
 
 -- the script stands where the transcript does
 pub record ScriptStands (h : Header) (t : Standing) (s : Script) : Type 0 where
-  pub table : TableStands h t.book t.orders s.table
+  pub ready : IsReady h t s
+  pub accepted : s.accepted ≡ t.book.open_lines
+  pub below_most : t.book.open_lines < 65536
+
+-- the open round ended, and its text is the piece
+pub record EndsOpenRound (h : Header) (t : Standing) (new : Script) (piece : List ℕ) : Type 0 where
+  pub next : Standing
+  pub ends : EndsRound h t t.book piece next
+  pub stands : ScriptStands h next new
+
+-- a command was judged, and the script's counts are those from before it
+pub record AwaitsVerdict (h : Header) (t : Standing) (c : Command) (v : Verdict) (s : Script) : Type 0 where
+  pub judged : Judged h t.book c t.orders s.table v
   pub line : s.line ≡ t.lines
   pub round : s.round ≡ t.rounds
   pub accepted : s.accepted ≡ t.book.open_lines
   pub below_most : t.book.open_lines < 65536
-  pub calls : length t.book.calls < t.lines
+  pub calls : length t.book.calls + 1 < t.lines
   pub rounds : t.rounds < t.lines
 
+-- a command other than `sync` was taken, and its text is the piece
+pub record TakesPieceOf (h : Header) (t : Standing) (c : Command) (new : Script) (piece : List ℕ) : Type 0 where
+  pub next : Standing
+  pub takes : TakesOther h t c piece next
+  pub stands : ScriptStands h next new
+
 -- a line was taken, and its text is the piece
-pub record TakesPiece (h : Header) (t : Standing) (line : Line) (s : Script) (piece : List ℕ) : Type 0 where
+pub record TakesPiece (h : Header) (t : Standing) (line : Line) (new : Script) (piece : List ℕ) : Type 0 where
   pub next : Standing
   pub step : Step h t line piece next
-  pub stands : ScriptStands h next s
+  pub lines : next.lines ≡ t.lines + 1
+  pub stands : ScriptStands h next new

@@ -1,15 +1,14 @@
 // A script, line by line.
-ghost use Rattle.std.specs.Prelude.{◌≡◌, ◌<◌, ◌≤◌, ◌^◌, ◌+◌, ◌++◌, List, ℕ, length, OnOk, IfOk};
+ghost use Rattle.std.specs.Prelude.{◌≡◌, ◌<◌, ◌≤◌, ◌^◌, ◌++◌, List, ℕ, length, OnOk, IfOk};
 ghost use Rattle.seam_io.specs.Lines.{Content, Long};
-ghost use Rattle.seam_transcript.specs.Book.{Header, Book, Accepts, empty_header};
-ghost use Rattle.seam_transcript.specs.Language.{Command};
-ghost use Rattle.seam_transcript.specs.Transcript.{Standing, start, counted, with_book, Step, EndsRound, EndsInput, TakesCommand, IsRefused};
-ghost use Rattle.seam_world.specs.Table.{TableStands, Judged};
-ghost use Rattle.seam_world.specs.Script.{ScriptStands, TakesPiece};
+ghost use Rattle.seam_transcript.specs.Book.{empty_header};
+ghost use Rattle.seam_transcript.specs.Language.{Command as Commands};
+ghost use Rattle.seam_transcript.specs.Transcript.{Standing, start, EndsInput};
+ghost use Rattle.seam_world.specs.Script.{IsReady, ScriptStands, AwaitsVerdict, TakesPiece, TakesPieceOf, EndsOpenRound};
 
 use crate::command::{Said, read_line};
 use crate::table::{Table, Verdict};
-use crate::text::{push_refusal, push_round};
+use crate::text::{push_bad_words, push_refusal, push_round};
 use seam_defs::{Defs, Settings};
 use std::alloc::{AllocError, Global};
 
@@ -53,10 +52,7 @@ impl Script {
         match read_line(self.alloc, line) {
             Said::Skipped => Ok(()),
             Said::Sync => self.end_round(out),
-            Said::BadWords(error) => {
-                let cause = [b'w', b'o', b'r', b'd', b's', b' ', b'0' + error.number()];
-                push_refusal(out, self.line, &cause)
-            }
+            Said::BadWords(error) => push_bad_words(out, self.line, error.number()),
             Said::Create {
                 entity,
                 type_name,
@@ -79,7 +75,10 @@ impl Script {
     }
 
     // Counts an accepted command, or prints that it was refused.
-    fn judged(&mut self, verdict: Verdict, out: &mut Vec<u8>) -> Result<(), AllocError> {
+    fn judged(&mut self, verdict: Verdict, out: &mut Vec<u8>) -> Result<(), AllocError>
+        ensures { OnOk result ((t : Standing) (c : Commands) → AwaitsVerdict empty_header t c verdict self.old → t.lines < 2 ^ 62
+            → (piece : List ℕ) × TakesPieceOf empty_header t c self.new piece × (out.new.items ≡ out.old.items ++ piece)) }
+    {
         match verdict {
             Verdict::Kept => {
                 self.accepted = self.accepted.saturating_add(1);
@@ -102,7 +101,10 @@ impl Script {
     }
 
     // Ends the open round, whose text is appended.
-    fn end_round(&mut self, out: &mut Vec<u8>) -> Result<(), AllocError> {
+    fn end_round(&mut self, out: &mut Vec<u8>) -> Result<(), AllocError>
+        ensures { OnOk result ((t : Standing) → IsReady empty_header t self.old → t.lines < 2 ^ 62
+            → (piece : List ℕ) × EndsOpenRound empty_header t self.new piece × (out.new.items ≡ out.old.items ++ piece)) }
+    {
         self.round = self.round.saturating_add(1);
         push_round(self.alloc, out, self.round, &self.table)?;
         self.table.start_round();

@@ -26,6 +26,17 @@ pub fn push_refusal(out: &mut Vec<u8>, line: u64, cause: &[u8]) -> Result<(), Al
     out.extend_from_slice(b"\n")
 }
 
+/// Appends the line of a line whose words are bad, with the number of the fault.
+pub fn push_bad_words(out: &mut Vec<u8>, line: u64, fault: u8) -> Result<(), AllocError>
+    ensures { OnOk result (out.new.items ≡ out.old.items ++ refusal line (codes "words " ++ decimal_of fault)) }
+{
+    out.extend_from_slice(b"line ")?;
+    push_number(out, line)?;
+    out.extend_from_slice(b" words ")?;
+    push_number(out, u64::from(fault))?;
+    out.extend_from_slice(b"\n")
+}
+
 /// Appends the text of a round: the executed calls, the homes and the base parts, each in rising entity number.
 pub fn push_round(
     alloc: Global,

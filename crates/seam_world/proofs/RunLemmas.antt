@@ -1,0 +1,288 @@
+-- How a run goes on, and how it stops.
+use Rattle.std.proofs.Common.{◌≡◌, ◌≢◌, ◌⊎◌, inl, inr, ℕ, ◌+◌, ◌-◌, ◌<◌, ◌≤◌, ◌^◌, min, Bool, true, false, List, [], ◌∷◌, ◌++◌, Option, None, Some, Result, Ok, Err, length, refl, sym, ap, ◌∙◌, subst, arith, append_assoc, append-nil, length-append}
+use Rattle.std.proofs.KnownBytes.{Appends-trans, Appends-nil, Consumes-nil}
+use Rattle.std.proofs.lemmas.Bool.{false≢true}
+use Rattle.std.specs.Prelude.{codes, MatchOption, OnOk}
+use Rattle.std.specs.Io.KnownBytes.{Consumes, Appends, IsAtEnd}
+use Rattle.seam_io.specs.Causes.{Rose}
+use Rattle.seam_io.specs.Lines.{Line, Content, Long, lines_of, whole_lines_of, lines_left}
+use Rattle.seam_io.specs.Reading.{SourceState, Reader, Reading, budget, IsExact}
+use Rattle.seam_io.specs.declared.lines.Next.TheVariants as next
+use Rattle.seam_transcript.specs.Book.{Header}
+use Rattle.seam_transcript.specs.Transcript.{Standing, start, Step, Run, separator, BeginsWell, IsOpen, IsEnded, EndsInput}
+use Rattle.seam_world.specs.Script.{ScriptStands, TakesPiece}
+use Rattle.seam_world.specs.Status.{IsHeaderEnd, IsRunEnd}
+use Rattle.seam_world.specs.Ends.{IsFront, BeginsWith, IsHeaderFault, Tells, HasFaultLine}
+use Rattle.seam_world.specs.Histories.{Going, Stopped, Prints}
+use Rattle.seam_world.specs.declared.script.Script.{Script}
+use Rattle.seam_world.specs.declared.status.Status.{Status}
+use Rattle.seam_world.specs.declared.status.Status.TheVariants as status
+
+-- a run goes on by one line
+pub run_more : (h : Header) (s : Standing) (lines : List Line) (text : List ℕ) (t : Standing) (line : Line) (piece : List ℕ) (u : Standing) → Run h s lines text t → Step h t line piece u
+    → Run h s (lines ++ line ∷ []) (text ++ piece) u
+run_more h s [] text t line piece u r st =
+    (piece, [], u, ap (λ x. x ++ piece) r.0 ∙ sym (append-nil piece), subst (λ x. Step h x line piece u) r.1 st, (refl, refl))
+run_more h s (first ∷ lines) text t line piece u r st =
+    (r.0, r.1 ++ piece, r.2, ap (λ x. x ++ piece) r.3 ∙ append_assoc r.0 r.1 piece, r.4, run_more h r.2 lines r.1 t line piece u r.5 st)
+
+-- what was read is a front of the lines of what was given
+pub read_front : (began now : SourceState) (r : Reader) (given : List ℕ) (read : List Line) → Reading began now r given read → IsFront read (lines_of given)
+read_front began now r given read h =
+    (lines_left r.passing (r.held ++ []), ap lines_of (sym (append-nil given)) ∙ h.lines [] (λ e. refl))
+
+shorter_front : (read more all : List Line) → IsFront (read ++ more) all → IsFront read all
+shorter_front read more all f = (more ++ f.0, f.1 ∙ append_assoc read more f.0)
+
+-- the source and the sink after the call
+module _ (h : Header) (began : SourceState) (old : Option (List ℕ)) (before : ℕ) (now later : SourceState) (reader after : Reader) (was is : Option (List ℕ)) (faults faults' : ℕ) (script : Script)
+    (g : Going h began now reader old was before faults script) (limit : after.limit ≡ reader.limit) (higher : faults ≤ faults') where
+  going_on : (line : Line) (got piece : List ℕ) (new : Script) → Reading began later after (g.given ++ got) ((separator ∷ g.rest) ++ line ∷ []) → budget after + 1 ≤ budget reader
+      → TakesPiece h g.standing line new piece → Appends was is piece
+      → Going h began later after old is before faults' new
+  going_on line got piece new r falls taken a = record {
+    given = g.given ++ got;
+    rest = g.rest ++ line ∷ [];
+    text = g.text ++ piece;
+    standing = taken.next;
+    reading = r;
+    limit = limit ∙ g.limit;
+    writing = Appends-trans old was is g.text piece g.writing a;
+    later = let l = g.later in omega arith;
+    run = run_more h start g.rest g.text g.standing line piece taken.next g.run taken.step;
+    stands = taken.stands;
+    few = let few = g.few in let lines = taken.lines in omega arith;
+  }
+
+  open_so_far : IsOpen h (separator ∷ g.rest) g.text
+  open_so_far = inr (g.rest, g.standing, refl, g.run)
+
+  -- want of memory: nothing of this line was written
+  no_memory : (got : List ℕ) (more : List Line) → Reading began later after (g.given ++ got) ((separator ∷ g.rest) ++ more) → Appends was is []
+      → Stopped h status.NoMemory began later old is before faults'
+  no_memory got more r a = record {
+    given = g.given ++ got;
+    text = g.text;
+    took = r.took;
+    writing = subst (Appends old is) (append-nil g.text) (Appends-trans old was is g.text [] g.writing a);
+    later = let l = g.later in omega arith;
+    failed = λ e. cc;
+    allowed = tt;
+    tells = (separator ∷ g.rest, shorter_front (separator ∷ g.rest) more _ (read_front began later after _ _ r), inl open_so_far);
+  }
+
+  -- the sink failed within the text of a line
+  write_fault : (got piece front : List ℕ) (read : List Line) → Reading began later after (g.given ++ got) read → IsFront front piece → Appends was is front → Rose faults faults'
+      → IsOpen h read (g.text ++ piece) ⊎ IsEnded h read (g.text ++ piece)
+      → Stopped h status.WriteFault began later old is before faults'
+  write_fault got piece front read r f a rose transcript = record {
+    given = g.given ++ got;
+    text = g.text ++ front;
+    took = r.took;
+    writing = Appends-trans old was is g.text front g.writing a;
+    later = let l = g.later in omega arith;
+    failed = λ e. let l = g.later in omega arith;
+    allowed = tt;
+    tells = (read, g.text ++ piece, read_front began later after _ _ r, (f.0, ap (λ x. g.text ++ x) f.1 ∙ sym (append_assoc g.text front f.0)), transcript);
+  }
+
+  open_more : (line : Line) (piece : List ℕ) (new : Script) → TakesPiece h g.standing line new piece → IsOpen h ((separator ∷ g.rest) ++ line ∷ []) (g.text ++ piece)
+  open_more line piece new taken = inr (g.rest ++ line ∷ [], taken.next, refl, run_more h start g.rest g.text g.standing line piece taken.next g.run taken.step)
+
+  ended : (piece : List ℕ) → EndsInput h g.standing piece → IsEnded h (separator ∷ g.rest) (g.text ++ piece)
+  ended piece l = (g.rest, g.standing, g.text, piece, refl, g.run, l, refl)
+
+  -- one more line, whatever the call that printed it answered
+  pub line_printed : (line : Line) (got : List ℕ) (new : Script) (result : Option Status) → Reading began later after (g.given ++ got) ((separator ∷ g.rest) ++ line ∷ []) → budget after + 1 ≤ budget reader
+      → Prints (TakesPiece h g.standing line new) was is faults faults' result
+      → MatchOption result (Going h began later after old is before faults' new) (λ st. Stopped h st began later old is before faults')
+  line_printed line got new None r falls p = going_on line got p.0 new r falls p.1 p.2
+  line_printed line got new (Some status.NoMemory) r falls p = no_memory got (line ∷ []) r p
+  line_printed line got new (Some status.WriteFault) r falls p = write_fault got p.0 p.1 _ r p.3 p.4 p.5 (inl (open_more line p.0 new p.2))
+  line_printed line got new (Some status.Done) r falls p = absurd p
+  line_printed line got new (Some status.Usage) r falls p = absurd p
+  line_printed line got new (Some (status.BadHeader k)) r falls p = absurd p
+  line_printed line got new (Some status.ReadFault) r falls p = absurd p
+  line_printed line got new (Some status.Limit) r falls p = absurd p
+
+  same_read : (separator ∷ g.rest) ++ [] ≡ separator ∷ g.rest
+  same_read = append-nil (separator ∷ g.rest)
+
+  -- the end of the input
+  pub done : (got piece : List ℕ) → Reading began later after (g.given ++ got) ((separator ∷ g.rest) ++ []) → IsExact next.End after (g.given ++ got) (separator ∷ g.rest)
+      → EndsInput h g.standing piece → Appends was is piece → Stopped h status.Done began later old is before faults'
+  done got piece r exact l a =
+      let end = exact.ended.0 refl in
+      let at = r.ended end.0 in
+      let count = r.count in
+      let most : after.limit ≡ 2 ^ 40 = limit ∙ g.limit in
+      let low = at.2 in
+      record {
+        given = g.given ++ got;
+        text = g.text ++ piece;
+        took = r.took;
+        writing = Appends-trans old was is g.text piece g.writing a;
+        later = let x = g.later in omega arith;
+        failed = λ e. cc;
+        allowed = tt;
+        tells = (at.1, at.0, omega arith, subst (λ x. IsEnded h x (g.text ++ piece)) (sym end.1) (ended piece l));
+      }
+
+  pub last_printed : (got : List ℕ) (st : Status) → Reading began later after (g.given ++ got) ((separator ∷ g.rest) ++ [])
+      → Prints (EndsInput h g.standing) was is faults faults' (Some st) → Stopped h st began later old is before faults'
+  last_printed got status.NoMemory r p = no_memory got [] r p
+  last_printed got status.WriteFault r p = write_fault got p.0 p.1 _ r p.3 p.4 p.5 (inr (subst (λ x. IsEnded h x (g.text ++ p.0)) (sym same_read) (ended p.0 p.2)))
+  last_printed got status.Done r p = absurd p
+  last_printed got status.Usage r p = absurd p
+  last_printed got (status.BadHeader k) r p = absurd p
+  last_printed got status.ReadFault r p = absurd p
+  last_printed got status.Limit r p = absurd p
+
+  whole_open : (got : List ℕ) → whole_lines_of (g.given ++ got) ≡ separator ∷ g.rest → IsOpen h (whole_lines_of (g.given ++ got)) g.text
+  whole_open got e = subst (λ x. IsOpen h x g.text) (sym e) open_so_far
+
+  -- a fault of the source, or the limit
+  pub read_fault : (got : List ℕ) → Reading began later after (g.given ++ got) ((separator ∷ g.rest) ++ []) → IsExact next.ReadFault after (g.given ++ got) (separator ∷ g.rest)
+      → Rose now.faults later.faults → Appends was is [] → Stopped h status.ReadFault began later old is before faults'
+  read_fault got r exact rose a =
+      let here = exact.fault refl in
+      let count = r.count in
+      let most : after.limit ≡ 2 ^ 40 = limit ∙ g.limit in
+      let low = here.1 in
+      record {
+        given = g.given ++ got;
+        text = g.text;
+        took = r.took;
+        writing = subst (Appends old is) (append-nil g.text) (Appends-trans old was is g.text [] g.writing a);
+        later = let x = g.later in omega arith;
+        failed = λ e. cc;
+        allowed = tt;
+        tells = (let x = g.reading.faults in omega arith, omega arith, whole_open got here.2);
+      }
+
+  pub limit_reached : (got : List ℕ) → Reading began later after (g.given ++ got) ((separator ∷ g.rest) ++ []) → IsExact next.Limit after (g.given ++ got) (separator ∷ g.rest)
+      → Appends was is [] → Stopped h status.Limit began later old is before faults'
+  limit_reached got r exact a =
+      let here = exact.full.0 refl in
+      record {
+        given = g.given ++ got;
+        text = g.text;
+        took = r.took;
+        writing = subst (Appends old is) (append-nil g.text) (Appends-trans old was is g.text [] g.writing a);
+        later = let x = g.later in omega arith;
+        failed = λ e. cc;
+        allowed = tt;
+        tells = (sym r.count ∙ here.0 ∙ limit ∙ g.limit, whole_open got here.1);
+      }
+
+-- ---- the header
+
+-- what the first line that was read says of the input
+pub begins_with : (began now : SourceState) (r : Reader) (given : List ℕ) (first : Line) → Reading began now r given (first ∷ []) → BeginsWith began now given first
+begins_with began now r given first h = by_end r.ended refl
+  where
+    by_end : (b : Bool) → r.ended ≡ b → BeginsWith began now given first
+    by_end true e = inr ((h.ended e).1, (h.ended e).0, read_front began now r given (first ∷ []) h)
+    by_end false e = inl (λ more. (lines_left r.passing (r.held ++ more), h.lines more (λ t. absurd (false≢true (sym e ∙ t)))))
+
+pub other_line : (x : List ℕ) → (x ≡ codes "%%" → ⊥) → Content x ≢ separator
+other_line x n e = n (same x e)
+  where
+    same : (x : List ℕ) → Content x ≡ separator → x ≡ codes "%%"
+    same x e = cc
+
+pub long_line : Long ≢ separator
+long_line e = cc
+
+-- no line begins no header
+pub no_header : (lines : List Line) → lines ≡ [] → ¬ (BeginsWell lines)
+no_header lines e (rest, f) = other rest (sym e ∙ f)
+  where
+    other : (rest : List Line) → ◌≡◌ {A = List Line} [] (separator ∷ rest) → ⊥
+    other rest e = cc
+
+pub header_stopped : (h : Header) (began now : SourceState) (old : Option (List ℕ)) (faults : ℕ) (st : Status) (given : List ℕ) → Consumes began.left now.left given
+    → Tells h st began now given [] → IsHeaderEnd st → Stopped h st began now old old faults faults
+header_stopped h began now old faults st given took tells end = record {
+  given = given;
+  text = [];
+  took = took;
+  writing = Appends-nil old;
+  later = omega arith;
+  failed = λ e. absurd (header_no_write st end e);
+  allowed = header_allowed st end;
+  tells = tells;
+}
+  where
+    header_no_write : (st : Status) → IsHeaderEnd st → st ≡ status.WriteFault → ⊥
+    header_no_write status.Done h e = absurd h
+    header_no_write status.Usage h e = absurd h
+    header_no_write (status.BadHeader n) h e = cc
+    header_no_write status.ReadFault h e = cc
+    header_no_write status.WriteFault h e = absurd h
+    header_no_write status.Limit h e = cc
+    header_no_write status.NoMemory h e = absurd h
+
+    header_allowed : (st : Status) → IsHeaderEnd st → IsRunEnd st
+    header_allowed status.Done h = absurd h
+    header_allowed status.Usage h = absurd h
+    header_allowed (status.BadHeader n) h = h
+    header_allowed status.ReadFault h = tt
+    header_allowed status.WriteFault h = absurd h
+    header_allowed status.Limit h = tt
+    header_allowed status.NoMemory h = absurd h
+
+-- memory was wanting before a script began
+pub nothing_done : (h : Header) (began now : SourceState) (old : Option (List ℕ)) (faults : ℕ) (given : List ℕ) → Consumes began.left now.left given
+    → Stopped h status.NoMemory began now old old faults faults
+nothing_done h began now old faults given took = record {
+  given = given;
+  text = [];
+  took = took;
+  writing = Appends-nil old;
+  later = omega arith;
+  failed = λ e. cc;
+  allowed = tt;
+  tells = ([], (lines_of given, refl), inl (inl (refl, no_header [] refl)));
+}
+
+pub first_line : (h : Header) (began now : SourceState) (reader : Reader) (given : List ℕ) (old : Option (List ℕ)) (faults : ℕ) (script : Script) → Reading began now reader given (separator ∷ [])
+    → reader.limit ≡ 2 ^ 40 → ScriptStands h start script → Going h began now reader old old faults faults script
+first_line h began now reader given old faults script r limit stands = record {
+  given = given;
+  rest = [];
+  text = [];
+  standing = start;
+  reading = r;
+  limit = limit;
+  writing = Appends-nil old;
+  later = omega arith;
+  run = (refl, refl);
+  stands = stands;
+  few = let room = r.room in omega arith;
+}
+
+-- the fault line after what was written
+pub with_tail : (h : Header) (st : Status) (began now : SourceState) (old mid new : Option (List ℕ)) (before faults faults' : ℕ) → Stopped h st began now old mid before faults → (tail : List ℕ) → Appends mid new tail
+    → faults ≤ faults' → HasFaultLine st faults faults' tail
+    → (given text tail : List ℕ) × Consumes began.left now.left given × Appends old new (text ++ tail) × Tells h st began now given text × HasFaultLine st before faults' tail
+with_tail h st began now old mid new before faults faults' s tail a higher f =
+    (s.given, s.text, tail, s.took, Appends-trans old mid new s.text tail s.writing a, s.tells, from_start f)
+  where
+    from_start : HasFaultLine st faults faults' tail → HasFaultLine st before faults' tail
+    from_start (inl e) = inl e
+    from_start (inr e) = inr (e.0, let l = s.later in let r = e.1 in omega arith)
+
+-- ---- what a call prints
+
+-- what was gathered has the property, so what is printed of it has
+pub gathered_prints : (P : List ℕ → Type 0) (text : List ℕ) (old new : Option (List ℕ)) (before faults : ℕ) (result : Option Status) → P text
+    → Prints (λ piece. piece ≡ text) old new before faults result → Prints P old new before faults result
+gathered_prints P text old new before faults None p printed = (printed.0, subst P (sym printed.1) p, printed.2)
+gathered_prints P text old new before faults (Some status.NoMemory) p printed = printed
+gathered_prints P text old new before faults (Some status.WriteFault) p printed = (printed.0, printed.1, subst P (sym printed.2) p, printed.3, printed.4, printed.5)
+gathered_prints P text old new before faults (Some status.Done) p printed = absurd printed
+gathered_prints P text old new before faults (Some status.Usage) p printed = absurd printed
+gathered_prints P text old new before faults (Some (status.BadHeader k)) p printed = absurd printed
+gathered_prints P text old new before faults (Some status.ReadFault) p printed = absurd printed
+gathered_prints P text old new before faults (Some status.Limit) p printed = absurd printed

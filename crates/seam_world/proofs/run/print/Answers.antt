@@ -1,0 +1,13 @@
+use Rattle.std.proofs.Common.{◌≡◌, take, drop, refl, sym, ◌++◌}
+use Rattle.std.proofs.lemmas.List.{take-append-drop}
+use Rattle.seam_world.proofs.run.print.Goals as goal
+
+pub returns-in-Err-clause-prints : goal.returns-in-Err-clause-prints
+returns-in-Err-clause-prints g c = (
+  c.args.text.now,
+  take c.in-Err.field-0.wrote c.args.text.now,
+  refl,
+  (drop c.in-Err.field-0.wrote c.args.text.now, sym (take-append-drop c.in-Err.field-0.wrote c.args.text.now)),
+  c.in-Err.ensures.err.1,
+  c.in-Err.ensures.cause.failed,
+)

@@ -1,0 +1,13 @@
+use Rattle.std.proofs.Common.{◌≡◌, ◌++◌, List, ℕ, [], subst, sym, ◌∙◌, ap}
+use Rattle.seam_io.specs.Lines.{Content, Long}
+use Rattle.seam_transcript.specs.Book.{empty_header}
+use Rattle.seam_transcript.specs.Transcript.{EndsInput}
+use Rattle.seam_world.specs.Script.{TakesPiece}
+use Rattle.seam_world.proofs.RunLemmas.{gathered_prints}
+use Rattle.seam_world.proofs.run.print_line.Goals as goal
+
+pub returns-in-Ok-clause-prints : goal.returns-in-Ok-clause-prints
+returns-in-Ok-clause-prints g c = λ t stands few.
+    let took = c.in-Ok.ensures t stands few in
+    let text : c.deref.result.now ≡ took.0 = c.deref.ensures.value ∙ took.2 ∙ ap (λ (xs : List ℕ). xs ++ took.0) c.clear.ensures.items in
+    gathered_prints (TakesPiece empty_header t (Content c.args.line.now) c.take_line.new.self) c.deref.result.now _ _ _ _ c.print.result (subst (TakesPiece empty_header t (Content c.args.line.now) c.take_line.new.self) (sym text) took.1) c.print.ensures.prints
