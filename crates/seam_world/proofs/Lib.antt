@@ -4,3 +4,4 @@ pub mod WordTables
 pub mod Sequences
 pub mod Rounds
 pub mod RunLemmas
+pub mod ScriptLemmas

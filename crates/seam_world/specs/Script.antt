@@ -23,11 +23,11 @@ pub record ScriptStands (h : Header) (t : Standing) (s : Script) : Type 0 where
   pub accepted : s.accepted ≡ t.book.open_lines
   pub below_most : t.book.open_lines < 65536
 
--- the open round ended, and its text is the piece
+-- the open round ended, and its text is the piece; where a line ended it, the script goes on
 pub record EndsOpenRound (h : Header) (t : Standing) (new : Script) (piece : List ℕ) : Type 0 where
   pub next : Standing
   pub ends : EndsRound h t t.book piece next
-  pub stands : ScriptStands h next new
+  pub stands : t.rounds + 1 < t.lines → ScriptStands h next new
 
 -- a command was judged, and the script's counts are those from before it
 pub record AwaitsVerdict (h : Header) (t : Standing) (c : Command) (v : Verdict) (s : Script) : Type 0 where
@@ -37,12 +37,13 @@ pub record AwaitsVerdict (h : Header) (t : Standing) (c : Command) (v : Verdict)
   pub accepted : s.accepted ≡ t.book.open_lines
   pub below_most : t.book.open_lines < 65536
   pub calls : length t.book.calls + 1 < t.lines
-  pub rounds : t.rounds < t.lines
+  pub rounds : t.rounds + 1 < t.lines
 
 -- a command other than `sync` was taken, and its text is the piece
 pub record TakesPieceOf (h : Header) (t : Standing) (c : Command) (new : Script) (piece : List ℕ) : Type 0 where
   pub next : Standing
   pub takes : TakesOther h t c piece next
+  pub lines : next.lines ≡ t.lines
   pub stands : ScriptStands h next new
 
 -- a line was taken, and its text is the piece

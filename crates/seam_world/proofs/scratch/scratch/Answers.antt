@@ -1,5 +1,5 @@
 use Rattle.seam_world.proofs.Sequences.{sequence-full}
-use Rattle.seam_world.proofs.RunLemmas.{gathered_prints}
+use Rattle.seam_world.proofs.ScriptLemmas.{nothing_open}
 use Rattle.seam_world.proofs.scratch.scratch.Goals as goal
 
 pub returns : goal.returns
