@@ -3,3 +3,9 @@ pub mod Skips
 pub mod WordTables
 pub mod Sequences
 pub mod Rounds
+pub mod Parts
+pub mod Calls
+pub mod Writing
+pub mod Creates
+pub mod Executing
+pub mod Starts
