@@ -5,3 +5,9 @@ pub mod Sequences
 pub mod Rounds
 pub mod RunLemmas
 pub mod ScriptLemmas
+pub mod Parts
+pub mod Calls
+pub mod Writing
+pub mod Creates
+pub mod Executing
+pub mod Starts

@@ -36,7 +36,7 @@ same_sender-is : (s t : Sender) → same_sender s t ≡ true → s ≡ t
 same_sender-is (Base m) (Base n) h = ap Base (grind (arith, h))
 
 -- one more call among those of a sender
-of_sender-more : (s : Sender) (order : List Executed) (x : Executed) (b : Bool) → same_sender x.sender s ≡ b → of_sender s (order ++ x ∷ []) ≡ of_sender s order ++ (if b then x ∷ [] else [])
+pub of_sender-more : (s : Sender) (order : List Executed) (x : Executed) (b : Bool) → same_sender x.sender s ≡ b → of_sender s (order ++ x ∷ []) ≡ of_sender s order ++ (if b then x ∷ [] else [])
 of_sender-more s order x b is =
     filter-append (λ (y : Executed). same_sender y.sender s) order (x ∷ [])
     ∙ ap (λ (c : Bool). of_sender s order ++ (if c then x ∷ [] else [])) is

@@ -137,3 +137,16 @@ pub record ExecutesOn (old new : Table) (e : ℕ) (sender : Sender) (deed : Deed
 -- the sender is one of so many base nodes
 abbrev pub IsAmong : ℕ → Sender → Type 0
 IsAmong bases (Base n) = (1 ≤ n) × (n ≤ bases)
+
+-- a part forgets the calls that it executed in the open round, and nothing else
+pub record ForgetsDone (old new : PartState) : Type 0 where
+  pub state : new.state ≡ old.state
+  pub version : new.version ≡ old.version
+  pub done : new.done.items ≡ []
+  pub last : new.last ≡ old.last
+
+-- an entity begins a round
+pub record StartsRound (old new : Entity) : Type 0 where
+  pub ty : new.ty ≡ old.ty
+  pub cell : ForgetsDone old.cell new.cell
+  pub base : ForgetsDone old.base new.base

@@ -8,7 +8,7 @@ ghost use Rattle.seam_transcript.specs.Language.{Create, Call};
 ghost use Rattle.seam_transcript.specs.Book.{Header, Book, Created, empty_book, closed, sender_text, IsBuilt, MayCreate};
 ghost use Rattle.seam_transcript.specs.Orders.{Orders, no_orders, of_sender};
 ghost use Rattle.seam_transcript.specs.declared.sender.Sender.{Sender as Senders};
-ghost use Rattle.seam_world.specs.Table.{TableStands, Judged, sequence, HasRoom, IsNew, start_of, HasMethod, Executes, ExecutesOn, Counts, IsAmong};
+ghost use Rattle.seam_world.specs.Table.{TableStands, Judged, sequence, HasRoom, IsNew, start_of, HasMethod, Executes, ExecutesOn, Counts, IsAmong, StartsRound};
 
 use crate::command::whole_number;
 use seam_defs::{Args, Deed, Defs, Part, Settings, State};
@@ -104,6 +104,16 @@ impl PartState {
                 number
             }
         }
+    }
+}
+
+impl Entity {
+    // Forgets the calls that it executed in the round that ended.
+    fn start_round(&mut self)
+        ensures { StartsRound self.old self.new }
+    {
+        self.cell.done.clear();
+        self.base.done.clear();
     }
 }
 
@@ -210,8 +220,15 @@ impl Table {
     {
         self.defs.has_method(ty, method)
             && self.defs.part_of(ty, method) == Part::Cell
-            && self.defs.arg_type(ty, method, 0) == Some(ValueType::Int32)
-            && self.defs.arg_type(ty, method, 1) == None
+            && self.takes_one_number(ty, method)
+    }
+
+    // Whether a method has one argument, a number of 32 bits with a sign.
+    fn takes_one_number(&self, ty: u16, method: u16) -> bool
+        ensures { IsTrue result ↔ ((method_of self.now.defs ty method).args ≡ ValueType.Int32 ∷ []) }
+    {
+        self.defs.arg_type(ty, method, 0) == Some(ValueType::Int32)
+            && self.defs.arg_type(ty, method, 1).is_none()
     }
 
     // Whether entities of the type take calls that are built.
@@ -292,10 +309,10 @@ impl Table {
         ensures { (h : Header) (b : Book) (before : Orders) → TableStands h b before self.old
             → TableStands h (closed b) (sequence b.calls) self.new }
     {
-        for (_, entity) in &mut self.entities {
-            entity.cell.done.clear();
-            entity.base.done.clear();
-        }
+        self.entities.retain(|_, entity| {
+            entity.start_round();
+            true
+        });
     }
 }
 

@@ -1,0 +1,38 @@
+-- What the table holds after it wrote to one entity.
+use Rattle.std.proofs.Common.{◌≡◌, ◌≢◌, ◌⊎◌, ◌+◌, ◌<◌, ◌≤◌, ◌^◌, ℕ, Bool, true, false, List, [], ◌∷◌, ◌++◌, length, refl, sym, ◌∙◌, ap, subst, inl, inr, arith, Option, Some, None, find, cond}
+use Rattle.std.specs.Prelude.{◌==◌, ◌&&◌, MatchOption, IfSome, IsSome, if◌then◌else◌}
+use Rattle.std.specs.Ordering.{nat_cmp, is_eq}
+use Rattle.std.specs.BTreeMap.{get, is_at, btree_map_len, WritesThrough, BTreeMap}
+use Rattle.std.proofs.lemmas.Bool.Decides.{eqb_tells, nat_tests}
+use Rattle.std.proofs.lemmas.List.Folds.{find-append}
+use Rattle.std.proofs.lemmas.Option.{none-some, same_Some}
+use Rattle.seam_defs.specs.declared.states.Deed.{Deed}
+use Rattle.seam_defs.specs.declared.flags.Part.{Part}
+use Rattle.seam_defs.specs.declared.flags.Part.TheVariants as part
+use Rattle.seam_transcript.specs.declared.sender.Sender.{Sender}
+use Rattle.seam_transcript.specs.declared.sender.Sender.TheVariants.{Base}
+use Rattle.seam_world.specs.Table.{Executes, ExecutesOn}
+use Rattle.seam_world.specs.declared.table.Entity.{Entity}
+use Rattle.seam_world.specs.declared.table.Table.{Table}
+
+-- another key is not at the query of a number
+pub apart : (e other : ℕ) → other ≢ e → is_at (nat_cmp e) other ≡ false
+apart e other ne = grind (arith, nat_tests)
+
+-- what was found is there
+is-some : {A : Type 0} (o : Option A) (a : A) → Some a ≡ o → IsSome o
+is-some {A} o a is = subst (λ (x : Option A). IsSome x) is refl
+
+-- a call was executed through what the map lent
+pub written : (old new : Table) (e : ℕ) (sender : Sender) (deed : Deed) (v w : Entity) → new.defs ≡ old.defs → new.settings ≡ old.settings
+    → WritesThrough nat_cmp (nat_cmp e) old.entities w new.entities → Some v ≡ get nat_cmp old.entities e → w.ty ≡ v.ty → w.base ≡ v.base
+    → Executes old.defs v.ty sender deed v.cell w.cell → ExecutesOn old new e sender deed
+written old new e sender deed v w defs settings writes found ty base step =
+    let updates = writes.3 (is-some (get nat_cmp old.entities e) v found) in
+    record {
+      defs = defs; settings = settings; count = writes.2;
+      ordered = λ o. writes.4;
+      others = λ other ne. updates.2 other (apart e other ne);
+      here = subst (λ (o : Option Entity). IfSome o (λ x. (y : Entity) × (get nat_cmp new.entities e ≡ Some y) × (y.ty ≡ x.ty) × (y.base ≡ x.base) × Executes old.defs x.ty sender deed x.cell y.cell))
+        found (w, updates.1, ty, base, step);
+    }
