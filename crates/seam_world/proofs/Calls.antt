@@ -1,14 +1,14 @@
 -- What a call asks of the table: its sender, its entity and its method.
-use Rattle.std.proofs.Common.{◌≡◌, ◌≢◌, ◌⊎◌, ◌+◌, ◌-◌, ◌<◌, ◌≤◌, ℕ, suc, Bool, true, false, List, [], ◌∷◌, ◌++◌, length, take, drop, map, get_or, refl, sym, ◌∙◌, ap, subst, inl, inr, arith, Option, Some, None, ◌↔◌, not}
+use Rattle.std.proofs.Common.{◌≡◌, ◌-◌, ◌<◌, ℕ, Bool, true, false, List, [], ◌∷◌, length, take, drop, get_or, refl, sym, ◌∙◌, ap, subst, arith, Option, Some, None, ◌↔◌, not}
 use Rattle.std.specs.Prelude.{slice_get, option_map, MatchOption, is_some, IsTrue}
 use Rattle.std.specs.Ordering.{nat_cmp}
 use Rattle.std.specs.BTreeMap.{get}
 use Rattle.std.proofs.lemmas.List.{take_all}
-use Rattle.std.proofs.lemmas.Option.{slice_get-map, slice_get-get_or, slice_get_within, get_or_from_slice_get, same_Some, none-some}
+use Rattle.std.proofs.lemmas.Option.{slice_get-map, slice_get-get_or, same_Some, none-some}
 use Rattle.std.proofs.lemmas.Bool.{false≢true}
 use Rattle.seam_value.specs.Values.{decimal_of}
 use Rattle.seam_value.proofs.Decimals.{decimal_of-injective}
-use Rattle.seam_defs.specs.Types.{type_of, method_of, no_type, no_method, names_of_types, names_of_methods}
+use Rattle.seam_defs.specs.Types.{type_of, method_of, no_method, names_of_methods}
 use Rattle.seam_defs.specs.declared.types.TypeDef.{TypeDef}
 use Rattle.seam_defs.specs.declared.types.Method.{Method}
 use Rattle.seam_transcript.specs.declared.sender.Sender.{Sender}
@@ -33,7 +33,7 @@ one_number (x ∷ y ∷ ys) a false first second = ((λ t. absurd (false≢true 
 behind-first : (name : List ℕ) (m n : ℕ) → 98 ∷ decimal_of n ≡ name → decimal_of m ≡ take (length name - 1) (drop 1 name) → m ≡ n
 behind-first name m n is number =
     let rest : take (length name - 1) (drop 1 name) ≡ decimal_of n =
-      subst (λ (xs : List ℕ). take (length xs - 1) (drop 1 xs) ≡ decimal_of n) is (take_all (length (98 ∷ decimal_of n) - 1) (decimal_of n) (omega arith)) in
+    subst (λ (xs : List ℕ). take (length xs - 1) (drop 1 xs) ≡ decimal_of n) is (take_all (length (98 ∷ decimal_of n) - 1) (decimal_of n) (omega arith)) in
     decimal_of-injective m n (number ∙ rest)
 
 -- a number outside the base nodes names none of them
@@ -57,15 +57,6 @@ name-at : (ms : List Method) (m : ℕ) (name : List ℕ) → m < length ms → (
 name-at ms m name within is =
     slice_get-map (λ (x : Method). x.name) ms m ∙ ap (option_map (λ (x : Method). x.name)) (slice_get-get_or ms m no_method within) ∙ ap (λ (n : List ℕ). Some n) is
 
-at-name : (ms : List Method) (m : ℕ) (name : List ℕ) → slice_get (names_of_methods ms) m ≡ Some name → (get_or ms m no_method).name ≡ name
-at-name ms m name is = cases (slice_get ms m) refl
-  where
-    cases : (o : Option Method) → slice_get ms m ≡ o → (get_or ms m no_method).name ≡ name
-    cases None none = absurd (none-some name (sym (ap (option_map (λ (x : Method). x.name)) none) ∙ sym (slice_get-map (λ (x : Method). x.name) ms m) ∙ is))
-    cases (Some x) some =
-      ap (λ (y : Method). y.name) (get_or_from_slice_get ms m x no_method some)
-      ∙ same_Some x.name name (sym (ap (option_map (λ (x : Method). x.name)) some) ∙ sym (slice_get-map (λ (x : Method). x.name) ms m) ∙ is)
-
 -- the method that a call asks for is the one that its entity's type has
 asked-for : (h : Header) (b : Book) (before : Orders) (t : Table) (e : ℕ) (v : Entity) (name : List ℕ) → TableStands h b before t → Some v ≡ get nat_cmp t.entities e
     → (c : Created) (m : ℕ) → HasMethod h b e name c m → IsBuilt t.defs v.ty m × (slice_get (names_of_methods (type_of t.defs v.ty).methods) m ≡ Some name)
@@ -74,7 +65,7 @@ asked-for h b before t e v name stands found c m has =
     let ty : c.ty ≡ v.ty = ap (λ (x : Created). x.ty) (same-created b e c here.made has.entity here.is) ∙ sym here.ty in
     let built : IsBuilt t.defs v.ty m = subst (λ (k : ℕ). IsBuilt t.defs k m) ty (subst (λ (ds : List TypeDef). IsBuilt ds c.ty m) (sym stands.defs) has.built) in
     let named : (method_of t.defs v.ty m).name ≡ name =
-      ap (λ (k : ℕ). (method_of t.defs k m).name) (sym ty) ∙ ap (λ (ds : List TypeDef). (method_of ds c.ty m).name) stands.defs ∙ has.named in
+    ap (λ (k : ℕ). (method_of t.defs k m).name) (sym ty) ∙ ap (λ (ds : List TypeDef). (method_of ds c.ty m).name) stands.defs ∙ has.named in
     (built, name-at (type_of t.defs v.ty).methods m name built.has named)
 
 -- no method has the name
@@ -90,17 +81,3 @@ pub not_built : (h : Header) (b : Book) (before : Orders) (t : Table) (e : ℕ) 
 not_built h b before t e v name k found only not stands c m has =
     let asked = asked-for h b before t e v name stands found c m has in
     not (subst (λ (j : ℕ). IsBuilt t.defs v.ty j) (sym (same_Some k m (only m asked.1))) asked.0)
-
--- calls of the one that has it are built
-pub has_method : (h : Header) (b : Book) (before : Orders) (t : Table) (e : ℕ) (v : Entity) (name : List ℕ) (m : ℕ) → Some v ≡ get nat_cmp t.entities e
-    → slice_get (names_of_methods (type_of t.defs v.ty).methods) m ≡ Some name → IsBuilt t.defs v.ty m → TableStands h b before t
-    → (c : Created) × HasMethod h b e name c m
-has_method h b before t e v name m found named built stands =
-    let here : EntityStands h b before e v = stands-at h b before t e v stands found in
-    let c : Created = here.made in
-    (c, record {
-      entity = here.is;
-      built = subst (λ (k : ℕ). IsBuilt h.defs k m) here.ty (subst (λ (ds : List TypeDef). IsBuilt ds v.ty m) stands.defs built);
-      named = ap (λ (k : ℕ). (method_of h.defs k m).name) (sym here.ty) ∙ ap (λ (ds : List TypeDef). (method_of ds v.ty m).name) (sym stands.defs)
-        ∙ at-name (type_of t.defs v.ty).methods m name named;
-    })

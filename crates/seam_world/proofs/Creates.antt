@@ -1,28 +1,27 @@
 -- What a `create` asks of the table, and what it leaves.
-use Rattle.std.proofs.Common.{◌≡◌, ◌≢◌, ◌⊎◌, ◌+◌, ◌<◌, ◌≤◌, ℕ, Bool, true, false, List, [], ◌∷◌, ◌++◌, length, map, get_or, refl, sym, ◌∙◌, ap, subst, inl, inr, arith, Option, Some, None, find, cond, append-nil, length-append}
-use Rattle.std.specs.Prelude.{slice_get, option_map, MatchOption, IfSome, ◌==◌, slice_index}
+use Rattle.std.proofs.Common.{◌≡◌, ◌≢◌, ◌+◌, ◌<◌, ℕ, Bool, List, [], ◌∷◌, length, get_or, refl, sym, ◌∙◌, ap, subst, inl, inr, Option, Some, None, cond, length-append}
+use Rattle.std.specs.Prelude.{slice_get, option_map, MatchOption, ◌==◌}
 use Rattle.std.specs.Ordering.{nat_cmp}
 use Rattle.std.specs.BTreeMap.{get, btree_map_len, Updates, IsOrdered, BTreeMap}
 use Rattle.std.specs.Option.{option_or}
 use Rattle.std.proofs.lemmas.List.Folds.{find-append}
-use Rattle.std.proofs.lemmas.Option.{slice_get-map, slice_get-get_or, slice_get_within, get_or_from_slice_get, same_Some, none-some}
+use Rattle.std.proofs.lemmas.Option.{slice_get-map, slice_get-get_or, same_Some, none-some}
 use Rattle.std.proofs.lemmas.Bool.Decides.{eqb_tells}
 use Rattle.seam_geo.specs.declared.pos.Pos.{Pos}
-use Rattle.seam_defs.specs.Types.{type_of, no_type, names_of_types}
+use Rattle.seam_defs.specs.Types.{no_type, names_of_types}
 use Rattle.seam_defs.specs.declared.types.TypeDef.{TypeDef}
 use Rattle.seam_defs.specs.declared.settings.Settings.{Settings}
-use Rattle.seam_defs.specs.declared.states.State.{State}
 use Rattle.seam_defs.specs.declared.flags.Part.{Part}
 use Rattle.seam_defs.specs.declared.flags.Part.TheVariants as part
 use Rattle.seam_transcript.specs.declared.executed.Executed.{Executed}
 use Rattle.seam_transcript.specs.Book.{Header, Book, Created, created_as, with_create, IsBuilt, MayCreate}
 use Rattle.seam_transcript.specs.Orders.{Orders}
-use Rattle.seam_transcript.specs.FlatTable.{flat, first_state}
+use Rattle.seam_transcript.specs.FlatTable.{first_state}
 use Rattle.seam_world.specs.Table.{TableStands, EntityStands, PartStands, HasRoom, IsNew, IsFresh, start_of, sequence}
 use Rattle.seam_world.specs.declared.table.PartState.{PartState}
 use Rattle.seam_world.specs.declared.table.Entity.{Entity}
 use Rattle.seam_world.specs.declared.table.Table.{Table}
-use Rattle.seam_world.proofs.Writing.{apart}
+use Rattle.seam_world.proofs.Writing.{apart, same, differ, with_entities}
 
 -- ---- what is asked
 
@@ -44,22 +43,6 @@ named-at : (ts : List TypeDef) (ty : ℕ) (name : List ℕ) → ty < length ts �
 named-at ts ty name within is =
     slice_get-map (λ (x : TypeDef). x.name) ts ty ∙ ap (option_map (λ (x : TypeDef). x.name)) (slice_get-get_or ts ty no_type within) ∙ ap (λ (n : List ℕ). Some n) is
 
--- a type of the name
-record IsNamed (ts : List TypeDef) (ty : ℕ) (name : List ℕ) : Type 0 where
-  has : ty < length ts
-  named : (type_of ts ty).name ≡ name
-
-at-named : (ts : List TypeDef) (ty : ℕ) (name : List ℕ) → slice_get (names_of_types ts) ty ≡ Some name → IsNamed ts ty name
-at-named ts ty name is = cases (slice_get ts ty) refl
-  where
-    cases : (o : Option TypeDef) → slice_get ts ty ≡ o → IsNamed ts ty name
-    cases None none = absurd (none-some name (sym (ap (option_map (λ (x : TypeDef). x.name)) none) ∙ sym (slice_get-map (λ (x : TypeDef). x.name) ts ty) ∙ is))
-    cases (Some x) some = record {
-      has = slice_get_within ts ty x some;
-      named = ap (λ (y : TypeDef). y.name) (get_or_from_slice_get ts ty x no_type some)
-        ∙ same_Some x.name name (sym (ap (option_map (λ (x : TypeDef). x.name)) some) ∙ sym (slice_get-map (λ (x : TypeDef). x.name) ts ty) ∙ is);
-    }
-
 -- an accepted `create` has room
 pub has-room : (h : Header) (b : Book) (before : Orders) (t : Table) (e : ℕ) (name : List ℕ) (pos : Pos) (ty : ℕ) → TableStands h b before t
     → MayCreate h b e name pos ty → HasRoom t e pos
@@ -73,18 +56,17 @@ has-room h b before t e name pos ty stands may = record {
 -- the type that an accepted `create` asks for
 asked-type : (h : Header) (b : Book) (before : Orders) (t : Table) (e : ℕ) (name : List ℕ) (pos : Pos) (ty : ℕ) → TableStands h b before t
     → MayCreate h b e name pos ty → (slice_get (names_of_types t.defs) ty ≡ Some name) × ((m : ℕ) × IsBuilt t.defs ty m)
-asked-type h b before t e name pos ty stands may =
-    (ap (λ (ds : List TypeDef). slice_get (names_of_types ds) ty) stands.defs ∙ named-at h.defs ty name may.has may.named,
-     subst (λ (ds : List TypeDef). (m : ℕ) × IsBuilt ds ty m) (sym stands.defs) may.takes_calls)
+asked-type h b before t e name pos ty stands may = (
+  ap (λ (ds : List TypeDef). slice_get (names_of_types ds) ty) stands.defs ∙ named-at h.defs ty name may.has may.named,
+  subst (λ (ds : List TypeDef). (m : ℕ) × IsBuilt ds ty m) (sym stands.defs) may.takes_calls,
+)
 
-pub no_room : (h : Header) (b : Book) (before : Orders) (t : Table) (e : ℕ) (name : List ℕ) (pos : Pos) → (HasRoom t e pos → ⊥) → TableStands h b before t
-    → (ty : ℕ) → MayCreate h b e name pos ty → ⊥
-no_room h b before t e name pos none stands ty may = none (has-room h b before t e name pos ty stands may)
-
+-- a name that no type has
 pub no_type_named : (h : Header) (b : Book) (before : Orders) (t : Table) (e : ℕ) (name : List ℕ) (pos : Pos)
     → ((k : ℕ) → slice_get (names_of_types t.defs) k ≡ Some name → ⊥) → TableStands h b before t → (ty : ℕ) → MayCreate h b e name pos ty → ⊥
 no_type_named h b before t e name pos none stands ty may = none ty (asked-type h b before t e name pos ty stands may).0
 
+-- a type that takes no calls that are built
 pub no_calls : (h : Header) (b : Book) (before : Orders) (t : Table) (e : ℕ) (name : List ℕ) (pos : Pos) (k : ℕ)
     → ((ty : ℕ) → slice_get (names_of_types t.defs) ty ≡ Some name → Some k ≡ Some ty) → (((m : ℕ) × IsBuilt t.defs k m) → ⊥)
     → TableStands h b before t → (ty : ℕ) → MayCreate h b e name pos ty → ⊥
@@ -92,30 +74,10 @@ no_calls h b before t e name pos k only none stands ty may =
     let asked = asked-type h b before t e name pos ty stands may in
     none (subst (λ (j : ℕ). (m : ℕ) × IsBuilt t.defs j m) (sym (same_Some k ty (only ty asked.0))) asked.1)
 
-pub may-create : (h : Header) (b : Book) (before : Orders) (t : Table) (e : ℕ) (name : List ℕ) (pos : Pos) (k : ℕ) → HasRoom t e pos
-    → slice_get (names_of_types t.defs) k ≡ Some name → ((m : ℕ) × IsBuilt t.defs k m) → TableStands h b before t → MayCreate h b e name pos k
-may-create h b before t e name pos k room named takes stands =
-    let is : IsNamed h.defs k name = subst (λ (ds : List TypeDef). IsNamed ds k name) stands.defs (at-named t.defs k name named) in
-    record {
-      is_new = new-in-book h b before t e stands room.is_new;
-      room = subst (λ (n : ℕ). n < 65536) stands.count room.room;
-      has = is.has;
-      named = is.named;
-      takes_calls = subst (λ (ds : List TypeDef). (m : ℕ) × IsBuilt ds k m) stands.defs takes;
-      in_x = subst (λ (s : Settings). pos.x < s.size) stands.settings room.in_x;
-      in_z = subst (λ (s : Settings). pos.z < s.size) stands.settings room.in_z;
-    }
-
 -- ---- what is left
 
 created-more : (b : Book) (c : Created) (e : ℕ) → created_as (with_create b c) e ≡ option_or (created_as b e) (cond (c.entity == e) (Some c) None)
 created-more b c e = find-append (λ (x : Created). x.entity == e) b.created (c ∷ [])
-
-same : (m : ℕ) → (m == m) ≡ true
-same m = grind arith
-
-differ : (a b : ℕ) → a ≢ b → (a == b) ≡ false
-differ a b ne = grind (arith, eqb_tells)
 
 created-here : (b : Book) (c : Created) → created_as b c.entity ≡ None → created_as (with_create b c) c.entity ≡ Some c
 created-here b c none =
@@ -135,61 +97,74 @@ fresh-stands : (h : Header) (p : Part) (c : Created) (before order : List Execut
     → PartStands h p c before order s
 fresh-stands h p c before order s no_before no_order fresh =
     subst (λ (xs : List Executed). PartStands h p c xs order s) (sym no_before) (subst (λ (xs : List Executed). PartStands h p c [] xs s) (sym no_order) (record {
-      state = fresh.state; version = fresh.version; done = fresh.done; last = fresh.last; senders = fresh.senders;
+      state = fresh.state;
+      version = fresh.version;
+      done = fresh.done;
+      last = fresh.last;
+      senders = fresh.senders;
     }))
 
--- the table after a `create`
-abbrev with_entities : Table → BTreeMap ℕ Entity → Table
-with_entities t m = record t { entities = m }
+-- an accepted `create`
+abbrev created : ℕ → ℕ → Pos → Created
+created e ty pos = record { entity = e; ty = ty; pos = pos }
 
+-- the entity that was made
+entity-new : (h : Header) (b : Book) (before : Orders) (defs : List TypeDef) (e ty : ℕ) (pos : Pos) (v : Entity) → defs ≡ h.defs → created_as b e ≡ None
+    → sequence b.calls part.Cell e ≡ [] → sequence b.calls part.Base e ≡ [] → before part.Cell e ≡ [] → before part.Base e ≡ []
+    → IsNew defs ty pos v → EntityStands h (with_create b (created e ty pos)) before e v
+entity-new h b before defs e ty pos v defs_are none no_cell no_base cell_before base_before fresh =
+    let c : Created = created e ty pos in
+    record {
+      made = c;
+      is = created-here b c none;
+      entity = refl;
+      ty = fresh.ty;
+      cell = fresh-stands h part.Cell c (before part.Cell e) (sequence b.calls part.Cell e) v.cell cell_before no_cell
+          (subst (λ (ds : List TypeDef). IsFresh (start_of ds ty part.Cell pos) v.cell) defs_are fresh.cell);
+      base = fresh-stands h part.Base c (before part.Base e) (sequence b.calls part.Base e) v.base base_before no_base
+          (subst (λ (ds : List TypeDef). IsFresh (start_of ds ty part.Base pos) v.base) defs_are fresh.base);
+    }
+
+-- another entity
+entity-kept : (h : Header) (b : Book) (before : Orders) (c : Created) (x : ℕ) (o : Option Entity) → c.entity ≢ x
+    → MatchOption o (created_as b x ≡ None) (EntityStands h b before x)
+    → MatchOption o (created_as (with_create b c) x ≡ None) (EntityStands h (with_create b c) before x)
+entity-kept h b before c x None ne none = created-other b c x ne ∙ none
+entity-kept h b before c x (Some v) ne stands =
+    record { made = stands.made; is = created-other b c x ne ∙ stands.is; entity = stands.entity; ty = stands.ty; cell = stands.cell; base = stands.base }
+
+-- an entity that the book does not have after a `create` was not there before it
+not-before : (b : Book) (c : Created) (x : ℕ) → created_as (with_create b c) x ≡ None → created_as b x ≡ None
+not-before b c x none = cases (created_as b x) refl
+  where
+    cases : (o : Option Created) → created_as b x ≡ o → created_as b x ≡ None
+    cases None is = is
+    cases (Some d) is =
+        absurd (none-some d (sym none ∙ created-more b c x ∙ ap (λ (o : Option Created). option_or o (cond (c.entity == x) (Some c) None)) is))
+
+-- the table after a `create`
 pub created-stands : (h : Header) (b : Book) (before : Orders) (t : Table) (e ty : ℕ) (pos : Pos) (v : Entity) (m : BTreeMap ℕ Entity)
     → TableStands h b before t → get nat_cmp t.entities e ≡ None → IsNew t.defs ty pos v → Updates nat_cmp t.entities m e (Some v)
     → btree_map_len m ≡ btree_map_len t.entities + 1 → IsOrdered nat_cmp m
-    → TableStands h (with_create b (record { entity = e; ty = ty; pos = pos })) before (with_entities t m)
+    → TableStands h (with_create b (created e ty pos)) before (with_entities t m)
 created-stands h b before t e ty pos v m stands absent fresh updates len ordered =
-    let c : Created = record { entity = e; ty = ty; pos = pos } in
+    let c : Created = created e ty pos in
+    let next : Book = with_create b c in
     let none : created_as b e ≡ None = new-in-book h b before t e stands absent in
-    let first : (p : Part) → IsFresh (start_of t.defs ty p pos) (part_of p) → IsFresh (first_state h p c) (part_of p) =
-      λ p f. subst (λ (ds : List TypeDef). IsFresh (start_of ds ty p pos) (part_of p)) stands.defs f in
-    let others : (x : ℕ) → e ≢ x → created_as (with_create b c) x ≡ created_as b x = λ x ne. created-other b c x ne in
     record {
       defs = stands.defs;
       settings = stands.settings;
       count = len ∙ ap (λ (n : ℕ). n + 1) stands.count ∙ sym (length-append b.created (c ∷ []));
       each = λ x. elim (eqb_tells e x) [
-        | inl is ↦ subst (λ (y : ℕ). MatchOption (get nat_cmp m y) (created_as (with_create b c) y ≡ None) (EntityStands h (with_create b c) before y)) is.1
-            (subst (λ (o : Option Entity). MatchOption o (created_as (with_create b c) e ≡ None) (EntityStands h (with_create b c) before e)) (sym updates.1) (record {
-              made = c; is = created-here b c none; entity = refl; ty = fresh.ty;
-              cell = fresh-stands h part.Cell c (before part.Cell e) (sequence b.calls part.Cell e) v.cell (stands.unordered part.Cell e none) (stands.uncalled part.Cell e none) (first part.Cell fresh.cell);
-              base = fresh-stands h part.Base c (before part.Base e) (sequence b.calls part.Base e) v.base (stands.unordered part.Base e none) (stands.uncalled part.Base e none) (first part.Base fresh.base);
-            }))
-        | inr is ↦ (let ne : x ≢ e = λ s. is.1 (sym s) in
-            kept x (others x is.1) (get nat_cmp t.entities x) (get nat_cmp m x) (updates.2 x (apart e x ne)) (stands.each x))
+        | inl is ↦ subst (λ (y : ℕ). MatchOption (get nat_cmp m y) (created_as next y ≡ None) (EntityStands h next before y)) is.1
+            (subst (λ (o : Option Entity). MatchOption o (created_as next e ≡ None) (EntityStands h next before e)) (sym updates.1)
+            (entity-new h b before t.defs e ty pos v stands.defs none (stands.uncalled part.Cell e none) (stands.uncalled part.Base e none)
+            (stands.unordered part.Cell e none) (stands.unordered part.Base e none) fresh))
+        | inr other ↦ subst (λ (o : Option Entity). MatchOption o (created_as next x ≡ None) (EntityStands h next before x)) (sym (updates.2 x (apart e x (λ s. other.1 (sym s)))))
+            (entity-kept h b before c x (get nat_cmp t.entities x) other.1 (stands.each x))
       ];
       ordered = ordered;
       on_cell = stands.on_cell;
-      uncalled = λ p x not. stands.uncalled p x (before-none x not);
-      unordered = λ p x not. stands.unordered p x (before-none x not);
+      uncalled = λ p x not. stands.uncalled p x (not-before b c x not);
+      unordered = λ p x not. stands.unordered p x (not-before b c x not);
     }
-  where
-    part_of : Part → PartState
-    part_of part.Cell = v.cell
-    part_of part.Base = v.base
-    kept : (x : ℕ) → created_as (with_create b (record { entity = e; ty = ty; pos = pos })) x ≡ created_as b x → (old new : Option Entity) → new ≡ old
-      → MatchOption old (created_as b x ≡ None) (EntityStands h b before x)
-      → MatchOption new (created_as (with_create b (record { entity = e; ty = ty; pos = pos })) x ≡ None) (EntityStands h (with_create b (record { entity = e; ty = ty; pos = pos })) before x)
-    kept x book old new is here =
-      subst (λ (o : Option Entity). MatchOption o (created_as (with_create b (record { entity = e; ty = ty; pos = pos })) x ≡ None) (EntityStands h (with_create b (record { entity = e; ty = ty; pos = pos })) before x)) (sym is)
-        (moved x book old here)
-      where
-        moved : (y : ℕ) → created_as (with_create b (record { entity = e; ty = ty; pos = pos })) y ≡ created_as b y → (o : Option Entity)
-          → MatchOption o (created_as b y ≡ None) (EntityStands h b before y)
-          → MatchOption o (created_as (with_create b (record { entity = e; ty = ty; pos = pos })) y ≡ None) (EntityStands h (with_create b (record { entity = e; ty = ty; pos = pos })) before y)
-        moved y b_is None n = b_is ∙ n
-        moved y b_is (Some w) s = record { made = s.made; is = b_is ∙ s.is; entity = s.entity; ty = s.ty; cell = s.cell; base = s.base }
-    before-none : (x : ℕ) → created_as (with_create b (record { entity = e; ty = ty; pos = pos })) x ≡ None → created_as b x ≡ None
-    before-none x not = cases (created_as b x) refl
-      where
-        cases : (o : Option Created) → created_as b x ≡ o → created_as b x ≡ None
-        cases None is = is
-        cases (Some d) is = absurd (none-some d (sym not ∙ created-more b (record { entity = e; ty = ty; pos = pos }) x ∙ ap (λ (o : Option Created). option_or o (cond (e == x) (Some (record { entity = e; ty = ty; pos = pos })) None)) is))

@@ -1,9 +1,9 @@
 -- What the table holds after it executed a call.
-use Rattle.std.proofs.Common.{◌≡◌, ◌≢◌, ◌⊎◌, ◌+◌, ◌<◌, ◌≤◌, ◌^◌, ℕ, Bool, true, false, List, [], ◌∷◌, ◌++◌, length, refl, sym, ◌∙◌, ap, subst, inl, inr, arith, Option, Some, None}
+use Rattle.std.proofs.Common.{◌≡◌, ◌≢◌, ◌<◌, ◌≤◌, ◌^◌, ℕ, Bool, true, false, List, [], ◌∷◌, ◌++◌, length, refl, sym, ◌∙◌, ap, subst, inl, inr, arith, Option, Some, None}
 use Rattle.std.specs.Prelude.{MatchOption, IfSome, ◌==◌, ◌&&◌, if◌then◌else◌}
 use Rattle.std.specs.Ordering.{nat_cmp}
 use Rattle.std.specs.BTreeMap.{get}
-use Rattle.std.proofs.lemmas.Option.{none-some, same_Some}
+use Rattle.std.proofs.lemmas.Option.{none-some}
 use Rattle.std.proofs.lemmas.Bool.Decides.{eqb_tells}
 use Rattle.seam_defs.specs.declared.types.TypeDef.{TypeDef}
 use Rattle.seam_defs.specs.declared.states.Deed.{Deed}
@@ -15,29 +15,22 @@ use Rattle.seam_transcript.specs.declared.executed.Executed.{Executed}
 use Rattle.seam_transcript.specs.Book.{Header, Book, Created, Called, created_as, with_call, same_part}
 use Rattle.seam_transcript.specs.Orders.{Orders}
 use Rattle.seam_transcript.specs.Language.{Call}
-use Rattle.seam_transcript.specs.Book.{Accepts, MayCall, sender_text}
+use Rattle.seam_transcript.specs.Book.{Accepts, sender_text}
 use Rattle.seam_value.specs.Values.{Fits, text_of}
 use Rattle.seam_value.specs.declared.types.ValueType.TheVariants as type
 use Rattle.seam_value.specs.declared.values.Value.{Value}
 use Rattle.seam_defs.specs.declared.states.Deed.TheVariants.{Method}
 use Rattle.seam_defs.specs.declared.settings.Settings.{Settings}
-use Rattle.seam_world.specs.Table.{HasMethod, IsAmong, TableStands, EntityStands, PartStands, Executes, ExecutesOn, next_executed, go_on, sequence}
+use Rattle.seam_world.specs.Table.{HasMethod, IsAmong, TableStands, EntityStands, PartStands, Executes, ExecutesOn, next_executed, sequence}
 use Rattle.seam_world.specs.declared.table.Entity.{Entity}
 use Rattle.seam_world.specs.declared.table.Table.{Table}
+use Rattle.seam_world.proofs.Writing.{same, differ}
 use Rattle.seam_world.proofs.Sequences.{sequence-more}
 use Rattle.seam_world.proofs.Parts.{part-more, sequence-le}
-use Rattle.seam_world.proofs.Calls.{stands-at}
 
 -- a call of a sender for the cell part of an entity
 abbrev on_cell : ℕ → Sender → Deed → Called
 on_cell e s d = record { entity = e; part = part.Cell; sender = s; deed = d }
-
--- whether it is for a part
-same : (m : ℕ) → (m == m) ≡ true
-same m = grind arith
-
-differ : (a b : ℕ) → a ≢ b → (a == b) ≡ false
-differ a b ne = grind (arith, eqb_tells)
 
 -- it goes behind the order of that part
 sequence-here : (calls : List Called) (e : ℕ) (s : Sender) (d : Deed)
@@ -71,11 +64,14 @@ entity-here h b before e n d v w stands least most small ty base step =
     let on_type : Executes h.defs c.ty (Base n) d v.cell w.cell = subst (λ (k : ℕ). Executes h.defs k (Base n) d v.cell w.cell) stands.ty step in
     let few : length order < 2 ^ 61 = omega (arith, sequence-le b.calls part.Cell e) in
     record {
-      made = c; is = stands.is; entity = stands.entity; ty = ty ∙ stands.ty;
+      made = c;
+      is = stands.is;
+      entity = stands.entity;
+      ty = ty ∙ stands.ty;
       cell = subst (λ (xs : List Executed). PartStands h part.Cell c (before part.Cell e) xs w.cell) (sym (sequence-here b.calls e (Base n) d))
-        (part-more h part.Cell c (before part.Cell e) order n d v.cell w.cell stands.cell least most few on_type);
+          (part-more h part.Cell c (before part.Cell e) order n d v.cell w.cell stands.cell least most few on_type);
       base = subst (λ (xs : List Executed). PartStands h part.Base c (before part.Base e) xs w.base) (sym (sequence-base b.calls e e (Base n) d))
-        (subst (λ s. PartStands h part.Base c (before part.Base e) (sequence b.calls part.Base e) s) (sym base) stands.base);
+          (subst (λ s. PartStands h part.Base c (before part.Base e) (sequence b.calls part.Base e) s) (sym base) stands.base);
     }
 
 -- an entity that the call is not for
@@ -84,7 +80,10 @@ entity-other : (h : Header) (b : Book) (before : Orders) (e x : ℕ) (s : Sender
     → MatchOption o (created_as b x ≡ None) (EntityStands h (with_call b (on_cell e s d)) before x)
 entity-other h b before e x s d None ne none = none
 entity-other h b before e x s d (Some v) ne stands = record {
-  made = stands.made; is = stands.is; entity = stands.entity; ty = stands.ty;
+  made = stands.made;
+  is = stands.is;
+  entity = stands.entity;
+  ty = stands.ty;
   cell = subst (λ (xs : List Executed). PartStands h part.Cell stands.made (before part.Cell x) xs v.cell) (sym (sequence-other b.calls e x s d part.Cell ne)) stands.cell;
   base = subst (λ (xs : List Executed). PartStands h part.Base stands.made (before part.Base x) xs v.base) (sym (sequence-other b.calls e x s d part.Base ne)) stands.base;
 }
@@ -108,11 +107,16 @@ is-called : (h : Header) (b : Book) (before : Orders) (old new : Table) (e : ℕ
 is-called h b before old new e s d c stands is step = cases (get nat_cmp old.entities e) (stands.each e) step.here
   where
     cases : (o : Option Entity) → MatchOption o (created_as b e ≡ None) (EntityStands h b before e)
-      → IfSome o (λ v. (w : Entity) × (get nat_cmp new.entities e ≡ Some w) × (w.ty ≡ v.ty) × (w.base ≡ v.base) × Executes old.defs v.ty s d v.cell w.cell)
-      → IsCalled h b before old new e s d
+        → IfSome o (λ v. (w : Entity) × (get nat_cmp new.entities e ≡ Some w) × (w.ty ≡ v.ty) × (w.base ≡ v.base) × Executes old.defs v.ty s d v.cell w.cell)
+        → IsCalled h b before old new e s d
     cases None none here = absurd (none-some c (sym none ∙ is))
     cases (Some x) at here = record {
-      v = x; w = here.0; stands = at; found = here.1; ty = here.2; base = here.3;
+      v = x;
+      w = here.0;
+      stands = at;
+      found = here.1;
+      ty = here.2;
+      base = here.3;
       step = subst (λ (ds : List TypeDef). Executes ds x.ty s d x.cell here.0.cell) stands.defs here.4;
     }
 
@@ -129,7 +133,7 @@ called-stands h b before old new e n d c stands is least most small step =
       each = λ x. elim (eqb_tells e x) [
         | inl same_as ↦ subst (λ (y : ℕ). MatchOption (get nat_cmp new.entities y) (created_as next y ≡ None) (EntityStands h next before y)) same_as.1
             (subst (λ (o : Option Entity). MatchOption o (created_as next e ≡ None) (EntityStands h next before e)) (sym at.found)
-              (entity-here h b before e n d at.v at.w at.stands least most small at.ty at.base at.step))
+            (entity-here h b before e n d at.v at.w at.stands least most small at.ty at.base at.step))
         | inr other ↦ subst (λ (o : Option Entity). MatchOption o (created_as b x ≡ None) (EntityStands h next before x)) (sym (step.others x (λ s. other.1 (sym s))))
             (entity-other h b before e x (Base n) d (get nat_cmp old.entities x) other.1 (stands.each x))
       ];
@@ -149,10 +153,24 @@ accepted-call h b before old new who e name argument (Base n) m v args stands sm
     let deed : Deed = Method m (v ∷ []) in
     let bases : old.settings.bases ≡ h.settings.bases = ap (λ (s : Settings). s.bases) stands.settings in
     let among = sender (omega (arith, bases, few)) in
-    let most : n ≤ h.settings.bases = omega (arith, bases, among.0.1) in
-    (with_call b (on_cell e (Base n) deed),
-     (Base n, c, m, v, record {
-       sender = (among.0.0, most); known_as = among.1; entity = has.entity; built = has.built; named = has.named; fits = fits; spelled = spelled;
-     }, refl),
-     called-stands h b before old new e n deed c stands has.entity among.0.0 (omega (arith, most, few)) small
-       (subst (λ (xs : List Value). ExecutesOn old new e (Base n) (Method m xs)) args_are step))
+    let most : n ≤ h.settings.bases = omega (arith, bases, among.0.1) in (
+      with_call b (on_cell e (Base n) deed),
+      (
+        Base n,
+        c,
+        m,
+        v,
+        record {
+          sender = (among.0.0, most);
+          known_as = among.1;
+          entity = has.entity;
+          built = has.built;
+          named = has.named;
+          fits = fits;
+          spelled = spelled;
+        },
+        refl,
+      ),
+      called-stands h b before old new e n deed c stands has.entity among.0.0 (omega (arith, most, few)) small
+          (subst (λ (xs : List Value). ExecutesOn old new e (Base n) (Method m xs)) args_are step),
+    )

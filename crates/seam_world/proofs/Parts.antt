@@ -1,6 +1,6 @@
 -- A part executes one more call.
-use Rattle.std.proofs.Common.{◌≡◌, ◌≢◌, ◌⊎◌, ◌+◌, ◌-◌, ◌^◌, ◌<◌, ◌≤◌, ℕ, suc, Bool, true, false, List, [], ◌∷◌, ◌++◌, length, take, get_or, refl, sym, ◌∙◌, ap, subst, inl, inr, arith, append_assoc, append-nil, length-append, min, set, filter}
-use Rattle.std.specs.Prelude.{fold, ◌==◌, ◌&&◌, slice_index, slice_set, if◌then◌else◌}
+use Rattle.std.proofs.Common.{◌≡◌, ◌≢◌, ◌+◌, ◌-◌, ◌^◌, ◌<◌, ◌≤◌, ℕ, Bool, true, false, List, [], ◌∷◌, ◌++◌, length, get_or, sym, ◌∙◌, ap, inl, inr, arith, append_assoc, append-nil, length-append, min, set}
+use Rattle.std.specs.Prelude.{fold, ◌==◌, ◌&&◌, slice_index, if◌then◌else◌}
 use Rattle.std.proofs.lemmas.List.{take_all, get_or-set_same, get_or-set_other, length-set}
 use Rattle.std.proofs.lemmas.List.Sums.{fold-append, length-filter, count_by-le-length}
 use Rattle.std.proofs.lemmas.Bool.Decides.{eqb_tells}
@@ -17,6 +17,7 @@ use Rattle.seam_transcript.specs.FlatTable.{flat, first_state}
 use Rattle.seam_world.specs.Table.{next_executed, go_on, sequence, PartStands, Executes, Counts, place_of_node}
 use Rattle.seam_world.specs.declared.table.PartState.{PartState}
 use Rattle.seam_world.proofs.Sequences.{of_sender-more}
+use Rattle.seam_world.proofs.Writing.{same, differ}
 
 -- counting a call changes the counts alone
 record KeepsRest (old new : PartState) : Type 0 where
@@ -38,7 +39,10 @@ pub executes : (defs : List _) (ty : ℕ) (s : Sender) (d : Deed) (old counted n
 executes defs ty s d old counted new n counts last state version done =
     let keeps : KeepsRest old counted = counts-keeps s old counted n counts in
     record {
-      number = n; counted = counted; counts = counts; last = last;
+      number = n;
+      counted = counted;
+      counts = counts;
+      last = last;
       state = state ∙ ap (λ (x : State). after defs ty x d) keeps.state;
       version = version ∙ ap (λ (v : ℕ). min (v + 1) (2 ^ 64 - 1)) keeps.version;
       done = done ∙ ap (λ v. v.items ++ record { sender = s; number = n; deed = d } ∷ []) keeps.done;
@@ -61,18 +65,12 @@ of_sender-le s order =
 -- the counts of an order with one more call
 count-same : (n : ℕ) (order : List Executed) (d : Deed) → length (of_sender (Base n) (order ++ next_executed order (Base n) d ∷ [])) ≡ length (of_sender (Base n) order) + 1
 count-same n order d =
-    ap length (of_sender-more (Base n) order (next_executed order (Base n) d) true (same-base n))
+    ap length (of_sender-more (Base n) order (next_executed order (Base n) d) true (same n))
     ∙ length-append (of_sender (Base n) order) (next_executed order (Base n) d ∷ [])
-  where
-    same-base : (m : ℕ) → (m == m) ≡ true
-    same-base m = grind arith
 
 count-other : (n m : ℕ) (order : List Executed) (d : Deed) → n ≢ m → length (of_sender (Base m) (order ++ next_executed order (Base n) d ∷ [])) ≡ length (of_sender (Base m) order)
 count-other n m order d other =
-    ap length (of_sender-more (Base m) order (next_executed order (Base n) d) false (apart n m other) ∙ append-nil (of_sender (Base m) order))
-  where
-    apart : (a b : ℕ) → a ≢ b → (a == b) ≡ false
-    apart a b ne = grind (arith, eqb_tells)
+    ap length (of_sender-more (Base m) order (next_executed order (Base n) d) false (differ n m other) ∙ append-nil (of_sender (Base m) order))
 
 -- what a part counts for a base node
 counted-at : (old counted : PartState) (n number : ℕ) (order : List Executed) → 1 ≤ n → n ≤ 8 → length order < 2 ^ 61
@@ -83,7 +81,7 @@ counted-at old counted n number order least most small last counts =
     let here : slice_index old.last (n - 1) ≡ length (of_sender (Base (n - 1 + 1)) order) = last (n - 1) (omega arith) in
     let node : n - 1 + 1 ≡ n = omega arith in
     let count : slice_index old.last (place_of_node n) ≡ length (of_sender (Base n) order) =
-      ap (slice_index old.last) place ∙ here ∙ ap (λ (m : ℕ). length (of_sender (Base m) order)) node in
+    ap (slice_index old.last) place ∙ here ∙ ap (λ (m : ℕ). length (of_sender (Base m) order)) node in
     counts.0 ∙ ap (λ (m : ℕ). min (m + 1) (2 ^ 64 - 1)) count ∙ omega (arith, of_sender-le (Base n) order)
 
 last-at : (old counted : PartState) (n number : ℕ) (order : List Executed) (d : Deed) → 1 ≤ n → n ≤ 8 → length old.last ≡ 8
@@ -117,7 +115,7 @@ part-more h p c before order n d old new stands least most small step =
       state = step.state ∙ ap (λ (s : State). after h.defs c.ty s d) stands.state ∙ sym (flat-more h p c order x);
       version = step.version ∙ ap (λ (v : ℕ). min (v + 1) (2 ^ 64 - 1)) stands.version ∙ omega (arith, length-append order (x ∷ []));
       done = ap (λ (xs : List Executed). before ++ xs) (step.done ∙ ap (λ (m : ℕ). old.done.items ++ record { sender = Base n; number = m; deed = d } ∷ []) number)
-        ∙ sym (append_assoc before old.done.items (x ∷ [])) ∙ ap (λ (xs : List Executed). xs ++ x ∷ []) stands.done;
+          ∙ sym (append_assoc before old.done.items (x ∷ [])) ∙ ap (λ (xs : List Executed). xs ++ x ∷ []) stands.done;
       last = λ k within. ap (λ (xs : List ℕ). slice_index xs k) step.last ∙ last-at old step.counted n step.number order d least most stands.senders stands.last step.counts number k within;
       senders = ap length (step.last ∙ ap (λ (q : PartState). q.last) step.counts.1) ∙ length-set old.last (place_of_node n) step.number ∙ stands.senders;
     }

@@ -1,9 +1,9 @@
 -- What the table holds when a round begins.
-use Rattle.std.proofs.Common.{◌≡◌, ◌<◌, ℕ, Bool, true, false, List, [], ◌∷◌, ◌++◌, length, refl, sym, ◌∙◌, ap, subst, suc, Option, Some, None, cond, append-nil, length-map}
+use Rattle.std.proofs.Common.{◌≡◌, ℕ, Bool, true, false, List, [], ◌∷◌, ◌++◌, length, refl, sym, ◌∙◌, ap, subst, suc, Option, Some, None, cond, append-nil}
 use Rattle.std.specs.Prelude.{MatchOption, slice_index}
 use Rattle.std.specs.Ordering.{nat_cmp}
-use Rattle.std.specs.BTreeMap.{get, is_at, btree_map_len, IsOrdered, BTreeMap}
-use Rattle.std.specs.Map.{lookup, keys_of}
+use Rattle.std.specs.BTreeMap.{get, is_at, IsOrdered, BTreeMap}
+use Rattle.std.specs.Map.{lookup}
 use Rattle.std.specs.Map.Calls.{RetainsPairs}
 use Rattle.seam_defs.specs.declared.flags.Part.{Part}
 use Rattle.seam_defs.specs.declared.flags.Part.TheVariants as part
@@ -14,15 +14,16 @@ use Rattle.seam_world.specs.Table.{TableStands, EntityStands, PartStands, Forget
 use Rattle.seam_world.specs.declared.table.PartState.{PartState}
 use Rattle.seam_world.specs.declared.table.Entity.{Entity}
 use Rattle.seam_world.specs.declared.table.Table.{Table}
+use Rattle.seam_world.proofs.Writing.{with_entities}
 
 -- the value that a look-up found was replaced by one that stands in a relation to it
-abbrev Replaced : {K X : Type 0} → (X → X → Type 0) → List (K × X) → List (K × X) → (K → Bool) → Type 0
+abbrev pub Replaced : {K X : Type 0} → (X → X → Type 0) → List (K × X) → List (K × X) → (K → Bool) → Type 0
 Replaced {X = X} P es kept test = MatchOption (lookup test es) (lookup test kept ≡ None) (λ v. (w : X) × (lookup test kept ≡ Some w) × P v w)
 
 -- every value was replaced, and every key stays
-record IsReplaced {K X : Type 0} (P : X → X → Type 0) (es kept : List (K × X)) : Type 0 where
-  size : length kept ≡ length es
-  at : (test : K → Bool) → Replaced P es kept test
+pub record IsReplaced {K X : Type 0} (P : X → X → Type 0) (es kept : List (K × X)) : Type 0 where
+  pub size : length kept ≡ length es
+  pub at : (test : K → Bool) → Replaced P es kept test
 
 one-more : {K X : Type 0} (P : X → X → Type 0) (k : K) (v w : X) (es kept : List (K × X)) (test : K → Bool) (b : Bool) → test k ≡ b → P v w → Replaced P es kept test
     → MatchOption (cond b (Some v) (lookup test es)) (cond b (Some w) (lookup test kept) ≡ None) (λ y. (x : X) × (cond b (Some w) (lookup test kept) ≡ Some x) × P y x)
@@ -62,13 +63,13 @@ entity-starts : (h : Header) (b : Book) (before : Orders) (e : ℕ) (old new : O
 entity-starts h b before e None new is none = subst (λ (o : Option Entity). MatchOption o (created_as b e ≡ None) (EntityStands h (closed b) (sequence b.calls) e)) (sym is) none
 entity-starts h b before e (Some v) new (w, is, starts) stands =
     subst (λ (o : Option Entity). MatchOption o (created_as b e ≡ None) (EntityStands h (closed b) (sequence b.calls) e)) (sym is) (record {
-      made = stands.made; is = stands.is; entity = stands.entity; ty = starts.ty ∙ stands.ty;
+      made = stands.made;
+      is = stands.is;
+      entity = stands.entity;
+      ty = starts.ty ∙ stands.ty;
       cell = part-starts h part.Cell stands.made (before part.Cell e) (sequence b.calls part.Cell e) v.cell w.cell stands.cell starts.cell;
       base = part-starts h part.Base stands.made (before part.Base e) (sequence b.calls part.Base e) v.base w.base stands.base starts.base;
     })
-
-abbrev with_entities : Table → BTreeMap ℕ Entity → Table
-with_entities t m = record t { entities = m }
 
 -- the table at the beginning of a round
 pub round-starts : (h : Header) (b : Book) (before : Orders) (t : Table) (m : BTreeMap ℕ Entity) → TableStands h b before t

@@ -1,5 +1,5 @@
 -- What the table of entities holds, beside the book and the orders of a transcript.
-use Rattle.std.specs.Prelude.{◌≡◌, ℕ, ◌+◌, ◌<◌, ◌≤◌, ◌^◌, Bool, ◌&&◌, List, [], ◌∷◌, ◌++◌, length, fold, ◌==◌, Some, None, MatchOption, IfSome, slice_index, slice_set, min, ◌-◌, ◌≢◌, if◌then◌else◌}
+use Rattle.std.specs.Prelude.{◌≡◌, ℕ, ◌+◌, ◌<◌, ◌≤◌, ◌^◌, ◌&&◌, List, [], ◌∷◌, ◌++◌, length, fold, ◌==◌, Some, None, MatchOption, IfSome, slice_index, slice_set, min, ◌-◌, ◌≢◌, if◌then◌else◌}
 use Rattle.std.specs.Ordering.{nat_cmp}
 use Rattle.std.specs.BTreeMap.{get, btree_map_len, IsOrdered}
 use Rattle.seam_geo.specs.declared.pos.Pos.{Pos}
@@ -15,7 +15,7 @@ use Rattle.seam_transcript.specs.declared.sender.Sender.{Sender}
 use Rattle.seam_transcript.specs.declared.sender.Sender.TheVariants.{Base}
 use Rattle.seam_transcript.specs.declared.executed.Executed.{Executed}
 use Rattle.seam_transcript.specs.Language.{Command}
-use Rattle.seam_transcript.specs.Book.{Header, Book, Created, Called, created_as, same_part, same_sender, Accepts, IsBuilt}
+use Rattle.seam_transcript.specs.Book.{Header, Book, Created, Called, created_as, same_part, Accepts, IsBuilt}
 use Rattle.seam_transcript.specs.Orders.{Orders, of_sender}
 use Rattle.seam_transcript.specs.FlatTable.{flat}
 use Rattle.seam_world.specs.declared.table.PartState.{PartState}
@@ -111,8 +111,8 @@ place_of_node n = min (n - 1) 7
 -- a call of a sender is counted, and this is its number
 abbrev pub Counts : Sender → PartState → PartState → ℕ → Type 0
 Counts (Base n) old new number =
-  (number ≡ min (slice_index old.last (place_of_node n) + 1) (2 ^ 64 - 1))
-  × (new ≡ record old { last = slice_set old.last (place_of_node n) number })
+    (number ≡ min (slice_index old.last (place_of_node n) + 1) (2 ^ 64 - 1))
+    × (new ≡ record old { last = slice_set old.last (place_of_node n) number })
 
 -- a part executed a call
 pub record Executes (defs : List TypeDef) (ty : ℕ) (sender : Sender) (deed : Deed) (old new : PartState) : Type 0 where

@@ -145,12 +145,7 @@ impl Table {
     }
 
     /// Makes an entity, unless its number was used, its type is none, it stands outside the space, or there are too many.
-    pub fn create(
-        &mut self,
-        entity: u32,
-        type_name: &[u8],
-        pos: Pos,
-    ) -> Result<Verdict, AllocError>
+    pub fn create(&mut self, entity: u32, type_name: &[u8], pos: Pos) -> Result<Verdict, AllocError>
         ensures { IfOk result (λ v. (h : Header) (b : Book) (before : Orders) → TableStands h b before self.old
             → Judged h b (Create entity type_name.now pos.x pos.z) before self.new v) }
     {
@@ -173,13 +168,7 @@ impl Table {
             return None;
         }
         match self.defs.find_type(type_name) {
-            Some(ty) => {
-                if self.takes_calls(ty) {
-                    Some(ty)
-                } else {
-                    None
-                }
-            }
+            Some(ty) => { if self.takes_calls(ty) { Some(ty) } else { None } }
             None => None,
         }
     }
@@ -309,6 +298,7 @@ impl Table {
         ensures { (h : Header) (b : Book) (before : Orders) → TableStands h b before self.old
             → TableStands h (closed b) (sequence b.calls) self.new }
     {
+        // Each stays: of the walks over a map's values this one tells its contract what was written.
         self.entities.retain(|_, entity| {
             entity.start_round();
             true

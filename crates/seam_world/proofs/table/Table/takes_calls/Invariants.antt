@@ -1,4 +1,4 @@
-use Rattle.std.proofs.Common.{◌≡◌, ◌<◌, ℕ}
+use Rattle.std.proofs.Common.{◌<◌, ℕ}
 use Rattle.seam_transcript.specs.Book.{IsBuilt}
 use Rattle.seam_world.proofs.table.Table.takes_calls.Given as goal
 
