@@ -12,7 +12,7 @@ use Rattle.seam_defs.specs.declared.types.TypeDef.{TypeDef}
 use Rattle.seam_defs.specs.declared.flags.Part.{Part}
 use Rattle.seam_defs.specs.declared.flags.Part.TheVariants as part
 use Rattle.seam_defs.specs.declared.states.Deed.{Deed}
-use Rattle.seam_defs.specs.declared.states.Deed.TheVariants.{Move, Method}
+use Rattle.seam_defs.specs.declared.states.Deed.TheVariants.{Method}
 use Rattle.seam_transcript.specs.declared.sender.Sender.{Sender}
 use Rattle.seam_transcript.specs.declared.sender.Sender.TheVariants.{Base}
 use Rattle.seam_transcript.specs.Language.{Command, Create, Call, Sync}

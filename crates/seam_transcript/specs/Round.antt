@@ -1,8 +1,7 @@
 -- The text of a round, and which texts are legal.
-use Rattle.std.specs.Prelude.{◌≡◌, ◌↔◌, ℕ, List, [], ◌∷◌, ◌++◌, length, map, codes, Option, Some, Contains}
+use Rattle.std.specs.Prelude.{◌≡◌, ◌↔◌, ℕ, List, [], ◌∷◌, ◌++◌, length, map, codes, Some, Contains}
 use Rattle.std.specs.List.{flat_map}
 use Rattle.std.specs.List.Sorted.{IsStrictlyIncreasing}
-use Rattle.seam_geo.specs.declared.pos.Pos.{Pos}
 use Rattle.seam_value.specs.Values.{decimal_of, text_of}
 use Rattle.seam_defs.specs.Types.{type_of, method_of}
 use Rattle.seam_defs.specs.Deeds.{values_text}

@@ -1,5 +1,5 @@
 -- What is printed for the lines of an input.
-use Rattle.std.specs.Prelude.{◌≡◌, ◌≢◌, ◌⊎◌, ℕ, ◌+◌, List, [], ◌∷◌, ◌++◌, codes, ◌==◌, MatchBool}
+use Rattle.std.specs.Prelude.{◌≡◌, ◌⊎◌, ℕ, ◌+◌, List, [], ◌∷◌, ◌++◌, codes, ◌==◌, MatchBool}
 use Rattle.seam_io.specs.Lines.{Line, Content, Long}
 use Rattle.seam_value.specs.Values.{decimal_of}
 use Rattle.seam_words.specs.Faults.{Refuses}

@@ -1,7 +1,6 @@
 -- Words that are numbers.
-use Rattle.std.proofs.Common.{◌≡◌, ◌≢◌, ◌<◌, ◌^◌, ℕ, ℤ, pos, negsuc, List, refl, arith, sym, ◌∙◌, rules}
-use Rattle.std.proofs.lemmas.Int.{ints}
-use Rattle.seam_value.specs.Values.{Fits, text_of, decimal_of}
+use Rattle.std.proofs.Common.{◌≡◌, ◌≢◌, ◌<◌, ◌^◌, ℕ, pos, List, arith, sym, ◌∙◌, rules}
+use Rattle.seam_value.specs.Values.{Fits, decimal_of}
 use Rattle.seam_value.specs.Causes.{Refuses}
 use Rattle.seam_value.specs.declared.types.ValueType.TheVariants as type
 use Rattle.seam_value.specs.declared.values.Value.TheVariants.{Number}
@@ -10,8 +9,6 @@ use Rattle.seam_value.specs.declared.values.ValueError.TheVariants.{NotNumber, O
 use Rattle.seam_value.proofs.Answers.{refuses_none}
 use Rattle.seam_value.proofs.Decimals.{decimal_of-injective, number_text_is}
 use Rattle.std.specs.Fmt.{decimal}
-use mir.Syntax.{w128}
-use mir.Val.{SFits}
 use Rattle.seam_transcript.specs.Language.{IsWhole}
 
 -- a number that 32 bits hold fits the type of such numbers

@@ -1,10 +1,9 @@
 -- What the table prints for a round is a legal text.
-use Rattle.std.proofs.Common.{◌≡◌, ◌≢◌, ◌⊎◌, ◌↔◌, ◌+◌, ◌<◌, ◌≤◌, ℕ, zero, suc, Bool, true, false, List, [], ◌∷◌, ◌++◌, length, map, take, get_or, refl, sym, ◌∙◌, ap, subst, inl, inr, arith, append_assoc, append-nil, Some, None, Option, Less}
-use Rattle.std.specs.Prelude.{codes, Contains, unwrap_or, MatchOption, fold}
+use Rattle.std.proofs.Common.{◌≡◌, ℕ, List, [], ◌∷◌, ◌++◌, length, map, get_or, refl, sym, ◌∙◌, ap, subst, append-nil, Some, None, Option}
+use Rattle.std.specs.Prelude.{codes, Contains, unwrap_or, MatchOption}
 use Rattle.std.specs.List.{flat_map, All}
-use Rattle.std.specs.List.Sorted.{IsStrictlyIncreasing}
 use Rattle.std.specs.Ordering.{nat_cmp}
-use Rattle.std.specs.BTreeMap.{get, IsOrdered, BTreeMap}
+use Rattle.std.specs.BTreeMap.{get}
 use Rattle.std.specs.BTreeMap as tree
 use Rattle.std.specs.Cmp.{nat_cmp_total}
 use Rattle.std.proofs.lemmas.Map.Views.{All-found, btree_map_get_iff}
@@ -13,19 +12,15 @@ use Rattle.std.proofs.Math.ListN.{get_or-map}
 use Rattle.std.proofs.lemmas.List.{length-map}
 use Rattle.std.proofs.lemmas.Map.Keys.{IsStrictlyIncreasing-from_sorted}
 use Rattle.std.proofs.lemmas.List.Elements.{All-head, All-tail, All-cons, All-nil}
-use Rattle.std.proofs.lemmas.Grind.{common_steps}
-use Rattle.seam_geo.specs.declared.pos.Pos.{Pos}
-use Rattle.seam_defs.specs.declared.types.TypeDef.{TypeDef}
 use Rattle.seam_defs.specs.declared.flags.Part.{Part}
 use Rattle.seam_defs.specs.declared.flags.Part.TheVariants as part
 use Rattle.seam_transcript.specs.declared.executed.Executed.{Executed}
 use Rattle.seam_transcript.specs.Book.{Header, Book, Created, created_as}
-use Rattle.seam_transcript.specs.Orders.{Orders, IsFull, IsLegal}
+use Rattle.seam_transcript.specs.Orders.{Orders}
 use Rattle.seam_transcript.specs.FlatTable.{flat}
-use Rattle.seam_transcript.specs.Round.{RoundData, ListsLive, IsRound, number_line, executed_line, executed_lines, home_line, home_lines, base_line, base_lines}
-use Rattle.seam_world.specs.Table.{PartStands, EntityStands, TableStands, sequence}
+use Rattle.seam_transcript.specs.Round.{ListsLive, IsRound, number_line, executed_line, home_line, base_line}
+use Rattle.seam_world.specs.Table.{EntityStands, TableStands, sequence}
 use Rattle.seam_world.specs.Text.{done_text, home_text, base_text, table_text}
-use Rattle.seam_world.specs.declared.table.PartState.{PartState}
 use Rattle.seam_world.specs.declared.table.Entity.{Entity}
 use Rattle.seam_world.specs.declared.table.Table.{Table}
 use Rattle.seam_world.proofs.Sequences.{sequence-full, full-legal}
@@ -58,7 +53,7 @@ record IsEntry (h : Header) (b : Book) (before : Orders) (t : Table) (x : ℕ ×
 is_entry : (h : Header) (b : Book) (before : Orders) (t : Table) (x : ℕ × Entity) → TableStands h b before t → get nat_cmp t.entities x.0 ≡ Some x.1 → IsEntry h b before t x
 is_entry h b before t x stands found =
     let here : EntityStands h b before x.0 x.1 =
-      subst (λ (o : Option Entity). MatchOption o (created_as b x.0 ≡ None) (EntityStands h b before x.0)) found (stands.each x.0) in
+    subst (λ (o : Option Entity). MatchOption o (created_as b x.0 ≡ None) (EntityStands h b before x.0)) found (stands.each x.0) in
     record { found = found; stands = here; made = ap (λ (o : Option Created). unwrap_or o nobody) here.is }
 
 -- texts of the same entries one after another
@@ -87,7 +82,7 @@ did_text h b before t x is =
     let entity : (made_as b x).entity ≡ x.0 = ap (λ (c : Created). c.entity) is.made ∙ is.stands.entity in
     let ty : (made_as b x).ty ≡ x.1.ty = ap (λ (c : Created). c.ty) is.made ∙ sym is.stands.ty in
     let done : done_of t part.Cell (made_as b x).entity ≡ x.1.cell.done.items =
-      ap (done_of t part.Cell) entity ∙ ap (part_done part.Cell) is.found in
+    ap (done_of t part.Cell) entity ∙ ap (part_done part.Cell) is.found in
     ap (λ (e : ℕ). flat_map (executed_line (codes "did ") h.defs e (made_as b x).ty) (done_of t part.Cell (made_as b x).entity)) entity
     ∙ ap (λ (ty : ℕ). flat_map (executed_line (codes "did ") h.defs x.0 ty) (done_of t part.Cell (made_as b x).entity)) ty
     ∙ ap (flat_map (executed_line (codes "did ") h.defs x.0 x.1.ty)) done
@@ -155,8 +150,8 @@ live_created : (h : Header) (b : Book) (before : Orders) (t : Table) (entries : 
 live_created h b before t [] all = All-nil (λ (c : Created). created_as b c.entity ≡ Some c)
 live_created h b before t (x ∷ xs) all =
     All-cons (λ (c : Created). created_as b c.entity ≡ Some c) (made_as b x) (live_of b xs)
-      (made_created h b before t x (All-head (IsEntry h b before t) x xs all))
-      (live_created h b before t xs (All-tail (IsEntry h b before t) x xs all))
+    (made_created h b before t x (All-head (IsEntry h b before t) x xs all))
+    (live_created h b before t xs (All-tail (IsEntry h b before t) x xs all))
 
 contained_made : {X Y : Type 0} (f : X → Y) (xs : List X) (x : X) → Contains xs x → Contains (map f xs) (f x)
 contained_made f xs x (k, within, is) =
@@ -179,8 +174,9 @@ lists_live h b before t stands = record {
   rising = rw (made_keys h b before t t.entities.entries (entries_are h b before t stands)) (IsStrictlyIncreasing-from_sorted (tree.keys t.entities) stands.ordered);
   exact = λ c. (
     (λ (k, within, is). subst (λ (x : Created). created_as b x.entity ≡ Some x) is
-      (live_created h b before t t.entities.entries (entries_are h b before t stands) k c within)),
-    (λ is. created_live h b before t stands c is (get nat_cmp t.entities c.entity) refl (stands.each c.entity)));
+        (live_created h b before t t.entities.entries (entries_are h b before t stands) k c within)),
+    (λ is. created_live h b before t stands c is (get nat_cmp t.entities c.entity) refl (stands.each c.entity)),
+  );
 }
 
 -- ---- the round
@@ -194,8 +190,8 @@ pub table_round : (h : Header) (number : ℕ) (b : Book) (before : Orders) (t : 
 table_round h number b before t stands = record {
   round = record { live = live_of b t.entities.entries; done = done_of t; home = λ e. 0 };
   form = let entries = t.entities.entries in
-    let all : All (IsEntry h b before t) entries = entries_are h b before t stands in
-    same_form (number_line (codes "round ") number) _ _ _ _ (number_line (codes "end ") number) _ _ _
+      let all : All (IsEntry h b before t) entries = entries_are h b before t stands in
+      same_form (number_line (codes "round ") number) _ _ _ _ (number_line (codes "end ") number) _ _ _
       (same_texts entries (made_as b) (λ c. flat_map (executed_line (codes "did ") h.defs c.entity c.ty) (done_of t part.Cell c.entity)) (done_text h.defs) (λ k d within. did_text h b before t _ (all k d within)))
       (same_texts entries (made_as b) (λ c. flat_map (executed_line (codes "dob ") h.defs c.entity c.ty) (done_of t part.Base c.entity)) (λ x. []) (λ k d within. dob_text h b before t _ stands (all k d within)) ∙ no_texts entries (λ x. []) (λ k d within. refl))
       (same_texts entries (made_as b) (λ c. let order = sequence b.calls part.Cell c.entity in home_line h.defs c.entity c.ty 0 (length order) (flat h part.Cell c order (length order))) (home_text h.defs) (λ k d within. home_is h b before t _ (all k d within)))

@@ -1,9 +1,9 @@
 -- How a run goes on, and how it stops.
-use Rattle.std.proofs.Common.{◌≡◌, ◌≢◌, ◌⊎◌, inl, inr, ℕ, ◌+◌, ◌-◌, ◌<◌, ◌≤◌, ◌^◌, min, Bool, true, false, List, [], ◌∷◌, ◌++◌, Option, None, Some, Result, Ok, Err, length, refl, sym, ap, ◌∙◌, subst, arith, append_assoc, append-nil, length-append}
-use Rattle.std.proofs.KnownBytes.{Appends-trans, Appends-nil, Consumes-nil}
+use Rattle.std.proofs.Common.{◌≡◌, ◌≢◌, ◌⊎◌, inl, inr, ℕ, ◌+◌, ◌≤◌, ◌^◌, Bool, true, false, List, [], ◌∷◌, ◌++◌, Option, None, Some, refl, sym, ap, ◌∙◌, subst, arith, append_assoc, append-nil}
+use Rattle.std.proofs.KnownBytes.{Appends-trans, Appends-nil}
 use Rattle.std.proofs.lemmas.Bool.{false≢true}
-use Rattle.std.specs.Prelude.{codes, MatchOption, OnOk}
-use Rattle.std.specs.Io.KnownBytes.{Consumes, Appends, IsAtEnd}
+use Rattle.std.specs.Prelude.{codes, MatchOption}
+use Rattle.std.specs.Io.KnownBytes.{Consumes, Appends}
 use Rattle.seam_io.specs.Causes.{Rose}
 use Rattle.seam_io.specs.Lines.{Line, Content, Long, lines_of, whole_lines_of, lines_left}
 use Rattle.seam_io.specs.Reading.{SourceState, Reader, Reading, budget, IsExact}
@@ -12,7 +12,7 @@ use Rattle.seam_transcript.specs.Book.{Header}
 use Rattle.seam_transcript.specs.Transcript.{Standing, start, Step, Run, separator, BeginsWell, IsOpen, IsEnded, EndsInput}
 use Rattle.seam_world.specs.Script.{ScriptStands, TakesPiece}
 use Rattle.seam_world.specs.Status.{IsHeaderEnd, IsRunEnd}
-use Rattle.seam_world.specs.Ends.{IsFront, BeginsWith, IsHeaderFault, Tells, HasFaultLine}
+use Rattle.seam_world.specs.Ends.{IsFront, BeginsWith, Tells, HasFaultLine}
 use Rattle.seam_world.specs.Histories.{Going, Stopped, Prints}
 use Rattle.seam_world.specs.declared.script.Script.{Script}
 use Rattle.seam_world.specs.declared.status.Status.{Status}

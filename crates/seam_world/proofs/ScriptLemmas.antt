@@ -1,16 +1,12 @@
 -- What a script's turns do to its standing.
-use Rattle.std.proofs.Common.{◌≡◌, ◌≢◌, ◌⊎◌, inl, inr, ℕ, ◌+◌, ◌-◌, ◌<◌, ◌≤◌, ◌^◌, min, Bool, true, false, List, [], ◌∷◌, ◌++◌, length, refl, sym, ap, ◌∙◌, subst, arith, append-nil, length-append, nat_eq, Result, Ok, Err}
+use Rattle.std.proofs.Common.{◌≡◌, ◌≢◌, inl, inr, ℕ, ◌+◌, ◌-◌, ◌<◌, ◌≤◌, ◌^◌, min, Bool, true, false, List, [], length, refl, sym, ap, ◌∙◌, subst, arith, length-append, Result, Ok, Err}
 use Rattle.std.specs.Prelude.{codes, MatchBool, OnOk, ◌==◌}
 use Rattle.std.proofs.lemmas.Grind.{common_steps}
-use Rattle.seam_io.specs.Lines.{Line, Content, Long}
-use Rattle.seam_value.specs.Values.{decimal_of}
-use Rattle.seam_words.specs.Faults.{Refuses}
-use Rattle.seam_words.specs.Numbers.{number_of}
-use Rattle.seam_words.specs.declared.words.WordsError.{WordsError}
+use Rattle.seam_io.specs.Lines.{Line, Content}
 use Rattle.seam_transcript.specs.Language.{IsSkipped, HasWords, Command, Create, Call, Sync, Says}
 use Rattle.seam_transcript.specs.Book.{Header, Book, closed, Accepts}
 use Rattle.seam_transcript.specs.Round.{IsRound}
-use Rattle.seam_transcript.specs.Transcript.{Standing, start, counted, with_book, refusal, Step, TakesLine, TakesWords, TakesOther, TakesCommand, EndsRound, EndsInput, IsRefused}
+use Rattle.seam_transcript.specs.Transcript.{Standing, counted, with_book, refusal, TakesLine, TakesOther, TakesCommand, EndsRound, EndsInput}
 use Rattle.seam_world.specs.Table.{TableStands, Judged, sequence}
 use Rattle.seam_world.specs.Text.{table_text}
 use Rattle.seam_world.specs.Script.{IsReady, ScriptStands, EndsOpenRound, AwaitsVerdict, TakesPieceOf, TakesPiece}
@@ -35,7 +31,7 @@ round_ended h t old new ready few round line accepted table =
       next = behind_round t;
       ends = record {
         legal = subst (λ (n : ℕ). IsRound h (t.rounds + 1) t.book t.orders (sequence t.book.calls) (table_text n old.table.defs old.table.entities.entries)) (sym number)
-          (subst (λ defs. IsRound h (t.rounds + 1) t.book t.orders (sequence t.book.calls) (table_text (t.rounds + 1) defs old.table.entities.entries)) (sym ready.table.defs)
+            (subst (λ defs. IsRound h (t.rounds + 1) t.book t.orders (sequence t.book.calls) (table_text (t.rounds + 1) defs old.table.entities.entries)) (sym ready.table.defs)
             (table_round h (t.rounds + 1) t.book t.orders old.table ready.table));
         lines = refl;
         book = refl;
@@ -83,9 +79,12 @@ kept_last h t c old new piece w most e =
     let rounds = w.rounds in
     record {
       next = e.next;
-      takes = inl (w.judged.0, w.judged.1,
+      takes = inl (
+        w.judged.0,
+        w.judged.1,
         subst (λ (b : Bool). MatchBool b (EndsRound h t w.judged.0 piece e.next) ((piece ≡ []) × (e.next ≡ with_book t w.judged.0))) (sym test)
-          (record { legal = e.ends.legal; lines = e.ends.lines; book = e.ends.book; rounds = e.ends.rounds }));
+            (record { legal = e.ends.legal; lines = e.ends.lines; book = e.ends.book; rounds = e.ends.rounds }),
+      );
       lines = e.ends.lines;
       stands = e.stands (omega arith);
     }
@@ -101,8 +100,11 @@ kept_open h t c old new w accepted less table line round =
     let test : (w.judged.0.open_lines == 65536) ≡ false = grind (arith, common_steps, less, count) in
     record {
       next = with_book t w.judged.0;
-      takes = inl (w.judged.0, w.judged.1,
-        subst (λ (b : Bool). MatchBool b (EndsRound h t w.judged.0 [] (with_book t w.judged.0)) ((◌≡◌ {A = List ℕ} [] []) × (with_book t w.judged.0 ≡ with_book t w.judged.0))) (sym test) (refl, refl));
+      takes = inl (
+        w.judged.0,
+        w.judged.1,
+        subst (λ (b : Bool). MatchBool b (EndsRound h t w.judged.0 [] (with_book t w.judged.0)) ((◌≡◌ {A = List ℕ} [] []) × (with_book t w.judged.0 ≡ with_book t w.judged.0))) (sym test) (refl, refl),
+      );
       lines = refl;
       stands = record { ready = kept_ready h t c old new w table line round; accepted = count; below_most = omega (arith, more.1) };
     }

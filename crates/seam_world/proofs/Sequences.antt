@@ -1,5 +1,5 @@
 -- The order in which the table executes calls: it is full, and a call more goes behind it.
-use Rattle.std.proofs.Common.{◌≡◌, ◌≢◌, ◌+◌, ◌<◌, ◌≤◌, ℕ, Bool, true, false, List, [], ◌∷◌, ◌++◌, length, map, refl, sym, ◌∙◌, ap, subst, arith, cond, append_assoc, append-nil, length-append}
+use Rattle.std.proofs.Common.{◌≡◌, ◌+◌, ℕ, Bool, true, false, List, [], ◌∷◌, ◌++◌, length, map, refl, sym, ◌∙◌, ap, subst, arith, append_assoc, append-nil}
 use Rattle.std.specs.Prelude.{filter, fold, ◌&&◌, ◌==◌, if◌then◌else◌}
 use Rattle.std.proofs.lemmas.List.{map-append}
 use Rattle.std.proofs.lemmas.List.Elements.{filter-append}
@@ -9,7 +9,7 @@ use Rattle.seam_defs.specs.declared.states.Deed.{Deed}
 use Rattle.seam_transcript.specs.declared.sender.Sender.{Sender}
 use Rattle.seam_transcript.specs.declared.sender.Sender.TheVariants.{Base}
 use Rattle.seam_transcript.specs.declared.executed.Executed.{Executed}
-use Rattle.seam_transcript.specs.Book.{Book, Called, accepted, same_part, same_sender}
+use Rattle.seam_transcript.specs.Book.{Book, Called, same_part, same_sender}
 use Rattle.seam_transcript.specs.Orders.{numbered, of_sender, IsFull, IsLegal}
 use Rattle.seam_world.specs.Table.{next_executed, go_on, sequence}
 
@@ -25,7 +25,7 @@ numbered-append : (s : Sender) (n : ℕ) (ds : List Deed) (d : Deed) → numbere
 numbered-append s n [] d = ap (λ (m : ℕ). record { sender = s; number = m; deed = d } ∷ []) (omega arith)
 numbered-append s n (x ∷ ds) d =
     ap (λ (xs : List Executed). record { sender = s; number = n; deed = x } ∷ xs)
-      (numbered-append s (n + 1) ds d ∙ ap (λ (m : ℕ). numbered s (n + 1) ds ++ record { sender = s; number = m; deed = d } ∷ []) (omega arith))
+    (numbered-append s (n + 1) ds d ∙ ap (λ (m : ℕ). numbered s (n + 1) ds ++ record { sender = s; number = m; deed = d } ∷ []) (omega arith))
 
 length-numbered : (s : Sender) (n : ℕ) (ds : List Deed) → length (numbered s n ds) ≡ length ds
 length-numbered s n [] = refl
@@ -63,22 +63,22 @@ has-next p e order calls c mine has s = cases (same_sender c.sender s) refl
   where
     cases : (b : Bool) → same_sender c.sender s ≡ b → of_sender s (order ++ next_executed order c.sender c.deed ∷ []) ≡ numbered s 1 (accepted_in (calls ++ c ∷ []) p e s)
     cases true is =
-      let sender : c.sender ≡ s = same_sender-is c.sender s is in
-      let both : (is_for p e c && same_sender c.sender s) ≡ true = ap (λ (x : Bool). x && same_sender c.sender s) mine ∙ is in
-      let number : length (of_sender c.sender order) + 1 ≡ 1 + length (accepted_in calls p e s) =
+        let sender : c.sender ≡ s = same_sender-is c.sender s is in
+        let both : (is_for p e c && same_sender c.sender s) ≡ true = ap (λ (x : Bool). x && same_sender c.sender s) mine ∙ is in
+        let number : length (of_sender c.sender order) + 1 ≡ 1 + length (accepted_in calls p e s) =
         ap (λ (t : Sender). length (of_sender t order) + 1) sender ∙ ap (λ (xs : List Executed). length xs + 1) (has s) ∙ omega (arith, length-numbered s 1 (accepted_in calls p e s)) in
-      let next : next_executed order c.sender c.deed ≡ record { sender = s; number = 1 + length (accepted_in calls p e s); deed = c.deed } =
+        let next : next_executed order c.sender c.deed ≡ record { sender = s; number = 1 + length (accepted_in calls p e s); deed = c.deed } =
         ap (λ (n : ℕ). record { sender = c.sender; number = n; deed = c.deed }) number ∙ ap (λ (t : Sender). record { sender = t; number = 1 + length (accepted_in calls p e s); deed = c.deed }) sender in
-      of_sender-more s order (next_executed order c.sender c.deed) true is
-      ∙ ap (λ (xs : List Executed). xs ++ next_executed order c.sender c.deed ∷ []) (has s)
-      ∙ ap (λ (x : Executed). numbered s 1 (accepted_in calls p e s) ++ x ∷ []) next
-      ∙ sym (numbered-append s 1 (accepted_in calls p e s) c.deed)
-      ∙ ap (numbered s 1) (sym (accepted_in-more calls p e s c true both))
+        of_sender-more s order (next_executed order c.sender c.deed) true is
+        ∙ ap (λ (xs : List Executed). xs ++ next_executed order c.sender c.deed ∷ []) (has s)
+        ∙ ap (λ (x : Executed). numbered s 1 (accepted_in calls p e s) ++ x ∷ []) next
+        ∙ sym (numbered-append s 1 (accepted_in calls p e s) c.deed)
+        ∙ ap (numbered s 1) (sym (accepted_in-more calls p e s c true both))
     cases false is =
-      let both : (is_for p e c && same_sender c.sender s) ≡ false = ap (λ (x : Bool). x && same_sender c.sender s) mine ∙ is in
-      of_sender-more s order (next_executed order c.sender c.deed) false is
-      ∙ ap (λ (xs : List Executed). xs ++ []) (has s)
-      ∙ append-nil (numbered s 1 (accepted_in calls p e s)) ∙ ap (numbered s 1) (sym (accepted_in-more calls p e s c false both ∙ append-nil (accepted_in calls p e s)))
+        let both : (is_for p e c && same_sender c.sender s) ≡ false = ap (λ (x : Bool). x && same_sender c.sender s) mine ∙ is in
+        of_sender-more s order (next_executed order c.sender c.deed) false is
+        ∙ ap (λ (xs : List Executed). xs ++ []) (has s)
+        ∙ append-nil (numbered s 1 (accepted_in calls p e s)) ∙ ap (numbered s 1) (sym (accepted_in-more calls p e s c false both ∙ append-nil (accepted_in calls p e s)))
 
 accepted_in-none : (calls : List Called) (p : Part) (e : ℕ) (s : Sender) (c : Called) → is_for p e c ≡ false → accepted_in (calls ++ c ∷ []) p e s ≡ accepted_in calls p e s
 accepted_in-none calls p e s c others =
@@ -100,7 +100,7 @@ has-fold : (p : Part) (e : ℕ) (order : List Executed) (calls more : List Calle
 has-fold p e order calls [] has = subst (Has p e order) (sym (append-nil calls)) has
 has-fold p e order calls (c ∷ more) has =
     subst (Has p e (fold (go_on p e) order (c ∷ more))) (append_assoc calls (c ∷ []) more)
-      (has-fold p e (go_on p e order c) (calls ++ c ∷ []) more (has-goes_on p e order calls c has))
+    (has-fold p e (go_on p e order c) (calls ++ c ∷ []) more (has-goes_on p e order calls c has))
 
 has-empty : (p : Part) (e : ℕ) → Has p e [] []
 has-empty p e s = refl

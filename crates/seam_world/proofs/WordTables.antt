@@ -1,11 +1,8 @@
 -- The words of a line in a table.
-use Rattle.std.proofs.Common.{◌≡◌, ◌≢◌, ◌<◌, ◌≤◌, ◌+◌, ℕ, List, [], ◌∷◌, ◌++◌, length, take, map, get_or, set, refl, sym, ◌∙◌, ap, arith, Some, IsSome}
+use Rattle.std.proofs.Common.{◌≡◌, ◌<◌, ◌+◌, ℕ, List, [], ◌∷◌, ◌++◌, length, take, map, set, sym, ◌∙◌, ap, Some}
 use Rattle.std.specs.Prelude.{slice_get}
-use Rattle.std.specs.Str.{IsUtf8}
 use Rattle.std.proofs.lemmas.List.{take_more, take_more_set, map-append}
 use Rattle.std.proofs.lemmas.Option.{get_or_from_slice_get}
-use Rattle.seam_words.specs.Words.{AreWords, bytes_of}
-use Rattle.seam_words.specs.declared.words.Span.{Span}
 use Rattle.seam_transcript.specs.Language.{IsSkipped, HasWords}
 use Rattle.seam_world.specs.Said.{SaysWords, SaysLine}
 use Rattle.seam_world.specs.declared.command.Said.{Said}

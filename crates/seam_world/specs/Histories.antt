@@ -1,12 +1,12 @@
 -- What has happened since a run began: the private functions of the top call speak of it.
-use Rattle.std.specs.Prelude.{◌≡◌, ℕ, ◌+◌, ◌<◌, ◌≤◌, ◌^◌, List, [], ◌∷◌, ◌++◌, Option, Some, None}
+use Rattle.std.specs.Prelude.{◌≡◌, ℕ, ◌+◌, ◌≤◌, ◌^◌, List, [], ◌∷◌, Option, Some, None}
 use Rattle.std.specs.Io.KnownBytes.{Consumes, Appends}
 use Rattle.seam_io.specs.Causes.{Rose}
 use Rattle.seam_io.specs.Lines.{Line}
 use Rattle.seam_io.specs.Reading.{SourceState, Reader, Reading, budget}
 use Rattle.seam_transcript.specs.Book.{Header}
-use Rattle.seam_transcript.specs.Transcript.{Standing, start, separator, Run, EndsInput}
-use Rattle.seam_world.specs.Script.{ScriptStands, TakesPiece}
+use Rattle.seam_transcript.specs.Transcript.{Standing, start, separator, Run}
+use Rattle.seam_world.specs.Script.{ScriptStands}
 use Rattle.seam_world.specs.Status.{IsRunEnd}
 use Rattle.seam_world.specs.Ends.{Tells, IsFront}
 use Rattle.seam_world.specs.declared.script.Script.{Script}
@@ -45,7 +45,7 @@ abbrev pub Prints : (List ℕ → Type 0) → Option (List ℕ) → Option (List
 Prints P old new before faults None = (piece : List ℕ) × P piece × Appends old new piece
 Prints P old new before faults (Some status.NoMemory) = Appends old new []
 Prints P old new before faults (Some status.WriteFault) =
-  (piece front : List ℕ) × P piece × IsFront front piece × Appends old new front × Rose before faults
+    (piece front : List ℕ) × P piece × IsFront front piece × Appends old new front × Rose before faults
 Prints P old new before faults (Some status.Done) = ⊥
 Prints P old new before faults (Some status.Usage) = ⊥
 Prints P old new before faults (Some (status.BadHeader k)) = ⊥

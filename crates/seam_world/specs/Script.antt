@@ -1,9 +1,9 @@
 -- How far a script was taken, beside the standing of a transcript.
-use Rattle.std.specs.Prelude.{◌≡◌, ℕ, ◌+◌, ◌<◌, ◌≤◌, ◌^◌, List, [], ◌++◌, length}
+use Rattle.std.specs.Prelude.{◌≡◌, ℕ, ◌+◌, ◌<◌, List, length}
 use Rattle.seam_io.specs.Lines.{Line}
 use Rattle.seam_transcript.specs.Language.{Command}
 use Rattle.seam_transcript.specs.Book.{Header}
-use Rattle.seam_transcript.specs.Transcript.{Standing, Step, EndsRound, TakesOther, counted}
+use Rattle.seam_transcript.specs.Transcript.{Standing, Step, EndsRound, TakesOther}
 use Rattle.seam_world.specs.Table.{TableStands, Judged}
 use Rattle.seam_world.specs.declared.script.Script.{Script}
 use Rattle.seam_world.specs.declared.table.Verdict.{Verdict}

@@ -3,7 +3,6 @@
 
 mod command;
 mod run;
-mod scratch;
 mod script;
 mod status;
 mod table;

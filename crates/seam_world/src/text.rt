@@ -196,12 +196,7 @@ fn push_args(alloc: Global, out: &mut Vec<u8>, args: &[Value]) -> Result<(), All
 }
 
 // An entity's home: its cell is 0, the only one.
-fn push_home(
-    out: &mut Vec<u8>,
-    defs: &Defs,
-    number: u32,
-    entity: &Entity,
-) -> Result<(), AllocError>
+fn push_home(out: &mut Vec<u8>, defs: &Defs, number: u32, entity: &Entity) -> Result<(), AllocError>
     ensures { OnOk result (out.new.items ≡ out.old.items ++ home_text defs.now (number, entity.now)) }
 {
     let part = &entity.cell;
@@ -215,12 +210,7 @@ fn push_home(
     out.extend_from_slice(b"\n")
 }
 
-fn push_base(
-    out: &mut Vec<u8>,
-    defs: &Defs,
-    number: u32,
-    entity: &Entity,
-) -> Result<(), AllocError>
+fn push_base(out: &mut Vec<u8>, defs: &Defs, number: u32, entity: &Entity) -> Result<(), AllocError>
     ensures { OnOk result (out.new.items ≡ out.old.items ++ base_text defs.now (number, entity.now)) }
 {
     let part = &entity.base;

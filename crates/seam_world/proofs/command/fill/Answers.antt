@@ -1,4 +1,4 @@
-use Rattle.std.proofs.Common.{◌≡◌, ◌<◌, length, arith, sym, ◌∙◌, length-set}
+use Rattle.std.proofs.Common.{◌<◌, length, arith, sym, ◌∙◌, length-set}
 use Rattle.seam_words.specs.Words.{bytes_of}
 use Rattle.seam_world.proofs.WordTables.{one_more_word}
 use Rattle.seam_world.proofs.command.fill.Goals as goal

@@ -1,4 +1,4 @@
-use Rattle.std.proofs.Common.{◌≡◌, ◌≤◌, take, map, length}
+use Rattle.std.proofs.Common.{◌≡◌, take, map, length}
 use Rattle.seam_words.specs.Words.{bytes_of}
 use Rattle.seam_world.proofs.command.fill.Given as goal
 

@@ -1,4 +1,4 @@
-use Rattle.std.proofs.Common.{◌≡◌, refl, arith, get_or, nat_eq}
+use Rattle.std.proofs.Common.{refl, arith}
 use Rattle.std.proofs.lemmas.Grind.{common_steps}
 use Rattle.seam_world.proofs.Skips.{first_decides}
 use Rattle.seam_world.proofs.command.is_skipped.Goals as goal

@@ -1,6 +1,5 @@
-use Rattle.std.proofs.Common.{◌≡◌, arith, sym, ◌∙◌, subst, List, ℕ}
+use Rattle.std.proofs.Common.{sym, ◌∙◌}
 use Rattle.std.proofs.lemmas.Bool.{false≢true}
-use Rattle.seam_world.specs.Said.{SaysWords}
 use Rattle.seam_world.proofs.WordTables.{says_line}
 use Rattle.seam_world.proofs.command.read_line.Goals as goal
 

@@ -1,7 +1,6 @@
-use Rattle.std.proofs.Common.{inl, inr, ◌≡◌, ◌⊎◌, ◌++◌, [], ◌∷◌, List, ℕ, refl, sym, ap, ◌∙◌, arith, subst, lit<}
+use Rattle.std.proofs.Common.{inl, inr, ◌≡◌, ◌++◌, [], ◌∷◌, List, ℕ, refl, sym, ap, ◌∙◌, arith, subst, lit<}
 use Rattle.std.specs.Prelude.{codes}
 use Rattle.std.specs.Fmt.{digits, decimal}
-use Rattle.seam_value.specs.Values.{decimal_of}
 use Rattle.seam_world.specs.Ends.{fault_line}
 use Rattle.seam_world.specs.declared.status.Status.TheVariants as status
 use Rattle.seam_world.proofs.NumberWords.{decimal_is}

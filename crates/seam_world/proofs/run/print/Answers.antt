@@ -1,4 +1,4 @@
-use Rattle.std.proofs.Common.{◌≡◌, take, drop, refl, sym, ◌++◌}
+use Rattle.std.proofs.Common.{take, drop, refl, sym}
 use Rattle.std.proofs.lemmas.List.{take-append-drop}
 use Rattle.seam_world.proofs.run.print.Goals as goal
 

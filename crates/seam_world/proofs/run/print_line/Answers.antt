@@ -1,7 +1,6 @@
-use Rattle.std.proofs.Common.{◌≡◌, ◌++◌, List, ℕ, [], subst, sym, ◌∙◌, ap}
-use Rattle.seam_io.specs.Lines.{Content, Long}
+use Rattle.std.proofs.Common.{◌≡◌, ◌++◌, List, ℕ, subst, sym, ◌∙◌, ap}
+use Rattle.seam_io.specs.Lines.{Content}
 use Rattle.seam_transcript.specs.Book.{empty_header}
-use Rattle.seam_transcript.specs.Transcript.{EndsInput}
 use Rattle.seam_world.specs.Script.{TakesPiece}
 use Rattle.seam_world.proofs.RunLemmas.{gathered_prints}
 use Rattle.seam_world.proofs.run.print_line.Goals as goal

@@ -1,4 +1,4 @@
-use Rattle.std.proofs.Common.{◌≡◌, ◌⊎◌, ◌++◌, List, ℕ, take, drop, refl, sym, Result, Ok, Err, inl, inr}
+use Rattle.std.proofs.Common.{◌≡◌, ◌⊎◌, List, ℕ, take, drop, refl, sym, Result, Ok, Err, inl, inr}
 use Rattle.std.proofs.lemmas.List.{take-append-drop}
 use Rattle.std.specs.Prelude.{OnOk, IfErr, Option, length, ◌<◌}
 use Rattle.std.specs.Io.KnownBytes.{Appends}

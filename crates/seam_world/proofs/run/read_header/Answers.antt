@@ -1,4 +1,4 @@
-use Rattle.std.proofs.Common.{◌≡◌, List, ℕ, [], ◌∷◌, ◌≤◌, refl, arith, subst, sym, ◌∙◌, inl, inr}
+use Rattle.std.proofs.Common.{◌≡◌, [], refl, arith, sym, ◌∙◌, inl, inr}
 use Rattle.std.specs.Prelude.{codes}
 use Rattle.seam_io.specs.Lines.{Content, Long}
 use Rattle.seam_world.proofs.RunLemmas.{begins_with, other_line, long_line, no_header}

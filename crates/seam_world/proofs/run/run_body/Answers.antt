@@ -1,4 +1,4 @@
-use Rattle.std.proofs.Common.{◌≡◌, ◌+◌, ◌^◌, List, ℕ, [], ◌∷◌, ◌≤◌, refl, arith, ◌∙◌}
+use Rattle.std.proofs.Common.{[], refl, ◌∙◌}
 use Rattle.std.proofs.KnownBytes.{Consumes-nil}
 use Rattle.seam_transcript.specs.Book.{empty_header}
 use Rattle.seam_world.proofs.RunLemmas.{header_stopped, nothing_done, first_line}

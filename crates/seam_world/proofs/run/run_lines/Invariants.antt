@@ -1,4 +1,4 @@
-use Rattle.std.proofs.Common.{◌≡◌, ◌≤◌, List, ℕ, Option}
+use Rattle.std.proofs.Common.{◌≤◌, List, ℕ, Option}
 use Rattle.seam_io.specs.Reading.{SourceState, source_state, budget}
 use Rattle.seam_transcript.specs.Book.{empty_header}
 use Rattle.seam_world.specs.Histories.{Going}

@@ -1,4 +1,4 @@
-use Rattle.std.proofs.Common.{◌≡◌, List, ℕ, [], ◌∷◌, ◌≤◌, ◌+◌, ◌<◌, ◌^◌, refl, arith, subst}
+use Rattle.std.proofs.Common.{◌∷◌, refl, arith}
 use Rattle.std.proofs.KnownBytes.{Appends-nil}
 use Rattle.seam_io.specs.Lines.{Content, Long}
 use Rattle.seam_transcript.specs.Book.{empty_header}
@@ -11,14 +11,14 @@ returns-in-Line-clause-history g c = λ began old before h.
     let r = c.in-Line.ensures.reads began h.given (separator ∷ h.rest) h.reading in
     let few = h.few in
     line_printed empty_header began old before _ _ _ _ _ _ _ _ _ h c.next.ensures.limit c.print_line.ensures.later (Content c.next.new.self.line) r.0 c.print_line.new.script c.print_line.result r.1
-      (let b = c.in-Line.ensures.budget in omega arith) (rw c.line.ensures.content at (c.print_line.ensures.prints h.standing h.stands (omega arith)))
+    (let b = c.in-Line.ensures.budget in omega arith) (rw c.line.ensures.content at (c.print_line.ensures.prints h.standing h.stands (omega arith)))
 
 pub returns-in-Long-clause-history : goal.returns-in-Long-clause-history
 returns-in-Long-clause-history g c = λ began old before h.
     let r = c.in-Long.ensures.reads began h.given (separator ∷ h.rest) h.reading in
     let few = h.few in
     line_printed empty_header began old before _ _ _ _ _ _ _ _ _ h c.next.ensures.limit c.print_long.ensures.later Long r.0 c.print_long.new.script c.print_long.result r.1
-      (let b = c.in-Long.ensures.budget in omega arith) (c.print_long.ensures.prints h.standing h.stands (omega arith))
+    (let b = c.in-Long.ensures.budget in omega arith) (c.print_long.ensures.prints h.standing h.stands (omega arith))
 
 pub returns-in-None-clause-history : goal.returns-in-None-clause-history
 returns-in-None-clause-history g c = λ began old before h.

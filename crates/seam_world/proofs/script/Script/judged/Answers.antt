@@ -1,17 +1,16 @@
-use Rattle.std.proofs.Common.{◌≡◌, ◌∙◌, [], refl, sym, subst, append-nil}
+use Rattle.std.proofs.Common.{◌∙◌, [], refl, sym, subst, append-nil}
 use Rattle.seam_transcript.specs.Book.{empty_header}
 use Rattle.seam_transcript.specs.Transcript.{with_book}
 use Rattle.seam_world.specs.Script.{AwaitsVerdict}
-use Rattle.seam_world.specs.declared.table.Verdict.TheVariants as verdict
 use Rattle.seam_world.proofs.ScriptLemmas.{on_ok, kept_ready, kept_last, kept_open}
 use Rattle.seam_world.proofs.script.Script.judged.Goals as goal
 
 pub returns-then-self-eq-MOST_LINES : goal.returns-then-self-eq-MOST_LINES
 returns-then-self-eq-MOST_LINES c = on_ok c.end_round.result
     (λ ends t command awaited few.
-      let w = subst (λ v. AwaitsVerdict empty_header t command v c.args.self.now) c.in-Kept.is awaited in
-      let e = ends (with_book t w.judged.0) (kept_ready empty_header t command c.args.self.now _ w refl refl refl) few in
-      (e.0, kept_last empty_header t command c.args.self.now c.end_round.new.self e.0 w (sym c.saturating_add-self.ensures ∙ c.if-self-eq-MOST_LINES.true) e.1, e.2))
+    let w = subst (λ v. AwaitsVerdict empty_header t command v c.args.self.now) c.in-Kept.is awaited in
+    let e = ends (with_book t w.judged.0) (kept_ready empty_header t command c.args.self.now _ w refl refl refl) few in
+    (e.0, kept_last empty_header t command c.args.self.now c.end_round.new.self e.0 w (sym c.saturating_add-self.ensures ∙ c.if-self-eq-MOST_LINES.true) e.1, e.2))
     c.end_round.ensures
 
 pub returns-else-self-eq-MOST_LINES : goal.returns-else-self-eq-MOST_LINES

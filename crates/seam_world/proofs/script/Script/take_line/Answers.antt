@@ -1,69 +1,74 @@
-use Rattle.std.proofs.Common.{◌≡◌, ◌+◌, ◌++◌, [], ℕ, List, refl, sym, ap, ◌∙◌, inl, inr, arith, append-nil, lit≤}
+use Rattle.std.proofs.Common.{◌≡◌, ◌+◌, ◌++◌, [], ℕ, refl, sym, ap, ◌∙◌, inl, inr, arith, append-nil, lit≤}
 use Rattle.std.specs.Prelude.{codes}
 use Rattle.seam_io.specs.Lines.{Content}
 use Rattle.seam_value.specs.Values.{decimal_of}
 use Rattle.seam_words.specs.Numbers.{number_of}
-use Rattle.seam_transcript.specs.Language.{Create, Call, Sync}
+use Rattle.seam_transcript.specs.Language.{Create, Call}
 use Rattle.seam_transcript.specs.Book.{empty_header}
 use Rattle.seam_transcript.specs.Transcript.{counted, refusal}
 use Rattle.seam_world.proofs.ScriptLemmas.{on_ok, counted_ready, counted_stands, not_taken, synced, commanded, awaits, refusal_is}
 use Rattle.seam_world.proofs.script.Script.take_line.Goals as goal
 
 pub returns-in-Skipped : goal.returns-in-Skipped
-returns-in-Skipped c = λ t stands few.
-    ([], not_taken empty_header t (Content c.args.line.now) _ [] (counted_stands empty_header t c.args.self.now _ stands few c.saturating_add-self.ensures refl refl refl)
-      (inl (c.in-Skipped.ensures, refl, refl)), sym (append-nil c.args.out.now.items))
+returns-in-Skipped c = λ t stands few. (
+  [],
+  not_taken empty_header t (Content c.args.line.now) _ [] (counted_stands empty_header t c.args.self.now _ stands few c.saturating_add-self.ensures refl refl refl)
+      (inl (c.in-Skipped.ensures, refl, refl)),
+  sym (append-nil c.args.out.now.items),
+)
 
 pub returns-in-Sync : goal.returns-in-Sync
 returns-in-Sync c = on_ok c.end_round.result
     (λ ends t stands few.
-      let says = c.in-Sync.ensures in
-      let e = ends (counted t) (counted_ready empty_header t c.args.self.now _ stands few c.saturating_add-self.ensures refl refl) (omega arith) in
-      (e.0, synced empty_header t c.args.line.now says.1.0 c.args.self.now c.end_round.new.self e.0 stands says.0 says.1.1 says.1.2 e.1, e.2))
+    let says = c.in-Sync.ensures in
+    let e = ends (counted t) (counted_ready empty_header t c.args.self.now _ stands few c.saturating_add-self.ensures refl refl) (omega arith) in
+    (e.0, synced empty_header t c.args.line.now says.1.0 c.args.self.now c.end_round.new.self e.0 stands says.0 says.1.1 says.1.2 e.1, e.2))
     c.end_round.ensures
 
 pub returns-in-BadWords : goal.returns-in-BadWords
 returns-in-BadWords c = on_ok c.push_bad_words.result
     (λ text t stands few.
-      let bad = c.in-BadWords.ensures in
-      let number : refusal c.saturating_add-self.result (codes "words " ++ decimal_of c.number.result) ≡ refusal (t.lines + 1) (codes "words " ++ decimal_of (number_of c.in-BadWords.error)) =
-        refusal_is empty_header t c.args.self.now c.saturating_add-self.result (codes "words " ++ decimal_of c.number.result) stands few c.saturating_add-self.ensures
-        ∙ ap (λ (k : ℕ). refusal (t.lines + 1) (codes "words " ++ decimal_of k)) c.number.ensures in
-      (refusal c.saturating_add-self.result (codes "words " ++ decimal_of c.number.result),
-        not_taken empty_header t (Content c.args.line.now) _ _ (counted_stands empty_header t c.args.self.now _ stands few c.saturating_add-self.ensures refl refl refl)
+    let bad = c.in-BadWords.ensures in
+    let number : refusal c.saturating_add-self.result (codes "words " ++ decimal_of c.number.result) ≡ refusal (t.lines + 1) (codes "words " ++ decimal_of (number_of c.in-BadWords.error)) =
+    refusal_is empty_header t c.args.self.now c.saturating_add-self.result (codes "words " ++ decimal_of c.number.result) stands few c.saturating_add-self.ensures
+    ∙ ap (λ (k : ℕ). refusal (t.lines + 1) (codes "words " ++ decimal_of k)) c.number.ensures in (
+      refusal c.saturating_add-self.result (codes "words " ++ decimal_of c.number.result),
+      not_taken empty_header t (Content c.args.line.now) _ _ (counted_stands empty_header t c.args.self.now _ stands few c.saturating_add-self.ensures refl refl refl)
           (inr (inl (bad.0, (c.in-BadWords.error, bad.1, (number, refl))))),
-        text))
+      text,
+    ))
     c.push_bad_words.ensures
 
 pub returns-in_ok-verdict-in-Create : goal.returns-in_ok-verdict-in-Create
 returns-in_ok-verdict-in-Create c = on_ok c.judged.result
     (λ judges t stands few.
-      let says = c.in-Create.ensures in
-      let command = Create c.in-Create.entity c.in-Create.type_name.now c.in-Create.pos.x c.in-Create.pos.z in
-      let e = judges (counted t) command
-        (awaits empty_header t command c.in_ok-verdict-in-Create.verdict c.args.self.now _ stands few (c.in_ok-verdict-in-Create.ensures empty_header t.book t.orders stands.ready.table) c.saturating_add-self.ensures refl refl)
-        (omega arith) in
-      (e.0, commanded empty_header t c.args.line.now says.1.0 command c.judged.new.self e.0 says.0 says.1.1 says.1.2 (λ same. cc) e.1, e.2))
+    let says = c.in-Create.ensures in
+    let command = Create c.in-Create.entity c.in-Create.type_name.now c.in-Create.pos.x c.in-Create.pos.z in
+    let e = judges (counted t) command
+    (awaits empty_header t command c.in_ok-verdict-in-Create.verdict c.args.self.now _ stands few (c.in_ok-verdict-in-Create.ensures empty_header t.book t.orders stands.ready.table) c.saturating_add-self.ensures refl refl)
+    (omega arith) in
+    (e.0, commanded empty_header t c.args.line.now says.1.0 command c.judged.new.self e.0 says.0 says.1.1 says.1.2 (λ same. cc) e.1, e.2))
     c.judged.ensures
 
 pub returns-in_ok-verdict-in-Call : goal.returns-in_ok-verdict-in-Call
 returns-in_ok-verdict-in-Call c = on_ok c.judged-in-Call.result
     (λ judges t stands few.
-      let says = c.in-Call.ensures in
-      let calls = stands.ready.calls in
-      let command = Call c.in-Call.sender_name.now c.in-Call.entity c.in-Call.method_name.now c.in-Call.argument.now in
-      let e = judges (counted t) command
-        (awaits empty_header t command c.in_ok-verdict-in-Call.verdict c.args.self.now _ stands few (c.in_ok-verdict-in-Call.ensures empty_header t.book t.orders stands.ready.table (omega arith) (lit≤ tt)) c.saturating_add-self.ensures refl refl)
-        (omega arith) in
-      (e.0, commanded empty_header t c.args.line.now says.1.0 command c.judged-in-Call.new.self e.0 says.0 says.1.1 says.1.2 (λ same. cc) e.1, e.2))
+    let says = c.in-Call.ensures in
+    let calls = stands.ready.calls in
+    let command = Call c.in-Call.sender_name.now c.in-Call.entity c.in-Call.method_name.now c.in-Call.argument.now in
+    let e = judges (counted t) command
+    (awaits empty_header t command c.in_ok-verdict-in-Call.verdict c.args.self.now _ stands few (c.in_ok-verdict-in-Call.ensures empty_header t.book t.orders stands.ready.table (omega arith) (lit≤ tt)) c.saturating_add-self.ensures refl refl)
+    (omega arith) in
+    (e.0, commanded empty_header t c.args.line.now says.1.0 command c.judged-in-Call.new.self e.0 says.0 says.1.1 says.1.2 (λ same. cc) e.1, e.2))
     c.judged-in-Call.ensures
 
 pub returns-in-Nothing : goal.returns-in-Nothing
 returns-in-Nothing c = on_ok c.push_refusal.result
     (λ text t stands few.
-      let says = c.in-Nothing.ensures in
-      (refusal c.saturating_add-self.result (codes "command"),
-        not_taken empty_header t (Content c.args.line.now) _ _ (counted_stands empty_header t c.args.self.now _ stands few c.saturating_add-self.ensures refl refl refl)
+    let says = c.in-Nothing.ensures in (
+      refusal c.saturating_add-self.result (codes "command"),
+      not_taken empty_header t (Content c.args.line.now) _ _ (counted_stands empty_header t c.args.self.now _ stands few c.saturating_add-self.ensures refl refl refl)
           (inr (inr (says.0, (says.1.0, says.1.1, inr (says.1.2, (refusal_is empty_header t c.args.self.now c.saturating_add-self.result (codes "command") stands few c.saturating_add-self.ensures, refl)))))),
-        text))
+      text,
+    ))
     c.push_refusal.ensures

@@ -1,6 +1,0 @@
-use Rattle.seam_world.proofs.Sequences.{sequence-full}
-use Rattle.seam_world.proofs.ScriptLemmas.{nothing_open}
-use Rattle.seam_world.proofs.scratch.scratch.Goals as goal
-
-pub returns : goal.returns
-returns c = sequence-full
