@@ -45,6 +45,7 @@ pub record Book : Type 0 where
   pub calls : List Called
   pub open_lines : ℕ
 
+-- nothing was accepted so far
 abbrev pub empty_book : Book
 empty_book = record { created = []; calls = []; open_lines = 0 }
 
@@ -88,9 +89,11 @@ pub record MayCall (h : Header) (b : Book) (sender_name : List ℕ) (e : ℕ) (m
   pub fits : Fits v type.Int32
   pub spelled : text_of v ≡ argument
 
+-- an entity was created
 abbrev pub with_create : Book → Created → Book
 with_create b c = record { created = b.created ++ c ∷ []; calls = b.calls; open_lines = b.open_lines + 1 }
 
+-- a call was accepted
 abbrev pub with_call : Book → Called → Book
 with_call b c = record { created = b.created; calls = b.calls ++ c ∷ []; open_lines = b.open_lines + 1 }
 
@@ -108,12 +111,14 @@ Accepts h b (Call sender_name e method_name argument) next =
     × (next ≡ with_call b (record { entity = e; part = part.Cell; sender = s; deed = Method m (v ∷ []) }))
 Accepts h b Sync next = ⊥
 
+-- whether two parts are the same
 abbrev pub same_part : Part → Part → Bool
 same_part part.Cell part.Cell = true
 same_part part.Base part.Base = true
 same_part part.Cell part.Base = false
 same_part part.Base part.Cell = false
 
+-- whether two senders are the same
 abbrev pub same_sender : Sender → Sender → Bool
 same_sender (Base m) (Base n) = m == n
 

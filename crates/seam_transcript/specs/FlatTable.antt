@@ -8,7 +8,7 @@ use Rattle.seam_defs.specs.declared.states.State.{State}
 use Rattle.seam_transcript.specs.Book.{Header, Created}
 use Rattle.seam_transcript.specs.declared.executed.Executed.{Executed}
 
--- the state of a part of a new entity: its first position, and its type's defaults
+-- the state of a part of a new entity: its first position, and its type's defaults. A base part's position is never shown.
 abbrev pub first_state : Header → Part → Created → State
 first_state h p c = record { pos = c.pos; props = start_values (type_of h.defs c.ty).properties (held_by p) }
 

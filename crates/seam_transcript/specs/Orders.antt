@@ -27,5 +27,6 @@ IsFull b p e order = (s : Sender) → of_sender s order ≡ numbered s 1 (accept
 abbrev pub Orders : Type 0
 Orders = Part → ℕ → List Executed
 
+-- nothing was executed so far
 abbrev pub no_orders : Orders
 no_orders p e = []

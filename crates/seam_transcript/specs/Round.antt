@@ -70,13 +70,14 @@ home_lines h after r =
     flat_map (λ c. let order = after part.Cell c.entity in
     home_line h.defs c.entity c.ty (r.home c.entity) (length order) (flat h part.Cell c order (length order))) r.live
 
+-- the lines of the base parts: each one's state after all calls of its order
 abbrev pub base_lines : Header → Orders → RoundData → List ℕ
 base_lines h after r =
     flat_map (λ c. let order = after part.Base c.entity in
     base_line h.defs c.entity c.ty (length order) (flat h part.Base c order (length order))) r.live
 
--- The text is legal for round `number`, which begins after the orders `before` with the book `b` as it stands at the round's
--- end, and leaves the orders `after`.
+-- The text is legal for round `number`. The orders were `before` when the round began, and are `after` at its end; `b` is the
+-- book at its end.
 pub record IsRound (h : Header) (number : ℕ) (b : Book) (before after : Orders) (text : List ℕ) : Type 0 where
   pub round : RoundData
   -- one: the lines have their forms and their order

@@ -64,8 +64,8 @@ TakesWords h s words text t =
     ((c : Command) × Says words c × TakesCommand h s c text t)
     ⊎ (((c : Command) → ¬ (Says words c)) × IsRefused s (codes "command") text t)
 
--- A line is taken: one that is too long is refused; one that says nothing is skipped; one that has no words is refused with
--- the number of their first fault; the words of any other one are taken.
+-- A line is taken: one that is too long is refused; one that says nothing is skipped; one whose words are at fault is
+-- refused with the number of the first fault; the words of any other one are taken.
 abbrev pub TakesLine : Header → Standing → Line → List ℕ → Standing → Type 0
 TakesLine h s Long text t = IsRefused s (codes "long") text t
 TakesLine h s (Content line) text t =
@@ -87,14 +87,11 @@ Run h s (line ∷ lines) text t =
 abbrev pub separator : Line
 separator = Content (codes "%%")
 
--- the lines begin with the empty header
-abbrev pub BeginsWell : List Line → Type 0
-BeginsWell lines = (rest : List Line) × (lines ≡ separator ∷ rest)
-
--- An open transcript of the lines read: what they print one after another, and nothing where the header was not accepted.
+-- An open transcript of the lines read: nothing where no line was read, and else what the lines behind the header print one
+-- after another.
 abbrev pub IsOpen : Header → List Line → List ℕ → Type 0
 IsOpen h lines text =
-    ((text ≡ []) × (¬ (BeginsWell lines)))
+    ((text ≡ []) × (lines ≡ []))
     ⊎ ((rest : List Line) × (t : Standing) × (lines ≡ separator ∷ rest) × Run h start rest text t)
 
 -- what is printed at the end of the input: a last round, where a line was accepted since the last one ended

@@ -1,5 +1,5 @@
 -- How a run goes on, and how it stops.
-use Rattle.std.proofs.Common.{◌≡◌, ◌≢◌, ◌⊎◌, inl, inr, ℕ, ◌+◌, ◌≤◌, ◌^◌, Bool, true, false, List, [], ◌∷◌, ◌++◌, Option, None, Some, refl, sym, ap, ◌∙◌, subst, arith, append_assoc, append-nil}
+use Rattle.std.proofs.Common.{◌≡◌, ◌≢◌, inl, inr, ℕ, ◌+◌, ◌≤◌, ◌^◌, Bool, true, false, List, [], ◌∷◌, ◌++◌, Option, None, Some, refl, sym, ap, ◌∙◌, subst, arith, append_assoc, append-nil, length}
 use Rattle.std.proofs.KnownBytes.{Appends-trans, Appends-nil}
 use Rattle.std.proofs.lemmas.Bool.{false≢true}
 use Rattle.std.specs.Prelude.{codes, MatchOption}
@@ -9,10 +9,10 @@ use Rattle.seam_io.specs.Lines.{Line, Content, Long, lines_of, whole_lines_of, l
 use Rattle.seam_io.specs.Reading.{SourceState, Reader, Reading, budget, IsExact}
 use Rattle.seam_io.specs.declared.lines.Next.TheVariants as next
 use Rattle.seam_transcript.specs.Book.{Header}
-use Rattle.seam_transcript.specs.Transcript.{Standing, start, Step, Run, separator, BeginsWell, IsOpen, IsEnded, EndsInput}
+use Rattle.seam_transcript.specs.Transcript.{Standing, start, Step, Run, separator, IsOpen, IsEnded, EndsInput}
 use Rattle.seam_world.specs.Script.{ScriptStands, TakesPiece}
 use Rattle.seam_world.specs.Status.{IsHeaderEnd, IsRunEnd}
-use Rattle.seam_world.specs.Ends.{IsFront, BeginsWith, Tells, HasFaultLine}
+use Rattle.seam_world.specs.Ends.{IsFront, AreFirst, IsSoFar, Tells, HasFaultLine, RunEnds}
 use Rattle.seam_world.specs.Histories.{Going, Stopped, Prints}
 use Rattle.seam_world.specs.declared.script.Script.{Script}
 use Rattle.seam_world.specs.declared.status.Status.{Status}
@@ -33,6 +33,18 @@ read_front began now r given read h =
 
 shorter_front : (read more all : List Line) → IsFront (read ++ more) all → IsFront read all
 shorter_front read more all f = (more ++ f.0, f.1 ∙ append_assoc read more f.0)
+
+-- the lines that were read are the first of the input
+pub are_first : (began now : SourceState) (r : Reader) (given : List ℕ) (read more : List Line) → Reading began now r given (read ++ more) → AreFirst began now given read
+are_first began now r given read more h = by_end r.ended refl
+  where
+    by_end : (b : Bool) → r.ended ≡ b → AreFirst began now given read
+    by_end true e = inr ((h.ended e).1, (h.ended e).0, shorter_front read more _ (read_front began now r given _ h))
+    by_end false e = inl (λ rest. shorter_front read more _ (lines_left r.passing (r.held ++ rest), h.lines rest (λ t. absurd (false≢true (sym e ∙ t)))))
+
+-- at most as many bytes were taken as may be
+pub within_limit : {began now : SourceState} {r : Reader} {given : List ℕ} {read : List Line} → Reading began now r given read → r.limit ≡ 2 ^ 40 → length given ≤ 2 ^ 40
+within_limit {given = given} h limit = let count = h.count in let within = h.within in omega arith
 
 -- the source and the sink after the call
 module _ (h : Header) (began : SourceState) (old : Option (List ℕ)) (before : ℕ) (now later : SourceState) (reader after : Reader) (was is : Option (List ℕ)) (faults faults' : ℕ) (script : Script)
@@ -64,26 +76,28 @@ module _ (h : Header) (began : SourceState) (old : Option (List ℕ)) (before : 
     given = g.given ++ got;
     text = g.text;
     took = r.took;
+    most = within_limit r (limit ∙ g.limit);
     writing = subst (Appends old is) (append-nil g.text) (Appends-trans old was is g.text [] g.writing a);
     later = let l = g.later in omega arith;
     failed = λ e. cc;
     allowed = tt;
-    tells = (separator ∷ g.rest, shorter_front (separator ∷ g.rest) more _ (read_front began later after _ _ r), inl open_so_far);
+    tells = (separator ∷ g.rest, inl (are_first began later after _ (separator ∷ g.rest) more r, open_so_far));
   }
 
   -- the sink failed within the text of a line
   write_fault : (got piece front : List ℕ) (read : List Line) → Reading began later after (g.given ++ got) read → IsFront front piece → Appends was is front → Rose faults faults'
-      → IsOpen h read (g.text ++ piece) ⊎ IsEnded h read (g.text ++ piece)
+      → IsSoFar h began later (g.given ++ got) (g.text ++ piece)
       → Stopped h status.WriteFault began later old is before faults'
   write_fault got piece front read r f a rose transcript = record {
     given = g.given ++ got;
     text = g.text ++ front;
     took = r.took;
+    most = within_limit r (limit ∙ g.limit);
     writing = Appends-trans old was is g.text front g.writing a;
     later = let l = g.later in omega arith;
     failed = λ e. let l = g.later in omega arith;
     allowed = tt;
-    tells = (read, g.text ++ piece, read_front began later after _ _ r, (f.0, ap (λ x. g.text ++ x) f.1 ∙ sym (append_assoc g.text front f.0)), transcript);
+    tells = (g.text ++ piece, (f.0, ap (λ x. g.text ++ x) f.1 ∙ sym (append_assoc g.text front f.0)), transcript);
   }
 
   open_more : (line : Line) (piece : List ℕ) (new : Script) → TakesPiece h g.standing line new piece → IsOpen h ((separator ∷ g.rest) ++ line ∷ []) (g.text ++ piece)
@@ -98,15 +112,13 @@ module _ (h : Header) (began : SourceState) (old : Option (List ℕ)) (before : 
       → MatchOption result (Going h began later after old is before faults' new) (λ st. Stopped h st began later old is before faults')
   line_printed line got new None r falls p = going_on line got p.0 new r falls p.1 p.2
   line_printed line got new (Some status.NoMemory) r falls p = no_memory got (line ∷ []) r p
-  line_printed line got new (Some status.WriteFault) r falls p = write_fault got p.0 p.1 _ r p.3 p.4 p.5 (inl (open_more line p.0 new p.2))
+  line_printed line got new (Some status.WriteFault) r falls p = write_fault got p.0 p.1 _ r p.3 p.4 p.5
+      ((separator ∷ g.rest) ++ line ∷ [], inl (are_first began later after _ ((separator ∷ g.rest) ++ line ∷ []) [] (subst (λ x. Reading began later after (g.given ++ got) x) (sym (append-nil ((separator ∷ g.rest) ++ line ∷ []))) r), open_more line p.0 new p.2))
   line_printed line got new (Some status.Done) r falls p = absurd p
   line_printed line got new (Some status.Usage) r falls p = absurd p
   line_printed line got new (Some (status.BadHeader k)) r falls p = absurd p
   line_printed line got new (Some status.ReadFault) r falls p = absurd p
   line_printed line got new (Some status.Limit) r falls p = absurd p
-
-  same_read : (separator ∷ g.rest) ++ [] ≡ separator ∷ g.rest
-  same_read = append-nil (separator ∷ g.rest)
 
   -- the end of the input
   pub done : (got piece : List ℕ) → Reading began later after (g.given ++ got) ((separator ∷ g.rest) ++ []) → IsExact next.End after (g.given ++ got) (separator ∷ g.rest)
@@ -121,22 +133,26 @@ module _ (h : Header) (began : SourceState) (old : Option (List ℕ)) (before : 
         given = g.given ++ got;
         text = g.text ++ piece;
         took = r.took;
+        most = within_limit r (limit ∙ g.limit);
         writing = Appends-trans old was is g.text piece g.writing a;
         later = let x = g.later in omega arith;
         failed = λ e. cc;
         allowed = tt;
-        tells = (at.1, at.0, omega arith, subst (λ x. IsEnded h x (g.text ++ piece)) (sym end.1) (ended piece l));
+        tells = (omega arith, separator ∷ g.rest, (at.1, at.0, end.1), ended piece l);
       }
 
-  pub last_printed : (got : List ℕ) (st : Status) → Reading began later after (g.given ++ got) ((separator ∷ g.rest) ++ [])
+  pub last_printed : (got : List ℕ) (st : Status) → Reading began later after (g.given ++ got) ((separator ∷ g.rest) ++ []) → IsExact next.End after (g.given ++ got) (separator ∷ g.rest)
       → Prints (EndsInput h g.standing) was is faults faults' (Some st) → Stopped h st began later old is before faults'
-  last_printed got status.NoMemory r p = no_memory got [] r p
-  last_printed got status.WriteFault r p = write_fault got p.0 p.1 _ r p.3 p.4 p.5 (inr (subst (λ x. IsEnded h x (g.text ++ p.0)) (sym same_read) (ended p.0 p.2)))
-  last_printed got status.Done r p = absurd p
-  last_printed got status.Usage r p = absurd p
-  last_printed got (status.BadHeader k) r p = absurd p
-  last_printed got status.ReadFault r p = absurd p
-  last_printed got status.Limit r p = absurd p
+  last_printed got status.NoMemory r exact p = no_memory got [] r p
+  last_printed got status.WriteFault r exact p =
+      let end = exact.ended.0 refl in
+      let at = r.ended end.0 in
+      write_fault got p.0 p.1 _ r p.3 p.4 p.5 (separator ∷ g.rest, inr ((at.1, at.0, end.1), ended p.0 p.2))
+  last_printed got status.Done r exact p = absurd p
+  last_printed got status.Usage r exact p = absurd p
+  last_printed got (status.BadHeader k) r exact p = absurd p
+  last_printed got status.ReadFault r exact p = absurd p
+  last_printed got status.Limit r exact p = absurd p
 
   whole_open : (got : List ℕ) → whole_lines_of (g.given ++ got) ≡ separator ∷ g.rest → IsOpen h (whole_lines_of (g.given ++ got)) g.text
   whole_open got e = subst (λ x. IsOpen h x g.text) (sym e) open_so_far
@@ -153,6 +169,7 @@ module _ (h : Header) (began : SourceState) (old : Option (List ℕ)) (before : 
         given = g.given ++ got;
         text = g.text;
         took = r.took;
+        most = within_limit r (limit ∙ g.limit);
         writing = subst (Appends old is) (append-nil g.text) (Appends-trans old was is g.text [] g.writing a);
         later = let x = g.later in omega arith;
         failed = λ e. cc;
@@ -168,6 +185,7 @@ module _ (h : Header) (began : SourceState) (old : Option (List ℕ)) (before : 
         given = g.given ++ got;
         text = g.text;
         took = r.took;
+        most = within_limit r (limit ∙ g.limit);
         writing = subst (Appends old is) (append-nil g.text) (Appends-trans old was is g.text [] g.writing a);
         later = let x = g.later in omega arith;
         failed = λ e. cc;
@@ -176,14 +194,6 @@ module _ (h : Header) (began : SourceState) (old : Option (List ℕ)) (before : 
       }
 
 -- ---- the header
-
--- what the first line that was read says of the input
-pub begins_with : (began now : SourceState) (r : Reader) (given : List ℕ) (first : Line) → Reading began now r given (first ∷ []) → BeginsWith began now given first
-begins_with began now r given first h = by_end r.ended refl
-  where
-    by_end : (b : Bool) → r.ended ≡ b → BeginsWith began now given first
-    by_end true e = inr ((h.ended e).1, (h.ended e).0, read_front began now r given (first ∷ []) h)
-    by_end false e = inl (λ more. (lines_left r.passing (r.held ++ more), h.lines more (λ t. absurd (false≢true (sym e ∙ t)))))
 
 pub other_line : (x : List ℕ) → (x ≡ codes "%%" → ⊥) → Content x ≢ separator
 other_line x n e = n (same x e)
@@ -194,19 +204,13 @@ other_line x n e = n (same x e)
 pub long_line : Long ≢ separator
 long_line e = cc
 
--- no line begins no header
-pub no_header : (lines : List Line) → lines ≡ [] → ¬ (BeginsWell lines)
-no_header lines e (rest, f) = other rest (sym e ∙ f)
-  where
-    other : (rest : List Line) → ◌≡◌ {A = List Line} [] (separator ∷ rest) → ⊥
-    other rest e = cc
-
-pub header_stopped : (h : Header) (began now : SourceState) (old : Option (List ℕ)) (faults : ℕ) (st : Status) (given : List ℕ) → Consumes began.left now.left given
+pub header_stopped : (h : Header) (began now : SourceState) (old : Option (List ℕ)) (faults : ℕ) (st : Status) (given : List ℕ) → Consumes began.left now.left given → length given ≤ 2 ^ 40
     → Tells h st began now given [] → IsHeaderEnd st → Stopped h st began now old old faults faults
-header_stopped h began now old faults st given took tells end = record {
+header_stopped h began now old faults st given took most tells end = record {
   given = given;
   text = [];
   took = took;
+  most = most;
   writing = Appends-nil old;
   later = omega arith;
   failed = λ e. absurd (header_no_write st end e);
@@ -233,17 +237,18 @@ header_stopped h began now old faults st given took tells end = record {
     header_allowed status.NoMemory h = absurd h
 
 -- memory was wanting before a script began
-pub nothing_done : (h : Header) (began now : SourceState) (old : Option (List ℕ)) (faults : ℕ) (given : List ℕ) → Consumes began.left now.left given
+pub nothing_done : (h : Header) (began now : SourceState) (old : Option (List ℕ)) (faults : ℕ) (given : List ℕ) → Consumes began.left now.left given → length given ≤ 2 ^ 40
     → Stopped h status.NoMemory began now old old faults faults
-nothing_done h began now old faults given took = record {
+nothing_done h began now old faults given took most = record {
   given = given;
   text = [];
   took = took;
+  most = most;
   writing = Appends-nil old;
   later = omega arith;
   failed = λ e. cc;
   allowed = tt;
-  tells = ([], (lines_of given, refl), inl (inl (refl, no_header [] refl)));
+  tells = ([], inl (inl (λ more. (lines_of (given ++ more), refl)), inl (refl, refl)));
 }
 
 pub first_line : (h : Header) (began now : SourceState) (reader : Reader) (given : List ℕ) (old : Option (List ℕ)) (faults : ℕ) (script : Script) → Reading began now reader given (separator ∷ [])
@@ -265,9 +270,17 @@ first_line h began now reader given old faults script r limit stands = record {
 -- the fault line after what was written
 pub with_tail : (h : Header) (st : Status) (began now : SourceState) (old mid new : Option (List ℕ)) (before faults faults' : ℕ) → Stopped h st began now old mid before faults → (tail : List ℕ) → Appends mid new tail
     → faults ≤ faults' → HasFaultLine st faults faults' tail
-    → (given text tail : List ℕ) × Consumes began.left now.left given × Appends old new (text ++ tail) × Tells h st began now given text × HasFaultLine st before faults' tail
-with_tail h st began now old mid new before faults faults' s tail a higher f =
-    (s.given, s.text, tail, s.took, Appends-trans old mid new s.text tail s.writing a, s.tells, from_start f)
+    → RunEnds h st began now old new before faults'
+with_tail h st began now old mid new before faults faults' s tail a higher f = record {
+  given = s.given;
+  text = s.text;
+  tail = tail;
+  took = s.took;
+  most = s.most;
+  wrote = Appends-trans old mid new s.text tail s.writing a;
+  tells = s.tells;
+  last = from_start f;
+}
   where
     from_start : HasFaultLine st faults faults' tail → HasFaultLine st before faults' tail
     from_start (inl e) = inl e

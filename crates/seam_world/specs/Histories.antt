@@ -1,5 +1,5 @@
 -- What has happened since a run began: the private functions of the top call speak of it.
-use Rattle.std.specs.Prelude.{◌≡◌, ℕ, ◌+◌, ◌≤◌, ◌^◌, List, [], ◌∷◌, Option, Some, None}
+use Rattle.std.specs.Prelude.{◌≡◌, ℕ, ◌+◌, ◌≤◌, ◌^◌, List, [], ◌∷◌, Option, Some, None, length}
 use Rattle.std.specs.Io.KnownBytes.{Consumes, Appends}
 use Rattle.seam_io.specs.Causes.{Rose}
 use Rattle.seam_io.specs.Lines.{Line}
@@ -34,6 +34,7 @@ pub record Stopped (h : Header) (ended : Status) (began now : SourceState) (old 
   pub given : List ℕ
   pub text : List ℕ
   pub took : Consumes began.left now.left given
+  pub most : length given ≤ 2 ^ 40
   pub writing : Appends old new text
   pub later : before ≤ faults
   pub failed : ended ≡ status.WriteFault → Rose before faults

@@ -8,7 +8,7 @@ ghost use Rattle.seam_transcript.specs.Book.{empty_header};
 ghost use Rattle.seam_transcript.specs.Transcript.{Standing, separator, EndsInput};
 ghost use Rattle.seam_world.specs.Status.{IsHeaderEnd, IsRunEnd};
 ghost use Rattle.seam_world.specs.Script.{ScriptStands, TakesPiece};
-ghost use Rattle.seam_world.specs.Ends.{Tells, HasFaultLine, IsFront, fault_line as fault_line_of};
+ghost use Rattle.seam_world.specs.Ends.{RunEnds, Tells, HasFaultLine, IsFront, fault_line as fault_line_of};
 ghost use Rattle.seam_world.specs.Histories.{Going, Stopped, Prints};
 
 use crate::Status;
@@ -28,11 +28,9 @@ pub fn run_seamless<S: Source, K: Sink>(
     out: &mut K,
 ) -> Status
     // What was written is the text that the status tells of, and then its fault line.
-    ensures transcript { (given text tail : List ℕ) × Consumes (S.left input.old) (S.left input.new) given
-        × Appends (K.written out.old) (K.written out.new) (text ++ tail)
-        × Tells empty_header result (source_state (S.left input.old) (S.faults input.old) (S.ends input.old))
-        (source_state (S.left input.new) (S.faults input.new) (S.ends input.new)) given text
-        × HasFaultLine result (K.faults out.old) (K.faults out.new) tail }
+    ensures ends { RunEnds empty_header result (source_state (S.left input.old) (S.faults input.old) (S.ends input.old))
+        (source_state (S.left input.new) (S.faults input.new) (S.ends input.new))
+        (K.written out.old) (K.written out.new) (K.faults out.old) (K.faults out.new) }
     ensures usage { (result ≡ Status.Usage) ↔ (words.now ≢ []) }
     ensures read { result ≡ Status.ReadFault → Rose (S.faults input.old) (S.faults input.new) }
     ensures write { result ≡ Status.WriteFault → Rose (K.faults out.old) (K.faults out.new) }
@@ -77,7 +75,7 @@ fn read_header<S: Source>(lines: &mut Lines, input: &mut S) -> Option<Status>
         lines.old.limit ≡ 2 ^ 40 →
         MatchOption result
         ((given : List ℕ) × Reading began (source_state (S.left input.new) (S.faults input.new) (S.ends input.new)) lines.new given (separator ∷ []))
-        (λ s. (given : List ℕ) × Consumes began.left (S.left input.new) given
+        (λ s. (given : List ℕ) × Consumes began.left (S.left input.new) given × (length given ≤ 2 ^ 40)
         × Tells empty_header s began (source_state (S.left input.new) (S.faults input.new) (S.ends input.new)) given [] × IsHeaderEnd s) }
     ensures limit { lines.new.limit ≡ lines.old.limit }
     ensures later { S.faults input.old ≤ S.faults input.new }

@@ -2,8 +2,8 @@ use Rattle.seam_transcript.specs.Book.{empty_header}
 use Rattle.seam_world.proofs.RunLemmas.{with_tail}
 use Rattle.seam_world.proofs.run.run_seamless.Goals as goal
 
-pub returns-clause-transcript : goal.returns-clause-transcript
-returns-clause-transcript g c =
+pub returns-clause-ends : goal.returns-clause-ends
+returns-clause-ends g c =
     let s = c.run_body-status.ensures.stopped in
     let w = c.put_fault-2.ensures.written in
     with_tail empty_header _ _ _ _ _ _ _ _ _ s w.0 w.1 c.put_fault-2.ensures.later w.2

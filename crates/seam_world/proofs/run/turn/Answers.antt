@@ -31,7 +31,7 @@ pub returns-in-Some-clause-history : goal.returns-in-Some-clause-history
 returns-in-Some-clause-history g c = λ began old before h.
     let r = c.in-End.ensures.reads began h.given (separator ∷ h.rest) h.reading in
     let few = h.few in
-    last_printed empty_header began old before _ _ _ _ _ _ _ _ _ h c.next.ensures.limit c.print_last.ensures.later r.0 c.in-Some.status r.1 (c.in-Some.ensures.prints h.standing h.stands (omega arith))
+    last_printed empty_header began old before _ _ _ _ _ _ _ _ _ h c.next.ensures.limit c.print_last.ensures.later r.0 c.in-Some.status r.1 r.2 (c.in-Some.ensures.prints h.standing h.stands (omega arith))
 
 pub returns-in-ReadFault-clause-history : goal.returns-in-ReadFault-clause-history
 returns-in-ReadFault-clause-history g c = λ began old before h.
