@@ -6,3 +6,4 @@ pub mod Saturation
 pub mod Places
 pub mod Running
 pub mod Replacing
+pub mod Fitting

@@ -14,10 +14,10 @@ abbrev pub IsPart : Group → Group → Type 0
 IsPart shown held = (p : Property) → in_group p.flag shown ≡ true → in_group p.flag held ≡ true
 
 module _ (p : Property) (ps : List Property) (g : Group) (k : ℕ) where
-  place-in : in_group p.flag g ≡ true → place_of (p ∷ ps) g (suc k) ≡ suc (place_of ps g k)
+  pub place-in : in_group p.flag g ≡ true → place_of (p ∷ ps) g (suc k) ≡ suc (place_of ps g k)
   place-in h = rw h refl
 
-  place-out : in_group p.flag g ≡ false → place_of (p ∷ ps) g (suc k) ≡ place_of ps g k
+  pub place-out : in_group p.flag g ≡ false → place_of (p ∷ ps) g (suc k) ≡ place_of ps g k
   place-out h = rw h refl
 
 pub one-place : (ps : List Property) (g : Group) (k j : ℕ) → is_in ps g k ≡ true → is_in ps g j ≡ true → place_of ps g k ≡ place_of ps g j → k ≡ j

@@ -1,9 +1,9 @@
 -- Groups of values, and what a deed does to a state.
 use Rattle.std.specs.Prelude.{◌≡◌, ℕ, ℤ, pos, ◌-◌, ◌+ℤ◌, ◌-ℤ◌, List, ◌∷◌, ◌++◌, length, map, filter, fold, slice_index_or, slice_set, take}
-use Rattle.std.specs.List.{zip, flat_map}
+use Rattle.std.specs.List.{AllZip, zip, flat_map}
 use Rattle.std.specs.Int.{int_min, int_max}
 use Rattle.seam_value.specs.Types.{least, greatest}
-use Rattle.seam_value.specs.Values.{text_of}
+use Rattle.seam_value.specs.Values.{Fits, text_of}
 use Rattle.seam_value.specs.declared.types.ValueType.{ValueType}
 use Rattle.seam_value.specs.declared.values.Value.{Value}
 use Rattle.seam_value.specs.declared.values.Value.TheVariants.{Number, Text}
@@ -30,6 +30,10 @@ use Rattle.seam_defs.specs.Types.{type_of, method_of}
 abbrev pub properties_of : List Property → Group → List Property
 properties_of ps g = filter (λ p. in_group p.flag g) ps
 
+-- the values are those of a group: one for each of its properties, in name order, that fits its type
+abbrev pub IsOfGroup : List Property → Group → List Value → Type 0
+IsOfGroup ps g values = AllZip (λ p v. Fits v p.ty) (properties_of ps g) values
+
 -- the values that a new entity has
 abbrev pub start_values : List Property → Group → List Value
 start_values ps g = map (λ p. p.default) (properties_of ps g)
@@ -47,6 +51,15 @@ abbrev pub values_text : List Property → Group → List Value → List ℕ
 values_text ps g values = flat_map property_text (zip (properties_of ps g) values)
 
 -- ---- one deed
+
+-- the arguments are those that a method takes: as many, and each of its type
+abbrev pub TakesArgs : List ValueType → List Value → Type 0
+TakesArgs types args = AllZip (λ t v. Fits v t) types args
+
+-- the deed is one that the type can do: a move, or a method with the arguments that it takes
+abbrev pub FitsDeed : List TypeDef → ℕ → Deed → Type 0
+FitsDeed defs ty (Move p) = Unit {0}
+FitsDeed defs ty (Method m args) = TakesArgs (method_of defs ty m).args args
 
 -- the nearest number of a number type
 abbrev pub nearest : ValueType → ℤ → ℤ
