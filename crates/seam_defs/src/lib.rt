@@ -3,6 +3,7 @@
 #![tactic(auto)]
 
 mod builtin;
+mod copying;
 mod deeds;
 mod defs;
 mod flags;
