@@ -44,7 +44,7 @@ fit-out : (p : Property) (ps : List Property) (g : Group) (values : List Value) 
 fit-out p ps g values out rest zero d below at = absurd cc
 fit-out p ps g values out rest (suc k) d below at = rw (place-out p ps g k out) (rest k d (omega arith) at)
 
-abbrev AreOf : List Property → Group → List Value → Type 0
+abbrev pub AreOf : List Property → Group → List Value → Type 0
 AreOf ps g values = (length (properties_of ps g) ≡ length values) × FitBelow ps g values (length ps)
 
 in-length : (p : Property) (ps : List Property) (g : Group) → in_group p.flag g ≡ true → length (properties_of (p ∷ ps) g) ≡ suc (length (properties_of ps g))

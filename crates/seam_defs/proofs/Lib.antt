@@ -7,3 +7,4 @@ pub mod Places
 pub mod Running
 pub mod Replacing
 pub mod Fitting
+pub mod Keeping
