@@ -1,7 +1,7 @@
 -- Lists of values that fit a group, or a method, place by place.
-use Rattle.std.proofs.Common.{◌≡◌, ℕ, zero, suc, ◌+◌, ◌<◌, ◌≤◌, ◌↔◌, refl, sym, ap, subst, ◌∙◌, List, [], ◌∷◌, length, take, get_or, true, false, inl, inr, arith}
+use Rattle.std.proofs.Common.{◌≡◌, ℕ, zero, suc, ◌+◌, ◌<◌, refl, sym, ap, ◌∙◌, List, [], ◌∷◌, length, get_or, true, false, inl, inr, arith}
 use Rattle.std.proofs.lemmas.Bool.{cases_Bool, cases_eq}
-use Rattle.std.proofs.lemmas.List.{take_all, get_or_default}
+use Rattle.std.proofs.lemmas.List.{get_or_default}
 use Rattle.seam_value.specs.Values.{Fits}
 use Rattle.seam_value.specs.declared.types.ValueType.{ValueType}
 use Rattle.seam_value.specs.declared.values.Value.{Value}
@@ -26,13 +26,13 @@ pub takes-from : (types : List ValueType) (values : List Value) → TakesArgs ty
 takes-from [] [] takes = (refl, λ k d below. absurd (omega arith))
 takes-from [] (v ∷ values) takes = absurd takes
 takes-from (t ∷ types) [] takes = absurd takes
-takes-from (t ∷ types) (v ∷ values) (fits, takes) = let rest = takes-from types values takes in (ap suc rest.0, takes-at t types v values fits rest.1) 
+takes-from (t ∷ types) (v ∷ values) (fits, takes) = let rest = takes-from types values takes in (ap suc rest.0, takes-at t types v values fits rest.1)
 
 -- one argument more
 pub args-more : (types : List ValueType) (values : List Value) (i : ℕ) → i < length types → (e : ValueType) → FitsAt (get_or types i e) values i → ArgsFitBelow types values i → ArgsFitBelow types values (i + 1)
 args-more types values i within e fits before k d below =
     elim (cases_eq k i) [
-      inl last ↦ rw (last, get_or_default types i d e within) fits
+      | inl last ↦ rw (last, get_or_default types i d e within) fits
       | inr earlier ↦ before k d (omega arith)
     ]
 
@@ -64,12 +64,12 @@ of-to [] g [] long fit = tt
 of-to [] g (v ∷ values) long fit = absurd (omega arith)
 of-to (p ∷ ps) g [] long fit =
     elim (cases_Bool (in_group p.flag g)) [
-      inl inside ↦ absurd (let e = in-length p ps g inside in omega arith)
+      | inl inside ↦ absurd (let e = in-length p ps g inside in omega arith)
       | inr out ↦ rw out (of-to ps g [] (sym (out-length p ps g out) ∙ long) (fit-out-back p ps g [] out fit))
     ]
 of-to (p ∷ ps) g (v ∷ values) long fit =
     elim (cases_Bool (in_group p.flag g)) [
-      inl inside ↦ rw inside (fit zero p (omega arith) inside, of-to ps g values (let e = in-length p ps g inside in omega arith) (fit-in-back p ps g v values inside fit))
+      | inl inside ↦ rw inside (fit zero p (omega arith) inside, of-to ps g values (let e = in-length p ps g inside in omega arith) (fit-in-back p ps g v values inside fit))
       | inr out ↦ rw out (of-to ps g (v ∷ values) (sym (out-length p ps g out) ∙ long) (fit-out-back p ps g (v ∷ values) out fit))
     ]
 
@@ -78,15 +78,15 @@ of-from [] g [] are = (refl, λ k d below at. absurd (omega arith))
 of-from [] g (v ∷ values) are = absurd are
 of-from (p ∷ ps) g [] are =
     elim (cases_Bool (in_group p.flag g)) [
-      inl inside ↦ absurd (rw inside at are)
+      | inl inside ↦ absurd (rw inside at are)
       | inr out ↦ let rest = of-from ps g [] (rw out at are) in (out-length p ps g out ∙ rest.0, fit-out p ps g [] out rest.1)
     ]
 of-from (p ∷ ps) g (v ∷ values) are =
     elim (cases_Bool (in_group p.flag g)) [
-      inl inside ↦
-        let both = rw inside at are in
-        let rest = of-from ps g values both.1 in
-        (in-length p ps g inside ∙ ap suc rest.0, fit-in p ps g v values inside both.0 rest.1)
+      | inl inside ↦
+          let both = rw inside at are in
+          let rest = of-from ps g values both.1 in
+          (in-length p ps g inside ∙ ap suc rest.0, fit-in p ps g v values inside both.0 rest.1)
       | inr out ↦ let rest = of-from ps g (v ∷ values) (rw out at are) in (out-length p ps g out ∙ rest.0, fit-out p ps g (v ∷ values) out rest.1)
     ]
 
@@ -94,8 +94,8 @@ of-from (p ∷ ps) g (v ∷ values) are =
 pub fit-more : (ps : List Property) (g : Group) (values : List Value) (i : ℕ) (p : Property) → i < length ps → p ≡ get_or ps i p → (in_group p.flag g ≡ true → FitsAt p.ty values (place_of ps g i)) → FitBelow ps g values i → FitBelow ps g values (i + 1)
 fit-more ps g values i p within here fits before k d below at =
     elim (cases_eq k i) [
-      inl last ↦
-        let same : get_or ps k d ≡ p = ap (λ q. get_or ps q d) last ∙ get_or_default ps i d p within ∙ sym here in
-        rw (same, last) (fits (rw same at at))
+      | inl last ↦
+          let same : get_or ps k d ≡ p = ap (λ q. get_or ps q d) last ∙ get_or_default ps i d p within ∙ sym here in
+          rw (same, last) (fits (rw same at at))
       | inr earlier ↦ before k d (omega arith) at
     ]

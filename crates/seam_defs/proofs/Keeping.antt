@@ -1,6 +1,5 @@
 -- A deed that fits leaves the values of a group those of the group.
-use Rattle.std.proofs.Common.{◌≡◌, ◌≢◌, ℕ, ℤ, pos, zero, suc, ◌+◌, ◌-◌, ◌<◌, ◌≤◌, ◌≤ℤ◌, refl, sym, ap, subst, ◌∙◌, List, [], ◌∷◌, length, map, take, get_or, set, slice_get, Some, None, All, true, false, inl, inr, rules, arith}
-use Rattle.std.specs.List.{fold}
+use Rattle.std.proofs.Common.{◌≡◌, ◌≢◌, ℕ, ℤ, pos, zero, suc, ◌-◌, ◌<◌, ◌≤ℤ◌, refl, sym, ap, ◌∙◌, List, [], ◌∷◌, length, get_or, set, slice_get, Some, All, true, inl, inr, rules, arith}
 use Rattle.std.specs.Int.{int_max, int_min}
 use Rattle.std.proofs.lemmas.Int.{ints, clamps}
 use Rattle.std.proofs.lemmas.Bool.{cases_eq}
@@ -21,10 +20,10 @@ use Rattle.seam_defs.specs.declared.types.Operand.TheVariants.{Arg, Constant}
 use Rattle.seam_defs.specs.declared.types.Operation.{Operation}
 use Rattle.seam_defs.specs.declared.types.Operation.TheVariants.{Put, Add, Sub}
 use Rattle.seam_defs.specs.Groups.{in_group, held_by}
-use Rattle.seam_defs.specs.Types.{IsMethod, IsOperation, WorksOn, IsNumeric, OperandFits}
-use Rattle.seam_defs.specs.Deeds.{nearest, properties_of, place_of, type_at, value_at, number_of, operated, target, operand, operand_value, after_with, after_operation, after_body, IsOfGroup, TakesArgs}
-use Rattle.seam_defs.specs.Running.{is_in, is_held, FitsAt, IsFitting, FitBelow}
-use Rattle.seam_defs.proofs.Fitting.{AreOf, of-to, of-from, takes-from}
+use Rattle.seam_defs.specs.Types.{IsMethod, IsOperation, OperandFits}
+use Rattle.seam_defs.specs.Deeds.{nearest, place_of, type_at, value_at, number_of, operated, target, operand, operand_value, after_operation, after_body, IsOfGroup, TakesArgs}
+use Rattle.seam_defs.specs.Running.{is_in, FitsAt, FitBelow}
+use Rattle.seam_defs.proofs.Fitting.{of-to, of-from, takes-from}
 use Rattle.seam_defs.proofs.Places.{one-place}
 
 between : (l h z : ℤ) → l ≤ℤ h → (l ≤ℤ int_max (int_min z h) l) × (int_max (int_min z h) l ≤ℤ h)
@@ -92,24 +91,24 @@ module _ (ps : List Property) (m : Method) (args : List Value) (takes : TakesArg
 
   operation-keeps : (op : Operation) → IsOperation ps m op → (values : List Value) → FitBelow ps (held_by m.part) values (length ps) → FitBelow ps (held_by m.part) (after_operation ps (held_by m.part) args values op) (length ps)
   operation-keeps op is values fit k d below at =
-    let g = held_by m.part in
-    let (p, found, held, fits) = given op is in
-    let place = place_of ps g (target op) in
-    elim (cases_eq k (target op)) [
-      inl same ↦
-        let there : get_or ps k d ≡ p = ap (λ q. get_or ps q d) same ∙ get_or_from_slice_get ps (target op) p d found in
-        let before : FitsAt p.ty values place = rw (there, same) at (fit k d below at) in
-        let z = number_of (value_at values place) in
-        let now : FitsAt p.ty (set values place (operated op p.ty z (operand_value args (operand op)))) place = set-same p.ty values place _ (fits-within p.ty values place before) (fits z) in
-        rw (there, same, type-at ps (target op) p found) now
-      | inr other ↦ set-other (get_or ps k d).ty values place (place_of ps g k) _ (λ e. other (one-place ps g k (target op) (is-in-at ps g k d below at) (rw found held) e)) (fit k d below at)
-    ]
+      let g = held_by m.part in
+      let (p, found, held, fits) = given op is in
+      let place = place_of ps g (target op) in
+      elim (cases_eq k (target op)) [
+        | inl same ↦
+            let there : get_or ps k d ≡ p = ap (λ q. get_or ps q d) same ∙ get_or_from_slice_get ps (target op) p d found in
+            let before : FitsAt p.ty values place = rw (there, same) at (fit k d below at) in
+            let z = number_of (value_at values place) in
+            let now : FitsAt p.ty (set values place (operated op p.ty z (operand_value args (operand op)))) place = set-same p.ty values place _ (fits-within p.ty values place before) (fits z) in
+            rw (there, same, type-at ps (target op) p found) now
+        | inr other ↦ set-other (get_or ps k d).ty values place (place_of ps g k) _ (λ e. other (one-place ps g k (target op) (is-in-at ps g k d below at) (rw found held) e)) (fit k d below at)
+      ]
 
   body-keeps : (body : List Operation) → All (IsOperation ps m) body → (values : List Value) → FitBelow ps (held_by m.part) values (length ps) →
-    FitBelow ps (held_by m.part) (after_body ps (held_by m.part) args body values) (length ps)
+      FitBelow ps (held_by m.part) (after_body ps (held_by m.part) args body values) (length ps)
   body-keeps [] is values fit = fit
   body-keeps (op ∷ body) is values fit =
-    body-keeps body (All-tail (IsOperation ps m) op body is) (after_operation ps (held_by m.part) args values op) (operation-keeps op (All-head (IsOperation ps m) op body is) values fit)
+      body-keeps body (All-tail (IsOperation ps m) op body is) (after_operation ps (held_by m.part) args values op) (operation-keeps op (All-head (IsOperation ps m) op body is) values fit)
 
   body-length : (body : List Operation) (values : List Value) → length (after_body ps (held_by m.part) args body values) ≡ length values
   body-length [] values = refl
@@ -117,5 +116,5 @@ module _ (ps : List Property) (m : Method) (args : List Value) (takes : TakesArg
 
   pub method-keeps : IsMethod ps m → (values : List Value) → IsOfGroup ps (held_by m.part) values → IsOfGroup ps (held_by m.part) (after_body ps (held_by m.part) args m.body values)
   method-keeps is values of =
-    let are = of-from ps (held_by m.part) values of in
-    of-to ps (held_by m.part) (after_body ps (held_by m.part) args m.body values) (are.0 ∙ sym (body-length m.body values)) (body-keeps m.body is.body values are.1)
+      let are = of-from ps (held_by m.part) values of in
+      of-to ps (held_by m.part) (after_body ps (held_by m.part) args m.body values) (are.0 ∙ sym (body-length m.body values)) (body-keeps m.body is.body values are.1)

@@ -8,3 +8,4 @@ pub mod Running
 pub mod Replacing
 pub mod Fitting
 pub mod Keeping
+pub mod GroupsOfGroups

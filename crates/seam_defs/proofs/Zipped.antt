@@ -45,11 +45,11 @@ module _ (ps : List Property) (held g : Group) (i : ℕ) (p : Property) (within 
   taken-other other = ap (λ qs. map (λ e. e.1) (filter (λ e. in_group e.0.flag g) (zip qs vs))) (properties-same ps held i p within here other)
 
   taken-split : in_group p.flag held ≡ true →
-    taken (take (i + 1) ps) held g vs ≡ taken (take i ps) held g vs ++ map (λ e. e.1) (filter (λ e. in_group e.0.flag g) (zip (p ∷ []) (drop (length (properties_of (take i ps) held)) vs)))
+      taken (take (i + 1) ps) held g vs ≡ taken (take i ps) held g vs ++ map (λ e. e.1) (filter (λ e. in_group e.0.flag g) (zip (p ∷ []) (drop (length (properties_of (take i ps) held)) vs)))
   taken-split inside =
-    let rest = drop (length (properties_of (take i ps) held)) vs in
-    let before = zip (properties_of (take i ps) held) vs in
-    rw (properties-more ps held i p within here inside, zip-append (properties_of (take i ps) held) (p ∷ []) vs, filter-append (λ e. in_group e.0.flag g) before (zip (p ∷ []) rest))
+      let rest = drop (length (properties_of (take i ps) held)) vs in
+      let before = zip (properties_of (take i ps) held) vs in
+      rw (properties-more ps held i p within here inside, zip-append (properties_of (take i ps) held) (p ∷ []) vs, filter-append (λ e. in_group e.0.flag g) before (zip (p ∷ []) rest))
       (map-append (λ e. e.1) (filter (λ e. in_group e.0.flag g) before) (filter (λ e. in_group e.0.flag g) (zip (p ∷ []) rest)))
 
   pub taken-more : in_group p.flag held ≡ true → in_group p.flag g ≡ true → taken (take (i + 1) ps) held g vs ≡ taken (take i ps) held g vs ++ take 1 (drop (length (properties_of (take i ps) held)) vs)

@@ -148,3 +148,7 @@ client_of ps s = taken ps group.Base group.BaseClient s.props
 abbrev pub SameShown : List Property → Part → State → State → Type 0
 SameShown ps part.Cell old new = ghost_of ps old ≡ ghost_of ps new
 SameShown ps part.Base old new = client_of ps old ≡ client_of ps new
+
+-- the text of one group's values, of those of a group that holds them
+abbrev pub text_of_taken : List Property → Group → Group → State → List ℕ
+text_of_taken ps held g s = values_text ps g (taken ps held g s.props)

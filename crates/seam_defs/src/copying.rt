@@ -91,9 +91,18 @@ fn copy_operation(alloc: Global, operation: &Operation) -> Result<Operation, All
     ensures { IfOk result (λ copy. copy ≡ operation.now) }
 {
     match operation {
-        Operation::Put(property, operand) => Ok(Operation::Put(*property, copy_operand(alloc, operand)?)),
-        Operation::Add(property, operand) => Ok(Operation::Add(*property, copy_operand(alloc, operand)?)),
-        Operation::Sub(property, operand) => Ok(Operation::Sub(*property, copy_operand(alloc, operand)?)),
+        Operation::Put(property, operand) => Ok(Operation::Put(
+            *property,
+            copy_operand(alloc, operand)?,
+        )),
+        Operation::Add(property, operand) => Ok(Operation::Add(
+            *property,
+            copy_operand(alloc, operand)?,
+        )),
+        Operation::Sub(property, operand) => Ok(Operation::Sub(
+            *property,
+            copy_operand(alloc, operand)?,
+        )),
     }
 }
 

@@ -57,7 +57,7 @@ impl Defs {
         ensures all { (k : ℕ) → slice_get (names_of_methods (type_of self.now ty).methods) k ≡ Some name.now → result ≡ Some k }
     {
         match self.methods(ty).binary_search_by(|m| order(&m.name, name)) {
-            Ok(place) => Some(place as u16),
+            Ok(number) => Some(number as u16),
             Err(_) => None,
         }
     }

@@ -42,7 +42,13 @@ impl Defs {
     }
 
     /// Copies of those values of the group `held` whose properties stand in the group `group` too.
-    pub fn take_group(&self, ty: u16, held: Group, props: &Props, group: Group) -> Result<Props, AllocError>
+    pub fn take_group(
+        &self,
+        ty: u16,
+        held: Group,
+        props: &Props,
+        group: Group,
+    ) -> Result<Props, AllocError>
         ensures { IfOk result (λ taken_props. taken_props ≡ taken (type_of self.now ty).properties held group props.now) }
     {
         let mut values = Vec::new(self.alloc);

@@ -1,4 +1,3 @@
-use Rattle.std.proofs.Common.{◌≡◌}
 use Rattle.seam_defs.proofs.defs.Defs.apply.Goals as goal
 
 pub run-requires : goal.run-requires
