@@ -10,9 +10,8 @@ use Rattle.seam_defs.specs.declared.flags.Part.{Part}
 use Rattle.seam_defs.specs.declared.flags.Part.TheVariants as part
 use Rattle.seam_defs.specs.declared.states.State.{State}
 use Rattle.seam_defs.specs.declared.types.Property.{Property}
-use Rattle.seam_defs.specs.Groups.{in_group, IsWithin, held_by}
+use Rattle.seam_defs.specs.Groups.{in_group, IsWithin, held_by, shown_by}
 use Rattle.seam_defs.specs.Deeds.{taken, ghost_of, other_of, values_text, text_of_taken, SameShown}
-use Rattle.seam_defs.specs.Running.{shown_by}
 use Rattle.seam_defs.proofs.Running.{shown-within}
 use Rattle.seam_defs.proofs.Places.{taken-out, taken-shown, taken-hidden, taken-nil}
 

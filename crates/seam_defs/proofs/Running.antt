@@ -12,9 +12,9 @@ use Rattle.seam_defs.specs.declared.flags.Part.{Part}
 use Rattle.seam_defs.specs.declared.flags.Part.TheVariants as part
 use Rattle.seam_defs.specs.declared.types.Property.{Property}
 use Rattle.seam_defs.specs.declared.types.Operation.{Operation}
-use Rattle.seam_defs.specs.Groups.{in_group, held_by, IsWithin}
+use Rattle.seam_defs.specs.Groups.{in_group, held_by, IsWithin, shown_by}
 use Rattle.seam_defs.specs.Deeds.{taken, place_of, value_at, target}
-use Rattle.seam_defs.specs.Running.{is_in, is_free, shown_by, WereReplaced, OthersStay, SameOn, SameBelow, IsFirstShown}
+use Rattle.seam_defs.specs.Running.{is_in, is_free, WereReplaced, OthersStay, SameOn, SameBelow, IsFirstShown}
 use Rattle.seam_defs.proofs.Names.{item}
 use Rattle.seam_defs.proofs.Places.{Agree, agree-from, agree-to}
 

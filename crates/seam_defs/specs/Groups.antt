@@ -34,6 +34,11 @@ abbrev pub held_by : Part → Group
 held_by part.Cell = group.Real
 held_by part.Base = group.Base
 
+-- the group of a part that others may see: a cell part's ghosts, a base part's client
+abbrev pub shown_by : Part → Group
+shown_by part.Cell = group.Ghost
+shown_by part.Base = group.BaseClient
+
 -- what stands in one group stands in another one too
 abbrev pub IsWithin : Group → Group → Type 0
 IsWithin inner outer = (f : Flag) → in_group f inner ≡ true → in_group f outer ≡ true

@@ -5,18 +5,10 @@ use Rattle.seam_value.specs.Values.{Fits}
 use Rattle.seam_value.specs.declared.types.ValueType.{ValueType}
 use Rattle.seam_value.specs.declared.values.Value.{Value}
 use Rattle.seam_defs.specs.declared.flags.Group.{Group}
-use Rattle.seam_defs.specs.declared.flags.Group.TheVariants as group
-use Rattle.seam_defs.specs.declared.flags.Part.{Part}
-use Rattle.seam_defs.specs.declared.flags.Part.TheVariants as part
 use Rattle.seam_defs.specs.declared.types.Property.{Property}
 use Rattle.seam_defs.specs.declared.types.Operation.{Operation}
 use Rattle.seam_defs.specs.Groups.{in_group}
 use Rattle.seam_defs.specs.Deeds.{target, place_of, value_at}
-
--- the group of a part that others may see: a cell part's ghosts, a base part's client
-abbrev pub shown_by : Part → Group
-shown_by part.Cell = group.Ghost
-shown_by part.Base = group.BaseClient
 
 abbrev pub is_held : Option Property → Group → Bool
 is_held (Some p) g = in_group p.flag g

@@ -2,10 +2,10 @@
 ghost use Rattle.std.specs.Prelude.{◌≡◌, ◌≢◌, ◌<◌, ◌↔◌, ◌+ℤ◌, ◌-ℤ◌, List, OnOk, OnErr, IfOk, length, map, true, false, slice_index_or};
 ghost use Rattle.seam_value.specs.declared.values.Value.{Value as AnyValue};
 ghost use Rattle.seam_defs.specs.declared.types.Operation.{Operation as AnyOperation};
-ghost use Rattle.seam_defs.specs.Groups.{held_by};
+ghost use Rattle.seam_defs.specs.Groups.{held_by, shown_by};
 ghost use Rattle.seam_defs.specs.Types.{type_of, IsMethod};
 ghost use Rattle.seam_defs.specs.Deeds.{nearest as nearest_number, number_of, operand_value, operated, target, operand, place_of, type_at, value_at, after_with, after_body, after, part_of_deed, taken, SameShown, IsOfGroup, TakesArgs, FitsDeed};
-ghost use Rattle.seam_defs.specs.Running.{shown_by, is_in, is_free, OnGroup, WereReplaced, OthersStay, SameOn, IsFirstShown};
+ghost use Rattle.seam_defs.specs.Running.{is_in, is_free, OnGroup, WereReplaced, OthersStay, SameOn, IsFirstShown};
 
 use crate::{Args, Deed, Defs, Group, Method, Operand, Operation, Part, Property, Props, State};
 use seam_value::{Value, ValueType};

@@ -6,9 +6,8 @@ ghost use Rattle.seam_defs.specs.declared.flags.Group.TheVariants as group;
 ghost use Rattle.seam_defs.specs.declared.flags.Part.{Part};
 ghost use Rattle.seam_defs.specs.declared.types.Property.{Property};
 ghost use Rattle.seam_defs.specs.declared.states.State.{State};
-ghost use Rattle.seam_defs.specs.Groups.{IsWithin, held_by};
+ghost use Rattle.seam_defs.specs.Groups.{IsWithin, held_by, shown_by};
 ghost use Rattle.seam_defs.specs.Deeds.{taken, ghost_of, other_of, text_of_taken, SameShown};
-ghost use Rattle.seam_defs.specs.Running.{shown_by};
 
 /// To take a group of a group is to take it of the whole.
 pub fn group_of_a_group()
