@@ -75,11 +75,13 @@ abbrev pub operand_value : List Value → Operand → Value
 operand_value args (Arg k) = slice_index_or args (k - 1) (Number (pos 0))
 operand_value args (Constant v) = v
 
+-- the number of the property that an operation is on
 abbrev pub target : Operation → ℕ
 target (Put k a) = k
 target (Add k a) = k
 target (Sub k a) = k
 
+-- what an operation takes
 abbrev pub operand : Operation → Operand
 operand (Put k a) = a
 operand (Add k a) = a
@@ -95,6 +97,7 @@ operated (Sub k a) t old by = Number (nearest t (old -ℤ number_of by))
 abbrev pub place_of : List Property → Group → ℕ → ℕ
 place_of ps g k = length (properties_of (take k ps) g)
 
+-- the type of a property (a well-typed operation never asks for a property that the type does not have)
 abbrev pub type_at : List Property → ℕ → ValueType
 type_at ps k = slice_index_or (map (λ p. p.ty) ps) k type.Text
 
@@ -108,6 +111,7 @@ after_with ps g values op by =
     let place = place_of ps g (target op) in
     slice_set values place (operated op (type_at ps (target op)) (number_of (value_at values place)) by)
 
+-- a group's values after an operation of a body that was called with these arguments
 abbrev pub after_operation : List Property → Group → List Value → List Value → Operation → List Value
 after_operation ps g args values op = after_with ps g values op (operand_value args (operand op))
 
