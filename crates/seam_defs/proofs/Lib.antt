@@ -6,3 +6,6 @@ pub mod Saturation
 pub mod Places
 pub mod Running
 pub mod Replacing
+pub mod Fitting
+pub mod Keeping
+pub mod GroupsOfGroups

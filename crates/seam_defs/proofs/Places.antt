@@ -5,19 +5,15 @@ use Rattle.std.proofs.lemmas.Bool.{cases_Bool}
 use Rattle.seam_value.specs.declared.values.Value.{Value}
 use Rattle.seam_defs.specs.declared.flags.Group.{Group}
 use Rattle.seam_defs.specs.declared.types.Property.{Property}
-use Rattle.seam_defs.specs.Groups.{in_group}
+use Rattle.seam_defs.specs.Groups.{in_group, IsWithin}
 use Rattle.seam_defs.specs.Deeds.{properties_of, taken, place_of, value_at}
 use Rattle.seam_defs.specs.Running.{is_in}
 
--- each property of one group is one of another
-abbrev pub IsPart : Group → Group → Type 0
-IsPart shown held = (p : Property) → in_group p.flag shown ≡ true → in_group p.flag held ≡ true
-
 module _ (p : Property) (ps : List Property) (g : Group) (k : ℕ) where
-  place-in : in_group p.flag g ≡ true → place_of (p ∷ ps) g (suc k) ≡ suc (place_of ps g k)
+  pub place-in : in_group p.flag g ≡ true → place_of (p ∷ ps) g (suc k) ≡ suc (place_of ps g k)
   place-in h = rw h refl
 
-  place-out : in_group p.flag g ≡ false → place_of (p ∷ ps) g (suc k) ≡ place_of ps g k
+  pub place-out : in_group p.flag g ≡ false → place_of (p ∷ ps) g (suc k) ≡ place_of ps g k
   place-out h = rw h refl
 
 pub one-place : (ps : List Property) (g : Group) (k j : ℕ) → is_in ps g k ≡ true → is_in ps g j ≡ true → place_of ps g k ≡ place_of ps g j → k ≡ j
@@ -36,25 +32,25 @@ zip-nil [] = refl
 zip-nil (x ∷ xs) = refl
 
 module _ (p : Property) (ps : List Property) (held g : Group) where
-  taken-out : (vs : List Value) → in_group p.flag held ≡ false → taken (p ∷ ps) held g vs ≡ taken ps held g vs
+  pub taken-out : (vs : List Value) → in_group p.flag held ≡ false → taken (p ∷ ps) held g vs ≡ taken ps held g vs
   taken-out vs h = rw h refl
 
-  taken-shown : (v : Value) (vs : List Value) → in_group p.flag held ≡ true → in_group p.flag g ≡ true → taken (p ∷ ps) held g (v ∷ vs) ≡ v ∷ taken ps held g vs
+  pub taken-shown : (v : Value) (vs : List Value) → in_group p.flag held ≡ true → in_group p.flag g ≡ true → taken (p ∷ ps) held g (v ∷ vs) ≡ v ∷ taken ps held g vs
   taken-shown v vs h s = rw (h, s) refl
 
-  taken-hidden : (v : Value) (vs : List Value) → in_group p.flag held ≡ true → in_group p.flag g ≡ false → taken (p ∷ ps) held g (v ∷ vs) ≡ taken ps held g vs
+  pub taken-hidden : (v : Value) (vs : List Value) → in_group p.flag held ≡ true → in_group p.flag g ≡ false → taken (p ∷ ps) held g (v ∷ vs) ≡ taken ps held g vs
   taken-hidden v vs h s = rw (h, s) refl
 
-taken-nil : (ps : List Property) (held g : Group) → taken ps held g [] ≡ []
+pub taken-nil : (ps : List Property) (held g : Group) → taken ps held g [] ≡ []
 taken-nil ps held g = rw (zip-nil {B = Value} (properties_of ps held)) refl
 
 -- two lists of values have the same value for each property that is shown
 abbrev pub Agree : List Property → Group → Group → List Value → List Value → Type 0
 Agree ps held shown vs ws = (k : ℕ) → is_in ps shown k ≡ true → value_at vs (place_of ps held k) ≡ value_at ws (place_of ps held k)
 
-module _ (held shown : Group) (sub : IsPart shown held) where
+module _ (held shown : Group) (sub : IsWithin shown held) where
   hidden : (p : Property) → in_group p.flag held ≡ false → in_group p.flag shown ≡ true → ⊥
-  hidden p out h = let inside = sub p h in cc
+  hidden p out h = let inside = sub p.flag h in cc
 
   agree-out : (p : Property) (ps : List Property) (vs ws : List Value) → in_group p.flag held ≡ false → Agree ps held shown vs ws → Agree (p ∷ ps) held shown vs ws
   agree-out p ps vs ws out agree zero at = absurd (hidden p out at)

@@ -12,11 +12,11 @@ use Rattle.seam_defs.specs.declared.flags.Part.{Part}
 use Rattle.seam_defs.specs.declared.flags.Part.TheVariants as part
 use Rattle.seam_defs.specs.declared.types.Property.{Property}
 use Rattle.seam_defs.specs.declared.types.Operation.{Operation}
-use Rattle.seam_defs.specs.Groups.{in_group, held_by}
+use Rattle.seam_defs.specs.Groups.{in_group, held_by, IsWithin, shown_by}
 use Rattle.seam_defs.specs.Deeds.{taken, place_of, value_at, target}
-use Rattle.seam_defs.specs.Running.{is_in, is_free, shown_by, WereReplaced, OthersStay, SameOn, SameBelow, IsFirstShown}
+use Rattle.seam_defs.specs.Running.{is_in, is_free, WereReplaced, OthersStay, SameOn, SameBelow, IsFirstShown}
 use Rattle.seam_defs.proofs.Names.{item}
-use Rattle.seam_defs.proofs.Places.{IsPart, Agree, agree-from, agree-to}
+use Rattle.seam_defs.proofs.Places.{Agree, agree-from, agree-to}
 
 -- what others may see of a part is held by it
 shown-held : (f : Flag) (p : Part) → in_group f (shown_by p) ≡ true → in_group f (held_by p) ≡ true
@@ -37,8 +37,8 @@ shown-held OwnClient part.Base h = absurd cc
 shown-held OtherClients part.Base h = absurd cc
 shown-held AllClients part.Base h = absurd cc
 
-pub shown-is-part : (p : Part) → IsPart (shown_by p) (held_by p)
-shown-is-part p q h = shown-held q.flag p h
+pub shown-within : (p : Part) → IsWithin (shown_by p) (held_by p)
+shown-within p f h = shown-held f p h
 
 -- where a property is not free, an operation is on it
 not-free : (k : ℕ) (body : List Operation) → is_free k body ≡ false → (j : ℕ) × (j < length body) × ((d : Operation) → target (get_or body j d) ≡ k)
@@ -52,9 +52,9 @@ not-free k (op ∷ body) h =
           (suc rest.0, omega arith, rest.2)
     ]
 
-is-in-part : (held shown : Group) → IsPart shown held → (ps : List Property) (k : ℕ) → is_in ps shown k ≡ true → is_in ps held k ≡ true
+is-in-part : (held shown : Group) → IsWithin shown held → (ps : List Property) (k : ℕ) → is_in ps shown k ≡ true → is_in ps held k ≡ true
 is-in-part held shown sub [] k h = absurd cc
-is-in-part held shown sub (p ∷ ps) zero h = sub p h
+is-in-part held shown sub (p ∷ ps) zero h = sub p.flag h
 is-in-part held shown sub (p ∷ ps) (suc k) h = is-in-part held shown sub ps k h
 
 module _ (ps : List Property) (part : Part) (body : List Operation) (old new replaced : List Value) (long : length old ≡ length new) (were : WereReplaced ps (held_by part) body old replaced)
@@ -99,7 +99,7 @@ module _ (ps : List Property) (part : Part) (body : List Operation) (old new : L
   agree : SameOn ps (held_by part) (shown_by part) body old new → Agree ps (held_by part) (shown_by part) old new
   agree same k at =
       elim (cases_Bool (is_free k body)) [
-        | inl free ↦ sym (others k (is-in-part (held_by part) (shown_by part) (shown-is-part part) ps k at) free)
+        | inl free ↦ sym (others k (is-in-part (held_by part) (shown_by part) (shown-within part) ps k at) free)
         | inr busy ↦
             let on = not-free k body busy in
             let d = item body on.0 on.1 in
@@ -109,6 +109,6 @@ module _ (ps : List Property) (part : Part) (body : List Operation) (old new : L
   -- the body has left what others may see exactly where it has left it on the properties that it is on
   pub same-shown : SameOn ps (held_by part) (shown_by part) body old new ↔ (taken ps (held_by part) (shown_by part) old ≡ taken ps (held_by part) (shown_by part) new)
   same-shown = (
-    (λ same. agree-to (held_by part) (shown_by part) (shown-is-part part) ps old new (sym long) (agree same)),
-    (λ same j d within at. agree-from (held_by part) (shown_by part) (shown-is-part part) ps old new (sym long) same _ at),
+    (λ same. agree-to (held_by part) (shown_by part) (shown-within part) ps old new (sym long) (agree same)),
+    (λ same j d within at. agree-from (held_by part) (shown_by part) (shown-within part) ps old new (sym long) same _ at),
   )

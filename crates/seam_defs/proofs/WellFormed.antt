@@ -1,5 +1,8 @@
 -- The built-in types are well formed.
-use Rattle.std.proofs.Common.{ℕ, refl, rules, All, List, [], ◌∷◌, slice_index_or, lit<, lit≤}
+use Rattle.std.proofs.Common.{◌≡◌, ◌≢◌, false, ℕ, refl, rules, All, List, [], ◌∷◌, slice_index_or, lit<, lit≤}
+use Rattle.std.specs.Str.{bytes_eq}
+use Rattle.std.specs.Prelude.{codes}
+use Rattle.std.proofs.lemmas.Slice.Eq.{bytes_eq-Decides}
 use Rattle.std.specs.List.{AllByRecursion}
 use Rattle.std.proofs.lemmas.List.Elements.{All-cons, All-nil}
 use Rattle.seam_value.specs.Values.{Fits}
@@ -11,6 +14,9 @@ use Rattle.seam_defs.specs.Builtin.{builtin, avatar_properties, avatar_methods, 
 All-each : {X : Type 0} (P : X → Type 0) (xs : List X) → AllByRecursion P xs → All P xs
 All-each P [] h = All-nil P
 All-each P (x ∷ xs) h = All-cons P x xs h.0 (All-each P xs h.1)
+
+other-name : (name : List ℕ) → bytes_eq name (codes "move") ≡ false → name ≢ codes "move"
+other-name name apart same = let test = (bytes_eq-Decides name (codes "move")).1 same in absurd cc
 
 abbrev HasDefault : Property → Type 0
 HasDefault p = Fits p.default p.ty
@@ -72,21 +78,21 @@ avatar-write = ((_, refl, refl, (lit< tt, refl)), tt)
 
 avatar-bodies : AllByRecursion (IsMethod avatar_properties) avatar_methods
 avatar-bodies = (
-  record { args = lit≤ tt; operations = lit≤ tt; body = All-each (IsOperation avatar_properties (avatar_method 0)) (avatar_method 0).body avatar-cast },
+  record { not_move = other-name (avatar_method 0).name refl; args = lit≤ tt; operations = lit≤ tt; body = All-each (IsOperation avatar_properties (avatar_method 0)) (avatar_method 0).body avatar-cast },
   (
-    record { args = lit≤ tt; operations = lit≤ tt; body = All-each (IsOperation avatar_properties (avatar_method 1)) (avatar_method 1).body avatar-feel },
+    record { not_move = other-name (avatar_method 1).name refl; args = lit≤ tt; operations = lit≤ tt; body = All-each (IsOperation avatar_properties (avatar_method 1)) (avatar_method 1).body avatar-feel },
     (
-      record { args = lit≤ tt; operations = lit≤ tt; body = All-each (IsOperation avatar_properties (avatar_method 2)) (avatar_method 2).body avatar-heal },
+      record { not_move = other-name (avatar_method 2).name refl; args = lit≤ tt; operations = lit≤ tt; body = All-each (IsOperation avatar_properties (avatar_method 2)) (avatar_method 2).body avatar-heal },
       (
-        record { args = lit≤ tt; operations = lit≤ tt; body = All-each (IsOperation avatar_properties (avatar_method 3)) (avatar_method 3).body avatar-hit },
+        record { not_move = other-name (avatar_method 3).name refl; args = lit≤ tt; operations = lit≤ tt; body = All-each (IsOperation avatar_properties (avatar_method 3)) (avatar_method 3).body avatar-hit },
         (
-          record { args = lit≤ tt; operations = lit≤ tt; body = All-each (IsOperation avatar_properties (avatar_method 4)) (avatar_method 4).body avatar-mark },
+          record { not_move = other-name (avatar_method 4).name refl; args = lit≤ tt; operations = lit≤ tt; body = All-each (IsOperation avatar_properties (avatar_method 4)) (avatar_method 4).body avatar-mark },
           (
-            record { args = lit≤ tt; operations = lit≤ tt; body = All-each (IsOperation avatar_properties (avatar_method 5)) (avatar_method 5).body avatar-pay },
+            record { not_move = other-name (avatar_method 5).name refl; args = lit≤ tt; operations = lit≤ tt; body = All-each (IsOperation avatar_properties (avatar_method 5)) (avatar_method 5).body avatar-pay },
             (
-              record { args = lit≤ tt; operations = lit≤ tt; body = All-each (IsOperation avatar_properties (avatar_method 6)) (avatar_method 6).body avatar-promote },
+              record { not_move = other-name (avatar_method 6).name refl; args = lit≤ tt; operations = lit≤ tt; body = All-each (IsOperation avatar_properties (avatar_method 6)) (avatar_method 6).body avatar-promote },
               (
-                record { args = lit≤ tt; operations = lit≤ tt; body = All-each (IsOperation avatar_properties (avatar_method 7)) (avatar_method 7).body avatar-write },
+                record { not_move = other-name (avatar_method 7).name refl; args = lit≤ tt; operations = lit≤ tt; body = All-each (IsOperation avatar_properties (avatar_method 7)) (avatar_method 7).body avatar-write },
                 tt,
               ),
             ),
@@ -105,9 +111,9 @@ chest-shut = ((_, refl, refl, ((λ e. cc), search rules, search rules)), tt)
 
 chest-bodies : AllByRecursion (IsMethod chest_properties) chest_methods
 chest-bodies = (
-  record { args = lit≤ tt; operations = lit≤ tt; body = All-each (IsOperation chest_properties (chest_method 0)) (chest_method 0).body chest-lift },
+  record { not_move = other-name (chest_method 0).name refl; args = lit≤ tt; operations = lit≤ tt; body = All-each (IsOperation chest_properties (chest_method 0)) (chest_method 0).body chest-lift },
   (
-    record { args = lit≤ tt; operations = lit≤ tt; body = All-each (IsOperation chest_properties (chest_method 1)) (chest_method 1).body chest-shut },
+    record { not_move = other-name (chest_method 1).name refl; args = lit≤ tt; operations = lit≤ tt; body = All-each (IsOperation chest_properties (chest_method 1)) (chest_method 1).body chest-shut },
     tt,
   ),
 )

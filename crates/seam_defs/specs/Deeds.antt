@@ -1,9 +1,9 @@
 -- Groups of values, and what a deed does to a state.
 use Rattle.std.specs.Prelude.{◌≡◌, ℕ, ℤ, pos, ◌-◌, ◌+ℤ◌, ◌-ℤ◌, List, ◌∷◌, ◌++◌, length, map, filter, fold, slice_index_or, slice_set, take}
-use Rattle.std.specs.List.{zip, flat_map}
+use Rattle.std.specs.List.{AllZip, zip, flat_map}
 use Rattle.std.specs.Int.{int_min, int_max}
 use Rattle.seam_value.specs.Types.{least, greatest}
-use Rattle.seam_value.specs.Values.{text_of}
+use Rattle.seam_value.specs.Values.{Fits, text_of}
 use Rattle.seam_value.specs.declared.types.ValueType.{ValueType}
 use Rattle.seam_value.specs.declared.values.Value.{Value}
 use Rattle.seam_value.specs.declared.values.Value.TheVariants.{Number, Text}
@@ -30,6 +30,10 @@ use Rattle.seam_defs.specs.Types.{type_of, method_of}
 abbrev pub properties_of : List Property → Group → List Property
 properties_of ps g = filter (λ p. in_group p.flag g) ps
 
+-- the values are those of a group: one for each of its properties, in name order, that fits its type
+abbrev pub IsOfGroup : List Property → Group → List Value → Type 0
+IsOfGroup ps g values = AllZip (λ p v. Fits v p.ty) (properties_of ps g) values
+
 -- the values that a new entity has
 abbrev pub start_values : List Property → Group → List Value
 start_values ps g = map (λ p. p.default) (properties_of ps g)
@@ -48,6 +52,15 @@ values_text ps g values = flat_map property_text (zip (properties_of ps g) value
 
 -- ---- one deed
 
+-- the arguments are those that a method takes: as many, and each of its type
+abbrev pub TakesArgs : List ValueType → List Value → Type 0
+TakesArgs types args = AllZip (λ t v. Fits v t) types args
+
+-- the deed is one that the type can do: a move, or a method with the arguments that it takes
+abbrev pub FitsDeed : List TypeDef → ℕ → Deed → Type 0
+FitsDeed defs ty (Move p) = Unit {0}
+FitsDeed defs ty (Method m args) = TakesArgs (method_of defs ty m).args args
+
 -- the nearest number of a number type
 abbrev pub nearest : ValueType → ℤ → ℤ
 nearest t z = int_max (int_min z (greatest t)) (least t)
@@ -62,11 +75,13 @@ abbrev pub operand_value : List Value → Operand → Value
 operand_value args (Arg k) = slice_index_or args (k - 1) (Number (pos 0))
 operand_value args (Constant v) = v
 
+-- the number of the property that an operation is on
 abbrev pub target : Operation → ℕ
 target (Put k a) = k
 target (Add k a) = k
 target (Sub k a) = k
 
+-- what an operation takes
 abbrev pub operand : Operation → Operand
 operand (Put k a) = a
 operand (Add k a) = a
@@ -82,6 +97,7 @@ operated (Sub k a) t old by = Number (nearest t (old -ℤ number_of by))
 abbrev pub place_of : List Property → Group → ℕ → ℕ
 place_of ps g k = length (properties_of (take k ps) g)
 
+-- the type of a property (a well-typed operation never asks for a property that the type does not have)
 abbrev pub type_at : List Property → ℕ → ValueType
 type_at ps k = slice_index_or (map (λ p. p.ty) ps) k type.Text
 
@@ -95,6 +111,7 @@ after_with ps g values op by =
     let place = place_of ps g (target op) in
     slice_set values place (operated op (type_at ps (target op)) (number_of (value_at values place)) by)
 
+-- a group's values after an operation of a body that was called with these arguments
 abbrev pub after_operation : List Property → Group → List Value → List Value → Operation → List Value
 after_operation ps g args values op = after_with ps g values op (operand_value args (operand op))
 
@@ -135,3 +152,7 @@ client_of ps s = taken ps group.Base group.BaseClient s.props
 abbrev pub SameShown : List Property → Part → State → State → Type 0
 SameShown ps part.Cell old new = ghost_of ps old ≡ ghost_of ps new
 SameShown ps part.Base old new = client_of ps old ≡ client_of ps new
+
+-- the text of one group's values, of those of a group that holds them
+abbrev pub text_of_taken : List Property → Group → Group → State → List ℕ
+text_of_taken ps held g s = values_text ps g (taken ps held g s.props)

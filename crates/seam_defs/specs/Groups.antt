@@ -1,5 +1,5 @@
 -- Distribution flags, and the groups of properties that they make.
-use Rattle.std.specs.Prelude.{Bool, true, false}
+use Rattle.std.specs.Prelude.{◌≡◌, Bool, true, false}
 use Rattle.seam_defs.specs.declared.flags.Flag.{Flag}
 use Rattle.seam_defs.specs.declared.flags.Flag.TheVariants as flag
 use Rattle.seam_defs.specs.declared.flags.Group.{Group}
@@ -33,3 +33,12 @@ in_group f g = false
 abbrev pub held_by : Part → Group
 held_by part.Cell = group.Real
 held_by part.Base = group.Base
+
+-- the group of a part that others may see: a cell part's ghosts, a base part's client
+abbrev pub shown_by : Part → Group
+shown_by part.Cell = group.Ghost
+shown_by part.Base = group.BaseClient
+
+-- what stands in one group stands in another one too
+abbrev pub IsWithin : Group → Group → Type 0
+IsWithin inner outer = (f : Flag) → in_group f inner ≡ true → in_group f outer ≡ true

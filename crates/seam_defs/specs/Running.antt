@@ -1,20 +1,14 @@
 -- What the steps of running a body say of the values: not part of the public contracts.
 use Rattle.std.specs.Prelude.{◌≡◌, ℕ, ◌<◌, Bool, true, false, not, ◌==◌, List, length, take, Option, Some, None, slice_get, slice_index_or}
 use Rattle.std.specs.List.{list_all}
+use Rattle.seam_value.specs.Values.{Fits}
+use Rattle.seam_value.specs.declared.types.ValueType.{ValueType}
 use Rattle.seam_value.specs.declared.values.Value.{Value}
 use Rattle.seam_defs.specs.declared.flags.Group.{Group}
-use Rattle.seam_defs.specs.declared.flags.Group.TheVariants as group
-use Rattle.seam_defs.specs.declared.flags.Part.{Part}
-use Rattle.seam_defs.specs.declared.flags.Part.TheVariants as part
 use Rattle.seam_defs.specs.declared.types.Property.{Property}
 use Rattle.seam_defs.specs.declared.types.Operation.{Operation}
 use Rattle.seam_defs.specs.Groups.{in_group}
 use Rattle.seam_defs.specs.Deeds.{target, place_of, value_at}
-
--- the group of a part that others may see: a cell part's ghosts, a base part's client
-abbrev pub shown_by : Part → Group
-shown_by part.Cell = group.Ghost
-shown_by part.Base = group.BaseClient
 
 abbrev pub is_held : Option Property → Group → Bool
 is_held (Some p) g = in_group p.flag g
@@ -57,3 +51,23 @@ SameOn ps held shown body old new = SameBelow ps held shown body old new (length
 -- an operation is the first on its property, and others may see it
 abbrev pub IsFirstShown : List Property → Group → List Operation → ℕ → Operation → Type 0
 IsFirstShown ps shown body i op = (is_free (target op) (take i body) ≡ true) × (is_in ps shown (target op) ≡ true)
+
+abbrev pub IsFitting : ValueType → Option Value → Type 0
+IsFitting t (Some v) = Fits v t
+IsFitting t None = ⊥
+
+-- there is a value at a place, and it fits a type
+abbrev pub FitsAt : ValueType → List Value → ℕ → Type 0
+FitsAt t values place = IsFitting t (slice_get values place)
+
+abbrev pub property_at : List Property → ℕ → Property → Property
+property_at ps k d = slice_index_or ps k d
+
+-- the values of the group's properties below `n` fit their types
+abbrev pub FitBelow : List Property → Group → List Value → ℕ → Type 0
+FitBelow ps g values n =
+    (k : ℕ) (d : Property) → k < n → in_group (property_at ps k d).flag g ≡ true → FitsAt (property_at ps k d).ty values (place_of ps g k)
+
+-- the first `n` arguments fit their types
+abbrev pub ArgsFitBelow : List ValueType → List Value → ℕ → Type 0
+ArgsFitBelow types values n = (k : ℕ) (d : ValueType) → k < n → FitsAt (slice_index_or types k d) values k

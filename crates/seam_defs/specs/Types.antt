@@ -1,5 +1,5 @@
 -- Types of entities: how they are numbered, and which are well formed.
-use Rattle.std.specs.Prelude.{◌≡◌, ◌≢◌, ℕ, ◌-◌, ◌<◌, ◌≤◌, Bool, true, false, IsTrue, ◌&&◌, ◌||◌, nat_le, ◌==◌, List, [], ◌∷◌, length, map, All, Some, slice_get, slice_index_or}
+use Rattle.std.specs.Prelude.{◌≡◌, ◌≢◌, ℕ, ◌-◌, ◌<◌, ◌≤◌, Bool, true, false, IsTrue, ◌&&◌, ◌||◌, nat_le, ◌==◌, List, [], ◌∷◌, length, map, All, Some, slice_get, slice_index_or, codes}
 use Rattle.std.specs.List.{list_all}
 use Rattle.std.specs.Ordering.{nat_cmp, is_lt}
 use Rattle.std.specs.Cmp.Lexicographic.{slice_cmp}
@@ -80,8 +80,10 @@ names_of_methods ms = map (λ m. m.name) ms
 abbrev pub names_of_types : List TypeDef → List (List ℕ)
 names_of_types ts = map (λ t. t.name) ts
 
--- a method of a type has at most 8 arguments and 32 operations, which are well typed
+-- a method of a type is not named as a change of place is, and has at most 8 arguments and 32 operations, which are well
+-- typed
 pub record IsMethod (ps : List Property) (m : Method) : Type 0 where
+  pub not_move : m.name ≢ codes "move"
   pub args : length m.args ≤ 8
   pub operations : length m.body ≤ 32
   pub body : All (IsOperation ps m) m.body

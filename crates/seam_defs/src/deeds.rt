@@ -2,10 +2,10 @@
 ghost use Rattle.std.specs.Prelude.{◌≡◌, ◌≢◌, ◌<◌, ◌↔◌, ◌+ℤ◌, ◌-ℤ◌, List, OnOk, OnErr, IfOk, length, map, true, false, slice_index_or};
 ghost use Rattle.seam_value.specs.declared.values.Value.{Value as AnyValue};
 ghost use Rattle.seam_defs.specs.declared.types.Operation.{Operation as AnyOperation};
-ghost use Rattle.seam_defs.specs.Groups.{held_by};
-ghost use Rattle.seam_defs.specs.Types.{type_of, method_of};
-ghost use Rattle.seam_defs.specs.Deeds.{nearest as nearest_number, number_of, operand_value, operated, target, operand, place_of, type_at, value_at, after_with, after_body, after, part_of_deed, taken, SameShown};
-ghost use Rattle.seam_defs.specs.Running.{shown_by, is_in, is_free, OnGroup, WereReplaced, OthersStay, SameOn, IsFirstShown};
+ghost use Rattle.seam_defs.specs.Groups.{held_by, shown_by};
+ghost use Rattle.seam_defs.specs.Types.{type_of, IsMethod};
+ghost use Rattle.seam_defs.specs.Deeds.{nearest as nearest_number, number_of, operand_value, operated, target, operand, place_of, type_at, value_at, after_with, after_body, after, part_of_deed, taken, SameShown, IsOfGroup, TakesArgs, FitsDeed};
+ghost use Rattle.seam_defs.specs.Running.{is_in, is_free, OnGroup, WereReplaced, OthersStay, SameOn, IsFirstShown};
 
 use crate::{Args, Deed, Defs, Group, Method, Operand, Operation, Part, Property, Props, State};
 use seam_value::{Value, ValueType};
@@ -57,12 +57,13 @@ impl Operation {
 
 impl Defs {
     /// Does a deed on a state of the part that it is for, and answers whether what others may see of the part has changed
-    /// in value: of a cell part the position and the ghosted properties, of a base part what its client is shown. After want
-    /// of memory the state is as it was.
+    /// in value: of a cell part the position and the ghosted properties, of a base part what its client is shown. A state
+    /// whose values are of the part's group keeps that under a deed that fits. After want of memory the state is as it was.
     pub fn apply(&self, ty: u16, state: &mut State, deed: &Deed) -> Result<bool, AllocError>
         ensures ok { OnOk result (state.new ≡ after self.now ty state.old deed.now) }
         ensures changed { IfOk result (λ c. (c ≡ false) ↔ SameShown (type_of self.now ty).properties (part_of_deed self.now ty deed.now) state.old state.new) }
         ensures err { OnErr result (state.new ≡ state.old) }
+        ensures kept { FitsDeed self.now ty deed.now → let properties = (type_of self.now ty).properties in let group = held_by (part_of_deed self.now ty deed.now) in IsOfGroup properties group state.old.props → IsOfGroup properties group state.new.props }
     {
         match deed {
             Deed::Move(to) => {
@@ -94,7 +95,8 @@ fn run(
     args: &[Value],
     props: &mut Props,
 ) -> Result<bool, AllocError>
-    requires { OnGroup properties.now (held_by method.now.part) method.now.body }
+    requires { IsMethod properties.now method.now }
+    ensures kept { TakesArgs method.now.args args.now → IsOfGroup properties.now (held_by method.now.part) props.old → IsOfGroup properties.now (held_by method.now.part) props.new }
     ensures ok { OnOk result (props.new ≡ after_body properties.now (held_by method.now.part) args.now method.now.body props.old) }
     ensures changed { IfOk result (λ c. (c ≡ false) ↔ (taken properties.now (held_by method.now.part) (shown_by method.now.part) props.old ≡ taken properties.now (held_by method.now.part) (shown_by method.now.part) props.new)) }
     ensures err { OnErr result (props.new ≡ props.old) }

@@ -1,10 +1,12 @@
 ghost use Rattle.std.specs.Prelude.{◌≡◌, ◌≢◌, ℕ, ◌<◌, ◌≤◌, ◌↔◌, IsTrue, MatchOption, IfSome, IfNone, All, length, slice_get};
 ghost use Rattle.std.specs.Ordering.{nat_cmp};
 ghost use Rattle.std.specs.Cmp.Lexicographic.{slice_cmp};
+ghost use Rattle.seam_defs.specs.Deeds.{TakesArgs};
 ghost use Rattle.seam_defs.specs.Types.{AreDefs, type_of, method_of, no_method, names_of_types, names_of_methods, are_rising, IsMethod};
 
+use crate::groups::fits_at;
 use crate::{Method, Part, TypeDef};
-use seam_value::{ShortText, ValueType};
+use seam_value::{ShortText, Value, ValueType};
 use std::alloc::Global;
 use std::cmp::Ordering;
 use std::marker::Model;
@@ -55,7 +57,7 @@ impl Defs {
         ensures all { (k : ℕ) → slice_get (names_of_methods (type_of self.now ty).methods) k ≡ Some name.now → result ≡ Some k }
     {
         match self.methods(ty).binary_search_by(|m| order(&m.name, name)) {
-            Ok(place) => Some(place as u16),
+            Ok(number) => Some(number as u16),
             Err(_) => None,
         }
     }
@@ -157,6 +159,27 @@ impl Defs {
             None => None,
         }
     }
+    /// Whether the values are the arguments that a method takes: as many, and each of its type.
+    pub fn fits(&self, ty: u16, method: u16, args: &[Value]) -> bool
+        ensures { IsTrue result ↔ TakesArgs (method_of self.now ty method).args args.now }
+    {
+        match self.method(ty, method) {
+            Some(m) => are_fitting(m.args.as_slice(), args),
+            None => args.is_empty(),
+        }
+    }
+}
+
+// Whether the values are as many as the types, and each is of its type.
+fn are_fitting(types: &[ValueType], values: &[Value]) -> bool
+    ensures { IsTrue result ↔ TakesArgs types.now values.now }
+{
+    for (i, ty) in types.iter().enumerate() {
+        if !fits_at(*ty, values, i) {
+            return false;
+        }
+    }
+    types.len() == values.len()
 }
 
 // How a name stands to the one that is sought, in byte order.

@@ -1,11 +1,12 @@
 // Groups of values: their start, a group of a group, and their text.
-ghost use Rattle.std.specs.Prelude.{◌≡◌, ◌++◌, OnOk, OnErr, IfOk, List, [], ◌∷◌, length, take, drop};
+ghost use Rattle.std.specs.Prelude.{◌≡◌, ◌<◌, ◌↔◌, ◌++◌, IsTrue, OnOk, OnErr, IfOk, List, [], ◌∷◌, length, take, drop};
 ghost use Rattle.std.specs.List.{flat_map, zip};
 ghost use Rattle.seam_defs.specs.Types.{type_of};
-ghost use Rattle.seam_defs.specs.Deeds.{properties_of, start_values, taken, property_text, values_text};
+ghost use Rattle.seam_defs.specs.Running.{FitsAt};
+ghost use Rattle.seam_defs.specs.Deeds.{properties_of, start_values, taken, property_text, values_text, IsOfGroup};
 
 use crate::{Defs, Group, Property, Props};
-use seam_value::Value;
+use seam_value::{Value, ValueType};
 use std::alloc::{AllocError, Global};
 
 impl Defs {
@@ -27,6 +28,37 @@ impl Defs {
         for property in self.properties(ty) {
             if property.flag.in_group(group) {
                 values.push(property.default.copy(self.alloc)?)?;
+            }
+        }
+        Ok(Props::of(values))
+    }
+
+    /// Whether there is such a type, and the values are those of its group: one for each of the group's properties, in
+    /// name order, that fits its type.
+    pub fn is_of_group(&self, ty: u16, group: Group, props: &Props) -> bool
+        ensures { IsTrue result ↔ ((ty < length self.now) × IsOfGroup (type_of self.now ty).properties group props.now) }
+    {
+        self.has_type(ty) && are_of_group(self.properties(ty), group, props.values())
+    }
+
+    /// Copies of those values of the group `held` whose properties stand in the group `group` too.
+    pub fn take_group(
+        &self,
+        ty: u16,
+        held: Group,
+        props: &Props,
+        group: Group,
+    ) -> Result<Props, AllocError>
+        ensures { IfOk result (λ taken_props. taken_props ≡ taken (type_of self.now ty).properties held group props.now) }
+    {
+        let mut values = Vec::new(self.alloc);
+        let mut place = 0;
+        for property in self.properties(ty) {
+            if property.flag.in_group(held) {
+                if property.flag.in_group(group) {
+                    copy_at(self.alloc, props.values(), place, &mut values)?;
+                }
+                place += 1;
             }
         }
         Ok(Props::of(values))
@@ -106,4 +138,48 @@ fn push_property(
     out.extend_from_slice(property.name.bytes())?;
     out.extend_from_slice(b"=")?;
     value.write(alloc, out)
+}
+
+// Whether the values are those of a group.
+fn are_of_group(properties: &[Property], group: Group, values: &[Value]) -> bool
+    ensures { IsTrue result ↔ IsOfGroup properties.now group values.now }
+{
+    let mut place = 0;
+    for property in properties {
+        if property.flag.in_group(group) {
+            if !fits_at(property.ty, values, place) {
+                return false;
+            }
+            place += 1;
+        }
+    }
+    place == values.len()
+}
+
+// Whether there is a value at a place, and it is one of the type.
+pub(crate) fn fits_at(ty: ValueType, values: &[Value], place: usize) -> bool
+    ensures { IsTrue result ↔ FitsAt ty values.now place }
+{
+    match values.get(place) {
+        Some(value) => value.fits(ty),
+        None => false,
+    }
+}
+
+// Appends a copy of the value at a place, where there is one.
+fn copy_at(
+    alloc: Global,
+    values: &[Value],
+    place: usize,
+    out: &mut Vec<Value>,
+) -> Result<(), AllocError>
+    ensures { OnOk result (out.new.items ≡ out.old.items ++ take 1 (drop place values.now)) }
+{
+    match values.get(place) {
+        Some(value) => {
+            out.push(value.copy(alloc)?)?;
+            Ok(())
+        }
+        None => Ok(()),
+    }
 }

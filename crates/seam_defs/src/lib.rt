@@ -3,10 +3,12 @@
 #![tactic(auto)]
 
 mod builtin;
+mod copying;
 mod deeds;
 mod defs;
 mod flags;
 mod groups;
+pub mod laws;
 mod listed;
 mod settings;
 mod states;
@@ -18,3 +20,6 @@ pub use listed::Listed;
 pub use settings::Settings;
 pub use states::{Args, Deed, Props, State};
 pub use types::{Method, Operand, Operation, Property, TypeDef};
+
+#[cfg(test)]
+mod tests;

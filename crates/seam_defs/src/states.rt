@@ -30,12 +30,31 @@ impl Args {
         Args { values }
     }
 
+    /// Arguments with equal values.
+    pub fn copy(&self) -> Result<Args, AllocError>
+        ensures { IfOk result (λ args. args ≡ self.now) }
+    {
+        let values = copy_values(*self.values.allocator(), &self.values)?;
+        Ok(Args { values })
+    }
+
     /// The values, the first argument first.
     pub fn values(&self) -> &[Value]
         ensures { result.now ≡ self.now }
     {
         &self.values
     }
+}
+
+// Equal values.
+fn copy_values(alloc: Global, values: &[Value]) -> Result<Vec<Value>, AllocError>
+    ensures { IfOk result (λ copies. copies.items ≡ values.now) }
+{
+    let mut copies = Vec::with_capacity(alloc, values.len())?;
+    for value in values {
+        copies.push(value.copy(alloc)?)?;
+    }
+    Ok(copies)
 }
 
 /// The values of a group of properties, in the order of the properties.

@@ -1,7 +1,7 @@
 use Rattle.std.proofs.Common.{◌≡◌, List, length}
 use Rattle.seam_value.specs.declared.values.Value.{Value}
-use Rattle.seam_defs.specs.Groups.{held_by}
-use Rattle.seam_defs.specs.Running.{shown_by, WereReplaced, SameBelow}
+use Rattle.seam_defs.specs.Groups.{held_by, shown_by}
+use Rattle.seam_defs.specs.Running.{WereReplaced, SameBelow}
 use Rattle.seam_defs.proofs.deeds.any_changed.Given as goal
 
 abbrev pub invariant-loop-i : goal.invariant-loop-i

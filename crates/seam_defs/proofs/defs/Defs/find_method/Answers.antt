@@ -8,12 +8,12 @@ use Rattle.seam_defs.proofs.defs.Defs.find_method.Goals as goal
 pub returns-in-Ok-clause-found : goal.returns-in-Ok-clause-found
 returns-in-Ok-clause-found c =
     let sought = c.in-Ok.ensures.position (λ x. slice_cmp nat_cmp x.name c.args.name.now) (always_returns_same _ _ _ (λ a r f called. search rules)) in
-    rw (← c.methods.ensures.value) ((found_exactly (λ x. x.name) c.methods.result.now c.methods.ensures.rising c.args.name.now (Ok c.in-Ok.place) c.in-Ok.ensures.bound sought).0)
+    rw (← c.methods.ensures.value) ((found_exactly (λ x. x.name) c.methods.result.now c.methods.ensures.rising c.args.name.now (Ok c.in-Ok.number) c.in-Ok.ensures.bound sought).0)
 
 pub returns-in-Ok-clause-all : goal.returns-in-Ok-clause-all
 returns-in-Ok-clause-all c k there =
     let sought = c.in-Ok.ensures.position (λ x. slice_cmp nat_cmp x.name c.args.name.now) (always_returns_same _ _ _ (λ a r f called. search rules)) in
-    let same = (found_exactly (λ x. x.name) c.methods.result.now c.methods.ensures.rising c.args.name.now (Ok c.in-Ok.place) c.in-Ok.ensures.bound sought).1 k (rw c.methods.ensures.value there) in
+    let same = (found_exactly (λ x. x.name) c.methods.result.now c.methods.ensures.rising c.args.name.now (Ok c.in-Ok.number) c.in-Ok.ensures.bound sought).1 k (rw c.methods.ensures.value there) in
     cc
 
 pub returns-in-Err-clause-all : goal.returns-in-Err-clause-all
