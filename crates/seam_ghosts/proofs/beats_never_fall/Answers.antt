@@ -1,0 +1,14 @@
+use Rattle.seam_ghosts.proofs.BookLemmas.{beats_never_fall, greatest_beat, newest_copy, others_stay}
+use Rattle.seam_ghosts.proofs.beats_never_fall.Goals as goal
+
+pub returns-clause-never_fall : goal.returns-clause-never_fall
+returns-clause-never_fall g c = λ w e x q. beats_never_fall w e x q
+
+pub returns-clause-greatest : goal.returns-clause-greatest
+returns-clause-greatest g c = λ w e x. greatest_beat w e x
+
+pub returns-clause-newest : goal.returns-clause-newest
+returns-clause-newest g c = λ w e x. newest_copy w e x
+
+pub returns-clause-others : goal.returns-clause-others
+returns-clause-others g c = λ w e x q n. others_stay w e x q n

@@ -1,0 +1,31 @@
+use super::*;
+use std::test::Fail;
+
+// The answer to a message, or the copy that came back.
+fn shown(answer: Result<Kept, NoMemoryFor<char>>) -> (Option<Kept>, Option<char>) {
+    match answer {
+        Ok(kept) => (Some(kept), None),
+        Err(refused) => (None, Some(refused.item)),
+    }
+}
+
+#[test]
+fn a_late_copy_is_ignored_after_a_drop(rt: HostRuntime) -> Result<(), Fail> {
+    let mut book = send_book(GhostBook::new(rt.alloc()));
+    book.reserve(7)?;
+    assert_eq!(rt; book.beat(7), 0);
+    assert_eq!(rt; book.drop_copy(7, 3)?, Kept::Taken);
+    assert_eq!(rt; shown(book.set(7, 2, 'p')), (Some(Kept::Ignored), None));
+    assert_eq!(rt; book.get(7), None);
+    assert_eq!(rt; shown(book.set(7, 4, 'q')), (Some(Kept::Taken), None));
+    assert_eq!(rt; book.get(7), Some(&'q'));
+    assert_eq!(rt; book.beat(7), 4);
+    assert_eq!(rt; shown(book.set(2, 1, 'r')), (Some(Kept::Taken), None));
+    assert_eq!(rt; book.len(), 2);
+    assert_eq!(rt; book.at(0), Some((2, &'r')));
+    assert_eq!(rt; book.at(2), None);
+    assert_eq!(rt; book.next_after(None), Some((2, &'r')));
+    assert_eq!(rt; book.next_after(Some(2)), Some((7, &'q')));
+    assert_eq!(rt; book.next_after(Some(7)), None);
+    Ok(())
+}

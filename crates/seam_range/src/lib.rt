@@ -1,0 +1,127 @@
+//! Entities by where they stand, for queries of those that are near.
+#![tactic(auto)]
+
+ghost use Rattle.std.specs.Prelude.{◌≡◌, ◌≤◌, ℕ, is_some, IfOk, OnOk, OnErr, option_map};
+ghost use Rattle.std.specs.FinMap as map;
+ghost use Rattle.std.specs.Ordering.{nat_cmp};
+ghost use Rattle.std.specs.BTreeSet.{IsOrdered};
+ghost use Rattle.seam_geo.specs.Pos.{distance};
+ghost use Rattle.std.specs.Prelude.{option_copied};
+ghost use Rattle.seam_range.specs.Places.{within};
+ghost use Rattle.seam_range.specs.Indexed.{is_near_to};
+
+use seam_geo::{Pos, dist};
+use std::alloc::{AllocError, Global};
+use std::collections::{BTreeMap, BTreeSet};
+use std::marker::Model;
+
+#[cfg(test)]
+mod tests;
+
+/// Entities with their positions. Contracts see the position of each entity that was put.
+#[derive(Drop)]
+pub struct RangeList {
+    alloc: Global,
+    places: BTreeMap<u32, Pos>,
+    // The x of each position with its entity, so that a query looks at its own band alone.
+    by_x: BTreeSet<(u64, u32)>,
+}
+
+impl Model for RangeList {
+    ghost use Rattle.std.specs.Coded.{coded_ℕ};
+    ghost use Rattle.std.specs.FinMap as map;
+    ghost use Rattle.seam_range.specs.Places.{Places, pos_code};
+
+    ghost Value = { Places };
+
+    ghost coded = { map.code coded_ℕ pos_code };
+
+    ghost use Rattle.seam_range.specs.Indexed.{IsIndexed};
+
+    ghost view = { λ r. map.from_entries r.places.entries };
+
+    ghost invariant = { λ r. IsIndexed r.places r.by_x };
+}
+
+impl RangeList {
+    /// A list of no entities.
+    pub fn new(alloc: Global) -> Self
+        ensures { result ≡ map.empty }
+    {
+        RangeList {
+            alloc,
+            places: BTreeMap::new(alloc),
+            by_x: BTreeSet::new(alloc),
+        }
+    }
+
+    /// Puts the entity at the position, or moves it there.
+    pub fn put(&mut self, e: u32, p: Pos) -> Result<(), AllocError>
+        ensures after { OnOk result (self.new ≡ map.insert self.old e p) }
+        ensures err { OnErr result (self.new ≡ self.old) }
+    {
+        let Ok(_) = self.by_x.insert((u64::from(p.x), e)) else {
+            return Err(AllocError);
+        };
+        match self.places.insert(e, p) {
+            Ok(Some(old)) => {
+                if old.x != p.x {
+                    self.by_x.remove(&(u64::from(old.x), e));
+                }
+                Ok(())
+            }
+            Ok(None) => Ok(()),
+            Err(_) => {
+                self.by_x.remove(&(u64::from(p.x), e));
+                Err(AllocError)
+            }
+        }
+    }
+
+    /// Takes the entity out, and answers whether it was there.
+    pub fn remove(&mut self, e: u32) -> bool
+        ensures was_there { result ≡ is_some (map.get self.old e) }
+        ensures after { self.new ≡ map.remove self.old e }
+    {
+        match self.places.remove(&e) {
+            Some(old) => {
+                self.by_x.remove(&(u64::from(old.x), e));
+                true
+            }
+            None => false,
+        }
+    }
+
+    /// The entities at distance at most d from the position, in rising number.
+    pub fn within(&self, p: Pos, d: u32) -> Result<Vec<u32>, AllocError>
+        ensures { IfOk result (λ v. v.items ≡ within self.now p d) }
+    {
+        let low = u64::from(p.x.saturating_sub(d));
+        let end = u64::from(p.x) + u64::from(d) + 1;
+        let mut found = BTreeSet::new(self.alloc);
+        for (_, e) in self.by_x.range((low, 0)..(end, 0)) {
+            if is_near(self.places.get(e), p, d) {
+                found.insert(*e)?;
+            }
+        }
+        in_order(self.alloc, found)
+    }
+}
+
+// The numbers of a set, in rising order.
+fn in_order(alloc: Global, found: BTreeSet<u32>) -> Result<Vec<u32>, AllocError>
+    ensures all { IfOk result (λ v. v.items ≡ found.keys) }
+    ensures ordered { IsOrdered nat_cmp found }
+{
+    found.into_iter().collect(alloc)
+}
+
+// Whether there is a position, and it is at distance at most d from p.
+fn is_near(place: Option<&Pos>, p: Pos, d: u32) -> bool
+    ensures { result ≡ is_near_to p d (option_copied place.entry) }
+{
+    match place {
+        Some(place) => dist(p, *place) <= d,
+        None => false,
+    }
+}
