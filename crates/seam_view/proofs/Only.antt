@@ -1,5 +1,5 @@
 -- Looks depend on what is known of entities in view or near alone.
-use Rattle.std.proofs.Common.{◌≡◌, ◌≤◌, ◌<◌, ◌+◌, ℕ, Bool, true, false, cond, not, ◌&&◌, ◌||◌, eqb, List, [], ◌∷◌, ◌++◌, map, find, Option, None, Some, refl, sym, ap, ◌∙◌, arith}
+use Rattle.std.proofs.Common.{◌≡◌, ◌≤◌, ◌+◌, ℕ, Bool, true, false, cond, not, ◌&&◌, ◌||◌, eqb, List, [], ◌∷◌, ◌++◌, map, find, Option, Some, refl, sym, ap, ◌∙◌, arith}
 use Rattle.std.specs.Prelude.{nat_lt, nat_le}
 use Rattle.std.specs.List.{AllByRecursion, list_any, filter}
 use Rattle.std.specs.FinMap as versions
@@ -7,10 +7,9 @@ use Rattle.std.proofs.lemmas.Bool.Decides.{nat_tests}
 use Rattle.seam_geo.specs.declared.pos.Pos.{Pos}
 use Rattle.seam_geo.specs.Pos.{distance}
 use Rattle.seam_view.specs.declared.Seen.{Seen}
-use Rattle.seam_view.specs.declared.Look.{Look}
 use Rattle.seam_view.specs.declared.Look.TheVariants.{Leave, Set, Enter}
 use Rattle.seam_view.specs.Replica.{Replica, seen_of}
-use Rattle.seam_view.specs.Looks.{leaves, has_changed, enters, matters, in_view, is_far, not_older, leaving, changed, entering, one_look}
+use Rattle.seam_view.specs.Looks.{leaves, has_changed, enters, matters, in_view, not_older, one_look}
 
 filter_step : {A : Type 0} (x : A) (xs ys : List A) (p : A → Bool) (b c : Bool) → p x ≡ b → (b ≡ true → c ≡ true) → xs ≡ filter p ys → cond b (x ∷ xs) xs ≡ filter p (cond c (x ∷ ys) ys)
 filter_step x xs ys p true true e h rest = rw e (ap (λ zs. x ∷ zs) rest)

@@ -444,3 +444,16 @@ fn reserve_version(shown: &mut BTreeMap<u32, Option<u64>>, e: u32) -> Result<(),
 pub fn only_near_matters()
     ensures { (r : Replica) (own : Pos) (known other : List Seen) → filter (matters r own) known ≡ filter (matters r own) other → one_look r own known ≡ one_look r own other }
 {}
+
+fn sent<T: Send>(value: T) -> T
+    ensures { result ≡ value }
+{
+    value
+}
+
+/// A view may go to another thread.
+pub fn send_view(view: View) -> View
+    ensures { result ≡ view }
+{
+    sent(view)
+}

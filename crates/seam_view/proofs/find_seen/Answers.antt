@@ -1,4 +1,4 @@
-use Rattle.std.proofs.Common.{sym, ap, ◌∙◌, ◌≡◌, Some, None, arith, ltb-true, ltb-false}
+use Rattle.std.proofs.Common.{sym, ap, ◌∙◌, Some, arith, ltb-true, ltb-false}
 use Rattle.std.proofs.lemmas.List.{get_or_read}
 use Rattle.seam_view.proofs.Known.{seen_here, seen_missing}
 use Rattle.seam_view.proofs.find_seen.Goals as goal

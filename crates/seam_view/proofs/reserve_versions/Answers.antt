@@ -1,4 +1,4 @@
-use Rattle.std.proofs.Common.{arith, sym, ◌≤◌, ◌∙◌, true, ◌≡◌, ℕ, is_some, get_or, ap}
+use Rattle.std.proofs.Common.{arith, sym, ◌∙◌, true, ◌≡◌, is_some, get_or, ap}
 use Rattle.std.specs.Ordering.{nat_cmp}
 use Rattle.std.specs.BTreeMap.{get}
 use borrow.Author.Count.{below_more}

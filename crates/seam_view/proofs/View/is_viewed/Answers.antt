@@ -1,4 +1,4 @@
-use Rattle.std.proofs.Common.{sym, ap, ◌∙◌}
+use Rattle.std.proofs.Common.{ap, ◌∙◌}
 use Rattle.seam_view.specs.Looks.{in_view}
 use Rattle.seam_view.proofs.Places.{viewed-lookup}
 use Rattle.seam_view.proofs.View.is_viewed.Goals as goal

@@ -1,4 +1,4 @@
-use Rattle.std.proofs.Common.{◌∙◌, sym}
+use Rattle.std.proofs.Common.{◌∙◌}
 use Rattle.seam_view.proofs.Shown.{room-slot}
 use Rattle.seam_view.proofs.View.reserve.Goals as goal
 
