@@ -1,12 +1,10 @@
 //! Entities by where they stand, for queries of those that are near.
 #![tactic(auto)]
 
-ghost use Rattle.std.specs.Prelude.{◌≡◌, ◌≤◌, ℕ, is_some, IfOk, OnOk, OnErr, option_map};
+ghost use Rattle.std.specs.Prelude.{◌≡◌, is_some, IfOk, OnOk, OnErr, option_copied};
 ghost use Rattle.std.specs.FinMap as map;
 ghost use Rattle.std.specs.Ordering.{nat_cmp};
 ghost use Rattle.std.specs.BTreeSet.{IsOrdered};
-ghost use Rattle.seam_geo.specs.Pos.{distance};
-ghost use Rattle.std.specs.Prelude.{option_copied};
 ghost use Rattle.seam_range.specs.Places.{within};
 ghost use Rattle.seam_range.specs.Indexed.{is_near_to};
 
@@ -124,4 +122,17 @@ fn is_near(place: Option<&Pos>, p: Pos, d: u32) -> bool
         Some(place) => dist(p, *place) <= d,
         None => false,
     }
+}
+
+fn sent<T: Send>(value: T) -> T
+    ensures { result ≡ value }
+{
+    value
+}
+
+/// A list may go to another thread.
+pub fn send_list(list: RangeList) -> RangeList
+    ensures { result ≡ list }
+{
+    sent(list)
 }

@@ -1,0 +1,4 @@
+pub mod Shown
+pub mod Known
+pub mod Places
+pub mod Only

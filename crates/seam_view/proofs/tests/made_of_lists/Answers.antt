@@ -1,0 +1,11 @@
+use Rattle.std.specs.List.{IsDistinct}
+use Rattle.std.specs.List.Sorted.{IsStrictlySortedBy}
+use Rattle.seam_view.proofs.tests.made_of_lists.Goals as goal
+
+pub of_lists-requires-clause-once : goal.of_lists-requires-clause-once
+unfolding IsDistinct
+of_lists-requires-clause-once g c = (tt, tt)
+
+pub of_lists-requires-clause-rising : goal.of_lists-requires-clause-rising
+unfolding IsStrictlySortedBy
+of_lists-requires-clause-rising g c = (tt, tt)

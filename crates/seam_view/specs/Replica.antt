@@ -1,0 +1,73 @@
+-- What a client was shown, and what each look changes in it.
+use Rattle.std.specs.Prelude.{◌≡◌, ℕ, ◌≤◌, true, nat_eq, List, [], ◌∷◌, length, fold, find, Option, None, Some, if◌then◌else◌}
+use Rattle.std.specs.Ordering.{nat_cmp}
+use Rattle.std.specs.List.{All}
+use Rattle.std.specs.FinMap as versions
+use Rattle.std.specs.FinSet as set
+use Rattle.std.specs.Coded.{Coded, code_by, coded×, coded_ℕ, coded_list}
+use Rattle.std.proofs.Common.{refl}
+use Rattle.seam_view.specs.declared.Seen.{Seen}
+use Rattle.seam_view.specs.declared.Look.{Look}
+use Rattle.seam_view.specs.declared.Look.TheVariants.{Leave, Set, Enter}
+
+-- the two distances of a view, the entities in view in enter order, each with the last version shown, and the last version shown of every entity ever shown
+pub record Replica : Type 0 where
+  pub radius : ℕ
+  pub hysteresis : ℕ
+  pub entries : List (ℕ × ℕ)
+  pub shown : versions.FinMap nat_cmp ℕ
+
+-- beside it: for so many looks there are places, and for these entities there is room to keep a version
+pub record ViewValue : Type 0 where
+  pub core : Replica
+  pub places : ℕ
+  pub room : set.FinSet nat_cmp
+
+abbrev pub replica_code : Coded Replica
+replica_code = code_by (ℕ × (ℕ × (List (ℕ × ℕ) × versions.FinMap nat_cmp ℕ))) (coded× coded_ℕ (coded× coded_ℕ (coded× (coded_list (coded× coded_ℕ coded_ℕ)) (versions.code coded_ℕ coded_ℕ)))) (λ r. (r.radius, (r.hysteresis, (r.entries, r.shown)))) (λ q. record { radius = q.0; hysteresis = q.1.0; entries = q.1.1.0; shown = q.1.1.1 }) (λ _. refl)
+
+abbrev pub view_code : Coded ViewValue
+view_code = code_by (Replica × (ℕ × set.FinSet nat_cmp)) (coded× replica_code (coded× coded_ℕ (set.code coded_ℕ))) (λ w. (w.core, (w.places, w.room))) (λ q. record { core = q.0; places = q.1.0; room = q.1.1 }) (λ _. refl)
+
+-- what is known of the entity
+abbrev pub seen_of : ℕ → List Seen → Option Seen
+seen_of e known = find (λ s. nat_eq s.entity e) known
+
+-- the entity keeps its place and takes the version, or stands last where it was not in view
+abbrev pub placed : ℕ → ℕ → List (ℕ × ℕ) → List (ℕ × ℕ)
+placed e v [] = (e, v) ∷ []
+placed e v (p ∷ ps) = if nat_eq e p.0 then (p.0, v) ∷ ps else p ∷ placed e v ps
+
+-- the others
+abbrev pub without : ℕ → List (ℕ × ℕ) → List (ℕ × ℕ)
+without e [] = []
+without e (p ∷ ps) = if nat_eq e p.0 then ps else p ∷ without e ps
+
+-- after the entity was shown at this version
+abbrev pub with_version_shown : Replica → ℕ → ℕ → Replica
+with_version_shown r e v = record r { entries = placed e v r.entries; shown = versions.insert r.shown e v }
+
+-- after the entity was shown as it is known
+abbrev pub after_showing : Replica → ℕ → Option Seen → Replica
+after_showing r e None = r
+after_showing r e (Some s) = with_version_shown r e s.version
+
+-- after a look: one that leaves is gone, and its version is still known; one that is set keeps its place; one that enters stands last
+abbrev pub after_look : List Seen → Replica → Look → Replica
+after_look known r (Leave e) = record r { entries = without e r.entries }
+after_look known r (Set e) = after_showing r e (seen_of e known)
+after_look known r (Enter e) = after_showing r e (seen_of e known)
+
+-- after one look after another
+abbrev pub after_looks : List Seen → Replica → List Look → Replica
+after_looks known r looks = fold (after_look known) r looks
+
+abbrev pub entity_of : Look → ℕ
+entity_of (Leave e) = e
+entity_of (Set e) = e
+entity_of (Enter e) = e
+
+-- the looks can be kept without memory
+pub record HasRoom (w : ViewValue) (looks : List Look) : Type 0 where
+  pub places : length looks ≤ w.places
+  pub versions : All (λ look. set.contains w.room (entity_of look) ≡ true) looks

@@ -1,0 +1,459 @@
+//! Which entities a witness has in view, and what its client was shown of them.
+//!
+//! An entity enters a view within a radius, and leaves it beyond the radius and a hysteresis. (After the area of interest
+//! of the BigWorld Server Overview.)
+#![tactic(auto)]
+
+ghost use Rattle.std.specs.Prelude.{◌≡◌, ◌≤◌, ◌++◌, ℕ, List, [], filter, map, length, slice_get, option_copied, IfOk, OnOk, OnErr, is_some, false};
+ghost use Rattle.std.specs.Ordering.{nat_cmp};
+ghost use Rattle.std.specs.List.Sorted.{IsStrictlySortedBy};
+ghost use Rattle.std.specs.Prelude.{◌<◌, ◌+◌, nat_eq, true};
+ghost use Rattle.std.specs.List.{All, AllWithin, IsDistinct};
+ghost use Rattle.std.specs.BTreeMap.{get, IsOrdered};
+ghost use Rattle.std.specs.Map.{keys_of};
+ghost use Rattle.seam_geo.specs.declared.pos.Pos.{Pos};
+ghost use Rattle.seam_view.specs.declared.Seen.{Seen};
+ghost use Rattle.seam_view.specs.Slots.{kept};
+ghost use Rattle.std.specs.FinMap as versions;
+ghost use Rattle.std.specs.FinSet as set;
+ghost use Rattle.seam_view.specs.Replica.{Replica, HasRoom, without, seen_of, entity_of, with_version_shown, after_showing, after_look, after_looks};
+ghost use Rattle.seam_view.specs.Looks.{is_far, in_view, not_older, leaves, has_changed, enters, leaving, changed, entering, one_look, matters};
+
+use indexmap::IndexMap;
+use seam_geo::{Pos, dist};
+use std::alloc::{AllocError, Global};
+use std::collections::BTreeMap;
+use std::marker::Model;
+
+#[cfg(test)]
+mod tests;
+
+/// What is known of an entity: its public version and where it stands.
+#[derive(Clone, Copy, Debug, PartialEq, Eq)]
+pub struct Seen {
+    pub entity: u32,
+    pub version: u64,
+    pub pos: Pos,
+}
+
+/// A change of a view.
+#[derive(Clone, Copy, Debug, PartialEq, Eq)]
+pub enum Look {
+    /// The entity leaves the view.
+    Leave(u32),
+    /// The entity stays, and is shown at a greater version.
+    Set(u32),
+    /// The entity enters the view.
+    Enter(u32),
+}
+
+/// The entities in view, in enter order, and what was shown of each entity ever shown.
+///
+/// Contracts see these as a replica of what the client was shown, and beside it the room for looks that `plan` made.
+#[derive(Drop)]
+pub struct View {
+    alloc: Global,
+    radius: u32,
+    hysteresis: u32,
+    view: IndexMap<u32, u64>,
+    // An entry without a version is room for one.
+    shown: BTreeMap<u32, Option<u64>>,
+}
+
+impl Model for View {
+    ghost use Rattle.seam_view.specs.Replica.{ViewValue, view_code};
+
+    ghost Value = { ViewValue };
+
+    ghost coded = { view_code };
+
+    ghost use Rattle.std.specs.Map.{keys_of};
+    ghost use Rattle.std.specs.Ordering.{nat_cmp};
+    ghost use Rattle.std.specs.BTreeMap.{IsOrdered};
+    ghost use Rattle.std.specs.FinMap as versions;
+    ghost use Rattle.std.specs.FinSet as set;
+    ghost use Rattle.indexmap.specs.IndexMap.{spare};
+    ghost use Rattle.seam_view.specs.Slots.{kept};
+
+    ghost view = { λ v. record { core = record { radius = v.radius; hysteresis = v.hysteresis; entries = v.view.entries; shown = versions.from_entries (kept v.shown.entries) }; places = spare v.view; room = set.from_list (keys_of v.shown.entries) } };
+
+    ghost invariant = { λ v. IsOrdered nat_cmp v.shown };
+}
+
+impl View {
+    /// A view of no entity. It takes in what is within the radius, and leaves out what is beyond radius and hysteresis together.
+    pub fn new(alloc: Global, radius: u32, hysteresis: u32) -> View
+        ensures { result.core ≡ record { radius = radius; hysteresis = hysteresis; entries = []; shown = versions.empty } }
+    {
+        View {
+            alloc,
+            radius,
+            hysteresis,
+            view: IndexMap::new(alloc),
+            shown: BTreeMap::new(alloc),
+        }
+    }
+
+    /// The view with these entities in this enter order, each with the version last shown, and these versions shown, also of
+    /// entities that left.
+    pub fn of_lists(
+        alloc: Global,
+        radius: u32,
+        hysteresis: u32,
+        view: &[(u32, u64)],
+        shown: &[(u32, u64)],
+    ) -> Result<View, AllocError>
+        requires once { IsDistinct nat_eq (keys_of view.now) }
+        requires rising { IsStrictlySortedBy nat_cmp (keys_of shown.now) }
+        ensures { IfOk result (λ v. v.core ≡ record { radius = radius; hysteresis = hysteresis; entries = view.now; shown = versions.from_entries shown.now }) }
+    {
+        let view = view_of(alloc, view)?;
+        let shown = shown_of(alloc, shown)?;
+        Ok(View {
+            alloc,
+            radius,
+            hysteresis,
+            view,
+            shown,
+        })
+    }
+
+    /// How many entities are in view.
+    pub fn len(&self) -> usize
+        ensures { result ≡ length self.now.core.entries }
+    {
+        self.view.len()
+    }
+
+    /// The entity at place i of the enter order, and the version last shown of it; none where i is not below `len`.
+    pub fn at(&self, i: usize) -> Option<(u32, u64)>
+        ensures { result ≡ slice_get self.now.core.entries i }
+    {
+        match self.view.get_index(i) {
+            Some((e, version)) => Some((*e, *version)),
+            None => None,
+        }
+    }
+
+    /// The version last shown of the entity, also of one that left; none where it was never shown.
+    pub fn shown(&self, e: u32) -> Option<u64>
+        ensures { result ≡ versions.get self.now.core.shown e }
+    {
+        match self.shown.get(&e) {
+            Some(version) => *version,
+            None => None,
+        }
+    }
+
+    /// The version at place i of those shown, in rising entity number; none where i is not below their count. It takes time with i.
+    pub fn shown_at(&self, i: usize) -> Option<(u32, u64)>
+        ensures { result ≡ slice_get (versions.entries self.now.core.shown) i }
+    {
+        let mut left = i;
+        for (e, slot) in &self.shown {
+            if let Some(version) = slot {
+                if left == 0 {
+                    return Some((*e, *version));
+                }
+                left -= 1;
+            }
+        }
+        None
+    }
+
+    // Whether an entity in view leaves it.
+    fn is_leaving(&self, own: Pos, version: u64, seen: Option<&Seen>) -> bool
+        ensures { result ≡ leaves self.now.core own version (option_copied seen.entry) }
+    {
+        match seen {
+            Some(seen) => self.is_far(own, seen.pos) && version <= seen.version,
+            None => true,
+        }
+    }
+
+    // Whether an entity in view stays, and has changed.
+    fn is_changed(&self, own: Pos, version: u64, seen: Option<&Seen>) -> bool
+        ensures { result ≡ has_changed self.now.core own version (option_copied seen.entry) }
+    {
+        match seen {
+            Some(seen) => !self.is_far(own, seen.pos) && version < seen.version,
+            None => false,
+        }
+    }
+
+    // Whether the position is farther than radius and hysteresis together.
+    fn is_far(&self, own: Pos, p: Pos) -> bool
+        ensures { result ≡ is_far self.now.core own p }
+    {
+        u64::from(dist(own, p)) > u64::from(self.radius) + u64::from(self.hysteresis)
+    }
+
+    // Whether the entity is in view.
+    fn is_viewed(&self, e: u32) -> bool
+        ensures { result ≡ in_view self.now.core e }
+    {
+        self.view.contains_key(&e)
+    }
+
+    // Whether the version is not older than the one shown of the entity, if any was.
+    fn may_show(&self, e: u32, version: u64) -> bool
+        ensures { result ≡ not_older (versions.get self.now.core.shown e) version }
+    {
+        match self.shown(e) {
+            Some(shown) => shown <= version,
+            None => true,
+        }
+    }
+
+    // Whether a known entity enters.
+    fn is_entering(&self, own: Pos, seen: &Seen) -> bool
+        ensures { result ≡ enters self.now.core own seen.now }
+    {
+        !self.is_viewed(seen.entity)
+            && dist(own, seen.pos) <= self.radius
+            && self.may_show(seen.entity, seen.version)
+    }
+
+    // Appends the leaves, in enter order.
+    fn push_leaves(&self, own: Pos, known: &[Seen], looks: &mut Vec<Look>) -> Result<(), AllocError>
+        requires { IsStrictlySortedBy nat_cmp (map (λ s. s.entity) known.now) }
+        ensures { OnOk result (looks.new.items ≡ looks.old.items ++ leaving self.now.core own known.now self.now.core.entries) }
+    {
+        for (e, version) in &self.view {
+            if self.is_leaving(own, *version, find_seen(known, *e)) {
+                looks.push(Look::Leave(*e))?;
+            }
+        }
+        Ok(())
+    }
+
+    // Appends the sets, in enter order.
+    fn push_sets(&self, own: Pos, known: &[Seen], looks: &mut Vec<Look>) -> Result<(), AllocError>
+        requires { IsStrictlySortedBy nat_cmp (map (λ s. s.entity) known.now) }
+        ensures { OnOk result (looks.new.items ≡ looks.old.items ++ changed self.now.core own known.now self.now.core.entries) }
+    {
+        for (e, version) in &self.view {
+            if self.is_changed(own, *version, find_seen(known, *e)) {
+                looks.push(Look::Set(*e))?;
+            }
+        }
+        Ok(())
+    }
+
+    // Appends the enters, in rising number.
+    fn push_enters(&self, own: Pos, known: &[Seen], looks: &mut Vec<Look>) -> Result<(), AllocError>
+        ensures { OnOk result (looks.new.items ≡ looks.old.items ++ entering self.now.core own known.now) }
+    {
+        for seen in known {
+            if self.is_entering(own, seen) {
+                looks.push(Look::Enter(seen.entity))?;
+            }
+        }
+        Ok(())
+    }
+
+    // Makes room to keep the looks.
+    fn reserve(&mut self, looks: &[Look]) -> Result<(), AllocError>
+        ensures same { self.new.core ≡ self.old.core }
+        ensures room { OnOk result (HasRoom self.new looks.now) }
+    {
+        self.view.reserve(looks.len())?;
+        reserve_versions(&mut self.shown, looks)?;
+        Ok(())
+    }
+
+    /// The looks that bring the view up to what is known, for a witness that stands at `own`: the leaves in enter order, the sets
+    /// in enter order, and the enters in rising number. It changes nothing, and makes room to keep the looks.
+    ///
+    /// What is known is in rising entity number, and the witness itself is not among it.
+    pub fn plan(&mut self, own: Pos, known: &[Seen]) -> Result<Vec<Look>, AllocError>
+        requires { IsStrictlySortedBy nat_cmp (map (λ s. s.entity) known.now) }
+        ensures looks { IfOk result (λ v. v.items ≡ one_look self.old.core own known.now) }
+        ensures room { IfOk result (λ v. HasRoom self.new v.items) }
+        ensures same { self.new.core ≡ self.old.core }
+    {
+        let mut looks = Vec::new(self.alloc);
+        self.push_leaves(own, known, &mut looks)?;
+        self.push_sets(own, known, &mut looks)?;
+        self.push_enters(own, known, &mut looks)?;
+        self.reserve(&looks)?;
+        Ok(looks)
+    }
+
+    // Takes the entity out of the view.
+    fn leave(&mut self, e: u32)
+        ensures core { self.new.core ≡ record self.old.core { entries = without e self.old.core.entries } }
+        ensures places { self.old.places ≤ self.new.places }
+        ensures room { self.new.room ≡ self.old.room }
+    {
+        let _ = self.view.shift_remove(&e);
+    }
+
+    // Shows the entity at this version.
+    fn show(&mut self, e: u32, version: u64)
+        requires place { 0 < self.old.places }
+        requires room { set.contains self.old.room e ≡ true }
+        ensures core { self.new.core ≡ with_version_shown self.old.core e version }
+        ensures places { self.old.places ≤ self.new.places + 1 }
+        ensures room { self.new.room ≡ self.old.room }
+    {
+        let Ok(_) = self.view.insert(e, version) else {
+            unreachable!()
+        };
+        match self.shown.insert(e, Some(version)) {
+            Ok(_) => return,
+            Err(_) => unreachable!(),
+        }
+    }
+
+    // Shows the entity as it is known.
+    fn show_known(&mut self, e: u32, seen: Option<&Seen>)
+        requires place { 0 < self.old.places }
+        requires room { set.contains self.old.room e ≡ true }
+        ensures core { self.new.core ≡ after_showing self.old.core e (option_copied seen.entry) }
+        ensures places { self.old.places ≤ self.new.places + 1 }
+        ensures room { self.new.room ≡ self.old.room }
+    {
+        match seen {
+            Some(seen) => self.show(e, seen.version),
+            None => return,
+        }
+    }
+
+    // Keeps one look.
+    fn keep_look(&mut self, known: &[Seen], look: &Look)
+        requires rising { IsStrictlySortedBy nat_cmp (map (λ s. s.entity) known.now) }
+        requires place { 0 < self.old.places }
+        requires room { set.contains self.old.room (entity_of look.now) ≡ true }
+        ensures core { self.new.core ≡ after_look known.now self.old.core look.now }
+        ensures places { self.old.places ≤ self.new.places + 1 }
+        ensures room { self.new.room ≡ self.old.room }
+    {
+        match look {
+            Look::Leave(e) => self.leave(*e),
+            Look::Set(e) => self.show_known(*e, find_seen(known, *e)),
+            Look::Enter(e) => self.show_known(*e, find_seen(known, *e)),
+        }
+    }
+
+    /// Keeps the looks that `plan` gave for what is known: they have been shown from now on. It takes no memory.
+    pub fn keep(&mut self, known: &[Seen], looks: &[Look])
+        requires rising { IsStrictlySortedBy nat_cmp (map (λ s. s.entity) known.now) }
+        requires room { HasRoom self.old looks.now }
+        ensures { self.new.core ≡ after_looks known.now self.old.core looks.now }
+    {
+        for look in looks {
+            self.keep_look(known, look);
+        }
+    }
+}
+
+// The pairs in this order.
+fn view_of(alloc: Global, pairs: &[(u32, u64)]) -> Result<IndexMap<u32, u64>, AllocError>
+    requires { IsDistinct nat_eq (keys_of pairs.now) }
+    ensures { IfOk result (λ m. m.entries ≡ pairs.now) }
+{
+    let mut made = IndexMap::new(alloc);
+    for (e, version) in pairs {
+        made.insert(*e, *version)?;
+    }
+    Ok(made)
+}
+
+// The versions of the pairs.
+fn shown_of(alloc: Global, pairs: &[(u32, u64)]) -> Result<BTreeMap<u32, Option<u64>>, AllocError>
+    requires { IsStrictlySortedBy nat_cmp (keys_of pairs.now) }
+    ensures same { IfOk result (λ m. versions.from_entries {R = nat_cmp} (kept m.entries) ≡ versions.from_entries pairs.now) }
+    ensures ordered { IfOk result (IsOrdered nat_cmp) }
+{
+    let mut made = BTreeMap::new(alloc);
+    for (e, version) in pairs {
+        made.insert(*e, Some(*version))?;
+    }
+    Ok(made)
+}
+
+// The entity of a look.
+fn entity(look: &Look) -> u32
+    ensures { result ≡ entity_of look.now }
+{
+    match look {
+        Look::Leave(e) => *e,
+        Look::Set(e) => *e,
+        Look::Enter(e) => *e,
+    }
+}
+
+// How many of those known have numbers below e.
+fn place_of(known: &[Seen], e: u32) -> usize
+    requires { IsStrictlySortedBy nat_cmp (map (λ s. s.entity) known.now) }
+    ensures bound { result ≤ length known.now }
+    ensures below { AllWithin (λ s. s.entity < e) known.now 0 result }
+    ensures above { AllWithin (λ s. e ≤ s.entity) known.now result (length known.now) }
+{
+    known.partition_point(|seen| seen.entity < e)
+}
+
+// What is known of the entity.
+fn find_seen(known: &[Seen], e: u32) -> Option<&Seen>
+    requires { IsStrictlySortedBy nat_cmp (map (λ s. s.entity) known.now) }
+    ensures { option_copied result ≡ seen_of e known.now }
+{
+    let at = place_of(known, e);
+    let Some(seen) = known.get(at) else {
+        return None;
+    };
+    if seen.entity == e { Some(seen) } else { None }
+}
+
+// Makes room to keep a version of the entity of each look.
+fn reserve_versions(
+    shown: &mut BTreeMap<u32, Option<u64>>,
+    looks: &[Look],
+) -> Result<(), AllocError>
+    requires { IsOrdered nat_cmp shown.old }
+    ensures same { versions.from_entries {R = nat_cmp} (kept shown.new.entries) ≡ versions.from_entries (kept shown.old.entries) }
+    ensures room { OnOk result (All (λ look. is_some (get nat_cmp shown.new (entity_of look)) ≡ true) looks.now) }
+    ensures ordered { IsOrdered nat_cmp shown.new }
+{
+    for look in looks {
+        reserve_version(shown, entity(look))?;
+    }
+    Ok(())
+}
+
+// Makes room to keep a version of the entity.
+fn reserve_version(shown: &mut BTreeMap<u32, Option<u64>>, e: u32) -> Result<(), AllocError>
+    ensures same { versions.from_entries {R = nat_cmp} (kept shown.new.entries) ≡ versions.from_entries (kept shown.old.entries) }
+    ensures stays { (q : ℕ) → is_some (get nat_cmp shown.old q) ≡ true → is_some (get nat_cmp shown.new q) ≡ true }
+    ensures room { OnOk result (is_some (get nat_cmp shown.new e) ≡ true) }
+    ensures ordered { IsOrdered nat_cmp shown.new }
+{
+    if shown.contains_key(&e) {
+        let _ = shown.len();
+        return Ok(());
+    }
+    match shown.insert(e, None) {
+        Ok(_) => Ok(()),
+        Err(_) => Err(AllocError),
+    }
+}
+
+/// What is known of entities that are neither in view nor near makes no difference: two lists that agree on all the others give the
+/// same looks.
+pub fn only_near_matters()
+    ensures { (r : Replica) (own : Pos) (known other : List Seen) → filter (matters r own) known ≡ filter (matters r own) other → one_look r own known ≡ one_look r own other }
+{}
+
+fn sent<T: Send>(value: T) -> T
+    ensures { result ≡ value }
+{
+    value
+}
+
+/// A view may go to another thread.
+pub fn send_view(view: View) -> View
+    ensures { result ≡ view }
+{
+    sent(view)
+}
