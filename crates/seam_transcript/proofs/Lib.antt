@@ -1,0 +1,4 @@
+pub mod NumberWords
+pub mod Skips
+pub mod WordTables
+pub mod Sequences
