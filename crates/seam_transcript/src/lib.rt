@@ -2,8 +2,14 @@
 //! them, and the words of the crates below that they use, has to believe nothing else of the server.
 #![tactic(auto)]
 
+mod command;
 mod executed;
+mod laws;
 mod sender;
+mod text;
 
+pub use command::{Said, read_line, whole_number};
 pub use executed::Executed;
+pub use laws::{empty_world_prints_nothing, long_line_is_refused, unknown_command_is_refused};
 pub use sender::Sender;
+pub use text::{push_bad_words, push_base, push_executed, push_home, push_line, push_refusal};

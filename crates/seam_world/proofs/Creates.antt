@@ -17,7 +17,8 @@ use Rattle.seam_transcript.specs.declared.executed.Executed.{Executed}
 use Rattle.seam_transcript.specs.Book.{Header, Book, Created, created_as, with_create, IsBuilt, MayCreate}
 use Rattle.seam_transcript.specs.Orders.{Orders}
 use Rattle.seam_transcript.specs.FlatTable.{first_state}
-use Rattle.seam_world.specs.Table.{TableStands, EntityStands, PartStands, HasRoom, IsNew, IsFresh, start_of, sequence}
+use Rattle.seam_transcript.specs.Sequence.{sequence}
+use Rattle.seam_world.specs.Table.{TableStands, EntityStands, PartStands, HasRoom, IsNew, IsFresh, start_of}
 use Rattle.seam_world.specs.declared.table.PartState.{PartState}
 use Rattle.seam_world.specs.declared.table.Entity.{Entity}
 use Rattle.seam_world.specs.declared.table.Table.{Table}

@@ -21,11 +21,12 @@ use Rattle.seam_value.specs.declared.types.ValueType.TheVariants as type
 use Rattle.seam_value.specs.declared.values.Value.{Value}
 use Rattle.seam_defs.specs.declared.states.Deed.TheVariants.{Method}
 use Rattle.seam_defs.specs.declared.settings.Settings.{Settings}
-use Rattle.seam_world.specs.Table.{HasMethod, IsAmong, TableStands, EntityStands, PartStands, Executes, ExecutesOn, next_executed, sequence}
+use Rattle.seam_transcript.specs.Sequence.{next_executed, sequence}
+use Rattle.seam_world.specs.Table.{HasMethod, IsAmong, TableStands, EntityStands, PartStands, Executes, ExecutesOn}
 use Rattle.seam_world.specs.declared.table.Entity.{Entity}
 use Rattle.seam_world.specs.declared.table.Table.{Table}
 use Rattle.seam_world.proofs.Writing.{same, differ}
-use Rattle.seam_world.proofs.Sequences.{sequence-more}
+use Rattle.seam_transcript.proofs.Sequences.{sequence-more}
 use Rattle.seam_world.proofs.Parts.{part-more, sequence-le}
 
 -- a call of a sender for the cell part of an entity

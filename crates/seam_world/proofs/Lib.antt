@@ -1,7 +1,3 @@
-pub mod NumberWords
-pub mod Skips
-pub mod WordTables
-pub mod Sequences
 pub mod Rounds
 pub mod RunLemmas
 pub mod ScriptLemmas

@@ -14,9 +14,10 @@ use Rattle.seam_transcript.specs.declared.executed.Executed.{Executed}
 use Rattle.seam_transcript.specs.Book.{Header, Created, Called, same_part, same_sender}
 use Rattle.seam_transcript.specs.Orders.{of_sender}
 use Rattle.seam_transcript.specs.FlatTable.{flat, first_state}
-use Rattle.seam_world.specs.Table.{next_executed, go_on, sequence, PartStands, Executes, Counts, place_of_node}
+use Rattle.seam_transcript.specs.Sequence.{next_executed, go_on, sequence}
+use Rattle.seam_world.specs.Table.{PartStands, Executes, Counts, place_of_node}
 use Rattle.seam_world.specs.declared.table.PartState.{PartState}
-use Rattle.seam_world.proofs.Sequences.{of_sender-more}
+use Rattle.seam_transcript.proofs.Sequences.{of_sender-more}
 use Rattle.seam_world.proofs.Writing.{same, differ}
 
 -- counting a call changes the counts alone

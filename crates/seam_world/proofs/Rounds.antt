@@ -19,11 +19,12 @@ use Rattle.seam_transcript.specs.Book.{Header, Book, Created, created_as}
 use Rattle.seam_transcript.specs.Orders.{Orders}
 use Rattle.seam_transcript.specs.FlatTable.{flat}
 use Rattle.seam_transcript.specs.Round.{ListsLive, IsRound, number_line, executed_line, home_line, base_line}
-use Rattle.seam_world.specs.Table.{EntityStands, TableStands, sequence}
+use Rattle.seam_transcript.specs.Sequence.{sequence}
+use Rattle.seam_world.specs.Table.{EntityStands, TableStands}
 use Rattle.seam_world.specs.Text.{done_text, home_text, base_text, table_text}
 use Rattle.seam_world.specs.declared.table.Entity.{Entity}
 use Rattle.seam_world.specs.declared.table.Table.{Table}
-use Rattle.seam_world.proofs.Sequences.{sequence-full, full-legal}
+use Rattle.seam_transcript.proofs.Sequences.{sequence-full, full-legal}
 
 abbrev nobody : Created
 nobody = record { entity = 0; ty = 0; pos = record { x = 0; z = 0 } }

@@ -7,7 +7,8 @@ use Rattle.seam_transcript.specs.Language.{IsSkipped, HasWords, Command, Create,
 use Rattle.seam_transcript.specs.Book.{Header, Book, closed, Accepts}
 use Rattle.seam_transcript.specs.Round.{IsRound}
 use Rattle.seam_transcript.specs.Transcript.{Standing, counted, with_book, refusal, TakesLine, TakesOther, TakesCommand, EndsRound, EndsInput}
-use Rattle.seam_world.specs.Table.{TableStands, Judged, sequence}
+use Rattle.seam_transcript.specs.Sequence.{sequence}
+use Rattle.seam_world.specs.Table.{TableStands, Judged}
 use Rattle.seam_world.specs.Text.{table_text}
 use Rattle.seam_world.specs.Script.{IsReady, ScriptStands, EndsOpenRound, AwaitsVerdict, TakesPieceOf, TakesPiece}
 use Rattle.seam_world.specs.declared.script.Script.{Script}

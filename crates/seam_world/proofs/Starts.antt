@@ -10,7 +10,8 @@ use Rattle.seam_defs.specs.declared.flags.Part.TheVariants as part
 use Rattle.seam_transcript.specs.declared.executed.Executed.{Executed}
 use Rattle.seam_transcript.specs.Book.{Header, Book, Created, created_as, closed}
 use Rattle.seam_transcript.specs.Orders.{Orders}
-use Rattle.seam_world.specs.Table.{TableStands, EntityStands, PartStands, ForgetsDone, StartsRound, sequence}
+use Rattle.seam_transcript.specs.Sequence.{sequence}
+use Rattle.seam_world.specs.Table.{TableStands, EntityStands, PartStands, ForgetsDone, StartsRound}
 use Rattle.seam_world.specs.declared.table.PartState.{PartState}
 use Rattle.seam_world.specs.declared.table.Entity.{Entity}
 use Rattle.seam_world.specs.declared.table.Table.{Table}

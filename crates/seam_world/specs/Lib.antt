@@ -1,5 +1,4 @@
 pub mod Status
-pub mod Said
 pub mod Table
 pub mod Script
 pub mod Text

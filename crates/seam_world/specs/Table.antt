@@ -17,24 +17,13 @@ use Rattle.seam_transcript.specs.declared.executed.Executed.{Executed}
 use Rattle.seam_transcript.specs.Language.{Command}
 use Rattle.seam_transcript.specs.Book.{Header, Book, Created, Called, created_as, same_part, Accepts, IsBuilt}
 use Rattle.seam_transcript.specs.Orders.{Orders, of_sender}
+use Rattle.seam_transcript.specs.Sequence.{sequence}
 use Rattle.seam_transcript.specs.FlatTable.{flat}
 use Rattle.seam_world.specs.declared.table.PartState.{PartState}
 use Rattle.seam_world.specs.declared.table.Entity.{Entity}
 use Rattle.seam_world.specs.declared.table.Table.{Table}
 use Rattle.seam_world.specs.declared.table.Verdict.{Verdict}
 use Rattle.seam_world.specs.declared.table.Verdict.TheVariants as verdict
-
--- a call that comes behind an order, with its sender's next number
-abbrev pub next_executed : List Executed → Sender → Deed → Executed
-next_executed order s d = record { sender = s; number = length (of_sender s order) + 1; deed = d }
-
--- a call of the book goes behind the order of the part that it is for
-abbrev pub go_on : Part → ℕ → List Executed → Called → List Executed
-go_on p e order c = if (c.entity == e) && same_part c.part p then order ++ next_executed order c.sender c.deed ∷ [] else order
-
--- the order in which the table executes the calls of a part: as they were accepted
-abbrev pub sequence : List Called → Part → ℕ → List Executed
-sequence calls p e = fold (go_on p e) [] calls
 
 -- a part as it is after an order that goes on from `before`
 pub record PartStands (h : Header) (p : Part) (c : Created) (before order : List Executed) (s : PartState) : Type 0 where

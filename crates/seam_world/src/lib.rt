@@ -1,7 +1,6 @@
 //! The world server: from commands on a source to the printed rounds on a sink.
 #![tactic(auto)]
 
-mod command;
 mod run;
 mod script;
 mod status;

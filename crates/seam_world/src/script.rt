@@ -6,10 +6,10 @@ ghost use Rattle.seam_transcript.specs.Language.{Command as Commands};
 ghost use Rattle.seam_transcript.specs.Transcript.{Standing, start, EndsInput};
 ghost use Rattle.seam_world.specs.Script.{IsReady, ScriptStands, AwaitsVerdict, TakesPiece, TakesPieceOf, EndsOpenRound};
 
-use crate::command::{Said, read_line};
 use crate::table::{Table, Verdict};
-use crate::text::{push_bad_words, push_refusal, push_round};
+use crate::text::push_round;
 use seam_defs::{Defs, Settings};
+use seam_transcript::{Said, push_bad_words, push_refusal, read_line};
 use std::alloc::{AllocError, Global};
 
 /// A round ends after so many accepted lines.

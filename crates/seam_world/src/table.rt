@@ -8,12 +8,12 @@ ghost use Rattle.seam_transcript.specs.Language.{Create, Call};
 ghost use Rattle.seam_transcript.specs.Book.{Header, Book, Created, empty_book, closed, sender_text, IsBuilt, MayCreate};
 ghost use Rattle.seam_transcript.specs.Orders.{Orders, no_orders, of_sender};
 ghost use Rattle.seam_transcript.specs.declared.sender.Sender.{Sender as Senders};
-ghost use Rattle.seam_world.specs.Table.{TableStands, Judged, sequence, HasRoom, IsNew, start_of, HasMethod, Executes, ExecutesOn, Counts, IsAmong, StartsRound};
+ghost use Rattle.seam_transcript.specs.Sequence.{sequence};
+ghost use Rattle.seam_world.specs.Table.{TableStands, Judged, HasRoom, IsNew, start_of, HasMethod, Executes, ExecutesOn, Counts, IsAmong, StartsRound};
 
-use crate::command::whole_number;
 use seam_defs::{Args, Deed, Defs, Part, Settings, State};
 use seam_geo::Pos;
-use seam_transcript::{Executed, Sender};
+use seam_transcript::{Executed, Sender, whole_number};
 use seam_value::{Value, ValueError, ValueType};
 use std::alloc::{AllocError, Global};
 use std::collections::BTreeMap;

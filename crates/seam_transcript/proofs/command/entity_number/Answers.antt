@@ -1,7 +1,7 @@
 use Rattle.std.proofs.Common.{ℕ, ◌≡◌, subst}
 use Rattle.seam_value.specs.Values.{decimal_of}
-use Rattle.seam_world.proofs.NumberWords.{not_above_zero}
-use Rattle.seam_world.proofs.command.entity_number.Goals as goal
+use Rattle.seam_transcript.proofs.NumberWords.{not_above_zero}
+use Rattle.seam_transcript.proofs.command.entity_number.Goals as goal
 
 pub returns-in-Some-eq0 : goal.returns-in-Some-eq0
 returns-in-Some-eq0 c =

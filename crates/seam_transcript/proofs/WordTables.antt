@@ -4,9 +4,9 @@ use Rattle.std.specs.Prelude.{slice_get}
 use Rattle.std.proofs.lemmas.List.{take_more, take_more_set, map-append}
 use Rattle.std.proofs.lemmas.Option.{get_or_from_slice_get}
 use Rattle.seam_transcript.specs.Language.{IsSkipped, HasWords}
-use Rattle.seam_world.specs.Said.{SaysWords, SaysLine}
-use Rattle.seam_world.specs.declared.command.Said.{Said}
-use Rattle.seam_world.specs.declared.command.Said.TheVariants as said
+use Rattle.seam_transcript.specs.Said.{SaysWords, SaysLine}
+use Rattle.seam_transcript.specs.declared.command.Said.{Said}
+use Rattle.seam_transcript.specs.declared.command.Said.TheVariants as said
 
 -- one more word is put into the table
 pub one_more_word : {R S : Type 0} (now : R → List ℕ) (text : S → List ℕ) (table : List R) (spans : List S) (i : ℕ) (r : R) (s : S)

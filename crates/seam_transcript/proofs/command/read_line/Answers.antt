@@ -1,7 +1,7 @@
 use Rattle.std.proofs.Common.{sym, ◌∙◌}
 use Rattle.std.proofs.lemmas.Bool.{false≢true}
-use Rattle.seam_world.proofs.WordTables.{says_line}
-use Rattle.seam_world.proofs.command.read_line.Goals as goal
+use Rattle.seam_transcript.proofs.WordTables.{says_line}
+use Rattle.seam_transcript.proofs.command.read_line.Goals as goal
 
 pub returns-in-Ok : goal.returns-in-Ok
 returns-in-Ok c =

@@ -2,8 +2,8 @@ use Rattle.std.proofs.Common.{◌≡◌, arith}
 use Rattle.std.proofs.lemmas.Grind.{common_steps}
 use Rattle.std.specs.Fmt.{decimal}
 use Rattle.seam_value.specs.Values.{decimal_of}
-use Rattle.seam_world.proofs.NumberWords.{decimal_is}
-use Rattle.seam_world.proofs.text.push_number.Goals as goal
+use Rattle.seam_transcript.proofs.NumberWords.{decimal_is}
+use Rattle.seam_transcript.proofs.text.push_number.Goals as goal
 
 pub returns : goal.returns
 returns c =

@@ -2,8 +2,8 @@
 use Rattle.std.specs.Prelude.{ℕ, List, [], ◌∷◌, codes}
 use Rattle.seam_words.specs.Faults.{Refuses}
 use Rattle.seam_transcript.specs.Language.{IsSkipped, HasWords, Command, Create, Call, Sync, Says}
-use Rattle.seam_world.specs.declared.command.Said.{Said}
-use Rattle.seam_world.specs.declared.command.Said.TheVariants as said
+use Rattle.seam_transcript.specs.declared.command.Said.{Said}
+use Rattle.seam_transcript.specs.declared.command.Said.TheVariants as said
 
 -- the words say this, or no command
 abbrev pub SaysWords : List (List ℕ) → Said → Type 0

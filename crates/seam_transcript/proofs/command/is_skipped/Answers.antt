@@ -1,7 +1,7 @@
 use Rattle.std.proofs.Common.{refl, arith}
 use Rattle.std.proofs.lemmas.Grind.{common_steps}
-use Rattle.seam_world.proofs.Skips.{first_decides}
-use Rattle.seam_world.proofs.command.is_skipped.Goals as goal
+use Rattle.seam_transcript.proofs.Skips.{first_decides}
+use Rattle.seam_transcript.proofs.command.is_skipped.Goals as goal
 
 pub returns-then-byte-ne9 : goal.returns-then-byte-ne9
 returns-then-byte-ne9 c =

@@ -1,6 +1,6 @@
 use Rattle.std.proofs.Common.{◌≡◌, take, map, length}
 use Rattle.seam_words.specs.Words.{bytes_of}
-use Rattle.seam_world.proofs.command.fill.Given as goal
+use Rattle.seam_transcript.proofs.command.fill.Given as goal
 
 abbrev pub invariant-loop-i : goal.invariant-loop-i
 invariant-loop-i l = record {

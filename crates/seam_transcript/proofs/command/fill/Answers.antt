@@ -1,7 +1,7 @@
 use Rattle.std.proofs.Common.{◌<◌, length, arith, sym, ◌∙◌, length-set}
 use Rattle.seam_words.specs.Words.{bytes_of}
-use Rattle.seam_world.proofs.WordTables.{one_more_word}
-use Rattle.seam_world.proofs.command.fill.Goals as goal
+use Rattle.seam_transcript.proofs.WordTables.{one_more_word}
+use Rattle.seam_transcript.proofs.command.fill.Goals as goal
 
 pub loop-i-preserved : goal.loop-i-preserved
 loop-i-preserved c =

@@ -11,7 +11,7 @@ use Rattle.seam_transcript.specs.declared.sender.Sender.TheVariants.{Base}
 use Rattle.seam_transcript.specs.declared.executed.Executed.{Executed}
 use Rattle.seam_transcript.specs.Book.{Book, Called, same_part, same_sender}
 use Rattle.seam_transcript.specs.Orders.{numbered, of_sender, IsFull, IsLegal}
-use Rattle.seam_world.specs.Table.{next_executed, go_on, sequence}
+use Rattle.seam_transcript.specs.Sequence.{next_executed, go_on, sequence}
 
 -- the deeds of a sender for a part among some calls
 abbrev accepted_in : List Called → Part → ℕ → Sender → List Deed

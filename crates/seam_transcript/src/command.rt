@@ -3,7 +3,7 @@ ghost use Rattle.std.specs.Prelude.{◌≡◌, ◌≢◌, ◌<◌, ◌≤◌, �
 ghost use Rattle.seam_value.specs.Values.{decimal_of};
 ghost use Rattle.seam_words.specs.Words.{IsInside, bytes_of};
 ghost use Rattle.seam_transcript.specs.Language.{IsSkipped, IsWhole};
-ghost use Rattle.seam_world.specs.Said.{SaysWords, SaysLine, SaysCreate, SaysCall};
+ghost use Rattle.seam_transcript.specs.Said.{SaysWords, SaysLine, SaysCreate, SaysCall};
 
 use seam_geo::Pos;
 use seam_value::{Value, ValueType};
