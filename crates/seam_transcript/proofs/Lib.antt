@@ -2,4 +2,5 @@ pub mod NumberWords
 pub mod Skips
 pub mod WordTables
 pub mod Sequences
+pub mod PlainLemmas
 pub mod Rows

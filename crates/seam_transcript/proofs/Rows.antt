@@ -1,8 +1,12 @@
 -- Small inputs.
-use Rattle.std.proofs.Common.{◌≡◌, ℕ, List, [], ◌∷◌, refl, inr}
+use Rattle.std.proofs.Common.{◌≡◌, ℕ, false, List, [], ◌∷◌, length, get_or, refl, sym, ap, subst, inl, inr, arith, rules, lit≤}
 use Rattle.std.specs.Prelude.{codes}
+use Rattle.std.proofs.lemmas.Bool.{false≢true}
+use Rattle.std.proofs.lemmas.Str.{IsUtf8-from_ascii}
+use Rattle.seam_value.specs.Values.{decimal_of}
+use Rattle.seam_words.specs.Words.{IsGap}
 use Rattle.seam_io.specs.Lines.{Content, lines_of}
-use Rattle.seam_transcript.specs.Language.{IsSkipped, HasWords, Command, Says}
+use Rattle.seam_transcript.specs.Language.{IsSkipped, HasWords, Command, Create, Call, Sync, Says}
 use Rattle.seam_transcript.specs.Book.{Header, empty_header}
 use Rattle.seam_transcript.specs.Transcript.{Standing, start, separator, counted, refusal, Step, IsEnded}
 
@@ -16,3 +20,63 @@ empty-world = ([], start, [], [], separator-alone, (refl, refl), refl, refl)
 pub unknown-command : (h : Header) (s : Standing) (line : List ℕ) (words : List (List ℕ)) → ¬ (IsSkipped line) → HasWords line words → ((c : Command) → ¬ (Says words c))
     → Step h s (Content line) (refusal (counted s).lines (codes "command")) (counted s)
 unknown-command h s line words not has none = inr (inr (not, (words, has, inr (none, (refl, refl)))))
+
+-- ---- a line of one word that is no command
+
+two-lines : lines_of (codes "%%\ntick\n") ≡ separator ∷ Content (codes "tick") ∷ []
+unfolding lines_of
+two-lines = refl
+
+second-line : refusal 2 (codes "command") ≡ codes "line 2 command\n"
+unfolding decimal_of
+second-line = refl
+
+not-blank : (x : ℕ) (gap : List ℕ) → 116 ≡ x → IsGap (x ∷ gap) → ⊥
+not-blank x gap is blank = false≢true (subst (λ (y : ℕ). IsGap (y ∷ gap)) (sym is) blank)
+
+first-of : (xs ys : List ℕ) → xs ≡ ys → get_or xs 0 0 ≡ get_or ys 0 0
+first-of xs ys is = ap (λ (zs : List ℕ). get_or zs 0 0) is
+
+not-skipped : ¬ (IsSkipped (codes "tick"))
+not-skipped ([], blank, inl is) = let first = first-of _ _ is in absurd (omega (arith, first))
+not-skipped ([], blank, inr (note, is)) = let first = first-of _ _ is in absurd (omega (arith, first))
+not-skipped (x ∷ gap, blank, inl is) = not-blank x gap (first-of _ _ is) blank
+not-skipped (x ∷ gap, blank, inr (note, is)) = not-blank x gap (first-of _ _ is) blank
+
+one-word : HasWords (codes "tick") (codes "tick" ∷ [])
+one-word = record {
+  spans = record { start = 0; end = 4; quoted = false } ∷ [];
+  text = IsUtf8-from_ascii (codes "tick") (search rules);
+  are = (
+    [],
+    record { gap = []; word = codes "tick"; blank = refl; good = record { some = omega arith; plain = refl }; ends = tt; whole = refl; start = refl; end = refl },
+    ([], refl, refl),
+  );
+  most = lit≤ tt;
+  texts = refl;
+}
+
+no-command : (c : Command) → ¬ (Says (codes "tick" ∷ []) c)
+no-command (Create e name x z) says = let long = ap (λ (ws : List (List ℕ)). length ws) says.4 in absurd (omega (arith, long))
+no-command (Call who e name arg) says = let long = ap (λ (ws : List (List ℕ)). length ws) says.2 in absurd (omega (arith, long))
+no-command Sync says = let first = ap (λ (ws : List (List ℕ)). get_or (get_or ws 0 []) 0 0) says in absurd (omega (arith, first))
+
+pub one-unknown : IsEnded empty_header (lines_of (codes "%%\ntick\n")) (codes "line 2 command\n")
+one-unknown = (
+  Content (codes "tick") ∷ [],
+  counted start,
+  codes "line 2 command\n",
+  [],
+  two-lines,
+  (
+    codes "line 2 command\n",
+    [],
+    counted start,
+    refl,
+    subst (λ (text : List ℕ). Step empty_header start (Content (codes "tick")) text (counted start)) second-line
+        (unknown-command empty_header start (codes "tick") (codes "tick" ∷ []) not-skipped one-word no-command),
+    (refl, refl),
+  ),
+  refl,
+  refl,
+)

@@ -27,7 +27,7 @@ numbered-append s n (x ∷ ds) d =
     ap (λ (xs : List Executed). record { sender = s; number = n; deed = x } ∷ xs)
     (numbered-append s (n + 1) ds d ∙ ap (λ (m : ℕ). numbered s (n + 1) ds ++ record { sender = s; number = m; deed = d } ∷ []) (omega arith))
 
-length-numbered : (s : Sender) (n : ℕ) (ds : List Deed) → length (numbered s n ds) ≡ length ds
+pub length-numbered : (s : Sender) (n : ℕ) (ds : List Deed) → length (numbered s n ds) ≡ length ds
 length-numbered s n [] = refl
 length-numbered s n (d ∷ ds) = omega (arith, length-numbered s (n + 1) ds)
 

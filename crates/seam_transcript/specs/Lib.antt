@@ -6,3 +6,4 @@ pub mod FlatTable
 pub mod Round
 pub mod Transcript
 pub mod Said
+pub mod Plain

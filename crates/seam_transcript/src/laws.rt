@@ -20,3 +20,8 @@ pub fn unknown_command_is_refused()
     ensures { (h : Header) (s : Standing) (line : List ℕ) (words : List (List ℕ)) → ¬ (IsSkipped line) → HasWords line words
         → ((c : Command) → ¬ (Says words c)) → Step h s (Content line) (refusal (s.lines + 1) (codes "command")) (counted s) }
 {}
+
+/// A line whose one word is no command prints its number and the cause.
+pub fn one_unknown_command()
+    ensures { IsEnded empty_header (lines_of (codes "%%\ntick\n")) (codes "line 2 command\n") }
+{}

@@ -5,11 +5,16 @@
 mod command;
 mod executed;
 mod laws;
+mod plain;
 mod sender;
 mod text;
 
 pub use command::{Said, read_line, whole_number};
 pub use executed::Executed;
-pub use laws::{empty_world_prints_nothing, long_line_is_refused, unknown_command_is_refused};
+pub use laws::{
+    empty_world_prints_nothing, long_line_is_refused, one_unknown_command,
+    unknown_command_is_refused,
+};
+pub use plain::{Made, Taken, push_plain_round};
 pub use sender::Sender;
 pub use text::{push_bad_words, push_base, push_executed, push_home, push_line, push_refusal};

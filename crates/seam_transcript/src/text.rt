@@ -6,7 +6,7 @@ ghost use Rattle.seam_transcript.specs.Book.{sender_text};
 ghost use Rattle.seam_transcript.specs.Round.{field, number_line, deed_text, executed_line, home_line, base_line};
 ghost use Rattle.seam_transcript.specs.Transcript.{refusal};
 
-use crate::{Executed, Sender};
+use crate::Sender;
 use itoa::Buffer;
 use seam_defs::{Deed, Defs, Group, State};
 use seam_value::Value;
@@ -66,15 +66,17 @@ pub fn push_executed(
     defs: &Defs,
     entity: u32,
     ty: u16,
-    done: &Executed,
+    sender: Sender,
+    number: u64,
+    deed: &Deed,
 ) -> Result<(), AllocError>
-    ensures { OnOk result (out.new.items ≡ out.old.items ++ executed_line word.now defs.now entity ty done.now) }
+    ensures { OnOk result (out.new.items ≡ out.old.items ++ executed_line word.now defs.now entity ty (record { sender = sender; number = number; deed = deed.now })) }
 {
     out.extend_from_slice(word)?;
     push_number(out, u64::from(entity))?;
-    push_sender(out, done.sender)?;
-    push_field(out, done.number)?;
-    push_deed(alloc, out, defs, ty, &done.deed)?;
+    push_sender(out, sender)?;
+    push_field(out, number)?;
+    push_deed(alloc, out, defs, ty, deed)?;
     out.extend_from_slice(b"\n")
 }
 

@@ -92,7 +92,17 @@ fn push_done(
     ensures { OnOk result (out.new.items ≡ out.old.items ++ done_text defs.now (number, entity.now)) }
 {
     for done in &entity.cell.done {
-        push_executed(alloc, out, b"did ", defs, number, entity.ty, done)?;
+        push_executed(
+            alloc,
+            out,
+            b"did ",
+            defs,
+            number,
+            entity.ty,
+            done.sender,
+            done.number,
+            &done.deed,
+        )?;
     }
     Ok(())
 }
