@@ -1,8 +1,8 @@
 -- A part executes one more call.
 use Rattle.std.proofs.Common.{◌≡◌, ◌≢◌, ◌+◌, ◌-◌, ◌^◌, ◌<◌, ◌≤◌, ℕ, Bool, true, false, List, [], ◌∷◌, ◌++◌, length, get_or, sym, ◌∙◌, ap, inl, inr, arith, append_assoc, append-nil, length-append, min, set}
 use Rattle.std.specs.Prelude.{fold, ◌==◌, ◌&&◌, slice_index, if◌then◌else◌}
-use Rattle.std.proofs.lemmas.List.{take_all, get_or-set_same, get_or-set_other, length-set}
-use Rattle.std.proofs.lemmas.List.Sums.{fold-append, length-filter, count_by-le-length}
+use Rattle.std.proofs.lemmas.List.{get_or-set_same, get_or-set_other, length-set}
+use Rattle.std.proofs.lemmas.List.Sums.{length-filter, count_by-le-length}
 use Rattle.std.proofs.lemmas.Bool.Decides.{eqb_tells}
 use Rattle.seam_defs.specs.Deeds.{after}
 use Rattle.seam_defs.specs.declared.flags.Part.{Part}
@@ -13,12 +13,12 @@ use Rattle.seam_transcript.specs.declared.sender.Sender.TheVariants.{Base}
 use Rattle.seam_transcript.specs.declared.executed.Executed.{Executed}
 use Rattle.seam_transcript.specs.Book.{Header, Created, Called, same_part, same_sender}
 use Rattle.seam_transcript.specs.Orders.{of_sender}
-use Rattle.seam_transcript.specs.FlatTable.{flat, first_state}
 use Rattle.seam_transcript.specs.Sequence.{next_executed, go_on, sequence}
 use Rattle.seam_world.specs.Table.{PartStands, Executes, Counts, place_of_node}
 use Rattle.seam_world.specs.declared.table.PartState.{PartState}
 use Rattle.seam_transcript.proofs.Sequences.{of_sender-more}
 use Rattle.seam_world.proofs.Writing.{same, differ}
+use Rattle.seam_transcript.proofs.PlainLemmas.{flat-more}
 
 -- counting a call changes the counts alone
 record KeepsRest (old new : PartState) : Type 0 where
@@ -48,15 +48,6 @@ executes defs ty s d old counted new n counts last state version done =
       version = version ∙ ap (λ (v : ℕ). min (v + 1) (2 ^ 64 - 1)) keeps.version;
       done = done ∙ ap (λ v. v.items ++ record { sender = s; number = n; deed = d } ∷ []) keeps.done;
     }
-
--- the state after one more call
-flat-more : (h : Header) (p : Part) (c : Created) (order : List Executed) (x : Executed)
-    → flat h p c (order ++ x ∷ []) (length (order ++ x ∷ [])) ≡ after h.defs c.ty (flat h p c order (length order)) x.deed
-flat-more h p c order x =
-    let run : List Executed → State = λ (xs : List Executed). fold (λ s y. after h.defs c.ty s y.deed) (first_state h p c) xs in
-    ap run (take_all (length (order ++ x ∷ [])) (order ++ x ∷ []) (omega arith))
-    ∙ fold-append (λ (s : State) (y : Executed). after h.defs c.ty s y.deed) (first_state h p c) order (x ∷ [])
-    ∙ ap (λ (xs : List Executed). after h.defs c.ty (run xs) x.deed) (sym (take_all (length order) order (omega arith)))
 
 of_sender-le : (s : Sender) (order : List Executed) → length (of_sender s order) ≤ length order
 of_sender-le s order =

@@ -1,6 +1,6 @@
 -- What a script's turns do to its standing.
-use Rattle.std.proofs.Common.{◌≡◌, ◌≢◌, inl, inr, ℕ, ◌+◌, ◌-◌, ◌<◌, ◌≤◌, ◌^◌, min, Bool, true, false, List, [], length, refl, sym, ap, ◌∙◌, subst, arith, length-append, Result, Ok, Err}
-use Rattle.std.specs.Prelude.{codes, MatchBool, OnOk, ◌==◌}
+use Rattle.std.proofs.Common.{◌≡◌, ◌≢◌, inl, inr, ℕ, ◌+◌, ◌-◌, ◌<◌, ◌≤◌, ◌^◌, min, Bool, true, false, List, [], length, refl, sym, ap, ◌∙◌, subst, arith, length-append}
+use Rattle.std.specs.Prelude.{codes, MatchBool, ◌==◌}
 use Rattle.std.proofs.lemmas.Grind.{common_steps}
 use Rattle.seam_io.specs.Lines.{Line, Content}
 use Rattle.seam_transcript.specs.Language.{IsSkipped, HasWords, Command, Create, Call, Sync, Says}
@@ -193,11 +193,6 @@ nothing_open h t s stands none =
     subst (λ (b : Bool). MatchBool b (◌≡◌ {A = List ℕ} [] []) ((next : Standing) × EndsRound h t t.book [] next)) (sym test) refl
 
 -- ---- answers
-
--- a fact of a success, by another one
-pub on_ok : {A E : Type 0} {P Q : Type 0} → (r : Result A E) → (P → Q) → OnOk r P → OnOk r Q
-on_ok (Ok x) f h = f h
-on_ok (Err e) f h = h
 
 -- the script awaits the verdict of a command on the line that it counted
 pub awaits : (h : Header) (t : Standing) (c : Command) (v : Verdict) (old new : Script) → ScriptStands h t old → t.lines < 2 ^ 61 → Judged h t.book c t.orders new.table v

@@ -1,5 +1,5 @@
 -- What the table of entities holds, beside the book and the orders of a transcript.
-use Rattle.std.specs.Prelude.{◌≡◌, ℕ, ◌+◌, ◌<◌, ◌≤◌, ◌^◌, ◌&&◌, List, [], ◌∷◌, ◌++◌, length, fold, ◌==◌, Some, None, MatchOption, IfSome, slice_index, slice_set, min, ◌-◌, ◌≢◌, if◌then◌else◌}
+use Rattle.std.specs.Prelude.{◌≡◌, ℕ, ◌+◌, ◌<◌, ◌≤◌, ◌^◌, List, [], ◌∷◌, ◌++◌, length, Some, None, MatchOption, IfSome, slice_index, slice_set, min, ◌-◌, ◌≢◌}
 use Rattle.std.specs.Ordering.{nat_cmp}
 use Rattle.std.specs.BTreeMap.{get, btree_map_len, IsOrdered}
 use Rattle.seam_geo.specs.declared.pos.Pos.{Pos}
@@ -15,7 +15,7 @@ use Rattle.seam_transcript.specs.declared.sender.Sender.{Sender}
 use Rattle.seam_transcript.specs.declared.sender.Sender.TheVariants.{Base}
 use Rattle.seam_transcript.specs.declared.executed.Executed.{Executed}
 use Rattle.seam_transcript.specs.Language.{Command}
-use Rattle.seam_transcript.specs.Book.{Header, Book, Created, Called, created_as, same_part, Accepts, IsBuilt}
+use Rattle.seam_transcript.specs.Book.{Header, Book, Created, created_as, Accepts, IsBuilt}
 use Rattle.seam_transcript.specs.Orders.{Orders, of_sender}
 use Rattle.seam_transcript.specs.Sequence.{sequence}
 use Rattle.seam_transcript.specs.FlatTable.{flat}

@@ -2,8 +2,9 @@ use Rattle.std.proofs.Common.{◌∙◌, [], refl, sym, subst, append-nil}
 use Rattle.seam_transcript.specs.Book.{empty_header}
 use Rattle.seam_transcript.specs.Transcript.{with_book}
 use Rattle.seam_world.specs.Script.{AwaitsVerdict}
-use Rattle.seam_world.proofs.ScriptLemmas.{on_ok, kept_ready, kept_last, kept_open}
+use Rattle.seam_world.proofs.ScriptLemmas.{kept_ready, kept_last, kept_open}
 use Rattle.seam_world.proofs.script.Script.judged.Goals as goal
+use Rattle.seam_transcript.proofs.PlainLemmas.{on_ok}
 
 pub returns-then-self-eq-MOST_LINES : goal.returns-then-self-eq-MOST_LINES
 returns-then-self-eq-MOST_LINES c = on_ok c.end_round.result

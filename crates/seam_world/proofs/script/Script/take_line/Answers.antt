@@ -6,8 +6,9 @@ use Rattle.seam_words.specs.Numbers.{number_of}
 use Rattle.seam_transcript.specs.Language.{Create, Call}
 use Rattle.seam_transcript.specs.Book.{empty_header}
 use Rattle.seam_transcript.specs.Transcript.{counted, refusal}
-use Rattle.seam_world.proofs.ScriptLemmas.{on_ok, counted_ready, counted_stands, not_taken, synced, commanded, awaits, refusal_is}
+use Rattle.seam_world.proofs.ScriptLemmas.{counted_ready, counted_stands, not_taken, synced, commanded, awaits, refusal_is}
 use Rattle.seam_world.proofs.script.Script.take_line.Goals as goal
+use Rattle.seam_transcript.proofs.PlainLemmas.{on_ok}
 
 pub returns-in-Skipped : goal.returns-in-Skipped
 returns-in-Skipped c = λ t stands few. (
