@@ -57,9 +57,9 @@ created_as b e = find (λ c. c.entity == e) b.created
 abbrev pub sender_text : Sender → List ℕ
 sender_text (Base n) = 98 ∷ decimal_of n
 
--- the sender is a base node of the world
-abbrev pub IsSender : Header → Sender → Type 0
-IsSender h (Base n) = (1 ≤ n) × (n ≤ h.settings.bases)
+-- the sender is one of so many base nodes
+abbrev pub IsSender : ℕ → Sender → Type 0
+IsSender bases (Base n) = (1 ≤ n) × (n ≤ bases)
 
 -- So far calls are built for methods of the cell part that have one argument, a number of 32 bits with a sign.
 pub record IsBuilt (defs : List TypeDef) (ty m : ℕ) : Type 0 where
@@ -81,7 +81,7 @@ pub record MayCreate (h : Header) (b : Book) (e : ℕ) (type_name : List ℕ) (p
 -- a call is accepted: the name is that of a sender, the entity was created, its type has a method of the name, whose calls
 -- are built, and the argument is the spelling of a value that fits
 pub record MayCall (h : Header) (b : Book) (sender_name : List ℕ) (e : ℕ) (method_name argument : List ℕ) (s : Sender) (c : Created) (m : ℕ) (v : Value) : Type 0 where
-  pub sender : IsSender h s
+  pub sender : IsSender h.settings.bases s
   pub known_as : sender_text s ≡ sender_name
   pub entity : created_as b e ≡ Some c
   pub built : IsBuilt h.defs c.ty m

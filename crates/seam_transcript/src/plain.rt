@@ -3,7 +3,6 @@ ghost use Rattle.std.specs.Prelude.{◌≡◌, ◌==◌, ◌&&◌, ◌<◌, ◌�
 ghost use Rattle.std.specs.List.{flat_map};
 ghost use Rattle.std.specs.List.{cons_option};
 ghost use Rattle.std.specs.List.Sorted.{IsStrictlyIncreasing};
-ghost use Rattle.seam_transcript.specs.Book.{same_part as parts_are_same, same_sender as senders_are_same};
 ghost use Rattle.seam_transcript.specs.FlatTable.{flat};
 ghost use Rattle.seam_transcript.specs.Orders.{of_sender};
 ghost use Rattle.seam_transcript.specs.Round.{executed_line, IsRound};
@@ -105,39 +104,14 @@ impl Taken {
     fn is_for(&self, part: Part, entity: u32) -> bool
         ensures { result ≡ is_for part entity self.now }
     {
-        self.entity == entity && same_part(self.part, part)
+        self.entity == entity && self.part == part
     }
 
     // Whether it is also from a sender.
     fn is_from(&self, part: Part, entity: u32, sender: Sender) -> bool
         ensures { result ≡ is_from part entity sender self.now }
     {
-        self.entity == entity && same_part(self.part, part) && same_sender(self.sender, sender)
-    }
-}
-
-fn same_part(a: Part, b: Part) -> bool
-    ensures { result ≡ parts_are_same a b }
-{
-    match a {
-        Part::Cell => match b {
-            Part::Cell => true,
-            Part::Base => false,
-        },
-        Part::Base => match b {
-            Part::Cell => false,
-            Part::Base => true,
-        },
-    }
-}
-
-fn same_sender(a: Sender, b: Sender) -> bool
-    ensures { result ≡ senders_are_same a b }
-{
-    match a {
-        Sender::Base(m) => match b {
-            Sender::Base(n) => m == n,
-        },
+        self.entity == entity && self.part == part && self.sender == sender
     }
 }
 

@@ -13,9 +13,9 @@ use Rattle.seam_defs.specs.declared.types.TypeDef.{TypeDef}
 use Rattle.seam_defs.specs.declared.types.Method.{Method}
 use Rattle.seam_transcript.specs.declared.sender.Sender.{Sender}
 use Rattle.seam_transcript.specs.declared.sender.Sender.TheVariants.{Base}
-use Rattle.seam_transcript.specs.Book.{Header, Book, Created, created_as, sender_text, IsBuilt}
+use Rattle.seam_transcript.specs.Book.{Header, Book, Created, created_as, sender_text, IsSender, IsBuilt}
 use Rattle.seam_transcript.specs.Orders.{Orders}
-use Rattle.seam_world.specs.Table.{TableStands, EntityStands, HasMethod, IsAmong}
+use Rattle.seam_world.specs.Table.{TableStands, EntityStands, HasMethod}
 use Rattle.seam_world.specs.declared.table.Entity.{Entity}
 use Rattle.seam_world.specs.declared.table.Table.{Table}
 
@@ -37,10 +37,10 @@ behind-first name m n is number =
     decimal_of-injective m n (number ∙ rest)
 
 -- a number outside the base nodes names none of them
-pub no_node : (bases m : ℕ) (name : List ℕ) (s : Sender) → (IsAmong bases (Base m) → ⊥) → decimal_of m ≡ take (length name - 1) (drop 1 name)
-    → IsAmong bases s → sender_text s ≡ name → ⊥
+pub no_node : (bases m : ℕ) (name : List ℕ) (s : Sender) → (IsSender bases (Base m) → ⊥) → decimal_of m ≡ take (length name - 1) (drop 1 name)
+    → IsSender bases s → sender_text s ≡ name → ⊥
 no_node bases m name (Base n) outside number among is =
-    outside (subst (λ (k : ℕ). IsAmong bases (Base k)) (sym (behind-first name m n is number)) among)
+    outside (subst (λ (k : ℕ). IsSender bases (Base k)) (sym (behind-first name m n is number)) among)
 
 -- ---- entities and methods
 

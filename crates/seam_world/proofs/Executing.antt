@@ -15,14 +15,14 @@ use Rattle.seam_transcript.specs.declared.executed.Executed.{Executed}
 use Rattle.seam_transcript.specs.Book.{Header, Book, Created, Called, created_as, with_call, same_part}
 use Rattle.seam_transcript.specs.Orders.{Orders}
 use Rattle.seam_transcript.specs.Language.{Call}
-use Rattle.seam_transcript.specs.Book.{Accepts, sender_text}
+use Rattle.seam_transcript.specs.Book.{Accepts, sender_text, IsSender}
 use Rattle.seam_value.specs.Values.{Fits, text_of}
 use Rattle.seam_value.specs.declared.types.ValueType.TheVariants as type
 use Rattle.seam_value.specs.declared.values.Value.{Value}
 use Rattle.seam_defs.specs.declared.states.Deed.TheVariants.{Method}
 use Rattle.seam_defs.specs.declared.settings.Settings.{Settings}
 use Rattle.seam_transcript.specs.Sequence.{next_executed, sequence}
-use Rattle.seam_world.specs.Table.{HasMethod, IsAmong, TableStands, EntityStands, PartStands, Executes, ExecutesOn}
+use Rattle.seam_world.specs.Table.{HasMethod, TableStands, EntityStands, PartStands, Executes, ExecutesOn}
 use Rattle.seam_world.specs.declared.table.Entity.{Entity}
 use Rattle.seam_world.specs.declared.table.Table.{Table}
 use Rattle.seam_world.proofs.Writing.{same, differ}
@@ -147,7 +147,7 @@ called-stands h b before old new e n d c stands is least most small step =
 -- an accepted call, and what is left
 pub accepted-call : (h : Header) (b : Book) (before : Orders) (old new : Table) (who : List ℕ) (e : ℕ) (name argument : List ℕ) (s : Sender) (m : ℕ) (v : Value) (args : List Value)
     → TableStands h b before old → length b.calls < 2 ^ 61 → h.settings.bases ≤ 8
-    → (old.settings.bases ≤ 8 → IsAmong old.settings.bases s × (sender_text s ≡ who))
+    → (old.settings.bases ≤ 8 → IsSender old.settings.bases s × (sender_text s ≡ who))
     → (c : Created) × HasMethod h b e name c m → Fits v type.Int32 → text_of v ≡ argument → args ≡ v ∷ []
     → ExecutesOn old new e s (Method m args) → (next : Book) × Accepts h b (Call who e name argument) next × TableStands h next before new
 accepted-call h b before old new who e name argument (Base n) m v args stands small few sender (c, has) fits spelled args_are step =

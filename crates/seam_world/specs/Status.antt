@@ -22,16 +22,6 @@ IsHeaderEnd status.WriteFault = ⊥
 IsHeaderEnd status.Limit = Unit {0}
 IsHeaderEnd status.NoMemory = ⊥
 
--- the statuses that a text may end a run with
-abbrev pub IsPrintEnd : Status → Type 0
-IsPrintEnd status.Done = ⊥
-IsPrintEnd status.Usage = ⊥
-IsPrintEnd (status.BadHeader k) = ⊥
-IsPrintEnd status.ReadFault = ⊥
-IsPrintEnd status.WriteFault = Unit {0}
-IsPrintEnd status.Limit = ⊥
-IsPrintEnd status.NoMemory = Unit {0}
-
 -- the statuses that a run without words may end with
 abbrev pub IsRunEnd : Status → Type 0
 IsRunEnd status.Done = Unit {0}

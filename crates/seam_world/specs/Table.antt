@@ -123,10 +123,6 @@ pub record ExecutesOn (old new : Table) (e : ℕ) (sender : Sender) (deed : Deed
   pub here : IfSome (get nat_cmp old.entities e) (λ v. (w : Entity) × (get nat_cmp new.entities e ≡ Some w)
       × (w.ty ≡ v.ty) × (w.base ≡ v.base) × Executes old.defs v.ty sender deed v.cell w.cell)
 
--- the sender is one of so many base nodes
-abbrev pub IsAmong : ℕ → Sender → Type 0
-IsAmong bases (Base n) = (1 ≤ n) × (n ≤ bases)
-
 -- a part forgets the calls that it executed in the open round, and nothing else
 pub record ForgetsDone (old new : PartState) : Type 0 where
   pub state : new.state ≡ old.state

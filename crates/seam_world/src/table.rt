@@ -5,11 +5,11 @@ ghost use Rattle.seam_defs.specs.Groups.{held_by};
 ghost use Rattle.seam_defs.specs.Types.{type_of, method_of};
 ghost use Rattle.seam_value.specs.Values.{decimal_of};
 ghost use Rattle.seam_transcript.specs.Language.{Create, Call};
-ghost use Rattle.seam_transcript.specs.Book.{Header, Book, Created, empty_book, closed, sender_text, IsBuilt, MayCreate};
+ghost use Rattle.seam_transcript.specs.Book.{Header, Book, Created, empty_book, closed, sender_text, IsSender, IsBuilt, MayCreate};
 ghost use Rattle.seam_transcript.specs.Orders.{Orders, no_orders, of_sender};
 ghost use Rattle.seam_transcript.specs.declared.sender.Sender.{Sender as Senders};
 ghost use Rattle.seam_transcript.specs.Sequence.{sequence};
-ghost use Rattle.seam_world.specs.Table.{TableStands, Judged, HasRoom, IsNew, start_of, HasMethod, Executes, ExecutesOn, Counts, IsAmong, StartsRound};
+ghost use Rattle.seam_world.specs.Table.{TableStands, Judged, HasRoom, IsNew, start_of, HasMethod, Executes, ExecutesOn, Counts, StartsRound};
 
 use seam_defs::{Args, Deed, Defs, Part, Settings, State};
 use seam_geo::Pos;
@@ -309,8 +309,8 @@ impl Table {
 // The sender of this name: `b`, and the number of a base node from 1 on.
 fn sender_named(alloc: Global, name: &[u8], bases: u32) -> Option<Sender>
     ensures { bases ≤ 8 → MatchOption result
-        ((s : Senders) → IsAmong bases s → sender_text s ≢ name.now)
-        (λ s. IsAmong bases s × (sender_text s ≡ name.now)) }
+        ((s : Senders) → IsSender bases s → sender_text s ≢ name.now)
+        (λ s. IsSender bases s × (sender_text s ≡ name.now)) }
 {
     match name {
         [b'b', number @ ..] => match whole_number(alloc, number) {
