@@ -3,4 +3,7 @@ pub mod Skips
 pub mod WordTables
 pub mod Sequences
 pub mod PlainLemmas
+pub mod PlainTurns
+pub mod NamingLemmas
+pub mod Commands
 pub mod Rows

@@ -5,15 +5,13 @@ use Rattle.std.specs.List.{flat_map}
 use Rattle.std.proofs.lemmas.List.{length-map, take_all, take_more, take-append-drop}
 use Rattle.std.proofs.lemmas.List.Elements.{filter-append, filter_map-append}
 use Rattle.std.proofs.lemmas.List.Sums.{fold-append, length-filter, count_by-le-length}
-use Rattle.std.specs.Prelude.{Contains, is_some, cond, All}
+use Rattle.std.specs.Prelude.{Contains, is_some, cond, All, MatchOption}
 use Rattle.std.specs.List.{cons_option}
 use Rattle.std.proofs.lemmas.Option.{same_Some}
 use Rattle.std.proofs.lemmas.List.Elements.{All-cons, All-nil}
 use Rattle.std.proofs.lemmas.List.Kept.{IsStrictlyIncreasing-filter}
-use Rattle.seam_defs.specs.declared.types.TypeDef.{TypeDef}
-use Rattle.seam_transcript.specs.Round.{IsRound, ListsLive}
-use Rattle.seam_transcript.specs.Plain.{live_of, round_text, header_of}
-use Rattle.seam_transcript.proofs.Sequences.{full-legal}
+use Rattle.seam_transcript.specs.Round.{Lists}
+use Rattle.seam_transcript.specs.Plain.{live_of}
 use Rattle.std.specs.Ordering.{nat_cmp}
 use Rattle.std.specs.List.Sorted.{IsStrictlyIncreasing, IsPermutation, IsSorted}
 use Rattle.std.specs.List.Retain.{IsFiltered, DiffersFromLast}
@@ -137,6 +135,13 @@ pub on_ok : {A E : Type 0} {P Q : Type 0} → (r : Result A E) → (P → Q) →
 on_ok (Ok x) f h = f h
 on_ok (Err e) f h = h
 
+-- what is told of an option that is there, and of one that is not
+pub match-some : {A : Type 0} (N : Type 0) (P : A → Type 0) (o : Option A) (a : A) → o ≡ Some a → MatchOption o N P → P a
+match-some {A} N P o a is h = subst (λ (x : Option A). MatchOption x N P) is h
+
+pub match-none : {A : Type 0} (N : Type 0) (P : A → Type 0) (o : Option A) → o ≡ None → MatchOption o N P → N
+match-none {A} N P o is h = subst (λ (x : Option A). MatchOption x N P) is h
+
 -- ---- the live entities
 
 -- numbers that were sorted, of which each was kept once
@@ -164,7 +169,7 @@ contains-behind None x xs has = has
 contains-behind (Some y) x xs has = contains-there y x xs has
 
 -- what made an entity has its number
-found-entity : (created : List Created) (e : ℕ) (c : Created) → find (λ d. d.entity == e) created ≡ Some c → c.entity ≡ e
+pub found-entity : (created : List Created) (e : ℕ) (c : Created) → find (λ d. d.entity == e) created ≡ Some c → c.entity ≡ e
 found-entity [] e c is = cc
 found-entity (x ∷ xs) e c is = cases (x.entity == e) refl (found-entity xs e c) is
   where
@@ -213,13 +218,14 @@ live-numbers created (e ∷ es) = cases (find (λ d. d.entity == e) created) ref
     cases None is again = again
     cases (Some c) is again = ap (λ (k : ℕ). k ∷ map (λ c. c.entity) (live_of created es)) (found-entity created e c is) ∙ ap (λ (ks : List ℕ). e ∷ ks) again
 
-lists-live : (created : List Created) (calls : List Called) (open_lines : ℕ) (numbers : List ℕ) → IsStrictlyIncreasing numbers → ((e : ℕ) → Contains (map (λ c. c.entity) created) e → Contains numbers e)
-    → ListsLive (record { created = created; calls = calls; open_lines = open_lines }) (live_of created numbers)
-lists-live created calls open_lines numbers rising all = record {
-  rising = subst IsStrictlyIncreasing (sym (live-numbers created numbers)) (IsStrictlyIncreasing-filter (λ e. is_some (find (λ d. d.entity == e) created)) numbers rising);
+-- the live entities of numbers that rise, among which are those of all that were created
+pub lists-live : (created : List Created) (numbers : List ℕ) → IsStrictlyIncreasing numbers × ((e : ℕ) → Contains (map (λ c. c.entity) created) e → Contains numbers e)
+    → Lists (λ e. find (λ c. c.entity == e) created) (live_of created numbers)
+lists-live created numbers rise = record {
+  rising = subst IsStrictlyIncreasing (sym (live-numbers created numbers)) (IsStrictlyIncreasing-filter (λ e. is_some (find (λ d. d.entity == e) created)) numbers rise.0);
   exact = λ c. (
     (λ (k, within, is). subst (λ (x : Created). find (λ d. d.entity == x.entity) created ≡ Some x) is (live-made created numbers k c within)),
-    (λ is. live-has created numbers c.entity c (all c.entity (found-among created c.entity c is)) is),
+    (λ is. live-has created numbers c.entity c (rise.1 c.entity (found-among created c.entity c is)) is),
   );
 }
 
@@ -229,19 +235,3 @@ pub live-more : (created : List Created) (numbers : List ℕ) (i d : ℕ) → i 
 live-more created numbers i d within =
     ap (live_of created) (take_more numbers i d within)
     ∙ filter_map-append (λ e. find (λ c. c.entity == e) created) (take i numbers) (get_or numbers i d ∷ [])
-
--- the text is legal
-pub plain-round : (defs : List TypeDef) (number : ℕ) (created live : List Created) (calls : List Called) (before open_lines : ℕ) (numbers : List ℕ) → live ≡ live_of created numbers
-    → IsStrictlyIncreasing numbers × ((e : ℕ) → Contains (map (λ c. c.entity) created) e → Contains numbers e)
-    → IsRound (header_of defs) number (record { created = created; calls = calls; open_lines = open_lines }) (sequence (take before calls)) (sequence calls) (round_text defs number live calls before)
-plain-round defs number created live calls before open_lines numbers is rise =
-    let b : Book = record { created = created; calls = calls; open_lines = open_lines } in
-    record {
-      round = record { live = live; done = done_since before calls; home = λ e. 0 };
-      form = refl;
-      goes_on = λ p e. sequence-since before calls p e;
-      legal = λ p e. full-legal b p e (sequence calls p e) (sequence-full b p e);
-      full = λ p e. sequence-full b p e;
-      listed = subst (ListsLive b) (sym is) (lists-live created calls open_lines numbers rise.0 rise.1);
-      homes = λ e. refl;
-    }

@@ -1,25 +1,30 @@
 -- Small inputs.
-use Rattle.std.proofs.Common.{◌≡◌, ℕ, false, List, [], ◌∷◌, length, get_or, refl, sym, ap, subst, inl, inr, arith, rules, lit≤}
+use Rattle.std.proofs.Common.{◌≡◌, ℕ, ◌+◌, false, List, [], ◌∷◌, length, get_or, refl, sym, ap, subst, inl, inr, arith, rules, lit≤}
 use Rattle.std.specs.Prelude.{codes}
 use Rattle.std.proofs.lemmas.Bool.{false≢true}
 use Rattle.std.proofs.lemmas.Str.{IsUtf8-from_ascii}
 use Rattle.seam_value.specs.Values.{decimal_of}
 use Rattle.seam_words.specs.Words.{IsGap}
-use Rattle.seam_io.specs.Lines.{Content, lines_of}
+use Rattle.seam_io.specs.Lines.{Content, Long, lines_of}
 use Rattle.seam_transcript.specs.Language.{IsSkipped, HasWords, Command, Create, Call, Sync, Says}
-use Rattle.seam_transcript.specs.Book.{Header, empty_header}
-use Rattle.seam_transcript.specs.Transcript.{Standing, start, separator, counted, refusal, Step, IsEnded}
+use Rattle.seam_transcript.specs.Book.{Header, Book, empty_header, Accepts, Verdict, Refused, TooLong, NoCommand}
+use Rattle.seam_transcript.specs.Standing.{Standing, behind_header, counted}
+use Rattle.seam_transcript.specs.Transcript.{separator, refusal, Takes, Step, IsEnded}
 
 separator-alone : lines_of (codes "%%\n") ≡ separator ∷ []
 unfolding lines_of
 separator-alone = refl
 
 pub empty-world : IsEnded empty_header (lines_of (codes "%%\n")) []
-empty-world = ([], start, [], [], separator-alone, (refl, refl), refl, refl)
+empty-world = ([], [], behind_header 1, record { count = 1; rest = []; header = (refl, separator-alone); run = (refl, refl) }, refl, refl)
 
-pub unknown-command : (h : Header) (s : Standing) (line : List ℕ) (words : List (List ℕ)) → ¬ (IsSkipped line) → HasWords line words → ((c : Command) → ¬ (Says words c))
+pub unknown-command : (h : Header) (s : Standing) (line : List ℕ) (words : List (List ℕ)) → ¬ (IsSkipped line) → HasWords line words
+    → ((c : Command) (next : Book) → Says words c → ¬ (Accepts h s.book c next))
     → Step h s (Content line) (refusal (counted s).lines (codes "command")) (counted s)
-unknown-command h s line words not has none = inr (inr (not, (words, has, inr (none, (refl, refl)))))
+unknown-command h s line words not has none = (Refused NoCommand, inr (not, (words, has, none)), (refl, refl))
+
+pub long-line : (h : Header) (s t : Standing) (text : List ℕ) → Step h s Long text t → (text ≡ refusal (s.lines + 1) (codes "long")) × (t ≡ counted s)
+long-line h s t text step = subst (λ (v : Verdict). Takes h (counted s) v text t) step.1 step.2
 
 -- ---- a line of one word that is no command
 
@@ -63,20 +68,23 @@ no-command Sync says = let first = ap (λ (ws : List (List ℕ)). get_or (get_or
 
 pub one-unknown : IsEnded empty_header (lines_of (codes "%%\ntick\n")) (codes "line 2 command\n")
 one-unknown = (
-  Content (codes "tick") ∷ [],
-  counted start,
   codes "line 2 command\n",
   [],
-  two-lines,
-  (
-    codes "line 2 command\n",
-    [],
-    counted start,
-    refl,
-    subst (λ (text : List ℕ). Step empty_header start (Content (codes "tick")) text (counted start)) second-line
-        (unknown-command empty_header start (codes "tick") (codes "tick" ∷ []) not-skipped one-word no-command),
-    (refl, refl),
-  ),
+  counted (behind_header 1),
+  record {
+    count = 1;
+    rest = Content (codes "tick") ∷ [];
+    header = (refl, two-lines);
+    run = (
+      codes "line 2 command\n",
+      [],
+      counted (behind_header 1),
+      refl,
+      subst (λ (text : List ℕ). Step empty_header (behind_header 1) (Content (codes "tick")) text (counted (behind_header 1))) second-line
+          (unknown-command empty_header (behind_header 1) (codes "tick") (codes "tick" ∷ []) not-skipped one-word (λ c next says. absurd (no-command c says))),
+      (refl, refl),
+    );
+  },
   refl,
   refl,
 )

@@ -1,10 +1,15 @@
 -- The book of what was accepted: which commands it takes, and what it then holds.
-use Rattle.std.specs.Prelude.{◌≡◌, ℕ, ◌+◌, ◌<◌, ◌≤◌, Bool, true, false, ◌&&◌, List, [], ◌∷◌, ◌++◌, length, map, filter, find, ◌==◌, Option, Some, None}
+use Rattle.std.specs.Prelude.{◌≡◌, ◌⊎◌, ℕ, ◌+◌, ◌<◌, ◌≤◌, Bool, true, false, ◌&&◌, List, [], ◌∷◌, ◌++◌, codes, length, map, filter, find, ◌==◌, Option, Some, None}
 use Rattle.seam_geo.specs.declared.pos.Pos.{Pos}
-use Rattle.seam_value.specs.Values.{Fits, text_of, decimal_of}
+use Rattle.seam_io.specs.Lines.{Line, Content, Long}
+use Rattle.seam_words.specs.Faults.{Refuses}
+use Rattle.seam_words.specs.Numbers.{number_of}
+use Rattle.seam_words.specs.declared.words.WordsError.{WordsError}
+use Rattle.seam_value.specs.Values.{text_of, decimal_of}
 use Rattle.seam_value.specs.declared.types.ValueType.TheVariants as type
 use Rattle.seam_value.specs.declared.values.Value.{Value}
 use Rattle.seam_defs.specs.Types.{type_of, method_of}
+use Rattle.seam_defs.specs.Deeds.{TakesArgs, part_of_deed}
 use Rattle.seam_defs.specs.Settings.{standard}
 use Rattle.seam_defs.specs.Builtin.{builtin}
 use Rattle.seam_defs.specs.declared.settings.Settings.{Settings}
@@ -15,7 +20,7 @@ use Rattle.seam_defs.specs.declared.states.Deed.{Deed}
 use Rattle.seam_defs.specs.declared.states.Deed.TheVariants.{Method}
 use Rattle.seam_transcript.specs.declared.sender.Sender.{Sender}
 use Rattle.seam_transcript.specs.declared.sender.Sender.TheVariants.{Base}
-use Rattle.seam_transcript.specs.Language.{Command, Create, Call, Sync}
+use Rattle.seam_transcript.specs.Language.{IsSkipped, HasWords, Command, Create, Call, Sync, Says}
 
 -- what a header sets: the settings of the world, and the types of its entities
 pub record Header : Type 0 where
@@ -67,49 +72,96 @@ pub record IsBuilt (defs : List TypeDef) (ty m : ℕ) : Type 0 where
   pub on_cell : (method_of defs ty m).part ≡ part.Cell
   pub args : (method_of defs ty m).args ≡ type.Int32 ∷ []
 
--- a `create` is accepted: the number is new, there is room, the type has the name and takes calls that are built, and the
--- position is in the space
+-- a type is taken: it has the name, and takes calls that are built
+pub record MayBe (defs : List TypeDef) (type_name : List ℕ) (ty : ℕ) : Type 0 where
+  pub has : ty < length defs
+  pub named : (type_of defs ty).name ≡ type_name
+  pub takes_calls : (m : ℕ) × IsBuilt defs ty m
+
+-- a `create` is accepted: the number is new, there is room, the type is taken, and the position is in the space
 pub record MayCreate (h : Header) (b : Book) (e : ℕ) (type_name : List ℕ) (pos : Pos) (ty : ℕ) : Type 0 where
   pub is_new : created_as b e ≡ None
   pub room : length b.created < 65536
-  pub has : ty < length h.defs
-  pub named : (type_of h.defs ty).name ≡ type_name
-  pub takes_calls : (m : ℕ) × IsBuilt h.defs ty m
+  pub type_ : MayBe h.defs type_name ty
   pub in_x : pos.x < h.settings.size
   pub in_z : pos.z < h.settings.size
 
--- a call is accepted: the name is that of a sender, the entity was created, its type has a method of the name, whose calls
--- are built, and the argument is the spelling of a value that fits
-pub record MayCall (h : Header) (b : Book) (sender_name : List ℕ) (e : ℕ) (method_name argument : List ℕ) (s : Sender) (c : Created) (m : ℕ) (v : Value) : Type 0 where
+-- a call is taken from a sender to an entity: the name is that of a sender of the world, and the entity was created
+pub record MaySend (h : Header) (b : Book) (sender_name : List ℕ) (e : ℕ) (s : Sender) (c : Created) : Type 0 where
   pub sender : IsSender h.settings.bases s
   pub known_as : sender_text s ≡ sender_name
   pub entity : created_as b e ≡ Some c
-  pub built : IsBuilt h.defs c.ty m
-  pub named : (method_of h.defs c.ty m).name ≡ method_name
-  pub fits : Fits v type.Int32
-  pub spelled : text_of v ≡ argument
+
+-- a call of a type's method is taken: the method has the name, its calls are built, and the argument is the spelling of what
+-- it takes
+pub record MayCall (defs : List TypeDef) (ty : ℕ) (method_name argument : List ℕ) (m : ℕ) (args : List Value) : Type 0 where
+  pub built : IsBuilt defs ty m
+  pub named : (method_of defs ty m).name ≡ method_name
+  pub takes : TakesArgs (method_of defs ty m).args args
+  pub spelled : map text_of args ≡ argument ∷ []
+
+-- the call that is accepted
+abbrev pub call_of : List TypeDef → Created → Sender → Deed → Called
+call_of defs c s deed = record { entity = c.entity; part = part_of_deed defs c.ty deed; sender = s; deed = deed }
 
 -- an entity was created
 abbrev pub with_create : Book → Created → Book
-with_create b c = record { created = b.created ++ c ∷ []; calls = b.calls; open_lines = b.open_lines + 1 }
+with_create b c = record b { created = b.created ++ c ∷ []; open_lines = b.open_lines + 1 }
 
 -- a call was accepted
 abbrev pub with_call : Book → Called → Book
-with_call b c = record { created = b.created; calls = b.calls ++ c ∷ []; open_lines = b.open_lines + 1 }
+with_call b c = record b { calls = b.calls ++ c ∷ []; open_lines = b.open_lines + 1 }
 
 -- a round ended
 abbrev pub closed : Book → Book
-closed b = record { created = b.created; calls = b.calls; open_lines = 0 }
+closed b = record b { open_lines = 0 }
 
--- a command other than `sync` is accepted, and the book is then this one
+-- a command is accepted, and the book is then this one; `sync` is always accepted, and adds nothing
 abbrev pub Accepts : Header → Book → Command → Book → Type 0
 Accepts h b (Create e type_name x z) next =
     let pos : Pos = record { x = x; z = z } in
     (ty : ℕ) × MayCreate h b e type_name pos ty × (next ≡ with_create b (record { entity = e; ty = ty; pos = pos }))
 Accepts h b (Call sender_name e method_name argument) next =
-    (s : Sender) × (c : Created) × (m : ℕ) × (v : Value) × MayCall h b sender_name e method_name argument s c m v
-    × (next ≡ with_call b (record { entity = e; part = part.Cell; sender = s; deed = Method m (v ∷ []) }))
-Accepts h b Sync next = ⊥
+    (s : Sender) × (c : Created) × (m : ℕ) × (args : List Value) × MaySend h b sender_name e s c
+    × MayCall h.defs c.ty method_name argument m args × (next ≡ with_call b (call_of h.defs c s (Method m args)))
+Accepts h b Sync next = next ≡ b
+
+-- ---- the verdict on a line
+
+-- why a line is refused: it is too long, its words are at fault, or it is no command that is accepted
+pub data Cause : Type 0 where
+  TooLong : Cause
+  BadWords : WordsError → Cause
+  NoCommand : Cause
+
+-- how a cause is written
+abbrev pub cause_text : Cause → List ℕ
+cause_text TooLong = codes "long"
+cause_text (BadWords error) = codes "words " ++ decimal_of (number_of error)
+cause_text NoCommand = codes "command"
+
+-- what becomes of a line: it is skipped, or refused, or its command is accepted and the book is then this one
+pub data Verdict : Type 0 where
+  Skipped : Verdict
+  Refused : Cause → Verdict
+  Accepted : Command → Book → Verdict
+
+-- the verdict on a line that has content and says something, which is neither skipped nor too long
+abbrev pub JudgesWords : Header → Book → List ℕ → Verdict → Type 0
+JudgesWords h b line Skipped = ⊥
+JudgesWords h b line (Refused TooLong) = ⊥
+JudgesWords h b line (Refused (BadWords error)) = Refuses line error
+JudgesWords h b line (Refused NoCommand) =
+    (words : List (List ℕ)) × HasWords line words × ((c : Command) (next : Book) → Says words c → ¬ (Accepts h b c next))
+JudgesWords h b line (Accepted c next) = (words : List (List ℕ)) × HasWords line words × Says words c × Accepts h b c next
+
+-- One line of the book. A line that is too long is refused, and one that says nothing is skipped. Of the others, one whose
+-- words are at fault is refused with the first fault, and one that says a command is accepted where the book accepts it.
+abbrev pub Judges : Header → Book → Line → Verdict → Type 0
+Judges h b Long v = v ≡ Refused TooLong
+Judges h b (Content line) v = (IsSkipped line × (v ≡ Skipped)) ⊎ ((¬ (IsSkipped line)) × JudgesWords h b line v)
+
+-- ---- what was accepted
 
 -- whether two parts are the same
 abbrev pub same_part : Part → Part → Bool

@@ -1,9 +1,11 @@
 pub mod Language
 pub mod Book
 pub mod Orders
+pub mod Standing
 pub mod Sequence
 pub mod FlatTable
 pub mod Round
 pub mod Transcript
 pub mod Said
 pub mod Plain
+pub mod PlainStands

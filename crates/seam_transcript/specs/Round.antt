@@ -1,5 +1,5 @@
 -- The text of a round, and which texts are legal.
-use Rattle.std.specs.Prelude.{◌≡◌, ◌↔◌, ℕ, List, [], ◌∷◌, ◌++◌, length, map, codes, Some, Contains}
+use Rattle.std.specs.Prelude.{◌≡◌, ◌↔◌, ℕ, ◌+◌, List, [], ◌∷◌, ◌++◌, length, map, codes, Option, Some, Contains}
 use Rattle.std.specs.List.{flat_map}
 use Rattle.std.specs.List.Sorted.{IsStrictlyIncreasing}
 use Rattle.seam_value.specs.Values.{decimal_of, text_of}
@@ -12,10 +12,11 @@ use Rattle.seam_defs.specs.declared.flags.Group.TheVariants as group
 use Rattle.seam_defs.specs.declared.states.Deed.{Deed}
 use Rattle.seam_defs.specs.declared.states.Deed.TheVariants.{Move, Method}
 use Rattle.seam_defs.specs.declared.states.State.{State}
-use Rattle.seam_transcript.specs.Book.{Header, Book, Created, created_as, sender_text}
+use Rattle.seam_transcript.specs.Book.{Header, Book, Created, created_as, sender_text, closed}
 use Rattle.seam_transcript.specs.declared.executed.Executed.{Executed}
 use Rattle.seam_transcript.specs.Orders.{Orders, IsLegal, IsFull}
 use Rattle.seam_transcript.specs.FlatTable.{flat}
+use Rattle.seam_transcript.specs.Standing.{Standing}
 
 -- ---- the text of each line
 
@@ -49,45 +50,56 @@ base_line defs entity ty version s =
 
 -- ---- what a legal text is made of
 
--- What a round is: the live entities, the calls that it executed, and the home of each entity.
+-- What a round is: the entities that were created, those of them that live at its end, the calls that it executed, and the
+-- home of each entity.
 pub record RoundData : Type 0 where
+  pub made : List Created
   pub live : List Created
   pub done : Orders
   pub home : ℕ → ℕ
 
--- the list has exactly the live entities, in rising number
-pub record ListsLive (b : Book) (live : List Created) : Type 0 where
-  pub rising : IsStrictlyIncreasing (map (λ c. c.entity) live)
-  pub exact : (c : Created) → Contains live c ↔ (created_as b c.entity ≡ Some c)
+-- the list has exactly these entities, in rising number
+pub record Lists (entities : ℕ → Option Created) (list : List Created) : Type 0 where
+  pub rising : IsStrictlyIncreasing (map (λ c. c.entity) list)
+  pub exact : (c : Created) → Contains list c ↔ (entities c.entity ≡ Some c)
+
+-- the entities that live: so far all that were created
+abbrev pub lives_as : Book → ℕ → Option Created
+lives_as b e = created_as b e
 
 -- the lines of the executed calls of a part: for each entity, in the order of execution
 abbrev pub executed_lines : List ℕ → Part → Header → RoundData → List ℕ
-executed_lines word p h r = flat_map (λ c. flat_map (executed_line word h.defs c.entity c.ty) (r.done p c.entity)) r.live
+executed_lines word p h r = flat_map (λ c. flat_map (executed_line word h.defs c.entity c.ty) (r.done p c.entity)) r.made
 
--- the lines of the homes: each entity's state after all calls of its order
+-- the lines of the homes: each live entity's state after all calls of its order
 abbrev pub home_lines : Header → Orders → RoundData → List ℕ
 home_lines h after r =
     flat_map (λ c. let order = after part.Cell c.entity in
     home_line h.defs c.entity c.ty (r.home c.entity) (length order) (flat h part.Cell c order (length order))) r.live
 
--- the lines of the base parts: each one's state after all calls of its order
+-- the lines of the base parts: each live one's state after all calls of its order
 abbrev pub base_lines : Header → Orders → RoundData → List ℕ
 base_lines h after r =
     flat_map (λ c. let order = after part.Base c.entity in
     base_line h.defs c.entity c.ty (length order) (flat h part.Base c order (length order))) r.live
 
--- The text is legal for round `number`. The orders were `before` when the round began, and are `after` at its end; `b` is the
--- book at its end.
-pub record IsRound (h : Header) (number : ℕ) (b : Book) (before after : Orders) (text : List ℕ) : Type 0 where
+-- The text is legal for the round that ends at the standing `s`, whose book has all lines of the round; `t` is the standing
+-- behind it.
+pub record IsRound (h : Header) (s : Standing) (text : List ℕ) (t : Standing) : Type 0 where
   pub round : RoundData
   -- one: the lines have their forms and their order
-  pub form : text ≡ number_line (codes "round ") number
+  pub form : text ≡ number_line (codes "round ") t.rounds
       ++ executed_lines (codes "did ") part.Cell h round ++ executed_lines (codes "dob ") part.Base h round
-      ++ home_lines h after round ++ base_lines h after round ++ number_line (codes "end ") number
+      ++ home_lines h t.orders round ++ base_lines h t.orders round ++ number_line (codes "end ") t.rounds
   -- two: the executed calls go on with each part's order, to a legal and full one
-  pub goes_on : (p : Part) (e : ℕ) → after p e ≡ before p e ++ round.done p e
-  pub legal : (p : Part) (e : ℕ) → IsLegal b p e (after p e)
-  pub full : (p : Part) (e : ℕ) → IsFull b p e (after p e)
+  pub made : Lists (created_as s.book) round.made
+  pub goes_on : (p : Part) (e : ℕ) → t.orders p e ≡ s.orders p e ++ round.done p e
+  pub legal : (p : Part) (e : ℕ) → IsLegal s.book p e (t.orders p e)
+  pub full : (p : Part) (e : ℕ) → IsFull s.book p e (t.orders p e)
   -- three and four: exactly the live entities have a home line and a base line; so far there is one cell
-  pub listed : ListsLive b round.live
+  pub live : Lists (lives_as s.book) round.live
   pub homes : (e : ℕ) → round.home e ≡ 0
+  -- the round is counted, and the next one begins with no line
+  pub lines : t.lines ≡ s.lines
+  pub book : t.book ≡ closed s.book
+  pub rounds : t.rounds ≡ s.rounds + 1

@@ -2,8 +2,9 @@
 ghost use Rattle.std.specs.Prelude.{◌≡◌, ◌+◌, ◌++◌, ◌∷◌, [], ℕ, List, codes};
 ghost use Rattle.seam_io.specs.Lines.{Long, Content, lines_of};
 ghost use Rattle.seam_transcript.specs.Language.{IsSkipped, HasWords, Command, Says};
-ghost use Rattle.seam_transcript.specs.Book.{Header, empty_header};
-ghost use Rattle.seam_transcript.specs.Transcript.{Standing, counted, refusal, Step, IsEnded};
+ghost use Rattle.seam_transcript.specs.Book.{Header, Book, empty_header, Accepts};
+ghost use Rattle.seam_transcript.specs.Standing.{Standing, counted};
+ghost use Rattle.seam_transcript.specs.Transcript.{refusal, Step, IsEnded};
 
 /// The empty world: an input of the header's end alone has the empty text as an ended transcript.
 pub fn empty_world_prints_nothing()
@@ -15,10 +16,10 @@ pub fn long_line_is_refused()
     ensures { (h : Header) (s t : Standing) (text : List ℕ) → Step h s Long text t → (text ≡ refusal (s.lines + 1) (codes "long")) × (t ≡ counted s) }
 {}
 
-/// A line whose words are those of no command may be answered with its refusal.
+/// A line whose words say no command that the book accepts may be answered with its refusal.
 pub fn unknown_command_is_refused()
     ensures { (h : Header) (s : Standing) (line : List ℕ) (words : List (List ℕ)) → ¬ (IsSkipped line) → HasWords line words
-        → ((c : Command) → ¬ (Says words c)) → Step h s (Content line) (refusal (s.lines + 1) (codes "command")) (counted s) }
+        → ((c : Command) (next : Book) → Says words c → ¬ (Accepts h s.book c next)) → Step h s (Content line) (refusal (s.lines + 1) (codes "command")) (counted s) }
 {}
 
 /// A line whose one word is no command prints its number and the cause.

@@ -2,10 +2,13 @@
 //! them, and the words of the crates below that they use, has to believe nothing else of the server.
 #![tactic(auto)]
 
+mod accepted;
 mod command;
 mod executed;
 mod laws;
+mod naming;
 mod plain;
+mod plain_round;
 mod sender;
 mod text;
 
@@ -15,6 +18,7 @@ pub use laws::{
     empty_world_prints_nothing, long_line_is_refused, one_unknown_command,
     unknown_command_is_refused,
 };
-pub use plain::{Made, Taken, push_plain_round};
+pub use naming::{deed_named, sender_named, type_named};
+pub use plain::transcript_of;
 pub use sender::Sender;
 pub use text::{push_bad_words, push_base, push_executed, push_home, push_line, push_refusal};

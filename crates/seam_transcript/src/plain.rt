@@ -1,362 +1,290 @@
 // The plain program beside the definitions: it keeps what was accepted in plain lists, and computes each round anew.
-ghost use Rattle.std.specs.Prelude.{◌≡◌, ◌==◌, ◌&&◌, ◌<◌, ◌≤◌, ◌^◌, ◌+◌, ◌++◌, ◌∷◌, [], ◌↔◌, ℕ, List, find, filter, length, take, map, OnOk, IfOk, option_copied, Contains};
-ghost use Rattle.std.specs.List.{flat_map};
-ghost use Rattle.std.specs.List.{cons_option};
-ghost use Rattle.std.specs.List.Sorted.{IsStrictlyIncreasing};
-ghost use Rattle.seam_transcript.specs.FlatTable.{flat};
-ghost use Rattle.seam_transcript.specs.Orders.{of_sender};
-ghost use Rattle.seam_transcript.specs.Round.{executed_line, IsRound};
-ghost use Rattle.seam_transcript.specs.Sequence.{sequence};
-ghost use Rattle.seam_transcript.specs.Plain.{is_for, is_from, added, done_text, home_text, base_text, header_of, live_of as live_among, round_text};
+ghost use Rattle.std.specs.Prelude.{◌≡◌, ◌≢◌, ◌<◌, ◌≤◌, ◌^◌, ◌+◌, ◌++◌, ℕ, List, length, map, OnOk, IfOk, MatchOption, MatchBool};
+ghost use Rattle.std.specs.List.{slice_split};
+ghost use Rattle.std.specs.Str.Lines.{strip_carriage_return};
+ghost use Rattle.seam_io.specs.Lines.{Line, Content, is_feed, line_of, lines_of, lines_between};
+ghost use Rattle.seam_transcript.specs.Language.{Create, Call};
+ghost use Rattle.seam_transcript.specs.Book.{Book, empty_header, with_create, with_call, Accepts};
+ghost use Rattle.seam_transcript.specs.Standing.{Standing, behind_header, with_book};
+ghost use Rattle.seam_transcript.specs.Transcript.{Run, EndsInput, IsEnded, separator, BeginWithHeader};
+ghost use Rattle.seam_transcript.specs.Plain.{header_of};
+ghost use Rattle.seam_transcript.specs.PlainStands.{book_of, standing_of, MayEnd, PlainStands, HasCounted, HasAdded, opened, EndsRound, Keeps, TakesCounted, TakesText};
 
-use crate::{Sender, push_base, push_executed, push_home, push_line};
-use seam_defs::{Deed, Defs, Part, State};
+use crate::accepted::{Made, Taken};
+use crate::plain_round::{created_as, push_round};
+use crate::{
+    Said, deed_named, push_bad_words, push_refusal, read_line, sender_named, type_named,
+};
+use seam_defs::{Defs, Part, Settings};
 use seam_geo::Pos;
 use std::alloc::{AllocError, Global};
-use std::marker::Model;
 
-/// An accepted `create`.
+// The most entities of a world, and the most accepted lines of a round.
+const MOST_ENTITIES: usize = 65_536;
+const MOST_LINES: u32 = 65_536;
+
+// The most bytes of a line.
+const MOST_BYTES: usize = 4_096;
+
+/// Computes an ended transcript of an input whose header is empty: the one in which each call is executed as it was
+/// accepted. None where the input has no such header. It is slow, and there to be compared with.
+pub fn transcript_of(alloc: Global, input: &[u8]) -> Result<Option<Vec<u8>>, AllocError>
+    requires { length input.now ≤ 2 ^ 40 }
+    ensures { IfOk result (λ text. MatchOption text
+        ((count : ℕ) (rest : List Line) → ¬ (BeginWithHeader (lines_of input.now) count rest))
+        (λ t. IsEnded empty_header (lines_of input.now) t.items)) }
+{
+    let texts = texts_of(alloc, input)?;
+    match lines_among(&texts) {
+        [first, rest @ ..] => {
+            if ends_header(first) {
+                let defs = Defs::builtin(alloc)?;
+                Ok(Some(print_lines(alloc, &defs, rest)?))
+            } else {
+                Ok(None)
+            }
+        }
+        [] => Ok(None),
+    }
+}
+
+// What is printed for the lines behind an empty header.
+fn print_lines(alloc: Global, defs: &Defs, texts: &[&[u8]]) -> Result<Vec<u8>, AllocError>
+    requires { length texts.now ≤ 2 ^ 60 }
+    ensures { IfOk result (λ out. (front last : List ℕ) × (t : Standing)
+        × Run (header_of defs.now) (behind_header 1) (map (λ text. line_of text.now) texts.now) front t
+        × EndsInput (header_of defs.now) t last × (out.items ≡ front ++ last)) }
+{
+    let mut plain = Plain::new(alloc);
+    let mut out = Vec::new(alloc);
+    for text in texts {
+        plain.take(defs, text, &mut out)?;
+    }
+    plain.finish(defs, &mut out)?;
+    Ok(out)
+}
+
+// What was accepted, in plain lists, and what was counted.
 #[derive(Drop)]
-pub struct Made {
-    entity: u32,
-    ty: u16,
-    pos: Pos,
+struct Plain {
+    alloc: Global,
+    created: Vec<Made>,
+    calls: Vec<Taken>,
+    // how many lines the open round has, and how many of the calls were executed in the rounds before it
+    open_lines: u32,
+    executed: usize,
+    rounds: u64,
+    lines: u64,
 }
 
-impl Model for Made {
-    ghost use Rattle.seam_transcript.specs.Book.{Created};
-
-    ghost Value = { Created };
-
-    ghost view = { λ m. record { entity = m.entity; ty = m.ty; pos = m.pos } };
-}
-
-/// An accepted call.
-#[derive(Drop)]
-pub struct Taken {
-    entity: u32,
-    part: Part,
-    sender: Sender,
-    deed: Deed,
-}
-
-impl Model for Taken {
-    ghost use Rattle.seam_transcript.specs.Book.{Called};
-
-    ghost Value = { Called };
-
-    ghost view = { λ c. record { entity = c.entity; part = c.part; sender = c.sender; deed = c.deed } };
-}
-
-impl Made {
-    /// An entity of a type, with its first position.
-    pub fn new(entity: u32, ty: u16, pos: Pos) -> Self
-        ensures { result ≡ record { entity = entity; ty = ty; pos = pos } }
+impl Plain {
+    // Behind an empty header.
+    fn new(alloc: Global) -> Self
+        ensures stands { PlainStands result }
+        ensures start { standing_of result ≡ behind_header 1 }
     {
-        Made { entity, ty, pos }
-    }
-
-    fn entity(&self) -> u32
-        ensures { result ≡ self.now.entity }
-    {
-        self.entity
-    }
-
-    fn ty(&self) -> u16
-        ensures { result ≡ self.now.ty }
-    {
-        self.ty
-    }
-
-    fn pos(&self) -> Pos
-        ensures { result ≡ self.now.pos }
-    {
-        self.pos
-    }
-}
-
-impl Taken {
-    /// A call for a part of an entity.
-    pub fn new(entity: u32, part: Part, sender: Sender, deed: Deed) -> Self
-        ensures { result ≡ record { entity = entity; part = part; sender = sender; deed = deed } }
-    {
-        Taken {
-            entity,
-            part,
-            sender,
-            deed,
+        Plain {
+            alloc,
+            created: Vec::new(alloc),
+            calls: Vec::new(alloc),
+            open_lines: 0,
+            executed: 0,
+            rounds: 0,
+            lines: 1,
         }
     }
 
-    fn sender(&self) -> Sender
-        ensures { result ≡ self.now.sender }
+    // Takes the text of the next line, and appends what is printed for it.
+    fn take(&mut self, defs: &Defs, text: &[u8], out: &mut Vec<u8>) -> Result<(), AllocError>
+        requires { PlainStands self.now × (self.now.lines < 2 ^ 61) }
+        ensures { OnOk result ((piece : List ℕ) × (out.new.items ≡ out.old.items ++ piece)
+            × TakesText (header_of defs.now) (line_of text.now) piece self.old self.new) }
     {
-        self.sender
+        self.lines = self.lines.saturating_add(1);
+        if text.len() > MOST_BYTES {
+            return push_refusal(out, self.lines, b"long");
+        }
+        self.take_content(defs, without_return(text), out)
     }
 
-    fn deed(&self) -> &Deed
-        ensures { result.now ≡ self.now.deed }
+    // Takes the content of a line that was counted.
+    fn take_content(
+        &mut self,
+        defs: &Defs,
+        line: &[u8],
+        out: &mut Vec<u8>,
+    ) -> Result<(), AllocError>
+        requires { HasCounted self.now × (length line.now ≤ 4096) }
+        ensures { OnOk result ((piece : List ℕ) × (out.new.items ≡ out.old.items ++ piece)
+            × TakesCounted (header_of defs.now) (Content line.now) piece self.old self.new) }
     {
-        &self.deed
-    }
-
-    // Whether the call is for a part of an entity.
-    fn is_for(&self, part: Part, entity: u32) -> bool
-        ensures { result ≡ is_for part entity self.now }
-    {
-        self.entity == entity && self.part == part
-    }
-
-    // Whether it is also from a sender.
-    fn is_from(&self, part: Part, entity: u32, sender: Sender) -> bool
-        ensures { result ≡ is_from part entity sender self.now }
-    {
-        self.entity == entity && self.part == part && self.sender == sender
-    }
-}
-
-// The `create` that made an entity.
-fn created_as(created: &[Made], entity: u32) -> Option<&Made>
-    ensures { option_copied result ≡ find (λ c. c.entity == entity) created.now }
-{
-    created.iter().find(|m| m.entity() == entity)
-}
-
-// How many calls are for a part and from a sender.
-fn count_from(calls: &[Taken], part: Part, entity: u32, sender: Sender) -> usize
-    ensures count { result ≡ length (filter (is_from part entity sender) calls.now) }
-{
-    calls
-        .iter()
-        .filter(|c| c.is_from(part, entity, sender))
-        .count()
-}
-
-// How many calls are for a part.
-fn count_for(calls: &[Taken], part: Part, entity: u32) -> usize
-    ensures { result ≡ length (filter (is_for part entity) calls.now) }
-{
-    calls.iter().filter(|c| c.is_for(part, entity)).count()
-}
-
-// How many calls a part executed.
-fn version_of(calls: &[Taken], part: Part, entity: u32) -> u64
-    ensures { result ≡ length (sequence calls.now part entity) }
-{
-    count_for(calls, part, entity) as u64
-}
-
-// The state of a part after all calls for it.
-fn state_of(defs: &Defs, part: Part, made: &Made, calls: &[Taken]) -> Result<State, AllocError>
-    ensures { IfOk result (λ s. let order = sequence calls.now part made.now.entity in s ≡ flat (header_of defs.now) part made.now order (length order)) }
-{
-    let props = defs.start_props(made.ty(), part.held())?;
-    let mut state = State {
-        pos: made.pos(),
-        props,
-    };
-    for call in calls {
-        if call.is_for(part, made.entity()) {
-            let _changed = defs.apply(made.ty(), &mut state, call.deed())?;
+        match read_line(self.alloc, line) {
+            Said::Skipped => Ok(()),
+            Said::BadWords(error) => push_bad_words(out, self.lines, error.number()),
+            Said::Nothing => push_refusal(out, self.lines, b"command"),
+            Said::Sync => self.end_round(defs, out),
+            Said::Create {
+                entity,
+                type_name,
+                pos,
+            } => match self.made(defs, entity, type_name, pos) {
+                Some(made) => self.keep_made(defs, made, out),
+                None => push_refusal(out, self.lines, b"command"),
+            },
+            Said::Call {
+                sender_name,
+                entity,
+                method_name,
+                argument,
+            } => match self.taken(defs, sender_name, entity, method_name, argument)? {
+                Some(call) => self.keep_call(defs, call, out),
+                None => push_refusal(out, self.lines, b"command"),
+            },
         }
     }
-    Ok(state)
-}
 
-// The line of a call that comes behind earlier ones, where it is for a part of an entity.
-fn push_call(
-    alloc: Global,
-    out: &mut Vec<u8>,
-    word: &[u8],
-    defs: &Defs,
-    part: Part,
-    made: &Made,
-    earlier: &[Taken],
-    call: &Taken,
-) -> Result<(), AllocError>
-    requires { length earlier.now + 1 < 2 ^ 64 }
-    ensures { OnOk result (out.new.items ≡ out.old.items
-        ++ flat_map (executed_line word.now defs.now made.now.entity made.now.ty) (added part made.now.entity (sequence earlier.now part made.now.entity) call.now)) }
-{
-    if !call.is_for(part, made.entity()) {
-        return Ok(());
+    // The entity that a `create` makes, where it is accepted.
+    fn made(&self, defs: &Defs, entity: u32, type_name: &[u8], pos: Pos) -> Option<Made>
+        ensures { MatchOption result
+            ((next : Book) → ¬ (Accepts (header_of defs.now) (book_of self.now) (Create entity type_name.now pos.x pos.z) next))
+            (λ m. Accepts (header_of defs.now) (book_of self.now) (Create entity type_name.now pos.x pos.z) (with_create (book_of self.now) m)) }
+    {
+        let size = Settings::standard().size;
+        if created_as(&self.created, entity).is_some() || self.created.len() >= MOST_ENTITIES {
+            return None;
+        }
+        if pos.x >= size || pos.z >= size {
+            return None;
+        }
+        match type_named(defs, type_name) {
+            Some(ty) => Some(Made::new(entity, ty, pos)),
+            None => None,
+        }
     }
-    let number = next_number(earlier, part, made.entity(), call.sender());
-    push_executed(
-        alloc,
-        out,
-        word,
-        defs,
-        made.entity(),
-        made.ty(),
-        call.sender(),
-        number,
-        call.deed(),
-    )
-}
 
-// The number of a sender's next call for a part.
-fn next_number(earlier: &[Taken], part: Part, entity: u32, sender: Sender) -> u64
-    requires { length earlier.now + 1 < 2 ^ 64 }
-    ensures { result ≡ length (of_sender sender (sequence earlier.now part entity)) + 1 }
-{
-    (count_from(earlier, part, entity, sender) as u64).saturating_add(1)
-}
-
-// The lines of the calls for a part of an entity behind the first `before`.
-fn push_done(
-    alloc: Global,
-    out: &mut Vec<u8>,
-    word: &[u8],
-    defs: &Defs,
-    part: Part,
-    made: &Made,
-    calls: &[Taken],
-    before: usize,
-) -> Result<(), AllocError>
-    requires { before ≤ length calls.now }
-    ensures { OnOk result (out.new.items ≡ out.old.items ++ done_text word.now defs.now part before calls.now made.now) }
-{
-    for i in before..calls.len() {
-        push_call(alloc, out, word, defs, part, made, &calls[..i], &calls[i])?;
+    // The call that a line asks for, where it is accepted.
+    fn taken(
+        &self,
+        defs: &Defs,
+        sender_name: &[u8],
+        entity: u32,
+        method_name: &[u8],
+        argument: &[u8],
+    ) -> Result<Option<Taken>, AllocError>
+        ensures { IfOk result (λ call. MatchOption call
+            ((next : Book) → ¬ (Accepts (header_of defs.now) (book_of self.now) (Call sender_name.now entity method_name.now argument.now) next))
+            (λ c. Accepts (header_of defs.now) (book_of self.now) (Call sender_name.now entity method_name.now argument.now) (with_call (book_of self.now) c))) }
+    {
+        let bases = Settings::standard().bases;
+        let Some(sender) = sender_named(self.alloc, sender_name, bases) else {
+            return Ok(None);
+        };
+        let Some(made) = created_as(&self.created, entity) else {
+            return Ok(None);
+        };
+        match deed_named(self.alloc, defs, made.ty(), method_name, argument)? {
+            Some(deed) => Ok(Some(Taken::new(entity, Part::Cell, sender, deed))),
+            None => Ok(None),
+        }
     }
-    Ok(())
-}
 
-fn push_all_done(
-    alloc: Global,
-    out: &mut Vec<u8>,
-    word: &[u8],
-    defs: &Defs,
-    part: Part,
-    live: &[&Made],
-    calls: &[Taken],
-    before: usize,
-) -> Result<(), AllocError>
-    requires { before ≤ length calls.now }
-    ensures { OnOk result (out.new.items ≡ out.old.items ++ flat_map (done_text word.now defs.now part before calls.now) (map (λ m. m.now) live.now)) }
-{
-    for made in live {
-        push_done(alloc, out, word, defs, part, made, calls, before)?;
+    // Adds an entity.
+    fn keep_made(&mut self, defs: &Defs, made: Made, out: &mut Vec<u8>) -> Result<(), AllocError>
+        requires { HasCounted self.now }
+        ensures { OnOk result ((piece : List ℕ) × (out.new.items ≡ out.old.items ++ piece)
+            × Keeps (header_of defs.now) (with_book (standing_of self.old) (with_create (book_of self.old) made)) piece self.new) }
+    {
+        self.created.push(made)?;
+        self.count_accepted(defs, out)
     }
-    Ok(())
-}
 
-fn push_homes(
-    out: &mut Vec<u8>,
-    defs: &Defs,
-    live: &[&Made],
-    calls: &[Taken],
-) -> Result<(), AllocError>
-    ensures { OnOk result (out.new.items ≡ out.old.items ++ flat_map (home_text defs.now calls.now) (map (λ m. m.now) live.now)) }
-{
-    for made in live {
-        let state = state_of(defs, Part::Cell, made, calls)?;
-        let version = version_of(calls, Part::Cell, made.entity());
-        push_home(out, defs, made.entity(), made.ty(), 0, version, &state)?;
+    // Adds a call.
+    fn keep_call(&mut self, defs: &Defs, call: Taken, out: &mut Vec<u8>) -> Result<(), AllocError>
+        requires { HasCounted self.now }
+        ensures { OnOk result ((piece : List ℕ) × (out.new.items ≡ out.old.items ++ piece)
+            × Keeps (header_of defs.now) (with_book (standing_of self.old) (with_call (book_of self.old) call)) piece self.new) }
+    {
+        self.calls.push(call)?;
+        self.count_accepted(defs, out)
     }
-    Ok(())
-}
 
-fn push_bases(
-    out: &mut Vec<u8>,
-    defs: &Defs,
-    live: &[&Made],
-    calls: &[Taken],
-) -> Result<(), AllocError>
-    ensures { OnOk result (out.new.items ≡ out.old.items ++ flat_map (base_text defs.now calls.now) (map (λ m. m.now) live.now)) }
-{
-    for made in live {
-        let state = state_of(defs, Part::Base, made, calls)?;
-        let version = version_of(calls, Part::Base, made.entity());
-        push_base(out, defs, made.entity(), made.ty(), version, &state)?;
+    // Counts an accepted line, of which the 65,536th ends the round.
+    fn count_accepted(&mut self, defs: &Defs, out: &mut Vec<u8>) -> Result<(), AllocError>
+        requires { HasAdded self.now }
+        ensures { OnOk result ((piece : List ℕ) × (out.new.items ≡ out.old.items ++ piece)
+            × Keeps (header_of defs.now) (opened (standing_of self.old)) piece self.new) }
+    {
+        self.open_lines = self.open_lines.saturating_add(1);
+        if self.open_lines == MOST_LINES {
+            return self.end_round(defs, out);
+        }
+        Ok(())
     }
-    Ok(())
-}
 
-// The numbers of the created entities, in rising order.
-fn numbers_of(alloc: Global, created: &[Made]) -> Result<Vec<u32>, AllocError>
-    ensures { IfOk result (λ ns. IsStrictlyIncreasing ns.items × ((e : ℕ) → Contains (map (λ c. c.entity) created.now) e → Contains ns.items e)) }
-{
-    let mut numbers = entities_of(alloc, created)?;
-    numbers.sort()?;
-    numbers.dedup();
-    Ok(numbers)
-}
-
-fn entities_of(alloc: Global, created: &[Made]) -> Result<Vec<u32>, AllocError>
-    ensures { IfOk result (λ ns. ns.items ≡ map (λ c. c.entity) created.now) }
-{
-    created.iter().map(|m| m.entity()).collect(alloc)
-}
-
-// The entities of these numbers.
-fn live_of<'a>(
-    alloc: Global,
-    created: &'a [Made],
-    numbers: &[u32],
-) -> Result<Vec<&'a Made>, AllocError>
-    ensures { IfOk result (λ live. map (λ m. m.now) live.items ≡ live_among created.now numbers.now) }
-{
-    let mut live = Vec::new(alloc);
-    for number in numbers {
-        push_found(&mut live, created, *number)?;
+    // Ends the open round, whose text is appended.
+    fn end_round(&mut self, defs: &Defs, out: &mut Vec<u8>) -> Result<(), AllocError>
+        requires { MayEnd self.now }
+        ensures { OnOk result ((piece : List ℕ) × (out.new.items ≡ out.old.items ++ piece)
+            × EndsRound (header_of defs.now) piece self.old self.new) }
+    {
+        self.rounds = self.rounds.saturating_add(1);
+        push_round(
+            self.alloc,
+            out,
+            defs,
+            self.rounds,
+            &self.created,
+            &self.calls,
+            self.executed,
+        )?;
+        self.executed = self.calls.len();
+        self.open_lines = 0;
+        Ok(())
     }
-    Ok(live)
-}
 
-// Adds the entity of a number, where there is one.
-fn push_found<'a>(
-    live: &mut Vec<&'a Made>,
-    created: &'a [Made],
-    number: u32,
-) -> Result<(), AllocError>
-    ensures { OnOk result (map (λ m. m.now) live.new.items ≡ map (λ m. m.now) live.old.items ++ cons_option (find (λ c. c.entity == number) created.now) []) }
-{
-    if let Some(made) = created_as(created, number) {
-        live.push(made)?;
+    // Ends the input, and appends the text of a last round, if there is one.
+    fn finish(&mut self, defs: &Defs, out: &mut Vec<u8>) -> Result<(), AllocError>
+        requires { MayEnd self.now }
+        ensures { OnOk result ((piece : List ℕ) × (out.new.items ≡ out.old.items ++ piece)
+            × EndsInput (header_of defs.now) (standing_of self.old) piece) }
+    {
+        if self.open_lines == 0 {
+            return Ok(());
+        }
+        self.end_round(defs, out)
     }
-    Ok(())
 }
 
-// The text of a round of these live entities.
-fn push_text(
-    alloc: Global,
-    out: &mut Vec<u8>,
-    defs: &Defs,
-    number: u64,
-    live: &[&Made],
-    calls: &[Taken],
-    before: usize,
-) -> Result<(), AllocError>
-    requires { before ≤ length calls.now }
-    ensures { OnOk result (out.new.items ≡ out.old.items ++ round_text defs.now number (map (λ m. m.now) live.now) calls.now before) }
+// The texts round the line feeds.
+fn texts_of(alloc: Global, input: &[u8]) -> Result<Vec<&[u8]>, AllocError>
+    ensures { IfOk result (λ texts. map (λ text. text.now) texts.items ≡ slice_split is_feed input.now) }
 {
-    push_line(out, b"round ", number)?;
-    push_all_done(alloc, out, b"did ", defs, Part::Cell, live, calls, before)?;
-    push_all_done(alloc, out, b"dob ", defs, Part::Base, live, calls, before)?;
-    push_homes(out, defs, live, calls)?;
-    push_bases(out, defs, live, calls)?;
-    push_line(out, b"end ", number)
+    input.split(|byte| *byte == b'\n').collect(alloc)
 }
 
-/// Appends the text of a round of these types, whose number this is: what was accepted is `created` and `calls`, in the
-/// order of the lines, and the first `before` of the calls were executed in earlier rounds.
-pub fn push_plain_round(
-    alloc: Global,
-    out: &mut Vec<u8>,
-    defs: &Defs,
-    number: u64,
-    created: &[Made],
-    calls: &[Taken],
-    before: usize,
-) -> Result<(), AllocError>
-    requires { before ≤ length calls.now }
-    ensures { OnOk result ((open_lines : ℕ) → (piece : List ℕ) × (out.new.items ≡ out.old.items ++ piece)
-        × IsRound (header_of defs.now) number (record { created = created.now; calls = calls.now; open_lines = open_lines })
-        (sequence (take before calls.now)) (sequence calls.now) piece) }
+// The texts that are lines: a last one that is empty is none, since it stands behind the last line feed.
+fn lines_among<'a, 'b>(texts: &'a [&'b [u8]]) -> &'a [&'b [u8]]
+    ensures { lines_between (map (λ text. text.now) texts.now) ≡ map (λ text. line_of text.now) result.now }
 {
-    let numbers = numbers_of(alloc, created)?;
-    let live = live_of(alloc, created, &numbers)?;
-    push_text(alloc, out, defs, number, &live, calls, before)
+    match texts {
+        [front @ .., last] => { if last.is_empty() { front } else { texts } }
+        [] => texts,
+    }
+}
+
+// Whether the text is the header's end.
+fn ends_header(text: &[u8]) -> bool
+    ensures { MatchBool result (line_of text.now ≡ separator) (line_of text.now ≢ separator) }
+{
+    matches!(without_return(text), b"%%")
+}
+
+// The text without a last carriage return.
+fn without_return(text: &[u8]) -> &[u8]
+    ensures { result.now ≡ strip_carriage_return text.now }
+{
+    match text {
+        [front @ .., b'\r'] => front,
+        _ => text,
+    }
 }

@@ -1,4 +1,5 @@
+use Rattle.seam_transcript.proofs.Rows.{long-line}
 use Rattle.seam_transcript.proofs.laws.long_line_is_refused.Goals as goal
 
 pub returns : goal.returns
-returns c = λ h s t text step. step
+returns c = long-line

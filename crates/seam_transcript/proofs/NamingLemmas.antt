@@ -1,0 +1,90 @@
+-- What the words of a command name.
+use Rattle.std.proofs.Common.{◌≡◌, ◌-◌, ◌<◌, ℕ, Bool, true, false, List, [], ◌∷◌, length, map, take, drop, get_or, refl, sym, ◌∙◌, ap, subst, arith, Option, Some, None, ◌↔◌, not}
+use Rattle.std.specs.Prelude.{slice_get, option_map, is_some, IsTrue}
+use Rattle.std.proofs.lemmas.List.{take_all}
+use Rattle.std.proofs.lemmas.Option.{slice_get-map, slice_get-get_or, same_Some, none-some}
+use Rattle.std.proofs.lemmas.Bool.{false≢true}
+use Rattle.seam_value.specs.Values.{Fits, text_of, decimal_of}
+use Rattle.seam_value.specs.declared.types.ValueType.{ValueType}
+use Rattle.seam_value.specs.declared.types.ValueType.TheVariants as type
+use Rattle.seam_value.specs.declared.values.Value.{Value}
+use Rattle.seam_value.proofs.Decimals.{decimal_of-injective}
+use Rattle.seam_defs.specs.Deeds.{TakesArgs}
+use Rattle.seam_defs.specs.Types.{type_of, method_of, no_type, no_method, names_of_types, names_of_methods}
+use Rattle.seam_defs.specs.declared.types.TypeDef.{TypeDef}
+use Rattle.seam_defs.specs.declared.types.Method.{Method}
+use Rattle.seam_transcript.specs.declared.sender.Sender.{Sender}
+use Rattle.seam_transcript.specs.declared.sender.Sender.TheVariants.{Base}
+use Rattle.seam_transcript.specs.Book.{sender_text, IsSender, IsBuilt, MayBe, MayCall}
+
+-- ---- senders
+
+-- the number that stands behind the first letter of a sender's name
+behind-first : (name : List ℕ) (m n : ℕ) → 98 ∷ decimal_of n ≡ name → decimal_of m ≡ take (length name - 1) (drop 1 name) → m ≡ n
+behind-first name m n is number =
+    let rest : take (length name - 1) (drop 1 name) ≡ decimal_of n =
+    subst (λ (xs : List ℕ). take (length xs - 1) (drop 1 xs) ≡ decimal_of n) is (take_all (length (98 ∷ decimal_of n) - 1) (decimal_of n) (omega arith)) in
+    decimal_of-injective m n (number ∙ rest)
+
+-- a number outside the base nodes names none of them
+pub no_node : (bases m : ℕ) (name : List ℕ) (s : Sender) → (IsSender bases (Base m) → ⊥) → decimal_of m ≡ take (length name - 1) (drop 1 name)
+    → IsSender bases s → sender_text s ≡ name → ⊥
+no_node bases m name (Base n) outside number among is =
+    outside (subst (λ (k : ℕ). IsSender bases (Base k)) (sym (behind-first name m n is number)) among)
+
+-- ---- types and methods
+
+pub type-name : (defs : List TypeDef) (name : List ℕ) (ty : ℕ) → MayBe defs name ty → slice_get (names_of_types defs) ty ≡ Some name
+type-name defs name ty may =
+    slice_get-map (λ (t : TypeDef). t.name) defs ty ∙ ap (option_map (λ (t : TypeDef). t.name)) (slice_get-get_or defs ty no_type may.has) ∙ ap (λ (n : List ℕ). Some n) may.named
+
+-- a type that takes no calls that are built is none of those that may be taken
+pub no-calls : (defs : List TypeDef) (name : List ℕ) (k : ℕ) → ((ty : ℕ) → slice_get (names_of_types defs) ty ≡ Some name → Some k ≡ Some ty) → (((m : ℕ) × IsBuilt defs k m) → ⊥)
+    → (ty : ℕ) → MayBe defs name ty → ⊥
+no-calls defs name k only none ty may =
+    none (subst (λ (j : ℕ). (m : ℕ) × IsBuilt defs j m) (sym (same_Some k ty (only ty (type-name defs name ty may)))) may.takes_calls)
+
+pub method-name : (defs : List TypeDef) (ty m : ℕ) (name : List ℕ) → IsBuilt defs ty m → (method_of defs ty m).name ≡ name → slice_get (names_of_methods (type_of defs ty).methods) m ≡ Some name
+method-name defs ty m name built is =
+    let ms : List Method = (type_of defs ty).methods in
+    slice_get-map (λ (x : Method). x.name) ms m ∙ ap (option_map (λ (x : Method). x.name)) (slice_get-get_or ms m no_method built.has) ∙ ap (λ (n : List ℕ). Some n) is
+
+-- no other method of the name is built than the one that has it
+pub not-built : (defs : List TypeDef) (ty : ℕ) (name : List ℕ) (k : ℕ) → ((m : ℕ) → slice_get (names_of_methods (type_of defs ty).methods) m ≡ Some name → Some k ≡ Some m) → (IsBuilt defs ty k → ⊥)
+    → (m : ℕ) → IsBuilt defs ty m → (method_of defs ty m).name ≡ name → ⊥
+not-built defs ty name k only not m built is =
+    not (subst (IsBuilt defs ty) (sym (same_Some k m (only m (method-name defs ty m name built is)))) built)
+
+-- a list has one element exactly where it has no second one
+pub one_number : {A : Type 0} (xs : List A) (a : A) (r : Bool) → slice_get xs 0 ≡ Some a → is_some (slice_get xs 1) ≡ not r → IsTrue r ↔ (xs ≡ a ∷ [])
+one_number [] a r first second = absurd (none-some a first)
+one_number (x ∷ []) a true first second = ((λ t. ap (λ y. y ∷ []) (same_Some x a first)), (λ e. refl))
+one_number (x ∷ []) a false first second = absurd (false≢true second)
+one_number (x ∷ y ∷ ys) a true first second = absurd (false≢true (sym second))
+one_number (x ∷ y ∷ ys) a false first second = ((λ t. absurd (false≢true t)), (λ e. cc))
+
+-- ---- arguments
+
+-- what a method of one argument takes is one value, which the argument spells
+pub one-value : (args : List Value) (argument : List ℕ) → TakesArgs (type.Int32 ∷ []) args → map text_of args ≡ argument ∷ []
+    → (v : Value) × (args ≡ v ∷ []) × Fits v type.Int32 × (text_of v ≡ argument)
+one-value [] argument takes spelled = absurd takes
+one-value (v ∷ []) argument takes spelled = (v, refl, takes.0, cc)
+one-value (v ∷ w ∷ args) argument takes spelled = absurd takes.1
+
+-- an argument that spells no value of the type is none that such a method takes
+pub no-value : (defs : List TypeDef) (ty : ℕ) (name argument : List ℕ) → ((v : Value) → Fits v type.Int32 → text_of v ≡ argument → ⊥) → (m : ℕ) (args : List Value) → MayCall defs ty name argument m args → ⊥
+no-value defs ty name argument none m args may =
+    let one = one-value args argument (subst (λ (ts : List ValueType). TakesArgs ts args) may.built.args may.takes) may.spelled in
+    none one.0 one.2 one.3
+
+-- an argument that spells a value of the type
+pub takes-value : (defs : List TypeDef) (ty m : ℕ) (name argument : List ℕ) (v : Value) (args : List Value) → IsBuilt defs ty m → (method_of defs ty m).name ≡ name → Fits v type.Int32 → text_of v ≡ argument
+    → args ≡ v ∷ [] → MayCall defs ty name argument m args
+takes-value defs ty m name argument v args built named fits spelled are =
+    subst (MayCall defs ty name argument m) (sym are) (record {
+      built = built;
+      named = named;
+      takes = subst (λ (ts : List ValueType). TakesArgs ts (v ∷ [])) (sym built.args) (fits, tt);
+      spelled = ap (λ (text : List ℕ). text ∷ []) spelled;
+    })

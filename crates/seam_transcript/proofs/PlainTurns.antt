@@ -1,0 +1,359 @@
+-- What the plain program's turns do to its standing.
+use Rattle.std.proofs.Common.{◌≡◌, ◌≢◌, Some, ◌+◌, ◌-◌, ◌<◌, ◌≤◌, ◌^◌, min, ℕ, Bool, true, false, List, [], ◌∷◌, ◌++◌, length, take, drop, refl, sym, ap, ◌∙◌, subst, arith, inl, inr, length-append, lit≤, append_assoc, append-nil, map, get_or, Bor}
+use Rattle.std.specs.Prelude.{codes, find, MatchBool, ◌==◌, if◌then◌else◌}
+use Rattle.std.proofs.lemmas.Grind.{common_steps}
+use Rattle.std.proofs.lemmas.List.{length-map, take_all, take_more, take-append-le, map-append}
+use Rattle.std.specs.List.{slice_split}
+use Rattle.std.specs.Str.Lines.{strip_carriage_return}
+use Rattle.seam_io.specs.Lines.{Line, Content, Long, is_feed, line_of, lines_of, lines_between}
+use Rattle.seam_io.proofs.LineLemmas.{line_of-long, line_of-short}
+use Rattle.seam_value.specs.declared.values.Value.{Value}
+use Rattle.seam_defs.specs.Settings.{standard}
+use Rattle.seam_defs.specs.Builtin.{builtin}
+use Rattle.seam_defs.specs.declared.settings.Settings.{Settings}
+use Rattle.seam_defs.specs.declared.types.TypeDef.{TypeDef}
+use Rattle.seam_defs.specs.declared.flags.Part.{Part}
+use Rattle.seam_defs.specs.declared.flags.Part.TheVariants as part
+use Rattle.seam_defs.specs.declared.states.Deed.{Deed}
+use Rattle.seam_defs.specs.declared.states.Deed.TheVariants.{Method}
+use Rattle.seam_transcript.specs.declared.sender.Sender.{Sender}
+use Rattle.seam_transcript.specs.Language.{IsSkipped, HasWords, Command, Create, Call, Sync, Says}
+use Rattle.seam_transcript.specs.Book.{Header, empty_header, Book, Created, Called, created_as, sender_text, IsSender, MayCall, call_of, with_create, with_call, Accepts, Cause, cause_text, TooLong, Verdict, Skipped, Refused, Accepted, Judges}
+use Rattle.seam_transcript.specs.Standing.{Standing, behind_header, counted, with_book}
+use Rattle.seam_transcript.specs.Orders.{Orders}
+use Rattle.seam_transcript.specs.Sequence.{sequence}
+use Rattle.seam_transcript.specs.Round.{IsRound, Lists}
+use Rattle.seam_transcript.specs.Transcript.{refusal, Takes, Step, Run, separator, BeginWithHeader, EndsInput, IsEnded}
+use Rattle.seam_transcript.specs.Plain.{header_of, done_since, round_text}
+use Rattle.seam_transcript.specs.PlainStands.{book_of, standing_of, MayEnd, PlainStands, HasCounted, HasAdded, behind_round, EndsRound, opened, Keeps, TakesCounted, TakesText}
+use Rattle.seam_transcript.specs.declared.plain.Plain.{Plain}
+use Rattle.seam_transcript.proofs.PlainLemmas.{sequence-since, found-entity}
+use Rattle.seam_transcript.proofs.Sequences.{sequence-full, full-legal}
+
+-- ---- rounds
+
+-- the text of the entities that were created is legal, and the orders behind it have all calls
+plain-round : (defs : List TypeDef) (p : Plain) (live : List Created) (after : Orders) → Lists (created_as (book_of p)) live → after ≡ sequence p.calls.items
+    → IsRound (header_of defs) (standing_of p) (round_text defs (p.rounds + 1) live p.calls.items p.executed)
+    (record { lines = p.lines; book = record { created = p.created.items; calls = p.calls.items; open_lines = 0 }; orders = after; rounds = p.rounds + 1 })
+plain-round defs p live after lists all =
+    subst (λ (orders : Orders). IsRound (header_of defs) (standing_of p) (round_text defs (p.rounds + 1) live p.calls.items p.executed)
+    (record { lines = p.lines; book = record { created = p.created.items; calls = p.calls.items; open_lines = 0 }; orders = orders; rounds = p.rounds + 1 })) (sym all)
+    (record {
+      round = record { made = live; live = live; done = done_since p.executed p.calls.items; home = λ e. 0 };
+      form = refl;
+      made = lists;
+      goes_on = λ part e. sequence-since p.executed p.calls.items part e;
+      legal = λ part e. full-legal (book_of p) part e (sequence p.calls.items part e) (sequence-full (book_of p) part e);
+      full = λ part e. sequence-full (book_of p) part e;
+      live = lists;
+      homes = λ e. refl;
+      lines = refl;
+      book = refl;
+      rounds = refl;
+    })
+
+pub round-ended : (defs : List TypeDef) (old : Plain) (live made : List Created) (calls : List Called) (number executed : ℕ) → old.rounds < 2 ^ 62 → number ≡ min (old.rounds + 1) (2 ^ 64 - 1)
+    → executed ≡ length old.calls.items → made ≡ old.created.items → calls ≡ old.calls.items → Lists (λ e. find (λ c. c.entity == e) made) live
+    → EndsRound (header_of defs) (round_text defs number live calls old.executed) old (record old { rounds = number; executed = executed; open_lines = 0 })
+round-ended defs old live made calls number executed few is all made_are calls_are lists =
+    let counted : old.rounds + 1 ≡ number = omega (arith, is) in
+    let left : (record old { rounds = number; executed = executed; open_lines = 0 }) ≡ behind_round old =
+    ap (λ (n : ℕ). record old { rounds = n; executed = executed; open_lines = 0 }) (sym counted)
+    ∙ ap (λ (n : ℕ). record old { rounds = old.rounds + 1; executed = n; open_lines = 0 }) all in
+    let is_legal : IsRound (header_of defs) (standing_of old) (round_text defs (old.rounds + 1) live old.calls.items old.executed) (standing_of (behind_round old)) =
+    plain-round defs old live (sequence (take (length old.calls.items) old.calls.items))
+    (subst (λ (cs : List Created). Lists (λ e. find (λ c. c.entity == e) cs) live) made_are lists)
+    (ap sequence (take_all (length old.calls.items) old.calls.items (omega arith))) in
+    record {
+      left = left;
+      round = subst (λ (n : ℕ). IsRound (header_of defs) (standing_of old) (round_text defs n live calls old.executed) (standing_of (record old { rounds = number; executed = executed; open_lines = 0 }))) counted
+          (subst (λ (cs : List Called). IsRound (header_of defs) (standing_of old) (round_text defs (old.rounds + 1) live cs old.executed) (standing_of (record old { rounds = number; executed = executed; open_lines = 0 }))) (sym calls_are)
+          (subst (λ (new : Plain). IsRound (header_of defs) (standing_of old) (round_text defs (old.rounds + 1) live old.calls.items old.executed) (standing_of new)) (sym left) is_legal));
+    }
+
+-- ---- accepted lines
+
+-- the 65,536th accepted line ended the round
+keeps-ended : (h : Header) (mid new : Plain) (piece : List ℕ) → mid.open_lines ≡ 65536 → length mid.calls.items ≤ mid.lines → mid.rounds < mid.lines → EndsRound h piece mid new
+    → Keeps h (standing_of mid) piece new
+keeps-ended h mid new piece last calls rounds ends =
+    let test : (mid.open_lines == 65536) ≡ true = grind (arith, common_steps, last) in
+    record {
+      text = subst (λ (b : Bool). MatchBool b (IsRound h (standing_of mid) piece (standing_of new)) ((piece ≡ []) × (standing_of new ≡ standing_of mid))) (sym test) ends.round;
+      stands = subst PlainStands (sym ends.left) (record { executed = omega arith; open_lines = omega arith; calls = calls; rounds = omega arith });
+      lines = ap (λ (p : Plain). p.lines) ends.left;
+    }
+
+-- another one did not
+keeps-open : (h : Header) (mid : Plain) → mid.open_lines < 65536 → mid.executed ≤ length mid.calls.items → length mid.calls.items ≤ mid.lines → mid.rounds < mid.lines → Keeps h (standing_of mid) [] mid
+keeps-open h mid few executed calls rounds =
+    let test : (mid.open_lines == 65536) ≡ false = grind (arith, common_steps, few) in
+    record {
+      text = subst (λ (b : Bool). MatchBool b (IsRound h (standing_of mid) [] (standing_of mid)) ((◌≡◌ {A = List ℕ} [] []) × (standing_of mid ≡ standing_of mid))) (sym test) (refl, refl);
+      stands = record { executed = executed; open_lines = few; calls = calls; rounds = omega arith };
+      lines = refl;
+    }
+
+-- one more line of the round was counted
+opened-by : (p : Plain) (n : ℕ) → n ≡ p.open_lines + 1 → standing_of (record p { open_lines = n }) ≡ opened (standing_of p)
+opened-by p n is = ap (λ (k : ℕ). standing_of (record p { open_lines = k })) is
+
+pub counted-last : (h : Header) (old new : Plain) (n : ℕ) (piece : List ℕ) → HasAdded old → n ≡ min (old.open_lines + 1) 4294967295 → n ≡ 65536 → EndsRound h piece (record old { open_lines = n }) new
+    → Keeps h (opened (standing_of old)) piece new
+counted-last h old new n piece added is last ends =
+    let few = added.open_lines in
+    subst (λ (s : Standing). Keeps h s piece new) (opened-by old n (omega (arith, is)))
+    (keeps-ended h (record old { open_lines = n }) new piece last added.calls added.rounds ends)
+
+pub counted-open : (h : Header) (old : Plain) (n : ℕ) → HasAdded old → n ≡ min (old.open_lines + 1) 4294967295 → n ≢ 65536 → Keeps h (opened (standing_of old)) [] (record old { open_lines = n })
+counted-open h old n added is other =
+    let few = added.open_lines in
+    subst (λ (s : Standing). Keeps h s [] (record old { open_lines = n })) (opened-by old n (omega (arith, is)))
+    (keeps-open h (record old { open_lines = n }) (omega (arith, is, other)) added.executed added.calls added.rounds)
+
+-- what a `create` and a call leave
+pub made-opened : (p : Plain) (made : Created) (items : List Created) → items ≡ p.created.items ++ made ∷ []
+    → opened (record { lines = p.lines; book = record { created = items; calls = p.calls.items; open_lines = p.open_lines }; orders = sequence (take p.executed p.calls.items); rounds = p.rounds })
+    ≡ with_book (standing_of p) (with_create (book_of p) made)
+made-opened p made items is =
+    ap (λ (xs : List Created). record { lines = p.lines; book = record { created = xs; calls = p.calls.items; open_lines = p.open_lines + 1 }; orders = sequence (take p.executed p.calls.items); rounds = p.rounds }) is
+
+pub call-opened : (p : Plain) (c : Called) (items : List Called) → items ≡ p.calls.items ++ c ∷ [] → p.executed ≤ length p.calls.items
+    → opened (record { lines = p.lines; book = record { created = p.created.items; calls = items; open_lines = p.open_lines }; orders = sequence (take p.executed items); rounds = p.rounds })
+    ≡ with_book (standing_of p) (with_call (book_of p) c)
+call-opened p c items is within =
+    ap (λ (xs : List Called). record { lines = p.lines; book = record { created = p.created.items; calls = xs; open_lines = p.open_lines + 1 }; orders = sequence (take p.executed xs); rounds = p.rounds }) is
+    ∙ ap (λ (xs : List Called). record { lines = p.lines; book = record { created = p.created.items; calls = p.calls.items ++ c ∷ []; open_lines = p.open_lines + 1 }; orders = sequence xs; rounds = p.rounds })
+    (take-append-le p.executed p.calls.items (c ∷ []) within)
+
+-- ---- lines
+
+counted-stands : (p : Plain) → HasCounted p → PlainStands p
+counted-stands p has =
+    let calls = has.calls in
+    let rounds = has.rounds in
+    record { executed = has.executed; open_lines = has.open_lines; calls = omega arith; rounds = omega arith }
+
+pub skips : (h : Header) (p : Plain) (line : List ℕ) → HasCounted p → IsSkipped line → TakesCounted h (Content line) [] p p
+skips h p line has skipped = record { verdict = Skipped; judges = inl (skipped, refl); takes = (refl, refl); stands = counted-stands p has; lines = refl }
+
+pub refuses : (h : Header) (p : Plain) (line : List ℕ) (cause : Cause) (piece : List ℕ) → HasCounted p → Judges h (book_of p) (Content line) (Refused cause) → piece ≡ refusal p.lines (cause_text cause)
+    → TakesCounted h (Content line) piece p p
+refuses h p line cause piece has judges is = record { verdict = Refused cause; judges = judges; takes = (is, refl); stands = counted-stands p has; lines = refl }
+
+pub syncs : (h : Header) (old new : Plain) (line : List ℕ) (words : List (List ℕ)) (piece : List ℕ) → HasCounted old → ¬ (IsSkipped line) → HasWords line words → Says words Sync
+    → EndsRound h piece old new → TakesCounted h (Content line) piece old new
+syncs h old new line words piece has not are says ends =
+    let calls = has.calls in
+    let rounds = has.rounds in
+    record {
+      verdict = Accepted Sync (book_of old);
+      judges = inr (not, (words, are, says, refl));
+      takes = ends.round;
+      stands = subst PlainStands (sym ends.left) (record { executed = omega arith; open_lines = omega arith; calls = omega arith; rounds = omega arith });
+      lines = ap (λ (p : Plain). p.lines) ends.left;
+    }
+
+pub creates : (h : Header) (old new : Plain) (line : List ℕ) (words : List (List ℕ)) (piece : List ℕ) (e : ℕ) (name : List ℕ) (x z : ℕ) (b : Book)
+    → ¬ (IsSkipped line) → HasWords line words → Says words (Create e name x z) → Accepts h (book_of old) (Create e name x z) b
+    → Keeps h (with_book (standing_of old) b) piece new → TakesCounted h (Content line) piece old new
+creates h old new line words piece e name x z b not are says accepts keeps = record {
+  verdict = Accepted (Create e name x z) b;
+  judges = inr (not, (words, are, says, accepts));
+  takes = keeps.text;
+  stands = keeps.stands;
+  lines = keeps.lines;
+}
+
+pub calls : (h : Header) (old new : Plain) (line : List ℕ) (words : List (List ℕ)) (piece who : List ℕ) (e : ℕ) (name argument : List ℕ) (b : Book)
+    → ¬ (IsSkipped line) → HasWords line words → Says words (Call who e name argument) → Accepts h (book_of old) (Call who e name argument) b
+    → Keeps h (with_book (standing_of old) b) piece new → TakesCounted h (Content line) piece old new
+calls h old new line words piece who e name argument b not are says accepts keeps = record {
+  verdict = Accepted (Call who e name argument) b;
+  judges = inr (not, (words, are, says, accepts));
+  takes = keeps.text;
+  stands = keeps.stands;
+  lines = keeps.lines;
+}
+
+-- the line is counted first
+pub counts-first : (h : Header) (old new : Plain) (line : Line) (n : ℕ) (piece : List ℕ) → old.lines < 2 ^ 61 → n ≡ min (old.lines + 1) (2 ^ 64 - 1) → TakesCounted h line piece (record old { lines = n }) new
+    → TakesText h line piece old new
+counts-first h old new line n piece few is taken =
+    let one : n ≡ old.lines + 1 = omega (arith, is) in
+    record {
+      step = (taken.verdict, taken.judges, subst (λ (k : ℕ). Takes h (standing_of (record old { lines = k })) taken.verdict piece (standing_of new)) one taken.takes);
+      stands = taken.stands;
+      lines = taken.lines ∙ one;
+    }
+
+pub has-counted : (old : Plain) (n : ℕ) → PlainStands old → old.lines < 2 ^ 61 → n ≡ min (old.lines + 1) (2 ^ 64 - 1) → HasCounted (record old { lines = n })
+has-counted old n stands few is =
+    let calls = stands.calls in
+    let rounds = stands.rounds in
+    record { executed = stands.executed; open_lines = stands.open_lines; calls = omega arith; rounds = omega arith; lines = omega arith }
+
+pub long-taken : (h : Header) (old : Plain) (n : ℕ) → PlainStands old → old.lines < 2 ^ 61 → n ≡ min (old.lines + 1) (2 ^ 64 - 1)
+    → TakesCounted h Long (refusal n (codes "long")) (record old { lines = n }) (record old { lines = n })
+long-taken h old n stands few is = record {
+  verdict = Refused TooLong;
+  judges = refl;
+  takes = (refl, refl);
+  stands = counted-stands (record old { lines = n }) (has-counted old n stands few is);
+  lines = refl;
+}
+
+-- a line that is too long
+pub long-line : (h : Header) (old : Plain) (n : ℕ) (text : List ℕ) → PlainStands old → old.lines < 2 ^ 61 → n ≡ min (old.lines + 1) (2 ^ 64 - 1) → 4096 < length text
+    → TakesText h (line_of text) (refusal n (codes "long")) old (record old { lines = n })
+long-line h old n text stands few is long =
+    subst (λ (line : Line). TakesText h line (refusal n (codes "long")) old (record old { lines = n })) (sym (line_of-long text long))
+    (counts-first h old (record old { lines = n }) Long n (refusal n (codes "long")) few is (long-taken h old n stands few is))
+
+-- one that is not
+pub short-line : (h : Header) (old new : Plain) (n : ℕ) (text line piece : List ℕ) → old.lines < 2 ^ 61 → n ≡ min (old.lines + 1) (2 ^ 64 - 1) → length text ≤ 4096 → line ≡ strip_carriage_return text
+    → TakesCounted h (Content line) piece (record old { lines = n }) new → TakesText h (line_of text) piece old new
+short-line h old new n text line piece few is short stripped taken =
+    subst (λ (l : Line). TakesText h l piece old new) (ap Content stripped ∙ sym (line_of-short text short))
+    (counts-first h old new (Content line) n piece few is taken)
+
+-- ---- calls
+
+-- the call that is accepted is the one that is kept
+pub call-is : (defs : List TypeDef) (c : Created) (e : ℕ) (s : Sender) (m : ℕ) (args : List Value) (d : Deed) (name argument : List ℕ) → c.entity ≡ e → d ≡ Method m args → MayCall defs c.ty name argument m args
+    → record { entity = e; part = part.Cell; sender = s; deed = d } ≡ call_of defs c s (Method m args)
+call-is defs c e s m args d name argument entity deed may =
+    ap (λ (x : Deed). record { entity = e; part = part.Cell; sender = s; deed = x }) deed
+    ∙ ap (λ (k : ℕ). record { entity = k; part = part.Cell; sender = s; deed = Method m args }) (sym entity)
+    ∙ ap (λ (p : Part). record { entity = c.entity; part = p; sender = s; deed = Method m args }) (sym may.built.on_cell)
+
+pub standard-sender : (settings : Settings) (s : Sender) (who : List ℕ) → settings ≡ standard → (settings.bases ≤ 8 → IsSender settings.bases s × (sender_text s ≡ who))
+    → IsSender standard.bases s × (sender_text s ≡ who)
+standard-sender settings s who is h = subst (λ (x : Settings). x.bases ≤ 8 → IsSender x.bases s × (sender_text s ≡ who)) is h (lit≤ tt)
+
+-- a call that is accepted
+pub call-taken : (defs : List TypeDef) (b : Book) (who : List ℕ) (e : ℕ) (name argument : List ℕ) (s : Sender) (c : Created) (ty : ℕ) (d : Deed) (call : Called) → ty ≡ c.ty
+    → IsSender standard.bases s → sender_text s ≡ who → created_as b e ≡ Some c
+    → (m : ℕ) × (args : List Value) × (d ≡ Method m args) × MayCall defs ty name argument m args
+    → call ≡ record { entity = e; part = part.Cell; sender = s; deed = d } → Accepts (header_of defs) b (Call who e name argument) (with_call b call)
+call-taken defs b who e name argument s c ty d call same sender known_as entity deed is =
+    let may : MayCall defs c.ty name argument deed.0 deed.1 = subst (λ (k : ℕ). MayCall defs k name argument deed.0 deed.1) same deed.3 in (
+      s,
+      c,
+      deed.0,
+      deed.1,
+      record { sender = sender; known_as = known_as; entity = entity },
+      may,
+      ap (with_call b) (is ∙ call-is defs c e s deed.0 deed.1 d name argument (found-entity b.created e c entity) deed.2 may),
+    )
+
+-- ---- all lines
+
+pub run-more : (h : Header) (s : Standing) (lines : List Line) (text : List ℕ) (t : Standing) (line : Line) (piece : List ℕ) (u : Standing) → Run h s lines text t → Step h t line piece u
+    → Run h s (lines ++ line ∷ []) (text ++ piece) u
+run-more h s [] text t line piece u r st =
+    (piece, [], u, ap (λ x. x ++ piece) r.0 ∙ sym (append-nil piece), subst (λ x. Step h x line piece u) r.1 st, (refl, refl))
+run-more h s (first ∷ lines) text t line piece u r st =
+    (r.0, r.1 ++ piece, r.2, ap (λ x. x ++ piece) r.3 ∙ append_assoc r.0 r.1 piece, r.4, run-more h r.2 lines r.1 t line piece u r.5 st)
+
+-- the input ends
+pub nothing-open : (h : Header) (p : Plain) → p.open_lines ≡ 0 → EndsInput h (standing_of p) []
+nothing-open h p none =
+    let test : (p.open_lines == 0) ≡ true = grind (arith, common_steps, none) in
+    subst (λ (b : Bool). MatchBool b (◌≡◌ {A = List ℕ} [] []) ((t : Standing) × IsRound h (standing_of p) [] t)) (sym test) refl
+
+pub round-open : (h : Header) (p new : Plain) (piece : List ℕ) → p.open_lines ≢ 0 → EndsRound h piece p new → EndsInput h (standing_of p) piece
+round-open h p new piece some ends =
+    let test : (p.open_lines == 0) ≡ false = grind (arith, common_steps, some) in
+    subst (λ (b : Bool). MatchBool b (piece ≡ []) ((t : Standing) × IsRound h (standing_of p) piece t)) (sym test) (standing_of new, ends.round)
+
+-- the line of a text
+abbrev pub line_at : Bor (List ℕ) → Line
+line_at text = line_of text.now
+
+-- the texts of an input that are lines: all but an empty last one
+between-last : (front : List (Bor (List ℕ))) (last : Bor (List ℕ)) → lines_between (map (λ text. text.now) (front ++ last ∷ [])) ≡ map line_at front ++ lines_between (last.now ∷ [])
+between-last [] last = refl
+between-last (text ∷ []) last = refl
+between-last (text ∷ next ∷ more) last = ap (λ (lines : List Line). line_at text ∷ lines) (between-last (next ∷ more) last)
+
+to-last : (texts : List (Bor (List ℕ))) (d : Bor (List ℕ)) → 1 ≤ length texts → texts ≡ take (length texts - 1) texts ++ get_or texts (length texts - 1) d ∷ []
+to-last texts d some =
+    let size : length texts ≡ length texts - 1 + 1 = omega arith in
+    sym (take_all (length texts) texts (omega arith)) ∙ ap (λ (k : ℕ). take k texts) size ∙ take_more texts (length texts - 1) d (omega arith)
+
+pub empty-last : (texts : List (Bor (List ℕ))) (d : Bor (List ℕ)) → 1 ≤ length texts → true ≡ (length (get_or texts (length texts - 1) d).now == 0)
+    → lines_between (map (λ text. text.now) texts) ≡ map line_at (take (length texts - 1) texts)
+empty-last texts d some empty =
+    let front : List (Bor (List ℕ)) = take (length texts - 1) texts in
+    let last : Bor (List ℕ) = get_or texts (length texts - 1) d in
+    ap (λ (ts : List (Bor (List ℕ))). lines_between (map (λ text. text.now) ts)) (to-last texts d some)
+    ∙ between-last front last
+    ∙ ap (λ (b : Bool). map line_at front ++ (if b then [] else line_at last ∷ [])) (sym empty)
+    ∙ append-nil (map line_at front)
+
+pub full-last : (texts : List (Bor (List ℕ))) (d : Bor (List ℕ)) → 1 ≤ length texts → false ≡ (length (get_or texts (length texts - 1) d).now == 0)
+    → lines_between (map (λ text. text.now) texts) ≡ map line_at texts
+full-last texts d some full =
+    let front : List (Bor (List ℕ)) = take (length texts - 1) texts in
+    let last : Bor (List ℕ) = get_or texts (length texts - 1) d in
+    ap (λ (ts : List (Bor (List ℕ))). lines_between (map (λ text. text.now) ts)) (to-last texts d some)
+    ∙ between-last front last
+    ∙ ap (λ (b : Bool). map line_at front ++ (if b then [] else line_at last ∷ [])) (sym full)
+    ∙ sym (map-append line_at front (last ∷ []))
+    ∙ ap (map line_at) (sym (to-last texts d some))
+
+-- one more text was taken
+pub texts-more : (h : Header) (s t u : Standing) (texts : List (Bor (List ℕ))) (i : ℕ) (d : Bor (List ℕ)) (text piece out : List ℕ) → i < length texts
+    → Run h s (map line_at (take i texts)) text t → Step h t (line_at (get_or texts i d)) piece u → out ≡ text ++ piece → Run h s (map line_at (take (i + 1) texts)) out u
+texts-more h s t u texts i d text piece out within run step is =
+    let lines : map line_at (take (i + 1) texts) ≡ map line_at (take i texts) ++ line_at (get_or texts i d) ∷ [] =
+    ap (map line_at) (take_more texts i d within) ∙ map-append line_at (take i texts) (get_or texts i d ∷ []) in
+    subst (λ (ls : List Line). Run h s ls out u) (sym lines) (subst (λ (o : List ℕ). Run h s (map line_at (take i texts) ++ line_at (get_or texts i d) ∷ []) o u) (sym is)
+    (run-more h s (map line_at (take i texts)) text t (line_at (get_or texts i d)) piece u run step))
+
+-- ---- the whole input
+
+-- the lines of an input, from the texts round its line feeds
+pub input-lines : (input : List ℕ) (items texts among : List (Bor (List ℕ))) → map (λ text. text.now) items ≡ slice_split is_feed input → texts ≡ items
+    → lines_between (map (λ text. text.now) texts) ≡ map line_at among → lines_of input ≡ map line_at among
+unfolding lines_of
+input-lines input items texts among split same lines =
+    ap lines_between (sym split) ∙ ap (λ (ts : List (Bor (List ℕ))). lines_between (map (λ text. text.now) ts)) (sym same) ∙ lines
+
+-- the first text, and those behind it
+headed : (among : List (Bor (List ℕ))) (d : Bor (List ℕ)) → 1 ≤ length among → map line_at among ≡ line_at (get_or among 0 d) ∷ map line_at (take (length among - 1) (drop 1 among))
+headed [] d some = absurd (omega arith)
+headed (text ∷ texts) d some = ap (λ (ts : List (Bor (List ℕ))). line_at text ∷ map line_at ts) (sym (take_all (length (text ∷ texts) - 1) texts (omega arith)))
+
+pub whole-transcript : (input : List ℕ) (among : List (Bor (List ℕ))) (d : Bor (List ℕ)) (defs : List TypeDef) (out : List ℕ) → defs ≡ builtin → 1 ≤ length among
+    → lines_of input ≡ map line_at among → line_at (get_or among 0 d) ≡ separator
+    → ((front last : List ℕ) × (t : Standing) × Run (header_of defs) (behind_header 1) (map line_at (take (length among - 1) (drop 1 among))) front t
+    × EndsInput (header_of defs) t last × (out ≡ front ++ last))
+    → IsEnded empty_header (lines_of input) out
+whole-transcript input among d defs out is some lines header printed =
+    let rest : List Line = map line_at (take (length among - 1) (drop 1 among)) in (
+      printed.0,
+      printed.1,
+      printed.2,
+      record {
+        count = 1;
+        rest = rest;
+        header = (refl, lines ∙ headed among d some ∙ ap (λ (line : Line). line ∷ rest) header);
+        run = subst (λ (ds : List TypeDef). Run (header_of ds) (behind_header 1) rest printed.0 printed.2) is printed.3;
+      },
+      subst (λ (ds : List TypeDef). EndsInput (header_of ds) printed.2 printed.1) is printed.4,
+      printed.5,
+    )
+
+pub other-header : (input : List ℕ) (among : List (Bor (List ℕ))) (d : Bor (List ℕ)) → 1 ≤ length among → lines_of input ≡ map line_at among → line_at (get_or among 0 d) ≢ separator
+    → (count : ℕ) (rest : List Line) → BeginWithHeader (lines_of input) count rest → ⊥
+other-header input among d some lines other count rest begin =
+    other (ap (λ (ls : List Line). get_or ls 0 Long) (sym (headed among d some) ∙ sym lines ∙ begin.1))
+
+pub no-header : (input : List ℕ) (among : List (Bor (List ℕ))) → length among < 1 → lines_of input ≡ map line_at among
+    → (count : ℕ) (rest : List Line) → BeginWithHeader (lines_of input) count rest → ⊥
+no-header input among none lines count rest begin =
+    let long = ap (λ (ls : List Line). length ls) (sym lines ∙ begin.1) in
+    absurd (omega (arith, long, length-map among line_at))

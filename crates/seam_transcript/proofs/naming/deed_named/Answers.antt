@@ -1,0 +1,12 @@
+use Rattle.std.proofs.Common.{◌∙◌, refl}
+use Rattle.seam_transcript.proofs.NamingLemmas.{takes-value}
+use Rattle.seam_transcript.proofs.naming.deed_named.Goals as goal
+
+pub returns-in_ok-vec-in-Ok : goal.returns-in_ok-vec-in-Ok
+returns-in_ok-vec-in-Ok c = (
+  c.in-Some.method,
+  c.of-args.result,
+  refl,
+  takes-value c.args.defs.now c.args.ty c.in-Some.method c.args.method_name.now c.args.argument.now c.in-Ok.value c.of-args.result
+      c.in-Some.ensures.0 c.in-Some.ensures.1 c.in-Ok.ensures.value.0 c.in-Ok.ensures.value.1 (c.of-args.ensures ∙ c.in_ok-vec-in-Ok.ensures.items),
+)
