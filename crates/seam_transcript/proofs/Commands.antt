@@ -1,5 +1,5 @@
 -- Words say one command at most.
-use Rattle.std.proofs.Common.{◌≡◌, ℕ, List, [], ◌∷◌, length, get_or, refl, sym, ap, ◌∙◌, subst, arith}
+use Rattle.std.proofs.Common.{◌≡◌, ℕ, List, [], ◌∷◌, length, drop, get_or, refl, sym, ap, ◌∙◌, subst, arith}
 use Rattle.std.specs.Prelude.{codes}
 use Rattle.seam_value.specs.Values.{decimal_of}
 use Rattle.seam_value.proofs.Decimals.{decimal_of-injective}
@@ -13,9 +13,9 @@ same-create : (e f : ℕ) (n m : List ℕ) (x y z w : ℕ) → e ≡ f → n ≡
 same-create e f n m x y z w a b c d =
     ap (λ (k : ℕ). Create k n x z) a ∙ ap (λ (t : List ℕ). Create f t x z) b ∙ ap (λ (k : ℕ). Create f m k z) c ∙ ap (λ (k : ℕ). Create f m y k) d
 
-same-call : (s t : List ℕ) (e f : ℕ) (n m a b : List ℕ) → s ≡ t → e ≡ f → n ≡ m → a ≡ b → Call s e n a ≡ Call t f m b
+same-call : (s t : List ℕ) (e f : ℕ) (n m : List ℕ) (a b : List (List ℕ)) → s ≡ t → e ≡ f → n ≡ m → a ≡ b → Call s e n a ≡ Call t f m b
 same-call s t e f n m a b p q r u =
-    ap (λ (x : List ℕ). Call x e n a) p ∙ ap (λ (k : ℕ). Call t k n a) q ∙ ap (λ (x : List ℕ). Call t f x a) r ∙ ap (λ (x : List ℕ). Call t f m x) u
+    ap (λ (x : List ℕ). Call x e n a) p ∙ ap (λ (k : ℕ). Call t k n a) q ∙ ap (λ (x : List ℕ). Call t f x a) r ∙ ap (λ (x : List (List ℕ)). Call t f m x) u
 
 one-command : (words : List (List ℕ)) (c d : Command) → Says words c → Says words d → c ≡ d
 one-command words (Create e n x z) (Create f m y w) one other =
@@ -23,7 +23,7 @@ one-command words (Create e n x z) (Create f m y w) one other =
     same-create e f n m x y z w (decimal_of-injective e f (ap (word 1) same)) (ap (word 2) same) (decimal_of-injective x y (ap (word 3) same)) (decimal_of-injective z w (ap (word 4) same))
 one-command words (Call s e n a) (Call t f m b) one other =
     let same = sym one.2 ∙ other.2 in
-    same-call s t e f n m a b (ap (word 1) same) (decimal_of-injective e f (ap (word 2) same)) (ap (word 3) same) (ap (word 4) same)
+    same-call s t e f n m a b (ap (word 1) same) (decimal_of-injective e f (ap (word 2) same)) (ap (word 3) same) (ap (drop 4) same)
 one-command words Sync Sync one other = refl
 one-command words (Create e n x z) (Call t f m b) one other = let second = ap (λ (ws : List (List ℕ)). get_or (word 0 ws) 1 0) (sym one.4 ∙ other.2) in absurd (omega (arith, second))
 one-command words (Call t f m b) (Create e n x z) one other = let second = ap (λ (ws : List (List ℕ)). get_or (word 0 ws) 1 0) (sym one.2 ∙ other.4) in absurd (omega (arith, second))

@@ -1,5 +1,5 @@
 -- What the words of a command name.
-use Rattle.std.proofs.Common.{◌≡◌, ◌-◌, ◌<◌, ℕ, Bool, true, false, List, [], ◌∷◌, length, map, take, drop, get_or, refl, sym, ◌∙◌, ap, subst, arith, Option, Some, None, ◌↔◌, not}
+use Rattle.std.proofs.Common.{◌≡◌, ◌≢◌, ◌-◌, ◌<◌, ◌≤◌, Bor, ℕ, Bool, true, false, List, [], ◌∷◌, length, map, take, drop, get_or, refl, sym, ◌∙◌, ap, subst, arith, Option, Some, None, ◌↔◌, not}
 use Rattle.std.specs.Prelude.{slice_get, option_map, is_some, IsTrue}
 use Rattle.std.proofs.lemmas.List.{take_all}
 use Rattle.std.proofs.lemmas.Option.{slice_get-map, slice_get-get_or, same_Some, none-some}
@@ -13,6 +13,7 @@ use Rattle.seam_defs.specs.Deeds.{TakesArgs}
 use Rattle.seam_defs.specs.Types.{type_of, method_of, no_type, no_method, names_of_types, names_of_methods}
 use Rattle.seam_defs.specs.declared.types.TypeDef.{TypeDef}
 use Rattle.seam_defs.specs.declared.types.Method.{Method}
+use Rattle.seam_transcript.specs.Said.{texts_of}
 use Rattle.seam_transcript.specs.declared.sender.Sender.{Sender}
 use Rattle.seam_transcript.specs.declared.sender.Sender.TheVariants.{Base}
 use Rattle.seam_transcript.specs.Book.{sender_text, IsSender, IsBuilt, MayBe, MayCall}
@@ -65,26 +66,44 @@ one_number (x ∷ y ∷ ys) a false first second = ((λ t. absurd (false≢true 
 
 -- ---- arguments
 
--- what a method of one argument takes is one value, which the argument spells
-pub one-value : (args : List Value) (argument : List ℕ) → TakesArgs (type.Int32 ∷ []) args → map text_of args ≡ argument ∷ []
-    → (v : Value) × (args ≡ v ∷ []) × Fits v type.Int32 × (text_of v ≡ argument)
-one-value [] argument takes spelled = absurd takes
-one-value (v ∷ []) argument takes spelled = (v, refl, takes.0, cc)
-one-value (v ∷ w ∷ args) argument takes spelled = absurd takes.1
+-- what a method of one argument takes is one value
+one-value : (args : List Value) → TakesArgs (type.Int32 ∷ []) args → (v : Value) × (args ≡ v ∷ []) × Fits v type.Int32
+one-value [] takes = absurd takes
+one-value (v ∷ []) takes = (v, refl, takes.0)
+one-value (v ∷ w ∷ args) takes = absurd takes.1
+
+spelled-one : (defs : List TypeDef) (ty m : ℕ) (name : List ℕ) (arguments : List (List ℕ)) (args : List Value) → MayCall defs ty name arguments m args
+    → (v : Value) × (args ≡ v ∷ []) × Fits v type.Int32 × (text_of v ∷ [] ≡ arguments)
+spelled-one defs ty m name arguments args may =
+    let one = one-value args (subst (λ (ts : List ValueType). TakesArgs ts args) may.built.args may.takes) in
+    (one.0, one.1, one.2, ap (map text_of) (sym one.1) ∙ may.spelled)
+
+-- the texts of one word
+pub one-text : (words : List (Bor (List ℕ))) (d : Bor (List ℕ)) → 1 ≤ length words → length words < 2 → texts_of words ≡ (get_or words 0 d).now ∷ []
+one-text [] d some few = absurd (omega arith)
+one-text (w ∷ []) d some few = refl
+one-text (w ∷ x ∷ ws) d some few = absurd (omega arith)
 
 -- an argument that spells no value of the type is none that such a method takes
-pub no-value : (defs : List TypeDef) (ty : ℕ) (name argument : List ℕ) → ((v : Value) → Fits v type.Int32 → text_of v ≡ argument → ⊥) → (m : ℕ) (args : List Value) → MayCall defs ty name argument m args → ⊥
-no-value defs ty name argument none m args may =
-    let one = one-value args argument (subst (λ (ts : List ValueType). TakesArgs ts args) may.built.args may.takes) may.spelled in
-    none one.0 one.2 one.3
+pub no-value : (defs : List TypeDef) (ty : ℕ) (name argument : List ℕ) → ((v : Value) → Fits v type.Int32 → text_of v ≡ argument → ⊥) → (arguments : List (List ℕ)) → arguments ≡ argument ∷ []
+    → (m : ℕ) (args : List Value) → MayCall defs ty name arguments m args → ⊥
+no-value defs ty name argument none arguments is m args may =
+    let one = spelled-one defs ty m name arguments args may in
+    none one.0 one.2 (ap (λ (texts : List (List ℕ)). get_or texts 0 []) (one.3 ∙ is))
+
+-- nor is another number of arguments
+pub not-one : (defs : List TypeDef) (ty : ℕ) (name : List ℕ) (arguments : List (List ℕ)) → length arguments ≢ 1 → (m : ℕ) (args : List Value) → MayCall defs ty name arguments m args → ⊥
+not-one defs ty name arguments other m args may =
+    let one = spelled-one defs ty m name arguments args may in
+    other (sym (ap (λ (texts : List (List ℕ)). length texts) one.3))
 
 -- an argument that spells a value of the type
-pub takes-value : (defs : List TypeDef) (ty m : ℕ) (name argument : List ℕ) (v : Value) (args : List Value) → IsBuilt defs ty m → (method_of defs ty m).name ≡ name → Fits v type.Int32 → text_of v ≡ argument
-    → args ≡ v ∷ [] → MayCall defs ty name argument m args
-takes-value defs ty m name argument v args built named fits spelled are =
-    subst (MayCall defs ty name argument m) (sym are) (record {
+pub takes-value : (defs : List TypeDef) (ty m : ℕ) (name argument : List ℕ) (arguments : List (List ℕ)) (v : Value) (args : List Value) → IsBuilt defs ty m → (method_of defs ty m).name ≡ name
+    → Fits v type.Int32 → text_of v ≡ argument → arguments ≡ argument ∷ [] → args ≡ v ∷ [] → MayCall defs ty name arguments m args
+takes-value defs ty m name argument arguments v args built named fits spelled is are =
+    subst (MayCall defs ty name arguments m) (sym are) (record {
       built = built;
       named = named;
       takes = subst (λ (ts : List ValueType). TakesArgs ts (v ∷ [])) (sym built.args) (fits, tt);
-      spelled = ap (λ (text : List ℕ). text ∷ []) spelled;
+      spelled = ap (λ (text : List ℕ). text ∷ []) spelled ∙ sym is;
     })

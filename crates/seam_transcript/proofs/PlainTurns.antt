@@ -166,11 +166,11 @@ creates h old new line words piece e name x z b not are says accepts keeps = rec
   lines = keeps.lines;
 }
 
-pub calls : (h : Header) (old new : Plain) (line : List ℕ) (words : List (List ℕ)) (piece who : List ℕ) (e : ℕ) (name argument : List ℕ) (b : Book)
-    → ¬ (IsSkipped line) → HasWords line words → Says words (Call who e name argument) → Accepts h (book_of old) (Call who e name argument) b
+pub calls : (h : Header) (old new : Plain) (line : List ℕ) (words : List (List ℕ)) (piece who : List ℕ) (e : ℕ) (name : List ℕ) (arguments : List (List ℕ)) (b : Book)
+    → ¬ (IsSkipped line) → HasWords line words → Says words (Call who e name arguments) → Accepts h (book_of old) (Call who e name arguments) b
     → Keeps h (with_book (standing_of old) b) piece new → TakesCounted h (Content line) piece old new
-calls h old new line words piece who e name argument b not are says accepts keeps = record {
-  verdict = Accepted (Call who e name argument) b;
+calls h old new line words piece who e name arguments b not are says accepts keeps = record {
+  verdict = Accepted (Call who e name arguments) b;
   judges = inr (not, (words, are, says, accepts));
   takes = keeps.text;
   stands = keeps.stands;
@@ -221,9 +221,9 @@ short-line h old new n text line piece few is short stripped taken =
 -- ---- calls
 
 -- the call that is accepted is the one that is kept
-pub call-is : (defs : List TypeDef) (c : Created) (e : ℕ) (s : Sender) (m : ℕ) (args : List Value) (d : Deed) (name argument : List ℕ) → c.entity ≡ e → d ≡ Method m args → MayCall defs c.ty name argument m args
+pub call-is : (defs : List TypeDef) (c : Created) (e : ℕ) (s : Sender) (m : ℕ) (args : List Value) (d : Deed) (name : List ℕ) (arguments : List (List ℕ)) → c.entity ≡ e → d ≡ Method m args → MayCall defs c.ty name arguments m args
     → record { entity = e; part = part.Cell; sender = s; deed = d } ≡ call_of defs c s (Method m args)
-call-is defs c e s m args d name argument entity deed may =
+call-is defs c e s m args d name arguments entity deed may =
     ap (λ (x : Deed). record { entity = e; part = part.Cell; sender = s; deed = x }) deed
     ∙ ap (λ (k : ℕ). record { entity = k; part = part.Cell; sender = s; deed = Method m args }) (sym entity)
     ∙ ap (λ (p : Part). record { entity = c.entity; part = p; sender = s; deed = Method m args }) (sym may.built.on_cell)
@@ -233,19 +233,19 @@ pub standard-sender : (settings : Settings) (s : Sender) (who : List ℕ) → se
 standard-sender settings s who is h = subst (λ (x : Settings). x.bases ≤ 8 → IsSender x.bases s × (sender_text s ≡ who)) is h (lit≤ tt)
 
 -- a call that is accepted
-pub call-taken : (defs : List TypeDef) (b : Book) (who : List ℕ) (e : ℕ) (name argument : List ℕ) (s : Sender) (c : Created) (ty : ℕ) (d : Deed) (call : Called) → ty ≡ c.ty
+pub call-taken : (defs : List TypeDef) (b : Book) (who : List ℕ) (e : ℕ) (name : List ℕ) (arguments : List (List ℕ)) (s : Sender) (c : Created) (ty : ℕ) (d : Deed) (call : Called) → ty ≡ c.ty
     → IsSender standard.bases s → sender_text s ≡ who → created_as b e ≡ Some c
-    → (m : ℕ) × (args : List Value) × (d ≡ Method m args) × MayCall defs ty name argument m args
-    → call ≡ record { entity = e; part = part.Cell; sender = s; deed = d } → Accepts (header_of defs) b (Call who e name argument) (with_call b call)
-call-taken defs b who e name argument s c ty d call same sender known_as entity deed is =
-    let may : MayCall defs c.ty name argument deed.0 deed.1 = subst (λ (k : ℕ). MayCall defs k name argument deed.0 deed.1) same deed.3 in (
+    → (m : ℕ) × (args : List Value) × (d ≡ Method m args) × MayCall defs ty name arguments m args
+    → call ≡ record { entity = e; part = part.Cell; sender = s; deed = d } → Accepts (header_of defs) b (Call who e name arguments) (with_call b call)
+call-taken defs b who e name arguments s c ty d call same sender known_as entity deed is =
+    let may : MayCall defs c.ty name arguments deed.0 deed.1 = subst (λ (k : ℕ). MayCall defs k name arguments deed.0 deed.1) same deed.3 in (
       s,
       c,
       deed.0,
       deed.1,
       record { sender = sender; known_as = known_as; entity = entity },
       may,
-      ap (with_call b) (is ∙ call-is defs c e s deed.0 deed.1 d name argument (found-entity b.created e c entity) deed.2 may),
+      ap (with_call b) (is ∙ call-is defs c e s deed.0 deed.1 d name arguments (found-entity b.created e c entity) deed.2 may),
     )
 
 -- ---- all lines

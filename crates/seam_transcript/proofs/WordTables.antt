@@ -22,6 +22,6 @@ pub says_line : (line : List ℕ) (words : List (List ℕ)) → ¬ (IsSkipped li
 says_line line words not has said.Skipped says = absurd says
 says_line line words not has (said.BadWords error) says = absurd says
 says_line line words not has (said.Create e name pos) says = (not, (words, has, says))
-says_line line words not has (said.Call who e name arg) says = (not, (words, has, says))
+says_line line words not has (said.Call who e name args) says = (not, (words, has, says))
 says_line line words not has said.Sync says = (not, (words, has, says))
 says_line line words not has said.Nothing says = (not, (words, has, says))

@@ -92,13 +92,13 @@ pub record MaySend (h : Header) (b : Book) (sender_name : List ℕ) (e : ℕ) (s
   pub known_as : sender_text s ≡ sender_name
   pub entity : created_as b e ≡ Some c
 
--- a call of a type's method is taken: the method has the name, its calls are built, and the argument is the spelling of what
--- it takes
-pub record MayCall (defs : List TypeDef) (ty : ℕ) (method_name argument : List ℕ) (m : ℕ) (args : List Value) : Type 0 where
+-- a call of a type's method is taken: the method has the name, its calls are built, and the arguments are the spellings of
+-- values that it takes
+pub record MayCall (defs : List TypeDef) (ty : ℕ) (method_name : List ℕ) (arguments : List (List ℕ)) (m : ℕ) (args : List Value) : Type 0 where
   pub built : IsBuilt defs ty m
   pub named : (method_of defs ty m).name ≡ method_name
   pub takes : TakesArgs (method_of defs ty m).args args
-  pub spelled : map text_of args ≡ argument ∷ []
+  pub spelled : map text_of args ≡ arguments
 
 -- the call that is accepted
 abbrev pub call_of : List TypeDef → Created → Sender → Deed → Called
@@ -121,9 +121,9 @@ abbrev pub Accepts : Header → Book → Command → Book → Type 0
 Accepts h b (Create e type_name x z) next =
     let pos : Pos = record { x = x; z = z } in
     (ty : ℕ) × MayCreate h b e type_name pos ty × (next ≡ with_create b (record { entity = e; ty = ty; pos = pos }))
-Accepts h b (Call sender_name e method_name argument) next =
+Accepts h b (Call sender_name e method_name arguments) next =
     (s : Sender) × (c : Created) × (m : ℕ) × (args : List Value) × MaySend h b sender_name e s c
-    × MayCall h.defs c.ty method_name argument m args × (next ≡ with_call b (call_of h.defs c s (Method m args)))
+    × MayCall h.defs c.ty method_name arguments m args × (next ≡ with_call b (call_of h.defs c s (Method m args)))
 Accepts h b Sync next = next ≡ b
 
 -- ---- the verdict on a line

@@ -17,11 +17,11 @@ pub record HasWords (line : List ℕ) (words : List (List ℕ)) : Type 0 where
   pub most : length spans ≤ 16
   pub texts : words ≡ map (bytes_of line) spans
 
--- a command: make an entity of a type at a position; let a sender call a method of an entity with an argument; end the
+-- a command: make an entity of a type at a position; let a sender call a method of an entity with arguments; end the
 -- round. Types, senders, methods and arguments are words as they stand: what they name is looked up when it is judged.
 pub data Command : Type 0 where
   Create : (entity : ℕ) (type_name : List ℕ) (x z : ℕ) → Command
-  Call : (sender_name : List ℕ) (entity : ℕ) (method_name argument : List ℕ) → Command
+  Call : (sender_name : List ℕ) (entity : ℕ) (method_name : List ℕ) (arguments : List (List ℕ)) → Command
   Sync : Command
 
 -- a number that 32 bits hold
@@ -33,6 +33,6 @@ abbrev pub Says : List (List ℕ) → Command → Type 0
 Says words (Create e type_name x z) =
     (0 < e) × IsWhole e × IsWhole x × IsWhole z
     × (words ≡ codes "create" ∷ decimal_of e ∷ type_name ∷ decimal_of x ∷ decimal_of z ∷ [])
-Says words (Call sender_name e method_name argument) =
-    (0 < e) × IsWhole e × (words ≡ codes "call" ∷ sender_name ∷ decimal_of e ∷ method_name ∷ argument ∷ [])
+Says words (Call sender_name e method_name arguments) =
+    (0 < e) × IsWhole e × (words ≡ codes "call" ∷ sender_name ∷ decimal_of e ∷ method_name ∷ arguments)
 Says words Sync = words ≡ codes "sync" ∷ []

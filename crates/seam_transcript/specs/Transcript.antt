@@ -15,7 +15,7 @@ refusal number cause = codes "line " ++ decimal_of number ++ 32 ∷ cause ++ 10 
 abbrev pub ends_round : Command → Book → Bool
 ends_round Sync b = true
 ends_round (Create e type_name x z) b = b.open_lines == 65536
-ends_round (Call sender_name e method_name argument) b = b.open_lines == 65536
+ends_round (Call sender_name e method_name arguments) b = b.open_lines == 65536
 
 -- What is printed for the line taken last, by the verdict on it, and the standing behind it.
 abbrev pub Takes : Header → Standing → Verdict → List ℕ → Standing → Type 0

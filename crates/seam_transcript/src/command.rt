@@ -1,9 +1,9 @@
 // What a line says, before it is judged by what is in the world.
-ghost use Rattle.std.specs.Prelude.{◌≡◌, ◌≢◌, ◌<◌, ◌≤◌, ◌^◌, ◌↔◌, ℕ, IsTrue, List, [], ◌∷◌, map, take, length, All, MatchOption};
+ghost use Rattle.std.specs.Prelude.{◌≡◌, ◌≢◌, ◌<◌, ◌≤◌, ◌^◌, ◌↔◌, ℕ, IsTrue, List, [], ◌∷◌, map, take, length, codes, All, MatchOption};
 ghost use Rattle.seam_value.specs.Values.{decimal_of};
 ghost use Rattle.seam_words.specs.Words.{IsInside, bytes_of};
 ghost use Rattle.seam_transcript.specs.Language.{IsSkipped, IsWhole};
-ghost use Rattle.seam_transcript.specs.Said.{SaysWords, SaysLine, SaysCreate, SaysCall};
+ghost use Rattle.seam_transcript.specs.Said.{texts_of, SaysWords, SaysLine, SaysCreate, SaysCall};
 
 use seam_geo::Pos;
 use seam_value::{Value, ValueType};
@@ -11,7 +11,7 @@ use seam_words::{Words, WordsError, split_line};
 use std::alloc::Global;
 
 /// What a line says.
-pub enum Said<'a> {
+pub enum Said<'a, 'b> {
     /// It has no words, or is a comment.
     Skipped,
     BadWords(WordsError),
@@ -24,15 +24,19 @@ pub enum Said<'a> {
         sender_name: &'a [u8],
         entity: u32,
         method_name: &'a [u8],
-        argument: &'a [u8],
+        arguments: &'b [&'a [u8]],
     },
     Sync,
     /// Its words are those of no command.
     Nothing,
 }
 
-/// Reads a line.
-pub fn read_line(alloc: Global, line: &[u8]) -> Said<'_>
+/// Reads a line, with a table for its words.
+pub fn read_line<'a, 'b>(
+    alloc: Global,
+    line: &'a [u8],
+    table: &'b mut [&'a [u8]; 16],
+) -> Said<'a, 'b>
     requires { length line.now ≤ 4096 }
     ensures { SaysLine line.now result }
 {
@@ -41,8 +45,7 @@ pub fn read_line(alloc: Global, line: &[u8]) -> Said<'_>
     }
     match split_line(line) {
         Ok(words) => {
-            let mut table: [&[u8]; 16] = [b""; 16];
-            let count = fill(line, &words, &mut table);
+            let count = fill(line, &words, table);
             read_words(alloc, &table[..count])
         }
         Err(error) => Said::BadWords(error),
@@ -77,58 +80,58 @@ fn fill<'a>(line: &'a [u8], words: &Words, table: &mut [&'a [u8]; 16]) -> usize
 }
 
 // What words say.
-fn read_words<'a>(alloc: Global, words: &[&'a [u8]]) -> Said<'a>
-    ensures { SaysWords (map (λ w. w.now) words.now) result }
+fn read_words<'a, 'b>(alloc: Global, words: &'b [&'a [u8]]) -> Said<'a, 'b>
+    ensures { SaysWords (texts_of words.now) result }
 {
     match words {
-        [first] => read_one(first),
-        [first, second, third, fourth, fifth] => {
-            read_five(alloc, first, second, third, fourth, fifth)
-        }
+        [first, rest @ ..] => read_command(alloc, first, rest),
+        [] => Said::Nothing,
+    }
+}
+
+// What a first word and those behind it say.
+fn read_command<'a, 'b>(alloc: Global, first: &[u8], rest: &'b [&'a [u8]]) -> Said<'a, 'b>
+    ensures { SaysWords (first.now ∷ texts_of rest.now) result }
+{
+    if first == b"sync".as_slice() {
+        read_sync(rest)
+    } else if first == b"create".as_slice() {
+        read_create(alloc, rest)
+    } else if first == b"call".as_slice() {
+        read_call(alloc, rest)
+    } else {
+        Said::Nothing
+    }
+}
+
+// What the words behind `sync` say.
+fn read_sync<'a, 'b>(words: &'b [&'a [u8]]) -> Said<'a, 'b>
+    ensures { SaysWords (codes "sync" ∷ texts_of words.now) result }
+{
+    match words {
+        [] => Said::Sync,
         _ => Said::Nothing,
     }
 }
 
-// What one word says.
-fn read_one<'a>(word: &[u8]) -> Said<'a>
-    ensures { SaysWords (word.now ∷ []) result }
-{
-    if word == b"sync".as_slice() {
-        Said::Sync
-    } else {
-        Said::Nothing
-    }
-}
-
-// What five words say.
-fn read_five<'a>(
-    alloc: Global,
-    first: &[u8],
-    second: &'a [u8],
-    third: &'a [u8],
-    fourth: &'a [u8],
-    fifth: &'a [u8],
-) -> Said<'a>
-    ensures { SaysWords (first.now ∷ second.now ∷ third.now ∷ fourth.now ∷ fifth.now ∷ []) result }
-{
-    if first == b"create".as_slice() {
-        read_create(alloc, second, third, fourth, fifth)
-    } else if first == b"call".as_slice() {
-        read_call(alloc, second, third, fourth, fifth)
-    } else {
-        Said::Nothing
-    }
-}
-
 // What the words behind `create` say.
-fn read_create<'a>(
+fn read_create<'a, 'b>(alloc: Global, words: &'b [&'a [u8]]) -> Said<'a, 'b>
+    ensures { SaysCreate (texts_of words.now) result }
+{
+    match words {
+        [entity, type_name, x, z] => create_of(alloc, entity, type_name, x, z),
+        _ => Said::Nothing,
+    }
+}
+
+fn create_of<'a, 'b>(
     alloc: Global,
     entity: &[u8],
     type_name: &'a [u8],
     x: &[u8],
     z: &[u8],
-) -> Said<'a>
-    ensures { SaysCreate entity.now type_name.now x.now z.now result }
+) -> Said<'a, 'b>
+    ensures { SaysCreate (entity.now ∷ type_name.now ∷ x.now ∷ z.now ∷ []) result }
 {
     let Some(entity) = entity_number(alloc, entity) else {
         return Said::Nothing;
@@ -147,21 +150,32 @@ fn read_create<'a>(
 }
 
 // What the words behind `call` say.
-fn read_call<'a>(
+fn read_call<'a, 'b>(alloc: Global, words: &'b [&'a [u8]]) -> Said<'a, 'b>
+    ensures { SaysCall (texts_of words.now) result }
+{
+    match words {
+        [sender_name, entity, method_name, arguments @ ..] => {
+            call_of(alloc, sender_name, entity, method_name, arguments)
+        }
+        _ => Said::Nothing,
+    }
+}
+
+fn call_of<'a, 'b>(
     alloc: Global,
     sender_name: &'a [u8],
     entity: &[u8],
     method_name: &'a [u8],
-    argument: &'a [u8],
-) -> Said<'a>
-    ensures { SaysCall sender_name.now entity.now method_name.now argument.now result }
+    arguments: &'b [&'a [u8]],
+) -> Said<'a, 'b>
+    ensures { SaysCall (sender_name.now ∷ entity.now ∷ method_name.now ∷ texts_of arguments.now) result }
 {
     match entity_number(alloc, entity) {
         Some(entity) => Said::Call {
             sender_name,
             entity,
             method_name,
-            argument,
+            arguments,
         },
         None => Said::Nothing,
     }

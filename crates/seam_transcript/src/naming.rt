@@ -3,6 +3,7 @@ ghost use Rattle.std.specs.Prelude.{◌≡◌, ◌≢◌, ◌≤◌, ◌↔◌, 
 ghost use Rattle.seam_value.specs.declared.values.Value.{Value as Values};
 ghost use Rattle.seam_defs.specs.Types.{method_of};
 ghost use Rattle.seam_transcript.specs.Book.{sender_text, IsSender, IsBuilt, MayBe, MayCall};
+ghost use Rattle.seam_transcript.specs.Said.{texts_of};
 ghost use Rattle.seam_transcript.specs.declared.sender.Sender.{Sender as Senders};
 
 use crate::{Sender, whole_number};
@@ -76,20 +77,23 @@ fn takes_one_number(defs: &Defs, ty: u16, method: u16) -> bool
         && defs.arg_type(ty, method, 1).is_none()
 }
 
-/// What a call does that asks for the method of this name of a type, with this argument; nothing where the type has no such
-/// method, its calls are not built, or the argument is no spelling of what it takes.
+/// What a call does that asks for the method of this name of a type, with these arguments; nothing where the type has no such
+/// method, its calls are not built, or the arguments are no spellings of what it takes.
 pub fn deed_named(
     alloc: Global,
     defs: &Defs,
     ty: u16,
     method_name: &[u8],
-    argument: &[u8],
+    arguments: &[&[u8]],
 ) -> Result<Option<Deed>, AllocError>
     ensures { IfOk result (λ deed. MatchOption deed
-        ((m : ℕ) (args : List Values) → ¬ (MayCall defs.now ty method_name.now argument.now m args))
-        (λ d. (m : ℕ) × (args : List Values) × (d ≡ Deed.Method m args) × MayCall defs.now ty method_name.now argument.now m args)) }
+        ((m : ℕ) (args : List Values) → ¬ (MayCall defs.now ty method_name.now (texts_of arguments.now) m args))
+        (λ d. (m : ℕ) × (args : List Values) × (d ≡ Deed.Method m args) × MayCall defs.now ty method_name.now (texts_of arguments.now) m args)) }
 {
     let Some(method) = method_named(defs, ty, method_name) else {
+        return Ok(None);
+    };
+    let [argument] = arguments else {
         return Ok(None);
     };
     match Value::parse(alloc, argument, ValueType::Int32) {

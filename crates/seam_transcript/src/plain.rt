@@ -4,6 +4,7 @@ ghost use Rattle.std.specs.List.{slice_split};
 ghost use Rattle.std.specs.Str.Lines.{strip_carriage_return};
 ghost use Rattle.seam_io.specs.Lines.{Line, Content, is_feed, line_of, lines_of, lines_between};
 ghost use Rattle.seam_transcript.specs.Language.{Create, Call};
+ghost use Rattle.seam_transcript.specs.Said.{texts_of};
 ghost use Rattle.seam_transcript.specs.Book.{Book, empty_header, with_create, with_call, Accepts};
 ghost use Rattle.seam_transcript.specs.Standing.{Standing, behind_header, with_book};
 ghost use Rattle.seam_transcript.specs.Transcript.{Run, EndsInput, IsEnded, separator, BeginWithHeader};
@@ -118,7 +119,8 @@ impl Plain {
         ensures { OnOk result ((piece : List ℕ) × (out.new.items ≡ out.old.items ++ piece)
             × TakesCounted (header_of defs.now) (Content line.now) piece self.old self.new) }
     {
-        match read_line(self.alloc, line) {
+        let mut table: [&[u8]; 16] = [b""; 16];
+        match read_line(self.alloc, line, &mut table) {
             Said::Skipped => Ok(()),
             Said::BadWords(error) => push_bad_words(out, self.lines, error.number()),
             Said::Nothing => push_refusal(out, self.lines, b"command"),
@@ -135,8 +137,8 @@ impl Plain {
                 sender_name,
                 entity,
                 method_name,
-                argument,
-            } => match self.taken(defs, sender_name, entity, method_name, argument)? {
+                arguments,
+            } => match self.taken(defs, sender_name, entity, method_name, arguments)? {
                 Some(call) => self.keep_call(defs, call, out),
                 None => push_refusal(out, self.lines, b"command"),
             },
@@ -169,11 +171,11 @@ impl Plain {
         sender_name: &[u8],
         entity: u32,
         method_name: &[u8],
-        argument: &[u8],
+        arguments: &[&[u8]],
     ) -> Result<Option<Taken>, AllocError>
         ensures { IfOk result (λ call. MatchOption call
-            ((next : Book) → ¬ (Accepts (header_of defs.now) (book_of self.now) (Call sender_name.now entity method_name.now argument.now) next))
-            (λ c. Accepts (header_of defs.now) (book_of self.now) (Call sender_name.now entity method_name.now argument.now) (with_call (book_of self.now) c))) }
+            ((next : Book) → ¬ (Accepts (header_of defs.now) (book_of self.now) (Call sender_name.now entity method_name.now (texts_of arguments.now)) next))
+            (λ c. Accepts (header_of defs.now) (book_of self.now) (Call sender_name.now entity method_name.now (texts_of arguments.now)) (with_call (book_of self.now) c))) }
     {
         let bases = Settings::standard().bases;
         let Some(sender) = sender_named(self.alloc, sender_name, bases) else {
@@ -182,7 +184,7 @@ impl Plain {
         let Some(made) = created_as(&self.created, entity) else {
             return Ok(None);
         };
-        match deed_named(self.alloc, defs, made.ty(), method_name, argument)? {
+        match deed_named(self.alloc, defs, made.ty(), method_name, arguments)? {
             Some(deed) => Ok(Some(Taken::new(entity, Part::Cell, sender, deed))),
             None => Ok(None),
         }

@@ -1,6 +1,7 @@
 use Rattle.std.proofs.Common.{◌≡◌, ℕ, List, [], ◌++◌, refl, sym, ap, ◌∙◌, inl, inr, append-nil}
 use Rattle.std.specs.Prelude.{codes}
 use Rattle.seam_value.specs.Values.{decimal_of}
+use Rattle.seam_transcript.specs.Said.{texts_of}
 use Rattle.seam_transcript.specs.Language.{Create, Call}
 use Rattle.seam_transcript.specs.Transcript.{refusal}
 use Rattle.seam_transcript.specs.Book.{BadWords, NoCommand}
@@ -71,7 +72,7 @@ returns-in-Some-2 c = on_ok c.keep_call.result
     let says = c.in-Call.ensures in (
       keeps.0,
       keeps.1,
-      calls (header_of c.args.defs.now) c.args.self.now c.keep_call.new.self c.args.line.now says.1.0 keeps.0 c.in-Call.sender_name.now c.in-Call.entity c.in-Call.method_name.now c.in-Call.argument.now _
+      calls (header_of c.args.defs.now) c.args.self.now c.keep_call.new.self c.args.line.now says.1.0 keeps.0 c.in-Call.sender_name.now c.in-Call.entity c.in-Call.method_name.now (texts_of c.in-Call.arguments.now) _
           says.0 says.1.1 says.1.2 (match-some _ _ c.in_ok-call-in-Call.field-0 c.in-Some-2.call c.in-Some-2.is c.in_ok-call-in-Call.ensures) keeps.2,
     ))
     c.keep_call.ensures
@@ -83,6 +84,6 @@ returns-in-None-2 c = on_ok c.push_refusal-in-None-2.result
       refusal c.args.self.now.lines (codes "command"),
       text,
       refuses (header_of c.args.defs.now) c.args.self.now c.args.line.now NoCommand _ c.requires.0
-          (inr (says.0, (says.1.0, says.1.1, none-accepted (header_of c.args.defs.now) (book_of c.args.self.now) says.1.0 (Call c.in-Call.sender_name.now c.in-Call.entity c.in-Call.method_name.now c.in-Call.argument.now) says.1.2 (match-none _ _ c.in_ok-call-in-Call.field-0 c.in-None-2.is c.in_ok-call-in-Call.ensures)))) refl,
+          (inr (says.0, (says.1.0, says.1.1, none-accepted (header_of c.args.defs.now) (book_of c.args.self.now) says.1.0 (Call c.in-Call.sender_name.now c.in-Call.entity c.in-Call.method_name.now (texts_of c.in-Call.arguments.now)) says.1.2 (match-none _ _ c.in_ok-call-in-Call.field-0 c.in-None-2.is c.in_ok-call-in-Call.ensures)))) refl,
     ))
     c.push_refusal-in-None-2.ensures

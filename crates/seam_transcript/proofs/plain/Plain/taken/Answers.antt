@@ -1,5 +1,6 @@
 use Rattle.std.proofs.Common.{◌≡◌, ℕ, List, Some, sym, ap, ◌∙◌}
 use Rattle.std.specs.Prelude.{find, ◌==◌}
+use Rattle.seam_transcript.specs.Said.{texts_of}
 use Rattle.seam_transcript.specs.Book.{Created, created_as}
 use Rattle.seam_transcript.specs.PlainStands.{book_of}
 use Rattle.seam_transcript.proofs.PlainLemmas.{match-some}
@@ -11,5 +12,5 @@ returns-in-Some-2 c =
     let sender = standard-sender c.standard-bases.result c.in-Some.sender c.args.sender_name.now c.standard-bases.ensures c.in-Some.ensures in
     let entity : created_as (book_of c.args.self.now) c.args.entity ≡ Some c.in-Some-created_as.made.now =
     ap (λ (cs : List Created). find (λ (m : Created). m.entity == c.args.entity) cs) (sym c.deref.ensures.value) ∙ sym c.in-Some-created_as.ensures in
-    call-taken c.args.defs.now (book_of c.args.self.now) c.args.sender_name.now c.args.entity c.args.method_name.now c.args.argument.now c.in-Some.sender c.in-Some-created_as.made.now c.ty.result c.in-Some-2.deed c.new.result c.ty.ensures
+    call-taken c.args.defs.now (book_of c.args.self.now) c.args.sender_name.now c.args.entity c.args.method_name.now (texts_of c.args.arguments.now) c.in-Some.sender c.in-Some-created_as.made.now c.ty.result c.in-Some-2.deed c.new.result c.ty.ensures
     sender.0 sender.1 entity (match-some _ _ c.in_ok-deed.field-0 c.in-Some-2.deed c.in-Some-2.is c.in_ok-deed.ensures) c.new.ensures
