@@ -2,6 +2,8 @@ pub mod NumberWords
 pub mod Skips
 pub mod WordTables
 pub mod Sequences
+pub mod Runs
+pub mod BookLemmas
 pub mod PlainLemmas
 pub mod PlainTurns
 pub mod NamingLemmas

@@ -29,6 +29,7 @@ use Rattle.seam_transcript.specs.Orders.{of_sender}
 use Rattle.seam_transcript.specs.FlatTable.{flat, first_state}
 use Rattle.seam_transcript.specs.Sequence.{next_executed, go_on, sequence}
 use Rattle.seam_transcript.specs.Plain.{is_for, is_from, added, since, done_since}
+use Rattle.seam_transcript.proofs.BookLemmas.{found-entity}
 use Rattle.seam_transcript.proofs.Sequences.{sequence-full, sequence-more, length-numbered}
 
 -- ---- what calls add to an order
@@ -168,16 +169,7 @@ contains-behind : {X : Type 0} (o : Option X) (x : X) (xs : List X) → Contains
 contains-behind None x xs has = has
 contains-behind (Some y) x xs has = contains-there y x xs has
 
--- what made an entity has its number
-pub found-entity : (created : List Created) (e : ℕ) (c : Created) → find (λ d. d.entity == e) created ≡ Some c → c.entity ≡ e
-found-entity [] e c is = cc
-found-entity (x ∷ xs) e c is = cases (x.entity == e) refl (found-entity xs e c) is
-  where
-    cases : (b : Bool) → (x.entity == e) ≡ b → (find (λ d. d.entity == e) xs ≡ Some c → c.entity ≡ e) → cond b (Some x) (find (λ d. d.entity == e) xs) ≡ Some c → c.entity ≡ e
-    cases true same again h = ap (λ (d : Created). d.entity) (sym (same_Some x c h)) ∙ grind (arith, same)
-    cases false other again h = again h
-
--- and is among what was created
+-- what made an entity is among what was created
 found-among : (created : List Created) (e : ℕ) (c : Created) → find (λ d. d.entity == e) created ≡ Some c → Contains (map (λ d. d.entity) created) e
 found-among [] e c is = cc
 found-among (x ∷ xs) e c is = cases (x.entity == e) refl (found-among xs e c) is

@@ -27,7 +27,9 @@ use Rattle.seam_transcript.specs.Transcript.{refusal, Takes, Step, Run, separato
 use Rattle.seam_transcript.specs.Plain.{header_of, done_since, round_text}
 use Rattle.seam_transcript.specs.PlainStands.{book_of, standing_of, MayEnd, PlainStands, HasCounted, HasAdded, behind_round, EndsRound, opened, Keeps, TakesCounted, TakesText}
 use Rattle.seam_transcript.specs.declared.plain.Plain.{Plain}
-use Rattle.seam_transcript.proofs.PlainLemmas.{sequence-since, found-entity}
+use Rattle.seam_transcript.proofs.PlainLemmas.{sequence-since}
+use Rattle.seam_transcript.proofs.Runs.{run-more}
+use Rattle.seam_transcript.proofs.BookLemmas.{found-entity, call-is}
 use Rattle.seam_transcript.proofs.Sequences.{sequence-full, full-legal}
 
 -- ---- rounds
@@ -220,14 +222,6 @@ short-line h old new n text line piece few is short stripped taken =
 
 -- ---- calls
 
--- the call that is accepted is the one that is kept
-pub call-is : (defs : List TypeDef) (c : Created) (e : ℕ) (s : Sender) (m : ℕ) (args : List Value) (d : Deed) (name : List ℕ) (arguments : List (List ℕ)) → c.entity ≡ e → d ≡ Method m args → MayCall defs c.ty name arguments m args
-    → record { entity = e; part = part.Cell; sender = s; deed = d } ≡ call_of defs c s (Method m args)
-call-is defs c e s m args d name arguments entity deed may =
-    ap (λ (x : Deed). record { entity = e; part = part.Cell; sender = s; deed = x }) deed
-    ∙ ap (λ (k : ℕ). record { entity = k; part = part.Cell; sender = s; deed = Method m args }) (sym entity)
-    ∙ ap (λ (p : Part). record { entity = c.entity; part = p; sender = s; deed = Method m args }) (sym may.built.on_cell)
-
 pub standard-sender : (settings : Settings) (s : Sender) (who : List ℕ) → settings ≡ standard → (settings.bases ≤ 8 → IsSender settings.bases s × (sender_text s ≡ who))
     → IsSender standard.bases s × (sender_text s ≡ who)
 standard-sender settings s who is h = subst (λ (x : Settings). x.bases ≤ 8 → IsSender x.bases s × (sender_text s ≡ who)) is h (lit≤ tt)
@@ -249,13 +243,6 @@ call-taken defs b who e name arguments s c ty d call same sender known_as entity
     )
 
 -- ---- all lines
-
-pub run-more : (h : Header) (s : Standing) (lines : List Line) (text : List ℕ) (t : Standing) (line : Line) (piece : List ℕ) (u : Standing) → Run h s lines text t → Step h t line piece u
-    → Run h s (lines ++ line ∷ []) (text ++ piece) u
-run-more h s [] text t line piece u r st =
-    (piece, [], u, ap (λ x. x ++ piece) r.0 ∙ sym (append-nil piece), subst (λ x. Step h x line piece u) r.1 st, (refl, refl))
-run-more h s (first ∷ lines) text t line piece u r st =
-    (r.0, r.1 ++ piece, r.2, ap (λ x. x ++ piece) r.3 ∙ append_assoc r.0 r.1 piece, r.4, run-more h r.2 lines r.1 t line piece u r.5 st)
 
 -- the input ends
 pub nothing-open : (h : Header) (p : Plain) → p.open_lines ≡ 0 → EndsInput h (standing_of p) []

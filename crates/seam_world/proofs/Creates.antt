@@ -40,10 +40,6 @@ new-in-book : (h : Header) (b : Book) (before : Orders) (t : Table) (e : ℕ) �
 new-in-book h b before t e stands none =
     subst (λ (o : Option Entity). MatchOption o (created_as b e ≡ None) (EntityStands h b before e)) none (stands.each e)
 
-named-at : (ts : List TypeDef) (ty : ℕ) (name : List ℕ) → ty < length ts → (get_or ts ty no_type).name ≡ name → slice_get (names_of_types ts) ty ≡ Some name
-named-at ts ty name within is =
-    slice_get-map (λ (x : TypeDef). x.name) ts ty ∙ ap (option_map (λ (x : TypeDef). x.name)) (slice_get-get_or ts ty no_type within) ∙ ap (λ (n : List ℕ). Some n) is
-
 -- an accepted `create` has room
 pub has-room : (h : Header) (b : Book) (before : Orders) (t : Table) (e : ℕ) (name : List ℕ) (pos : Pos) (ty : ℕ) → TableStands h b before t
     → MayCreate h b e name pos ty → HasRoom t e pos
@@ -53,27 +49,6 @@ has-room h b before t e name pos ty stands may = record {
   in_x = subst (λ (s : Settings). pos.x < s.size) (sym stands.settings) may.in_x;
   in_z = subst (λ (s : Settings). pos.z < s.size) (sym stands.settings) may.in_z;
 }
-
--- the type that an accepted `create` asks for
-asked-type : (h : Header) (b : Book) (before : Orders) (t : Table) (e : ℕ) (name : List ℕ) (pos : Pos) (ty : ℕ) → TableStands h b before t
-    → MayCreate h b e name pos ty → (slice_get (names_of_types t.defs) ty ≡ Some name) × ((m : ℕ) × IsBuilt t.defs ty m)
-asked-type h b before t e name pos ty stands may = (
-  ap (λ (ds : List TypeDef). slice_get (names_of_types ds) ty) stands.defs ∙ named-at h.defs ty name may.has may.named,
-  subst (λ (ds : List TypeDef). (m : ℕ) × IsBuilt ds ty m) (sym stands.defs) may.takes_calls,
-)
-
--- a name that no type has
-pub no_type_named : (h : Header) (b : Book) (before : Orders) (t : Table) (e : ℕ) (name : List ℕ) (pos : Pos)
-    → ((k : ℕ) → slice_get (names_of_types t.defs) k ≡ Some name → ⊥) → TableStands h b before t → (ty : ℕ) → MayCreate h b e name pos ty → ⊥
-no_type_named h b before t e name pos none stands ty may = none ty (asked-type h b before t e name pos ty stands may).0
-
--- a type that takes no calls that are built
-pub no_calls : (h : Header) (b : Book) (before : Orders) (t : Table) (e : ℕ) (name : List ℕ) (pos : Pos) (k : ℕ)
-    → ((ty : ℕ) → slice_get (names_of_types t.defs) ty ≡ Some name → Some k ≡ Some ty) → (((m : ℕ) × IsBuilt t.defs k m) → ⊥)
-    → TableStands h b before t → (ty : ℕ) → MayCreate h b e name pos ty → ⊥
-no_calls h b before t e name pos k only none stands ty may =
-    let asked = asked-type h b before t e name pos ty stands may in
-    none (subst (λ (j : ℕ). (m : ℕ) × IsBuilt t.defs j m) (sym (same_Some k ty (only ty asked.0))) asked.1)
 
 -- ---- what is left
 

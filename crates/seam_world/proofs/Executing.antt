@@ -3,7 +3,7 @@ use Rattle.std.proofs.Common.{◌≡◌, ◌≢◌, ◌<◌, ◌≤◌, ◌^◌,
 use Rattle.std.specs.Prelude.{MatchOption, IfSome, ◌==◌, ◌&&◌, if◌then◌else◌}
 use Rattle.std.specs.Ordering.{nat_cmp}
 use Rattle.std.specs.BTreeMap.{get}
-use Rattle.std.proofs.lemmas.Option.{none-some}
+use Rattle.std.proofs.lemmas.Option.{none-some, same_Some}
 use Rattle.std.proofs.lemmas.Bool.Decides.{eqb_tells}
 use Rattle.seam_defs.specs.declared.types.TypeDef.{TypeDef}
 use Rattle.seam_defs.specs.declared.states.Deed.{Deed}
@@ -15,14 +15,13 @@ use Rattle.seam_transcript.specs.declared.executed.Executed.{Executed}
 use Rattle.seam_transcript.specs.Book.{Header, Book, Created, Called, created_as, with_call, same_part}
 use Rattle.seam_transcript.specs.Orders.{Orders}
 use Rattle.seam_transcript.specs.Language.{Call}
-use Rattle.seam_transcript.specs.Book.{Accepts, sender_text, IsSender}
-use Rattle.seam_value.specs.Values.{Fits, text_of}
-use Rattle.seam_value.specs.declared.types.ValueType.TheVariants as type
+use Rattle.seam_transcript.specs.Book.{Accepts, sender_text, IsSender, MayCall}
+use Rattle.seam_transcript.proofs.BookLemmas.{found-entity, call-is}
 use Rattle.seam_value.specs.declared.values.Value.{Value}
 use Rattle.seam_defs.specs.declared.states.Deed.TheVariants.{Method}
 use Rattle.seam_defs.specs.declared.settings.Settings.{Settings}
 use Rattle.seam_transcript.specs.Sequence.{next_executed, sequence}
-use Rattle.seam_world.specs.Table.{HasMethod, TableStands, EntityStands, PartStands, Executes, ExecutesOn}
+use Rattle.seam_world.specs.Table.{TableStands, EntityStands, PartStands, Executes, ExecutesOn}
 use Rattle.seam_world.specs.declared.table.Entity.{Entity}
 use Rattle.seam_world.specs.declared.table.Table.{Table}
 use Rattle.seam_world.proofs.Writing.{same, differ}
@@ -145,33 +144,36 @@ called-stands h b before old new e n d c stands is least most small step =
     }
 
 -- an accepted call, and what is left
-pub accepted-call : (h : Header) (b : Book) (before : Orders) (old new : Table) (who : List ℕ) (e : ℕ) (name argument : List ℕ) (s : Sender) (m : ℕ) (v : Value) (args : List Value)
+pub accepted-call : (h : Header) (b : Book) (before : Orders) (old new : Table) (who : List ℕ) (e : ℕ) (name : List ℕ) (arguments : List (List ℕ)) (s : Sender) (ty : ℕ) (d : Deed)
     → TableStands h b before old → length b.calls < 2 ^ 61 → h.settings.bases ≤ 8
     → (old.settings.bases ≤ 8 → IsSender old.settings.bases s × (sender_text s ≡ who))
-    → (c : Created) × HasMethod h b e name c m → Fits v type.Int32 → text_of v ≡ argument → args ≡ v ∷ []
-    → ExecutesOn old new e s (Method m args) → (next : Book) × Accepts h b (Call who e name argument) next × TableStands h next before new
-accepted-call h b before old new who e name argument (Base n) m v args stands small few sender (c, has) fits spelled args_are step =
-    let deed : Deed = Method m (v ∷ []) in
+    → (c : Created) × (created_as b e ≡ Some c) × (ty ≡ c.ty)
+    → (m : ℕ) × (args : List Value) × (d ≡ Method m args) × MayCall old.defs ty name arguments m args
+    → ExecutesOn old new e s d → (next : Book) × Accepts h b (Call who e name arguments) next × TableStands h next before new
+accepted-call h b before old new who e name arguments (Base n) ty d stands small few sender (c, is, same_ty) (m, args, deed, may) step =
     let bases : old.settings.bases ≡ h.settings.bases = ap (λ (s : Settings). s.bases) stands.settings in
     let among = sender (omega (arith, bases, few)) in
-    let most : n ≤ h.settings.bases = omega (arith, bases, among.0.1) in (
-      with_call b (on_cell e (Base n) deed),
+    let most : n ≤ h.settings.bases = omega (arith, bases, among.0.1) in
+    let takes : MayCall h.defs c.ty name arguments m args =
+    subst (λ (k : ℕ). MayCall h.defs k name arguments m args) same_ty (subst (λ (ds : List TypeDef). MayCall ds ty name arguments m args) stands.defs may) in (
+      with_call b (on_cell e (Base n) d),
       (
         Base n,
         c,
         m,
-        v,
-        record {
-          sender = (among.0.0, most);
-          known_as = among.1;
-          entity = has.entity;
-          built = has.built;
-          named = has.named;
-          fits = fits;
-          spelled = spelled;
-        },
-        refl,
+        args,
+        record { sender = (among.0.0, most); known_as = among.1; entity = is },
+        takes,
+        ap (with_call b) (call-is h.defs c e (Base n) m args d name arguments (found-entity b.created e c is) deed takes),
       ),
-      called-stands h b before old new e n deed c stands has.entity among.0.0 (omega (arith, most, few)) small
-          (subst (λ (xs : List Value). ExecutesOn old new e (Base n) (Method m xs)) args_are step),
+      called-stands h b before old new e n d c stands is among.0.0 (omega (arith, most, few)) small step,
     )
+
+-- a call that no book accepts, since there is no such deed
+pub no-deed : (h : Header) (b : Book) (before : Orders) (t : Table) (e : ℕ) (name : List ℕ) (arguments : List (List ℕ)) (ty : ℕ) → TableStands h b before t
+    → (c : Created) × (created_as b e ≡ Some c) × (ty ≡ c.ty) → ((m : ℕ) (args : List Value) → MayCall t.defs ty name arguments m args → ⊥)
+    → (who : List ℕ) (next : Book) → Accepts h b (Call who e name arguments) next → ⊥
+no-deed h b before t e name arguments ty stands (c, is, same_ty) none who next accepts =
+    let same_made : accepts.1.ty ≡ ty = ap (λ (x : Created). x.ty) (same_Some accepts.1 c (sym accepts.4.entity ∙ is)) ∙ sym same_ty in
+    none accepts.2 accepts.3 (subst (λ (ds : List TypeDef). MayCall ds ty name arguments accepts.2 accepts.3) (sym stands.defs)
+    (subst (λ (k : ℕ). MayCall h.defs k name arguments accepts.2 accepts.3) same_made accepts.5))

@@ -2,7 +2,6 @@ pub mod Rounds
 pub mod RunLemmas
 pub mod ScriptLemmas
 pub mod Parts
-pub mod Calls
 pub mod Writing
 pub mod Creates
 pub mod Executing

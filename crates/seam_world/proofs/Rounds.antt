@@ -1,5 +1,5 @@
 -- What the table prints for a round is a legal text.
-use Rattle.std.proofs.Common.{◌≡◌, ℕ, List, [], ◌∷◌, ◌++◌, length, map, get_or, refl, sym, ◌∙◌, ap, subst, append-nil, Some, None, Option}
+use Rattle.std.proofs.Common.{◌≡◌, ◌+◌, ℕ, List, [], ◌∷◌, ◌++◌, length, map, get_or, refl, sym, ◌∙◌, ap, subst, append-nil, Some, None, Option}
 use Rattle.std.specs.Prelude.{codes, Contains, unwrap_or, MatchOption}
 use Rattle.std.specs.List.{flat_map, All}
 use Rattle.std.specs.Ordering.{nat_cmp}
@@ -15,10 +15,11 @@ use Rattle.std.proofs.lemmas.List.Elements.{All-head, All-tail, All-cons, All-ni
 use Rattle.seam_defs.specs.declared.flags.Part.{Part}
 use Rattle.seam_defs.specs.declared.flags.Part.TheVariants as part
 use Rattle.seam_transcript.specs.declared.executed.Executed.{Executed}
-use Rattle.seam_transcript.specs.Book.{Header, Book, Created, created_as}
+use Rattle.seam_transcript.specs.Book.{Header, Book, Created, created_as, closed}
 use Rattle.seam_transcript.specs.Orders.{Orders}
 use Rattle.seam_transcript.specs.FlatTable.{flat}
-use Rattle.seam_transcript.specs.Round.{ListsLive, IsRound, number_line, executed_line, home_line, base_line}
+use Rattle.seam_transcript.specs.Standing.{Standing}
+use Rattle.seam_transcript.specs.Round.{Lists, IsRound, number_line, executed_line, home_line, base_line}
 use Rattle.seam_transcript.specs.Sequence.{sequence}
 use Rattle.seam_world.specs.Table.{EntityStands, TableStands}
 use Rattle.seam_world.specs.Text.{done_text, home_text, base_text, table_text}
@@ -170,7 +171,7 @@ created_live h b before t stands c is (Some v) found here =
     let made : made_as b (c.entity, v) ≡ c = ap (λ (o : Option Created). unwrap_or o nobody) is in
     subst (Contains (live_of b t.entities.entries)) made (contained_made (made_as b) t.entities.entries (c.entity, v) entry)
 
-lists_live : (h : Header) (b : Book) (before : Orders) (t : Table) → TableStands h b before t → ListsLive b (live_of b t.entities.entries)
+lists_live : (h : Header) (b : Book) (before : Orders) (t : Table) → TableStands h b before t → Lists (created_as b) (live_of b t.entities.entries)
 lists_live h b before t stands = record {
   rising = rw (made_keys h b before t t.entities.entries (entries_are h b before t stands)) (IsStrictlyIncreasing-from_sorted (tree.keys t.entities) stands.ordered);
   exact = λ c. (
@@ -185,21 +186,33 @@ lists_live h b before t stands = record {
 same_form : (r d o h b e d' h' b' : List ℕ) → d' ≡ d → o ≡ [] → h' ≡ h → b' ≡ b → r ++ d ++ h ++ b ++ e ≡ r ++ d' ++ o ++ h' ++ b' ++ e
 same_form r d o h b e d' h' b' did none homes bases = rw (did, none, homes, bases, append-nil) refl
 
+-- the standing behind the round
+abbrev pub behind_round : Standing → Standing
+behind_round t = record { lines = t.lines; book = closed t.book; orders = sequence t.book.calls; rounds = t.rounds + 1 }
+
 -- What the table prints is a legal text of the round, which goes on from the orders before it to the table's own.
-pub table_round : (h : Header) (number : ℕ) (b : Book) (before : Orders) (t : Table) → TableStands h b before t
-    → IsRound h number b before (sequence b.calls) (table_text number h.defs t.entities.entries)
-table_round h number b before t stands = record {
-  round = record { live = live_of b t.entities.entries; done = done_of t; home = λ e. 0 };
-  form = let entries = t.entities.entries in
-      let all : All (IsEntry h b before t) entries = entries_are h b before t stands in
-      same_form (number_line (codes "round ") number) _ _ _ _ (number_line (codes "end ") number) _ _ _
-      (same_texts entries (made_as b) (λ c. flat_map (executed_line (codes "did ") h.defs c.entity c.ty) (done_of t part.Cell c.entity)) (done_text h.defs) (λ k d within. did_text h b before t _ (all k d within)))
-      (same_texts entries (made_as b) (λ c. flat_map (executed_line (codes "dob ") h.defs c.entity c.ty) (done_of t part.Base c.entity)) (λ x. []) (λ k d within. dob_text h b before t _ stands (all k d within)) ∙ no_texts entries (λ x. []) (λ k d within. refl))
-      (same_texts entries (made_as b) (λ c. let order = sequence b.calls part.Cell c.entity in home_line h.defs c.entity c.ty 0 (length order) (flat h part.Cell c order (length order))) (home_text h.defs) (λ k d within. home_is h b before t _ (all k d within)))
-      (same_texts entries (made_as b) (λ c. let order = sequence b.calls part.Base c.entity in base_line h.defs c.entity c.ty (length order) (flat h part.Base c order (length order))) (base_text h.defs) (λ k d within. base_is h b before t _ (all k d within)));
-  goes_on = λ p e. goes_on_at h b before t p e (get nat_cmp t.entities e) stands (stands.each e);
-  legal = λ p e. full-legal b p e (sequence b.calls p e) (sequence-full b p e);
-  full = λ p e. sequence-full b p e;
-  listed = lists_live h b before t stands;
-  homes = λ e. refl;
-}
+pub table_round : (h : Header) (s : Standing) (t : Table) → TableStands h s.book s.orders t
+    → IsRound h s (table_text (s.rounds + 1) h.defs t.entities.entries) (behind_round s)
+table_round h s t stands =
+    let b : Book = s.book in
+    let before : Orders = s.orders in
+    let live : List Created = live_of b t.entities.entries in
+    record {
+      round = record { made = live; live = live; done = done_of t; home = λ e. 0 };
+      form = let entries = t.entities.entries in
+          let all : All (IsEntry h b before t) entries = entries_are h b before t stands in
+          same_form (number_line (codes "round ") (s.rounds + 1)) _ _ _ _ (number_line (codes "end ") (s.rounds + 1)) _ _ _
+          (same_texts entries (made_as b) (λ c. flat_map (executed_line (codes "did ") h.defs c.entity c.ty) (done_of t part.Cell c.entity)) (done_text h.defs) (λ k d within. did_text h b before t _ (all k d within)))
+          (same_texts entries (made_as b) (λ c. flat_map (executed_line (codes "dob ") h.defs c.entity c.ty) (done_of t part.Base c.entity)) (λ x. []) (λ k d within. dob_text h b before t _ stands (all k d within)) ∙ no_texts entries (λ x. []) (λ k d within. refl))
+          (same_texts entries (made_as b) (λ c. let order = sequence b.calls part.Cell c.entity in home_line h.defs c.entity c.ty 0 (length order) (flat h part.Cell c order (length order))) (home_text h.defs) (λ k d within. home_is h b before t _ (all k d within)))
+          (same_texts entries (made_as b) (λ c. let order = sequence b.calls part.Base c.entity in base_line h.defs c.entity c.ty (length order) (flat h part.Base c order (length order))) (base_text h.defs) (λ k d within. base_is h b before t _ (all k d within)));
+      made = lists_live h b before t stands;
+      goes_on = λ p e. goes_on_at h b before t p e (get nat_cmp t.entities e) stands (stands.each e);
+      legal = λ p e. full-legal b p e (sequence b.calls p e) (sequence-full b p e);
+      full = λ p e. sequence-full b p e;
+      live = lists_live h b before t stands;
+      homes = λ e. refl;
+      lines = refl;
+      book = refl;
+      rounds = refl;
+    }

@@ -9,7 +9,9 @@ use Rattle.seam_io.specs.Lines.{Line, Content, Long, lines_of, whole_lines_of, l
 use Rattle.seam_io.specs.Reading.{SourceState, Reader, Reading, budget, IsExact}
 use Rattle.seam_io.specs.declared.lines.Next.TheVariants as next
 use Rattle.seam_transcript.specs.Book.{Header}
-use Rattle.seam_transcript.specs.Transcript.{Standing, start, Step, Run, separator, IsOpen, IsEnded, EndsInput}
+use Rattle.seam_transcript.specs.Standing.{Standing, behind_header}
+use Rattle.seam_transcript.specs.Transcript.{Step, Run, separator, PrintsLines, IsOpen, IsEnded, EndsInput}
+use Rattle.seam_transcript.proofs.Runs.{run-more}
 use Rattle.seam_world.specs.Script.{ScriptStands, TakesPiece}
 use Rattle.seam_world.specs.Status.{IsHeaderEnd, IsRunEnd}
 use Rattle.seam_world.specs.Ends.{IsFront, AreFirst, IsSoFar, Tells, HasFaultLine, RunEnds}
@@ -17,14 +19,6 @@ use Rattle.seam_world.specs.Histories.{Going, Stopped, Prints}
 use Rattle.seam_world.specs.declared.script.Script.{Script}
 use Rattle.seam_world.specs.declared.status.Status.{Status}
 use Rattle.seam_world.specs.declared.status.Status.TheVariants as status
-
--- a run goes on by one line
-pub run_more : (h : Header) (s : Standing) (lines : List Line) (text : List ℕ) (t : Standing) (line : Line) (piece : List ℕ) (u : Standing) → Run h s lines text t → Step h t line piece u
-    → Run h s (lines ++ line ∷ []) (text ++ piece) u
-run_more h s [] text t line piece u r st =
-    (piece, [], u, ap (λ x. x ++ piece) r.0 ∙ sym (append-nil piece), subst (λ x. Step h x line piece u) r.1 st, (refl, refl))
-run_more h s (first ∷ lines) text t line piece u r st =
-    (r.0, r.1 ++ piece, r.2, ap (λ x. x ++ piece) r.3 ∙ append_assoc r.0 r.1 piece, r.4, run_more h r.2 lines r.1 t line piece u r.5 st)
 
 -- what was read is a front of the lines of what was given
 pub read_front : (began now : SourceState) (r : Reader) (given : List ℕ) (read : List Line) → Reading began now r given read → IsFront read (lines_of given)
@@ -61,13 +55,16 @@ module _ (h : Header) (began : SourceState) (old : Option (List ℕ)) (before : 
     limit = limit ∙ g.limit;
     writing = Appends-trans old was is g.text piece g.writing a;
     later = let l = g.later in omega arith;
-    run = run_more h start g.rest g.text g.standing line piece taken.next g.run taken.step;
+    run = run-more h (behind_header 1) g.rest g.text g.standing line piece taken.next g.run taken.step;
     stands = taken.stands;
     few = let few = g.few in let lines = taken.lines in omega arith;
   }
 
+  so_far : PrintsLines h (separator ∷ g.rest) g.text g.standing
+  so_far = record { count = 1; rest = g.rest; header = (refl, refl); run = g.run }
+
   open_so_far : IsOpen h (separator ∷ g.rest) g.text
-  open_so_far = inr (g.rest, g.standing, refl, g.run)
+  open_so_far = inr (g.standing, so_far)
 
   -- want of memory: nothing of this line was written
   no_memory : (got : List ℕ) (more : List Line) → Reading began later after (g.given ++ got) ((separator ∷ g.rest) ++ more) → Appends was is []
@@ -101,10 +98,13 @@ module _ (h : Header) (began : SourceState) (old : Option (List ℕ)) (before : 
   }
 
   open_more : (line : Line) (piece : List ℕ) (new : Script) → TakesPiece h g.standing line new piece → IsOpen h ((separator ∷ g.rest) ++ line ∷ []) (g.text ++ piece)
-  open_more line piece new taken = inr (g.rest ++ line ∷ [], taken.next, refl, run_more h start g.rest g.text g.standing line piece taken.next g.run taken.step)
+  open_more line piece new taken = inr (
+    taken.next,
+    record { count = 1; rest = g.rest ++ line ∷ []; header = (refl, refl); run = run-more h (behind_header 1) g.rest g.text g.standing line piece taken.next g.run taken.step },
+  )
 
   ended : (piece : List ℕ) → EndsInput h g.standing piece → IsEnded h (separator ∷ g.rest) (g.text ++ piece)
-  ended piece l = (g.rest, g.standing, g.text, piece, refl, g.run, l, refl)
+  ended piece l = (g.text, piece, g.standing, so_far, l, refl)
 
   -- one more line, whatever the call that printed it answered
   pub line_printed : (line : Line) (got : List ℕ) (new : Script) (result : Option Status) → Reading began later after (g.given ++ got) ((separator ∷ g.rest) ++ line ∷ []) → budget after + 1 ≤ budget reader
@@ -252,12 +252,12 @@ nothing_done h began now old faults given took most = record {
 }
 
 pub first_line : (h : Header) (began now : SourceState) (reader : Reader) (given : List ℕ) (old : Option (List ℕ)) (faults : ℕ) (script : Script) → Reading began now reader given (separator ∷ [])
-    → reader.limit ≡ 2 ^ 40 → ScriptStands h start script → Going h began now reader old old faults faults script
+    → reader.limit ≡ 2 ^ 40 → ScriptStands h (behind_header 1) script → Going h began now reader old old faults faults script
 first_line h began now reader given old faults script r limit stands = record {
   given = given;
   rest = [];
   text = [];
-  standing = start;
+  standing = behind_header 1;
   reading = r;
   limit = limit;
   writing = Appends-nil old;

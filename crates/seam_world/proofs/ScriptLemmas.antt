@@ -4,23 +4,21 @@ use Rattle.std.specs.Prelude.{codes, MatchBool, ◌==◌}
 use Rattle.std.proofs.lemmas.Grind.{common_steps}
 use Rattle.seam_io.specs.Lines.{Line, Content}
 use Rattle.seam_transcript.specs.Language.{IsSkipped, HasWords, Command, Create, Call, Sync, Says}
-use Rattle.seam_transcript.specs.Book.{Header, Book, closed, Accepts}
+use Rattle.seam_transcript.specs.Book.{Header, Book, closed, Accepts, NoCommand, Verdict as Verdicts, Refused, Accepted, Judges}
+use Rattle.seam_transcript.specs.Standing.{Standing, counted, with_book}
 use Rattle.seam_transcript.specs.Round.{IsRound}
-use Rattle.seam_transcript.specs.Transcript.{Standing, counted, with_book, refusal, TakesLine, TakesOther, TakesCommand, EndsRound, EndsInput}
+use Rattle.seam_transcript.specs.Transcript.{refusal, ends_round, Takes, EndsInput}
 use Rattle.seam_transcript.specs.Sequence.{sequence}
+use Rattle.seam_transcript.proofs.Commands.{none-accepted}
 use Rattle.seam_world.specs.Table.{TableStands, Judged}
 use Rattle.seam_world.specs.Text.{table_text}
 use Rattle.seam_world.specs.Script.{IsReady, ScriptStands, EndsOpenRound, AwaitsVerdict, TakesPieceOf, TakesPiece}
 use Rattle.seam_world.specs.declared.script.Script.{Script}
 use Rattle.seam_world.specs.declared.table.Verdict.{Verdict}
 use Rattle.seam_world.specs.declared.table.Verdict.TheVariants as verdict
-use Rattle.seam_world.proofs.Rounds.{table_round}
+use Rattle.seam_world.proofs.Rounds.{behind_round, table_round}
 
 -- ---- rounds
-
--- the standing behind a round
-abbrev behind_round : Standing → Standing
-behind_round t = record { lines = t.lines; book = closed t.book; orders = sequence t.book.calls; rounds = t.rounds + 1 }
 
 pub round_ended : (h : Header) (t : Standing) (old new : Script) → IsReady h t old → t.lines < 2 ^ 62
     → new.round ≡ min (old.round + 1) (2 ^ 64 - 1) → new.line ≡ old.line → new.accepted ≡ 0 → TableStands h (closed t.book) (sequence t.book.calls) new.table
@@ -30,14 +28,9 @@ round_ended h t old new ready few round line accepted table =
     let number : new.round ≡ t.rounds + 1 = omega (arith, round, ready.round) in
     record {
       next = behind_round t;
-      ends = record {
-        legal = subst (λ (n : ℕ). IsRound h (t.rounds + 1) t.book t.orders (sequence t.book.calls) (table_text n old.table.defs old.table.entities.entries)) (sym number)
-            (subst (λ defs. IsRound h (t.rounds + 1) t.book t.orders (sequence t.book.calls) (table_text (t.rounds + 1) defs old.table.entities.entries)) (sym ready.table.defs)
-            (table_round h (t.rounds + 1) t.book t.orders old.table ready.table));
-        lines = refl;
-        book = refl;
-        rounds = refl;
-      };
+      ends = subst (λ (n : ℕ). IsRound h t (table_text n old.table.defs old.table.entities.entries) (behind_round t)) (sym number)
+          (subst (λ defs. IsRound h t (table_text (t.rounds + 1) defs old.table.entities.entries) (behind_round t)) (sym ready.table.defs)
+          (table_round h t old.table ready.table));
       stands = λ more. record {
         ready = record { table = table; line = line ∙ ready.line; round = number; calls = ready.calls; rounds = more };
         accepted = accepted;
@@ -47,19 +40,30 @@ round_ended h t old new ready few round line accepted table =
 
 -- ---- commands
 
--- an accepted command adds a line to the round, and a call at most
-accepted_more : (h : Header) (b : Book) (c : Command) (next : Book) → Accepts h b c next → (length next.calls ≤ length b.calls + 1) × (next.open_lines ≡ b.open_lines + 1)
-accepted_more h b (Create e name x z) next a = let is = a.2 in (omega (arith, ap (λ (n : Book). length n.calls) is), ap (λ (n : Book). n.open_lines) is)
-accepted_more h b (Call who e name arg) next a =
-    let is = a.5 in
-    (omega (arith, ap (λ (n : Book). length n.calls) is, length-append b.calls), ap (λ (n : Book). n.open_lines) is)
-accepted_more h b Sync next a = absurd a
+-- an accepted command other than `sync` adds a line to the round, and a call at most; the round ends with it where it is the 65,536th
+accepted_more : (h : Header) (b : Book) (c : Command) (next : Book) → c ≢ Sync → Accepts h b c next
+    → (length next.calls ≤ length b.calls + 1) × (next.open_lines ≡ b.open_lines + 1) × (ends_round c next ≡ (next.open_lines == 65536))
+accepted_more h b (Create e name x z) next other a = let is = a.2 in (omega (arith, ap (λ (n : Book). length n.calls) is), ap (λ (n : Book). n.open_lines) is, refl)
+accepted_more h b (Call who e name args) next other a =
+    let is = a.6 in
+    (omega (arith, ap (λ (n : Book). length n.calls) is, length-append b.calls), ap (λ (n : Book). n.open_lines) is, refl)
+accepted_more h b Sync next other a = absurd (other refl)
+
+-- the verdict on a line that says a command which the book accepts
+accepted : (h : Header) (b : Book) (c : Command) (next : Book) → Accepts h b c next → (line : List ℕ) (words : List (List ℕ)) → ¬ (IsSkipped line) → HasWords line words → Says words c
+    → Judges h b (Content line) (Accepted c next)
+accepted h b c next accepts line words not has says = inr (not, (words, has, says, accepts))
+
+-- and on one that says a command which it does not accept
+refused : (h : Header) (b : Book) (c : Command) → ((next : Book) → ¬ (Accepts h b c next)) → (line : List ℕ) (words : List (List ℕ)) → ¬ (IsSkipped line) → HasWords line words → Says words c
+    → Judges h b (Content line) (Refused NoCommand)
+refused h b c none line words not has says = inr (not, (words, has, none-accepted h b words c says none))
 
 -- a kept command makes the script ready to end the round
 pub kept_ready : (h : Header) (t : Standing) (c : Command) (old new : Script) → (w : AwaitsVerdict h t c verdict.Kept old) → new.table ≡ old.table → new.line ≡ old.line → new.round ≡ old.round
     → IsReady h (with_book t w.judged.0) new
 kept_ready h t c old new w table line round =
-    let more = accepted_more h t.book c w.judged.0 w.judged.1 in
+    let more = accepted_more h t.book c w.judged.0 w.other w.judged.1 in
     let calls = w.calls in
     let rounds = w.rounds in
     record {
@@ -74,18 +78,15 @@ kept_ready h t c old new w table line round =
 pub kept_last : (h : Header) (t : Standing) (c : Command) (old new : Script) (piece : List ℕ) (w : AwaitsVerdict h t c verdict.Kept old) → min (old.accepted + 1) 4294967295 ≡ 65536
     → EndsOpenRound h (with_book t w.judged.0) new piece → TakesPieceOf h t c new piece
 kept_last h t c old new piece w most e =
-    let more = accepted_more h t.book c w.judged.0 w.judged.1 in
+    let more = accepted_more h t.book c w.judged.0 w.other w.judged.1 in
     let full : w.judged.0.open_lines ≡ 65536 = omega (arith, more.1, w.accepted) in
     let test : (w.judged.0.open_lines == 65536) ≡ true = grind (arith, common_steps, full) in
     let rounds = w.rounds in
     record {
+      verdict = Accepted c w.judged.0;
+      judges = accepted h t.book c w.judged.0 w.judged.1;
       next = e.next;
-      takes = inl (
-        w.judged.0,
-        w.judged.1,
-        subst (λ (b : Bool). MatchBool b (EndsRound h t w.judged.0 piece e.next) ((piece ≡ []) × (e.next ≡ with_book t w.judged.0))) (sym test)
-            (record { legal = e.ends.legal; lines = e.ends.lines; book = e.ends.book; rounds = e.ends.rounds }),
-      );
+      takes = subst (λ (b : Bool). MatchBool b (IsRound h (with_book t w.judged.0) piece e.next) ((piece ≡ []) × (e.next ≡ with_book t w.judged.0))) (sym (more.2 ∙ test)) e.ends;
       lines = e.ends.lines;
       stands = e.stands (omega arith);
     }
@@ -93,19 +94,17 @@ kept_last h t c old new piece w most e =
 -- a kept command that does not end the round
 pub kept_open : (h : Header) (t : Standing) (c : Command) (old new : Script) (w : AwaitsVerdict h t c verdict.Kept old) → new.accepted ≡ min (old.accepted + 1) 4294967295 → new.accepted ≢ 65536
     → new.table ≡ old.table → new.line ≡ old.line → new.round ≡ old.round → TakesPieceOf h t c new []
-kept_open h t c old new w accepted less table line round =
-    let more = accepted_more h t.book c w.judged.0 w.judged.1 in
+kept_open h t c old new w accepted_now less table line round =
+    let more = accepted_more h t.book c w.judged.0 w.other w.judged.1 in
     let below = w.below_most in
     let was = w.accepted in
     let count : new.accepted ≡ w.judged.0.open_lines = omega (arith, more.1) in
     let test : (w.judged.0.open_lines == 65536) ≡ false = grind (arith, common_steps, less, count) in
     record {
+      verdict = Accepted c w.judged.0;
+      judges = accepted h t.book c w.judged.0 w.judged.1;
       next = with_book t w.judged.0;
-      takes = inl (
-        w.judged.0,
-        w.judged.1,
-        subst (λ (b : Bool). MatchBool b (EndsRound h t w.judged.0 [] (with_book t w.judged.0)) ((◌≡◌ {A = List ℕ} [] []) × (with_book t w.judged.0 ≡ with_book t w.judged.0))) (sym test) (refl, refl),
-      );
+      takes = subst (λ (b : Bool). MatchBool b (IsRound h (with_book t w.judged.0) [] (with_book t w.judged.0)) ((◌≡◌ {A = List ℕ} [] []) × (with_book t w.judged.0 ≡ with_book t w.judged.0))) (sym (more.2 ∙ test)) (refl, refl);
       lines = refl;
       stands = record { ready = kept_ready h t c old new w table line round; accepted = count; below_most = omega (arith, more.1) };
     }
@@ -116,8 +115,10 @@ refused_command h t c s w =
     let calls = w.calls in
     let rounds = w.rounds in
     record {
+      verdict = Refused NoCommand;
+      judges = refused h t.book c w.judged.0;
       next = t;
-      takes = inr (w.judged.0, (refl, refl));
+      takes = (refl, refl);
       lines = refl;
       stands = record {
         ready = record { table = w.judged.1; line = w.line; round = w.round; calls = omega arith; rounds = omega arith };
@@ -150,9 +151,10 @@ counted_stands h t old new stands few line table round accepted = record {
   below_most = stands.below_most;
 }
 
--- a line that is not taken, with what is printed for it
-pub not_taken : (h : Header) (t : Standing) (line : Line) (s : Script) (piece : List ℕ) → ScriptStands h (counted t) s → TakesLine h (counted t) line piece (counted t) → TakesPiece h t line s piece
-not_taken h t line s piece stands takes = record { next = counted t; step = takes; lines = refl; stands = stands }
+-- a line that changes nothing, with what is printed for it
+pub not_taken : (h : Header) (t : Standing) (line : Line) (s : Script) (v : Verdicts) (piece : List ℕ) → ScriptStands h (counted t) s → Judges h t.book line v → Takes h (counted t) v piece (counted t)
+    → TakesPiece h t line s piece
+not_taken h t line s v piece stands judges takes = record { next = counted t; step = (v, judges, takes); lines = refl; stands = stands }
 
 -- `sync`
 pub synced : (h : Header) (t : Standing) (line : List ℕ) (words : List (List ℕ)) (old new : Script) (piece : List ℕ) → ScriptStands h t old → ¬ (IsSkipped line) → HasWords line words → Says words Sync
@@ -161,22 +163,17 @@ synced h t line words old new piece stands not has says e =
     let rounds = stands.ready.rounds in
     record {
       next = e.next;
-      step = inr (inr (not, (words, has, inl (Sync, says, e.ends))));
+      step = (Accepted Sync t.book, inr (not, (words, has, says, refl)), e.ends);
       lines = e.ends.lines;
       stands = e.stands (omega arith);
     }
 
 -- a command other than `sync`
-other_command : (h : Header) (t : Standing) (c : Command) (piece : List ℕ) (next : Standing) → TakesOther h t c piece next → (c ≢ Sync) → TakesCommand h t c piece next
-other_command h t (Create e name x z) piece next takes other = takes
-other_command h t (Call who e name arg) piece next takes other = takes
-other_command h t Sync piece next takes other = absurd (other refl)
-
-pub commanded : (h : Header) (t : Standing) (line : List ℕ) (words : List (List ℕ)) (c : Command) (new : Script) (piece : List ℕ) → ¬ (IsSkipped line) → HasWords line words → Says words c → c ≢ Sync
+pub commanded : (h : Header) (t : Standing) (line : List ℕ) (words : List (List ℕ)) (c : Command) (new : Script) (piece : List ℕ) → ¬ (IsSkipped line) → HasWords line words → Says words c
     → TakesPieceOf h (counted t) c new piece → TakesPiece h t (Content line) new piece
-commanded h t line words c new piece not has says other taken = record {
+commanded h t line words c new piece not has says taken = record {
   next = taken.next;
-  step = inr (inr (not, (words, has, inl (c, says, other_command h (counted t) c piece taken.next taken.takes other))));
+  step = (taken.verdict, taken.judges line words not has says, taken.takes);
   lines = taken.lines;
   stands = taken.stands;
 }
@@ -185,22 +182,23 @@ commanded h t line words c new piece not has says other taken = record {
 pub input_ended : (h : Header) (t : Standing) (s new : Script) (piece : List ℕ) → ScriptStands h t s → s.accepted ≢ 0 → EndsOpenRound h t new piece → EndsInput h t piece
 input_ended h t s new piece stands some e =
     let test : (t.book.open_lines == 0) ≡ false = grind (arith, common_steps, some, stands.accepted) in
-    subst (λ (b : Bool). MatchBool b (piece ≡ []) ((next : Standing) × EndsRound h t t.book piece next)) (sym test) (e.next, e.ends)
+    subst (λ (b : Bool). MatchBool b (piece ≡ []) ((next : Standing) × IsRound h t piece next)) (sym test) (e.next, e.ends)
 
 pub nothing_open : (h : Header) (t : Standing) (s : Script) → ScriptStands h t s → s.accepted ≡ 0 → EndsInput h t []
 nothing_open h t s stands none =
     let test : (t.book.open_lines == 0) ≡ true = grind (arith, common_steps, none, stands.accepted) in
-    subst (λ (b : Bool). MatchBool b (◌≡◌ {A = List ℕ} [] []) ((next : Standing) × EndsRound h t t.book [] next)) (sym test) refl
+    subst (λ (b : Bool). MatchBool b (◌≡◌ {A = List ℕ} [] []) ((next : Standing) × IsRound h t [] next)) (sym test) refl
 
 -- ---- answers
 
 -- the script awaits the verdict of a command on the line that it counted
-pub awaits : (h : Header) (t : Standing) (c : Command) (v : Verdict) (old new : Script) → ScriptStands h t old → t.lines < 2 ^ 61 → Judged h t.book c t.orders new.table v
+pub awaits : (h : Header) (t : Standing) (c : Command) (v : Verdict) (old new : Script) → c ≢ Sync → ScriptStands h t old → t.lines < 2 ^ 61 → Judged h t.book c t.orders new.table v
     → new.line ≡ min (old.line + 1) (2 ^ 64 - 1) → new.round ≡ old.round → new.accepted ≡ old.accepted → AwaitsVerdict h (counted t) c v new
-awaits h t c v old new stands few judged line round accepted =
+awaits h t c v old new other stands few judged line round accepted =
     let calls = stands.ready.calls in
     let rounds = stands.ready.rounds in
     record {
+      other = other;
       judged = judged;
       line = omega (arith, stands.ready.line);
       round = round ∙ stands.ready.round;

@@ -5,7 +5,8 @@ use Rattle.seam_io.specs.Causes.{Rose}
 use Rattle.seam_io.specs.Lines.{Line}
 use Rattle.seam_io.specs.Reading.{SourceState, Reader, Reading, budget}
 use Rattle.seam_transcript.specs.Book.{Header}
-use Rattle.seam_transcript.specs.Transcript.{Standing, start, separator, Run}
+use Rattle.seam_transcript.specs.Standing.{Standing, behind_header}
+use Rattle.seam_transcript.specs.Transcript.{separator, Run}
 use Rattle.seam_world.specs.Script.{ScriptStands}
 use Rattle.seam_world.specs.Status.{IsRunEnd}
 use Rattle.seam_world.specs.Ends.{Tells, IsFront}
@@ -24,7 +25,7 @@ pub record Going (h : Header) (began now : SourceState) (reader : Reader) (old n
   pub limit : reader.limit ≡ 2 ^ 40
   pub writing : Appends old new text
   pub later : before ≤ faults
-  pub run : Run h start rest text standing
+  pub run : Run h (behind_header 1) rest text standing
   pub stands : ScriptStands h standing script
   -- each line took a byte, so that the numbers stay small
   pub few : standing.lines + budget reader ≤ 2 ^ 40 + 1

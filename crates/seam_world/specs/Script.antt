@@ -1,9 +1,11 @@
 -- How far a script was taken, beside the standing of a transcript.
-use Rattle.std.specs.Prelude.{◌≡◌, ℕ, ◌+◌, ◌<◌, List, length}
-use Rattle.seam_io.specs.Lines.{Line}
-use Rattle.seam_transcript.specs.Language.{Command}
-use Rattle.seam_transcript.specs.Book.{Header}
-use Rattle.seam_transcript.specs.Transcript.{Standing, Step, EndsRound, TakesOther}
+use Rattle.std.specs.Prelude.{◌≡◌, ◌≢◌, ℕ, ◌+◌, ◌<◌, List, length}
+use Rattle.seam_io.specs.Lines.{Line, Content}
+use Rattle.seam_transcript.specs.Language.{IsSkipped, HasWords, Command, Sync, Says}
+use Rattle.seam_transcript.specs.Book.{Header, Judges, Verdict as Verdicts}
+use Rattle.seam_transcript.specs.Standing.{Standing}
+use Rattle.seam_transcript.specs.Round.{IsRound}
+use Rattle.seam_transcript.specs.Transcript.{Takes, Step}
 use Rattle.seam_world.specs.Table.{TableStands, Judged}
 use Rattle.seam_world.specs.declared.script.Script.{Script}
 use Rattle.seam_world.specs.declared.table.Verdict.{Verdict}
@@ -26,11 +28,12 @@ pub record ScriptStands (h : Header) (t : Standing) (s : Script) : Type 0 where
 -- the open round ended, and its text is the piece; where a line ended it, the script goes on
 pub record EndsOpenRound (h : Header) (t : Standing) (new : Script) (piece : List ℕ) : Type 0 where
   pub next : Standing
-  pub ends : EndsRound h t t.book piece next
+  pub ends : IsRound h t piece next
   pub stands : t.rounds + 1 < t.lines → ScriptStands h next new
 
--- a command was judged, and the script's counts are those from before it
+-- a command other than `sync` was judged, and the script's counts are those from before it
 pub record AwaitsVerdict (h : Header) (t : Standing) (c : Command) (v : Verdict) (s : Script) : Type 0 where
+  pub other : c ≢ Sync
   pub judged : Judged h t.book c t.orders s.table v
   pub line : s.line ≡ t.lines
   pub round : s.round ≡ t.rounds
@@ -39,10 +42,12 @@ pub record AwaitsVerdict (h : Header) (t : Standing) (c : Command) (v : Verdict)
   pub calls : length t.book.calls + 1 < t.lines
   pub rounds : t.rounds + 1 < t.lines
 
--- a command other than `sync` was taken, and its text is the piece
+-- a command was taken, with the verdict on each line that says it, and its text is the piece
 pub record TakesPieceOf (h : Header) (t : Standing) (c : Command) (new : Script) (piece : List ℕ) : Type 0 where
+  pub verdict : Verdicts
+  pub judges : (line : List ℕ) (words : List (List ℕ)) → ¬ (IsSkipped line) → HasWords line words → Says words c → Judges h t.book (Content line) verdict
   pub next : Standing
-  pub takes : TakesOther h t c piece next
+  pub takes : Takes h t verdict piece next
   pub lines : next.lines ≡ t.lines
   pub stands : ScriptStands h next new
 

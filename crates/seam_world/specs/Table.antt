@@ -3,7 +3,7 @@ use Rattle.std.specs.Prelude.{◌≡◌, ℕ, ◌+◌, ◌<◌, ◌≤◌, ◌^�
 use Rattle.std.specs.Ordering.{nat_cmp}
 use Rattle.std.specs.BTreeMap.{get, btree_map_len, IsOrdered}
 use Rattle.seam_geo.specs.declared.pos.Pos.{Pos}
-use Rattle.seam_defs.specs.Types.{type_of, method_of}
+use Rattle.seam_defs.specs.Types.{type_of}
 use Rattle.seam_defs.specs.Groups.{held_by}
 use Rattle.seam_defs.specs.Deeds.{start_values, after}
 use Rattle.seam_defs.specs.declared.types.TypeDef.{TypeDef}
@@ -15,7 +15,7 @@ use Rattle.seam_transcript.specs.declared.sender.Sender.{Sender}
 use Rattle.seam_transcript.specs.declared.sender.Sender.TheVariants.{Base}
 use Rattle.seam_transcript.specs.declared.executed.Executed.{Executed}
 use Rattle.seam_transcript.specs.Language.{Command}
-use Rattle.seam_transcript.specs.Book.{Header, Book, Created, created_as, Accepts, IsBuilt}
+use Rattle.seam_transcript.specs.Book.{Header, Book, Created, created_as, Accepts}
 use Rattle.seam_transcript.specs.Orders.{Orders, of_sender}
 use Rattle.seam_transcript.specs.Sequence.{sequence}
 use Rattle.seam_transcript.specs.FlatTable.{flat}
@@ -86,12 +86,6 @@ pub record IsNew (defs : List TypeDef) (number : ℕ) (pos : Pos) (v : Entity) :
   pub ty : v.ty ≡ number
   pub cell : IsFresh (start_of defs number part.Cell pos) v.cell
   pub base : IsFresh (start_of defs number part.Base pos) v.base
-
--- an entity's type has a method of the name, whose calls are built
-pub record HasMethod (h : Header) (b : Book) (e : ℕ) (method_name : List ℕ) (c : Created) (m : ℕ) : Type 0 where
-  pub entity : created_as b e ≡ Some c
-  pub built : IsBuilt h.defs c.ty m
-  pub named : (method_of h.defs c.ty m).name ≡ method_name
 
 -- the place of a base node's count
 abbrev pub place_of_node : ℕ → ℕ

@@ -3,7 +3,8 @@ ghost use Rattle.std.specs.Prelude.{◌≡◌, ◌<◌, ◌≤◌, ◌^◌, ◌+
 ghost use Rattle.seam_io.specs.Lines.{Content, Long};
 ghost use Rattle.seam_transcript.specs.Book.{empty_header};
 ghost use Rattle.seam_transcript.specs.Language.{Command as Commands};
-ghost use Rattle.seam_transcript.specs.Transcript.{Standing, start, EndsInput};
+ghost use Rattle.seam_transcript.specs.Standing.{Standing, behind_header};
+ghost use Rattle.seam_transcript.specs.Transcript.{EndsInput};
 ghost use Rattle.seam_world.specs.Script.{IsReady, ScriptStands, AwaitsVerdict, TakesPiece, TakesPieceOf, EndsOpenRound};
 
 use crate::table::{Table, Verdict};
@@ -30,7 +31,7 @@ pub struct Script {
 impl Script {
     /// A script whose header, of one line, was empty.
     pub fn new(alloc: Global) -> Result<Self, AllocError>
-        ensures { IfOk result (ScriptStands empty_header start) }
+        ensures { IfOk result (ScriptStands empty_header (behind_header 1)) }
     {
         let defs = Defs::builtin(alloc)?;
         Ok(Script {
@@ -49,7 +50,8 @@ impl Script {
             → (piece : List ℕ) × TakesPiece empty_header t (Content line.now) self.new piece × (out.new.items ≡ out.old.items ++ piece)) }
     {
         self.line = self.line.saturating_add(1);
-        match read_line(self.alloc, line) {
+        let mut table: [&[u8]; 16] = [b""; 16];
+        match read_line(self.alloc, line, &mut table) {
             Said::Skipped => Ok(()),
             Said::Sync => self.end_round(out),
             Said::BadWords(error) => push_bad_words(out, self.line, error.number()),
@@ -65,9 +67,9 @@ impl Script {
                 sender_name,
                 entity,
                 method_name,
-                argument,
+                arguments,
             } => {
-                let verdict = self.table.call(sender_name, entity, method_name, argument)?;
+                let verdict = self.table.call(sender_name, entity, method_name, arguments)?;
                 self.judged(verdict, out)
             }
             Said::Nothing => push_refusal(out, self.line, b"command"),

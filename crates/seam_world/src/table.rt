@@ -2,19 +2,16 @@
 // accepted.
 ghost use Rattle.std.specs.Prelude.{◌≡◌, ◌≢◌, ◌<◌, ◌≤◌, ◌^◌, ◌+◌, ◌++◌, ◌∷◌, [], ◌↔◌, ℕ, IsTrue, List, Some, None, length, OnOk, IfOk, MatchOption, slice_index};
 ghost use Rattle.seam_defs.specs.Groups.{held_by};
-ghost use Rattle.seam_defs.specs.Types.{type_of, method_of};
-ghost use Rattle.seam_value.specs.Values.{decimal_of};
 ghost use Rattle.seam_transcript.specs.Language.{Create, Call};
-ghost use Rattle.seam_transcript.specs.Book.{Header, Book, Created, empty_book, closed, sender_text, IsSender, IsBuilt, MayCreate};
+ghost use Rattle.seam_transcript.specs.Book.{Header, Book, Created, created_as, empty_book, closed, MayCreate};
 ghost use Rattle.seam_transcript.specs.Orders.{Orders, no_orders, of_sender};
-ghost use Rattle.seam_transcript.specs.declared.sender.Sender.{Sender as Senders};
+ghost use Rattle.seam_transcript.specs.Said.{texts_of};
 ghost use Rattle.seam_transcript.specs.Sequence.{sequence};
-ghost use Rattle.seam_world.specs.Table.{TableStands, Judged, HasRoom, IsNew, start_of, HasMethod, Executes, ExecutesOn, Counts, StartsRound};
+ghost use Rattle.seam_world.specs.Table.{TableStands, Judged, HasRoom, IsNew, start_of, Executes, ExecutesOn, Counts, StartsRound};
 
-use seam_defs::{Args, Deed, Defs, Part, Settings, State};
+use seam_defs::{Deed, Defs, Part, Settings, State};
 use seam_geo::Pos;
-use seam_transcript::{Executed, Sender, whole_number};
-use seam_value::{Value, ValueError, ValueType};
+use seam_transcript::{Executed, Sender, deed_named, sender_named, type_named};
 use std::alloc::{AllocError, Global};
 use std::collections::BTreeMap;
 
@@ -167,10 +164,7 @@ impl Table {
         if !self.has_room(entity, pos) {
             return None;
         }
-        match self.defs.find_type(type_name) {
-            Some(ty) => { if self.takes_calls(ty) { Some(ty) } else { None } }
-            None => None,
-        }
+        type_named(&self.defs, type_name)
     }
 
     // Whether an entity of this number may be made at the position.
@@ -203,82 +197,41 @@ impl Table {
         Ok(State { pos, props })
     }
 
-    // Whether calls of this method are built.
-    fn is_built(&self, ty: u16, method: u16) -> bool
-        ensures { IsTrue result ↔ IsBuilt self.now.defs ty method }
-    {
-        self.defs.has_method(ty, method)
-            && self.defs.part_of(ty, method) == Part::Cell
-            && self.takes_one_number(ty, method)
-    }
-
-    // Whether a method has one argument, a number of 32 bits with a sign.
-    fn takes_one_number(&self, ty: u16, method: u16) -> bool
-        ensures { IsTrue result ↔ ((method_of self.now.defs ty method).args ≡ ValueType.Int32 ∷ []) }
-    {
-        self.defs.arg_type(ty, method, 0) == Some(ValueType::Int32)
-            && self.defs.arg_type(ty, method, 1).is_none()
-    }
-
-    // Whether entities of the type take calls that are built.
-    fn takes_calls(&self, ty: u16) -> bool
-        ensures { IsTrue result ↔ ((m : ℕ) × IsBuilt self.now.defs ty m) }
-    {
-        for method in 0..self.defs.method_count(ty) {
-            if self.is_built(ty, method) {
-                return true;
-            }
-        }
-        false
-    }
-
-    /// Executes a call, unless there is no such sender, entity or method, or the argument is no spelling of a number of the
-    /// method's type.
+    /// Executes a call, unless there is no such sender, entity or method, or the arguments are no spellings of what the method
+    /// takes.
     pub fn call(
         &mut self,
         sender_name: &[u8],
         entity: u32,
         method_name: &[u8],
-        argument: &[u8],
+        arguments: &[&[u8]],
     ) -> Result<Verdict, AllocError>
         ensures { IfOk result (λ v. (h : Header) (b : Book) (before : Orders) → TableStands h b before self.old
             → length b.calls < 2 ^ 61 → h.settings.bases ≤ 8
-            → Judged h b (Call sender_name.now entity method_name.now argument.now) before self.new v) }
+            → Judged h b (Call sender_name.now entity method_name.now (texts_of arguments.now)) before self.new v) }
     {
         let Some(sender) = sender_named(self.alloc, sender_name, self.settings.bases) else {
             return Ok(Verdict::Refused);
         };
-        let Some(method) = self.method_for(entity, method_name) else {
+        let Some(ty) = self.type_of(entity) else {
             return Ok(Verdict::Refused);
         };
-        match Value::parse(self.alloc, argument, ValueType::Int32) {
-            Ok(value) => {
-                let args = Args::of(vec![in self.alloc; value]?);
-                self.execute(entity, sender, Deed::Method(method, args))?;
+        match deed_named(self.alloc, &self.defs, ty, method_name, arguments)? {
+            Some(deed) => {
+                self.execute(entity, sender, deed)?;
                 Ok(Verdict::Kept)
             }
-            Err(ValueError::NoMemory) => Err(AllocError),
-            Err(_) => Ok(Verdict::Refused),
+            None => Ok(Verdict::Refused),
         }
     }
 
-    // The method of this name of an entity, where calls of it are built.
-    fn method_for(&self, entity: u32, method_name: &[u8]) -> Option<u16>
+    // The type of an entity, where it is there.
+    fn type_of(&self, entity: u32) -> Option<u16>
         ensures { (h : Header) (b : Book) (before : Orders) → TableStands h b before self.now → MatchOption result
-            ((c : Created) (m : ℕ) → ¬ (HasMethod h b entity method_name.now c m))
-            (λ m. (c : Created) × HasMethod h b entity method_name.now c m) }
+            (created_as b entity ≡ None) (λ ty. (c : Created) × (created_as b entity ≡ Some c) × (ty ≡ c.ty)) }
     {
         match self.entities.get(&entity) {
-            Some(e) => match self.defs.find_method(e.ty, method_name) {
-                Some(method) => {
-                    if self.is_built(e.ty, method) {
-                        Some(method)
-                    } else {
-                        None
-                    }
-                }
-                None => None,
-            },
+            Some(e) => Some(e.ty),
             None => None,
         }
     }
@@ -303,26 +256,5 @@ impl Table {
             entity.start_round();
             true
         });
-    }
-}
-
-// The sender of this name: `b`, and the number of a base node from 1 on.
-fn sender_named(alloc: Global, name: &[u8], bases: u32) -> Option<Sender>
-    ensures { bases ≤ 8 → MatchOption result
-        ((s : Senders) → IsSender bases s → sender_text s ≢ name.now)
-        (λ s. IsSender bases s × (sender_text s ≡ name.now)) }
-{
-    match name {
-        [b'b', number @ ..] => match whole_number(alloc, number) {
-            Some(number) => {
-                if 1 <= number && number <= bases && number <= 8 {
-                    Some(Sender::Base(number as u8))
-                } else {
-                    None
-                }
-            }
-            None => None,
-        },
-        _ => None,
     }
 }

@@ -1,16 +1,22 @@
-use Rattle.std.proofs.Common.{◌∙◌}
-use Rattle.seam_world.proofs.Executing.{accepted-call}
+use Rattle.std.proofs.Common.{sym, ◌∙◌}
+use Rattle.std.proofs.lemmas.Option.{none-some}
+use Rattle.seam_transcript.specs.Said.{texts_of}
+use Rattle.seam_transcript.proofs.PlainLemmas.{match-some, match-none}
+use Rattle.seam_world.proofs.Executing.{accepted-call, no-deed}
 use Rattle.seam_world.proofs.table.Table.call.Goals as goal
 
-pub returns-in_default-method_for : goal.returns-in_default-method_for
-returns-in_default-method_for c = λ h b before stands few bases. (
-  (λ next accepts. c.in_default-method_for.ensures h b before stands accepts.1 accepts.2
-      (record { entity = accepts.4.entity; built = accepts.4.built; named = accepts.4.named })),
+pub returns-in_default-type_of : goal.returns-in_default-type_of
+returns-in_default-type_of c = λ h b before stands few bases.
+    ((λ next accepts. none-some accepts.1 (sym (c.in_default-type_of.ensures h b before stands) ∙ accepts.4.entity)), stands)
+
+pub returns-in_ok-execute-in-Some-2 : goal.returns-in_ok-execute-in-Some-2
+returns-in_ok-execute-in-Some-2 c = λ h b before stands few bases.
+    accepted-call h b before c.args.self.now c.execute.new.self c.args.sender_name.now c.args.entity c.args.method_name.now (texts_of c.args.arguments.now) c.in-Some.sender c.in-Some-type_of.ty c.in-Some-2.deed
+    stands few bases c.in-Some.ensures (c.in-Some-type_of.ensures h b before stands) (match-some _ _ c.in_ok-deed.field-0 c.in-Some-2.deed c.in-Some-2.is c.in_ok-deed.ensures) c.in_ok-execute-in-Some-2.ensures
+
+pub returns-in-None : goal.returns-in-None
+returns-in-None c = λ h b before stands few bases. (
+  no-deed h b before c.args.self.now c.args.entity c.args.method_name.now (texts_of c.args.arguments.now) c.in-Some-type_of.ty stands (c.in-Some-type_of.ensures h b before stands)
+      (match-none _ _ c.in_ok-deed.field-0 c.in-None.is c.in_ok-deed.ensures) c.args.sender_name.now,
   stands,
 )
-
-pub returns-in_ok-execute-in-Ok : goal.returns-in_ok-execute-in-Ok
-returns-in_ok-execute-in-Ok c = λ h b before stands few bases.
-    accepted-call h b before c.args.self.now c.execute.new.self c.args.sender_name.now c.args.entity c.args.method_name.now c.args.argument.now
-    c.in-Some.sender c.in-Some-method_for.method c.in-Ok.value c.of-args.result stands few bases c.in-Some.ensures (c.in-Some-method_for.ensures h b before stands)
-    c.in-Ok.ensures.value.0 c.in-Ok.ensures.value.1 (c.of-args.ensures ∙ c.in_ok-vec-in-Ok.ensures.items) c.in_ok-execute-in-Ok.ensures
