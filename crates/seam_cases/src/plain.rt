@@ -1,56 +1,46 @@
-// Rounds of the plain program beside those of a run.
+// The plain program beside the real one.
+use crate::rows::ROWS;
 use crate::runs::{GOOD, run_with};
-use seam_defs::{Args, Deed, Defs, Part};
-use seam_geo::Pos;
-use seam_transcript::{Made, Sender, Taken, push_plain_round};
-use seam_value::Value;
+use seam_transcript::transcript_of;
 use seam_world::Status;
 use std::alloc::Global;
+use std::process::Abort;
 use std::test::Fail;
 
-const AVATAR: u16 = 0;
-
-const TWO_SENDERS: &str =
-    "%%\ncreate 2 Avatar 7 8\ncreate 1 Avatar 100 100\ncall b1 1 hit 30\ncall b2 1 hit 5\ncall b1 2 heal 1\ncall b1 1 heal 5\nsync\ncall b2 1 heal 2\nsync\n";
-
-// A call of the script: the base node, the entity, the method, and its argument.
-type Row = (u8, u32, &'static [u8], i32);
-
-static FIRST_ROUND: [Row; 4] = [
-    (1, 1, b"hit", 30),
-    (2, 1, b"hit", 5),
-    (1, 2, b"heal", 1),
-    (1, 1, b"heal", 5),
+// Scripts of two senders, and of lines that are refused.
+static SCRIPTS: [&str; 4] = [
+    "%%\ncreate 2 Avatar 7 8\ncreate 1 Avatar 100 100\ncall b1 1 hit 30\ncall b2 1 hit 5\ncall b1 2 heal 1\ncall b1 1 heal 5\nsync\ncall b2 1 heal 2\nsync\n",
+    "%%\ncreate 10 Avatar 0 9999\ncreate 9 Avatar 9999 0\ncall b2 10 hit 2147483647\ncall b1 10 hit 2147483647\ncall b2 9 heal -1\nsync\nsync\ncall b2 10 heal 3\ncall b1 10 heal 4\ncall b2 10 heal 5\n",
+    "%%\ncreate 1 Avatar 10000 0\ncreate 1 Avatar 0 0\ncreate 1 Avatar 0 0\ncreate 0 Avatar 0 0\ncreate 2 avatar 0 0\ncall b3 1 hit 1\ncall b01 1 hit 1\ncall c1 1 hit 1\ncall b1 2 hit 1\ncall b2 1 hits 1\ncall b2 1 hit\ncall b2 1 hit 1 2\ncall b2 1 hit 2147483648\ncall b2 1 hit +1\ncall b1 1 hit 1\nsync 1\nsync\n",
+    "%%\n \"a\\c\"\n1 2 3 4 5 6 7 8 9 10 11 12 13 14 15 16 17\n\tcreate\t3  Avatar 1 1 \n#sync\ncall b2 3 heal 7\r\n\n",
 ];
 
-const SECOND_ROUND: Row = (2, 1, b"heal", 2);
-
-fn taken(alloc: Global, defs: &Defs, row: Row) -> Result<Taken, Fail> {
-    let (node, entity, name, argument) = row;
-    let method = defs.find_method(AVATAR, name).ok_or("method")?;
-    let args = Args::of(vec![in alloc; Value::Number(i128::from(argument))]?);
-    let deed = Deed::Method(method, args);
-    Ok(Taken::new(entity, Part::Cell, Sender::Base(node), deed))
+fn compare(rt: &impl Abort, alloc: Global, script: &str) -> Result<(), Fail> {
+    let (status, out) = run_with(alloc, script, GOOD)?;
+    // the plain program takes no longer inputs
+    assert!(rt; script.len() <= 1 << 40);
+    match transcript_of(alloc, script.as_bytes())? {
+        Some(text) => {
+            assert_eq!(rt; status, Status::Done, "{}", script);
+            assert_eq!(rt; out.bytes(), text.as_slice(), "{}", script);
+        }
+        None => assert_ne!(rt; status, Status::Done, "{}", script),
+    }
+    Ok(())
 }
 
 #[test]
-fn rounds_of_two_senders_are_those_of_the_plain_program(rt: HostRuntime) -> Result<(), Fail> {
-    let alloc = rt.alloc();
-    let defs = Defs::builtin(alloc)?;
-    let mut created = Vec::new(alloc);
-    created.push(Made::new(2, AVATAR, Pos { x: 7, z: 8 }))?;
-    created.push(Made::new(1, AVATAR, Pos { x: 100, z: 100 }))?;
-    let mut calls = Vec::new(alloc);
-    for row in &FIRST_ROUND {
-        calls.push(taken(alloc, &defs, *row)?)?;
+fn rows_are_those_of_the_plain_program(rt: HostRuntime) -> Result<(), Fail> {
+    for row in &ROWS {
+        compare(&rt, rt.alloc(), row.script)?;
     }
-    let mut plain = Vec::new(alloc);
-    push_plain_round(alloc, &mut plain, &defs, 1, &created, &calls, 0)?;
-    let before = calls.len();
-    calls.push(taken(alloc, &defs, SECOND_ROUND)?)?;
-    push_plain_round(alloc, &mut plain, &defs, 2, &created, &calls, before)?;
-    let (status, out) = run_with(alloc, TWO_SENDERS, GOOD)?;
-    assert_eq!(rt; status, Status::Done);
-    assert_eq!(rt; out.bytes(), plain.as_slice());
+    Ok(())
+}
+
+#[test]
+fn scripts_of_two_senders_are_those_of_the_plain_program(rt: HostRuntime) -> Result<(), Fail> {
+    for script in &SCRIPTS {
+        compare(&rt, rt.alloc(), script)?;
+    }
     Ok(())
 }

@@ -6,11 +6,11 @@ use std::process::Abort;
 use std::test::Fail;
 
 // A script, its status, and what it prints.
-struct Row {
-    name: &'static str,
-    script: &'static str,
-    status: Status,
-    output: &'static str,
+pub struct Row {
+    pub name: &'static str,
+    pub script: &'static str,
+    pub status: Status,
+    pub output: &'static str,
 }
 
 const FIRST_PATH: &str = "%%\ncreate 1 Avatar 100 100\ncall b1 1 hit 30\ncall b1 1 heal 5\nsync\n";
@@ -18,7 +18,7 @@ const FIRST_PATH: &str = "%%\ncreate 1 Avatar 100 100\ncall b1 1 hit 30\ncall b1
 const FIRST_ROUND: &str =
     "round 1\ndid 1 b1 1 hit 30\ndid 1 b1 2 heal 5\nhome 1 0 2 100 100 hp=75 mana=50 mood=0 note=\"\" scent=0 xp=0\nbase 1 0 gold=0 rank=1\nend 1\n";
 
-static ROWS: [Row; 8] = [
+pub static ROWS: [Row; 8] = [
     Row {
         name: "empty world",
         script: "%%\n",
