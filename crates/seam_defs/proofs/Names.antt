@@ -63,7 +63,6 @@ module _ {X : Type 0} (key : X → List ℕ) where
   rising (x ∷ xs) up (suc i) (suc j) d below within = rising xs (and-right (is_name (key x) && list_all (is_before (key x)) (map key xs)) (are_rising (map key xs)) up) i j d (omega arith) (omega arith)
 
   module _ (xs : List X) (up : are_rising (map key xs) ≡ true) (name : List ℕ) where
-    -- two places of one name are one
     not_two : (i j : ℕ) → i < j → slice_get (map key xs) i ≡ Some name → slice_get (map key xs) j ≡ Some name → ⊥
     not_two i j below at_i at_j =
         let first = named xs i name at_i in
@@ -72,7 +71,8 @@ module _ {X : Type 0} (key : X → List ℕ) where
         let before = rising xs up i j d below second.0 in
         not-before-itself name (rw (first.1 d, second.1 d) at before)
 
-    one_place : (i j : ℕ) → slice_get (map key xs) i ≡ Some name → slice_get (map key xs) j ≡ Some name → i ≡ j
+    -- two places of one name are one
+    pub one_place : (i j : ℕ) → slice_get (map key xs) i ≡ Some name → slice_get (map key xs) j ≡ Some name → i ≡ j
     one_place i j at_i at_j =
         elim (cases_order i j) [
           | inl same ↦ same

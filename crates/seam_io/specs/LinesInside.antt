@@ -1,4 +1,4 @@
--- A reader of lines by its fields.
+-- A reader of lines by its fields, which the type's view and invariant name.
 use Rattle.std.specs.Prelude.{◌≡◌, ◌≤◌, ◌<◌, ◌+◌, true, slice_range, vec_len}
 use Rattle.seam_io.specs.Lines.{HasNoFeed}
 use Rattle.seam_io.specs.Reading.{Reader}

@@ -1,4 +1,4 @@
--- What a reader of lines does between its reads, and at a read.
+-- What a reader of lines does between its reads, and at a read. Only private functions speak of it.
 use Rattle.std.specs.Prelude.{◌≡◌, ◌≢◌, ℕ, ◌≤◌, ◌<◌, ◌+◌, true, false, List, [], ◌++◌, length, take, slice_index}
 use Rattle.seam_io.specs.Lines.{Line, lines_left, HasNoFeed}
 use Rattle.seam_io.specs.Reading.{Reader, budget, lines_given, NeedsMore, IsDone}

@@ -1,5 +1,5 @@
 -- What the book holds.
-use Rattle.std.proofs.Common.{◌≡◌, ℕ, Bool, true, false, List, [], ◌∷◌, Option, Some, None, cond, refl, sym, ap, ◌∙◌, arith}
+use Rattle.std.proofs.Common.{◌≡◌, ℕ, Bool, true, false, List, [], ◌∷◌, Some, cond, refl, sym, ap, ◌∙◌, arith}
 use Rattle.std.specs.Prelude.{find, ◌==◌}
 use Rattle.std.proofs.lemmas.Option.{same_Some}
 use Rattle.seam_value.specs.declared.values.Value.{Value}
@@ -27,4 +27,3 @@ call-is defs c e s m args d name arguments entity deed may =
     ap (λ (x : Deed). record { entity = e; part = part.Cell; sender = s; deed = x }) deed
     ∙ ap (λ (k : ℕ). record { entity = k; part = part.Cell; sender = s; deed = Method m args }) (sym entity)
     ∙ ap (λ (p : Part). record { entity = c.entity; part = p; sender = s; deed = Method m args }) (sym may.built.on_cell)
-

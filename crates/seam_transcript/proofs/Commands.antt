@@ -1,7 +1,5 @@
 -- Words say one command at most.
-use Rattle.std.proofs.Common.{◌≡◌, ℕ, List, [], ◌∷◌, length, drop, get_or, refl, sym, ap, ◌∙◌, subst, arith}
-use Rattle.std.specs.Prelude.{codes}
-use Rattle.seam_value.specs.Values.{decimal_of}
+use Rattle.std.proofs.Common.{◌≡◌, ℕ, List, [], length, drop, get_or, refl, sym, ap, ◌∙◌, subst, arith}
 use Rattle.seam_value.proofs.Decimals.{decimal_of-injective}
 use Rattle.seam_transcript.specs.Language.{Command, Create, Call, Sync, Says}
 use Rattle.seam_transcript.specs.Book.{Header, Book, Accepts}
@@ -17,7 +15,7 @@ same-call : (s t : List ℕ) (e f : ℕ) (n m : List ℕ) (a b : List (List ℕ)
 same-call s t e f n m a b p q r u =
     ap (λ (x : List ℕ). Call x e n a) p ∙ ap (λ (k : ℕ). Call t k n a) q ∙ ap (λ (x : List ℕ). Call t f x a) r ∙ ap (λ (x : List (List ℕ)). Call t f m x) u
 
-one-command : (words : List (List ℕ)) (c d : Command) → Says words c → Says words d → c ≡ d
+pub one-command : (words : List (List ℕ)) (c d : Command) → Says words c → Says words d → c ≡ d
 one-command words (Create e n x z) (Create f m y w) one other =
     let same = sym one.4 ∙ other.4 in
     same-create e f n m x y z w (decimal_of-injective e f (ap (word 1) same)) (ap (word 2) same) (decimal_of-injective x y (ap (word 3) same)) (decimal_of-injective z w (ap (word 4) same))

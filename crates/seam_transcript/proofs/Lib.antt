@@ -8,4 +8,5 @@ pub mod PlainLemmas
 pub mod PlainTurns
 pub mod NamingLemmas
 pub mod Commands
+pub mod Verdicts
 pub mod Rows

@@ -1,6 +1,6 @@
 -- What the plain program holds, as a standing of a transcript, and what its turns do.
 use Rattle.std.specs.Prelude.{◌≡◌, ℕ, ◌+◌, ◌<◌, ◌≤◌, ◌^◌, List, [], length, take, ◌==◌, MatchBool}
-use Rattle.seam_io.specs.Lines.{Line, Content}
+use Rattle.seam_io.specs.Lines.{Line}
 use Rattle.seam_transcript.specs.Book.{Header, Book, Verdict, Judges}
 use Rattle.seam_transcript.specs.Standing.{Standing, with_book}
 use Rattle.seam_transcript.specs.Sequence.{sequence}

@@ -1,5 +1,5 @@
 -- What was read of a line.
-use Rattle.std.specs.Prelude.{ℕ, List, [], ◌∷◌, map, codes}
+use Rattle.std.specs.Prelude.{ℕ, List, ◌∷◌, map, codes}
 use Rattle.std.specs.Borrow.{Bor}
 use Rattle.seam_words.specs.Faults.{Refuses}
 use Rattle.seam_transcript.specs.Language.{IsSkipped, HasWords, Command, Create, Call, Sync, Says}

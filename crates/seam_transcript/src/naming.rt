@@ -73,8 +73,7 @@ fn is_built(defs: &Defs, ty: u16, method: u16) -> bool
 fn takes_one_number(defs: &Defs, ty: u16, method: u16) -> bool
     ensures { IsTrue result ↔ ((method_of defs.now ty method).args ≡ ValueType.Int32 ∷ []) }
 {
-    defs.arg_type(ty, method, 0) == Some(ValueType::Int32)
-        && defs.arg_type(ty, method, 1).is_none()
+    defs.arg_type(ty, method, 0) == Some(ValueType::Int32) && defs.arg_type(ty, method, 1).is_none()
 }
 
 /// What a call does that asks for the method of this name of a type, with these arguments; nothing where the type has no such

@@ -9,8 +9,8 @@ use Rattle.seam_io.specs.Lines.{Line, Content, Long, lines_of, whole_lines_of, l
 use Rattle.seam_io.specs.Reading.{SourceState, Reader, Reading, budget, IsExact}
 use Rattle.seam_io.specs.declared.lines.Next.TheVariants as next
 use Rattle.seam_transcript.specs.Book.{Header}
-use Rattle.seam_transcript.specs.Standing.{Standing, behind_header}
-use Rattle.seam_transcript.specs.Transcript.{Step, Run, separator, PrintsLines, IsOpen, IsEnded, EndsInput}
+use Rattle.seam_transcript.specs.Standing.{behind_header}
+use Rattle.seam_transcript.specs.Transcript.{separator, PrintsLines, IsOpen, IsEnded, EndsInput}
 use Rattle.seam_transcript.proofs.Runs.{run-more}
 use Rattle.seam_world.specs.Script.{ScriptStands, TakesPiece}
 use Rattle.seam_world.specs.Status.{IsHeaderEnd, IsRunEnd}

@@ -1,5 +1,5 @@
 -- What the table of entities holds, beside the book and the orders of a transcript.
-use Rattle.std.specs.Prelude.{◌≡◌, ℕ, ◌+◌, ◌<◌, ◌≤◌, ◌^◌, List, [], ◌∷◌, ◌++◌, length, Some, None, MatchOption, IfSome, slice_index, slice_set, min, ◌-◌, ◌≢◌}
+use Rattle.std.specs.Prelude.{◌≡◌, ℕ, ◌+◌, ◌<◌, ◌^◌, List, [], ◌∷◌, ◌++◌, length, Some, None, MatchOption, IfSome, slice_index, slice_set, min, ◌-◌, ◌≢◌}
 use Rattle.std.specs.Ordering.{nat_cmp}
 use Rattle.std.specs.BTreeMap.{get, btree_map_len, IsOrdered}
 use Rattle.seam_geo.specs.declared.pos.Pos.{Pos}

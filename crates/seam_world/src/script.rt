@@ -69,7 +69,9 @@ impl Script {
                 method_name,
                 arguments,
             } => {
-                let verdict = self.table.call(sender_name, entity, method_name, arguments)?;
+                let verdict = self
+                    .table
+                    .call(sender_name, entity, method_name, arguments)?;
                 self.judged(verdict, out)
             }
             Said::Nothing => push_refusal(out, self.line, b"command"),

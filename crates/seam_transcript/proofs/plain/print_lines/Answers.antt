@@ -1,4 +1,4 @@
-use Rattle.std.proofs.Common.{◌+◌, ℕ, ◌∙◌, ap, arith}
+use Rattle.std.proofs.Common.{◌+◌, ℕ, ◌∙◌, ap}
 use Rattle.seam_transcript.specs.Standing.{behind_header}
 use Rattle.seam_transcript.specs.Plain.{header_of}
 use Rattle.seam_transcript.specs.PlainStands.{standing_of}

@@ -1,4 +1,3 @@
-use Rattle.std.proofs.Common.{rules, arith}
 use Rattle.seam_transcript.proofs.PlainTurns.{input-lines, whole-transcript, other-header, no-header}
 use Rattle.seam_transcript.proofs.plain.transcript_of.Goals as goal
 

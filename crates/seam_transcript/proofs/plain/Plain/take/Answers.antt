@@ -1,5 +1,4 @@
 use Rattle.std.specs.Prelude.{codes}
-use Rattle.std.proofs.Common.{arith}
 use Rattle.seam_transcript.specs.Transcript.{refusal}
 use Rattle.seam_transcript.specs.Plain.{header_of}
 use Rattle.seam_transcript.proofs.PlainLemmas.{on_ok}

@@ -1,4 +1,4 @@
-use Rattle.std.proofs.Common.{◌≡◌, ℕ, List, [], ◌++◌, refl, sym, ap, ◌∙◌, inl, inr, append-nil}
+use Rattle.std.proofs.Common.{ℕ, ◌++◌, refl, ap, inr}
 use Rattle.std.specs.Prelude.{codes}
 use Rattle.seam_value.specs.Values.{decimal_of}
 use Rattle.seam_transcript.specs.Said.{texts_of}
