@@ -1,16 +1,17 @@
 -- What a book answers, by what its entries hold.
-use Rattle.std.proofs.Common.{◌≢◌, ◌+◌, nat_lt, max, find, slice_get, ◌≡◌, ◌≤◌, ◌<◌, ℕ, Bool, true, false, cond, ◌||◌, List, [], ◌∷◌, Option, None, Some, refl, sym, ap, ◌∙◌, arith, is_some, length}
+use Rattle.std.proofs.Common.{◌≢◌, ◌+◌, nat_lt, max, find, slice_get, ◌≡◌, ◌≤◌, ◌<◌, ℕ, Bool, true, false, cond, ◌||◌, List, [], ◌∷◌, Option, None, Some, refl, sym, ap, ◌∙◌, arith, is_some, length, option_map, unwrap_or}
 use Rattle.std.specs.Ordering.{nat_cmp, eq_by_cmp, is_eq}
 use Rattle.std.specs.Cmp.{nat_cmp_total, eq_by_cmp_equiv}
-use Rattle.std.specs.Map.{lookup, keys_of}
-use Rattle.std.specs.BTreeMap.{BTreeMap, IsOrdered, is_at, get}
-use Rattle.std.specs.List.{IsDistinct, AllByRecursion, filter}
+use Rattle.std.specs.Map.{lookup, keys_of, values_of}
+use Rattle.std.specs.BTreeMap.{BTreeMap, IsOrdered, is_at, get, insert_entry}
+use Rattle.std.specs.List.{IsDistinct, AllByRecursion, filter, sum_by}
 use Rattle.std.specs.List.Sorted.{IsStrictlySortedBy}
 use Rattle.std.specs.declared.cmp.Ordering.TheVariants.{Less}
 use Rattle.std.proofs.lemmas.Map.{lookup-none}
-use Rattle.std.proofs.lemmas.Map.Entries.{none_past_head}
+use Rattle.std.proofs.lemmas.Map.Entries.{none_past_head, sum_by-insert_entry}
 use Rattle.std.proofs.lemmas.Map.Keys.{IsDistinct-from_sorted, IsDistinct-tail, sorted_head, sorted_tail}
 use Rattle.std.proofs.lemmas.Map.Made.{is_some-lookup}
+use Rattle.std.proofs.lemmas.List.Sums.{sum_by-cons}
 use Rattle.std.proofs.lemmas.Bool.Decides.{nat_tests}
 use Rattle.std.specs.BTreeMap.Range.{range_contains}
 use Rattle.std.specs.declared.ops.Bound.TheVariants.{Unbounded}
@@ -18,7 +19,7 @@ use Rattle.std.specs.FinMap as map
 use Rattle.std.specs.FinSet as set
 use Rattle.seam_ghosts.specs.declared.Ghost.{Ghost}
 use Rattle.seam_ghosts.specs.Book.{BookView, beat_in, copy_in, beat_of, copy_of, with_ghost, after_message, with_copy, copied, copies, is_after}
-use Rattle.seam_ghosts.specs.Slots.{with_known, known, book_of, low_bound}
+use Rattle.seam_ghosts.specs.Slots.{with_known, known, book_of, low_bound, count_of_slot, count_of_copies}
 
 -- an entry's ghost, where there is an entry and it has one
 abbrev pub flat : {G : Type 0} → Option (Option G) → Option G
@@ -155,13 +156,35 @@ copied_none s slot ss none = copied-slot s slot ss ∙ ap (λ o. with_copy s o (
 pub copied_some : {P : Type 0} (s : ℕ) (slot : Option (Ghost P)) (ss : List (ℕ × Option (Ghost P))) (p : P) → copy_in slot ≡ Some p → copied (known ((s, slot) ∷ ss)) ≡ (s, p) ∷ copied (known ss)
 copied_some s slot ss p some = copied-slot s slot ss ∙ ap (λ o. with_copy s o (copied (known ss))) some
 
-length-with_copy : {P : Type 0} (s : ℕ) (o : Option P) (rest : List (ℕ × P)) (n : ℕ) → length rest ≤ n → length (with_copy s o rest) ≤ n + 1
-length-with_copy s None rest n h = omega (arith, h)
-length-with_copy s (Some p) rest n h = omega (arith, h)
+-- how many copies there are
+count-slot : {P : Type 0} (s : ℕ) (o : Option P) (rest : List (ℕ × P)) → length (with_copy s o rest) ≡ cond (is_some o) 1 0 + length rest
+count-slot s None rest = omega arith
+count-slot s (Some p) rest = omega arith
 
-pub length-copied : {P : Type 0} (ss : List (ℕ × Option (Ghost P))) → length (copied (known ss)) ≤ length ss
-length-copied [] = omega arith
-length-copied (s ∷ ss) = let h = length-with_copy s.0 (copy_in s.1) (copied (known ss)) (length ss) (length-copied ss) in let e = ap length (copied-slot s.0 s.1 ss) in omega (arith, h, e)
+count-values : {P : Type 0} (ss : List (ℕ × Option (Ghost P))) → count_of_copies ss ≡ sum_by count_of_slot (values_of ss)
+count-values [] = refl
+count-values (s ∷ ss) = ap length (copied-slot s.0 s.1 ss) ∙ (count-slot s.0 (copy_in s.1) (copied (known ss)) ∙ (ap (λ n. count_of_slot s.1 + n) (count-values ss) ∙ sym (sum_by-cons count_of_slot s.1 (values_of ss))))
+
+pub count-written : {P : Type 0} (ss : List (ℕ × Option (Ghost P))) (e : ℕ) (slot : Option (Ghost P)) → IsStrictlySortedBy nat_cmp (keys_of ss) → count_of_copies (insert_entry nat_cmp ss e slot) + unwrap_or (option_map count_of_slot (lookup (is_at (nat_cmp e)) ss)) 0 ≡ count_of_copies ss + count_of_slot slot
+count-written ss e slot o =
+    ap (λ n. n + unwrap_or (option_map count_of_slot (lookup (is_at (nat_cmp e)) ss)) 0) (count-values (insert_entry nat_cmp ss e slot))
+    ∙ (sum_by-insert_entry count_of_slot nat_cmp_total ss e slot o
+    ∙ ap (λ n. n + count_of_slot slot) (sym (count-values ss)))
+
+pub count-same : {P : Type 0} (ss ts : List (ℕ × Option (Ghost P))) → IsStrictlySortedBy nat_cmp (keys_of ss) → IsStrictlySortedBy nat_cmp (keys_of ts) → (book_of ts).ghosts ≡ (book_of ss).ghosts → count_of_copies ts ≡ count_of_copies ss
+count-same ss ts o p same = ap length (sym (copies-known ts p)) ∙ (ap (λ m. length (copied (map.entries m))) same ∙ ap length (copies-known ss o))
+
+one_at_most : {P : Type 0} (o : Option P) → cond (is_some o) 1 0 ≤ 1
+one_at_most None = omega arith
+one_at_most (Some p) = omega arith
+
+pub count-entries : {P : Type 0} (ss : List (ℕ × Option (Ghost P))) → count_of_copies ss ≤ length ss
+count-entries [] = omega arith
+count-entries (s ∷ ss) =
+    let here = ap length (copied-slot s.0 s.1 ss) ∙ count-slot s.0 (copy_in s.1) (copied (known ss)) in
+    let one = one_at_most (copy_in s.1) in
+    let rest = count-entries ss in
+    omega (arith, here, one, rest)
 
 -- the first copy of the entries that pass a test of their numbers
 first_with : {P : Type 0} (t u : ℕ → Bool) (s : ℕ) (o : Option P) (ss rest : List (ℕ × P)) → t s ≡ u s → slice_get ss 0 ≡ find (λ p. u p.0) rest → slice_get (cond (t s) (with_copy s o ss) ss) 0 ≡ find (λ p. u p.0) (with_copy s o rest)

@@ -5,11 +5,13 @@
 //! ghosts of the BigWorld Server Overview; the beats are of the kind of Lamport's clocks, 1978.)
 #![tactic(auto)]
 
-ghost use Rattle.std.specs.Prelude.{max, nat_lt, if◌then◌else◌, ◌≡◌, ◌<◌, ◌≤◌, ◌≢◌, ℕ, length, find, IfOk, IfErr, OnOk, OnErr, option_map, option_copied, slice_get, false, Some, None};
+ghost use Rattle.std.specs.Prelude.{max, nat_lt, if◌then◌else◌, ◌≡◌, ◌<◌, ◌≤◌, ◌≢◌, ◌+◌, ℕ, length, find, IfOk, IfErr, OnOk, OnErr, option_map, option_copied, unwrap_or, slice_get, false, Some, None};
 ghost use Rattle.std.specs.FinMap as map;
 ghost use Rattle.std.specs.FinSet as set;
 ghost use Rattle.seam_ghosts.specs.declared.Ghost.{Ghost};
-ghost use Rattle.seam_ghosts.specs.Slots.{low_bound};
+ghost use Rattle.seam_ghosts.specs.Slots.{low_bound, book_of, count_of_slot, count_of_copies};
+ghost use Rattle.std.specs.Ordering.{nat_cmp};
+ghost use Rattle.std.specs.BTreeMap.{IsOrdered};
 ghost use Rattle.seam_ghosts.specs.Book.{BookView, beat_of, copy_in, copy_of, copies, is_after, answer, with_ghost, after_message};
 
 use std::alloc::{AllocError, Global};
@@ -49,6 +51,8 @@ pub struct Ghost<P> {
 pub struct GhostBook<P> {
     // An entry without a ghost is room for one.
     entries: BTreeMap<u32, Option<Ghost<P>>>,
+    // How many of the entries have a copy.
+    copy_count: usize,
 }
 
 impl<P> Model for GhostBook<P> {
@@ -60,11 +64,12 @@ impl<P> Model for GhostBook<P> {
 
     ghost use Rattle.std.specs.Ordering.{nat_cmp};
     ghost use Rattle.std.specs.BTreeMap.{IsOrdered};
-    ghost use Rattle.seam_ghosts.specs.Slots.{book_of};
+    ghost use Rattle.std.specs.Prelude.{◌≡◌};
+    ghost use Rattle.seam_ghosts.specs.Slots.{book_of, count_of_copies};
 
     ghost view = { λ b. book_of b.entries.entries };
 
-    ghost invariant = { λ b. IsOrdered nat_cmp b.entries };
+    ghost invariant = { λ b. IsOrdered nat_cmp b.entries × (b.copy_count ≡ count_of_copies b.entries.entries) };
 }
 
 impl<P: Drop> GhostBook<P> {
@@ -74,6 +79,7 @@ impl<P: Drop> GhostBook<P> {
     {
         GhostBook {
             entries: BTreeMap::new(alloc),
+            copy_count: 0,
         }
     }
 
@@ -114,13 +120,7 @@ impl<P: Drop> GhostBook<P> {
         ensures err { OnErr result (self.new.room ≡ self.old.room) }
         ensures err_only_first { OnErr result (set.contains self.old.room e ≡ false) }
     {
-        if self.entries.contains_key(&e) {
-            return Ok(());
-        }
-        match self.entries.insert(e, None) {
-            Ok(_) => Ok(()),
-            Err(_) => Err(AllocError),
-        }
+        make_entry(&mut self.entries, e)
     }
 
     // Puts a ghost in place of what was known of the entity.
@@ -130,15 +130,12 @@ impl<P: Drop> GhostBook<P> {
         ensures err_item { IfErr result (λ r. r.item ≡ news.copy) }
         ensures err_only_first { OnErr result (set.contains self.old.room e ≡ false) }
     {
-        match self.entries.insert(e, Some(news)) {
-            Ok(_) => Ok(()),
-            Err(refused) => {
-                let Some(news) = refused.value.1 else {
-                    unreachable!()
-                };
-                Err(NoMemoryFor { item: news.copy })
-            }
-        }
+        // `len` is called for its bound, below which the count stays.
+        let _ = self.entries.len();
+        let more = usize::from(news.copy.is_some());
+        let less = write_entry(&mut self.entries, e, news)?;
+        self.copy_count = self.copy_count + more - less;
+        Ok(())
     }
 
     /// Takes the entity's copy as it is at this beat. It is ignored exactly where the beat is not greater than `beat(e)`.
@@ -192,13 +189,7 @@ impl<P: Drop> GhostBook<P> {
     pub fn len(&self) -> usize
         ensures { result ≡ length (copies self.now) }
     {
-        let mut count = 0;
-        for (_, slot) in &self.entries {
-            if copy_in_slot(slot).is_some() {
-                count += 1;
-            }
-        }
-        count
+        self.copy_count
     }
 
     /// The copy at place i, in rising entity number; none where i is not below `len`. It takes time with i: to go over
@@ -249,6 +240,62 @@ fn copy_in_slot<P>(slot: &Option<Ghost<P>>) -> Option<&P>
     match slot {
         Some(heard) => heard.copy.as_ref(),
         None => None,
+    }
+}
+
+// Makes an entry without a ghost, where there is none.
+fn make_entry<P: Drop>(
+    entries: &mut BTreeMap<u32, Option<Ghost<P>>>,
+    e: u32,
+) -> Result<(), AllocError>
+    ensures same { (book_of entries.new.entries).ghosts ≡ (book_of entries.old.entries).ghosts }
+    ensures room { OnOk result ((book_of entries.new.entries).room ≡ set.insert (book_of entries.old.entries).room e) }
+    ensures err { OnErr result ((book_of entries.new.entries).room ≡ (book_of entries.old.entries).room) }
+    ensures err_only_first { OnErr result (set.contains (book_of entries.old.entries).room e ≡ false) }
+    ensures ordered { IsOrdered nat_cmp entries.new }
+{
+    if entries.contains_key(&e) {
+        // `len` is called for its clause that the entries are in order.
+        let _ = entries.len();
+        return Ok(());
+    }
+    match entries.insert(e, None) {
+        Ok(_) => Ok(()),
+        Err(_) => Err(AllocError),
+    }
+}
+
+// Writes a ghost over what was known of the entity, and answers how many copies it wrote over, 1 or 0.
+fn write_entry<P: Drop>(
+    entries: &mut BTreeMap<u32, Option<Ghost<P>>>,
+    e: u32,
+    news: Ghost<P>,
+) -> Result<usize, NoMemoryFor<Option<P>>>
+    ensures after { OnOk result (book_of entries.new.entries ≡ with_ghost (book_of entries.old.entries) e news) }
+    ensures count { IfOk result (λ less. count_of_copies entries.new.entries + less ≡ count_of_copies entries.old.entries + count_of_slot (Some news)) }
+    ensures err { OnErr result (entries.new.entries ≡ entries.old.entries) }
+    ensures err_item { IfErr result (λ r. r.item ≡ news.copy) }
+    ensures err_only_first { OnErr result (set.contains (book_of entries.old.entries).room e ≡ false) }
+    ensures ordered { IsOrdered nat_cmp entries.new }
+{
+    match entries.insert(e, Some(news)) {
+        Ok(old) => Ok(count_in_entry(&old)),
+        Err(refused) => {
+            let Some(news) = refused.value.1 else {
+                unreachable!()
+            };
+            Err(NoMemoryFor { item: news.copy })
+        }
+    }
+}
+
+// How many copies an entry has, 1 or 0; 0 where there is none.
+fn count_in_entry<P>(entry: &Option<Option<Ghost<P>>>) -> usize
+    ensures { result ≡ unwrap_or (option_map count_of_slot entry.now) 0 }
+{
+    match entry {
+        Some(slot) => usize::from(copy_in_slot(slot).is_some()),
+        None => 0,
     }
 }
 

@@ -1,12 +1,11 @@
 //! Entities by where they stand, for queries of those that are near.
 #![tactic(auto)]
 
-ghost use Rattle.std.specs.Prelude.{◌≡◌, is_some, IfOk, OnOk, OnErr, option_copied};
+ghost use Rattle.std.specs.Prelude.{◌≡◌, is_some, IfOk, OnOk, OnErr};
 ghost use Rattle.std.specs.FinMap as map;
 ghost use Rattle.std.specs.Ordering.{nat_cmp};
 ghost use Rattle.std.specs.BTreeSet.{IsOrdered};
-ghost use Rattle.seam_range.specs.Places.{within};
-ghost use Rattle.seam_range.specs.Indexed.{is_near_to};
+ghost use Rattle.seam_range.specs.Places.{is_within, within};
 
 use seam_geo::{Pos, dist};
 use std::alloc::{AllocError, Global};
@@ -21,8 +20,8 @@ mod tests;
 pub struct RangeList {
     alloc: Global,
     places: BTreeMap<u32, Pos>,
-    // The x of each position with its entity, so that a query looks at its own band alone.
-    by_x: BTreeSet<(u64, u32)>,
+    // The positions again, by x and entity, so that a query looks at its own band alone.
+    by_x: BTreeMap<(u64, u32), Pos>,
 }
 
 impl Model for RangeList {
@@ -49,7 +48,7 @@ impl RangeList {
         RangeList {
             alloc,
             places: BTreeMap::new(alloc),
-            by_x: BTreeSet::new(alloc),
+            by_x: BTreeMap::new(alloc),
         }
     }
 
@@ -58,7 +57,7 @@ impl RangeList {
         ensures after { OnOk result (self.new ≡ map.insert self.old e p) }
         ensures err { OnErr result (self.new ≡ self.old) }
     {
-        let Ok(_) = self.by_x.insert((u64::from(p.x), e)) else {
+        let Ok(_) = self.by_x.insert((u64::from(p.x), e), p) else {
             return Err(AllocError);
         };
         match self.places.insert(e, p) {
@@ -97,8 +96,8 @@ impl RangeList {
         let low = u64::from(p.x.saturating_sub(d));
         let end = u64::from(p.x) + u64::from(d) + 1;
         let mut found = BTreeSet::new(self.alloc);
-        for (_, e) in self.by_x.range((low, 0)..(end, 0)) {
-            if is_near(self.places.get(e), p, d) {
+        for ((_, e), place) in self.by_x.range((low, 0)..(end, 0)) {
+            if is_near(*place, p, d) {
                 found.insert(*e)?;
             }
         }
@@ -114,14 +113,11 @@ fn in_order(alloc: Global, found: BTreeSet<u32>) -> Result<Vec<u32>, AllocError>
     found.into_iter().collect(alloc)
 }
 
-// Whether there is a position, and it is at distance at most d from p.
-fn is_near(place: Option<&Pos>, p: Pos, d: u32) -> bool
-    ensures { result ≡ is_near_to p d (option_copied place.entry) }
+// Whether the place is at distance at most d from p.
+fn is_near(place: Pos, p: Pos, d: u32) -> bool
+    ensures { result ≡ is_within p d place }
 {
-    match place {
-        Some(place) => dist(p, *place) <= d,
-        None => false,
-    }
+    dist(p, place) <= d
 }
 
 fn sent<T: Send>(value: T) -> T

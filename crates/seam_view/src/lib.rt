@@ -4,7 +4,7 @@
 //! of the BigWorld Server Overview.)
 #![tactic(auto)]
 
-ghost use Rattle.std.specs.Prelude.{◌≡◌, ◌≤◌, ◌++◌, ℕ, List, [], filter, map, length, slice_get, option_copied, IfOk, OnOk, OnErr, is_some, false};
+ghost use Rattle.std.specs.Prelude.{◌≡◌, ◌≤◌, ◌++◌, ℕ, List, [], filter, map, length, slice_get, option_copied, IfOk, OnOk, OnErr, is_some, false, not, IfSome, drop};
 ghost use Rattle.std.specs.Ordering.{nat_cmp};
 ghost use Rattle.std.specs.List.Sorted.{IsStrictlySortedBy};
 ghost use Rattle.std.specs.Prelude.{◌<◌, ◌+◌, nat_eq, true};
@@ -17,6 +17,7 @@ ghost use Rattle.seam_view.specs.Slots.{kept};
 ghost use Rattle.std.specs.FinMap as versions;
 ghost use Rattle.std.specs.FinSet as set;
 ghost use Rattle.seam_view.specs.Replica.{Replica, HasRoom, without, seen_of, entity_of, with_version_shown, after_showing, after_look, after_looks};
+ghost use Rattle.seam_view.specs.Together.{leaves_next, looks_past};
 ghost use Rattle.seam_view.specs.Looks.{is_far, in_view, not_older, leaves, has_changed, enters, leaving, changed, entering, one_look, matters};
 
 use indexmap::IndexMap;
@@ -336,12 +337,41 @@ impl View {
         }
     }
 
+    // Takes the entities whose leaves stand first among the looks, in enter order as `plan` gives them, out of the view in one
+    // pass: one by one, each leave would move all entries behind it. To keep these leaves afterwards changes nothing.
+    fn leave_together(&mut self, looks: &[Look])
+        ensures same_after { (known : List Seen) → after_looks known self.new.core looks.now ≡ after_looks known self.old.core looks.now }
+        ensures places { self.old.places ≤ self.new.places }
+        ensures room { self.new.room ≡ self.old.room }
+    {
+        let Some(Look::Leave(_)) = looks.first() else {
+            return;
+        };
+        // `len` is called for its clause that each entity is in view once.
+        let _ = self.view.len();
+        let mut next = looks;
+        self.view.retain(
+            |e: &u32, version: &mut u64| -> bool
+                ensures { (result ≡ not (leaves_next e.now next.entry.now)) × (next.exit.now ≡ looks_past e.now next.entry.now) × (version.new ≡ version.old) }
+            {
+                match past_leave(next, *e) {
+                    Some(rest) => {
+                        next = rest;
+                        false
+                    }
+                    None => true,
+                }
+            },
+        );
+    }
+
     /// Keeps the looks that `plan` gave for what is known: they have been shown from now on. It takes no memory.
     pub fn keep(&mut self, known: &[Seen], looks: &[Look])
         requires rising { IsStrictlySortedBy nat_cmp (map (λ s. s.entity) known.now) }
         requires room { HasRoom self.old looks.now }
         ensures { self.new.core ≡ after_looks known.now self.old.core looks.now }
     {
+        self.leave_together(looks);
         for look in looks {
             self.keep_look(known, look);
         }
@@ -381,6 +411,17 @@ fn entity(look: &Look) -> u32
         Look::Leave(e) => *e,
         Look::Set(e) => *e,
         Look::Enter(e) => *e,
+    }
+}
+
+// The looks past the first, where that is the leave of the entity.
+fn past_leave(looks: &[Look], e: u32) -> Option<&[Look]>
+    ensures leaves { is_some result ≡ leaves_next e looks.now }
+    ensures past { IfSome result (λ rest. rest.now ≡ drop 1 looks.now) }
+{
+    match looks.split_first() {
+        Some((Look::Leave(first), rest)) if *first == e => Some(rest),
+        _ => None,
     }
 }
 

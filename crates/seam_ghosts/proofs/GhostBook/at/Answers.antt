@@ -9,6 +9,6 @@ loop-e-init g c = (
   tt,
   tt,
   ap (λ ss. slice_get (copied (known ss)) c.args.i) c.into_iter-e-iterator.ensures.into_iter_gives.0
-      ∙ (ap (λ xs. slice_get xs c.args.i) (sym (copies-known c.self.inside.entries.entries c.self.invariant))
+      ∙ (ap (λ xs. slice_get xs c.args.i) (sym (copies-known c.self.inside.entries.entries c.self.invariant.0))
       ∙ ap (λ w. slice_get (copies w) c.args.i) c.self.view_is),
 )

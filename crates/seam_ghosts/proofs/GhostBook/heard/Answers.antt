@@ -7,11 +7,11 @@ pub returns-in-Some : goal.returns-in-Some
 returns-in-Some g c =
     c.as_ref.ensures.value
     ∙ (ap flat c.in-Some.ensures.value
-    ∙ (sym (ghost-slot c.self.inside.entries c.args.e c.self.invariant)
+    ∙ (sym (ghost-slot c.self.inside.entries c.args.e c.self.invariant.0)
     ∙ ap (λ w. map.get w.ghosts c.args.e) c.self.view_is))
 
 pub returns-in-None : goal.returns-in-None
 returns-in-None g c =
     ap flat c.in-None.ensures.value
-    ∙ (sym (ghost-slot c.self.inside.entries c.args.e c.self.invariant)
+    ∙ (sym (ghost-slot c.self.inside.entries c.args.e c.self.invariant.0)
     ∙ ap (λ w. map.get w.ghosts c.args.e) c.self.view_is)

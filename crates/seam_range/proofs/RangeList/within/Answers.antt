@@ -10,11 +10,11 @@ use Rattle.seam_range.proofs.RangeList.within.Goals as goal
 pub loop-e-init : goal.loop-e-init
 loop-e-init c =
     let low : c.from-low.result ≡ c.args.p.x - c.args.d = c.from-low.ensures ∙ c.saturating_sub.ensures in
-    let ks = c.self.inside.by_x.keys in
-    let e : c.into_iter-e-iterator.result ≡ band c.args.p c.args.d ks =
+    let es = c.self.inside.by_x.entries in
+    let e : c.into_iter-e-iterator.result ≡ band c.args.p c.args.d es =
     c.into_iter-e-iterator.ensures.into_iter_gives ∙ c.range-e-items.ensures.between tt
-    ∙ (λ i. filter (range_contains by_both (Included (low i, 0)) (Excluded ((c.from.ensures i + c.from-2.ensures i) + 1, 0))) ks) in
-    (tt, tt, subst (IsFoundSoFar c.self.inside.places c.args.p c.args.d c.new-found.result) (sym e) (found-none c.self.inside.places c.self.inside.by_x c.args.p c.args.d c.new-found.result c.self.invariant c.new-found.ensures.empty))
+    ∙ (λ i. filter (λ r. range_contains by_both (Included (low i, 0)) (Excluded ((c.from.ensures i + c.from-2.ensures i) + 1, 0)) r.0) es) in
+    (tt, tt, subst (IsFoundSoFar c.self.inside.places c.args.p c.args.d c.new-found.result) (sym e) (found-none c.self.inside.places c.self.inside.by_x c.args.p c.args.d c.new-found.result c.self.invariant c.range-e-items.ensures.ordered c.new-found.ensures.empty))
 
 pub returns : goal.returns
 returns c =

@@ -1,0 +1,109 @@
+-- Leaves that were taken out of a view in one pass change nothing when they are kept afterwards.
+use Rattle.std.proofs.Common.{◌≡◌, ℕ, Bool, true, false, not, cond, eqb, List, [], ◌∷◌, ◌++◌, drop, fold, refl, sym, ap, subst, ◌∙◌, arith}
+use Rattle.std.specs.Map.{keys_of}
+use Rattle.std.specs.Map.Calls.{RetainsPairs}
+use Rattle.std.specs.List.{IsDistinct, AllByRecursion}
+use Rattle.std.proofs.lemmas.Map.Keys.{IsDistinct-head, IsDistinct-tail}
+use Rattle.std.proofs.lemmas.Bool.Decides.{nat_tests}
+use Rattle.seam_view.specs.declared.Seen.{Seen}
+use Rattle.seam_view.specs.declared.Look.{Look}
+use Rattle.seam_view.specs.declared.Look.TheVariants.{Leave, Set, Enter}
+use Rattle.seam_view.specs.Replica.{Replica, without, after_look}
+use Rattle.seam_view.specs.Together.{leaves_next, looks_past}
+
+-- what a pass leaves of the entries
+abbrev pub walked : List Look → List (ℕ × ℕ) → List (ℕ × ℕ)
+walked looks [] = []
+walked looks (p ∷ es) = cond (not (leaves_next p.0 looks)) (p ∷ walked (looks_past p.0 looks) es) (walked (looks_past p.0 looks) es)
+
+module _ {F : Type 0} (T : F → ℕ → ℕ → Bool → ℕ → F → Type 0) (next : F → List Look)
+    (says : (f : F) (k v : ℕ) (b : Bool) (w : ℕ) (g : F) → T f k v b w g → (b ≡ not (leaves_next k (next f))) × (w ≡ v) × (next g ≡ looks_past k (next f))) where
+  pub retained-walked : (es left : List (ℕ × ℕ)) (f : F) → RetainsPairs T f es left → left ≡ walked (next f) es
+  retained-walked [] left f h = h
+  retained-walked (e ∷ es) left f h =
+      let s = says f e.0 e.1 h.0 h.1 h.2 h.4 in
+      let rest = retained-walked es h.3 h.2 h.5 ∙ ap (λ looks. walked looks es) s.2 in
+      h.6 ∙ (λ j. cond (s.0 j) ((e.0, s.1 j) ∷ rest j) (rest j))
+
+abbrev Absent : ℕ → List (ℕ × ℕ) → Type 0
+Absent e es = AllByRecursion (λ p. eqb e p.0 ≡ false) es
+
+-- no entity of es is among those in front
+abbrev Apart : List (ℕ × ℕ) → List (ℕ × ℕ) → Type 0
+Apart front es = AllByRecursion (λ p. Absent p.0 front) es
+
+number_is : (a b : ℕ) → eqb a b ≡ true → a ≡ b
+number_is a b t = grind (arith, nat_tests)
+
+differs_too : (a b : ℕ) → eqb a b ≡ false → eqb b a ≡ false
+differs_too a b t = grind (arith, nat_tests)
+
+absent-keys : (e : ℕ) (es : List (ℕ × ℕ)) → AllByRecursion (λ y. eqb e y ≡ false) (keys_of es) → Absent e es
+absent-keys e [] h = tt
+absent-keys e (p ∷ es) h = (h.0, absent-keys e es h.1)
+
+absent-append : (e : ℕ) (front es : List (ℕ × ℕ)) → Absent e front → Absent e es → Absent e (front ++ es)
+absent-append e [] es h k = k
+absent-append e (p ∷ front) es h k = (h.0, absent-append e front es h.1 k)
+
+absent_cond : (e : ℕ) (b : Bool) (p : ℕ × ℕ) (es : List (ℕ × ℕ)) → eqb e p.0 ≡ false → Absent e es → Absent e (cond b (p ∷ es) es)
+absent_cond e true p es h k = (h, k)
+absent_cond e false p es h k = k
+
+absent-walked : (e : ℕ) (looks : List Look) (es : List (ℕ × ℕ)) → Absent e es → Absent e (walked looks es)
+absent-walked e looks [] h = tt
+absent-walked e looks (p ∷ es) h = absent_cond e (not (leaves_next p.0 looks)) p (walked (looks_past p.0 looks) es) h.0 (absent-walked e (looks_past p.0 looks) es h.1)
+
+apart-push : (p : ℕ × ℕ) (front es : List (ℕ × ℕ)) → AllByRecursion (λ y. eqb p.0 y ≡ false) (keys_of es) → Apart front es → Apart (front ++ p ∷ []) es
+apart-push p front [] h k = tt
+apart-push p front (q ∷ es) h k = (absent-append q.0 front (p ∷ []) k.0 (differs_too p.0 q.0 h.0, tt), apart-push p front es h.1 k.1)
+
+push-append : (front : List (ℕ × ℕ)) (p : ℕ × ℕ) (es : List (ℕ × ℕ)) → (front ++ p ∷ []) ++ es ≡ front ++ p ∷ es
+push-append [] p es = refl
+push-append (q ∷ front) p es = ap (λ xs. q ∷ xs) (push-append front p es)
+
+without-absent : (e : ℕ) (es : List (ℕ × ℕ)) → Absent e es → without e es ≡ es
+without-absent e [] h = refl
+without-absent e (p ∷ es) h = rw h.0 (ap (λ xs. p ∷ xs) (without-absent e es h.1))
+
+without-here : (e : ℕ) (front : List (ℕ × ℕ)) (p : ℕ × ℕ) (es : List (ℕ × ℕ)) → Absent e front → eqb e p.0 ≡ true → without e (front ++ p ∷ es) ≡ front ++ es
+without-here e [] p es h t = rw t refl
+without-here e (q ∷ front) p es h t = rw h.0 (ap (λ xs. q ∷ xs) (without-here e front p es h.1 t))
+
+module _ (known : List Seen) (r : Replica) where
+  -- what the view is after the looks, where these were its entries
+  abbrev seen_with : List Look → List (ℕ × ℕ) → Replica
+  seen_with looks es = fold (after_look known) (record r { entries = es }) looks
+
+  abbrev Same : List (ℕ × ℕ) → List (ℕ × ℕ) → List Look → Type 0
+  Same front es looks = seen_with looks (front ++ walked looks es) ≡ seen_with looks (front ++ es)
+
+  -- its turn has come
+  left_now : (front : List (ℕ × ℕ)) (p : ℕ × ℕ) (es : List (ℕ × ℕ)) (looks : List Look) → leaves_next p.0 looks ≡ true → Absent p.0 front → Absent p.0 es → ((looks : List Look) → Same front es looks) → seen_with looks (front ++ walked (drop 1 looks) es) ≡ seen_with looks (front ++ p ∷ es)
+  left_now front p es [] t f k rest = cc
+  left_now front p es (Set x ∷ looks) t f k rest = cc
+  left_now front p es (Enter x ∷ looks) t f k rest = cc
+  left_now front p es (Leave x ∷ looks) t f k rest =
+      let same = number_is p.0 x t in
+      let gone = without-absent x (front ++ walked looks es) (absent-append x front (walked looks es) (subst (λ e. Absent e front) same f) (absent-walked x looks es (subst (λ e. Absent e es) same k))) in
+      let taken = without-here x front p es (subst (λ e. Absent e front) same f) (ap (λ e. eqb e p.0) (sym same) ∙ (ap (λ e. eqb p.0 e) same ∙ t)) in
+      ap (seen_with looks) gone ∙ (rest looks ∙ ap (seen_with looks) (sym taken))
+
+  turn : (front : List (ℕ × ℕ)) (p : ℕ × ℕ) (es : List (ℕ × ℕ)) (looks : List Look) (b : Bool) → leaves_next p.0 looks ≡ b → Absent p.0 front → Absent p.0 es → ((looks : List Look) → Same front es looks) → ((looks : List Look) → Same (front ++ p ∷ []) es looks) → seen_with looks (front ++ cond (not b) (p ∷ walked (cond b (drop 1 looks) looks) es) (walked (cond b (drop 1 looks) looks) es)) ≡ seen_with looks (front ++ p ∷ es)
+  turn front p es looks true t f k rest past = left_now front p es looks t f k rest
+  turn front p es looks false t f k rest past =
+      ap (seen_with looks) (sym (push-append front p (walked looks es))) ∙ (past looks ∙ ap (seen_with looks) (push-append front p es))
+
+  same-past : (front es : List (ℕ × ℕ)) (looks : List Look) → Apart front es → IsDistinct eqb (keys_of es) → Same front es looks
+  same-past front [] looks a u = refl
+  same-past front (p ∷ es) looks a u =
+      let once = IsDistinct-head eqb p.0 (keys_of es) u in
+      let tail = IsDistinct-tail eqb p.0 (keys_of es) u in
+      turn front p es looks (leaves_next p.0 looks) refl a.0 (absent-keys p.0 es once) (λ more. same-past front es more a.1 tail) (λ more. same-past (front ++ p ∷ []) es more (apart-push p front es once a.1) tail)
+
+  none_in_front : (es : List (ℕ × ℕ)) → Apart [] es
+  none_in_front [] = tt
+  none_in_front (p ∷ es) = (tt, none_in_front es)
+
+  pub same-together : (es : List (ℕ × ℕ)) (looks : List Look) → IsDistinct eqb (keys_of es) → fold (after_look known) (record r { entries = walked looks es }) looks ≡ fold (after_look known) (record r { entries = es }) looks
+  same-together es looks u = same-past [] es looks (none_in_front es) u

@@ -1,0 +1,15 @@
+-- How leaves are taken out of a view in one pass over it: each in its turn.
+use Rattle.std.specs.Prelude.{ℕ, Bool, false, nat_eq, List, [], ◌∷◌, drop, if◌then◌else◌}
+use Rattle.seam_view.specs.declared.Look.{Look}
+use Rattle.seam_view.specs.declared.Look.TheVariants.{Leave, Set, Enter}
+
+-- the first of the looks is the leave of this entity
+abbrev pub leaves_next : ℕ → List Look → Bool
+leaves_next e [] = false
+leaves_next e (Leave x ∷ looks) = nat_eq e x
+leaves_next e (Set x ∷ looks) = false
+leaves_next e (Enter x ∷ looks) = false
+
+-- the looks that are to come once the pass is past the entity
+abbrev pub looks_past : ℕ → List Look → List Look
+looks_past e looks = if leaves_next e looks then drop 1 looks else looks
