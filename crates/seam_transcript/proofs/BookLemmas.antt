@@ -1,5 +1,5 @@
 -- What the book holds.
-use Rattle.std.proofs.Common.{◌≡◌, ℕ, Bool, true, false, List, [], ◌∷◌, Some, cond, refl, sym, ap, ◌∙◌, arith}
+use Rattle.std.proofs.Common.{◌≡◌, ◌≤◌, ℕ, Bool, true, false, List, [], ◌∷◌, Some, cond, refl, sym, ap, ◌∙◌, subst, arith}
 use Rattle.std.specs.Prelude.{find, ◌==◌}
 use Rattle.std.proofs.lemmas.Option.{same_Some}
 use Rattle.seam_value.specs.declared.values.Value.{Value}
@@ -9,7 +9,8 @@ use Rattle.seam_defs.specs.declared.flags.Part.TheVariants as part
 use Rattle.seam_defs.specs.declared.states.Deed.{Deed}
 use Rattle.seam_defs.specs.declared.states.Deed.TheVariants.{Method}
 use Rattle.seam_transcript.specs.declared.sender.Sender.{Sender}
-use Rattle.seam_transcript.specs.Book.{Created, MayCall, call_of}
+use Rattle.seam_transcript.specs.declared.sender.Sender.TheVariants.{Base}
+use Rattle.seam_transcript.specs.Book.{Header, Book, Created, sender_text, IsBaseNode, IsSender, MayCall, call_of}
 
 -- what made an entity has its number
 pub found-entity : (created : List Created) (e : ℕ) (c : Created) → find (λ d. d.entity == e) created ≡ Some c → c.entity ≡ e
@@ -27,3 +28,10 @@ call-is defs c e s m args d name arguments entity deed may =
     ap (λ (x : Deed). record { entity = e; part = part.Cell; sender = s; deed = x }) deed
     ∙ ap (λ (k : ℕ). record { entity = k; part = part.Cell; sender = s; deed = Method m args }) (sym entity)
     ∙ ap (λ (p : Part). record { entity = c.entity; part = p; sender = s; deed = Method m args }) (sym may.built.on_cell)
+
+-- a base node that is among those of the world is a sender
+pub base-sender : (h : Header) (b : Book) (bases : ℕ) (s : Sender) (who : List ℕ) → bases ≡ h.settings.bases → h.settings.bases ≤ 8
+    → (bases ≤ 8 → (n : ℕ) × (s ≡ Base n) × IsBaseNode bases n × (sender_text s ≡ who)) → IsSender h b s × (sender_text s ≡ who)
+base-sender h b bases s who same few named =
+    let node = named (omega (arith, same)) in
+    (subst (IsSender h b) (sym node.1) (subst (λ (k : ℕ). IsBaseNode k node.0) same node.2), node.3)

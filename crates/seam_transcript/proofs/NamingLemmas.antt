@@ -14,9 +14,8 @@ use Rattle.seam_defs.specs.Types.{type_of, method_of, no_type, no_method, names_
 use Rattle.seam_defs.specs.declared.types.TypeDef.{TypeDef}
 use Rattle.seam_defs.specs.declared.types.Method.{Method}
 use Rattle.seam_transcript.specs.Said.{texts_of}
-use Rattle.seam_transcript.specs.declared.sender.Sender.{Sender}
 use Rattle.seam_transcript.specs.declared.sender.Sender.TheVariants.{Base}
-use Rattle.seam_transcript.specs.Book.{sender_text, IsSender, IsBuilt, MayBe, MayCall}
+use Rattle.seam_transcript.specs.Book.{sender_text, IsBaseNode, IsBuilt, MayMake, MayCall}
 
 -- ---- senders
 
@@ -28,20 +27,20 @@ behind-first name m n is number =
     decimal_of-injective m n (number ∙ rest)
 
 -- a number outside the base nodes names none of them
-pub no_node : (bases m : ℕ) (name : List ℕ) (s : Sender) → (IsSender bases (Base m) → ⊥) → decimal_of m ≡ take (length name - 1) (drop 1 name)
-    → IsSender bases s → sender_text s ≡ name → ⊥
-no_node bases m name (Base n) outside number among is =
-    outside (subst (λ (k : ℕ). IsSender bases (Base k)) (sym (behind-first name m n is number)) among)
+pub no_node : (bases m : ℕ) (name : List ℕ) (n : ℕ) → (IsBaseNode bases m → ⊥) → decimal_of m ≡ take (length name - 1) (drop 1 name)
+    → IsBaseNode bases n → sender_text (Base n) ≡ name → ⊥
+no_node bases m name n outside number among is =
+    outside (subst (IsBaseNode bases) (sym (behind-first name m n is number)) among)
 
 -- ---- types and methods
 
-pub type-name : (defs : List TypeDef) (name : List ℕ) (ty : ℕ) → MayBe defs name ty → slice_get (names_of_types defs) ty ≡ Some name
+pub type-name : (defs : List TypeDef) (name : List ℕ) (ty : ℕ) → MayMake defs name ty → slice_get (names_of_types defs) ty ≡ Some name
 type-name defs name ty may =
     slice_get-map (λ (t : TypeDef). t.name) defs ty ∙ ap (option_map (λ (t : TypeDef). t.name)) (slice_get-get_or defs ty no_type may.has) ∙ ap (λ (n : List ℕ). Some n) may.named
 
 -- a type that takes no calls that are built is none of those that may be taken
 pub no-calls : (defs : List TypeDef) (name : List ℕ) (k : ℕ) → ((ty : ℕ) → slice_get (names_of_types defs) ty ≡ Some name → Some k ≡ Some ty) → (((m : ℕ) × IsBuilt defs k m) → ⊥)
-    → (ty : ℕ) → MayBe defs name ty → ⊥
+    → (ty : ℕ) → MayMake defs name ty → ⊥
 no-calls defs name k only none ty may =
     none (subst (λ (j : ℕ). (m : ℕ) × IsBuilt defs j m) (sym (same_Some k ty (only ty (type-name defs name ty may)))) may.takes_calls)
 

@@ -23,11 +23,11 @@ use Rattle.seam_defs.specs.declared.flags.Part.{Part}
 use Rattle.seam_defs.specs.declared.states.State.{State}
 use Rattle.seam_transcript.specs.declared.sender.Sender.{Sender}
 use Rattle.seam_transcript.specs.declared.executed.Executed.{Executed}
-use Rattle.seam_transcript.specs.Book.{Header, Book, Created, Called, accepted}
+use Rattle.seam_transcript.specs.Book.{Header, Book, Created, Called, is_for, is_from, accepted}
 use Rattle.seam_transcript.specs.Orders.{of_sender}
 use Rattle.seam_transcript.specs.FlatTable.{flat, first_state}
 use Rattle.seam_transcript.specs.Sequence.{next_executed, go_on, sequence}
-use Rattle.seam_transcript.specs.Plain.{is_for, is_from, added, since, done_since}
+use Rattle.seam_transcript.specs.Plain.{added, since, done_since}
 use Rattle.seam_transcript.proofs.BookLemmas.{found-entity}
 use Rattle.seam_transcript.proofs.Sequences.{sequence-full, sequence-more, length-numbered}
 

@@ -17,14 +17,14 @@ use Rattle.seam_defs.specs.declared.states.Deed.{Deed}
 use Rattle.seam_defs.specs.declared.states.Deed.TheVariants.{Method}
 use Rattle.seam_transcript.specs.declared.sender.Sender.{Sender}
 use Rattle.seam_transcript.specs.Language.{IsSkipped, HasWords, Create, Call, Sync, Says}
-use Rattle.seam_transcript.specs.Book.{Header, empty_header, Book, Created, Called, created_as, sender_text, IsSender, MayCall, with_create, with_call, Accepts, Cause, cause_text, TooLong, Skipped, Refused, Accepted, Judges}
+use Rattle.seam_transcript.specs.Book.{Header, empty_header, Book, Created, Called, created_as, sender_text, IsSender, opened, MayCall, with_create, with_call, Accepts, Cause, cause_text, TooLong, Skipped, Refused, Accepted, Judges}
 use Rattle.seam_transcript.specs.Standing.{Standing, behind_header, with_book}
 use Rattle.seam_transcript.specs.Orders.{Orders}
 use Rattle.seam_transcript.specs.Sequence.{sequence}
 use Rattle.seam_transcript.specs.Round.{IsRound, Lists}
 use Rattle.seam_transcript.specs.Transcript.{refusal, Takes, Step, Run, separator, BeginWithHeader, EndsInput, IsEnded}
 use Rattle.seam_transcript.specs.Plain.{header_of, done_since, round_text}
-use Rattle.seam_transcript.specs.PlainStands.{book_of, standing_of, PlainStands, HasCounted, HasAdded, behind_round, EndsRound, opened, Keeps, TakesCounted, TakesText}
+use Rattle.seam_transcript.specs.PlainStands.{book_of, standing_of, PlainStands, HasCounted, HasAdded, behind_round, EndsOpenRound, Keeps, TakesCounted, TakesText}
 use Rattle.seam_transcript.specs.declared.plain.Plain.{Plain}
 use Rattle.seam_transcript.proofs.PlainLemmas.{sequence-since}
 use Rattle.seam_transcript.proofs.Runs.{run-more}
@@ -56,7 +56,7 @@ plain-round defs p live after lists all =
 
 pub round-ended : (defs : List TypeDef) (old : Plain) (live made : List Created) (calls : List Called) (number executed : ℕ) → old.rounds < 2 ^ 62 → number ≡ min (old.rounds + 1) (2 ^ 64 - 1)
     → executed ≡ length old.calls.items → made ≡ old.created.items → calls ≡ old.calls.items → Lists (λ e. find (λ c. c.entity == e) made) live
-    → EndsRound (header_of defs) (round_text defs number live calls old.executed) old (record old { rounds = number; executed = executed; open_lines = 0 })
+    → EndsOpenRound (header_of defs) (round_text defs number live calls old.executed) old (record old { rounds = number; executed = executed; open_lines = 0 })
 round-ended defs old live made calls number executed few is all made_are calls_are lists =
     let counted : old.rounds + 1 ≡ number = omega (arith, is) in
     let left : (record old { rounds = number; executed = executed; open_lines = 0 }) ≡ behind_round old =
@@ -72,61 +72,6 @@ round-ended defs old live made calls number executed few is all made_are calls_a
           (subst (λ (cs : List Called). IsRound (header_of defs) (standing_of old) (round_text defs (old.rounds + 1) live cs old.executed) (standing_of (record old { rounds = number; executed = executed; open_lines = 0 }))) (sym calls_are)
           (subst (λ (new : Plain). IsRound (header_of defs) (standing_of old) (round_text defs (old.rounds + 1) live old.calls.items old.executed) (standing_of new)) (sym left) is_legal));
     }
-
--- ---- accepted lines
-
--- the 65,536th accepted line ended the round
-keeps-ended : (h : Header) (mid new : Plain) (piece : List ℕ) → mid.open_lines ≡ 65536 → length mid.calls.items ≤ mid.lines → mid.rounds < mid.lines → EndsRound h piece mid new
-    → Keeps h (standing_of mid) piece new
-keeps-ended h mid new piece last calls rounds ends =
-    let test : (mid.open_lines == 65536) ≡ true = grind (arith, common_steps, last) in
-    record {
-      text = subst (λ (b : Bool). MatchBool b (IsRound h (standing_of mid) piece (standing_of new)) ((piece ≡ []) × (standing_of new ≡ standing_of mid))) (sym test) ends.round;
-      stands = subst PlainStands (sym ends.left) (record { executed = omega arith; open_lines = omega arith; calls = calls; rounds = omega arith });
-      lines = ap (λ (p : Plain). p.lines) ends.left;
-    }
-
--- another one did not
-keeps-open : (h : Header) (mid : Plain) → mid.open_lines < 65536 → mid.executed ≤ length mid.calls.items → length mid.calls.items ≤ mid.lines → mid.rounds < mid.lines → Keeps h (standing_of mid) [] mid
-keeps-open h mid few executed calls rounds =
-    let test : (mid.open_lines == 65536) ≡ false = grind (arith, common_steps, few) in
-    record {
-      text = subst (λ (b : Bool). MatchBool b (IsRound h (standing_of mid) [] (standing_of mid)) ((◌≡◌ {A = List ℕ} [] []) × (standing_of mid ≡ standing_of mid))) (sym test) (refl, refl);
-      stands = record { executed = executed; open_lines = few; calls = calls; rounds = omega arith };
-      lines = refl;
-    }
-
--- one more line of the round was counted
-opened-by : (p : Plain) (n : ℕ) → n ≡ p.open_lines + 1 → standing_of (record p { open_lines = n }) ≡ opened (standing_of p)
-opened-by p n is = ap (λ (k : ℕ). standing_of (record p { open_lines = k })) is
-
-pub counted-last : (h : Header) (old new : Plain) (n : ℕ) (piece : List ℕ) → HasAdded old → n ≡ min (old.open_lines + 1) 4294967295 → n ≡ 65536 → EndsRound h piece (record old { open_lines = n }) new
-    → Keeps h (opened (standing_of old)) piece new
-counted-last h old new n piece added is last ends =
-    let few = added.open_lines in
-    subst (λ (s : Standing). Keeps h s piece new) (opened-by old n (omega (arith, is)))
-    (keeps-ended h (record old { open_lines = n }) new piece last added.calls added.rounds ends)
-
-pub counted-open : (h : Header) (old : Plain) (n : ℕ) → HasAdded old → n ≡ min (old.open_lines + 1) 4294967295 → n ≢ 65536 → Keeps h (opened (standing_of old)) [] (record old { open_lines = n })
-counted-open h old n added is other =
-    let few = added.open_lines in
-    subst (λ (s : Standing). Keeps h s [] (record old { open_lines = n })) (opened-by old n (omega (arith, is)))
-    (keeps-open h (record old { open_lines = n }) (omega (arith, is, other)) added.executed added.calls added.rounds)
-
--- what a `create` and a call leave
-pub made-opened : (p : Plain) (made : Created) (items : List Created) → items ≡ p.created.items ++ made ∷ []
-    → opened (record { lines = p.lines; book = record { created = items; calls = p.calls.items; open_lines = p.open_lines }; orders = sequence (take p.executed p.calls.items); rounds = p.rounds })
-    ≡ with_book (standing_of p) (with_create (book_of p) made)
-made-opened p made items is =
-    ap (λ (xs : List Created). record { lines = p.lines; book = record { created = xs; calls = p.calls.items; open_lines = p.open_lines + 1 }; orders = sequence (take p.executed p.calls.items); rounds = p.rounds }) is
-
-pub call-opened : (p : Plain) (c : Called) (items : List Called) → items ≡ p.calls.items ++ c ∷ [] → p.executed ≤ length p.calls.items
-    → opened (record { lines = p.lines; book = record { created = p.created.items; calls = items; open_lines = p.open_lines }; orders = sequence (take p.executed items); rounds = p.rounds })
-    ≡ with_book (standing_of p) (with_call (book_of p) c)
-call-opened p c items is within =
-    ap (λ (xs : List Called). record { lines = p.lines; book = record { created = p.created.items; calls = xs; open_lines = p.open_lines + 1 }; orders = sequence (take p.executed xs); rounds = p.rounds }) is
-    ∙ ap (λ (xs : List Called). record { lines = p.lines; book = record { created = p.created.items; calls = p.calls.items ++ c ∷ []; open_lines = p.open_lines + 1 }; orders = sequence xs; rounds = p.rounds })
-    (take-append-le p.executed p.calls.items (c ∷ []) within)
 
 -- ---- lines
 
@@ -144,13 +89,13 @@ pub refuses : (h : Header) (p : Plain) (line : List ℕ) (cause : Cause) (piece 
 refuses h p line cause piece has judges is = record { verdict = Refused cause; judges = judges; takes = (is, refl); stands = counted-stands p has; lines = refl }
 
 pub syncs : (h : Header) (old new : Plain) (line : List ℕ) (words : List (List ℕ)) (piece : List ℕ) → HasCounted old → ¬ (IsSkipped line) → HasWords line words → Says words Sync
-    → EndsRound h piece old new → TakesCounted h (Content line) piece old new
+    → EndsOpenRound h piece old new → TakesCounted h (Content line) piece old new
 syncs h old new line words piece has not are says ends =
     let calls = has.calls in
     let rounds = has.rounds in
     record {
       verdict = Accepted Sync (book_of old);
-      judges = inr (not, (words, are, says, refl));
+      judges = inr (not, inr (words, are, (says, refl)));
       takes = ends.round;
       stands = subst PlainStands (sym ends.left) (record { executed = omega arith; open_lines = omega arith; calls = omega arith; rounds = omega arith });
       lines = ap (λ (p : Plain). p.lines) ends.left;
@@ -161,7 +106,7 @@ pub creates : (h : Header) (old new : Plain) (line : List ℕ) (words : List (Li
     → Keeps h (with_book (standing_of old) b) piece new → TakesCounted h (Content line) piece old new
 creates h old new line words piece e name x z b not are says accepts keeps = record {
   verdict = Accepted (Create e name x z) b;
-  judges = inr (not, (words, are, says, accepts));
+  judges = inr (not, inr (words, are, (says, accepts)));
   takes = keeps.text;
   stands = keeps.stands;
   lines = keeps.lines;
@@ -172,7 +117,7 @@ pub calls : (h : Header) (old new : Plain) (line : List ℕ) (words : List (List
     → Keeps h (with_book (standing_of old) b) piece new → TakesCounted h (Content line) piece old new
 calls h old new line words piece who e name arguments b not are says accepts keeps = record {
   verdict = Accepted (Call who e name arguments) b;
-  judges = inr (not, (words, are, says, accepts));
+  judges = inr (not, inr (words, are, (says, accepts)));
   takes = keeps.text;
   stands = keeps.stands;
   lines = keeps.lines;
@@ -221,13 +166,9 @@ short-line h old new n text line piece few is short stripped taken =
 
 -- ---- calls
 
-pub standard-sender : (settings : Settings) (s : Sender) (who : List ℕ) → settings ≡ standard → (settings.bases ≤ 8 → IsSender settings.bases s × (sender_text s ≡ who))
-    → IsSender standard.bases s × (sender_text s ≡ who)
-standard-sender settings s who is h = subst (λ (x : Settings). x.bases ≤ 8 → IsSender x.bases s × (sender_text s ≡ who)) is h (lit≤ tt)
-
 -- a call that is accepted
 pub call-taken : (defs : List TypeDef) (b : Book) (who : List ℕ) (e : ℕ) (name : List ℕ) (arguments : List (List ℕ)) (s : Sender) (c : Created) (ty : ℕ) (d : Deed) (call : Called) → ty ≡ c.ty
-    → IsSender standard.bases s → sender_text s ≡ who → created_as b e ≡ Some c
+    → IsSender (header_of defs) b s → sender_text s ≡ who → created_as b e ≡ Some c
     → (m : ℕ) × (args : List Value) × (d ≡ Method m args) × MayCall defs ty name arguments m args
     → call ≡ record { entity = e; part = part.Cell; sender = s; deed = d } → Accepts (header_of defs) b (Call who e name arguments) (with_call b call)
 call-taken defs b who e name arguments s c ty d call same sender known_as entity deed is =
@@ -242,17 +183,6 @@ call-taken defs b who e name arguments s c ty d call same sender known_as entity
     )
 
 -- ---- all lines
-
--- the input ends
-pub nothing-open : (h : Header) (p : Plain) → p.open_lines ≡ 0 → EndsInput h (standing_of p) []
-nothing-open h p none =
-    let test : (p.open_lines == 0) ≡ true = grind (arith, common_steps, none) in
-    subst (λ (b : Bool). MatchBool b (◌≡◌ {A = List ℕ} [] []) ((t : Standing) × IsRound h (standing_of p) [] t)) (sym test) refl
-
-pub round-open : (h : Header) (p new : Plain) (piece : List ℕ) → p.open_lines ≢ 0 → EndsRound h piece p new → EndsInput h (standing_of p) piece
-round-open h p new piece some ends =
-    let test : (p.open_lines == 0) ≡ false = grind (arith, common_steps, some) in
-    subst (λ (b : Bool). MatchBool b (piece ≡ []) ((t : Standing) × IsRound h (standing_of p) piece t)) (sym test) (standing_of new, ends.round)
 
 -- the line of a text
 abbrev pub line_at : Bor (List ℕ) → Line
@@ -317,16 +247,17 @@ pub whole-transcript : (input : List ℕ) (among : List (Bor (List ℕ))) (d : B
     → lines_of input ≡ map line_at among → line_at (get_or among 0 d) ≡ separator
     → ((front last : List ℕ) × (t : Standing) × Run (header_of defs) (behind_header 1) (map line_at (take (length among - 1) (drop 1 among))) front t
     × EndsInput (header_of defs) t last × (out ≡ front ++ last))
-    → IsEnded empty_header (lines_of input) out
+    → IsEnded (lines_of input) out
 whole-transcript input among d defs out is some lines header printed =
     let rest : List Line = map line_at (take (length among - 1) (drop 1 among)) in (
+      empty_header,
       printed.0,
       printed.1,
       printed.2,
       record {
         count = 1;
         rest = rest;
-        header = (refl, lines ∙ headed among d some ∙ ap (λ (line : Line). line ∷ rest) header);
+        header = (refl, refl, lines ∙ headed among d some ∙ ap (λ (line : Line). line ∷ rest) header);
         run = subst (λ (ds : List TypeDef). Run (header_of ds) (behind_header 1) rest printed.0 printed.2) is printed.3;
       },
       subst (λ (ds : List TypeDef). EndsInput (header_of ds) printed.2 printed.1) is printed.4,
@@ -334,12 +265,12 @@ whole-transcript input among d defs out is some lines header printed =
     )
 
 pub other-header : (input : List ℕ) (among : List (Bor (List ℕ))) (d : Bor (List ℕ)) → 1 ≤ length among → lines_of input ≡ map line_at among → line_at (get_or among 0 d) ≢ separator
-    → (count : ℕ) (rest : List Line) → BeginWithHeader (lines_of input) count rest → ⊥
-other-header input among d some lines other count rest begin =
-    other (ap (λ (ls : List Line). get_or ls 0 Long) (sym (headed among d some) ∙ sym lines ∙ begin.1))
+    → (h : Header) (count : ℕ) (rest : List Line) → BeginWithHeader (lines_of input) h count rest → ⊥
+other-header input among d some lines other h count rest begin =
+    other (ap (λ (ls : List Line). get_or ls 0 Long) (sym (headed among d some) ∙ sym lines ∙ begin.2))
 
 pub no-header : (input : List ℕ) (among : List (Bor (List ℕ))) → length among < 1 → lines_of input ≡ map line_at among
-    → (count : ℕ) (rest : List Line) → BeginWithHeader (lines_of input) count rest → ⊥
-no-header input among none lines count rest begin =
-    let long = ap (λ (ls : List Line). length ls) (sym lines ∙ begin.1) in
+    → (h : Header) (count : ℕ) (rest : List Line) → BeginWithHeader (lines_of input) h count rest → ⊥
+no-header input among none lines h count rest begin =
+    let long = ap (λ (ls : List Line). length ls) (sym lines ∙ begin.2) in
     absurd (omega (arith, long, length-map among line_at))

@@ -18,15 +18,17 @@ unfolding lines_of
 separator-alone = refl
 
 -- the lines behind the header are those behind the separator
-behind-separator : (h : Header) (lines rest : List Line) (text : List ℕ) → lines ≡ separator ∷ rest → IsEnded h lines text
-    → (front last : List ℕ) × (t : Standing) × Run h (behind_header 1) rest front t × EndsInput h t last × (text ≡ front ++ last)
-behind-separator h lines rest text is (front, last, t, prints, ends, whole) =
-    let same : prints.rest ≡ rest = ap (drop 1) (sym prints.header.1 ∙ is) in (
+behind-separator : (lines rest : List Line) (text : List ℕ) → lines ≡ separator ∷ rest → IsEnded lines text
+    → (front last : List ℕ) × (t : Standing) × Run empty_header (behind_header 1) rest front t × EndsInput empty_header t last × (text ≡ front ++ last)
+behind-separator lines rest text is (h, front, last, t, prints, ends, whole) =
+    let same : prints.rest ≡ rest = ap (drop 1) (sym prints.header.2 ∙ is) in (
       front,
       last,
       t,
-      subst (λ (k : ℕ). Run h (behind_header k) rest front t) prints.header.0 (subst (λ (ls : List Line). Run h (behind_header prints.count) ls front t) same prints.run),
-      ends,
+      subst (λ (k : ℕ). Run empty_header (behind_header k) rest front t) prints.header.1
+          (subst (λ (ls : List Line). Run empty_header (behind_header prints.count) ls front t) same
+          (subst (λ (x : Header). Run x (behind_header prints.count) prints.rest front t) prints.header.0 prints.run)),
+      subst (λ (x : Header). EndsInput x t last) prints.header.0 ends,
       whole,
     )
 
@@ -35,13 +37,13 @@ nothing-left : (h : Header) (s t : Standing) (last : List ℕ) → t ≡ s → s
 nothing-left h s t last same none ends =
     subst (λ (n : ℕ). MatchBool (n == 0) (last ≡ []) ((u : Standing) × IsRound h s last u)) none (subst (λ (x : Standing). EndsInput h x last) same ends)
 
-pub empty-world : (text : List ℕ) → IsEnded empty_header (lines_of (codes "%%\n")) text ↔ (text ≡ [])
+pub empty-world : (text : List ℕ) → IsEnded (lines_of (codes "%%\n")) text ↔ (text ≡ [])
 empty-world text = (
   (λ ended.
-      let b = behind-separator empty_header (lines_of (codes "%%\n")) [] text separator-alone ended in
+      let b = behind-separator (lines_of (codes "%%\n")) [] text separator-alone ended in
       b.5 ∙ ap (λ (xs : List ℕ). xs ++ b.1) b.3.0 ∙ nothing-left empty_header (behind_header 1) b.2 b.1 b.3.1 refl b.4),
-  (λ none. subst (λ (xs : List ℕ). IsEnded empty_header (lines_of (codes "%%\n")) xs) (sym none)
-      ([], [], behind_header 1, record { count = 1; rest = []; header = (refl, separator-alone); run = (refl, refl) }, refl, refl)),
+  (λ none. subst (λ (xs : List ℕ). IsEnded (lines_of (codes "%%\n")) xs) (sym none)
+      (empty_header, [], [], behind_header 1, record { count = 1; rest = []; header = (refl, refl, separator-alone); run = (refl, refl) }, refl, refl)),
 )
 
 -- a verdict that changes nothing
@@ -55,7 +57,7 @@ pub unknown-command : (h : Header) (s t : Standing) (line : List ℕ) (words : L
     → ((c : Command) (next : Book) → Says words c → ¬ (Accepts h s.book c next))
     → Step h s (Content line) text t ↔ ((text ≡ refusal (s.lines + 1) (codes "command")) × (t ≡ counted s))
 unknown-command h s t line words text not has none =
-    takes-it h s t (Content line) text (Refused NoCommand) (inr (not, (words, has, none))) (λ w judged. no-command h s.book line words w not has none judged)
+    takes-it h s t (Content line) text (Refused NoCommand) (inr (not, inr (words, has, none))) (λ w judged. no-command h s.book line words w not has none judged)
 
 pub long-line : (h : Header) (s t : Standing) (text : List ℕ) → Step h s Long text t ↔ ((text ≡ refusal (s.lines + 1) (codes "long")) × (t ≡ counted s))
 long-line h s t text = takes-it h s t Long text (Refused TooLong) refl (λ w judged. judged)
@@ -103,22 +105,23 @@ says-none Sync says = let first = ap (λ (ws : List (List ℕ)). get_or (get_or 
 tick-refused : (text : List ℕ) (t : Standing) → Step empty_header (behind_header 1) (Content (codes "tick")) text t ↔ ((text ≡ refusal 2 (codes "command")) × (t ≡ counted (behind_header 1)))
 tick-refused text t = unknown-command empty_header (behind_header 1) t (codes "tick") (codes "tick" ∷ []) text not-skipped one-word (λ c next says. absurd (says-none c says))
 
-pub one-unknown : (text : List ℕ) → IsEnded empty_header (lines_of (codes "%%\ntick\n")) text ↔ (text ≡ codes "line 2 command\n")
+pub one-unknown : (text : List ℕ) → IsEnded (lines_of (codes "%%\ntick\n")) text ↔ (text ≡ codes "line 2 command\n")
 one-unknown text = (
   (λ ended.
-      let b = behind-separator empty_header (lines_of (codes "%%\ntick\n")) (Content (codes "tick") ∷ []) text two-lines ended in
+      let b = behind-separator (lines_of (codes "%%\ntick\n")) (Content (codes "tick") ∷ []) text two-lines ended in
       let r = b.3 in
       let step = (tick-refused r.0 r.2).0 r.4 in
       let last : b.1 ≡ [] = nothing-left empty_header (counted (behind_header 1)) b.2 b.1 (r.5.1 ∙ step.1) refl b.4 in
       b.5 ∙ ap (λ (xs : List ℕ). b.0 ++ xs) last ∙ append-nil b.0 ∙ r.3 ∙ ap (λ (xs : List ℕ). r.0 ++ xs) r.5.0 ∙ append-nil r.0 ∙ step.0 ∙ second-line),
-  (λ is. subst (λ (xs : List ℕ). IsEnded empty_header (lines_of (codes "%%\ntick\n")) xs) (second-line ∙ sym is) (
+  (λ is. subst (λ (xs : List ℕ). IsEnded (lines_of (codes "%%\ntick\n")) xs) (second-line ∙ sym is) (
+    empty_header,
     refusal 2 (codes "command"),
     [],
     counted (behind_header 1),
     record {
       count = 1;
       rest = Content (codes "tick") ∷ [];
-      header = (refl, two-lines);
+      header = (refl, refl, two-lines);
       run = (refusal 2 (codes "command"), [], counted (behind_header 1), sym (append-nil (refusal 2 (codes "command"))), (tick-refused (refusal 2 (codes "command")) (counted (behind_header 1))).1 (refl, refl), (refl, refl));
     },
     refl,

@@ -9,17 +9,13 @@ use Rattle.seam_defs.specs.declared.states.Deed.{Deed}
 use Rattle.seam_transcript.specs.declared.sender.Sender.{Sender}
 use Rattle.seam_transcript.specs.declared.sender.Sender.TheVariants.{Base}
 use Rattle.seam_transcript.specs.declared.executed.Executed.{Executed}
-use Rattle.seam_transcript.specs.Book.{Book, Called, same_part, same_sender}
+use Rattle.seam_transcript.specs.Book.{Book, Called, same_sender, is_for, is_from}
 use Rattle.seam_transcript.specs.Orders.{numbered, of_sender, IsFull, IsLegal}
 use Rattle.seam_transcript.specs.Sequence.{next_executed, go_on, sequence}
 
 -- the deeds of a sender for a part among some calls
 abbrev accepted_in : List Called → Part → ℕ → Sender → List Deed
-accepted_in calls p e s = map (λ c. c.deed) (filter (λ c. (c.entity == e) && same_part c.part p && same_sender c.sender s) calls)
-
--- the call is for the part
-abbrev is_for : Part → ℕ → Called → Bool
-is_for p e c = (c.entity == e) && same_part c.part p
+accepted_in calls p e s = map (λ c. c.deed) (filter (is_from p e s) calls)
 
 numbered-append : (s : Sender) (n : ℕ) (ds : List Deed) (d : Deed) → numbered s n (ds ++ d ∷ []) ≡ numbered s n ds ++ record { sender = s; number = n + length ds; deed = d } ∷ []
 numbered-append s n [] d = ap (λ (m : ℕ). record { sender = s; number = m; deed = d } ∷ []) (omega arith)
@@ -44,12 +40,12 @@ of_sender-more s order x b is =
 accepted_in-more : (calls : List Called) (p : Part) (e : ℕ) (s : Sender) (c : Called) (b : Bool) → (is_for p e c && same_sender c.sender s) ≡ b
     → accepted_in (calls ++ c ∷ []) p e s ≡ accepted_in calls p e s ++ (if b then c.deed ∷ [] else [])
 accepted_in-more calls p e s c true is =
-    let test : Called → Bool = λ c. (c.entity == e) && same_part c.part p && same_sender c.sender s in
+    let test : Called → Bool = is_from p e s in
     ap (map (λ (c : Called). c.deed)) (filter-append test calls (c ∷ []))
     ∙ map-append (λ (c : Called). c.deed) (filter test calls) (filter test (c ∷ []))
     ∙ ap (λ (b : Bool). map (λ (c : Called). c.deed) (filter test calls) ++ map (λ (c : Called). c.deed) (if b then c ∷ [] else [])) is
 accepted_in-more calls p e s c false is =
-    let test : Called → Bool = λ c. (c.entity == e) && same_part c.part p && same_sender c.sender s in
+    let test : Called → Bool = is_from p e s in
     ap (map (λ (c : Called). c.deed)) (filter-append test calls (c ∷ []))
     ∙ map-append (λ (c : Called). c.deed) (filter test calls) (filter test (c ∷ []))
     ∙ ap (λ (b : Bool). map (λ (c : Called). c.deed) (filter test calls) ++ map (λ (c : Called). c.deed) (if b then c ∷ [] else [])) is

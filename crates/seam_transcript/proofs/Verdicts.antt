@@ -20,7 +20,7 @@ use Rattle.seam_defs.proofs.Numbers.{rising-methods}
 use Rattle.seam_transcript.specs.declared.sender.Sender.{Sender}
 use Rattle.seam_transcript.specs.declared.sender.Sender.TheVariants.{Base}
 use Rattle.seam_transcript.specs.Language.{IsSkipped, HasWords, Command, Create, Call, Sync, Says}
-use Rattle.seam_transcript.specs.Book.{Header, Book, Created, sender_text, IsBuilt, MayBe, MayCall, with_create, with_call, call_of, Accepts, TooLong, BadWords, NoCommand, Verdict, Skipped, Refused, Accepted, JudgesWords, Judges}
+use Rattle.seam_transcript.specs.Book.{Header, Book, Created, sender_text, IsBuilt, MayMake, MayCall, with_create, with_call, call_of, Accepts, TooLong, BadWords, NoCommand, Verdict, Skipped, Refused, Accepted, JudgesWords, JudgesText, Judges}
 use Rattle.seam_transcript.proofs.NamingLemmas.{type-name, method-name}
 use Rattle.seam_transcript.proofs.Commands.{one-command}
 
@@ -29,7 +29,7 @@ use Rattle.seam_transcript.proofs.Commands.{one-command}
 one-sender : (s t : Sender) → sender_text s ≡ sender_text t → s ≡ t
 one-sender (Base m) (Base n) same = ap Base (decimal_of-injective m n (ap (drop 1) same))
 
-one-type : (defs : List TypeDef) (name : List ℕ) (a b : ℕ) → AreDefs defs → MayBe defs name a → MayBe defs name b → a ≡ b
+one-type : (defs : List TypeDef) (name : List ℕ) (a b : ℕ) → AreDefs defs → MayMake defs name a → MayMake defs name b → a ≡ b
 one-type defs name a b are one other =
     one_place (λ (t : TypeDef). t.name) defs are.names name a b (type-name defs name a one) (type-name defs name b other)
 
@@ -73,47 +73,51 @@ one-words line xs ys one other =
 not-both : (line : List ℕ) (e : WordsError) (words : List (List ℕ)) → Refuses line e → HasWords line words → ⊥
 not-both line e words bad has = no_words line e bad has.spans has.text has.are has.most
 
+-- words have one verdict
+words-one : (h : Header) (b : Book) (words : List (List ℕ)) (v w : Verdict) → AreDefs h.defs → JudgesWords h b words v → JudgesWords h b words w → v ≡ w
+words-one h b words (Accepted c next) (Accepted d then) are one other =
+    let same : c ≡ d = one-command words c d one.0 other.0 in
+    ap (λ (x : Command). Accepted x next) same ∙ ap (Accepted d) (one-book h b d next then are (subst (λ (x : Command). Accepts h b x next) same one.1) other.1)
+words-one h b words (Accepted c next) (Refused NoCommand) are one other = absurd (other c next one.0 one.1)
+words-one h b words (Refused NoCommand) (Accepted c next) are one other = absurd (one c next other.0 other.1)
+words-one h b words (Refused NoCommand) (Refused NoCommand) are one other = refl
+words-one h b words Skipped w are one other = absurd one
+words-one h b words (Refused TooLong) w are one other = absurd one
+words-one h b words (Refused (BadWords e)) w are one other = absurd one
+words-one h b words (Accepted c next) Skipped are one other = absurd other
+words-one h b words (Accepted c next) (Refused TooLong) are one other = absurd other
+words-one h b words (Accepted c next) (Refused (BadWords e)) are one other = absurd other
+words-one h b words (Refused NoCommand) Skipped are one other = absurd other
+words-one h b words (Refused NoCommand) (Refused TooLong) are one other = absurd other
+words-one h b words (Refused NoCommand) (Refused (BadWords e)) are one other = absurd other
+
+-- words that say no command which is accepted are refused
+words-none : (h : Header) (b : Book) (words : List (List ℕ)) (v : Verdict) → ((c : Command) (next : Book) → Says words c → ¬ (Accepts h b c next)) → JudgesWords h b words v → v ≡ Refused NoCommand
+words-none h b words (Accepted c next) none judged = absurd (none c next judged.0 judged.1)
+words-none h b words (Refused NoCommand) none judged = refl
+words-none h b words (Refused TooLong) none judged = absurd judged
+words-none h b words (Refused (BadWords e)) none judged = absurd judged
+words-none h b words Skipped none judged = absurd judged
+
 -- the verdict on a line whose words say no command that is accepted
 pub no-command : (h : Header) (b : Book) (line : List ℕ) (words : List (List ℕ)) (v : Verdict) → ¬ (IsSkipped line) → HasWords line words → ((c : Command) (next : Book) → Says words c → ¬ (Accepts h b c next))
     → Judges h b (Content line) v → v ≡ Refused NoCommand
 no-command h b line words v not has none (inl skipped) = absurd (not skipped.0)
-no-command h b line words Skipped not has none (inr judged) = absurd judged.1
-no-command h b line words (Refused TooLong) not has none (inr judged) = absurd judged.1
-no-command h b line words (Refused (BadWords e)) not has none (inr judged) = absurd (not-both line e words judged.1 has)
-no-command h b line words (Refused NoCommand) not has none (inr judged) = refl
-no-command h b line words (Accepted c next) not has none (inr judged) =
-    let w = judged.1 in
-    absurd (none c next (subst (λ (ws : List (List ℕ)). Says ws c) (one-words line w.0 words w.1 has) w.2) w.3)
+no-command h b line words v not has none (inr (_, inl bad)) = absurd (not-both line bad.0 words bad.1 has)
+no-command h b line words v not has none (inr (_, inr judged)) =
+    words-none h b words v none (subst (λ (ws : List (List ℕ)). JudgesWords h b ws v) (one-words line judged.0 words judged.1 has) judged.2)
 
--- the verdict on a line that says a command which is accepted
-accepted-one : (h : Header) (b : Book) (line : List ℕ) (c : Command) (next : Book) (v : Verdict) → AreDefs h.defs → JudgesWords h b line (Accepted c next) → JudgesWords h b line v → v ≡ Accepted c next
-accepted-one h b line c next Skipped are one other = absurd other
-accepted-one h b line c next (Refused TooLong) are one other = absurd other
-accepted-one h b line c next (Refused (BadWords e)) are one other = absurd (not-both line e one.0 other one.1)
-accepted-one h b line c next (Refused NoCommand) are one other =
-    absurd (other.2 c next (subst (λ (ws : List (List ℕ)). Says ws c) (one-words line one.0 other.0 one.1 other.1) one.2) one.3)
-accepted-one h b line c next (Accepted d then) are one other =
-    let says : Says one.0 d = subst (λ (ws : List (List ℕ)). Says ws d) (one-words line other.0 one.0 other.1 one.1) other.2 in
-    let same : d ≡ c = one-command one.0 d c says one.2 in
-    ap (λ (x : Command). Accepted x then) same ∙ ap (Accepted c) (one-book h b c then next are (subst (λ (x : Command). Accepts h b x then) same other.3) one.3)
-
-refused-one : (h : Header) (b : Book) (line : List ℕ) (e : WordsError) (v : Verdict) → JudgesWords h b line (Refused (BadWords e)) → JudgesWords h b line v → v ≡ Refused (BadWords e)
-refused-one h b line e Skipped one other = absurd other
-refused-one h b line e (Refused TooLong) one other = absurd other
-refused-one h b line e (Refused (BadWords f)) one other = ap (λ (x : WordsError). Refused (BadWords x)) (same_refusal line f e other one)
-refused-one h b line e (Refused NoCommand) one other = absurd (not-both line e other.0 one other.1)
-refused-one h b line e (Accepted c next) one other = absurd (not-both line e other.0 one other.1)
-
-words-one : (h : Header) (b : Book) (line : List ℕ) (v w : Verdict) → AreDefs h.defs → ¬ (IsSkipped line) → JudgesWords h b line v → JudgesWords h b line w → v ≡ w
-words-one h b line Skipped w are not one other = absurd one
-words-one h b line (Refused TooLong) w are not one other = absurd one
-words-one h b line (Refused (BadWords e)) w are not one other = sym (refused-one h b line e w one other)
-words-one h b line (Refused NoCommand) w are not one other = sym (no-command h b line one.0 w not one.1 one.2 (inr (not, other)))
-words-one h b line (Accepted c next) w are not one other = sym (accepted-one h b line c next w are one other)
+-- a line that says something has one verdict
+text-one : (h : Header) (b : Book) (line : List ℕ) (v w : Verdict) → AreDefs h.defs → JudgesText h b line v → JudgesText h b line w → v ≡ w
+text-one h b line v w are (inl one) (inl other) = one.2 ∙ ap (λ (e : WordsError). Refused (BadWords e)) (same_refusal line one.0 other.0 one.1 other.1) ∙ sym other.2
+text-one h b line v w are (inl one) (inr other) = absurd (not-both line one.0 other.0 one.1 other.1)
+text-one h b line v w are (inr one) (inl other) = absurd (not-both line other.0 one.0 other.1 one.1)
+text-one h b line v w are (inr one) (inr other) =
+    words-one h b other.0 v w are (subst (λ (ws : List (List ℕ)). JudgesWords h b ws v) (one-words line one.0 other.0 one.1 other.1) one.2) other.2
 
 pub one-verdict : (h : Header) (b : Book) (line : Line) (v w : Verdict) → AreDefs h.defs → Judges h b line v → Judges h b line w → v ≡ w
 one-verdict h b Long v w are one other = one ∙ sym other
 one-verdict h b (Content line) v w are (inl one) (inl other) = one.1 ∙ sym other.1
 one-verdict h b (Content line) v w are (inl one) (inr other) = absurd (other.0 one.0)
 one-verdict h b (Content line) v w are (inr one) (inl other) = absurd (one.0 other.0)
-one-verdict h b (Content line) v w are (inr one) (inr other) = words-one h b line v w are one.0 one.1 other.1
+one-verdict h b (Content line) v w are (inr one) (inr other) = text-one h b line v w are one.1 other.1

@@ -1,24 +1,15 @@
--- What the plain program holds, as a standing of a transcript.
-use Rattle.std.specs.Prelude.{ℕ, ◌&&◌, Bool, List, [], ◌∷◌, ◌++◌, length, take, drop, codes, find, ◌==◌, if◌then◌else◌}
+-- What the plain program prints for a round. Contracts of code cite it; no definition of a transcript does.
+use Rattle.std.specs.Prelude.{ℕ, List, [], ◌∷◌, ◌++◌, length, take, drop, codes, find, ◌==◌, if◌then◌else◌}
 use Rattle.std.specs.List.{flat_map, filter_map}
 use Rattle.seam_defs.specs.declared.flags.Part.{Part}
 use Rattle.seam_defs.specs.declared.flags.Part.TheVariants as part
 use Rattle.seam_defs.specs.declared.types.TypeDef.{TypeDef}
 use Rattle.seam_defs.specs.Settings.{standard}
 use Rattle.seam_transcript.specs.declared.executed.Executed.{Executed}
-use Rattle.seam_transcript.specs.declared.sender.Sender.{Sender}
-use Rattle.seam_transcript.specs.Book.{Header, Created, Called, same_part, same_sender}
+use Rattle.seam_transcript.specs.Book.{Header, Created, Called, is_for}
 use Rattle.seam_transcript.specs.FlatTable.{flat}
 use Rattle.seam_transcript.specs.Round.{number_line, executed_line, home_line, base_line}
 use Rattle.seam_transcript.specs.Sequence.{next_executed, go_on, sequence}
-
--- the call is for the part
-abbrev pub is_for : Part → ℕ → Called → Bool
-is_for p e c = (c.entity == e) && same_part c.part p
-
--- the call is for the part and from the sender
-abbrev pub is_from : Part → ℕ → Sender → Called → Bool
-is_from p e s c = (c.entity == e) && same_part c.part p && same_sender c.sender s
 
 -- what a call adds to an order
 abbrev pub added : Part → ℕ → List Executed → Called → List Executed

@@ -1,4 +1,5 @@
--- What the plain program holds, as a standing of a transcript, and what its turns do.
+-- What the plain program holds, as a standing of a transcript, and what its turns do. Contracts of code cite it; no
+-- definition of a transcript does.
 use Rattle.std.specs.Prelude.{◌≡◌, ℕ, ◌+◌, ◌<◌, ◌≤◌, ◌^◌, List, [], length, take, ◌==◌, MatchBool}
 use Rattle.seam_io.specs.Lines.{Line}
 use Rattle.seam_transcript.specs.Book.{Header, Book, Verdict, Judges}
@@ -49,13 +50,9 @@ abbrev pub behind_round : Plain → Plain
 behind_round p = record p { open_lines = 0; executed = length p.calls.items; rounds = p.rounds + 1 }
 
 -- the open round ended, and its text is the piece
-pub record EndsRound (h : Header) (piece : List ℕ) (old new : Plain) : Type 0 where
+pub record EndsOpenRound (h : Header) (piece : List ℕ) (old new : Plain) : Type 0 where
   pub left : new ≡ behind_round old
   pub round : IsRound h (standing_of old) piece (standing_of new)
-
--- one more line of the round is accepted
-abbrev pub opened : Standing → Standing
-opened s = with_book s (record s.book { open_lines = s.book.open_lines + 1 })
 
 -- an accepted line was counted, with which the standing is this one; the piece is what is printed for it
 pub record Keeps (h : Header) (s : Standing) (piece : List ℕ) (new : Plain) : Type 0 where

@@ -12,7 +12,7 @@ use Rattle.seam_defs.specs.declared.flags.Group.TheVariants as group
 use Rattle.seam_defs.specs.declared.states.Deed.{Deed}
 use Rattle.seam_defs.specs.declared.states.Deed.TheVariants.{Move, Method}
 use Rattle.seam_defs.specs.declared.states.State.{State}
-use Rattle.seam_transcript.specs.Book.{Header, Book, Created, created_as, sender_text, closed}
+use Rattle.seam_transcript.specs.Book.{Header, Book, Created, created_as, lives_as, sender_text, closed}
 use Rattle.seam_transcript.specs.declared.executed.Executed.{Executed}
 use Rattle.seam_transcript.specs.Orders.{Orders, IsLegal, IsFull}
 use Rattle.seam_transcript.specs.FlatTable.{flat}
@@ -63,10 +63,6 @@ pub record Lists (entities : ℕ → Option Created) (list : List Created) : Typ
   pub rising : IsStrictlyIncreasing (map (λ c. c.entity) list)
   pub exact : (c : Created) → Contains list c ↔ (entities c.entity ≡ Some c)
 
--- the entities that live: so far all that were created
-abbrev pub lives_as : Book → ℕ → Option Created
-lives_as b e = created_as b e
-
 -- the lines of the executed calls of a part: for each entity, in the order of execution
 abbrev pub executed_lines : List ℕ → Part → Header → RoundData → List ℕ
 executed_lines word p h r = flat_map (λ c. flat_map (executed_line word h.defs c.entity c.ty) (r.done p c.entity)) r.made
@@ -91,7 +87,7 @@ pub record IsRound (h : Header) (s : Standing) (text : List ℕ) (t : Standing) 
   pub form : text ≡ number_line (codes "round ") t.rounds
       ++ executed_lines (codes "did ") part.Cell h round ++ executed_lines (codes "dob ") part.Base h round
       ++ home_lines h t.orders round ++ base_lines h t.orders round ++ number_line (codes "end ") t.rounds
-  -- two: the executed calls go on with each part's order, to a legal and full one
+  -- two: the executed calls go on with each part's order, to one that is full, and so legal
   pub made : Lists (created_as s.book) round.made
   pub goes_on : (p : Part) (e : ℕ) → t.orders p e ≡ s.orders p e ++ round.done p e
   pub legal : (p : Part) (e : ℕ) → IsLegal s.book p e (t.orders p e)

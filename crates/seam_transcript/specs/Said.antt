@@ -1,4 +1,4 @@
--- What was read of a line.
+-- What was read of a line. Contracts of code cite it; no definition of a transcript does.
 use Rattle.std.specs.Prelude.{ℕ, List, ◌∷◌, map, codes}
 use Rattle.std.specs.Borrow.{Bor}
 use Rattle.seam_words.specs.Faults.{Refuses}

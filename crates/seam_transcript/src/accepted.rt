@@ -1,6 +1,6 @@
 // What was accepted, as plain values.
 ghost use Rattle.std.specs.Prelude.{◌≡◌};
-ghost use Rattle.seam_transcript.specs.Plain.{is_for, is_from};
+ghost use Rattle.seam_transcript.specs.Book.{is_for, is_from};
 
 use crate::Sender;
 use seam_defs::{Deed, Part};

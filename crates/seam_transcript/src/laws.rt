@@ -3,18 +3,18 @@ ghost use Rattle.std.specs.Prelude.{◌≡◌, ◌↔◌, ◌+◌, ◌++◌, ◌
 ghost use Rattle.seam_io.specs.Lines.{Line, Long, Content, lines_of};
 ghost use Rattle.seam_defs.specs.Types.{AreDefs};
 ghost use Rattle.seam_transcript.specs.Language.{IsSkipped, HasWords, Command, Says};
-ghost use Rattle.seam_transcript.specs.Book.{Header, Book, empty_header, Accepts, Verdict, Judges};
+ghost use Rattle.seam_transcript.specs.Book.{Header, Book, Accepts, Verdict, Judges};
 ghost use Rattle.seam_transcript.specs.Standing.{Standing, counted};
 ghost use Rattle.seam_transcript.specs.Transcript.{refusal, Step, IsEnded};
 
 /// The empty world: the ended transcript of an input of the header's end alone is the empty text.
 pub fn empty_world_prints_nothing()
-    ensures { (text : List ℕ) → IsEnded empty_header (lines_of (codes "%%\n")) text ↔ (text ≡ []) }
+    ensures { (text : List ℕ) → IsEnded (lines_of (codes "%%\n")) text ↔ (text ≡ []) }
 {}
 
 /// A line whose one word is no command prints its number and the cause, and nothing else.
 pub fn one_unknown_command()
-    ensures { (text : List ℕ) → IsEnded empty_header (lines_of (codes "%%\ntick\n")) text ↔ (text ≡ codes "line 2 command\n") }
+    ensures { (text : List ℕ) → IsEnded (lines_of (codes "%%\ntick\n")) text ↔ (text ≡ codes "line 2 command\n") }
 {}
 
 /// A line that is too long has this text and no other, and changes nothing but the count of lines.
@@ -23,7 +23,8 @@ pub fn long_line_is_refused()
         ↔ ((text ≡ refusal (s.lines + 1) (codes "long")) × (t ≡ counted s)) }
 {}
 
-/// So has a line whose words say no command that the book accepts.
+/// A line whose words say no command that the book accepts has that refusal and no other text, and changes nothing but the
+/// count of lines.
 pub fn unknown_command_is_refused()
     ensures { (h : Header) (s t : Standing) (line : List ℕ) (words : List (List ℕ)) (text : List ℕ) → ¬ (IsSkipped line) → HasWords line words
         → ((c : Command) (next : Book) → Says words c → ¬ (Accepts h s.book c next)) → Step h s (Content line) text t

@@ -1,5 +1,6 @@
 //! What a transcript is: the definitions that the contract of the server's top call is written in. A reader who believes
-//! them, and the words of the crates below that they use, has to believe nothing else of the server.
+//! them (`Language`, `Book`, `Orders`, `Standing`, `FlatTable`, `Round` and `Transcript` of `specs/`), and the words of the
+//! crates below that they use, has to believe nothing else of the server.
 #![tactic(auto)]
 
 mod accepted;
@@ -18,7 +19,7 @@ pub use laws::{
     empty_world_prints_nothing, long_line_is_refused, one_unknown_command,
     unknown_command_is_refused, verdict_is_one,
 };
-pub use naming::{deed_named, sender_named, type_named};
+pub use naming::{base_named, deed_named, type_named};
 pub use plain::transcript_of;
 pub use sender::Sender;
 pub use text::{push_bad_words, push_base, push_executed, push_home, push_line, push_refusal};

@@ -2,20 +2,19 @@
 ghost use Rattle.std.specs.Prelude.{◌≡◌, ◌≢◌, ◌≤◌, ◌↔◌, ◌∷◌, ℕ, List, [], IsTrue, IfOk, MatchOption};
 ghost use Rattle.seam_value.specs.declared.values.Value.{Value as Values};
 ghost use Rattle.seam_defs.specs.Types.{method_of};
-ghost use Rattle.seam_transcript.specs.Book.{sender_text, IsSender, IsBuilt, MayBe, MayCall};
+ghost use Rattle.seam_transcript.specs.Book.{sender_text, IsBaseNode, IsBuilt, MayMake, MayCall};
 ghost use Rattle.seam_transcript.specs.Said.{texts_of};
-ghost use Rattle.seam_transcript.specs.declared.sender.Sender.{Sender as Senders};
 
 use crate::{Sender, whole_number};
 use seam_defs::{Args, Deed, Defs, Part};
 use seam_value::{Value, ValueError, ValueType};
 use std::alloc::{AllocError, Global};
 
-/// The sender of this name: `b`, and the number of a base node from 1 on.
-pub fn sender_named(alloc: Global, name: &[u8], bases: u32) -> Option<Sender>
+/// The base node of this name: `b`, and its number from 1 on.
+pub fn base_named(alloc: Global, name: &[u8], bases: u32) -> Option<Sender>
     ensures { bases ≤ 8 → MatchOption result
-        ((s : Senders) → IsSender bases s → sender_text s ≢ name.now)
-        (λ s. IsSender bases s × (sender_text s ≡ name.now)) }
+        ((n : ℕ) → IsBaseNode bases n → sender_text (Sender.Base n) ≢ name.now)
+        (λ s. (n : ℕ) × (s ≡ Sender.Base n) × IsBaseNode bases n × (sender_text s ≡ name.now)) }
 {
     match name {
         [b'b', number @ ..] => match whole_number(alloc, number) {
@@ -34,7 +33,7 @@ pub fn sender_named(alloc: Global, name: &[u8], bases: u32) -> Option<Sender>
 
 /// The type of this name, where it takes calls that are built.
 pub fn type_named(defs: &Defs, name: &[u8]) -> Option<u16>
-    ensures { MatchOption result ((ty : ℕ) → ¬ (MayBe defs.now name.now ty)) (MayBe defs.now name.now) }
+    ensures { MatchOption result ((ty : ℕ) → ¬ (MayMake defs.now name.now ty)) (MayMake defs.now name.now) }
 {
     match defs.find_type(name) {
         Some(ty) => {

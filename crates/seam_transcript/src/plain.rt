@@ -5,15 +5,15 @@ ghost use Rattle.std.specs.Str.Lines.{strip_carriage_return};
 ghost use Rattle.seam_io.specs.Lines.{Line, Content, is_feed, line_of, lines_of, lines_between};
 ghost use Rattle.seam_transcript.specs.Language.{Create, Call};
 ghost use Rattle.seam_transcript.specs.Said.{texts_of};
-ghost use Rattle.seam_transcript.specs.Book.{Book, empty_header, with_create, with_call, Accepts};
+ghost use Rattle.seam_transcript.specs.Book.{Header, Book, opened, with_create, with_call, Accepts};
 ghost use Rattle.seam_transcript.specs.Standing.{Standing, behind_header, with_book};
 ghost use Rattle.seam_transcript.specs.Transcript.{Run, EndsInput, IsEnded, separator, BeginWithHeader};
 ghost use Rattle.seam_transcript.specs.Plain.{header_of};
-ghost use Rattle.seam_transcript.specs.PlainStands.{book_of, standing_of, MayEnd, PlainStands, HasCounted, HasAdded, opened, EndsRound, Keeps, TakesCounted, TakesText};
+ghost use Rattle.seam_transcript.specs.PlainStands.{book_of, standing_of, MayEnd, PlainStands, HasCounted, HasAdded, EndsOpenRound, Keeps, TakesCounted, TakesText};
 
 use crate::accepted::{Made, Taken};
 use crate::plain_round::{created_as, push_round};
-use crate::{Said, deed_named, push_bad_words, push_refusal, read_line, sender_named, type_named};
+use crate::{Said, deed_named, push_bad_words, push_refusal, read_line, base_named, type_named};
 use seam_defs::{Defs, Part, Settings};
 use seam_geo::Pos;
 use std::alloc::{AllocError, Global};
@@ -31,8 +31,8 @@ const MOST_BYTES: usize = 4_096;
 pub fn transcript_of(alloc: Global, input: &[u8]) -> Result<Option<Vec<u8>>, AllocError>
     requires { length input.now ≤ 2 ^ 40 }
     ensures { IfOk result (λ text. MatchOption text
-        ((count : ℕ) (rest : List Line) → ¬ (BeginWithHeader (lines_of input.now) count rest))
-        (λ t. IsEnded empty_header (lines_of input.now) t.items)) }
+        ((h : Header) (count : ℕ) (rest : List Line) → ¬ (BeginWithHeader (lines_of input.now) h count rest))
+        (λ t. IsEnded (lines_of input.now) t.items)) }
 {
     let texts = texts_of(alloc, input)?;
     match lines_among(&texts) {
@@ -177,7 +177,7 @@ impl Plain {
             (λ c. Accepts (header_of defs.now) (book_of self.now) (Call sender_name.now entity method_name.now (texts_of arguments.now)) (with_call (book_of self.now) c))) }
     {
         let bases = Settings::standard().bases;
-        let Some(sender) = sender_named(self.alloc, sender_name, bases) else {
+        let Some(sender) = base_named(self.alloc, sender_name, bases) else {
             return Ok(None);
         };
         let Some(made) = created_as(&self.created, entity) else {
@@ -213,7 +213,7 @@ impl Plain {
     fn count_accepted(&mut self, defs: &Defs, out: &mut Vec<u8>) -> Result<(), AllocError>
         requires { HasAdded self.now }
         ensures { OnOk result ((piece : List ℕ) × (out.new.items ≡ out.old.items ++ piece)
-            × Keeps (header_of defs.now) (opened (standing_of self.old)) piece self.new) }
+            × Keeps (header_of defs.now) (with_book (standing_of self.old) (opened (book_of self.old))) piece self.new) }
     {
         self.open_lines = self.open_lines.saturating_add(1);
         if self.open_lines == MOST_LINES {
@@ -226,7 +226,7 @@ impl Plain {
     fn end_round(&mut self, defs: &Defs, out: &mut Vec<u8>) -> Result<(), AllocError>
         requires { MayEnd self.now }
         ensures { OnOk result ((piece : List ℕ) × (out.new.items ≡ out.old.items ++ piece)
-            × EndsRound (header_of defs.now) piece self.old self.new) }
+            × EndsOpenRound (header_of defs.now) piece self.old self.new) }
     {
         self.rounds = self.rounds.saturating_add(1);
         push_round(

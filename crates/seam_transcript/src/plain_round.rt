@@ -3,12 +3,12 @@ ghost use Rattle.std.specs.Prelude.{◌≡◌, ◌==◌, ◌<◌, ◌≤◌, ◌
 ghost use Rattle.std.specs.List.{flat_map};
 ghost use Rattle.std.specs.List.{cons_option};
 ghost use Rattle.std.specs.List.Sorted.{IsStrictlyIncreasing};
-ghost use Rattle.seam_transcript.specs.Book.{Created};
+ghost use Rattle.seam_transcript.specs.Book.{Created, is_for, is_from};
 ghost use Rattle.seam_transcript.specs.FlatTable.{flat};
 ghost use Rattle.seam_transcript.specs.Orders.{of_sender};
 ghost use Rattle.seam_transcript.specs.Round.{executed_line, Lists};
 ghost use Rattle.seam_transcript.specs.Sequence.{sequence};
-ghost use Rattle.seam_transcript.specs.Plain.{is_for, is_from, added, done_text, home_text, base_text, header_of, live_of as live_among, round_text};
+ghost use Rattle.seam_transcript.specs.Plain.{added, done_text, home_text, base_text, header_of, live_of as live_among, round_text};
 
 use crate::accepted::{Made, Taken};
 use crate::{Sender, push_base, push_executed, push_home, push_line};

@@ -15,8 +15,8 @@ use Rattle.seam_transcript.specs.declared.executed.Executed.{Executed}
 use Rattle.seam_transcript.specs.Book.{Header, Book, Created, Called, created_as, with_call, same_part}
 use Rattle.seam_transcript.specs.Orders.{Orders}
 use Rattle.seam_transcript.specs.Language.{Call}
-use Rattle.seam_transcript.specs.Book.{Accepts, sender_text, IsSender, MayCall}
-use Rattle.seam_transcript.proofs.BookLemmas.{found-entity, call-is}
+use Rattle.seam_transcript.specs.Book.{Accepts, sender_text, IsBaseNode, MayCall}
+use Rattle.seam_transcript.proofs.BookLemmas.{found-entity, call-is, base-sender}
 use Rattle.seam_value.specs.declared.values.Value.{Value}
 use Rattle.seam_defs.specs.declared.states.Deed.TheVariants.{Method}
 use Rattle.seam_defs.specs.declared.settings.Settings.{Settings}
@@ -146,14 +146,14 @@ called-stands h b before old new e n d c stands is least most small step =
 -- an accepted call, and what is left
 pub accepted-call : (h : Header) (b : Book) (before : Orders) (old new : Table) (who : List ℕ) (e : ℕ) (name : List ℕ) (arguments : List (List ℕ)) (s : Sender) (ty : ℕ) (d : Deed)
     → TableStands h b before old → length b.calls < 2 ^ 61 → h.settings.bases ≤ 8
-    → (old.settings.bases ≤ 8 → IsSender old.settings.bases s × (sender_text s ≡ who))
+    → (old.settings.bases ≤ 8 → (n : ℕ) × (s ≡ Base n) × IsBaseNode old.settings.bases n × (sender_text s ≡ who))
     → (c : Created) × (created_as b e ≡ Some c) × (ty ≡ c.ty)
     → (m : ℕ) × (args : List Value) × (d ≡ Method m args) × MayCall old.defs ty name arguments m args
     → ExecutesOn old new e s d → (next : Book) × Accepts h b (Call who e name arguments) next × TableStands h next before new
 accepted-call h b before old new who e name arguments (Base n) ty d stands small few sender (c, is, same_ty) (m, args, deed, may) step =
     let bases : old.settings.bases ≡ h.settings.bases = ap (λ (s : Settings). s.bases) stands.settings in
-    let among = sender (omega (arith, bases, few)) in
-    let most : n ≤ h.settings.bases = omega (arith, bases, among.0.1) in
+    let among = base-sender h b old.settings.bases (Base n) who bases few sender in
+    let most = among.0.1 in
     let takes : MayCall h.defs c.ty name arguments m args =
     subst (λ (k : ℕ). MayCall h.defs k name arguments m args) same_ty (subst (λ (ds : List TypeDef). MayCall ds ty name arguments m args) stands.defs may) in (
       with_call b (on_cell e (Base n) d),
@@ -162,7 +162,7 @@ accepted-call h b before old new who e name arguments (Base n) ty d stands small
         c,
         m,
         args,
-        record { sender = (among.0.0, most); known_as = among.1; entity = is },
+        record { sender = among.0; known_as = among.1; entity = is },
         takes,
         ap (with_call b) (call-is h.defs c e (Base n) m args d name arguments (found-entity b.created e c is) deed takes),
       ),

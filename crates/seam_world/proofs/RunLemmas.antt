@@ -1,6 +1,7 @@
 -- How a run goes on, and how it stops.
-use Rattle.std.proofs.Common.{◌≡◌, ◌≢◌, inl, inr, ℕ, ◌+◌, ◌≤◌, ◌^◌, Bool, true, false, List, [], ◌∷◌, ◌++◌, Option, None, Some, refl, sym, ap, ◌∙◌, subst, arith, append_assoc, append-nil, length}
+use Rattle.std.proofs.Common.{◌≡◌, ◌≢◌, inl, inr, ℕ, ◌+◌, ◌≤◌, ◌^◌, Bool, true, false, List, [], ◌∷◌, ◌++◌, Option, None, Some, refl, sym, ap, ◌∙◌, subst, arith, append_assoc, append-nil, length, take, drop, get_or, drop-cons, add-one, ◌<◌}
 use Rattle.std.proofs.KnownBytes.{Appends-trans, Appends-nil}
+use Rattle.std.proofs.lemmas.List.{take-append-drop}
 use Rattle.std.proofs.lemmas.Bool.{false≢true}
 use Rattle.std.specs.Prelude.{codes, MatchOption}
 use Rattle.std.specs.Io.KnownBytes.{Consumes, Appends}
@@ -8,17 +9,21 @@ use Rattle.seam_io.specs.Causes.{Rose}
 use Rattle.seam_io.specs.Lines.{Line, Content, Long, lines_of, whole_lines_of, lines_left}
 use Rattle.seam_io.specs.Reading.{SourceState, Reader, Reading, budget, IsExact}
 use Rattle.seam_io.specs.declared.lines.Next.TheVariants as next
-use Rattle.seam_transcript.specs.Book.{Header}
+use Rattle.seam_transcript.specs.Book.{empty_header}
 use Rattle.seam_transcript.specs.Standing.{behind_header}
-use Rattle.seam_transcript.specs.Transcript.{separator, PrintsLines, IsOpen, IsEnded, EndsInput}
+use Rattle.seam_transcript.specs.Transcript.{separator, PrintLines, IsOpen, IsEnded, EndsInput}
 use Rattle.seam_transcript.proofs.Runs.{run-more}
 use Rattle.seam_world.specs.Script.{ScriptStands, TakesPiece}
 use Rattle.seam_world.specs.Status.{IsHeaderEnd, IsRunEnd}
-use Rattle.seam_world.specs.Ends.{IsFront, AreFirst, IsSoFar, Tells, HasFaultLine, RunEnds}
+use Rattle.seam_world.specs.Ends.{IsFront, IsPart, AreFirst, IsSoFar, Tells, HasFaultLine, RunEnds}
 use Rattle.seam_world.specs.Histories.{Going, Stopped, Prints}
 use Rattle.seam_world.specs.declared.script.Script.{Script}
 use Rattle.seam_world.specs.declared.status.Status.{Status}
 use Rattle.seam_world.specs.declared.status.Status.TheVariants as status
+
+-- a text of which so many bytes, and not all, were taken
+pub is-part : (text : List ℕ) (n : ℕ) → n < length text → IsPart (take n text) text
+is-part text n less = (get_or text n 0, drop (n + 1) text, sym (take-append-drop n text) ∙ ap (λ (rest : List ℕ). take n text ++ rest) (drop-cons text n 0 less ∙ rw add-one refl))
 
 -- what was read is a front of the lines of what was given
 pub read_front : (began now : SourceState) (r : Reader) (given : List ℕ) (read : List Line) → Reading began now r given read → IsFront read (lines_of given)
@@ -41,11 +46,11 @@ pub within_limit : {began now : SourceState} {r : Reader} {given : List ℕ} {re
 within_limit {given = given} h limit = let count = h.count in let within = h.within in omega arith
 
 -- the source and the sink after the call
-module _ (h : Header) (began : SourceState) (old : Option (List ℕ)) (before : ℕ) (now later : SourceState) (reader after : Reader) (was is : Option (List ℕ)) (faults faults' : ℕ) (script : Script)
-    (g : Going h began now reader old was before faults script) (limit : after.limit ≡ reader.limit) (higher : faults ≤ faults') where
+module _ (began : SourceState) (old : Option (List ℕ)) (before : ℕ) (now later : SourceState) (reader after : Reader) (was is : Option (List ℕ)) (faults faults' : ℕ) (script : Script)
+    (g : Going began now reader old was before faults script) (limit : after.limit ≡ reader.limit) (higher : faults ≤ faults') where
   going_on : (line : Line) (got piece : List ℕ) (new : Script) → Reading began later after (g.given ++ got) ((separator ∷ g.rest) ++ line ∷ []) → budget after + 1 ≤ budget reader
-      → TakesPiece h g.standing line new piece → Appends was is piece
-      → Going h began later after old is before faults' new
+      → TakesPiece empty_header g.standing line new piece → Appends was is piece
+      → Going began later after old is before faults' new
   going_on line got piece new r falls taken a = record {
     given = g.given ++ got;
     rest = g.rest ++ line ∷ [];
@@ -55,20 +60,20 @@ module _ (h : Header) (began : SourceState) (old : Option (List ℕ)) (before : 
     limit = limit ∙ g.limit;
     writing = Appends-trans old was is g.text piece g.writing a;
     later = let l = g.later in omega arith;
-    run = run-more h (behind_header 1) g.rest g.text g.standing line piece taken.next g.run taken.step;
+    run = run-more empty_header (behind_header 1) g.rest g.text g.standing line piece taken.next g.run taken.step;
     stands = taken.stands;
     few = let few = g.few in let lines = taken.lines in omega arith;
   }
 
-  so_far : PrintsLines h (separator ∷ g.rest) g.text g.standing
-  so_far = record { count = 1; rest = g.rest; header = (refl, refl); run = g.run }
+  so_far : PrintLines (separator ∷ g.rest) empty_header g.text g.standing
+  so_far = record { count = 1; rest = g.rest; header = (refl, refl, refl); run = g.run }
 
-  open_so_far : IsOpen h (separator ∷ g.rest) g.text
-  open_so_far = inr (g.standing, so_far)
+  open_so_far : IsOpen (separator ∷ g.rest) g.text
+  open_so_far = inr (empty_header, g.standing, so_far)
 
   -- want of memory: nothing of this line was written
   no_memory : (got : List ℕ) (more : List Line) → Reading began later after (g.given ++ got) ((separator ∷ g.rest) ++ more) → Appends was is []
-      → Stopped h status.NoMemory began later old is before faults'
+      → Stopped status.NoMemory began later old is before faults'
   no_memory got more r a = record {
     given = g.given ++ got;
     text = g.text;
@@ -82,9 +87,9 @@ module _ (h : Header) (began : SourceState) (old : Option (List ℕ)) (before : 
   }
 
   -- the sink failed within the text of a line
-  write_fault : (got piece front : List ℕ) (read : List Line) → Reading began later after (g.given ++ got) read → IsFront front piece → Appends was is front → Rose faults faults'
-      → IsSoFar h began later (g.given ++ got) (g.text ++ piece)
-      → Stopped h status.WriteFault began later old is before faults'
+  write_fault : (got piece front : List ℕ) (read : List Line) → Reading began later after (g.given ++ got) read → IsPart front piece → Appends was is front → Rose faults faults'
+      → IsSoFar began later (g.given ++ got) (g.text ++ piece)
+      → Stopped status.WriteFault began later old is before faults'
   write_fault got piece front read r f a rose transcript = record {
     given = g.given ++ got;
     text = g.text ++ front;
@@ -94,22 +99,23 @@ module _ (h : Header) (began : SourceState) (old : Option (List ℕ)) (before : 
     later = let l = g.later in omega arith;
     failed = λ e. let l = g.later in omega arith;
     allowed = tt;
-    tells = (g.text ++ piece, (f.0, ap (λ x. g.text ++ x) f.1 ∙ sym (append_assoc g.text front f.0)), transcript);
+    tells = (g.text ++ piece, (f.0, f.1, ap (λ x. g.text ++ x) f.2 ∙ sym (append_assoc g.text front (f.0 ∷ f.1))), transcript);
   }
 
-  open_more : (line : Line) (piece : List ℕ) (new : Script) → TakesPiece h g.standing line new piece → IsOpen h ((separator ∷ g.rest) ++ line ∷ []) (g.text ++ piece)
+  open_more : (line : Line) (piece : List ℕ) (new : Script) → TakesPiece empty_header g.standing line new piece → IsOpen ((separator ∷ g.rest) ++ line ∷ []) (g.text ++ piece)
   open_more line piece new taken = inr (
+    empty_header,
     taken.next,
-    record { count = 1; rest = g.rest ++ line ∷ []; header = (refl, refl); run = run-more h (behind_header 1) g.rest g.text g.standing line piece taken.next g.run taken.step },
+    record { count = 1; rest = g.rest ++ line ∷ []; header = (refl, refl, refl); run = run-more empty_header (behind_header 1) g.rest g.text g.standing line piece taken.next g.run taken.step },
   )
 
-  ended : (piece : List ℕ) → EndsInput h g.standing piece → IsEnded h (separator ∷ g.rest) (g.text ++ piece)
-  ended piece l = (g.text, piece, g.standing, so_far, l, refl)
+  ended : (piece : List ℕ) → EndsInput empty_header g.standing piece → IsEnded (separator ∷ g.rest) (g.text ++ piece)
+  ended piece l = (empty_header, g.text, piece, g.standing, so_far, l, refl)
 
   -- one more line, whatever the call that printed it answered
   pub line_printed : (line : Line) (got : List ℕ) (new : Script) (result : Option Status) → Reading began later after (g.given ++ got) ((separator ∷ g.rest) ++ line ∷ []) → budget after + 1 ≤ budget reader
-      → Prints (TakesPiece h g.standing line new) was is faults faults' result
-      → MatchOption result (Going h began later after old is before faults' new) (λ st. Stopped h st began later old is before faults')
+      → Prints (TakesPiece empty_header g.standing line new) was is faults faults' result
+      → MatchOption result (Going began later after old is before faults' new) (λ st. Stopped st began later old is before faults')
   line_printed line got new None r falls p = going_on line got p.0 new r falls p.1 p.2
   line_printed line got new (Some status.NoMemory) r falls p = no_memory got (line ∷ []) r p
   line_printed line got new (Some status.WriteFault) r falls p = write_fault got p.0 p.1 _ r p.3 p.4 p.5
@@ -122,7 +128,7 @@ module _ (h : Header) (began : SourceState) (old : Option (List ℕ)) (before : 
 
   -- the end of the input
   pub done : (got piece : List ℕ) → Reading began later after (g.given ++ got) ((separator ∷ g.rest) ++ []) → IsExact next.End after (g.given ++ got) (separator ∷ g.rest)
-      → EndsInput h g.standing piece → Appends was is piece → Stopped h status.Done began later old is before faults'
+      → EndsInput empty_header g.standing piece → Appends was is piece → Stopped status.Done began later old is before faults'
   done got piece r exact l a =
       let end = exact.ended.0 refl in
       let at = r.ended end.0 in
@@ -142,7 +148,7 @@ module _ (h : Header) (began : SourceState) (old : Option (List ℕ)) (before : 
       }
 
   pub last_printed : (got : List ℕ) (st : Status) → Reading began later after (g.given ++ got) ((separator ∷ g.rest) ++ []) → IsExact next.End after (g.given ++ got) (separator ∷ g.rest)
-      → Prints (EndsInput h g.standing) was is faults faults' (Some st) → Stopped h st began later old is before faults'
+      → Prints (EndsInput empty_header g.standing) was is faults faults' (Some st) → Stopped st began later old is before faults'
   last_printed got status.NoMemory r exact p = no_memory got [] r p
   last_printed got status.WriteFault r exact p =
       let end = exact.ended.0 refl in
@@ -154,12 +160,12 @@ module _ (h : Header) (began : SourceState) (old : Option (List ℕ)) (before : 
   last_printed got status.ReadFault r exact p = absurd p
   last_printed got status.Limit r exact p = absurd p
 
-  whole_open : (got : List ℕ) → whole_lines_of (g.given ++ got) ≡ separator ∷ g.rest → IsOpen h (whole_lines_of (g.given ++ got)) g.text
-  whole_open got e = subst (λ x. IsOpen h x g.text) (sym e) open_so_far
+  whole_open : (got : List ℕ) → whole_lines_of (g.given ++ got) ≡ separator ∷ g.rest → IsOpen (whole_lines_of (g.given ++ got)) g.text
+  whole_open got e = subst (λ x. IsOpen x g.text) (sym e) open_so_far
 
   -- a fault of the source, or the limit
   pub read_fault : (got : List ℕ) → Reading began later after (g.given ++ got) ((separator ∷ g.rest) ++ []) → IsExact next.ReadFault after (g.given ++ got) (separator ∷ g.rest)
-      → Rose now.faults later.faults → Appends was is [] → Stopped h status.ReadFault began later old is before faults'
+      → Rose now.faults later.faults → Appends was is [] → Stopped status.ReadFault began later old is before faults'
   read_fault got r exact rose a =
       let here = exact.fault refl in
       let count = r.count in
@@ -178,7 +184,7 @@ module _ (h : Header) (began : SourceState) (old : Option (List ℕ)) (before : 
       }
 
   pub limit_reached : (got : List ℕ) → Reading began later after (g.given ++ got) ((separator ∷ g.rest) ++ []) → IsExact next.Limit after (g.given ++ got) (separator ∷ g.rest)
-      → Appends was is [] → Stopped h status.Limit began later old is before faults'
+      → Appends was is [] → Stopped status.Limit began later old is before faults'
   limit_reached got r exact a =
       let here = exact.full.0 refl in
       record {
@@ -204,9 +210,9 @@ other_line x n e = n (same x e)
 pub long_line : Long ≢ separator
 long_line e = cc
 
-pub header_stopped : (h : Header) (began now : SourceState) (old : Option (List ℕ)) (faults : ℕ) (st : Status) (given : List ℕ) → Consumes began.left now.left given → length given ≤ 2 ^ 40
-    → Tells h st began now given [] → IsHeaderEnd st → Stopped h st began now old old faults faults
-header_stopped h began now old faults st given took most tells end = record {
+pub header_stopped : (began now : SourceState) (old : Option (List ℕ)) (faults : ℕ) (st : Status) (given : List ℕ) → Consumes began.left now.left given → length given ≤ 2 ^ 40
+    → Tells st began now given [] → IsHeaderEnd st → Stopped st began now old old faults faults
+header_stopped began now old faults st given took most tells end = record {
   given = given;
   text = [];
   took = took;
@@ -237,9 +243,9 @@ header_stopped h began now old faults st given took most tells end = record {
     header_allowed status.NoMemory h = absurd h
 
 -- memory was wanting before a script began
-pub nothing_done : (h : Header) (began now : SourceState) (old : Option (List ℕ)) (faults : ℕ) (given : List ℕ) → Consumes began.left now.left given → length given ≤ 2 ^ 40
-    → Stopped h status.NoMemory began now old old faults faults
-nothing_done h began now old faults given took most = record {
+pub nothing_done : (began now : SourceState) (old : Option (List ℕ)) (faults : ℕ) (given : List ℕ) → Consumes began.left now.left given → length given ≤ 2 ^ 40
+    → Stopped status.NoMemory began now old old faults faults
+nothing_done began now old faults given took most = record {
   given = given;
   text = [];
   took = took;
@@ -251,9 +257,9 @@ nothing_done h began now old faults given took most = record {
   tells = ([], inl (inl (λ more. (lines_of (given ++ more), refl)), inl (refl, refl)));
 }
 
-pub first_line : (h : Header) (began now : SourceState) (reader : Reader) (given : List ℕ) (old : Option (List ℕ)) (faults : ℕ) (script : Script) → Reading began now reader given (separator ∷ [])
-    → reader.limit ≡ 2 ^ 40 → ScriptStands h (behind_header 1) script → Going h began now reader old old faults faults script
-first_line h began now reader given old faults script r limit stands = record {
+pub first_line : (began now : SourceState) (reader : Reader) (given : List ℕ) (old : Option (List ℕ)) (faults : ℕ) (script : Script) → Reading began now reader given (separator ∷ [])
+    → reader.limit ≡ 2 ^ 40 → ScriptStands empty_header (behind_header 1) script → Going began now reader old old faults faults script
+first_line began now reader given old faults script r limit stands = record {
   given = given;
   rest = [];
   text = [];
@@ -268,10 +274,10 @@ first_line h began now reader given old faults script r limit stands = record {
 }
 
 -- the fault line after what was written
-pub with_tail : (h : Header) (st : Status) (began now : SourceState) (old mid new : Option (List ℕ)) (before faults faults' : ℕ) → Stopped h st began now old mid before faults → (tail : List ℕ) → Appends mid new tail
+pub with_tail : (st : Status) (began now : SourceState) (old mid new : Option (List ℕ)) (before faults faults' : ℕ) → Stopped st began now old mid before faults → (tail : List ℕ) → Appends mid new tail
     → faults ≤ faults' → HasFaultLine st faults faults' tail
-    → RunEnds h st began now old new before faults'
-with_tail h st began now old mid new before faults faults' s tail a higher f = record {
+    → RunEnds st began now old new before faults'
+with_tail st began now old mid new before faults faults' s tail a higher f = record {
   given = s.given;
   text = s.text;
   tail = tail;

@@ -4,7 +4,7 @@ use Rattle.std.specs.Prelude.{codes, MatchBool, ◌==◌}
 use Rattle.std.proofs.lemmas.Grind.{common_steps}
 use Rattle.seam_io.specs.Lines.{Line, Content}
 use Rattle.seam_transcript.specs.Language.{IsSkipped, HasWords, Command, Create, Call, Sync, Says}
-use Rattle.seam_transcript.specs.Book.{Header, Book, closed, Accepts, NoCommand, Verdict as Verdicts, Refused, Accepted, Judges}
+use Rattle.seam_transcript.specs.Book.{Header, Book, closed, Accepts, NoCommand, Verdict, Refused, Accepted, Judges}
 use Rattle.seam_transcript.specs.Standing.{Standing, counted, with_book}
 use Rattle.seam_transcript.specs.Round.{IsRound}
 use Rattle.seam_transcript.specs.Transcript.{refusal, ends_round, Takes, EndsInput}
@@ -12,10 +12,10 @@ use Rattle.seam_transcript.specs.Sequence.{sequence}
 use Rattle.seam_transcript.proofs.Commands.{none-accepted}
 use Rattle.seam_world.specs.Table.{TableStands, Judged}
 use Rattle.seam_world.specs.Text.{table_text}
-use Rattle.seam_world.specs.Script.{IsReady, ScriptStands, EndsOpenRound, AwaitsVerdict, TakesPieceOf, TakesPiece}
+use Rattle.seam_world.specs.Script.{IsReady, ScriptStands, EndsOpenRound, IsJudged, TakesPieceOf, TakesPiece}
 use Rattle.seam_world.specs.declared.script.Script.{Script}
-use Rattle.seam_world.specs.declared.table.Verdict.{Verdict}
-use Rattle.seam_world.specs.declared.table.Verdict.TheVariants as verdict
+use Rattle.seam_world.specs.declared.table.Outcome.{Outcome}
+use Rattle.seam_world.specs.declared.table.Outcome.TheVariants as outcome
 use Rattle.seam_world.proofs.Rounds.{behind_round, table_round}
 
 -- ---- rounds
@@ -52,15 +52,15 @@ accepted_more h b Sync next other a = absurd (other refl)
 -- the verdict on a line that says a command which the book accepts
 accepted : (h : Header) (b : Book) (c : Command) (next : Book) → Accepts h b c next → (line : List ℕ) (words : List (List ℕ)) → ¬ (IsSkipped line) → HasWords line words → Says words c
     → Judges h b (Content line) (Accepted c next)
-accepted h b c next accepts line words not has says = inr (not, (words, has, says, accepts))
+accepted h b c next accepts line words not has says = inr (not, inr (words, has, (says, accepts)))
 
 -- and on one that says a command which it does not accept
 refused : (h : Header) (b : Book) (c : Command) → ((next : Book) → ¬ (Accepts h b c next)) → (line : List ℕ) (words : List (List ℕ)) → ¬ (IsSkipped line) → HasWords line words → Says words c
     → Judges h b (Content line) (Refused NoCommand)
-refused h b c none line words not has says = inr (not, (words, has, none-accepted h b words c says none))
+refused h b c none line words not has says = inr (not, inr (words, has, none-accepted h b words c says none))
 
 -- a kept command makes the script ready to end the round
-pub kept_ready : (h : Header) (t : Standing) (c : Command) (old new : Script) → (w : AwaitsVerdict h t c verdict.Kept old) → new.table ≡ old.table → new.line ≡ old.line → new.round ≡ old.round
+pub kept_ready : (h : Header) (t : Standing) (c : Command) (old new : Script) → (w : IsJudged h t c outcome.Kept old) → new.table ≡ old.table → new.line ≡ old.line → new.round ≡ old.round
     → IsReady h (with_book t w.judged.0) new
 kept_ready h t c old new w table line round =
     let more = accepted_more h t.book c w.judged.0 w.other w.judged.1 in
@@ -75,7 +75,7 @@ kept_ready h t c old new w table line round =
     }
 
 -- the 65,536th accepted line ended the round
-pub kept_last : (h : Header) (t : Standing) (c : Command) (old new : Script) (piece : List ℕ) (w : AwaitsVerdict h t c verdict.Kept old) → min (old.accepted + 1) 4294967295 ≡ 65536
+pub kept_last : (h : Header) (t : Standing) (c : Command) (old new : Script) (piece : List ℕ) (w : IsJudged h t c outcome.Kept old) → min (old.accepted + 1) 4294967295 ≡ 65536
     → EndsOpenRound h (with_book t w.judged.0) new piece → TakesPieceOf h t c new piece
 kept_last h t c old new piece w most e =
     let more = accepted_more h t.book c w.judged.0 w.other w.judged.1 in
@@ -92,7 +92,7 @@ kept_last h t c old new piece w most e =
     }
 
 -- a kept command that does not end the round
-pub kept_open : (h : Header) (t : Standing) (c : Command) (old new : Script) (w : AwaitsVerdict h t c verdict.Kept old) → new.accepted ≡ min (old.accepted + 1) 4294967295 → new.accepted ≢ 65536
+pub kept_open : (h : Header) (t : Standing) (c : Command) (old new : Script) (w : IsJudged h t c outcome.Kept old) → new.accepted ≡ min (old.accepted + 1) 4294967295 → new.accepted ≢ 65536
     → new.table ≡ old.table → new.line ≡ old.line → new.round ≡ old.round → TakesPieceOf h t c new []
 kept_open h t c old new w accepted_now less table line round =
     let more = accepted_more h t.book c w.judged.0 w.other w.judged.1 in
@@ -110,7 +110,7 @@ kept_open h t c old new w accepted_now less table line round =
     }
 
 -- a refused command
-pub refused_command : (h : Header) (t : Standing) (c : Command) (s : Script) → AwaitsVerdict h t c verdict.Refused s → TakesPieceOf h t c s (refusal t.lines (codes "command"))
+pub refused_command : (h : Header) (t : Standing) (c : Command) (s : Script) → IsJudged h t c outcome.Refused s → TakesPieceOf h t c s (refusal t.lines (codes "command"))
 refused_command h t c s w =
     let calls = w.calls in
     let rounds = w.rounds in
@@ -152,7 +152,7 @@ counted_stands h t old new stands few line table round accepted = record {
 }
 
 -- a line that changes nothing, with what is printed for it
-pub not_taken : (h : Header) (t : Standing) (line : Line) (s : Script) (v : Verdicts) (piece : List ℕ) → ScriptStands h (counted t) s → Judges h t.book line v → Takes h (counted t) v piece (counted t)
+pub not_taken : (h : Header) (t : Standing) (line : Line) (s : Script) (v : Verdict) (piece : List ℕ) → ScriptStands h (counted t) s → Judges h t.book line v → Takes h (counted t) v piece (counted t)
     → TakesPiece h t line s piece
 not_taken h t line s v piece stands judges takes = record { next = counted t; step = (v, judges, takes); lines = refl; stands = stands }
 
@@ -163,7 +163,7 @@ synced h t line words old new piece stands not has says e =
     let rounds = stands.ready.rounds in
     record {
       next = e.next;
-      step = (Accepted Sync t.book, inr (not, (words, has, says, refl)), e.ends);
+      step = (Accepted Sync t.book, inr (not, inr (words, has, (says, refl))), e.ends);
       lines = e.ends.lines;
       stands = e.stands (omega arith);
     }
@@ -191,10 +191,10 @@ nothing_open h t s stands none =
 
 -- ---- answers
 
--- the script awaits the verdict of a command on the line that it counted
-pub awaits : (h : Header) (t : Standing) (c : Command) (v : Verdict) (old new : Script) → c ≢ Sync → ScriptStands h t old → t.lines < 2 ^ 61 → Judged h t.book c t.orders new.table v
-    → new.line ≡ min (old.line + 1) (2 ^ 64 - 1) → new.round ≡ old.round → new.accepted ≡ old.accepted → AwaitsVerdict h (counted t) c v new
-awaits h t c v old new other stands few judged line round accepted =
+-- the command on the line that the script counted was judged
+pub awaits : (h : Header) (t : Standing) (c : Command) (o : Outcome) (old new : Script) → c ≢ Sync → ScriptStands h t old → t.lines < 2 ^ 61 → Judged h t.book c t.orders new.table o
+    → new.line ≡ min (old.line + 1) (2 ^ 64 - 1) → new.round ≡ old.round → new.accepted ≡ old.accepted → IsJudged h (counted t) c o new
+awaits h t c o old new other stands few judged line round accepted =
     let calls = stands.ready.calls in
     let rounds = stands.ready.rounds in
     record {

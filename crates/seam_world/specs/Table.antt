@@ -22,8 +22,8 @@ use Rattle.seam_transcript.specs.FlatTable.{flat}
 use Rattle.seam_world.specs.declared.table.PartState.{PartState}
 use Rattle.seam_world.specs.declared.table.Entity.{Entity}
 use Rattle.seam_world.specs.declared.table.Table.{Table}
-use Rattle.seam_world.specs.declared.table.Verdict.{Verdict}
-use Rattle.seam_world.specs.declared.table.Verdict.TheVariants as verdict
+use Rattle.seam_world.specs.declared.table.Outcome.{Outcome}
+use Rattle.seam_world.specs.declared.table.Outcome.TheVariants as outcome
 
 -- a part as it is after an order that goes on from `before`
 pub record PartStands (h : Header) (p : Part) (c : Created) (before order : List Executed) (s : PartState) : Type 0 where
@@ -56,9 +56,9 @@ pub record TableStands (h : Header) (b : Book) (before : Orders) (t : Table) : T
   pub unordered : (p : Part) (e : ℕ) → created_as b e ≡ None → before p e ≡ []
 
 -- a command was accepted, and the table holds what it left; or no book accepts it, and nothing changed
-abbrev pub Judged : Header → Book → Command → Orders → Table → Verdict → Type 0
-Judged h b c before t verdict.Kept = (next : Book) × Accepts h b c next × TableStands h next before t
-Judged h b c before t verdict.Refused = ((next : Book) → ¬ (Accepts h b c next)) × TableStands h b before t
+abbrev pub Judged : Header → Book → Command → Orders → Table → Outcome → Type 0
+Judged h b c before t outcome.Kept = (next : Book) × Accepts h b c next × TableStands h next before t
+Judged h b c before t outcome.Refused = ((next : Book) → ¬ (Accepts h b c next)) × TableStands h b before t
 
 -- ---- what the parts of the table do
 

@@ -29,7 +29,7 @@ pub fn run_seamless<S: Source, K: Sink>(
     out: &mut K,
 ) -> Status
     // What was written is the text that the status tells of, and then its fault line.
-    ensures ends { RunEnds empty_header result (source_state (S.left input.old) (S.faults input.old) (S.ends input.old))
+    ensures ends { RunEnds result (source_state (S.left input.old) (S.faults input.old) (S.ends input.old))
         (source_state (S.left input.new) (S.faults input.new) (S.ends input.new))
         (K.written out.old) (K.written out.new) (K.faults out.old) (K.faults out.new) }
     ensures usage { (result ≡ Status.Usage) ↔ (words.now ≢ []) }
@@ -48,7 +48,7 @@ pub fn run_seamless<S: Source, K: Sink>(
 
 // The whole run but for the fault line.
 fn run_body<S: Source, K: Sink>(alloc: Global, input: &mut S, out: &mut K) -> Status
-    ensures stopped { Stopped empty_header result (source_state (S.left input.old) (S.faults input.old) (S.ends input.old))
+    ensures stopped { Stopped result (source_state (S.left input.old) (S.faults input.old) (S.ends input.old))
         (source_state (S.left input.new) (S.faults input.new) (S.ends input.new))
         (K.written out.old) (K.written out.new) (K.faults out.old) (K.faults out.new) }
     ensures later { S.faults input.old ≤ S.faults input.new }
@@ -77,7 +77,7 @@ fn read_header<S: Source>(lines: &mut Lines, input: &mut S) -> Option<Status>
         MatchOption result
         ((given : List ℕ) × Reading began (source_state (S.left input.new) (S.faults input.new) (S.ends input.new)) lines.new given (separator ∷ []))
         (λ s. (given : List ℕ) × Consumes began.left (S.left input.new) given × (length given ≤ 2 ^ 40)
-        × Tells empty_header s began (source_state (S.left input.new) (S.faults input.new) (S.ends input.new)) given [] × IsHeaderEnd s) }
+        × Tells s began (source_state (S.left input.new) (S.faults input.new) (S.ends input.new)) given [] × IsHeaderEnd s) }
     ensures limit { lines.new.limit ≡ lines.old.limit }
     ensures later { S.faults input.old ≤ S.faults input.new }
 {
@@ -112,8 +112,8 @@ fn run_lines<S: Source, K: Sink>(
     out: &mut K,
 ) -> Status
     ensures history { (began : SourceState) (old : Option (List ℕ)) (before : ℕ) →
-        Going empty_header began (source_state (S.left input.old) (S.faults input.old) (S.ends input.old)) lines.old old (K.written out.old) before (K.faults out.old) script.old →
-        Stopped empty_header result began (source_state (S.left input.new) (S.faults input.new) (S.ends input.new)) old (K.written out.new) before (K.faults out.new) }
+        Going began (source_state (S.left input.old) (S.faults input.old) (S.ends input.old)) lines.old old (K.written out.old) before (K.faults out.old) script.old →
+        Stopped result began (source_state (S.left input.new) (S.faults input.new) (S.ends input.new)) old (K.written out.new) before (K.faults out.new) }
     ensures later { S.faults input.old ≤ S.faults input.new }
 {
     loop {
@@ -133,10 +133,10 @@ fn turn<S: Source, K: Sink>(
     out: &mut K,
 ) -> Option<Status>
     ensures history { (began : SourceState) (old : Option (List ℕ)) (before : ℕ) →
-        Going empty_header began (source_state (S.left input.old) (S.faults input.old) (S.ends input.old)) lines.old old (K.written out.old) before (K.faults out.old) script.old →
+        Going began (source_state (S.left input.old) (S.faults input.old) (S.ends input.old)) lines.old old (K.written out.old) before (K.faults out.old) script.old →
         MatchOption result
-        (Going empty_header began (source_state (S.left input.new) (S.faults input.new) (S.ends input.new)) lines.new old (K.written out.new) before (K.faults out.new) script.new)
-        (λ s. Stopped empty_header s began (source_state (S.left input.new) (S.faults input.new) (S.ends input.new)) old (K.written out.new) before (K.faults out.new)) }
+        (Going began (source_state (S.left input.new) (S.faults input.new) (S.ends input.new)) lines.new old (K.written out.new) before (K.faults out.new) script.new)
+        (λ s. Stopped s began (source_state (S.left input.new) (S.faults input.new) (S.ends input.new)) old (K.written out.new) before (K.faults out.new)) }
     ensures later { S.faults input.old ≤ S.faults input.new }
     ensures falls { IfNone result (budget lines.new < budget lines.old) }
 {

@@ -5,9 +5,9 @@ ghost use Rattle.seam_transcript.specs.Book.{empty_header};
 ghost use Rattle.seam_transcript.specs.Language.{Command as Commands};
 ghost use Rattle.seam_transcript.specs.Standing.{Standing, behind_header};
 ghost use Rattle.seam_transcript.specs.Transcript.{EndsInput};
-ghost use Rattle.seam_world.specs.Script.{IsReady, ScriptStands, AwaitsVerdict, TakesPiece, TakesPieceOf, EndsOpenRound};
+ghost use Rattle.seam_world.specs.Script.{IsReady, ScriptStands, IsJudged, TakesPiece, TakesPieceOf, EndsOpenRound};
 
-use crate::table::{Table, Verdict};
+use crate::table::{Table, Outcome};
 use crate::text::push_round;
 use seam_defs::{Defs, Settings};
 use seam_transcript::{Said, push_bad_words, push_refusal, read_line};
@@ -60,8 +60,8 @@ impl Script {
                 type_name,
                 pos,
             } => {
-                let verdict = self.table.create(entity, type_name, pos)?;
-                self.judged(verdict, out)
+                let outcome = self.table.create(entity, type_name, pos)?;
+                self.judged(outcome, out)
             }
             Said::Call {
                 sender_name,
@@ -69,29 +69,29 @@ impl Script {
                 method_name,
                 arguments,
             } => {
-                let verdict = self
+                let outcome = self
                     .table
                     .call(sender_name, entity, method_name, arguments)?;
-                self.judged(verdict, out)
+                self.judged(outcome, out)
             }
             Said::Nothing => push_refusal(out, self.line, b"command"),
         }
     }
 
     // Counts an accepted command, or prints that it was refused.
-    fn judged(&mut self, verdict: Verdict, out: &mut Vec<u8>) -> Result<(), AllocError>
-        ensures { OnOk result ((t : Standing) (c : Commands) → AwaitsVerdict empty_header t c verdict self.old → t.lines < 2 ^ 62
+    fn judged(&mut self, outcome: Outcome, out: &mut Vec<u8>) -> Result<(), AllocError>
+        ensures { OnOk result ((t : Standing) (c : Commands) → IsJudged empty_header t c outcome self.old → t.lines < 2 ^ 62
             → (piece : List ℕ) × TakesPieceOf empty_header t c self.new piece × (out.new.items ≡ out.old.items ++ piece)) }
     {
-        match verdict {
-            Verdict::Kept => {
+        match outcome {
+            Outcome::Kept => {
                 self.accepted = self.accepted.saturating_add(1);
                 if self.accepted == MOST_LINES {
                     return self.end_round(out);
                 }
                 Ok(())
             }
-            Verdict::Refused => push_refusal(out, self.line, b"command"),
+            Outcome::Refused => push_refusal(out, self.line, b"command"),
         }
     }
 

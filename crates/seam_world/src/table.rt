@@ -11,7 +11,7 @@ ghost use Rattle.seam_world.specs.Table.{TableStands, Judged, HasRoom, IsNew, st
 
 use seam_defs::{Deed, Defs, Part, Settings, State};
 use seam_geo::Pos;
-use seam_transcript::{Executed, Sender, deed_named, sender_named, type_named};
+use seam_transcript::{Executed, Sender, deed_named, base_named, type_named};
 use std::alloc::{AllocError, Global};
 use std::collections::BTreeMap;
 
@@ -38,7 +38,7 @@ pub struct Entity {
 
 /// What became of a command.
 #[derive(Clone, Copy, Debug, PartialEq, Eq)]
-pub enum Verdict {
+pub enum Outcome {
     Kept,
     Refused,
 }
@@ -142,7 +142,7 @@ impl Table {
     }
 
     /// Makes an entity, unless its number was used, its type is none, it stands outside the space, or there are too many.
-    pub fn create(&mut self, entity: u32, type_name: &[u8], pos: Pos) -> Result<Verdict, AllocError>
+    pub fn create(&mut self, entity: u32, type_name: &[u8], pos: Pos) -> Result<Outcome, AllocError>
         ensures { IfOk result (λ v. (h : Header) (b : Book) (before : Orders) → TableStands h b before self.old
             → Judged h b (Create entity type_name.now pos.x pos.z) before self.new v) }
     {
@@ -150,9 +150,9 @@ impl Table {
             Some(ty) => {
                 let made = self.new_entity(ty, pos)?;
                 self.entities.insert(entity, made)?;
-                Ok(Verdict::Kept)
+                Ok(Outcome::Kept)
             }
-            None => Ok(Verdict::Refused),
+            None => Ok(Outcome::Refused),
         }
     }
 
@@ -205,23 +205,23 @@ impl Table {
         entity: u32,
         method_name: &[u8],
         arguments: &[&[u8]],
-    ) -> Result<Verdict, AllocError>
+    ) -> Result<Outcome, AllocError>
         ensures { IfOk result (λ v. (h : Header) (b : Book) (before : Orders) → TableStands h b before self.old
             → length b.calls < 2 ^ 61 → h.settings.bases ≤ 8
             → Judged h b (Call sender_name.now entity method_name.now (texts_of arguments.now)) before self.new v) }
     {
-        let Some(sender) = sender_named(self.alloc, sender_name, self.settings.bases) else {
-            return Ok(Verdict::Refused);
+        let Some(sender) = base_named(self.alloc, sender_name, self.settings.bases) else {
+            return Ok(Outcome::Refused);
         };
         let Some(ty) = self.type_of(entity) else {
-            return Ok(Verdict::Refused);
+            return Ok(Outcome::Refused);
         };
         match deed_named(self.alloc, &self.defs, ty, method_name, arguments)? {
             Some(deed) => {
                 self.execute(entity, sender, deed)?;
-                Ok(Verdict::Kept)
+                Ok(Outcome::Kept)
             }
-            None => Ok(Verdict::Refused),
+            None => Ok(Outcome::Refused),
         }
     }
 

@@ -37,7 +37,7 @@ returns-in-End-clause-header g c = λ began h limit.
     let same = c.next.ensures.limit ∙ limit in
     let low = at.2 in
     let count = r.1.count in
-    (r.0, r.1.took, omega arith, (refl, inl (refl, omega arith, (at.1, at.0, end.1))), inl refl)
+    (r.0, r.1.took, omega arith, (refl, inl (refl, (at.1, at.0, end.1))), inl refl)
 
 pub returns-in-ReadFault-clause-header : goal.returns-in-ReadFault-clause-header
 returns-in-ReadFault-clause-header g c = λ began h limit.

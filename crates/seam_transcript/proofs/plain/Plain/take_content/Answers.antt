@@ -1,4 +1,4 @@
-use Rattle.std.proofs.Common.{ℕ, ◌++◌, refl, ap, inr}
+use Rattle.std.proofs.Common.{ℕ, ◌++◌, refl, ap, inl, inr}
 use Rattle.std.specs.Prelude.{codes}
 use Rattle.seam_value.specs.Values.{decimal_of}
 use Rattle.seam_transcript.specs.Said.{texts_of}
@@ -18,7 +18,7 @@ returns-in-BadWords c = on_ok c.push_bad_words.result
     let bad = c.in-BadWords.ensures in (
       refusal c.args.self.now.lines (codes "words " ++ decimal_of c.number.result),
       text,
-      refuses (header_of c.args.defs.now) c.args.self.now c.args.line.now (BadWords c.in-BadWords.error) _ c.requires.0 (inr bad)
+      refuses (header_of c.args.defs.now) c.args.self.now c.args.line.now (BadWords c.in-BadWords.error) _ c.requires.0 (inr (bad.0, inl (c.in-BadWords.error, bad.1, refl)))
           (ap (λ (k : ℕ). refusal c.args.self.now.lines (codes "words " ++ decimal_of k)) c.number.ensures),
     ))
     c.push_bad_words.ensures
@@ -30,7 +30,7 @@ returns-in-Nothing c = on_ok c.push_refusal.result
       refusal c.args.self.now.lines (codes "command"),
       text,
       refuses (header_of c.args.defs.now) c.args.self.now c.args.line.now NoCommand _ c.requires.0
-          (inr (says.0, (says.1.0, says.1.1, λ command next is. absurd (says.1.2 command is)))) refl,
+          (inr (says.0, inr (says.1.0, says.1.1, λ command next is. absurd (says.1.2 command is)))) refl,
     ))
     c.push_refusal.ensures
 
@@ -62,7 +62,7 @@ returns-in-None c = on_ok c.push_refusal-in-None.result
       refusal c.args.self.now.lines (codes "command"),
       text,
       refuses (header_of c.args.defs.now) c.args.self.now c.args.line.now NoCommand _ c.requires.0
-          (inr (says.0, (says.1.0, says.1.1, none-accepted (header_of c.args.defs.now) (book_of c.args.self.now) says.1.0 (Create c.in-Create.entity c.in-Create.type_name.now c.in-Create.pos.x c.in-Create.pos.z) says.1.2 c.in-None.ensures))) refl,
+          (inr (says.0, inr (says.1.0, says.1.1, none-accepted (header_of c.args.defs.now) (book_of c.args.self.now) says.1.0 (Create c.in-Create.entity c.in-Create.type_name.now c.in-Create.pos.x c.in-Create.pos.z) says.1.2 c.in-None.ensures))) refl,
     ))
     c.push_refusal-in-None.ensures
 
@@ -84,6 +84,6 @@ returns-in-None-2 c = on_ok c.push_refusal-in-None-2.result
       refusal c.args.self.now.lines (codes "command"),
       text,
       refuses (header_of c.args.defs.now) c.args.self.now c.args.line.now NoCommand _ c.requires.0
-          (inr (says.0, (says.1.0, says.1.1, none-accepted (header_of c.args.defs.now) (book_of c.args.self.now) says.1.0 (Call c.in-Call.sender_name.now c.in-Call.entity c.in-Call.method_name.now (texts_of c.in-Call.arguments.now)) says.1.2 (match-none _ _ c.in_ok-call-in-Call.field-0 c.in-None-2.is c.in_ok-call-in-Call.ensures)))) refl,
+          (inr (says.0, inr (says.1.0, says.1.1, none-accepted (header_of c.args.defs.now) (book_of c.args.self.now) says.1.0 (Call c.in-Call.sender_name.now c.in-Call.entity c.in-Call.method_name.now (texts_of c.in-Call.arguments.now)) says.1.2 (match-none _ _ c.in_ok-call-in-Call.field-0 c.in-None-2.is c.in_ok-call-in-Call.ensures)))) refl,
     ))
     c.push_refusal-in-None-2.ensures
