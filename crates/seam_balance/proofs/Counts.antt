@@ -1,28 +1,63 @@
 -- How many numbers of a list lie below one.
-use Rattle.std.proofs.Common.{◌≡◌, ℕ, zero, suc, ◌+◌, ◌-◌, ◌≤◌, Bool, true, false, cond, List, [], ◌∷◌, length, count_by, nat_lt, nat_le, ap, ◌∙◌, arith, inl, inr, IsPermutation}
+use Rattle.std.proofs.Common.{◌≡◌, ℕ, zero, suc, ◌+◌, ◌-◌, ◌<◌, ◌≤◌, Bool, true, false, cond, List, [], ◌∷◌, length, get_or, count_by, nat_lt, nat_le, ap, ◌∙◌, arith, inl, inr, IsPermutation}
 use Rattle.std.specs.List.{AllWithin}
+use Rattle.std.specs.List.Sorted.{IsNonDecreasing}
 use Rattle.std.specs.Int.{abs_diff}
-use Rattle.std.proofs.lemmas.Bool.{cases_lt}
+use Rattle.std.proofs.lemmas.List.{get_or_default}
+use Rattle.std.proofs.lemmas.Bool.{cases_lt, cond_both, lt-ltb, le-ltb}
 use Rattle.std.proofs.lemmas.Bool.Decides.{nat_tests}
 use Rattle.std.proofs.lemmas.List.Sums.{sum_by-cons}
 use Rattle.std.proofs.lemmas.List.Sorted.{sum_by-IsPermutation}
 use Rattle.seam_geo.specs.Pos.{gap}
 use Rattle.seam_balance.specs.Balance.{difference}
 
-all_rest : (P : ℕ → Type 0) (x : ℕ) (xs : List ℕ) (low high : ℕ) → AllWithin P (x ∷ xs) (suc low) (suc high) → AllWithin P xs low high
-all_rest P x xs low high all k d from to = all (suc k) d (omega arith) (omega arith)
+-- how many numbers lie below one
+abbrev pub count_below : List ℕ → ℕ → ℕ
+count_below places at = count_by (λ place. nat_lt place at) places
 
--- where a test holds of the first elements and of no others, it counts those
-pub count_by-point : (p : ℕ → Bool) (xs : List ℕ) (i : ℕ) → i ≤ length xs → AllWithin (λ y. p y ≡ true) xs 0 i → AllWithin (λ y. p y ≡ false) xs i (length xs) → count_by p xs ≡ i
-count_by-point p [] i within hits misses = omega arith
-count_by-point p (x ∷ xs) zero within hits misses =
-    let here : p x ≡ false = misses 0 x (omega arith) (omega arith) in
-    let rest : count_by p xs ≡ 0 = count_by-point p xs zero (omega arith) (λ k d from to. absurd (omega arith)) (λ k d from to. misses (suc k) d (omega arith) (omega arith)) in
-    sum_by-cons (λ y. cond (p y) 1 0) x xs ∙ ap (λ (b : Bool). cond b 1 0 + count_by p xs) here ∙ omega (arith, rest)
-count_by-point p (x ∷ xs) (suc i) within hits misses =
+-- where a test holds of the first elements, it counts those at least
+pub count_by-least : (p : ℕ → Bool) (xs : List ℕ) (i : ℕ) → i ≤ length xs → AllWithin (λ y. p y ≡ true) xs 0 i → i ≤ count_by p xs
+count_by-least p [] i within hits = omega arith
+count_by-least p (x ∷ xs) zero within hits = omega arith
+count_by-least p (x ∷ xs) (suc i) within hits =
     let here : p x ≡ true = hits 0 x (omega arith) (omega arith) in
-    let rest : count_by p xs ≡ i = count_by-point p xs i (omega arith) (λ k d from to. hits (suc k) d (omega arith) (omega arith)) (λ k d from to. misses (suc k) d (omega arith) (omega arith)) in
-    sum_by-cons (λ y. cond (p y) 1 0) x xs ∙ ap (λ (b : Bool). cond b 1 0 + count_by p xs) here ∙ omega (arith, rest)
+    let rest : i ≤ count_by p xs = count_by-least p xs i (omega arith) (λ k d from to. hits (suc k) d (omega arith) (omega arith)) in
+    let count : count_by p (x ∷ xs) ≡ 1 + count_by p xs = sum_by-cons (λ y. cond (p y) 1 0) x xs ∙ ap (λ (b : Bool). cond b 1 0 + count_by p xs) here in
+    omega (arith, rest, count)
+
+-- and where it holds of none after them, those at most
+pub count_by-most : (p : ℕ → Bool) (xs : List ℕ) (i : ℕ) → AllWithin (λ y. p y ≡ false) xs i (length xs) → count_by p xs ≤ i
+count_by-most p [] i misses = omega arith
+count_by-most p (x ∷ xs) zero misses =
+    let here : p x ≡ false = misses 0 x (omega arith) (omega arith) in
+    let rest : count_by p xs ≤ 0 = count_by-most p xs zero (λ k d from to. misses (suc k) d (omega arith) (omega arith)) in
+    let count : count_by p (x ∷ xs) ≡ count_by p xs = sum_by-cons (λ y. cond (p y) 1 0) x xs ∙ ap (λ (b : Bool). cond b 1 0 + count_by p xs) here ∙ omega arith in
+    omega (arith, rest, count)
+count_by-most p (x ∷ xs) (suc i) misses =
+    let rest : count_by p xs ≤ i = count_by-most p xs i (λ k d from to. misses (suc k) d (omega arith) (omega arith)) in
+    let one : cond (p x) 1 0 ≤ 1 = cond_both (p x) 1 0 (λ n. n ≤ 1) (λ e. omega arith) (λ e. omega arith) in
+    omega (arith, rest, one, sum_by-cons (λ y. cond (p y) 1 0) x xs)
+
+-- so at the point between them it counts those before
+pub count_by-point : (p : ℕ → Bool) (xs : List ℕ) (i : ℕ) → i ≤ length xs → AllWithin (λ y. p y ≡ true) xs 0 i → AllWithin (λ y. p y ≡ false) xs i (length xs) → count_by p xs ≡ i
+count_by-point p xs i within hits misses = omega (arith, count_by-least p xs i within hits, count_by-most p xs i misses)
+
+-- in a rising list the first numbers, up to one that is below, are below
+pub count_below-past : (xs : List ℕ) (i at : ℕ) → IsNonDecreasing xs → i < length xs → get_or xs i 0 < at → i < count_below xs at
+count_below-past xs i at rising within past =
+    count_by-least (λ y. nat_lt y at) xs (suc i) (omega arith) (λ k d from to. lt-ltb _ at (omega (arith, rising k i d (omega arith) within, get_or_default xs i d 0 within)))
+
+-- and no number is from one on that is not
+pub count_below-before : (xs : List ℕ) (i at : ℕ) → IsNonDecreasing xs → at ≤ get_or xs i 0 → count_below xs at ≤ i
+count_below-before xs i at rising before =
+    count_by-most (λ y. nat_lt y at) xs i (λ k d from to. le-ltb _ at (omega (arith, before, rising i k d from to, get_or_default xs i d 0 (omega arith))))
+
+-- it never falls as the place rises
+pub count_below-rises : (xs : List ℕ) (at to : ℕ) → at ≤ to → count_below xs at ≤ count_below xs to
+count_below-rises [] at to le = omega arith
+count_below-rises (x ∷ xs) at to le =
+    let here : cond (nat_lt x at) 1 0 ≤ cond (nat_lt x to) 1 0 = grind (arith, nat_tests) in
+    omega (arith, here, count_below-rises xs at to le, sum_by-cons (λ y. cond (nat_lt y at) 1 0) x xs, sum_by-cons (λ y. cond (nat_lt y to) 1 0) x xs)
 
 abbrev is_below : ℕ → ℕ → Bool
 is_below at place = nat_lt place at

@@ -12,7 +12,6 @@ pub(crate) fn allowed_range(tree: &Tree, b: u8, shift: u32) -> (u32, u32)
     requires tree { IsTree tree.now }
     ensures allowed { (at : ℕ) → IsAllowed tree.now b shift at ↔ ((result.0 ≤ at) × (at ≤ result.1)) }
     ensures range { result.0 ≤ result.1 }
-    ensures small { result.1 < 2 ^ 32 - 1 }
 {
     let boundary = boundary_of(tree, b);
     let end = boundary.axis.place_of(divided_area(tree, b).high());

@@ -68,24 +68,42 @@ fn difference_at(places: &[u32], at: u32) -> usize
     below.abs_diff(places.len() - below)
 }
 
+// The first place of a range that is above at least `count` of the places, as the end of the range is.
+fn first_above(places: &[u32], count: usize, lowest: u32, highest: u32) -> u32
+    requires rising { IsSorted nat_cmp places.now }
+    requires range { lowest ≤ highest }
+    requires enough { count ≤ count_by (λ place. nat_lt place highest) places.now }
+    ensures from { lowest ≤ result }
+    ensures to { result ≤ highest }
+    ensures enough { count ≤ count_by (λ place. nat_lt place result) places.now }
+    ensures first { (at : ℕ) → lowest ≤ at → at < result → count_by (λ place. nat_lt place at) places.now < count }
+{
+    if count == 0 {
+        return lowest;
+    }
+    lowest.max(places[count - 1] + 1)
+}
+
 // The place of a range that divides the places with the least difference, and the lowest of those.
 pub(crate) fn best_place(places: &[u32], lowest: u32, highest: u32) -> u32
     requires rising { IsSorted nat_cmp places.now }
     requires range { lowest ≤ highest }
-    requires small { highest < 2 ^ 32 - 1 }
     ensures from { lowest ≤ result }
     ensures to { result ≤ highest }
     ensures least { (at : ℕ) → lowest ≤ at → at ≤ highest → difference places.now result ≤ difference places.now at }
     ensures lowest { (at : ℕ) → lowest ≤ at → at < result → difference places.now result < difference places.now at }
 {
-    let mut best = lowest;
-    let mut least = difference_at(places, lowest);
-    for at in lowest + 1..highest + 1 {
-        let difference = difference_at(places, at);
-        if difference < least {
-            best = at;
-            least = difference;
-        }
+    // The difference falls while fewer than half of the places lie below, and never falls from there on: so the best is
+    // the first place from there on, or the first with as many below as the last before it has.
+    let half = (places.len() / 2).min(count_below(places, highest));
+    let upper = first_above(places, half, lowest, highest);
+    if upper == lowest {
+        return lowest;
     }
-    best
+    let lower = first_above(places, count_below(places, upper - 1), lowest, upper - 1);
+    if difference_at(places, lower) <= difference_at(places, upper) {
+        lower
+    } else {
+        upper
+    }
 }

@@ -1,23 +1,66 @@
-use Rattle.std.proofs.Common.{◌+◌, ◌∙◌, arith}
-use Rattle.seam_balance.proofs.Best.{BestSoFar, best-found, best-kept}
+use Rattle.std.proofs.Common.{◌<◌, ◌≤◌, arith}
+use Rattle.seam_balance.specs.Balance.{difference}
+use Rattle.seam_balance.proofs.Best.{IsUpper, IsLower, IsBestWithin, best-start, best-lower, best-upper}
 use Rattle.seam_balance.proofs.places.best_place.Goals as goal
-use Rattle.seam_balance.proofs.places.best_place.Goals.{then-difference-least, else-difference-least}
 
-pub loop-at-preserved : goal.loop-at-preserved
-loop-at-preserved c =
-    let was : BestSoFar c.args.places.now c.args.lowest c.loop-at.at c.loop-at.best c.loop-at.least = record {
-      from = c.loop-at.invariant.from;
-      to = c.loop-at.invariant.to;
-      value = c.loop-at.invariant.value;
-      least = c.loop-at.invariant.least;
-      lowest = c.loop-at.invariant.lowest;
+pub returns-then-upper-lowest : goal.returns-then-upper-lowest
+returns-then-upper-lowest c =
+    let upper : IsUpper c.args.places.now c.min-half.result c.args.lowest c.args.highest c.first_above-upper.result = record {
+      count_is = omega (arith, c.min-half.ensures, c.count_below.ensures);
+      found = record {
+        from = c.first_above-upper.ensures.from;
+        to = c.first_above-upper.ensures.to;
+        enough = c.first_above-upper.ensures.enough;
+        first = c.first_above-upper.ensures.first;
+      };
     } in
-    let now : BestSoFar c.args.places.now c.args.lowest (c.loop-at.at + 1) c.if-difference-least.best c.if-difference-least.least =
-    elim c.if-difference-least.branch [
-      | then-difference-least w ↦ best-found c.args.places.now c.args.lowest c.loop-at.at c.loop-at.best c.loop-at.least was _ _ w.best-is (w.least-is ∙ c.difference_at-difference.ensures) (omega (arith, w.if-difference-least.true, c.difference_at-difference.ensures))
-      | else-difference-least w ↦ best-kept c.args.places.now c.args.lowest c.loop-at.at c.loop-at.best c.loop-at.least was _ _ w.best-is w.least-is (omega (arith, w.if-difference-least.false, c.difference_at-difference.ensures))
-    ] in
-    record { from = now.from; to = now.to; value = now.value; least = now.least; lowest = now.lowest }
+    let best : IsBestWithin c.args.places.now c.args.lowest c.args.highest c.args.lowest = best-start _ _ _ _ _ upper c.if-upper-lowest.true in
+    record { from = best.from; to = best.to; least = best.least; lowest = best.lowest }
 
-pub returns-clause-least : goal.returns-clause-least
-returns-clause-least c at from to = c.loop-at.invariant.least at from (omega (arith, c.loop-at-test.false))
+pub returns-then-difference_at : goal.returns-then-difference_at
+returns-then-difference_at c =
+    let upper : IsUpper c.args.places.now c.min-half.result c.args.lowest c.args.highest c.first_above-upper.result = record {
+      count_is = omega (arith, c.min-half.ensures, c.count_below.ensures);
+      found = record {
+        from = c.first_above-upper.ensures.from;
+        to = c.first_above-upper.ensures.to;
+        enough = c.first_above-upper.ensures.enough;
+        first = c.first_above-upper.ensures.first;
+      };
+    } in
+    let lower : IsLower c.args.places.now c.args.lowest c.first_above-upper.result c.first_above-lower.result = record {
+      inside = omega (arith, c.first_above-upper.ensures.from, c.if-upper-lowest.false);
+      found = record {
+        from = c.first_above-lower.ensures.from;
+        to = c.first_above-lower.ensures.to;
+        enough = omega (arith, c.first_above-lower.ensures.enough, c.count_below-2.ensures);
+        first = λ other from to. omega (arith, c.first_above-lower.ensures.first other from to, c.count_below-2.ensures);
+      };
+    } in
+    let better : difference c.args.places.now c.first_above-lower.result ≤ difference c.args.places.now c.first_above-upper.result = omega (arith, c.if-difference_at.true, c.difference_at.ensures, c.difference_at-2.ensures) in
+    let best : IsBestWithin c.args.places.now c.args.lowest c.args.highest c.first_above-lower.result = best-lower _ _ _ _ _ _ upper lower better in
+    record { from = best.from; to = best.to; least = best.least; lowest = best.lowest }
+
+pub returns-else-difference_at : goal.returns-else-difference_at
+returns-else-difference_at c =
+    let upper : IsUpper c.args.places.now c.min-half.result c.args.lowest c.args.highest c.first_above-upper.result = record {
+      count_is = omega (arith, c.min-half.ensures, c.count_below.ensures);
+      found = record {
+        from = c.first_above-upper.ensures.from;
+        to = c.first_above-upper.ensures.to;
+        enough = c.first_above-upper.ensures.enough;
+        first = c.first_above-upper.ensures.first;
+      };
+    } in
+    let lower : IsLower c.args.places.now c.args.lowest c.first_above-upper.result c.first_above-lower.result = record {
+      inside = omega (arith, c.first_above-upper.ensures.from, c.if-upper-lowest.false);
+      found = record {
+        from = c.first_above-lower.ensures.from;
+        to = c.first_above-lower.ensures.to;
+        enough = omega (arith, c.first_above-lower.ensures.enough, c.count_below-2.ensures);
+        first = λ other from to. omega (arith, c.first_above-lower.ensures.first other from to, c.count_below-2.ensures);
+      };
+    } in
+    let better : difference c.args.places.now c.first_above-upper.result < difference c.args.places.now c.first_above-lower.result = omega (arith, c.if-difference_at.false, c.difference_at.ensures, c.difference_at-2.ensures) in
+    let best : IsBestWithin c.args.places.now c.args.lowest c.args.highest c.first_above-upper.result = best-upper _ _ _ _ _ _ upper lower better in
+    record { from = best.from; to = best.to; least = best.least; lowest = best.lowest }
