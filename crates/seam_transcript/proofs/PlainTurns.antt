@@ -1,30 +1,27 @@
 -- What the plain program's turns do to its standing.
-use Rattle.std.proofs.Common.{◌≡◌, ◌≢◌, Some, ◌+◌, ◌-◌, ◌<◌, ◌≤◌, ◌^◌, min, ℕ, Bool, true, false, List, [], ◌∷◌, ◌++◌, length, take, drop, refl, sym, ap, ◌∙◌, subst, arith, inl, inr, lit≤, append-nil, map, get_or, Bor}
-use Rattle.std.specs.Prelude.{codes, find, MatchBool, ◌==◌, if◌then◌else◌}
-use Rattle.std.proofs.lemmas.Grind.{common_steps}
-use Rattle.std.proofs.lemmas.List.{length-map, take_all, take_more, take-append-le, map-append}
+use Rattle.std.proofs.Common.{◌≡◌, ◌≢◌, Some, ◌+◌, ◌-◌, ◌<◌, ◌≤◌, ◌^◌, min, ℕ, Bool, true, false, List, [], ◌∷◌, ◌++◌, length, take, drop, refl, sym, ap, ◌∙◌, subst, arith, inl, inr, append-nil, map, get_or, Bor}
+use Rattle.std.specs.Prelude.{codes, find, ◌==◌, if◌then◌else◌}
+use Rattle.std.proofs.lemmas.List.{length-map, take_all, take_more, map-append}
 use Rattle.std.specs.List.{slice_split}
 use Rattle.std.specs.Str.Lines.{strip_carriage_return}
 use Rattle.seam_io.specs.Lines.{Line, Content, Long, is_feed, line_of, lines_of, lines_between}
 use Rattle.seam_io.proofs.LineLemmas.{line_of-long, line_of-short}
 use Rattle.seam_value.specs.declared.values.Value.{Value}
-use Rattle.seam_defs.specs.Settings.{standard}
 use Rattle.seam_defs.specs.Builtin.{builtin}
-use Rattle.seam_defs.specs.declared.settings.Settings.{Settings}
 use Rattle.seam_defs.specs.declared.types.TypeDef.{TypeDef}
 use Rattle.seam_defs.specs.declared.flags.Part.TheVariants as part
 use Rattle.seam_defs.specs.declared.states.Deed.{Deed}
 use Rattle.seam_defs.specs.declared.states.Deed.TheVariants.{Method}
 use Rattle.seam_transcript.specs.declared.sender.Sender.{Sender}
 use Rattle.seam_transcript.specs.Language.{IsSkipped, HasWords, Create, Call, Sync, Says}
-use Rattle.seam_transcript.specs.Book.{Header, empty_header, Book, Created, Called, created_as, sender_text, IsSender, opened, MayCall, with_create, with_call, Accepts, Cause, cause_text, TooLong, Skipped, Refused, Accepted, Judges}
+use Rattle.seam_transcript.specs.Book.{Header, empty_header, Book, Created, Called, created_as, sender_text, IsSender, MayCall, with_call, Accepts, Cause, cause_text, TooLong, Skipped, Refused, Accepted, Judges}
 use Rattle.seam_transcript.specs.Standing.{Standing, behind_header, with_book}
 use Rattle.seam_transcript.specs.Orders.{Orders}
 use Rattle.seam_transcript.specs.Sequence.{sequence}
 use Rattle.seam_transcript.specs.Round.{IsRound, Lists}
 use Rattle.seam_transcript.specs.Transcript.{refusal, Takes, Step, Run, separator, BeginWithHeader, EndsInput, IsEnded}
 use Rattle.seam_transcript.specs.Plain.{header_of, done_since, round_text}
-use Rattle.seam_transcript.specs.PlainStands.{book_of, standing_of, PlainStands, HasCounted, HasAdded, behind_round, EndsOpenRound, Keeps, TakesCounted, TakesText}
+use Rattle.seam_transcript.specs.PlainStands.{book_of, standing_of, PlainStands, HasCounted, behind_round, EndsOpenRound, Keeps, TakesCounted, TakesText}
 use Rattle.seam_transcript.specs.declared.plain.Plain.{Plain}
 use Rattle.seam_transcript.proofs.PlainLemmas.{sequence-since}
 use Rattle.seam_transcript.proofs.Runs.{run-more}

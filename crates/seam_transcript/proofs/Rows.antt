@@ -1,17 +1,23 @@
 -- Small inputs.
-use Rattle.std.proofs.Common.{◌≡◌, ◌↔◌, ℕ, ◌+◌, false, List, [], ◌∷◌, ◌++◌, length, drop, get_or, refl, sym, ap, ◌∙◌, subst, inl, inr, arith, rules, lit≤, append-nil}
+use Rattle.std.proofs.Common.{◌≡◌, ◌↔◌, ℕ, ◌+◌, ◌-◌, false, List, [], ◌∷◌, ◌++◌, length, drop, get_or, refl, sym, ap, ◌∙◌, subst, inr, arith, rules, lit≤, append-nil}
 use Rattle.std.specs.Prelude.{codes, MatchBool, ◌==◌}
-use Rattle.std.proofs.lemmas.Bool.{false≢true}
+use Rattle.std.specs.Str.{IsUtf8}
+use Rattle.std.proofs.lemmas.List.{take_all}
+use Rattle.std.proofs.lemmas.Option.{none-some}
 use Rattle.std.proofs.lemmas.Str.{IsUtf8-from_ascii}
 use Rattle.seam_value.specs.Values.{decimal_of}
-use Rattle.seam_words.specs.Words.{IsGap}
+use Rattle.seam_words.specs.Words.{IsPlainWord}
 use Rattle.seam_io.specs.Lines.{Line, Content, Long, lines_of}
+use Rattle.seam_defs.specs.declared.flags.Part.TheVariants as part
+use Rattle.seam_defs.proofs.WellFormed.{builtin-are-defs}
 use Rattle.seam_transcript.specs.Language.{IsSkipped, HasWords, Command, Create, Call, Sync, Says}
-use Rattle.seam_transcript.specs.Book.{Header, Book, empty_header, Accepts, Verdict, Refused, TooLong, NoCommand, Judges}
+use Rattle.seam_transcript.specs.Book.{Header, Book, Created, created_as, empty_header, empty_book, Accepts, Verdict, Refused, Accepted, TooLong, NoCommand, Judges}
+use Rattle.seam_transcript.specs.Orders.{Orders, no_orders}
 use Rattle.seam_transcript.specs.Standing.{Standing, behind_header, counted}
-use Rattle.seam_transcript.specs.Round.{IsRound}
+use Rattle.seam_transcript.specs.Round.{RoundData, Lists, number_line, executed_lines, home_lines, base_lines, IsRound}
 use Rattle.seam_transcript.specs.Transcript.{separator, refusal, Takes, Step, Run, EndsInput, IsEnded}
-use Rattle.seam_transcript.proofs.Verdicts.{no-command}
+use Rattle.seam_transcript.proofs.Skips.{says_something}
+use Rattle.seam_transcript.proofs.Verdicts.{no-command, one-verdict}
 
 separator-alone : lines_of (codes "%%\n") ≡ separator ∷ []
 unfolding lines_of
@@ -72,30 +78,22 @@ second-line : refusal 2 (codes "command") ≡ codes "line 2 command\n"
 unfolding decimal_of
 second-line = refl
 
-not-blank : (x : ℕ) (gap : List ℕ) → 116 ≡ x → IsGap (x ∷ gap) → ⊥
-not-blank x gap is blank = false≢true (subst (λ (y : ℕ). IsGap (y ∷ gap)) (sym is) blank)
-
-first-of : (xs ys : List ℕ) → xs ≡ ys → get_or xs 0 0 ≡ get_or ys 0 0
-first-of xs ys is = ap (λ (zs : List ℕ). get_or zs 0 0) is
-
-not-skipped : ¬ (IsSkipped (codes "tick"))
-not-skipped ([], blank, inl is) = let first = first-of _ _ is in absurd (omega (arith, first))
-not-skipped ([], blank, inr (note, is)) = let first = first-of _ _ is in absurd (omega (arith, first))
-not-skipped (x ∷ gap, blank, inl is) = not-blank x gap (first-of _ _ is) blank
-not-skipped (x ∷ gap, blank, inr (note, is)) = not-blank x gap (first-of _ _ is) blank
-
-one-word : HasWords (codes "tick") (codes "tick" ∷ [])
-one-word = record {
-  spans = record { start = 0; end = 4; quoted = false } ∷ [];
-  text = IsUtf8-from_ascii (codes "tick") (search rules);
+-- a plain word is the one word of its line
+one-word : (line : List ℕ) → IsUtf8 line → IsPlainWord line → HasWords line (line ∷ [])
+one-word line text good = record {
+  spans = record { start = 0; end = length line; quoted = false } ∷ [];
+  text = text;
   are = (
     [],
-    record { gap = []; word = codes "tick"; blank = refl; good = record { some = omega arith; plain = refl }; ends = tt; whole = refl; start = refl; end = refl },
+    record { gap = []; word = line; blank = refl; good = good; ends = tt; whole = sym (append-nil line); start = refl; end = omega arith },
     ([], refl, refl),
   );
   most = lit≤ tt;
-  texts = refl;
+  texts = ap (λ (word : List ℕ). word ∷ []) (sym (take_all (length line - 0) line (omega arith)));
 }
+
+tick-word : HasWords (codes "tick") (codes "tick" ∷ [])
+tick-word = one-word (codes "tick") (IsUtf8-from_ascii (codes "tick") (search rules)) (record { some = omega arith; plain = refl })
 
 says-none : (c : Command) → ¬ (Says (codes "tick" ∷ []) c)
 says-none (Create e name x z) says = let long = ap (λ (ws : List (List ℕ)). length ws) says.4 in absurd (omega (arith, long))
@@ -103,7 +101,7 @@ says-none (Call who e name arg) says = let long = ap (λ (ws : List (List ℕ)).
 says-none Sync says = let first = ap (λ (ws : List (List ℕ)). get_or (get_or ws 0 []) 0 0) says in absurd (omega (arith, first))
 
 tick-refused : (text : List ℕ) (t : Standing) → Step empty_header (behind_header 1) (Content (codes "tick")) text t ↔ ((text ≡ refusal 2 (codes "command")) × (t ≡ counted (behind_header 1)))
-tick-refused text t = unknown-command empty_header (behind_header 1) t (codes "tick") (codes "tick" ∷ []) text not-skipped one-word (λ c next says. absurd (says-none c says))
+tick-refused text t = unknown-command empty_header (behind_header 1) t (codes "tick") (codes "tick" ∷ []) text (says_something [] 116 (codes "ick") refl refl (λ e. absurd (omega (arith, e)))) tick-word (λ c next says. absurd (says-none c says))
 
 pub one-unknown : (text : List ℕ) → IsEnded (lines_of (codes "%%\ntick\n")) text ↔ (text ≡ codes "line 2 command\n")
 one-unknown text = (
@@ -128,3 +126,93 @@ one-unknown text = (
     sym (append-nil (refusal 2 (codes "command"))),
   )),
 )
+
+-- ---- a round without entities
+
+sync-lines : lines_of (codes "%%\nsync\n") ≡ separator ∷ Content (codes "sync") ∷ []
+unfolding lines_of
+sync-lines = refl
+
+sync-word : HasWords (codes "sync") (codes "sync" ∷ [])
+sync-word = one-word (codes "sync") (IsUtf8-from_ascii (codes "sync") (search rules)) (record { some = omega arith; plain = refl })
+
+sync-accepted : Judges empty_header empty_book (Content (codes "sync")) (Accepted Sync empty_book)
+sync-accepted = inr (says_something [] 115 (codes "ync") refl refl (λ e. absurd (omega (arith, e))), inr (codes "sync" ∷ [], sync-word, (refl, refl)))
+
+-- the standing whose round ends
+abbrev synced : Standing
+synced = counted (behind_header 1)
+
+abbrev behind_sync : Standing
+behind_sync = record { lines = 2; book = empty_book; orders = no_orders; rounds = 1 }
+
+-- no entity is listed where none was created
+none-listed : (list : List Created) → Lists (created_as empty_book) list → list ≡ []
+none-listed [] lists = refl
+none-listed (c ∷ cs) lists = absurd (none-some c ((lists.exact c).0 (0, omega arith, refl)))
+
+abbrev form_of : ℕ → Orders → RoundData → List ℕ
+form_of n after r =
+    number_line (codes "round ") n ++ executed_lines (codes "did ") part.Cell empty_header r ++ executed_lines (codes "dob ") part.Base empty_header r
+    ++ home_lines empty_header after r ++ base_lines empty_header after r ++ number_line (codes "end ") n
+
+bare-form : (after done : Orders) (home : ℕ → ℕ) → form_of 1 after (record { made = []; live = []; done = done; home = home }) ≡ codes "round 1\nend 1\n"
+unfolding decimal_of
+bare-form after done home = refl
+
+bare-round : (text : List ℕ) (t : Standing) → IsRound empty_header synced text t → text ≡ codes "round 1\nend 1\n"
+bare-round text t is =
+    is.form
+    ∙ ap (λ (n : ℕ). form_of n t.orders is.round) is.rounds
+    ∙ ap (λ (made : List Created). form_of 1 t.orders (record is.round { made = made })) (none-listed is.round.made is.made)
+    ∙ ap (λ (live : List Created). form_of 1 t.orders (record is.round { made = []; live = live })) (none-listed is.round.live is.live)
+    ∙ bare-form t.orders is.round.done is.round.home
+
+none-lists : Lists (created_as empty_book) []
+none-lists = record {
+  rising = λ k within. absurd (omega arith);
+  exact = λ c. ((λ (k, within, is). absurd (omega arith)), (λ is. cc));
+}
+
+is-bare : IsRound empty_header synced (codes "round 1\nend 1\n") behind_sync
+is-bare = record {
+  round = record { made = []; live = []; done = no_orders; home = λ e. 0 };
+  form = sym (bare-form no_orders no_orders (λ e. 0));
+  made = none-lists;
+  goes_on = λ p e. refl;
+  legal = λ p e s. ([], refl);
+  full = λ p e s. refl;
+  live = none-lists;
+  homes = λ e. refl;
+  lines = refl;
+  book = refl;
+  rounds = refl;
+}
+
+pub empty-round : (text : List ℕ) → IsEnded (lines_of (codes "%%\nsync\n")) text ↔ (text ≡ codes "round 1\nend 1\n")
+empty-round text = (
+  (λ ended.
+      let b = behind-separator (lines_of (codes "%%\nsync\n")) (Content (codes "sync") ∷ []) text sync-lines ended in
+      let r = b.3 in
+      let is = (takes-sync r.0 r.2).0 r.4 in
+      let last : b.1 ≡ [] = nothing-left empty_header r.2 b.2 b.1 r.5.1 (ap (λ (k : Book). k.open_lines) is.book) b.4 in
+      b.5 ∙ ap (λ (xs : List ℕ). b.0 ++ xs) last ∙ append-nil b.0 ∙ r.3 ∙ ap (λ (xs : List ℕ). r.0 ++ xs) r.5.0 ∙ append-nil r.0 ∙ bare-round r.0 r.2 is),
+  (λ is. subst (λ (xs : List ℕ). IsEnded (lines_of (codes "%%\nsync\n")) xs) (sym is) (
+    empty_header,
+    codes "round 1\nend 1\n",
+    [],
+    behind_sync,
+    record {
+      count = 1;
+      rest = Content (codes "sync") ∷ [];
+      header = (refl, refl, sync-lines);
+      run = (codes "round 1\nend 1\n", [], behind_sync, refl, (takes-sync (codes "round 1\nend 1\n") behind_sync).1 is-bare, (refl, refl));
+    },
+    refl,
+    refl,
+  )),
+)
+  where
+    takes-sync : (text : List ℕ) (t : Standing) → Step empty_header (behind_header 1) (Content (codes "sync")) text t ↔ IsRound empty_header synced text t
+    takes-sync text t = takes-it empty_header (behind_header 1) t (Content (codes "sync")) text (Accepted Sync empty_book) sync-accepted
+        (λ w judged. one-verdict empty_header empty_book (Content (codes "sync")) w (Accepted Sync empty_book) builtin-are-defs judged sync-accepted)

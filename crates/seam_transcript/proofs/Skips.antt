@@ -39,7 +39,7 @@ behind_none (b ∷ gap) h =
     ap (λ (x : Bool). if x then behind gap else b ∷ gap) parts.0 ∙ behind_none gap parts.1
 
 -- a line whose first byte that is no blank is no `#` says something
-says_something : (gap : List ℕ) (b : ℕ) (rest : List ℕ) → IsGap gap → is_blank b ≡ false → b ≢ 35 → ¬ (IsSkipped (gap ++ b ∷ rest))
+pub says_something : (gap : List ℕ) (b : ℕ) (rest : List ℕ) → IsGap gap → is_blank b ≡ false → b ≢ 35 → ¬ (IsSkipped (gap ++ b ∷ rest))
 says_something gap b rest h no_blank no_note skipped =
     let here : behind (gap ++ b ∷ rest) ≡ b ∷ rest = behind_gap gap (b ∷ rest) h ∙ behind_byte b rest no_blank in
     elim skipped.2 [

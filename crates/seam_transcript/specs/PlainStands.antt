@@ -3,7 +3,7 @@
 use Rattle.std.specs.Prelude.{◌≡◌, ℕ, ◌+◌, ◌<◌, ◌≤◌, ◌^◌, List, [], length, take, ◌==◌, MatchBool}
 use Rattle.seam_io.specs.Lines.{Line}
 use Rattle.seam_transcript.specs.Book.{Header, Book, Verdict, Judges}
-use Rattle.seam_transcript.specs.Standing.{Standing, with_book}
+use Rattle.seam_transcript.specs.Standing.{Standing}
 use Rattle.seam_transcript.specs.Sequence.{sequence}
 use Rattle.seam_transcript.specs.Round.{IsRound}
 use Rattle.seam_transcript.specs.Transcript.{Takes, Step}

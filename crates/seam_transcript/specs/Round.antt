@@ -12,7 +12,7 @@ use Rattle.seam_defs.specs.declared.flags.Group.TheVariants as group
 use Rattle.seam_defs.specs.declared.states.Deed.{Deed}
 use Rattle.seam_defs.specs.declared.states.Deed.TheVariants.{Move, Method}
 use Rattle.seam_defs.specs.declared.states.State.{State}
-use Rattle.seam_transcript.specs.Book.{Header, Book, Created, created_as, lives_as, sender_text, closed}
+use Rattle.seam_transcript.specs.Book.{Header, Created, created_as, lives_as, sender_text, closed}
 use Rattle.seam_transcript.specs.declared.executed.Executed.{Executed}
 use Rattle.seam_transcript.specs.Orders.{Orders, IsLegal, IsFull}
 use Rattle.seam_transcript.specs.FlatTable.{flat}

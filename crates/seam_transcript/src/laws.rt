@@ -17,6 +17,11 @@ pub fn one_unknown_command()
     ensures { (text : List ℕ) → IsEnded (lines_of (codes "%%\ntick\n")) text ↔ (text ≡ codes "line 2 command\n") }
 {}
 
+/// A round in which nothing was accepted, in a world without entities, prints its two ends.
+pub fn empty_round_prints_its_ends()
+    ensures { (text : List ℕ) → IsEnded (lines_of (codes "%%\nsync\n")) text ↔ (text ≡ codes "round 1\nend 1\n") }
+{}
+
 /// A line that is too long has this text and no other, and changes nothing but the count of lines.
 pub fn long_line_is_refused()
     ensures { (h : Header) (s t : Standing) (text : List ℕ) → Step h s Long text t

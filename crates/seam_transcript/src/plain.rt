@@ -13,7 +13,7 @@ ghost use Rattle.seam_transcript.specs.PlainStands.{book_of, standing_of, MayEnd
 
 use crate::accepted::{Made, Taken};
 use crate::plain_round::{created_as, push_round};
-use crate::{Said, deed_named, push_bad_words, push_refusal, read_line, base_named, type_named};
+use crate::{Said, base_named, deed_named, push_bad_words, push_refusal, read_line, type_named};
 use seam_defs::{Defs, Part, Settings};
 use seam_geo::Pos;
 use std::alloc::{AllocError, Global};
