@@ -7,7 +7,7 @@ ghost use Rattle.seam_transcript.specs.Standing.{Standing, behind_header};
 ghost use Rattle.seam_transcript.specs.Transcript.{EndsInput};
 ghost use Rattle.seam_world.specs.Script.{IsReady, ScriptStands, IsJudged, TakesPiece, TakesPieceOf, EndsOpenRound};
 
-use crate::table::{Table, Outcome};
+use crate::table::{Outcome, Table};
 use crate::text::push_round;
 use seam_defs::{Defs, Settings};
 use seam_transcript::{Said, push_bad_words, push_refusal, read_line};

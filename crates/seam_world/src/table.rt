@@ -11,7 +11,7 @@ ghost use Rattle.seam_world.specs.Table.{TableStands, Judged, HasRoom, IsNew, st
 
 use seam_defs::{Deed, Defs, Part, Settings, State};
 use seam_geo::Pos;
-use seam_transcript::{Executed, Sender, deed_named, base_named, type_named};
+use seam_transcript::{Executed, Sender, base_named, deed_named, type_named};
 use std::alloc::{AllocError, Global};
 use std::collections::BTreeMap;
 

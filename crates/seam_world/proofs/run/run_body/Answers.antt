@@ -1,6 +1,5 @@
 use Rattle.std.proofs.Common.{[], refl, arith, ◌∙◌}
 use Rattle.std.proofs.KnownBytes.{Consumes-nil}
-use Rattle.seam_transcript.specs.Book.{empty_header}
 use Rattle.seam_world.proofs.RunLemmas.{within_limit, header_stopped, nothing_done, first_line}
 use Rattle.seam_world.proofs.run.run_body.Goals as goal
 

@@ -1,4 +1,3 @@
-use Rattle.seam_transcript.specs.Book.{empty_header}
 use Rattle.seam_world.proofs.RunLemmas.{with_tail}
 use Rattle.seam_world.proofs.run.run_seamless.Goals as goal
 

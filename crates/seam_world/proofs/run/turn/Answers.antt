@@ -1,7 +1,6 @@
 use Rattle.std.proofs.Common.{◌∷◌, refl, arith}
 use Rattle.std.proofs.KnownBytes.{Appends-nil}
 use Rattle.seam_io.specs.Lines.{Content, Long}
-use Rattle.seam_transcript.specs.Book.{empty_header}
 use Rattle.seam_transcript.specs.Transcript.{separator}
 use Rattle.seam_world.proofs.RunLemmas.{line_printed, done, last_printed, read_fault, limit_reached}
 use Rattle.seam_world.proofs.run.turn.Goals as goal
