@@ -10,3 +10,4 @@ pub mod NamingLemmas
 pub mod Commands
 pub mod Verdicts
 pub mod Rows
+pub mod FirstPath

@@ -133,11 +133,14 @@ sync-lines : lines_of (codes "%%\nsync\n") ≡ separator ∷ Content (codes "syn
 unfolding lines_of
 sync-lines = refl
 
-sync-word : HasWords (codes "sync") (codes "sync" ∷ [])
+pub sync-word : HasWords (codes "sync") (codes "sync" ∷ [])
 sync-word = one-word (codes "sync") (IsUtf8-from_ascii (codes "sync") (search rules)) (record { some = omega arith; plain = refl })
 
+pub sync-says : ¬ (IsSkipped (codes "sync"))
+sync-says = says_something [] 115 (codes "ync") refl refl (λ e. absurd (omega (arith, e)))
+
 sync-accepted : Judges empty_header empty_book (Content (codes "sync")) (Accepted Sync empty_book)
-sync-accepted = inr (says_something [] 115 (codes "ync") refl refl (λ e. absurd (omega (arith, e))), inr (codes "sync" ∷ [], sync-word, (refl, refl)))
+sync-accepted = inr (sync-says, inr (codes "sync" ∷ [], sync-word, (refl, refl)))
 
 -- the standing whose round ends
 abbrev synced : Standing
@@ -151,7 +154,7 @@ none-listed : (list : List Created) → Lists (created_as empty_book) list → l
 none-listed [] lists = refl
 none-listed (c ∷ cs) lists = absurd (none-some c ((lists.exact c).0 (0, omega arith, refl)))
 
-abbrev form_of : ℕ → Orders → RoundData → List ℕ
+abbrev pub form_of : ℕ → Orders → RoundData → List ℕ
 form_of n after r =
     number_line (codes "round ") n ++ executed_lines (codes "did ") part.Cell empty_header r ++ executed_lines (codes "dob ") part.Base empty_header r
     ++ home_lines empty_header after r ++ base_lines empty_header after r ++ number_line (codes "end ") n

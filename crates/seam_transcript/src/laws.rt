@@ -22,6 +22,12 @@ pub fn empty_round_prints_its_ends()
     ensures { (text : List ℕ) → IsEnded (lines_of (codes "%%\nsync\n")) text ↔ (text ≡ codes "round 1\nend 1\n") }
 {}
 
+/// The first path: an avatar is made, hit and healed, and its round shows both calls and what they left.
+pub fn first_path_prints_its_round()
+    ensures { IsEnded (lines_of (codes "%%\ncreate 1 Avatar 100 100\ncall b1 1 hit 30\ncall b1 1 heal 5\nsync\n"))
+        (codes "round 1\ndid 1 b1 1 hit 30\ndid 1 b1 2 heal 5\nhome 1 0 2 100 100 hp=75 mana=50 mood=0 note=\"\" scent=0 xp=0\nbase 1 0 gold=0 rank=1\nend 1\n") }
+{}
+
 /// A line that is too long has this text and no other, and changes nothing but the count of lines.
 pub fn long_line_is_refused()
     ensures { (h : Header) (s t : Standing) (text : List ℕ) → Step h s Long text t
