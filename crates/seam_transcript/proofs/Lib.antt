@@ -10,4 +10,5 @@ pub mod NamingLemmas
 pub mod Commands
 pub mod Verdicts
 pub mod Rows
+pub mod OneSender
 pub mod FirstPath

@@ -154,13 +154,13 @@ numbers-rise all numbers sorted kept is permutation in_order filtered =
           (Contains-dedup_nat sorted e (Contains-permutation numbers sorted e permutation (subst (λ (xs : List ℕ). Contains xs e) (sym is) has)))),
     )
 
-contains-here : {X : Type 0} (x : X) (xs : List X) → Contains (x ∷ xs) x
+pub contains-here : {X : Type 0} (x : X) (xs : List X) → Contains (x ∷ xs) x
 contains-here x xs = (0, omega arith, refl)
 
-contains-there : {X : Type 0} (y x : X) (xs : List X) → Contains xs x → Contains (y ∷ xs) x
+pub contains-there : {X : Type 0} (y x : X) (xs : List X) → Contains xs x → Contains (y ∷ xs) x
 contains-there y x xs (k, within, is) = (suc k, omega arith, is)
 
-contains-cases : {X : Type 0} (y x : X) (xs : List X) → Contains (y ∷ xs) x → (y ≡ x) ⊎ Contains xs x
+pub contains-cases : {X : Type 0} (y x : X) (xs : List X) → Contains (y ∷ xs) x → (y ≡ x) ⊎ Contains xs x
 contains-cases y x xs (zero, within, is) = inl is
 contains-cases y x xs (suc k, within, is) = inr (k, omega arith, is)
 

@@ -24,7 +24,7 @@ unfolding lines_of
 separator-alone = refl
 
 -- the lines behind the header are those behind the separator
-behind-separator : (lines rest : List Line) (text : List ℕ) → lines ≡ separator ∷ rest → IsEnded lines text
+pub behind-separator : (lines rest : List Line) (text : List ℕ) → lines ≡ separator ∷ rest → IsEnded lines text
     → (front last : List ℕ) × (t : Standing) × Run empty_header (behind_header 1) rest front t × EndsInput empty_header t last × (text ≡ front ++ last)
 behind-separator lines rest text is (h, front, last, t, prints, ends, whole) =
     let same : prints.rest ≡ rest = ap (drop 1) (sym prints.header.2 ∙ is) in (

@@ -28,7 +28,7 @@ length-numbered s n [] = refl
 length-numbered s n (d ∷ ds) = omega (arith, length-numbered s (n + 1) ds)
 
 -- two senders that a test finds the same are the same
-same_sender-is : (s t : Sender) → same_sender s t ≡ true → s ≡ t
+pub same_sender-is : (s t : Sender) → same_sender s t ≡ true → s ≡ t
 same_sender-is (Base m) (Base n) h = ap Base (grind (arith, h))
 
 -- one more call among those of a sender

@@ -26,7 +26,7 @@ use Rattle.seam_transcript.proofs.Commands.{one-command}
 
 -- ---- what words name is one
 
-one-sender : (s t : Sender) → sender_text s ≡ sender_text t → s ≡ t
+pub one-sender : (s t : Sender) → sender_text s ≡ sender_text t → s ≡ t
 one-sender (Base m) (Base n) same = ap Base (decimal_of-injective m n (ap (drop 1) same))
 
 one-type : (defs : List TypeDef) (name : List ℕ) (a b : ℕ) → AreDefs defs → MayMake defs name a → MayMake defs name b → a ≡ b

@@ -6,6 +6,7 @@ pub mod Sequence
 pub mod FlatTable
 pub mod Round
 pub mod Transcript
+pub mod Senders
 pub mod Said
 pub mod Plain
 pub mod PlainStands

@@ -6,6 +6,8 @@ ghost use Rattle.seam_transcript.specs.Language.{IsSkipped, HasWords, Command, S
 ghost use Rattle.seam_transcript.specs.Book.{Header, Book, Accepts, Verdict, Judges};
 ghost use Rattle.seam_transcript.specs.Standing.{Standing, counted};
 ghost use Rattle.seam_transcript.specs.Transcript.{refusal, Step, IsEnded};
+ghost use Rattle.seam_transcript.specs.Senders.{CallsAreFrom};
+ghost use Rattle.seam_transcript.specs.declared.sender.Sender.{Sender};
 
 /// The empty world: the ended transcript of an input of the header's end alone is the empty text.
 pub fn empty_world_prints_nothing()
@@ -45,4 +47,10 @@ pub fn unknown_command_is_refused()
 /// The book is a function of the lines: a line has one verdict at most. (That it has one, the calls show that judge it.)
 pub fn verdict_is_one()
     ensures { (h : Header) (b : Book) (line : Line) (v w : Verdict) → AreDefs h.defs → Judges h b line v → Judges h b line w → v ≡ w }
+{}
+
+/// Where all calls come from one sender, an input has one ended transcript at most: nothing of what is printed is left open but
+/// how the calls of several senders mix.
+pub fn one_sender_one_transcript()
+    ensures { (lines : List Line) (s : Sender) (x y : List ℕ) → CallsAreFrom s lines → IsEnded lines x → IsEnded lines y → x ≡ y }
 {}

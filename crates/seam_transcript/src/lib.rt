@@ -17,7 +17,8 @@ pub use command::{Said, read_line, whole_number};
 pub use executed::Executed;
 pub use laws::{
     empty_round_prints_its_ends, empty_world_prints_nothing, first_path_prints_its_round,
-    long_line_is_refused, one_unknown_command, unknown_command_is_refused, verdict_is_one,
+    long_line_is_refused, one_sender_one_transcript, one_unknown_command,
+    unknown_command_is_refused, verdict_is_one,
 };
 pub use naming::{base_named, deed_named, type_named};
 pub use plain::transcript_of;
