@@ -1,5 +1,5 @@
 -- A small input with calls: an avatar is made, hit and healed.
-use Rattle.std.proofs.Common.{◌≡◌, ◌+◌, ◌<◌, ℕ, pos, Bool, true, false, List, [], ◌∷◌, ◌++◌, length, get_or, refl, sym, subst, inr, arith, rules, lit≤, append-nil, Some, None, cond, zero, suc}
+use Rattle.std.proofs.Common.{◌≡◌, ◌↔◌, ap, ◌∙◌, ◌+◌, ◌<◌, ℕ, pos, Bool, true, false, List, [], ◌∷◌, ◌++◌, length, get_or, refl, sym, subst, inr, arith, rules, lit≤, append-nil, Some, None, cond, zero, suc}
 use Rattle.std.specs.Prelude.{codes, Contains, ◌==◌, nat_lt}
 use Rattle.std.specs.Str.{IsUtf8}
 use Rattle.std.specs.List.{list_all}
@@ -13,7 +13,7 @@ use Rattle.seam_value.specs.Texts.{quoted}
 use Rattle.seam_value.specs.declared.types.ValueType.TheVariants as type
 use Rattle.seam_value.specs.declared.values.Value.TheVariants.{Number}
 use Rattle.seam_words.specs.Words.{is_plain, IsGap, EndsWord, HasFirstWord}
-use Rattle.seam_io.specs.Lines.{Content, lines_of}
+use Rattle.seam_io.specs.Lines.{Line, Content, lines_of}
 use Rattle.seam_defs.specs.Builtin.{builtin}
 use Rattle.seam_defs.specs.declared.states.Deed.TheVariants.{Method}
 use Rattle.seam_transcript.specs.declared.sender.Sender.TheVariants.{Base}
@@ -25,7 +25,12 @@ use Rattle.seam_transcript.specs.Round.{Lists, IsRound}
 use Rattle.seam_transcript.specs.Transcript.{separator, IsEnded}
 use Rattle.seam_transcript.proofs.Skips.{says_something}
 use Rattle.seam_transcript.proofs.Sequences.{sequence-full, full-legal}
-use Rattle.seam_transcript.proofs.Rows.{form_of, sync-word, sync-says}
+use Rattle.seam_transcript.proofs.Rows.{one-word, form_of, sync-word, sync-says}
+use Rattle.seam_transcript.proofs.Commands.{one-command}
+use Rattle.seam_transcript.proofs.Verdicts.{one-words}
+use Rattle.seam_transcript.proofs.OneSender.{one-transcript}
+use Rattle.seam_transcript.specs.Senders.{CallIsFrom, CallsAreFrom}
+use Rattle.std.proofs.lemmas.List.Elements.{All-cons, All-nil}
 
 -- ---- words
 
@@ -227,7 +232,7 @@ first-lines = refl
 letter-c : (rest : List ℕ) → ¬ (IsSkipped (99 ∷ rest))
 letter-c rest = says_something [] 99 rest refl refl (λ e. absurd (omega (arith, e)))
 
-pub first-path : IsEnded (lines_of (codes "%%\ncreate 1 Avatar 100 100\ncall b1 1 hit 30\ncall b1 1 heal 5\nsync\n"))
+first-path : IsEnded (lines_of (codes "%%\ncreate 1 Avatar 100 100\ncall b1 1 hit 30\ncall b1 1 heal 5\nsync\n"))
     (codes "round 1\ndid 1 b1 1 hit 30\ndid 1 b1 2 heal 5\nhome 1 0 2 100 100 hp=75 mana=50 mood=0 note=\"\" scent=0 xp=0\nbase 1 0 gold=0 rank=1\nend 1\n")
 first-path =
     let text : List ℕ = codes "round 1\ndid 1 b1 1 hit 30\ndid 1 b1 2 heal 5\nhome 1 0 2 100 100 hp=75 mana=50 mood=0 note=\"\" scent=0 xp=0\nbase 1 0 gold=0 rank=1\nend 1\n" in (
@@ -265,3 +270,74 @@ first-path =
       refl,
       sym (append-nil text),
     )
+
+-- ---- its sender
+
+header-word : HasWords (codes "%%") (codes "%%" ∷ [])
+header-word = one-word (codes "%%") (ascii (codes "%%") refl) (record { some = omega arith; plain = refl })
+
+-- the sender that a command names
+abbrev sender_of : Command → List ℕ
+sender_of (Create e name x z) = []
+sender_of (Call who e name arguments) = who
+sender_of Sync = []
+
+-- the command that a line says is the only one
+says-only : (line : List ℕ) (words : List (List ℕ)) (c : Command) → HasWords line words → Says words c → (others : List (List ℕ)) (d : Command) → HasWords line others → Says others d → c ≡ d
+says-only line words c has says others d has' says' =
+    one-command words c d says (subst (λ (ws : List (List ℕ)). Says ws d) (one-words line others words has' has) says')
+
+not-call : (who : List ℕ) (e : ℕ) (name : List ℕ) (arguments : List (List ℕ)) → create ≡ Call who e name arguments → ⊥
+not-call who e name arguments same = cc
+
+sync-no-call : (who : List ℕ) (e : ℕ) (name : List ℕ) (arguments : List (List ℕ)) → Sync ≡ Call who e name arguments → ⊥
+sync-no-call who e name arguments same = cc
+
+-- the header's end says no command
+header-says : (words : List (List ℕ)) (who : List ℕ) (e : ℕ) (name : List ℕ) (arguments : List (List ℕ)) → HasWords (codes "%%") words → Says words (Call who e name arguments) → ⊥
+header-says words who e name arguments has says =
+    let long = ap (λ (ws : List (List ℕ)). length ws) (one-words (codes "%%") (codes "%%" ∷ []) words header-word has ∙ says.2) in
+    absurd (omega (arith, long))
+
+-- what each line says is from base node 1
+create-from : CallIsFrom (Base 1) (Content (codes "create 1 Avatar 100 100"))
+create-from words who e name arguments has says =
+    absurd (not-call who e name arguments (says-only (codes "create 1 Avatar 100 100") (codes "create" ∷ codes "1" ∷ codes "Avatar" ∷ codes "100" ∷ codes "100" ∷ []) create create-words says-create
+    words (Call who e name arguments) has says))
+
+hit-from : CallIsFrom (Base 1) (Content (codes "call b1 1 hit 30"))
+hit-from words who e name arguments has says =
+    sym (ap sender_of (says-only (codes "call b1 1 hit 30") (codes "call" ∷ codes "b1" ∷ codes "1" ∷ codes "hit" ∷ codes "30" ∷ []) hit hit-words says-hit words (Call who e name arguments) has says)) ∙ sym base-one
+
+heal-from : CallIsFrom (Base 1) (Content (codes "call b1 1 heal 5"))
+heal-from words who e name arguments has says =
+    sym (ap sender_of (says-only (codes "call b1 1 heal 5") (codes "call" ∷ codes "b1" ∷ codes "1" ∷ codes "heal" ∷ codes "5" ∷ []) heal heal-words says-heal words (Call who e name arguments) has says)) ∙ sym base-one
+
+sync-from : CallIsFrom (Base 1) (Content (codes "sync"))
+sync-from words who e name arguments has says =
+    absurd (sync-no-call who e name arguments (says-only (codes "sync") (codes "sync" ∷ []) Sync sync-word refl words (Call who e name arguments) has says))
+
+header-from : CallIsFrom (Base 1) separator
+header-from words who e name arguments has says = absurd (header-says words who e name arguments has says)
+
+first-sender : CallsAreFrom (Base 1) (lines_of (codes "%%\ncreate 1 Avatar 100 100\ncall b1 1 hit 30\ncall b1 1 heal 5\nsync\n"))
+first-sender =
+    let sync_on : List Line = Content (codes "sync") ∷ [] in
+    let heal_on : List Line = Content (codes "call b1 1 heal 5") ∷ sync_on in
+    let hit_on : List Line = Content (codes "call b1 1 hit 30") ∷ heal_on in
+    let create_on : List Line = Content (codes "create 1 Avatar 100 100") ∷ hit_on in
+    let P : Line → Type 0 = CallIsFrom (Base 1) in
+    subst (CallsAreFrom (Base 1)) (sym first-lines)
+    (All-cons P separator create_on header-from
+    (All-cons P (Content (codes "create 1 Avatar 100 100")) hit_on create-from
+    (All-cons P (Content (codes "call b1 1 hit 30")) heal_on hit-from
+    (All-cons P (Content (codes "call b1 1 heal 5")) sync_on heal-from
+    (All-cons P (Content (codes "sync")) [] sync-from (All-nil P))))))
+
+pub first-path-only : (text : List ℕ) → IsEnded (lines_of (codes "%%\ncreate 1 Avatar 100 100\ncall b1 1 hit 30\ncall b1 1 heal 5\nsync\n")) text
+    ↔ (text ≡ codes "round 1\ndid 1 b1 1 hit 30\ndid 1 b1 2 heal 5\nhome 1 0 2 100 100 hp=75 mana=50 mood=0 note=\"\" scent=0 xp=0\nbase 1 0 gold=0 rank=1\nend 1\n")
+first-path-only text = (
+  (λ ended. one-transcript (lines_of (codes "%%\ncreate 1 Avatar 100 100\ncall b1 1 hit 30\ncall b1 1 heal 5\nsync\n")) (Base 1) text
+      (codes "round 1\ndid 1 b1 1 hit 30\ndid 1 b1 2 heal 5\nhome 1 0 2 100 100 hp=75 mana=50 mood=0 note=\"\" scent=0 xp=0\nbase 1 0 gold=0 rank=1\nend 1\n") first-sender ended first-path),
+  (λ is. subst (IsEnded (lines_of (codes "%%\ncreate 1 Avatar 100 100\ncall b1 1 hit 30\ncall b1 1 heal 5\nsync\n"))) (sym is) first-path),
+)

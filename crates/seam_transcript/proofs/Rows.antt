@@ -79,7 +79,7 @@ unfolding decimal_of
 second-line = refl
 
 -- a plain word is the one word of its line
-one-word : (line : List ℕ) → IsUtf8 line → IsPlainWord line → HasWords line (line ∷ [])
+pub one-word : (line : List ℕ) → IsUtf8 line → IsPlainWord line → HasWords line (line ∷ [])
 one-word line text good = record {
   spans = record { start = 0; end = length line; quoted = false } ∷ [];
   text = text;

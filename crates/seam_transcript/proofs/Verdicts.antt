@@ -65,7 +65,7 @@ one-book h b Sync x y are one other = one ∙ sym other
 -- ---- words and verdicts
 
 -- a line has one list of words
-one-words : (line : List ℕ) (xs ys : List (List ℕ)) → HasWords line xs → HasWords line ys → xs ≡ ys
+pub one-words : (line : List ℕ) (xs ys : List (List ℕ)) → HasWords line xs → HasWords line ys → xs ≡ ys
 one-words line xs ys one other =
     one.texts ∙ ap (λ (spans : List Span). map (bytes_of line) spans) (same_words line one.spans other.spans one.are other.are) ∙ sym other.texts
 

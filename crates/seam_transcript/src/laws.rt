@@ -24,10 +24,10 @@ pub fn empty_round_prints_its_ends()
     ensures { (text : List ℕ) → IsEnded (lines_of (codes "%%\nsync\n")) text ↔ (text ≡ codes "round 1\nend 1\n") }
 {}
 
-/// The first path: an avatar is made, hit and healed, and its round shows both calls and what they left.
+/// The first path: an avatar is made, hit and healed, and its round shows both calls and what they left, and nothing else.
 pub fn first_path_prints_its_round()
-    ensures { IsEnded (lines_of (codes "%%\ncreate 1 Avatar 100 100\ncall b1 1 hit 30\ncall b1 1 heal 5\nsync\n"))
-        (codes "round 1\ndid 1 b1 1 hit 30\ndid 1 b1 2 heal 5\nhome 1 0 2 100 100 hp=75 mana=50 mood=0 note=\"\" scent=0 xp=0\nbase 1 0 gold=0 rank=1\nend 1\n") }
+    ensures { (text : List ℕ) → IsEnded (lines_of (codes "%%\ncreate 1 Avatar 100 100\ncall b1 1 hit 30\ncall b1 1 heal 5\nsync\n")) text
+        ↔ (text ≡ codes "round 1\ndid 1 b1 1 hit 30\ndid 1 b1 2 heal 5\nhome 1 0 2 100 100 hp=75 mana=50 mood=0 note=\"\" scent=0 xp=0\nbase 1 0 gold=0 rank=1\nend 1\n") }
 {}
 
 /// A line that is too long has this text and no other, and changes nothing but the count of lines.
@@ -49,8 +49,7 @@ pub fn verdict_is_one()
     ensures { (h : Header) (b : Book) (line : Line) (v w : Verdict) → AreDefs h.defs → Judges h b line v → Judges h b line w → v ≡ w }
 {}
 
-/// Where all calls come from one sender, an input has one ended transcript at most: nothing of what is printed is left open but
-/// how the calls of several senders mix.
+/// Where all calls that the lines say are from one sender, an input has one ended transcript at most.
 pub fn one_sender_one_transcript()
     ensures { (lines : List Line) (s : Sender) (x y : List ℕ) → CallsAreFrom s lines → IsEnded lines x → IsEnded lines y → x ≡ y }
 {}
