@@ -1,6 +1,7 @@
 pub mod NumberWords
 pub mod Skips
 pub mod WordTables
+pub mod Results
 pub mod Sequences
 pub mod Runs
 pub mod BookLemmas

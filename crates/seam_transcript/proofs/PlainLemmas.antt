@@ -1,11 +1,11 @@
 -- What the plain program's walks over its lists find.
-use Rattle.std.proofs.Common.{◌≡◌, ◌+◌, ◌<◌, ℕ, Bool, true, false, List, [], ◌∷◌, ◌++◌, length, map, take, drop, get_or, refl, sym, ◌∙◌, ap, subst, arith, zero, suc, ◌⊎◌, inl, inr, append_assoc, append-nil, length-append, Option, Some, None, Result, Ok, Err, min, ◌^◌, ◌-◌}
-use Rattle.std.specs.Prelude.{filter, fold, find, ◌==◌, if◌then◌else◌, OnOk}
+use Rattle.std.proofs.Common.{◌≡◌, ◌+◌, ◌<◌, ℕ, Bool, true, false, List, [], ◌∷◌, ◌++◌, length, map, take, drop, get_or, refl, sym, ◌∙◌, ap, subst, arith, zero, suc, ◌⊎◌, inl, inr, append_assoc, append-nil, length-append, Option, Some, None, min, ◌^◌, ◌-◌}
+use Rattle.std.specs.Prelude.{filter, fold, find, ◌==◌, if◌then◌else◌}
 use Rattle.std.specs.List.{flat_map}
-use Rattle.std.proofs.lemmas.List.{length-map, take_all, take_more, take-append-drop}
+use Rattle.std.proofs.lemmas.List.{length-map, take_more, take-append-drop}
 use Rattle.std.proofs.lemmas.List.Elements.{filter-append, filter_map-append}
 use Rattle.std.proofs.lemmas.List.Sums.{fold-append, length-filter, count_by-le-length}
-use Rattle.std.specs.Prelude.{Contains, is_some, cond, All, MatchOption}
+use Rattle.std.specs.Prelude.{Contains, is_some, cond, All}
 use Rattle.std.specs.List.{cons_option}
 use Rattle.std.proofs.lemmas.List.Elements.{All-cons, All-nil}
 use Rattle.std.proofs.lemmas.List.Kept.{IsStrictlyIncreasing-filter}
@@ -25,11 +25,11 @@ use Rattle.seam_transcript.specs.declared.sender.Sender.{Sender}
 use Rattle.seam_transcript.specs.declared.executed.Executed.{Executed}
 use Rattle.seam_transcript.specs.Book.{Header, Book, Created, Called, is_for, is_from, accepted}
 use Rattle.seam_transcript.specs.Orders.{of_sender}
-use Rattle.seam_transcript.specs.FlatTable.{flat, first_state}
+use Rattle.seam_transcript.specs.FlatTable.{flat}
 use Rattle.seam_transcript.specs.Sequence.{next_executed, go_on, sequence}
 use Rattle.seam_transcript.specs.Plain.{added, since, done_since}
 use Rattle.seam_transcript.proofs.BookLemmas.{found-entity}
-use Rattle.seam_transcript.proofs.Sequences.{sequence-full, sequence-more, length-numbered}
+use Rattle.seam_transcript.proofs.Sequences.{flat-more, sequence-full, sequence-more, length-numbered}
 
 -- ---- what calls add to an order
 
@@ -85,15 +85,6 @@ counts-next calls p e s n small is =
 
 -- ---- states
 
--- the state after one more call
-pub flat-more : (h : Header) (p : Part) (c : Created) (order : List Executed) (x : Executed)
-    → flat h p c (order ++ x ∷ []) (length (order ++ x ∷ [])) ≡ after h.defs c.ty (flat h p c order (length order)) x.deed
-flat-more h p c order x =
-    let run : List Executed → State = λ (xs : List Executed). fold (λ s y. after h.defs c.ty s y.deed) (first_state h p c) xs in
-    ap run (take_all (length (order ++ x ∷ [])) (order ++ x ∷ []) (omega arith))
-    ∙ fold-append (λ (s : State) (y : Executed). after h.defs c.ty s y.deed) (first_state h p c) order (x ∷ [])
-    ∙ ap (λ (xs : List Executed). after h.defs c.ty (run xs) x.deed) (sym (take_all (length order) order (omega arith)))
-
 -- the state after the calls for a part
 abbrev pub state_after : Header → Part → Created → List Called → State
 state_after h p c calls = let order = sequence calls p c.entity in flat h p c order (length order)
@@ -129,18 +120,6 @@ added-mine f p e calls x n front out mine number is =
     ∙ ap (λ (k : ℕ). front ++ f (record { sender = x.sender; number = k; deed = x.deed })) number
     ∙ ap (λ (xs : List ℕ). front ++ xs) (sym (append-nil (f (next_executed (sequence calls p e) x.sender x.deed))))
     ∙ ap (λ (b : Bool). front ++ flat_map f (if b then next_executed (sequence calls p e) x.sender x.deed ∷ [] else [])) (sym mine)
-
--- a fact of a success, by another one
-pub on_ok : {A E : Type 0} {P Q : Type 0} → (r : Result A E) → (P → Q) → OnOk r P → OnOk r Q
-on_ok (Ok x) f h = f h
-on_ok (Err e) f h = h
-
--- what is told of an option that is there, and of one that is not
-pub match-some : {A : Type 0} (N : Type 0) (P : A → Type 0) (o : Option A) (a : A) → o ≡ Some a → MatchOption o N P → P a
-match-some {A} N P o a is h = subst (λ (x : Option A). MatchOption x N P) is h
-
-pub match-none : {A : Type 0} (N : Type 0) (P : A → Type 0) (o : Option A) → o ≡ None → MatchOption o N P → N
-match-none {A} N P o is h = subst (λ (x : Option A). MatchOption x N P) is h
 
 -- ---- the live entities
 

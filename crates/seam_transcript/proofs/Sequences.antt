@@ -1,4 +1,4 @@
--- The order in which the table executes calls: it is full, and a call more goes behind it.
+-- The order in which calls are executed as they were accepted: it is full, and a call more goes behind it.
 use Rattle.std.proofs.Common.{◌≡◌, ◌+◌, ℕ, Bool, true, false, List, [], ◌∷◌, ◌++◌, length, map, refl, sym, ◌∙◌, ap, subst, arith, append_assoc, append-nil}
 use Rattle.std.specs.Prelude.{filter, fold, ◌&&◌, if◌then◌else◌}
 use Rattle.std.proofs.lemmas.List.{map-append}
@@ -9,9 +9,13 @@ use Rattle.seam_defs.specs.declared.states.Deed.{Deed}
 use Rattle.seam_transcript.specs.declared.sender.Sender.{Sender}
 use Rattle.seam_transcript.specs.declared.sender.Sender.TheVariants.{Base}
 use Rattle.seam_transcript.specs.declared.executed.Executed.{Executed}
-use Rattle.seam_transcript.specs.Book.{Book, Called, same_sender, is_for, is_from}
+use Rattle.seam_transcript.specs.Book.{Header, Created, Book, Called, same_sender, is_for, is_from}
 use Rattle.seam_transcript.specs.Orders.{numbered, of_sender, IsFull, IsLegal}
 use Rattle.seam_transcript.specs.Sequence.{next_executed, go_on, sequence}
+use Rattle.seam_transcript.specs.FlatTable.{flat, first_state}
+use Rattle.std.proofs.lemmas.List.{take_all}
+use Rattle.seam_defs.specs.Deeds.{after}
+use Rattle.seam_defs.specs.declared.states.State.{State}
 
 -- the deeds of a sender for a part among some calls
 abbrev accepted_in : List Called → Part → ℕ → Sender → List Deed
@@ -112,3 +116,14 @@ full-legal b p e order full s = ([], sym (full s) ∙ sym (append-nil (of_sender
 -- a call more goes behind the order of its part
 pub sequence-more : (calls : List Called) (c : Called) (p : Part) (e : ℕ) → sequence (calls ++ c ∷ []) p e ≡ go_on p e (sequence calls p e) c
 sequence-more calls c p e = fold-append (go_on p e) [] calls (c ∷ [])
+
+-- ---- states
+
+-- the state after one more call
+pub flat-more : (h : Header) (p : Part) (c : Created) (order : List Executed) (x : Executed)
+    → flat h p c (order ++ x ∷ []) (length (order ++ x ∷ [])) ≡ after h.defs c.ty (flat h p c order (length order)) x.deed
+flat-more h p c order x =
+    let run : List Executed → State = λ (xs : List Executed). fold (λ s y. after h.defs c.ty s y.deed) (first_state h p c) xs in
+    ap run (take_all (length (order ++ x ∷ [])) (order ++ x ∷ []) (omega arith))
+    ∙ fold-append (λ (s : State) (y : Executed). after h.defs c.ty s y.deed) (first_state h p c) order (x ∷ [])
+    ∙ ap (λ (xs : List Executed). after h.defs c.ty (run xs) x.deed) (sym (take_all (length order) order (omega arith)))

@@ -7,6 +7,7 @@ mod accepted;
 mod command;
 mod executed;
 mod laws;
+mod limits;
 mod naming;
 mod plain;
 mod plain_round;
@@ -20,6 +21,7 @@ pub use laws::{
     long_line_is_refused, one_sender_one_transcript, one_unknown_command,
     unknown_command_is_refused, verdict_is_one,
 };
+pub use limits::{MOST_ENTITIES, MOST_LINES};
 pub use naming::{base_named, deed_named, type_named};
 pub use plain::transcript_of;
 pub use sender::Sender;

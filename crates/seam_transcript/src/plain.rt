@@ -13,15 +13,13 @@ ghost use Rattle.seam_transcript.specs.PlainStands.{book_of, standing_of, MayEnd
 
 use crate::accepted::{Made, Taken};
 use crate::plain_round::{created_as, push_round};
-use crate::{Said, base_named, deed_named, push_bad_words, push_refusal, read_line, type_named};
+use crate::{
+    MOST_ENTITIES, MOST_LINES, Said, base_named, deed_named, push_bad_words, push_refusal,
+    read_line, type_named,
+};
 use seam_defs::{Defs, Part, Settings};
 use seam_geo::Pos;
 use std::alloc::{AllocError, Global};
-
-// The most entities of a world, and the most accepted lines of a round.
-const MOST_ENTITIES: usize = 65_536;
-
-const MOST_LINES: u32 = 65_536;
 
 // The most bytes of a line.
 const MOST_BYTES: usize = 4_096;

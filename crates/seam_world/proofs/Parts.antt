@@ -18,7 +18,7 @@ use Rattle.seam_world.specs.Table.{PartStands, Executes, Counts, place_of_node}
 use Rattle.seam_world.specs.declared.table.PartState.{PartState}
 use Rattle.seam_transcript.proofs.Sequences.{of_sender-more}
 use Rattle.seam_world.proofs.Writing.{same, differ}
-use Rattle.seam_transcript.proofs.PlainLemmas.{flat-more}
+use Rattle.seam_transcript.proofs.Sequences.{flat-more}
 
 -- counting a call changes the counts alone
 record KeepsRest (old new : PartState) : Type 0 where

@@ -10,11 +10,8 @@ ghost use Rattle.seam_world.specs.Script.{IsReady, ScriptStands, IsJudged, Takes
 use crate::table::{Outcome, Table};
 use crate::text::push_round;
 use seam_defs::{Defs, Settings};
-use seam_transcript::{Said, push_bad_words, push_refusal, read_line};
+use seam_transcript::{MOST_LINES, Said, push_bad_words, push_refusal, read_line};
 use std::alloc::{AllocError, Global};
-
-/// A round ends after so many accepted lines.
-const MOST_LINES: u32 = 65_536;
 
 /// How far a script was taken: the world, and the counts of its lines and rounds.
 #[derive(Drop)]

@@ -11,12 +11,9 @@ ghost use Rattle.seam_world.specs.Table.{TableStands, Judged, HasRoom, IsNew, st
 
 use seam_defs::{Deed, Defs, Part, Settings, State};
 use seam_geo::Pos;
-use seam_transcript::{Executed, Sender, base_named, deed_named, type_named};
+use seam_transcript::{Executed, MOST_ENTITIES, Sender, base_named, deed_named, type_named};
 use std::alloc::{AllocError, Global};
 use std::collections::BTreeMap;
-
-/// So many entities may be created over a run.
-const MOST_ENTITIES: usize = 65_536;
 
 /// One part of an entity: its state, how many calls it executed, the calls that it executed in the open round, and for each
 /// base node the number of its last call.

@@ -3,7 +3,8 @@ use Rattle.std.specs.Prelude.{find, ◌==◌}
 use Rattle.seam_transcript.specs.Book.{Created}
 use Rattle.seam_transcript.specs.Round.{Lists}
 use Rattle.seam_transcript.specs.Plain.{live_of}
-use Rattle.seam_transcript.proofs.PlainLemmas.{on_ok, lists-live}
+use Rattle.seam_transcript.proofs.PlainLemmas.{lists-live}
+use Rattle.seam_transcript.proofs.Results.{on_ok}
 use Rattle.seam_transcript.proofs.plain_round.push_round.Goals as goal
 
 pub returns : goal.returns

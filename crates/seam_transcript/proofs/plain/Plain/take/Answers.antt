@@ -1,7 +1,7 @@
 use Rattle.std.specs.Prelude.{codes}
 use Rattle.seam_transcript.specs.Transcript.{refusal}
 use Rattle.seam_transcript.specs.Plain.{header_of}
-use Rattle.seam_transcript.proofs.PlainLemmas.{on_ok}
+use Rattle.seam_transcript.proofs.Results.{on_ok}
 use Rattle.seam_transcript.proofs.PlainTurns.{long-line, short-line}
 use Rattle.seam_transcript.proofs.plain.Plain.take.Goals as goal
 

@@ -8,7 +8,7 @@ use Rattle.seam_transcript.specs.Book.{BadWords, NoCommand}
 use Rattle.seam_transcript.specs.Plain.{header_of}
 use Rattle.seam_transcript.specs.PlainStands.{book_of}
 use Rattle.seam_transcript.proofs.Commands.{none-accepted}
-use Rattle.seam_transcript.proofs.PlainLemmas.{on_ok, match-some, match-none}
+use Rattle.seam_transcript.proofs.Results.{on_ok, match-some, match-none}
 use Rattle.seam_transcript.proofs.PlainTurns.{refuses, syncs, creates, calls}
 use Rattle.seam_transcript.proofs.plain.Plain.take_content.Goals as goal
 

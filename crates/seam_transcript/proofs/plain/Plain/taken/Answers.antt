@@ -5,7 +5,7 @@ use Rattle.seam_transcript.specs.Plain.{header_of}
 use Rattle.seam_transcript.specs.Said.{texts_of}
 use Rattle.seam_transcript.specs.Book.{Created, created_as}
 use Rattle.seam_transcript.specs.PlainStands.{book_of}
-use Rattle.seam_transcript.proofs.PlainLemmas.{match-some}
+use Rattle.seam_transcript.proofs.Results.{match-some}
 use Rattle.seam_transcript.proofs.BookLemmas.{base-sender}
 use Rattle.seam_transcript.proofs.PlainTurns.{call-taken}
 use Rattle.seam_transcript.proofs.plain.Plain.taken.Goals as goal

@@ -6,7 +6,7 @@ use Rattle.seam_transcript.specs.Standing.{with_book}
 use Rattle.seam_world.specs.Script.{IsJudged}
 use Rattle.seam_world.proofs.ScriptLemmas.{kept_ready, kept_last, kept_open, refused_command}
 use Rattle.seam_world.proofs.script.Script.judged.Goals as goal
-use Rattle.seam_transcript.proofs.PlainLemmas.{on_ok}
+use Rattle.seam_transcript.proofs.Results.{on_ok}
 
 pub returns-then-self-eq-MOST_LINES : goal.returns-then-self-eq-MOST_LINES
 returns-then-self-eq-MOST_LINES c = on_ok c.end_round.result

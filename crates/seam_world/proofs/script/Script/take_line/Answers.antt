@@ -10,7 +10,7 @@ use Rattle.seam_transcript.specs.Standing.{counted}
 use Rattle.seam_transcript.specs.Transcript.{refusal}
 use Rattle.seam_world.proofs.ScriptLemmas.{counted_ready, counted_stands, not_taken, synced, commanded, awaits, refusal_is}
 use Rattle.seam_world.proofs.script.Script.take_line.Goals as goal
-use Rattle.seam_transcript.proofs.PlainLemmas.{on_ok}
+use Rattle.seam_transcript.proofs.Results.{on_ok}
 
 pub returns-in-Skipped : goal.returns-in-Skipped
 returns-in-Skipped c = λ t stands few. (

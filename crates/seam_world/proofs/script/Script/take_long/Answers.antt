@@ -3,7 +3,7 @@ use Rattle.std.specs.Prelude.{codes}
 use Rattle.seam_io.specs.Lines.{Long}
 use Rattle.seam_transcript.specs.Book.{empty_header, TooLong, Refused}
 use Rattle.seam_transcript.specs.Transcript.{refusal}
-use Rattle.seam_transcript.proofs.PlainLemmas.{on_ok}
+use Rattle.seam_transcript.proofs.Results.{on_ok}
 use Rattle.seam_world.proofs.ScriptLemmas.{counted_stands, not_taken, refusal_is}
 use Rattle.seam_world.proofs.script.Script.take_long.Goals as goal
 

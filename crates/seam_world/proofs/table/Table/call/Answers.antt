@@ -1,7 +1,7 @@
 use Rattle.std.proofs.Common.{sym, ◌∙◌}
 use Rattle.std.proofs.lemmas.Option.{none-some}
 use Rattle.seam_transcript.specs.Said.{texts_of}
-use Rattle.seam_transcript.proofs.PlainLemmas.{match-some, match-none}
+use Rattle.seam_transcript.proofs.Results.{match-some, match-none}
 use Rattle.seam_world.proofs.Executing.{accepted-call, no-deed}
 use Rattle.seam_world.proofs.table.Table.call.Goals as goal
 

@@ -1,0 +1,5 @@
+/// The most entities that may be created over a run.
+pub const MOST_ENTITIES: usize = 65_536;
+
+/// A round ends with so many accepted lines other than `sync`.
+pub const MOST_LINES: u32 = 65_536;
