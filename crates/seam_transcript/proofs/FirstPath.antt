@@ -21,11 +21,11 @@ use Rattle.seam_transcript.specs.Language.{IsSkipped, HasWords, Command, Create,
 use Rattle.seam_transcript.specs.Book.{Book, Created, Called, created_as, empty_header, empty_book, sender_text, IsBuilt, with_create, with_call, call_of, closed, Accepts, Accepted}
 use Rattle.seam_transcript.specs.Sequence.{sequence}
 use Rattle.seam_transcript.specs.Standing.{Standing, behind_header}
-use Rattle.seam_transcript.specs.Round.{Lists, IsRound}
+use Rattle.seam_transcript.specs.Round.{Lists, text_of_round, IsRound}
 use Rattle.seam_transcript.specs.Transcript.{separator, IsEnded}
 use Rattle.seam_transcript.proofs.Skips.{says_something}
 use Rattle.seam_transcript.proofs.Sequences.{sequence-full, full-legal}
-use Rattle.seam_transcript.proofs.Rows.{one-word, form_of, sync-word, sync-says}
+use Rattle.seam_transcript.proofs.Rows.{one-word, sync-word, sync-says}
 use Rattle.seam_transcript.proofs.Commands.{one-command}
 use Rattle.seam_transcript.proofs.Verdicts.{one-words}
 use Rattle.seam_transcript.proofs.OneSender.{one-transcript}
@@ -202,21 +202,23 @@ avatar-alone = record {
     found c false is = cc
 
 first-form : codes "round 1\ndid 1 b1 1 hit 30\ndid 1 b1 2 heal 5\nhome 1 0 2 100 100 hp=75 mana=50 mood=0 note=\"\" scent=0 xp=0\nbase 1 0 gold=0 rank=1\nend 1\n"
-    ≡ form_of 1 (sequence with_heal.calls) (record { made = avatar ∷ []; live = avatar ∷ []; done = sequence with_heal.calls; home = λ e. 0 })
+    ≡ text_of_round empty_header 1 (sequence with_heal.calls) (record { made = avatar ∷ []; homed = avatar ∷ []; based = avatar ∷ []; done = sequence with_heal.calls; home = λ e. 0 })
 unfolding decimal_of quoted
 first-form = refl
 
 first-round : IsRound empty_header (behind 5 with_heal)
     (codes "round 1\ndid 1 b1 1 hit 30\ndid 1 b1 2 heal 5\nhome 1 0 2 100 100 hp=75 mana=50 mood=0 note=\"\" scent=0 xp=0\nbase 1 0 gold=0 rank=1\nend 1\n") behind_sync
 first-round = record {
-  round = record { made = avatar ∷ []; live = avatar ∷ []; done = sequence with_heal.calls; home = λ e. 0 };
+  round = record { made = avatar ∷ []; homed = avatar ∷ []; based = avatar ∷ []; done = sequence with_heal.calls; home = λ e. 0 };
   form = first-form;
-  made = avatar-alone;
-  goes_on = λ p e. refl;
-  legal = λ p e. full-legal with_heal p e (sequence with_heal.calls p e) (sequence-full with_heal p e);
-  full = λ p e. sequence-full with_heal p e;
-  live = avatar-alone;
-  homes = λ e. refl;
+  orders = record {
+    listed = avatar-alone;
+    further = λ p e. refl;
+    legal = λ p e. full-legal with_heal p e (sequence with_heal.calls p e) (sequence-full with_heal p e);
+    full = λ p e. sequence-full with_heal p e;
+  };
+  homes = record { listed = avatar-alone; cells = λ e. refl };
+  bases = avatar-alone;
   lines = refl;
   book = refl;
   rounds = refl;

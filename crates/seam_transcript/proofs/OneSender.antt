@@ -1,6 +1,6 @@
 -- Where all calls come from one sender, an input has one transcript.
 use Rattle.std.proofs.Common.{◌≡◌, ◌<◌, ℕ, Bool, true, false, List, [], ◌∷◌, ◌++◌, map, get_or, suc, ◌⊎◌, Option, refl, sym, ◌∙◌, ap, subst, arith, inl, inr}
-use Rattle.std.specs.Prelude.{codes, All, Contains, filter, cond, ◌&&◌, ◌==◌, MatchBool}
+use Rattle.std.specs.Prelude.{All, Contains, filter, cond, ◌&&◌, ◌==◌, MatchBool}
 use Rattle.std.specs.List.{AllPairs}
 use Rattle.std.specs.List.Sorted.{IsStrictlyIncreasing}
 use Rattle.std.proofs.Math.Bool.{and-false}
@@ -11,7 +11,6 @@ use Rattle.std.proofs.lemmas.List.Kept.{AllPairs-from_increasing}
 use Rattle.seam_io.specs.Lines.{Line, Content, Long}
 use Rattle.seam_defs.specs.Types.{AreDefs}
 use Rattle.seam_defs.specs.declared.flags.Part.{Part}
-use Rattle.seam_defs.specs.declared.flags.Part.TheVariants as part
 use Rattle.seam_defs.specs.declared.states.Deed.TheVariants.{Method}
 use Rattle.seam_defs.proofs.WellFormed.{builtin-are-defs}
 use Rattle.seam_transcript.specs.declared.sender.Sender.{Sender}
@@ -21,7 +20,7 @@ use Rattle.seam_transcript.specs.Language.{Command, Create, Call, Sync, Says}
 use Rattle.seam_transcript.specs.Book.{Header, Book, Created, Called, empty_header, created_as, lives_as, same_sender, sender_text, is_for, is_from, accepted, call_of, Accepts, Cause, TooLong, BadWords, Verdict, Skipped, Refused, Accepted, Judges}
 use Rattle.seam_transcript.specs.Orders.{Orders, numbered, of_sender, IsFull}
 use Rattle.seam_transcript.specs.Standing.{Standing, behind_header, counted, with_book}
-use Rattle.seam_transcript.specs.Round.{RoundData, Lists, number_line, executed_lines, home_lines, base_lines, IsRound}
+use Rattle.seam_transcript.specs.Round.{RoundData, Lists, text_of_round, IsRound}
 use Rattle.seam_transcript.specs.Transcript.{separator, Takes, Run, ends_round, EndsInput, IsEnded}
 use Rattle.seam_transcript.specs.Senders.{CallIsFrom, CallsAreFrom}
 use Rattle.seam_transcript.proofs.Sequences.{same_sender-is}
@@ -140,26 +139,21 @@ lists-one entities xs ys one other =
 same-standing : (s t : Standing) → s.lines ≡ t.lines → s.book ≡ t.book → s.orders ≡ t.orders → s.rounds ≡ t.rounds → s ≡ t
 same-standing s t lines book orders rounds = λ i. record { lines = lines i; book = book i; orders = orders i; rounds = rounds i }
 
-same-round : (r u : RoundData) → r.made ≡ u.made → r.live ≡ u.live → r.done ≡ u.done → r.home ≡ u.home → r ≡ u
-same-round r u made live done home = λ i. record { made = made i; live = live i; done = done i; home = home i }
-
--- the text of a round that leaves a standing
-abbrev text_of_round : Header → Standing → RoundData → List ℕ
-text_of_round h t r =
-    number_line (codes "round ") t.rounds ++ executed_lines (codes "did ") part.Cell h r ++ executed_lines (codes "dob ") part.Base h r
-    ++ home_lines h t.orders r ++ base_lines h t.orders r ++ number_line (codes "end ") t.rounds
+same-round : (r u : RoundData) → r.made ≡ u.made → r.homed ≡ u.homed → r.based ≡ u.based → r.done ≡ u.done → r.home ≡ u.home → r ≡ u
+same-round r u made homed based done home = λ i. record { made = made i; homed = homed i; based = based i; done = done i; home = home i }
 
 -- a round has one text, and leaves one standing
 one-round : (h : Header) (who : Sender) (s : Standing) (x y : List ℕ) (t u : Standing) → From who s.book.calls → IsRound h s x t → IsRound h s y u → (x ≡ y) × (t ≡ u)
 one-round h who s x y t u from one other =
-    let orders : t.orders ≡ u.orders = fun_ext (λ p. fun_ext (λ e. full-one who s.book p e (t.orders p e) (u.orders p e) from (one.full p e) (other.full p e))) in
+    let orders : t.orders ≡ u.orders = fun_ext (λ p. fun_ext (λ e. full-one who s.book p e (t.orders p e) (u.orders p e) from (one.orders.full p e) (other.orders.full p e))) in
     let same : t ≡ u = same-standing t u (one.lines ∙ sym other.lines) (one.book ∙ sym other.book) orders (one.rounds ∙ sym other.rounds) in
     let done : one.round.done ≡ other.round.done = fun_ext (λ p. fun_ext (λ e. append_cancel_left (s.orders p e) (one.round.done p e) (other.round.done p e)
-    (sym (one.goes_on p e) ∙ ap (λ (o : Orders). o p e) orders ∙ other.goes_on p e))) in
+    (sym (one.orders.further p e) ∙ ap (λ (o : Orders). o p e) orders ∙ other.orders.further p e))) in
     let round : one.round ≡ other.round =
-    same-round one.round other.round (lists-one (created_as s.book) one.round.made other.round.made one.made other.made) (lists-one (lives_as s.book) one.round.live other.round.live one.live other.live)
-    done (fun_ext (λ e. one.homes e ∙ sym (other.homes e))) in
-    (one.form ∙ ap (λ (v : Standing). text_of_round h v one.round) same ∙ ap (text_of_round h u) round ∙ sym other.form, same)
+    same-round one.round other.round (lists-one (created_as s.book) one.round.made other.round.made one.orders.listed other.orders.listed)
+    (lists-one (lives_as s.book) one.round.homed other.round.homed one.homes.listed other.homes.listed) (lists-one (lives_as s.book) one.round.based other.round.based one.bases other.bases)
+    done (fun_ext (λ e. one.homes.cells e ∙ sym (other.homes.cells e))) in
+    (one.form ∙ ap (λ (v : Standing). text_of_round h v.rounds v.orders one.round) same ∙ ap (text_of_round h u.rounds u.orders) round ∙ sym other.form, same)
 
 -- where a test tells whether a round ends
 one-end : (h : Header) (who : Sender) (s : Standing) (ends : Bool) (x y : List ℕ) (t u : Standing) → From who s.book.calls

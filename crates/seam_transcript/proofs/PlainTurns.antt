@@ -38,14 +38,16 @@ plain-round defs p live after lists all =
     subst (λ (orders : Orders). IsRound (header_of defs) (standing_of p) (round_text defs (p.rounds + 1) live p.calls.items p.executed)
     (record { lines = p.lines; book = record { created = p.created.items; calls = p.calls.items; open_lines = 0 }; orders = orders; rounds = p.rounds + 1 })) (sym all)
     (record {
-      round = record { made = live; live = live; done = done_since p.executed p.calls.items; home = λ e. 0 };
+      round = record { made = live; homed = live; based = live; done = done_since p.executed p.calls.items; home = λ e. 0 };
       form = refl;
-      made = lists;
-      goes_on = λ part e. sequence-since p.executed p.calls.items part e;
-      legal = λ part e. full-legal (book_of p) part e (sequence p.calls.items part e) (sequence-full (book_of p) part e);
-      full = λ part e. sequence-full (book_of p) part e;
-      live = lists;
-      homes = λ e. refl;
+      orders = record {
+        listed = lists;
+        further = λ part e. sequence-since p.executed p.calls.items part e;
+        legal = λ part e. full-legal (book_of p) part e (sequence p.calls.items part e) (sequence-full (book_of p) part e);
+        full = λ part e. sequence-full (book_of p) part e;
+      };
+      homes = record { listed = lists; cells = λ e. refl };
+      bases = lists;
       lines = refl;
       book = refl;
       rounds = refl;

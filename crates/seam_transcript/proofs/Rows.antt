@@ -8,13 +8,12 @@ use Rattle.std.proofs.lemmas.Str.{IsUtf8-from_ascii}
 use Rattle.seam_value.specs.Values.{decimal_of}
 use Rattle.seam_words.specs.Words.{IsPlainWord}
 use Rattle.seam_io.specs.Lines.{Line, Content, Long, lines_of}
-use Rattle.seam_defs.specs.declared.flags.Part.TheVariants as part
 use Rattle.seam_defs.proofs.WellFormed.{builtin-are-defs}
 use Rattle.seam_transcript.specs.Language.{IsSkipped, HasWords, Command, Create, Call, Sync, Says}
 use Rattle.seam_transcript.specs.Book.{Header, Book, Created, created_as, empty_header, empty_book, Accepts, Verdict, Refused, Accepted, TooLong, NoCommand, Judges}
 use Rattle.seam_transcript.specs.Orders.{Orders, no_orders}
 use Rattle.seam_transcript.specs.Standing.{Standing, behind_header, counted}
-use Rattle.seam_transcript.specs.Round.{RoundData, Lists, number_line, executed_lines, home_lines, base_lines, IsRound}
+use Rattle.seam_transcript.specs.Round.{Lists, text_of_round, IsRound}
 use Rattle.seam_transcript.specs.Transcript.{separator, refusal, Takes, Step, Run, EndsInput, IsEnded}
 use Rattle.seam_transcript.proofs.Skips.{says_something}
 use Rattle.seam_transcript.proofs.Verdicts.{no-command, one-verdict}
@@ -154,21 +153,17 @@ none-listed : (list : List Created) → Lists (created_as empty_book) list → l
 none-listed [] lists = refl
 none-listed (c ∷ cs) lists = absurd (none-some c ((lists.exact c).0 (0, omega arith, refl)))
 
-abbrev pub form_of : ℕ → Orders → RoundData → List ℕ
-form_of n after r =
-    number_line (codes "round ") n ++ executed_lines (codes "did ") part.Cell empty_header r ++ executed_lines (codes "dob ") part.Base empty_header r
-    ++ home_lines empty_header after r ++ base_lines empty_header after r ++ number_line (codes "end ") n
-
-bare-form : (after done : Orders) (home : ℕ → ℕ) → form_of 1 after (record { made = []; live = []; done = done; home = home }) ≡ codes "round 1\nend 1\n"
+bare-form : (after done : Orders) (home : ℕ → ℕ) → text_of_round empty_header 1 after (record { made = []; homed = []; based = []; done = done; home = home }) ≡ codes "round 1\nend 1\n"
 unfolding decimal_of
 bare-form after done home = refl
 
 bare-round : (text : List ℕ) (t : Standing) → IsRound empty_header synced text t → text ≡ codes "round 1\nend 1\n"
 bare-round text t is =
     is.form
-    ∙ ap (λ (n : ℕ). form_of n t.orders is.round) is.rounds
-    ∙ ap (λ (made : List Created). form_of 1 t.orders (record is.round { made = made })) (none-listed is.round.made is.made)
-    ∙ ap (λ (live : List Created). form_of 1 t.orders (record is.round { made = []; live = live })) (none-listed is.round.live is.live)
+    ∙ ap (λ (n : ℕ). text_of_round empty_header n t.orders is.round) is.rounds
+    ∙ ap (λ (made : List Created). text_of_round empty_header 1 t.orders (record is.round { made = made })) (none-listed is.round.made is.orders.listed)
+    ∙ ap (λ (homed : List Created). text_of_round empty_header 1 t.orders (record is.round { made = []; homed = homed })) (none-listed is.round.homed is.homes.listed)
+    ∙ ap (λ (based : List Created). text_of_round empty_header 1 t.orders (record is.round { made = []; homed = []; based = based })) (none-listed is.round.based is.bases)
     ∙ bare-form t.orders is.round.done is.round.home
 
 none-lists : Lists (created_as empty_book) []
@@ -179,14 +174,11 @@ none-lists = record {
 
 is-bare : IsRound empty_header synced (codes "round 1\nend 1\n") behind_sync
 is-bare = record {
-  round = record { made = []; live = []; done = no_orders; home = λ e. 0 };
+  round = record { made = []; homed = []; based = []; done = no_orders; home = λ e. 0 };
   form = sym (bare-form no_orders no_orders (λ e. 0));
-  made = none-lists;
-  goes_on = λ p e. refl;
-  legal = λ p e s. ([], refl);
-  full = λ p e s. refl;
-  live = none-lists;
-  homes = λ e. refl;
+  orders = record { listed = none-lists; further = λ p e. refl; legal = λ p e s. ([], refl); full = λ p e s. refl };
+  homes = record { listed = none-lists; cells = λ e. refl };
+  bases = none-lists;
   lines = refl;
   book = refl;
   rounds = refl;

@@ -12,7 +12,7 @@ use Rattle.seam_defs.specs.declared.flags.Group.TheVariants as group
 use Rattle.seam_defs.specs.declared.states.Deed.{Deed}
 use Rattle.seam_defs.specs.declared.states.Deed.TheVariants.{Move, Method}
 use Rattle.seam_defs.specs.declared.states.State.{State}
-use Rattle.seam_transcript.specs.Book.{Header, Created, created_as, lives_as, sender_text, closed}
+use Rattle.seam_transcript.specs.Book.{Header, Book, Created, created_as, lives_as, sender_text, closed}
 use Rattle.seam_transcript.specs.declared.executed.Executed.{Executed}
 use Rattle.seam_transcript.specs.Orders.{Orders, IsLegal, IsFull}
 use Rattle.seam_transcript.specs.FlatTable.{flat}
@@ -50,11 +50,12 @@ base_line defs entity ty version s =
 
 -- ---- what a legal text is made of
 
--- What a round is: the entities that were created, those of them that live at its end, the calls that it executed, and the
--- home of each entity.
+-- What a round is: the entities whose executed calls, homes and base parts are listed, the calls that each executed in the
+-- round, and the home of each.
 pub record RoundData : Type 0 where
   pub made : List Created
-  pub live : List Created
+  pub homed : List Created
+  pub based : List Created
   pub done : Orders
   pub home : ℕ → ℕ
 
@@ -67,34 +68,55 @@ pub record Lists (entities : ℕ → Option Created) (list : List Created) : Typ
 abbrev pub executed_lines : List ℕ → Part → Header → RoundData → List ℕ
 executed_lines word p h r = flat_map (λ c. flat_map (executed_line word h.defs c.entity c.ty) (r.done p c.entity)) r.made
 
--- the lines of the homes: each live entity's state after all calls of its order
+-- the lines of the homes: each entity's state after all calls of its order
 abbrev pub home_lines : Header → Orders → RoundData → List ℕ
 home_lines h after r =
     flat_map (λ c. let order = after part.Cell c.entity in
-    home_line h.defs c.entity c.ty (r.home c.entity) (length order) (flat h part.Cell c order (length order))) r.live
+    home_line h.defs c.entity c.ty (r.home c.entity) (length order) (flat h part.Cell c order (length order))) r.homed
 
--- the lines of the base parts: each live one's state after all calls of its order
+-- the lines of the base parts: each one's state after all calls of its order
 abbrev pub base_lines : Header → Orders → RoundData → List ℕ
 base_lines h after r =
     flat_map (λ c. let order = after part.Base c.entity in
-    base_line h.defs c.entity c.ty (length order) (flat h part.Base c order (length order))) r.live
+    base_line h.defs c.entity c.ty (length order) (flat h part.Base c order (length order))) r.based
+
+-- the text of a round of this number, with the orders behind it: all lines in their order
+abbrev pub text_of_round : Header → ℕ → Orders → RoundData → List ℕ
+text_of_round h number after r =
+    number_line (codes "round ") number
+    ++ executed_lines (codes "did ") part.Cell h r ++ executed_lines (codes "dob ") part.Base h r
+    ++ home_lines h after r ++ base_lines h after r ++ number_line (codes "end ") number
+
+-- ---- the points of a legal round, between the standings before and behind it
+
+-- one: the lines have their forms and their order
+abbrev pub HasForm : Header → RoundData → List ℕ → Standing → Type 0
+HasForm h r text t = text ≡ text_of_round h t.rounds t.orders r
+
+-- two: the executed calls of all that were created go on with each part's order, to one that is full, and so legal
+pub record GoesOn (s : Standing) (r : RoundData) (t : Standing) : Type 0 where
+  pub listed : Lists (created_as s.book) r.made
+  pub further : (p : Part) (e : ℕ) → t.orders p e ≡ s.orders p e ++ r.done p e
+  pub legal : (p : Part) (e : ℕ) → IsLegal s.book p e (t.orders p e)
+  pub full : (p : Part) (e : ℕ) → IsFull s.book p e (t.orders p e)
+
+-- three: exactly the live entities have a home line, and the home is a cell of the world; so far there is one cell
+pub record HasHomes (b : Book) (r : RoundData) : Type 0 where
+  pub listed : Lists (lives_as b) r.homed
+  pub cells : (e : ℕ) → r.home e ≡ 0
+
+-- four: exactly the live entities have a base line
+abbrev pub HasBases : Book → RoundData → Type 0
+HasBases b r = Lists (lives_as b) r.based
 
 -- The text is legal for the round that ends at the standing `s`, whose book has all lines of the round; `t` is the standing
 -- behind it.
 pub record IsRound (h : Header) (s : Standing) (text : List ℕ) (t : Standing) : Type 0 where
   pub round : RoundData
-  -- one: the lines have their forms and their order
-  pub form : text ≡ number_line (codes "round ") t.rounds
-      ++ executed_lines (codes "did ") part.Cell h round ++ executed_lines (codes "dob ") part.Base h round
-      ++ home_lines h t.orders round ++ base_lines h t.orders round ++ number_line (codes "end ") t.rounds
-  -- two: the executed calls go on with each part's order, to one that is full, and so legal
-  pub made : Lists (created_as s.book) round.made
-  pub goes_on : (p : Part) (e : ℕ) → t.orders p e ≡ s.orders p e ++ round.done p e
-  pub legal : (p : Part) (e : ℕ) → IsLegal s.book p e (t.orders p e)
-  pub full : (p : Part) (e : ℕ) → IsFull s.book p e (t.orders p e)
-  -- three and four: exactly the live entities have a home line and a base line; so far there is one cell
-  pub live : Lists (lives_as s.book) round.live
-  pub homes : (e : ℕ) → round.home e ≡ 0
+  pub form : HasForm h round text t
+  pub orders : GoesOn s round t
+  pub homes : HasHomes s.book round
+  pub bases : HasBases s.book round
   -- the round is counted, and the next one begins with no line
   pub lines : t.lines ≡ s.lines
   pub book : t.book ≡ closed s.book

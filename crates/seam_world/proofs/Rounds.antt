@@ -198,7 +198,7 @@ table_round h s t stands =
     let before : Orders = s.orders in
     let live : List Created = live_of b t.entities.entries in
     record {
-      round = record { made = live; live = live; done = done_of t; home = λ e. 0 };
+      round = record { made = live; homed = live; based = live; done = done_of t; home = λ e. 0 };
       form = let entries = t.entities.entries in
           let all : All (IsEntry h b before t) entries = entries_are h b before t stands in
           same_form (number_line (codes "round ") (s.rounds + 1)) _ _ _ _ (number_line (codes "end ") (s.rounds + 1)) _ _ _
@@ -206,12 +206,14 @@ table_round h s t stands =
           (same_texts entries (made_as b) (λ c. flat_map (executed_line (codes "dob ") h.defs c.entity c.ty) (done_of t part.Base c.entity)) (λ x. []) (λ k d within. dob_text h b before t _ stands (all k d within)) ∙ no_texts entries (λ x. []) (λ k d within. refl))
           (same_texts entries (made_as b) (λ c. let order = sequence b.calls part.Cell c.entity in home_line h.defs c.entity c.ty 0 (length order) (flat h part.Cell c order (length order))) (home_text h.defs) (λ k d within. home_is h b before t _ (all k d within)))
           (same_texts entries (made_as b) (λ c. let order = sequence b.calls part.Base c.entity in base_line h.defs c.entity c.ty (length order) (flat h part.Base c order (length order))) (base_text h.defs) (λ k d within. base_is h b before t _ (all k d within)));
-      made = lists_live h b before t stands;
-      goes_on = λ p e. goes_on_at h b before t p e (get nat_cmp t.entities e) stands (stands.each e);
-      legal = λ p e. full-legal b p e (sequence b.calls p e) (sequence-full b p e);
-      full = λ p e. sequence-full b p e;
-      live = lists_live h b before t stands;
-      homes = λ e. refl;
+      orders = record {
+        listed = lists_live h b before t stands;
+        further = λ p e. goes_on_at h b before t p e (get nat_cmp t.entities e) stands (stands.each e);
+        legal = λ p e. full-legal b p e (sequence b.calls p e) (sequence-full b p e);
+        full = λ p e. sequence-full b p e;
+      };
+      homes = record { listed = lists_live h b before t stands; cells = λ e. refl };
+      bases = lists_live h b before t stands;
       lines = refl;
       book = refl;
       rounds = refl;

@@ -8,7 +8,8 @@ use Rattle.seam_transcript.specs.Book.{BadWords, NoCommand}
 use Rattle.seam_transcript.specs.Plain.{header_of}
 use Rattle.seam_transcript.specs.PlainStands.{book_of}
 use Rattle.seam_transcript.proofs.Commands.{none-accepted}
-use Rattle.seam_transcript.proofs.Results.{on_ok, match-some, match-none}
+use Rattle.std.proofs.lemmas.Option.{MatchOption-at_some, MatchOption-at_none}
+use Rattle.seam_transcript.proofs.Results.{on_ok}
 use Rattle.seam_transcript.proofs.PlainTurns.{refuses, syncs, creates, calls}
 use Rattle.seam_transcript.proofs.plain.Plain.take_content.Goals as goal
 
@@ -73,7 +74,7 @@ returns-in-Some-2 c = on_ok c.keep_call.result
       keeps.0,
       keeps.1,
       calls (header_of c.args.defs.now) c.args.self.now c.keep_call.new.self c.args.line.now says.1.0 keeps.0 c.in-Call.sender_name.now c.in-Call.entity c.in-Call.method_name.now (texts_of c.in-Call.arguments.now) _
-          says.0 says.1.1 says.1.2 (match-some _ _ c.in_ok-call-in-Call.field-0 c.in-Some-2.call c.in-Some-2.is c.in_ok-call-in-Call.ensures) keeps.2,
+          says.0 says.1.1 says.1.2 (MatchOption-at_some _ _ c.in-Some-2.call c.in-Some-2.is c.in_ok-call-in-Call.ensures) keeps.2,
     ))
     c.keep_call.ensures
 
@@ -84,6 +85,6 @@ returns-in-None-2 c = on_ok c.push_refusal-in-None-2.result
       refusal c.args.self.now.lines (codes "command"),
       text,
       refuses (header_of c.args.defs.now) c.args.self.now c.args.line.now NoCommand _ c.requires.0
-          (inr (says.0, inr (says.1.0, says.1.1, none-accepted (header_of c.args.defs.now) (book_of c.args.self.now) says.1.0 (Call c.in-Call.sender_name.now c.in-Call.entity c.in-Call.method_name.now (texts_of c.in-Call.arguments.now)) says.1.2 (match-none _ _ c.in_ok-call-in-Call.field-0 c.in-None-2.is c.in_ok-call-in-Call.ensures)))) refl,
+          (inr (says.0, inr (says.1.0, says.1.1, none-accepted (header_of c.args.defs.now) (book_of c.args.self.now) says.1.0 (Call c.in-Call.sender_name.now c.in-Call.entity c.in-Call.method_name.now (texts_of c.in-Call.arguments.now)) says.1.2 (MatchOption-at_none _ _ c.in-None-2.is c.in_ok-call-in-Call.ensures)))) refl,
     ))
     c.push_refusal-in-None-2.ensures
