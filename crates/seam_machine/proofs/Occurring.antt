@@ -5,14 +5,14 @@ use Rattle.std.specs.List.{All}
 use Rattle.std.proofs.lemmas.List.{length-set}
 use Rattle.std.proofs.lemmas.Option.{slice_get_within}
 use Rattle.seam_machine.specs.Views.{Stepped, NetView}
-use Rattle.seam_machine.specs.Nets.{link, put_all, row_less, letter, input_from, rows_after_taking, stepped_net, happens, is_ready, enabled, IsSquare}
+use Rattle.seam_machine.specs.Nets.{link, put_all, row_less, letter, input_from, rows_after_taking, stepped_net, happens, is_ready, enabled, with_node, IsSquare}
 use Rattle.seam_machine.specs.Events.{Occurs}
 use Rattle.seam_machine.specs.Inside.{Feeds, IsNet}
 use Rattle.seam_machine.specs.declared.machines.Input.{Input}
 use Rattle.seam_machine.specs.declared.machines.Input.TheVariants.{Task}
 use Rattle.seam_machine.specs.declared.machines.Event.{Event}
 use Rattle.seam_machine.proofs.Puts.{length-put_all}
-use Rattle.seam_machine.proofs.Writes.{All-set_kept}
+use Rattle.seam_machine.proofs.Writes.{All-set_kept, set_here, set_there, set_same}
 
 ready_parts : {N M : Type 0} (has_work : N → Bool) (o : Option N) (i : Option (Input M)) → is_ready has_work o i ≡ true → (s : N) × (x : Input M) × (o ≡ Some s) × (i ≡ Some x)
 ready_parts has_work (Some s) (Some x) h = (s, x, refl, refl)
@@ -63,6 +63,13 @@ square-happens steps w e o q = rw (happens-is steps w e o) (square-stepped w e.n
 pub nodes-happens : {N M : Type 0} (steps : N → Input M → Stepped N M) (w : NetView N M) (e : Event) (o : Occurs w e) → (happens steps w e).nodes ≡ set w.nodes e.node (steps o.node o.input).state
 nodes-happens steps w e o = ap (λ v. v.nodes) (happens-is steps w e o)
 
+-- the node of an event has what its step gives, and the others stay
+pub node_here : {N M : Type 0} (steps : N → Input M → Stepped N M) (w : NetView N M) (e : Event) (o : Occurs w e) → slice_get (happens steps w e).nodes e.node ≡ Some (steps o.node o.input).state
+node_here steps w e o = ap (λ l. slice_get l e.node) (nodes-happens steps w e o) ∙ set_here w.nodes e.node (steps o.node o.input).state (node_within w e o)
+
+pub node_there : {N M : Type 0} (steps : N → Input M → Stepped N M) (w : NetView N M) (e : Event) (o : Occurs w e) (j : ℕ) → (j ≡ e.node → ⊥) → slice_get (happens steps w e).nodes j ≡ slice_get w.nodes j
+node_there steps w e o j n = ap (λ l. slice_get l j) (nodes-happens steps w e o) ∙ set_there w.nodes e.node (steps o.node o.input).state j (node_within w e o) n
+
 pub length-happens : {N M : Type 0} (steps : N → Input M → Stepped N M) (w : NetView N M) (e : Event) (o : Occurs w e) → length (happens steps w e).nodes ≡ length w.nodes
 length-happens steps w e o = ap length (nodes-happens steps w e o) ∙ length-set w.nodes e.node (steps o.node o.input).state
 
@@ -96,3 +103,7 @@ net_fed steps w e from nodes rows rows' s s' f same_nodes same_rows n d q =
     let len = length-happens steps w e o in
     let there : IsNet (happens steps w e) = record { few = omega (arith, few, len); square = square-happens steps w e o q.square } in
     subst IsNet (sym (fed_happens steps w e from nodes rows rows' s s' f same_nodes same_rows n d)) there
+
+-- a net whose node is put back as it was
+pub with_node_same : {N M : Type 0} (w : NetView N M) (k : ℕ) (s : N) → slice_get w.nodes k ≡ Some s → with_node w k s ≡ w
+with_node_same w k s h = ap (λ l. record w { nodes = l }) (set_same w.nodes k s h)

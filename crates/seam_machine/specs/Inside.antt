@@ -4,7 +4,7 @@ use Rattle.std.specs.List.{All}
 use Rattle.seam_machine.specs.Views.{Stepped, NetView}
 use Rattle.seam_machine.specs.Sends.{AllBelow}
 use Rattle.seam_machine.specs.Nets.{letter, input_from, row_less, rows_after_taking, put_all, send_all, IsSquare}
-use Rattle.seam_machine.specs.Weights.{total}
+use Rattle.seam_machine.specs.Totals.{total}
 use Rattle.seam_machine.specs.declared.machines.Input.{Input}
 
 -- the links, and whether none of their messages waits for room
