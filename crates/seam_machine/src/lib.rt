@@ -22,8 +22,9 @@ mod sends;
 pub use laws::{
     a_node_put_back_changes_nothing, an_event_leaves_the_others, parts_are_the_net, quiet_is_empty,
 };
-pub use machines::{Event, Input, Machine, NoMemoryFor};
+pub use machines::{Event, Input, Machine};
 pub use nets::{Net, NetParts};
+pub use seam_memory::NoMemoryFor;
 pub use sends::Out;
 
 fn sent<T: Send>(value: T) -> T
