@@ -111,14 +111,14 @@ pub fn links_are_exact<N, T>()
         link (happens steps w e).rows x y ≡ link_left w.rows e.node e.from x y ++ link_added e.node (steps o.node o.input).sent x y }
 {}
 
-/// The weight of a net changes by an event as that of its node and input does, so what a step keeps, lowers or raises, the event does.
+/// The weight of a net, where a message weighs by the node to which it goes, changes by an event as that of its node and input does, so what a step keeps, lowers or raises, the event does.
 /// A node and its input weigh at most what the net weighs.
 pub fn weights_move<N, T>()
-    ensures moved { (f : N → ℕ) (g : T → ℕ) (steps : N → Input T → Stepped N T) (w : NetView N T) (e : Event) (o : Occurs w e) →
+    ensures moved { (f : N → ℕ) (g : ℕ → T → ℕ) (steps : N → Input T → Stepped N T) (w : NetView N T) (e : Event) (o : Occurs w e) →
         IsSquare w → AllBelow (length w.nodes) (steps o.node o.input).sent →
-        weight f g (happens steps w e) + (f o.node + input_weight g o.input) ≡ weight f g w + (f (steps o.node o.input).state + sent_weight g (steps o.node o.input).sent) }
-    ensures bound { (f : N → ℕ) (g : T → ℕ) (w : NetView N T) (e : Event) (o : Occurs w e) →
-        f o.node + input_weight g o.input ≤ weight f g w }
+        weight f g (happens steps w e) + (f o.node + input_weight g e.node o.input) ≡ weight f g w + (f (steps o.node o.input).state + sent_weight g (steps o.node o.input).sent) }
+    ensures bound { (f : N → ℕ) (g : ℕ → T → ℕ) (w : NetView N T) (e : Event) (o : Occurs w e) →
+        f o.node + input_weight g e.node o.input ≤ weight f g w }
 {}
 
 /// A fact about each node stays true where it is true of the node that made the step.
