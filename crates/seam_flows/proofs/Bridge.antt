@@ -9,7 +9,8 @@ use Rattle.seam_flows.specs.Flows.{Goes, more_letter, letters_of, slot_at, flow_
 use Rattle.seam_machine.specs.declared.machines.Input.{Input}
 use Rattle.seam_machine.specs.declared.machines.Input.TheVariants.{Task, From}
 use Rattle.seam_machine.specs.declared.machines.Event.{Event}
-use Rattle.seam_runs.proofs.Keeping.{link_is_exact, node_here, node_there}
+use Rattle.seam_machine.proofs.Occurring.{node_here, node_there}
+use Rattle.seam_runs.proofs.Keeping.{link_is_exact}
 
 module _ {T L : Type 0} (mine : T → Option L) where
   more_append : (o : Option L) (xs ys : List L) → more_letter o (xs ++ ys) ≡ more_letter o xs ++ ys

@@ -1,19 +1,12 @@
 -- What a step of a flow leaves of each slot and of each letter.
-use Rattle.std.proofs.Common.{◌≡◌, ℕ, Bool, true, false, cond, eqb, ◌&&◌, List, [], ◌∷◌, ◌++◌, Option, None, Some, refl, sym, ap, ◌∙◌, subst, arith, inl, inr}
+use Rattle.std.proofs.Common.{◌≡◌, ℕ, Bool, true, false, cond, eqb, ◌&&◌, List, [], ◌∷◌, ◌++◌, Option, None, Some, refl, sym, ap, ◌∙◌, subst, inl, inr}
 use Rattle.std.specs.List.{AllByRecursion}
-use Rattle.std.proofs.lemmas.Bool.{cases_eq}
-use Rattle.std.proofs.lemmas.Bool.Decides.{nat_tests}
+use Rattle.std.proofs.lemmas.Bool.{cases_eq, eqb-true, eqb-false}
 use Rattle.seam_flows.specs.Flows.{Flow, Goes, comes, IsHead, mail_left, mail_added}
 
 pub all_append : {X : Type 0} (P : X → Type 0) (xs ys : List X) → AllByRecursion P xs → AllByRecursion P ys → AllByRecursion P (xs ++ ys)
 all_append P [] ys a b = b
 all_append P (x ∷ xs) ys a b = (a.0, all_append P xs ys a.1 b)
-
-same_is : (a b : ℕ) → eqb a b ≡ true → a ≡ b
-same_is a b t = grind (arith, nat_tests)
-
-apart_by : (a b : ℕ) → eqb a b ≡ false → a ≡ b → ⊥
-apart_by a b t e = grind (arith, nat_tests)
 
 -- what was left of a link: all of it, or all but the letter that node k took
 pub data Rest {S L : Type 0} (w : Flow S L) (k : ℕ) (input : Option (ℕ × L)) (x y : ℕ) (l : List L) : Type 0 where
@@ -26,17 +19,17 @@ pub data More {L : Type 0} (out : ℕ → List L) (k x y : ℕ) (m : List L) : T
   none : (x ≡ k → ⊥) → m ≡ [] → More out k x y m
 
 rest_by : {S L : Type 0} (w : Flow S L) (k : ℕ) (p : ℕ × L) (rest : List L) (x y : ℕ) (s t : Bool) → eqb x p.0 ≡ s → eqb y k ≡ t → w.mail p.0 k ≡ p.1 ∷ rest → Rest w k (Some p) x y (cond (s && t) rest (w.mail x y))
-rest_by w k p rest x y true true a b h = tail p refl (same_is x p.0 a) (same_is y k b) (ap (λ i. w.mail i y) (same_is x p.0 a) ∙ (ap (w.mail p.0) (same_is y k b) ∙ h))
-rest_by w k p rest x y true false a b h = whole refl (λ q e f g. apart_by y k b g)
-rest_by w k p rest x y false t a b h = whole refl (λ q e f g. let same : p ≡ q = cc in apart_by x p.0 a (f ∙ sym (ap (λ i. i.0) same)))
+rest_by w k p rest x y true true a b h = tail p refl (eqb-true x p.0 a) (eqb-true y k b) (ap (λ i. w.mail i y) (eqb-true x p.0 a) ∙ (ap (w.mail p.0) (eqb-true y k b) ∙ h))
+rest_by w k p rest x y true false a b h = whole refl (λ q e f g. eqb-false y k b g)
+rest_by w k p rest x y false t a b h = whole refl (λ q e f g. let same : p ≡ q = cc in eqb-false x p.0 a (f ∙ sym (ap (λ i. i.0) same)))
 
 rest_is : {S L : Type 0} (w : Flow S L) (k : ℕ) (input : Option (ℕ × L)) (rest : List L) (x y : ℕ) → IsHead w.mail k input rest → Rest w k input x y (mail_left w.mail k input rest x y)
 rest_is w k None rest x y h = whole refl (λ p e f g. cc)
 rest_is w k (Some p) rest x y h = rest_by w k p rest x y (eqb x p.0) (eqb y k) refl refl h
 
 more_by : {L : Type 0} (out : ℕ → List L) (k x y : ℕ) (s : Bool) → eqb x k ≡ s → More out k x y (cond s (out y) [])
-more_by out k x y true a = own (same_is x k a) refl
-more_by out k x y false a = none (apart_by x k a) refl
+more_by out k x y true a = own (eqb-true x k a) refl
+more_by out k x y false a = none (eqb-false x k a) refl
 
 module _ {L : Type 0} (P : ℕ → ℕ → L → Type 0) where
   rest_all : {S : Type 0} (w : Flow S L) (k : ℕ) (input : Option (ℕ × L)) (x y : ℕ) (l : List L) → AllByRecursion (P x y) (w.mail x y) → Rest w k input x y l → AllByRecursion (P x y) l

@@ -27,13 +27,12 @@ entry_in brings None = None
 entry_in brings (Some l) = brings l
 
 -- the register after an entry came: the one of greater key, and the old one where they are equal
-abbrev pub taken_entry : {V : Type 0} → ℕ × V → Option (ℕ × V) → ℕ × V
-taken_entry e None = e
-taken_entry e (Some p) = if nat_lt e.0 p.0 then p else e
+abbrev pub greater_entry : {V : Type 0} → ℕ × V → Option (ℕ × V) → ℕ × V
+greater_entry e None = e
+greater_entry e (Some p) = if nat_lt e.0 p.0 then p else e
 
--- of the entries in the register of node k and on their way there, the one of greatest key has the value c
-pub record Newest {S L V : Type 0} (entry : S → ℕ × V) (brings : L → Option (ℕ × V)) (w : Flow S L) (k : ℕ) (c : V) : Type 0 where
-  pub key : ℕ
+-- of the entries in the register of node k and on their way there, the one of greatest key has that key and the value c
+pub record Newest {S L V : Type 0} (entry : S → ℕ × V) (brings : L → Option (ℕ × V)) (w : Flow S L) (k key : ℕ) (c : V) : Type 0 where
   pub here : NotAbove key c (entry (w.slot k))
   pub away : (x : ℕ) → AllBring brings (NotAbove key c) (w.mail x k)
-  pub stands : (entry (w.slot k) ≡ (key, c)) ⊎ ((a : ℕ) × Has brings (key, c) (w.mail a k))
+  pub is_there : (entry (w.slot k) ≡ (key, c)) ⊎ ((a : ℕ) × Has brings (key, c) (w.mail a k))

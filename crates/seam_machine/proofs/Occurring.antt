@@ -2,8 +2,8 @@
 use Rattle.std.proofs.Common.{◌≡◌, ℕ, ◌<◌, Bool, true, List, [], ◌∷◌, length, Option, None, Some, get_or, set, drop, refl, sym, ap, ◌∙◌, subst, arith}
 use Rattle.std.specs.Prelude.{slice_get}
 use Rattle.std.specs.List.{All}
-use Rattle.std.proofs.lemmas.List.{length-set}
-use Rattle.std.proofs.lemmas.Option.{slice_get_within}
+use Rattle.std.proofs.lemmas.List.{length-set, set-get_or}
+use Rattle.std.proofs.lemmas.Option.{slice_get_within, get_or_from_slice_get}
 use Rattle.seam_machine.specs.Views.{Stepped, NetView}
 use Rattle.seam_machine.specs.Nets.{link, put_all, row_less, letter, input_from, rows_after_taking, stepped_net, happens, is_ready, enabled, with_node, IsSquare}
 use Rattle.seam_machine.specs.Events.{Occurs}
@@ -12,7 +12,7 @@ use Rattle.seam_machine.specs.declared.machines.Input.{Input}
 use Rattle.seam_machine.specs.declared.machines.Input.TheVariants.{Task}
 use Rattle.seam_machine.specs.declared.machines.Event.{Event}
 use Rattle.seam_machine.proofs.Puts.{length-put_all}
-use Rattle.seam_machine.proofs.Writes.{All-set_kept, set_here, set_there, set_same}
+use Rattle.seam_machine.proofs.Writes.{All-set_kept, set_here, set_there}
 
 ready_parts : {N M : Type 0} (has_work : N → Bool) (o : Option N) (i : Option (Input M)) → is_ready has_work o i ≡ true → (s : N) × (x : Input M) × (o ≡ Some s) × (i ≡ Some x)
 ready_parts has_work (Some s) (Some x) h = (s, x, refl, refl)
@@ -106,4 +106,4 @@ net_fed steps w e from nodes rows rows' s s' f same_nodes same_rows n d q =
 
 -- a net whose node is put back as it was
 pub with_node_same : {N M : Type 0} (w : NetView N M) (k : ℕ) (s : N) → slice_get w.nodes k ≡ Some s → with_node w k s ≡ w
-with_node_same w k s h = ap (λ l. record w { nodes = l }) (set_same w.nodes k s h)
+with_node_same w k s h = ap (λ l. record w { nodes = l }) (ap (set w.nodes k) (sym (get_or_from_slice_get w.nodes k s s h)) ∙ set-get_or w.nodes k s)

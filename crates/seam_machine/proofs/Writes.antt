@@ -34,12 +34,6 @@ set_here xs k y lt = elim (slice_get-set xs k y k lt) [ inl h ↦ h.1 | inr h �
 pub set_there : {X : Type 0} (xs : List X) (k : ℕ) (y : X) (j : ℕ) → k < length xs → (j ≡ k → ⊥) → slice_get (set xs k y) j ≡ slice_get xs j
 set_there xs k y j lt n = elim (slice_get-set xs k y j lt) [ inl h ↦ absurd (n h.0) | inr h ↦ h.1 ]
 
--- an element that is written where it is
-pub set_same : {X : Type 0} (xs : List X) (k : ℕ) (x : X) → slice_get xs k ≡ Some x → set xs k x ≡ xs
-set_same [] k x h = refl
-set_same (y ∷ ys) zero x h = let same : x ≡ y = cc in ap (λ z. z ∷ ys) same
-set_same (y ∷ ys) (suc k) x h = ap (λ l. y ∷ l) (set_same ys k x h)
-
 -- what is true of all elements stays true where it is true of the new one
 pub All-set_kept : {X : Type 0} (P : X → Type 0) (xs : List X) (i : ℕ) (y : X) → (i < length xs → P y) → All P xs → All P (set xs i y)
 All-set_kept P xs i y f h j d lt =

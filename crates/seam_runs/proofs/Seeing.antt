@@ -1,22 +1,14 @@
 -- A net whose nodes are seen through a function: its events and runs are seen as those of the net that is seen.
-use Rattle.std.proofs.Common.{◌≡◌, ℕ, zero, suc, Bool, true, List, [], ◌∷◌, Option, None, Some, map, set, refl, sym, ap, ◌∙◌, subst}
+use Rattle.std.proofs.Common.{◌≡◌, ℕ, Bool, true, List, [], ◌∷◌, Option, None, Some, map, set, refl, sym, ap, ◌∙◌, subst}
 use Rattle.std.specs.Prelude.{slice_get, option_map}
+use Rattle.std.proofs.lemmas.List.{map-set}
+use Rattle.std.proofs.lemmas.Option.{slice_get-map}
 use Rattle.seam_machine.specs.Views.{Stepped, NetView}
 use Rattle.seam_machine.specs.Nets.{input_from, rows_after_taking, send_all, happens, happens_by, is_ready, enabled, run, AllEnabled, LeadsTo}
 use Rattle.seam_runs.specs.Seen.{seen, SeesSteps, SeesWork}
 use Rattle.seam_machine.specs.declared.machines.Input.{Input}
 use Rattle.seam_machine.specs.declared.machines.Input.TheVariants.{Task, From}
 use Rattle.seam_machine.specs.declared.machines.Event.{Event}
-
-slice_get-map : {X Y : Type 0} (f : X → Y) (xs : List X) (k : ℕ) → slice_get (map f xs) k ≡ option_map f (slice_get xs k)
-slice_get-map f [] k = refl
-slice_get-map f (x ∷ xs) zero = refl
-slice_get-map f (x ∷ xs) (suc k) = slice_get-map f xs k
-
-map-set : {X Y : Type 0} (f : X → Y) (xs : List X) (k : ℕ) (x : X) → map f (set xs k x) ≡ set (map f xs) k (f x)
-map-set f [] k x = refl
-map-set f (y ∷ ys) zero x = refl
-map-set f (y ∷ ys) (suc k) x = ap (λ l. f y ∷ l) (map-set f ys k x)
 
 module _ {N V M : Type 0} (f : N → V) (steps : N → Input M → Stepped N M) (seen_steps : V → Input M → Stepped V M) (sees : SeesSteps f steps seen_steps) where
   seen_by : (w : NetView N M) (k : ℕ) (from : Option ℕ) (o : Option N) (i : Option (Input M)) → seen f (happens_by steps w k from o i) ≡ happens_by seen_steps (seen f w) k from (option_map f o) i
