@@ -8,7 +8,7 @@ pub all_append : {X : Type 0} (P : X → Type 0) (xs ys : List X) → AllByRecur
 all_append P [] ys a b = b
 all_append P (x ∷ xs) ys a b = (a.0, all_append P xs ys a.1 b)
 
--- what was left of a link: all of it, or all but the letter that node k took
+-- what was left of a link: all of it, or all but the letter that node k was fed
 pub data Rest {S L : Type 0} (w : Flow S L) (k : ℕ) (input : Option (ℕ × L)) (x y : ℕ) (l : List L) : Type 0 where
   whole : l ≡ w.mail x y → ((p : ℕ × L) → input ≡ Some p → x ≡ p.0 → y ≡ k → ⊥) → Rest w k input x y l
   tail : (p : ℕ × L) → input ≡ Some p → x ≡ p.0 → y ≡ k → w.mail x y ≡ p.1 ∷ l → Rest w k input x y l

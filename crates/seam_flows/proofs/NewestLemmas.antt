@@ -127,7 +127,7 @@ module _ {V : Type 0} where
         there_goes {w} {v} g k key c n takes (inl h) = in_register g k key c n takes h
         there_goes {w} {v} g k key c n takes (inr h) = let x = change g h.0 k in on_its_way g k key c n takes h.0 h.1 x.l x.m x.is x.rest
 
-        -- where the register takes what is greater, and nothing newer is sent, the newest entry stays what it is
+        -- where the register keeps what is greater, and nothing newer is sent, the newest entry stays what it is
         pub newest_stays : {w v : Flow S L} (g : Goes Moves w v) (k key : ℕ) (c : V) (n : Newest entry brings w k key c) → (g.k ≡ k → entry (v.slot k) ≡ greater_entry (entry (w.slot k)) (entry_in brings (comes g.input))) → AllBring brings (NotAbove key c) (g.out k) → Newest entry brings v k key c
         newest_stays {w} {v} g k key c n takes new = record {
           here = here_stays g k key c n takes;

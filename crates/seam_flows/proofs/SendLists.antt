@@ -89,7 +89,7 @@ module _ {M : Type 0} where
       ]
 
 module _ {T L : Type 0} (mine : T → Option L) where
-  -- what a list and another after it say of the entity
+  -- what a list and another after it have of the entity
   pub sees-append : (j : ℕ) (ps qs : List (ℕ × T)) → letters_of mine (items_to j (ps ++ qs)) ≡ letters_of mine (items_to j ps) ++ letters_of mine (items_to j qs)
   sees-append j ps qs = ap (letters_of mine) (items_to-append j ps qs) ∙ letters_of-append mine (items_to j ps) (items_to j qs)
 
@@ -109,7 +109,7 @@ module _ {T L : Type 0} (mine : T → Option L) where
   silent_by true m ms h = ap (λ o. more_letter o (letters_of mine ms)) h
   silent_by false m ms h = refl
 
-  -- items about others say nothing of it
+  -- items about others have nothing of it
   pub sees_none : (j : ℕ) (ps : List (ℕ × T)) → IsSilent mine ps → letters_of mine (items_to j ps) ≡ []
   sees_none j [] h = refl
   sees_none j (p ∷ ps) h = silent_by (eqb p.0 j) p.1 (items_to j ps) h.0 ∙ sees_none j ps h.1

@@ -1,4 +1,4 @@
--- Tokens counted in a net, and the one token at one place: the two say the same.
+-- Tokens counted in a net, and the one token at one place: the two are one fact.
 use Rattle.std.proofs.Common.{◌≡◌, ℕ, zero, suc, ◌+◌, ◌<◌, ◌≤◌, ◌⊎◌, Bool, true, false, List, [], ◌∷◌, ◌++◌, length, Option, None, Some, get_or, refl, sym, ap, ◌∙◌, subst, arith, inl, inr}
 use Rattle.std.specs.Prelude.{slice_get}
 use Rattle.std.proofs.lemmas.Bool.{cases_eq}
@@ -51,7 +51,7 @@ module _ {X : Type 0} (f : X → ℕ) where
   sum_one (x ∷ xs) zero o = let h = o.0 in let rest = all_zero xs (λ j. o.1 (suc j) (λ e. omega (arith, e))) in omega (arith, h, rest)
   sum_one (x ∷ xs) (suc k) o = let h = o.1 0 (λ e. omega (arith, e)) in let rest = sum_one xs k (o.0, λ j n. o.1 (suc j) (λ e. n (omega (arith, e)))) in omega (arith, h, rest)
 
-  -- what stands past the end of the list weighs nothing
+  -- what is past the end of the list weighs nothing
   at-get_or : (xs : List X) (k : ℕ) (d : X) → f d ≡ 0 → at xs k ≡ f (get_or xs k d)
   at-get_or [] k d z = sym z
   at-get_or (x ∷ xs) zero d z = refl
@@ -173,17 +173,20 @@ module _ {N T S L R : Type 0} (slot : N → S) (none : S) (mine : T → Option L
     found_link e h =
         let a = one_at row_count w.rows h in
         let b = one_at link_count (row_at a.0) (sym (row_is a.0) ∙ a.1.0) in
-        let r = length_one (letters_of carried (F.mail a.0 b.0)) (sym (link_is a.0 b.0) ∙ b.1.0) in
-        (On a.0 b.0, r.0, record {
-          slots = no_slots e;
-          here = r.1;
-          others = λ x y n. elim (cases_eq x a.0) [
-            | inl ex ↦
-                let off : y ≡ b.0 → ⊥ = λ ey. n ex ey in
-                rw ex (length_zero (letters_of carried (F.mail a.0 y)) (sym (link_is a.0 y) ∙ b.1.1 y off))
-            | inr nx ↦ row_empty x y (a.1.1 x nx)
-          ];
-        })
+        let r = length_one (letters_of carried (F.mail a.0 b.0)) (sym (link_is a.0 b.0) ∙ b.1.0) in (
+          On a.0 b.0,
+          r.0,
+          record {
+            slots = no_slots e;
+            here = r.1;
+            others = λ x y n. elim (cases_eq x a.0) [
+              | inl ex ↦
+                  let off : y ≡ b.0 → ⊥ = λ ey. n ex ey in
+                  rw ex (length_zero (letters_of carried (F.mail a.0 y)) (sym (link_is a.0 y) ∙ b.1.1 y off))
+              | inr nx ↦ row_empty x y (a.1.1 x nx)
+            ];
+          },
+        )
 
     found_by : (n m : ℕ) → total node_count w.nodes ≡ n → rows_count ≡ m → n + m ≡ 1 → Found
     found_by zero m e f h = found_link e (omega (arith, f, h))

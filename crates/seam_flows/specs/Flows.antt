@@ -46,12 +46,12 @@ abbrev pub comes : {L : Type 0} → Option (ℕ × L) → Option L
 comes None = None
 comes (Some p) = Some p.1
 
--- the letter stands first in its link to node k, before the rest
+-- the letter is the first of its link to node k, before the rest
 abbrev pub IsHead : {L : Type 0} → (ℕ → ℕ → List L) → ℕ → Option (ℕ × L) → List L → Type 0
 IsHead mail k None rest = Unit {0}
 IsHead mail k (Some p) rest = mail p.0 k ≡ p.1 ∷ rest
 
--- what is left of the link from x to y after node k took its letter
+-- what is left of the link from x to y after node k was fed its letter
 abbrev pub mail_left : {L : Type 0} → (ℕ → ℕ → List L) → ℕ → Option (ℕ × L) → List L → ℕ → ℕ → List L
 mail_left mail k None rest x y = mail x y
 mail_left mail k (Some p) rest x y = if (x == p.0) && (y == k) then rest else mail x y

@@ -68,7 +68,15 @@ pub fn a_move_keeps_facts<S, L, A: Moves<S, L>, P: SlotFact<S>, Q: LetterFact<L>
 {}
 
 /// A step of a flow is a step of the flow through other eyes, and of the links to one node alone.
-pub fn a_flow_is_seen_through_other_eyes<S, L, R, K, A: Moves<S, L>, B: Moves<R, K>, C: Moves<S, L>>()
+pub fn a_flow_is_seen_through_other_eyes<
+    S,
+    L,
+    R,
+    K,
+    A: Moves<S, L>,
+    B: Moves<R, K>,
+    C: Moves<S, L>,
+>()
     ensures narrow { (f : S → R) (mine : L → Option K) (w v : Flow S L) (g : Goes A.are w v) →
         B.are g.k (f (w.slot g.k)) (carried_in mine (comes g.input)) (f (v.slot g.k)) (λ j. letters_of mine (g.out j)) →
         Goes B.are (narrow f mine w) (narrow f mine v) }
@@ -90,7 +98,7 @@ pub fn the_newest_entry_is_kept<S, L, V, A: Moves<S, L>>()
         ((x : ℕ) → w.mail x k ≡ []) → entry (w.slot k) ≡ (key, c) }
 {}
 
-/// What a list of sends says of an entity: one item at its target alone, items about others nothing; what is spread over the nodes, or
+/// What a list of sends is to one entity: one item at its target alone, items about others nothing; what is spread over the nodes, or
 /// chosen for each of a range of them, comes to each node.
 pub fn sends_are_seen<T, L>()
     ensures one { (mine : T → Option L) (to j : ℕ) (m : T) → letters_of mine (items_to j ((to, m) ∷ [])) ≡ (if j == to then more_letter (mine m) [] else []) }

@@ -7,7 +7,7 @@ ghost use Rattle.seam_machine.specs.Views.{Stepped, NetView, PartsView};
 ghost use Rattle.seam_machine.specs.Nets.{link, enabled, happens, with_node, IsQuiet, IsSquare, AreParts};
 ghost use Rattle.seam_machine.specs.Events.{Occurs, EachNode, EachLink};
 
-/// An enabled event has a node and what it takes, and a task is taken where it is there. An event gives its node what the step
+/// An enabled event has a node and what it is fed, and a task is fed where it is there. An event gives its node what the step
 /// gives, and leaves the other nodes as they are.
 pub fn an_event_leaves_the_others<N, T>()
     ensures own { (steps : N → Input T → Stepped N T) (w : NetView N T) (e : Event) (o : Occurs w e) →
@@ -29,7 +29,7 @@ pub fn quiet_is_empty<N, T>()
         EachNode (λ k s. has_work s ≡ false) w.nodes → IsQuiet has_work w }
 {}
 
-/// Parts are the parts of one net alone; with n nodes, the link from a to b stands at place `a * n + b`.
+/// Parts are the parts of one net alone; with n nodes, the link from a to b is at place `a * n + b`.
 pub fn parts_are_the_net<N, T>()
     ensures same { (p : PartsView N T) (w v : NetView N T) → AreParts p w → AreParts p v → w ≡ v }
     ensures many { (p : PartsView N T) (w : NetView N T) → AreParts p w →

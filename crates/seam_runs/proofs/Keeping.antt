@@ -3,12 +3,12 @@ use Rattle.std.proofs.Common.{◌≡◌, ℕ, ◌<◌, List, [], ◌∷◌, ◌+
 use Rattle.std.specs.Prelude.{slice_get}
 use Rattle.seam_machine.specs.Views.{Stepped, NetView}
 use Rattle.seam_machine.specs.Sends.{AllBelow}
-use Rattle.seam_machine.specs.Nets.{link, put_all, send_all, row_less, rows_less, letter, input_from, rows_after_taking, happens, IsSquare}
+use Rattle.seam_machine.specs.Nets.{link, put_all, send_all, row_less, rows_less, letter, input_from, rows_after_feeding, happens, IsSquare}
 use Rattle.seam_machine.specs.Events.{Occurs, EachNode, EachLink, link_left, link_added}
 use Rattle.seam_runs.specs.Kept.{StaysTrue}
 use Rattle.seam_machine.specs.declared.machines.Input.{Input}
 use Rattle.seam_machine.specs.declared.machines.Event.{Event}
-use Rattle.seam_machine.proofs.Occurring.{happens-is, nodes-happens, node_within, length-rows_after_taking, rows_after_wide}
+use Rattle.seam_machine.proofs.Occurring.{happens-is, nodes-happens, node_within, length-rows_after_feeding, rows_after_wide}
 use Rattle.seam_machine.proofs.Puts.{link-send_all, link-rows_less}
 use Rattle.seam_machine.proofs.Writes.{Written, here, other, written, slice_get-set}
 
@@ -27,20 +27,20 @@ taken_left rows a k x y i [] h e = cc
 taken_left rows a k x y i (m ∷ ms) h e = link-rows_less rows a k x y m ms h
 
 -- what an event leaves of each link
-pub link-rows_after_taking : {M : Type 0} (rows : List (List (List M))) (k : ℕ) (from : Option ℕ) (i : Input M) → input_from rows k from ≡ Some i → (x y : ℕ) → link (rows_after_taking rows k from) x y ≡ link_left rows k from x y
-link-rows_after_taking rows k None i e x y = refl
-link-rows_after_taking rows k (Some a) i e x y = taken_left rows a k x y i (link rows a k) refl e
+pub link-rows_after_feeding : {M : Type 0} (rows : List (List (List M))) (k : ℕ) (from : Option ℕ) (i : Input M) → input_from rows k from ≡ Some i → (x y : ℕ) → link (rows_after_feeding rows k from) x y ≡ link_left rows k from x y
+link-rows_after_feeding rows k None i e x y = refl
+link-rows_after_feeding rows k (Some a) i e x y = taken_left rows a k x y i (link rows a k) refl e
 
 -- each link after an event, exactly: what was left of it, and what the step added
 pub link_is_exact : {N M : Type 0} (steps : N → Input M → Stepped N M) (w : NetView N M) (e : Event) (o : Occurs w e) → IsSquare w → AllBelow (length w.nodes) (steps o.node o.input).sent → (x y : ℕ) → link (happens steps w e).rows x y ≡ link_left w.rows e.node e.from x y ++ link_added e.node (steps o.node o.input).sent x y
 link_is_exact steps w e o q b x y =
-    let rows = rows_after_taking w.rows e.node e.from in
+    let rows = rows_after_feeding w.rows e.node e.from in
     let sent = (steps o.node o.input).sent in
     let lt = node_within w e o in
-    let n : length rows ≡ length w.nodes = length-rows_after_taking w.rows e.node e.from ∙ q.rows in
+    let n : length rows ≡ length w.nodes = length-rows_after_feeding w.rows e.node e.from ∙ q.rows in
     let short : e.node < length rows = omega (arith, lt, n) in
     let wide : length (get_or rows e.node []) ≡ length w.nodes = rows_after_wide (length w.nodes) w.rows e.node e.from q.links e.node [] short in
-    ap (λ v. link v.rows x y) (happens-is steps w e o) ∙ (link-send_all rows e.node sent x y (rw wide b) short ∙ ap (λ l. l ++ link_added e.node sent x y) (link-rows_after_taking w.rows e.node e.from o.input o.is_fed x y))
+    ap (λ v. link v.rows x y) (happens-is steps w e o) ∙ (link-send_all rows e.node sent x y (rw wide b) short ∙ ap (λ l. l ++ link_added e.node sent x y) (link-rows_after_feeding w.rows e.node e.from o.input o.is_fed x y))
 
 module _ {M : Type 0} (Q : ℕ → ℕ → List M → Type 0) where
   written_row : (a x y : ℕ) (row : List (List M)) (rows : List (List (List M))) (got : List (List M)) → EachLink Q rows → ((b : ℕ) → Q a b (get_or row b [])) → Written rows row [] a x got → Q x y (get_or got y [])
@@ -58,9 +58,9 @@ module _ {M : Type 0} (Q : ℕ → ℕ → List M → Type 0) where
   each_taken rows a k each less =
       each_row rows a (row_less (get_or rows a []) k) each (λ y. written_link a k y (get_or rows a []) (drop 1 (link rows a k)) (get_or (set (get_or rows a []) k (drop 1 (link rows a k))) y []) (λ b. each a b) less (written (get_or rows a []) k (drop 1 (link rows a k)) [] y))
 
-  each_after_taking : (rows : List (List (List M))) (k : ℕ) (from : Option ℕ) → EachLink Q rows → ((a : ℕ) → from ≡ Some a → Q a k (drop 1 (link rows a k))) → EachLink Q (rows_after_taking rows k from)
-  each_after_taking rows k None each less = each
-  each_after_taking rows k (Some a) each less = each_taken rows a k each (less a refl)
+  each_after_feeding : (rows : List (List (List M))) (k : ℕ) (from : Option ℕ) → EachLink Q rows → ((a : ℕ) → from ≡ Some a → Q a k (drop 1 (link rows a k))) → EachLink Q (rows_after_feeding rows k from)
+  each_after_feeding rows k None each less = each
+  each_after_feeding rows k (Some a) each less = each_taken rows a k each (less a refl)
 
   put_keeps : (k : ℕ) (row : List (List M)) (ps : List (ℕ × M)) → ((b : ℕ) → Q k b (get_or row b [])) → StaysTrue Q k ps → (b : ℕ) → Q k b (get_or (put_all row ps) b [])
   put_keeps k row [] each more b = each b
@@ -71,7 +71,7 @@ module _ {M : Type 0} (Q : ℕ → ℕ → List M → Type 0) where
   each_sent : (rows : List (List (List M))) (k : ℕ) (ps : List (ℕ × M)) → EachLink Q rows → StaysTrue Q k ps → EachLink Q (send_all rows k ps)
   each_sent rows k ps each more = each_row rows k (put_all (get_or rows k []) ps) each (put_keeps k (get_or rows k []) ps (λ b. each k b) more)
 
-  -- Q stays true of each link where it is true of what is left of the one that was taken from, and stays true as items are put
+  -- Q stays true of each link where it is true of what is left of the one that the event fed from, and stays true as items are put
   pub each_link : {N : Type 0} (steps : N → Input M → Stepped N M) (w : NetView N M) (e : Event) (o : Occurs w e) → EachLink Q w.rows → ((a : ℕ) → e.from ≡ Some a → Q a e.node (drop 1 (link w.rows a e.node))) → StaysTrue Q e.node (steps o.node o.input).sent → EachLink Q (happens steps w e).rows
   each_link steps w e o each less more =
-      rw (happens-is steps w e o) (each_sent (rows_after_taking w.rows e.node e.from) e.node (steps o.node o.input).sent (each_after_taking w.rows e.node e.from each less) more)
+      rw (happens-is steps w e o) (each_sent (rows_after_feeding w.rows e.node e.from) e.node (steps o.node o.input).sent (each_after_feeding w.rows e.node e.from each less) more)

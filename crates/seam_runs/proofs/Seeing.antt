@@ -4,7 +4,7 @@ use Rattle.std.specs.Prelude.{slice_get, option_map}
 use Rattle.std.proofs.lemmas.List.{map-set}
 use Rattle.std.proofs.lemmas.Option.{slice_get-map}
 use Rattle.seam_machine.specs.Views.{Stepped, NetView}
-use Rattle.seam_machine.specs.Nets.{input_from, rows_after_taking, send_all, happens, happens_by, is_ready, enabled, run, AllEnabled, LeadsTo}
+use Rattle.seam_machine.specs.Nets.{input_from, rows_after_feeding, send_all, happens, happens_by, is_ready, enabled, run, AllEnabled, LeadsTo}
 use Rattle.seam_runs.specs.Seen.{seen, SeesSteps, SeesWork}
 use Rattle.seam_machine.specs.declared.machines.Input.{Input}
 use Rattle.seam_machine.specs.declared.machines.Input.TheVariants.{Task, From}
@@ -14,7 +14,7 @@ module _ {N V M : Type 0} (f : N → V) (steps : N → Input M → Stepped N M) 
   seen_by : (w : NetView N M) (k : ℕ) (from : Option ℕ) (o : Option N) (i : Option (Input M)) → seen f (happens_by steps w k from o i) ≡ happens_by seen_steps (seen f w) k from (option_map f o) i
   seen_by w k from (Some s) (Some i) =
       let one : map f (set w.nodes k (steps s i).state) ≡ set (map f w.nodes) k (seen_steps (f s) i).state = map-set f w.nodes k (steps s i).state ∙ ap (set (map f w.nodes) k) (sees.state s i) in
-      let two : send_all (rows_after_taking w.rows k from) k (steps s i).sent ≡ send_all (rows_after_taking w.rows k from) k (seen_steps (f s) i).sent = ap (send_all (rows_after_taking w.rows k from) k) (sees.sent s i) in
+      let two : send_all (rows_after_feeding w.rows k from) k (steps s i).sent ≡ send_all (rows_after_feeding w.rows k from) k (seen_steps (f s) i).sent = ap (send_all (rows_after_feeding w.rows k from) k) (sees.sent s i) in
       λ j. record { nodes = one j; rows = two j }
   seen_by w k from (Some s) None = refl
   seen_by w k from None i = refl

@@ -7,7 +7,7 @@ use Rattle.std.proofs.lemmas.List.Elements.{All-head, All-tail}
 use Rattle.std.proofs.lemmas.Option.{slice_get_within, get_or_from_slice_get}
 use Rattle.seam_machine.specs.Views.{Stepped, NetView}
 use Rattle.seam_machine.specs.Sends.{AllBelow}
-use Rattle.seam_machine.specs.Nets.{link, put_all, send_all, row_less, rows_less, letter, input_from, rows_after_taking, stepped_net, happens, IsSquare}
+use Rattle.seam_machine.specs.Nets.{link, put_all, send_all, row_less, rows_less, letter, input_from, rows_after_feeding, stepped_net, happens, IsSquare}
 use Rattle.seam_machine.specs.Totals.{total}
 use Rattle.seam_runs.specs.Weights.{totals, row_weight, links_weight, weight, input_weight, sent_weight}
 use Rattle.seam_machine.specs.Events.{Occurs}
@@ -16,7 +16,7 @@ use Rattle.seam_machine.specs.declared.machines.Input.TheVariants.{Task, From}
 use Rattle.seam_machine.specs.declared.machines.Event.{Event}
 use Rattle.seam_machine.proofs.Totals.{total-push, total-set, total-drop, get_or-le-total}
 use Rattle.seam_machine.proofs.Puts.{link_is_in}
-use Rattle.seam_machine.proofs.Occurring.{happens-is, length-rows_after_taking, rows_after_wide}
+use Rattle.seam_machine.proofs.Occurring.{happens-is, length-rows_after_feeding, rows_after_wide}
 
 totals-set : {X : Type 0} (f : ℕ → X → ℕ) (xs : List X) (i k : ℕ) (y d : X) → k < length xs → totals f i (set xs k y) + f (i + k) (get_or xs k d) ≡ totals f i xs + f (i + k) y
 totals-set f [] i k y d h = absurd (omega (arith, h))
@@ -63,7 +63,7 @@ links_weight-send_all g rows a ps h b =
     let two = row_weight-put_all g (get_or rows a []) ps b in
     omega (arith, one, two)
 
--- the weight of all links after a message was taken
+-- the weight of all links after a message was fed
 pub links_weight-rows_less : {M : Type 0} (g : ℕ → M → ℕ) (rows : List (List (List M))) (a b : ℕ) (m : M) (ms : List M) → link rows a b ≡ m ∷ ms → a < length rows → b < length (get_or rows a []) → links_weight g (rows_less rows a b) + g b m ≡ links_weight g rows
 links_weight-rows_less g rows a b m ms e h k =
     let one = total-set (row_weight g) rows a (row_less (get_or rows a []) b) [] h in
@@ -87,11 +87,11 @@ module _ {N M : Type 0} (f : N → ℕ) (g : ℕ → M → ℕ) (w : NetView N M
   from_weighs a (From b x) (m ∷ ms) e l =
       let same : m ≡ x = cc in
       let lt = link_is_in w.rows a k m ms e in
-      let one = stepped_weighs (rows_less w.rows a k) (length-rows_after_taking w.rows k (Some a) ∙ q.rows) (rows_after_wide (length w.nodes) w.rows k (Some a) q.links) in
+      let one = stepped_weighs (rows_less w.rows a k) (length-rows_after_feeding w.rows k (Some a) ∙ q.rows) (rows_after_wide (length w.nodes) w.rows k (Some a) q.links) in
       let two = links_weight-rows_less g w.rows a k m ms e lt.0 lt.1 in
       omega (arith, one, two, ap (g k) same)
 
-  by_weighs : (from : Option ℕ) (i : Input M) → input_from w.rows k from ≡ Some i → weight f g (stepped_net w.nodes (rows_after_taking w.rows k from) k t) + (f s + input_weight g k i) ≡ weight f g w + (f t.state + sent_weight g t.sent)
+  by_weighs : (from : Option ℕ) (i : Input M) → input_from w.rows k from ≡ Some i → weight f g (stepped_net w.nodes (rows_after_feeding w.rows k from) k t) + (f s + input_weight g k i) ≡ weight f g w + (f t.state + sent_weight g t.sent)
   by_weighs None Task e = let one = stepped_weighs w.rows q.rows q.links in omega (arith, one)
   by_weighs None (From a m) e = cc
   by_weighs (Some a) i e = from_weighs a i (link w.rows a k) refl e

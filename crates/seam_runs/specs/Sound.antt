@@ -6,7 +6,7 @@ use Rattle.seam_machine.specs.Events.{EachNode}
 use Rattle.seam_machine.specs.Sends.{AllBelow}
 use Rattle.seam_machine.specs.declared.machines.Input.{Input}
 
--- a machine as its definitions say it: whether a task is there, how many nodes it knows, what is true of its states, what a step does;
+-- a machine by its definitions: whether a task is there, how many nodes it knows, what is true of its states, what a step does;
 -- a step sends to those nodes alone, and keeps their number and what is true
 pub record MachineLaws (N M : Type 0) : Type 1 where
   pub has_work : N → Bool

@@ -128,7 +128,7 @@ pub fn each_node_is_kept<N, T, P: NodeFact<N>>()
         EachNode P.is (happens steps w e).nodes }
 {}
 
-/// A fact about each link stays true where it is true of what is left of the link that was taken from, and stays true of the
+/// A fact about each link stays true where it is true of what is left of the link that the event fed from, and stays true of the
 /// node's links as its items are put.
 pub fn each_link_is_kept<N, T, Q: LinkFact<T>>()
     ensures { (steps : N → Input T → Stepped N T) (w : NetView N T) (e : Event) (o : Occurs w e) →
