@@ -1,12 +1,9 @@
 -- A token that may be anywhere, and is passed on: where it is after a step.
-use Rattle.std.proofs.Common.{◌≡◌, ℕ, List, [], ◌∷◌, ◌++◌, Option, None, Some, ap, ◌∙◌, sym, subst, inl, inr}
-use Rattle.std.proofs.lemmas.Bool.{cases_eq}
+use Rattle.std.proofs.Common.{◌≡◌, ℕ, List, Option, None, Some, ap, ◌∙◌, sym, subst}
 use Rattle.seam_flows.specs.Flows.{Flow, Goes, comes, letters_of}
-use Rattle.seam_flows.proofs.Bridge.{letters_of-append}
-use Rattle.seam_flows.proofs.Following.{change}
-use Rattle.seam_flows.specs.Tokens.{carried_in, Place, In, On, SoleOn, Sole, Nobody, SendsNone, SendsOne}
+use Rattle.seam_flows.specs.Tokens.{carried_in, In, On, SoleOn, Sole, Nobody, SendsNone, SendsOne}
 use Rattle.seam_delivery.specs.Lives.{Lasts}
-use Rattle.seam_flows.proofs.TokenLemmas.{one_more, joined, sole_here, first_is, sole_first, sole_still, landed_rest, gone_more, sent_more, same_mail, same_held, sole_landed, sole_left, sole_relayed}
+use Rattle.seam_flows.proofs.TokenLemmas.{one_more, sole_here, first_is, sole_first, sole_still, same_mail, same_held, sole_landed, sole_left, sole_relayed}
 use Rattle.seam_delivery.proofs.Lives.{nobody_still, nobody_met, nobody_ends}
 
 module _ {S L R : Type 0} (held : S → Option R) (carried : L → Option R) where

@@ -1,5 +1,5 @@
 -- A token that begins and ends: where it is after a step.
-use Rattle.std.proofs.Common.{◌≡◌, ℕ, List, [], ◌∷◌, ◌++◌, Option, None, Some, ap, ◌∙◌, subst, inl, inr}
+use Rattle.std.proofs.Common.{◌≡◌, ℕ, List, [], ◌++◌, Option, None, Some, ap, ◌∙◌, subst, inl, inr}
 use Rattle.std.proofs.lemmas.Bool.{cases_eq}
 use Rattle.seam_flows.specs.Flows.{Flow, Goes, comes, letters_of}
 use Rattle.seam_flows.proofs.Bridge.{letters_of-append}

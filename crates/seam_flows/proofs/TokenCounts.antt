@@ -1,13 +1,13 @@
 -- Tokens counted in a net, and the one token at one place: the two are one fact.
-use Rattle.std.proofs.Common.{◌≡◌, ℕ, zero, suc, ◌+◌, ◌<◌, ◌≤◌, ◌⊎◌, Bool, true, false, List, [], ◌∷◌, ◌++◌, length, Option, None, Some, get_or, refl, sym, ap, ◌∙◌, subst, arith, inl, inr}
+use Rattle.std.proofs.Common.{◌≡◌, ℕ, zero, suc, ◌+◌, List, [], ◌∷◌, length, Option, None, Some, get_or, refl, sym, ap, ◌∙◌, arith, inl, inr}
 use Rattle.std.specs.Prelude.{slice_get}
 use Rattle.std.proofs.lemmas.Bool.{cases_eq}
 use Rattle.seam_machine.specs.Totals.{total}
 use Rattle.seam_machine.specs.Views.{NetView}
 use Rattle.seam_machine.specs.Nets.{link}
-use Rattle.seam_runs.specs.Weights.{totals, row_weight, links_weight}
+use Rattle.seam_runs.specs.Weights.{totals, row_weight}
 use Rattle.seam_flows.specs.Flows.{Flow, more_letter, letters_of, slot_at, flow_of}
-use Rattle.seam_flows.specs.Tokens.{carried_in, Place, In, On, SoleIn, SoleOn, Sole, Nobody, one_if, holders}
+use Rattle.seam_flows.specs.Tokens.{carried_in, Place, In, On, Sole, Nobody, one_if, holders}
 
 -- ---- sums that are 0 or 1
 

@@ -1,9 +1,9 @@
 -- The one token stays the one: where it is and what it is after a step.
-use Rattle.std.proofs.Common.{◌≡◌, ℕ, ◌⊎◌, List, [], ◌∷◌, ◌++◌, Option, None, Some, refl, sym, ap, ◌∙◌, subst, inl, inr}
+use Rattle.std.proofs.Common.{◌≡◌, ℕ, List, [], ◌∷◌, ◌++◌, Option, None, Some, refl, sym, ap, ◌∙◌, subst, inl, inr}
 use Rattle.std.proofs.lemmas.Bool.{cases_eq}
 use Rattle.std.proofs.lemmas.List.{append-nil}
 use Rattle.seam_flows.specs.Flows.{Flow, Goes, comes, IsHead, more_letter, letters_of}
-use Rattle.seam_flows.specs.Tokens.{carried_in, Place, In, On, SoleIn, SoleOn, Sole, Nobody, SendsNone, SendsOne, Turned, Handles, still, turns, lands, leaves, relays, place_after, token_after, HasOne}
+use Rattle.seam_flows.specs.Tokens.{carried_in, Place, In, On, SoleIn, SoleOn, Sole, SendsNone, SendsOne, Turned, Handles, still, turns, lands, leaves, relays, place_after, token_after, HasOne}
 use Rattle.seam_flows.proofs.Bridge.{letters_of-append}
 use Rattle.seam_flows.proofs.Following.{Rest, whole, tail, More, own, none, change}
 

@@ -1,5 +1,5 @@
 -- A flow through other eyes: less of each slot and of each letter, or the links to one node alone.
-use Rattle.std.specs.Prelude.{ℕ, ◌==◌, List, [], Option, None, Some, if◌then◌else◌}
+use Rattle.std.specs.Prelude.{ℕ, ◌==◌, [], Option, None, Some, if◌then◌else◌}
 use Rattle.seam_flows.specs.Flows.{Flow, letters_of, given_from}
 
 -- the flow with f of each slot, and of the letters those that `mine` gives something of

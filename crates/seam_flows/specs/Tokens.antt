@@ -53,13 +53,18 @@ Turned Acts r q = (q ≡ r) ⊎ Acts r q
 -- or pass on the one that came
 pub data Handles {S L R : Type 0} (held : S → Option R) (carried : L → Option R) (Acts : R → R → Type 0) (s : S) (i : Option L) (t : S) (out : ℕ → List L) : Type 0 where
   still : held t ≡ held s → carried_in carried i ≡ None → SendsNone carried out → Handles held carried Acts s i t out
-  turns : (r q : R) → held s ≡ Some r → held t ≡ Some q → Turned Acts r q → carried_in carried i ≡ None → SendsNone carried out → Handles held carried Acts s i t out
-  lands : (r q : R) → carried_in carried i ≡ Some r → held t ≡ Some q → Turned Acts r q → SendsNone carried out → Handles held carried Acts s i t out
-  leaves : (r q : R) (to : ℕ) → held s ≡ Some r → held t ≡ None → Turned Acts r q → carried_in carried i ≡ None → SendsOne carried out to q → Handles held carried Acts s i t out
-  relays : (r q : R) (to : ℕ) → carried_in carried i ≡ Some r → held t ≡ held s → Turned Acts r q → SendsOne carried out to q → Handles held carried Acts s i t out
+  turns : (r q : R) → held s ≡ Some r → held t ≡ Some q → Turned Acts r q → carried_in carried i ≡ None → SendsNone carried out
+      → Handles held carried Acts s i t out
+  lands : (r q : R) → carried_in carried i ≡ Some r → held t ≡ Some q → Turned Acts r q → SendsNone carried out
+      → Handles held carried Acts s i t out
+  leaves : (r q : R) (to : ℕ) → held s ≡ Some r → held t ≡ None → Turned Acts r q → carried_in carried i ≡ None
+      → SendsOne carried out to q → Handles held carried Acts s i t out
+  relays : (r q : R) (to : ℕ) → carried_in carried i ≡ Some r → held t ≡ held s → Turned Acts r q → SendsOne carried out to q
+      → Handles held carried Acts s i t out
 
 -- where the token is after a step of node k
-abbrev pub place_after : {S L R : Type 0} {held : S → Option R} {carried : L → Option R} {Acts : R → R → Type 0} {s t : S} {i : Option L} {out : ℕ → List L} → ℕ → Handles held carried Acts s i t out → Place → Place
+abbrev pub place_after : {S L R : Type 0} {held : S → Option R} {carried : L → Option R} {Acts : R → R → Type 0} {s t : S} {i : Option L} {out : ℕ → List L}
+    → ℕ → Handles held carried Acts s i t out → Place → Place
 place_after k (still e n o) p = p
 place_after k (turns r q a b c n o) p = p
 place_after k (lands r q a b c o) p = In k
@@ -67,7 +72,8 @@ place_after k (leaves r q to a b c n o) p = On k to
 place_after k (relays r q to a b c o) p = On k to
 
 -- what the token is after the step
-abbrev pub token_after : {S L R : Type 0} {held : S → Option R} {carried : L → Option R} {Acts : R → R → Type 0} {s t : S} {i : Option L} {out : ℕ → List L} → Handles held carried Acts s i t out → R → R
+abbrev pub token_after : {S L R : Type 0} {held : S → Option R} {carried : L → Option R} {Acts : R → R → Type 0} {s t : S} {i : Option L} {out : ℕ → List L}
+    → Handles held carried Acts s i t out → R → R
 token_after (still e n o) x = x
 token_after (turns r q a b c n o) x = q
 token_after (lands r q a b c o) x = q

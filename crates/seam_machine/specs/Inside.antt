@@ -35,7 +35,8 @@ pub record Delivers {M : Type 0} (row : List (List M)) (items : List (ℕ × M))
   pub wide : length row' ≡ length row
   pub busy_len : length busy' ≡ length busy
   pub targets : AllBelow (length row) items'
-  pub counts : (b : ℕ) → slice_index_or busy' b 0 + filled (slice_index_or row b []) ≡ slice_index_or busy b 0 + filled (slice_index_or row' b [])
+  pub counts : (b : ℕ)
+      → slice_index_or busy' b 0 + filled (slice_index_or row b []) ≡ slice_index_or busy b 0 + filled (slice_index_or row' b [])
   pub fits : CountsFit busy' row'
 
 -- at most 255 nodes, a link for each pair, a count of filled links for each node, and what waits goes from a node to nodes

@@ -46,7 +46,8 @@ rows_after_feeding rows k (Some a) = rows_less rows a k
 abbrev pub stepped_net : {N M : Type 0} → List N → List (List (List M)) → ℕ → Stepped N M → NetView N M
 stepped_net nodes rows k t = record { nodes = slice_set nodes k t.state; rows = send_all rows k t.sent }
 
-abbrev pub happens_by : {N M : Type 0} → (N → Input M → Stepped N M) → NetView N M → ℕ → Option ℕ → Option N → Option (Input M) → NetView N M
+abbrev pub happens_by : {N M : Type 0} → (N → Input M → Stepped N M) → NetView N M → ℕ → Option ℕ → Option N → Option (Input M)
+    → NetView N M
 happens_by steps w k from (Some s) (Some i) = stepped_net w.nodes (rows_after_feeding w.rows k from) k (steps s i)
 happens_by steps w k from (Some s) None = w
 happens_by steps w k from None i = w

@@ -91,7 +91,11 @@ impl<M: Machine> Net<M> {
     /// A net with empty links.
     pub fn new(alloc: Global, nodes: Vec<M>) -> Result<Net<M>, AllocError>
         requires { length nodes.items < 256 }
-        ensures { IfOk result (λ w. w ≡ record { nodes = nodes.items; rows = replicate (length nodes.items) (replicate (length nodes.items) []) }) }
+        ensures { IfOk result (λ w. w ≡ record {
+          nodes = nodes.items;
+          rows = replicate (length nodes.items)
+              (replicate (length nodes.items) []);
+        }) }
     {
         let rows = empty_rows(alloc, nodes.len())?;
         let links = Links::of_rows(alloc, rows)?;

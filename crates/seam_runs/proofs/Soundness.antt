@@ -1,9 +1,9 @@
 -- A net of machines keeps its shape, and its nodes send to its nodes alone.
-use Rattle.std.proofs.Common.{◌≡◌, ℕ, Bool, List, length, ap, ◌∙◌, sym, subst}
+use Rattle.std.proofs.Common.{◌≡◌, ℕ, List, length, ap, ◌∙◌, sym, subst}
 use Rattle.std.specs.List.{All}
 use Rattle.std.proofs.lemmas.List.Elements.{All-set}
 use Rattle.std.proofs.lemmas.Option.{get_or_from_slice_get}
-use Rattle.seam_machine.specs.Views.{Stepped, NetView}
+use Rattle.seam_machine.specs.Views.{NetView}
 use Rattle.seam_machine.specs.Sends.{AllBelow}
 use Rattle.seam_machine.specs.Nets.{happens, LeadsTo, ArePeers}
 use Rattle.seam_machine.specs.Events.{Occurs}

@@ -1,5 +1,5 @@
 -- A net whose nodes are seen through a function.
-use Rattle.std.specs.Prelude.{◌≡◌, ℕ, Bool, map}
+use Rattle.std.specs.Prelude.{◌≡◌, Bool, map}
 use Rattle.seam_machine.specs.Views.{Stepped, NetView}
 use Rattle.seam_machine.specs.declared.machines.Input.{Input}
 

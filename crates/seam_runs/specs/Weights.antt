@@ -39,5 +39,6 @@ counted steps kind w [] = 0
 counted steps kind w (e ∷ es) = (if kind w e then 1 else 0) + counted steps kind (happens steps w e) es
 
 -- the event lowers the number; an event of the kind at least does not raise it
-abbrev pub Lowers : {N M : Type 0} → (N → Input M → Stepped N M) → (NetView N M → Event → Bool) → (NetView N M → ℕ) → NetView N M → Event → Type 0
+abbrev pub Lowers : {N M : Type 0} → (N → Input M → Stepped N M) → (NetView N M → Event → Bool) → (NetView N M → ℕ) → NetView N M → Event
+    → Type 0
 Lowers steps kind n w e = n (happens steps w e) + 1 ≤ n w + (if kind w e then 1 else 0)

@@ -99,7 +99,8 @@ pub fn runs_keep<N, T, F: NetFact<N, T>>()
 /// number at its start and its events of the kind.
 pub fn runs_end<N, T, F: NetFact<N, T>, G: NetMeasure<N, T>>()
     ensures { (has_work : N → Bool) (steps : N → Input T → Stepped N T) →
-        ((w : NetView N T) (e : Event) → F.holds w → enabled has_work w e ≡ true → F.holds (happens steps w e) × Lowers steps G.kind G.number w e) →
+        ((w : NetView N T) (e : Event) → F.holds w → enabled has_work w e ≡ true →
+        F.holds (happens steps w e) × Lowers steps G.kind G.number w e) →
         (w v : NetView N T) (es : List Event) → F.holds w → LeadsTo has_work steps w es v →
         length es + G.number v ≤ G.number w + counted steps G.kind w es }
 {}
@@ -111,7 +112,8 @@ pub fn links_are_exact<N, T>()
         link (happens steps w e).rows x y ≡ link_left w.rows e.node e.from x y ++ link_added e.node (steps o.node o.input).sent x y }
 {}
 
-/// The weight of a net, where a message weighs by the node to which it goes, changes by an event as that of its node and input does, so what a step keeps, lowers or raises, the event does.
+/// The weight of a net, where a message weighs by the node to which it goes, changes by an event as that of its node and input does, so
+/// what a step keeps, lowers or raises, the event does.
 /// A node and its input weigh at most what the net weighs.
 pub fn weights_move<N, T>()
     ensures moved { (f : N → ℕ) (g : ℕ → T → ℕ) (steps : N → Input T → Stepped N T) (w : NetView N T) (e : Event) (o : Occurs w e) →
@@ -148,9 +150,11 @@ pub fn soundness_is_kept<M: Machine>()
 /// Where a function sees each step of a node as a step of what it sees, it sees each event and each run of a net of nodes as that
 /// event and that run of the net that it sees, enabled where it is seen to be.
 pub fn nets_are_seen<N, V, T>()
-    ensures event { (f : N → V) (steps : N → Input T → Stepped N T) (seen_steps : V → Input T → Stepped V T) → SeesSteps f steps seen_steps →
+    ensures event { (f : N → V) (steps : N → Input T → Stepped N T) (seen_steps : V → Input T → Stepped V T) →
+        SeesSteps f steps seen_steps →
         (w : NetView N T) (e : Event) → seen f (happens steps w e) ≡ happens seen_steps (seen f w) e }
-    ensures run { (f : N → V) (has_work : N → Bool) (seen_work : V → Bool) (steps : N → Input T → Stepped N T) (seen_steps : V → Input T → Stepped V T) →
+    ensures run { (f : N → V) (has_work : N → Bool) (seen_work : V → Bool) (steps : N → Input T → Stepped N T) (seen_steps : V →
+        Input T → Stepped V T) →
         SeesSteps f steps seen_steps → SeesWork f has_work seen_work → (w v : NetView N T) (es : List Event) →
         LeadsTo has_work steps w es v → LeadsTo seen_work seen_steps (seen f w) es (seen f v) }
     ensures enabled { (f : N → V) (has_work : N → Bool) (seen_work : V → Bool) → SeesWork f has_work seen_work →

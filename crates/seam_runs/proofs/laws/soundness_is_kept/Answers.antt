@@ -1,4 +1,3 @@
-use Rattle.seam_runs.specs.Sound.{MachineLaws}
 use Rattle.seam_runs.proofs.Soundness.{sound_leads, sound_sends}
 use Rattle.seam_runs.proofs.laws.soundness_is_kept.Goals as goal
 
