@@ -27,10 +27,10 @@ module _ (held middle inner : Group) (below : IsWithin middle held) (within : Is
       elim (cases_Bool (in_group p.flag held)) [
         | inl in_held ↦ elim (cases_Bool (in_group p.flag middle)) [
           | inl in_middle ↦
-              let front = ap (projected (p ∷ ps) middle inner) (projected-shown p ps held middle v values in_held in_middle) in
+              let middle_is = ap (projected (p ∷ ps) middle inner) (projected-shown p ps held middle v values in_held in_middle) in
               elim (cases_Bool (in_group p.flag inner)) [
-                | inl in_inner ↦ front ∙ projected-shown p ps middle inner v (projected ps held middle values) in_middle in_inner ∙ ap (λ l. v ∷ l) (projected-projected ps values) ∙ sym (projected-shown p ps held inner v values in_held in_inner)
-                | inr out ↦ front ∙ projected-hidden p ps middle inner v (projected ps held middle values) in_middle out ∙ projected-projected ps values ∙ sym (projected-hidden p ps held inner v values in_held out)
+                | inl in_inner ↦ middle_is ∙ projected-shown p ps middle inner v (projected ps held middle values) in_middle in_inner ∙ ap (λ l. v ∷ l) (projected-projected ps values) ∙ sym (projected-shown p ps held inner v values in_held in_inner)
+                | inr out ↦ middle_is ∙ projected-hidden p ps middle inner v (projected ps held middle values) in_middle out ∙ projected-projected ps values ∙ sym (projected-hidden p ps held inner v values in_held out)
               ]
           | inr out ↦
               ap (projected (p ∷ ps) middle inner) (projected-hidden p ps held middle v values in_held out) ∙ projected-out p ps middle inner (projected ps held middle values) out ∙ projected-projected ps values

@@ -1,4 +1,4 @@
--- Where a property's value stands among those of its group, and what taking a group shows of the values.
+-- The place of a property's value among those of its group, and what a projection shows of the values.
 use Rattle.std.proofs.Common.{◌≡◌, ℕ, zero, suc, refl, sym, ap, ◌∙◌, List, [], ◌∷◌, length, true, false, inl, inr, arith}
 use Rattle.std.specs.List.{zip}
 use Rattle.std.proofs.lemmas.Bool.{cases_Bool}

@@ -105,7 +105,7 @@ type_at ps k = slice_index_or (map (λ p. p.ty) ps) k type.Text
 abbrev pub value_at : List Value → ℕ → Value
 value_at values place = slice_index_or values place (Number (pos 0))
 
--- a group's values after an operation whose operand stands for the value `by`: the value of its property is replaced
+-- a group's values after an operation whose operand has the value `by`: the value of its property is replaced
 abbrev pub after_with : List Property → Group → List Value → Operation → Value → List Value
 after_with ps g values op by =
     let place = place_of ps g (target op) in

@@ -231,7 +231,7 @@ fn is_free(property: u16, body: &[Operation]) -> bool
     body.iter().all(|operation| operation.target() != property)
 }
 
-// Whether a property stands in the group.
+// Whether a property is in the group.
 fn is_in(properties: &[Property], group: Group, property: u16) -> bool
     ensures { result ≡ is_in properties.now group property }
 {

@@ -24,15 +24,15 @@ loop-property-preserved c =
             | then-in_group-2+in_ok-copy_at w' ↦
                 let seen : in_group p.flag g ≡ true = sym w.in_group-then-in_group.ensures ∙ w'.if-in_group-2.true in
                 let values = projected-more ps held g i p within here vs inside seen in
-                record { place = grind (arith, common_steps, more); behind = omega arith; values = grind (arith, common_steps, values, w'.in_ok-copy_at.ensures, old.values, old.place) }
+                record { place = grind (arith, common_steps, more); not_after = omega arith; values = grind (arith, common_steps, values, w'.in_ok-copy_at.ensures, old.values, old.place) }
             | else-in_group-2 w' ↦
                 let unseen : in_group p.flag g ≡ false = sym w.in_group-then-in_group.ensures ∙ w'.if-in_group-2.false in
                 let values = projected-unseen ps held g i p within here vs inside unseen in
-                record { place = grind (arith, common_steps, more); behind = omega arith; values = cc }
+                record { place = grind (arith, common_steps, more); not_after = omega arith; values = cc }
           ]
       | else-in_group w ↦
           let out : in_group p.flag held ≡ false = sym c.in_group.ensures ∙ w.if-in_group.false in
           let same = properties-same ps held i p within here out in
           let values = projected-other ps held g i p within here vs out in
-          record { place = cc; behind = omega arith; values = cc }
+          record { place = cc; not_after = omega arith; values = cc }
     ]

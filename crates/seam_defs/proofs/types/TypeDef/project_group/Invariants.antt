@@ -5,6 +5,6 @@ use Rattle.seam_defs.proofs.types.TypeDef.project_group.Given as goal
 abbrev pub invariant-loop-property : goal.invariant-loop-property
 invariant-loop-property l = record {
   place : l.place ≡ length (properties_of (take l.property-index l.property-items) l.held);
-  behind : l.place ≤ l.property-index;
+  not_after : l.place ≤ l.property-index;
   values : l.values.items ≡ projected (take l.property-index l.property-items) l.held l.group l.props;
 }
