@@ -103,6 +103,7 @@ impl<T: Drop> Table<T> {
         requires { set.contains self.old.room n ≡ true }
         ensures old { result ≡ map.get self.old.items n }
         ensures after { self.new ≡ with_item self.old n item }
+        ensures room { self.new.room ≡ self.old.room }
     {
         let Ok(old) = self.put(n, item) else {
             unreachable!()
