@@ -1,4 +1,4 @@
-use Rattle.std.proofs.Common.{◌≡◌, ◌≤◌, ◌++◌, length, arith, ap, ◌∙◌}
+use Rattle.std.proofs.Common.{◌≤◌, ◌++◌, length, arith, ap, ◌∙◌}
 use Rattle.seam_storm.specs.Storm.{sync_after}
 use Rattle.seam_storm.proofs.StormLemmas.{made_same}
 use Rattle.seam_storm.proofs.lines.make_ready.Goals as goal

@@ -1,4 +1,4 @@
-use Rattle.std.proofs.Common.{◌≡◌, ◌+◌, ◌<◌, ◌≤◌, ◌^◌, length, arith, ap, ◌∙◌, lit<}
+use Rattle.std.proofs.Common.{◌≡◌, length, arith, ap, ◌∙◌, lit<}
 use Rattle.std.specs.Fmt.{decimal}
 use Rattle.std.proofs.lemmas.Fmt.{length-decimal-le}
 use Rattle.seam_storm.proofs.lines.write_field.Goals as goal
