@@ -1,6 +1,6 @@
 -- What a table answers, by what its entries hold.
-use Rattle.std.proofs.Common.{◌≡◌, ◌<◌, nat_lt, find, slice_get, ℕ, Bool, true, false, not, cond, ◌||◌, ◌&&◌, List, [], ◌∷◌, Option, None, Some, refl, sym, ap, ◌∙◌, arith, is_some, length}
-use Rattle.std.specs.Option.{option_flatten, IfSome, IsSome}
+use Rattle.std.proofs.Common.{◌≡◌, find, slice_get, ℕ, Bool, true, false, not, cond, ◌||◌, ◌&&◌, List, [], ◌∷◌, Option, None, Some, refl, sym, ap, ◌∙◌, arith, is_some, length}
+use Rattle.std.specs.Option.{option_flatten, IfSome}
 use Rattle.std.specs.Ordering.{nat_cmp, eq_by_cmp, is_eq}
 use Rattle.std.specs.Cmp.{nat_cmp_total, eq_by_cmp_equiv}
 use Rattle.std.specs.Map.{lookup, keys_of}
