@@ -1,0 +1,3 @@
+mod Moves
+mod Runs
+pub mod Whole
