@@ -1,6 +1,6 @@
 -- The next entry of a merge.
 use Rattle.std.proofs.Common.{◌≡◌, ◌≢◌, ℕ, zero, suc, ◌+◌, ◌<◌, ◌≤◌, ◌⊎◌, true, false, Option, None, Some, List, [], ◌∷◌, ◌++◌, length, map, get_or, set, drop, refl, sym, ap, ◌∙◌, subst, arith, cond, eqb, inl, inr, append_assoc}
-use Rattle.std.specs.Prelude.{slice_get, IfSome}
+use Rattle.std.specs.Prelude.{IfSome}
 use Rattle.std.specs.Option.{IsSome}
 use Rattle.std.proofs.lemmas.Bool.{cases_eq}
 use Rattle.std.proofs.lemmas.Bool.Decides.{nat_tests, leb_tells}
@@ -26,10 +26,6 @@ pub first_read : {X : Type 0} (xs : List X) (x : X) → 0 < length xs → x ≡ 
 first_read [] x lt e = absurd (omega arith)
 first_read (y ∷ ys) x lt e = ap (λ z. z ∷ ys) (sym e)
 
-pub first_none : {X : Type 0} (xs : List X) → length xs ≤ 0 → xs ≡ []
-first_none [] le = refl
-first_none (y ∷ ys) le = absurd (omega arith)
-
 module _ {E : Type 0} where
   pub by_node_own : (k : ℕ) (e : Stamped E) (es : List (Stamped E)) → e.node ≡ k → by_node k (e ∷ es) ≡ e ∷ by_node k es
   by_node_own k e es h = ap (λ y. cond y (e ∷ by_node k es) (by_node k es)) (eqb_yes e.node k h)
@@ -40,9 +36,9 @@ module _ {E : Type 0} where
   by_node_append : (k : ℕ) (xs ys : List (Stamped E)) → by_node k (xs ++ ys) ≡ by_node k xs ++ by_node k ys
   by_node_append k [] ys = refl
   by_node_append k (x ∷ xs) ys = elim (cases_eq x.node k) [
-      inl h ↦ by_node_own k x (xs ++ ys) h ∙ (ap (λ l. x ∷ l) (by_node_append k xs ys) ∙ ap (λ l. l ++ by_node k ys) (sym (by_node_own k x xs h)))
+    | inl h ↦ by_node_own k x (xs ++ ys) h ∙ (ap (λ l. x ∷ l) (by_node_append k xs ys) ∙ ap (λ l. l ++ by_node k ys) (sym (by_node_own k x xs h)))
     | inr h ↦ by_node_other k x (xs ++ ys) h ∙ (by_node_append k xs ys ∙ ap (λ l. l ++ by_node k ys) (sym (by_node_other k x xs h)))
-    ]
+  ]
 
   log_later : (k t : ℕ) (es : List (Stamped E)) → IsLogFrom k t es → IsLogFrom k 0 es
   log_later k t [] h = tt
@@ -91,15 +87,15 @@ module _ {E : Type 0} where
 
     whole_left : (j : ℕ) → by_node j (merged ++ f.entry ∷ []) ++ get_or left j [] ≡ get_or logs j []
     whole_left j = elim (cases_eq j k) [
-        inl h ↦ ap (λ l. l ++ get_or left j []) (by_node_append j merged (f.entry ∷ []) ∙ ap (λ l. by_node j merged ++ l) (by_node_own j f.entry [] (own_log.0 ∙ sym h))) ∙ (append_assoc (by_node j merged) (f.entry ∷ []) (get_or left j []) ∙ (ap (λ l. by_node j merged ++ f.entry ∷ l) (ap (λ (i : ℕ). get_or left i []) h ∙ left_here) ∙ (ap (λ l. by_node j merged ++ l) (sym f.log_is ∙ ap (λ (i : ℕ). get_or heads i []) (sym h)) ∙ m.whole j)))
+      | inl h ↦ ap (λ l. l ++ get_or left j []) (by_node_append j merged (f.entry ∷ []) ∙ ap (λ l. by_node j merged ++ l) (by_node_own j f.entry [] (own_log.0 ∙ sym h))) ∙ (append_assoc (by_node j merged) (f.entry ∷ []) (get_or left j []) ∙ (ap (λ l. by_node j merged ++ f.entry ∷ l) (ap (λ (i : ℕ). get_or left i []) h ∙ left_here) ∙ (ap (λ l. by_node j merged ++ l) (sym f.log_is ∙ ap (λ (i : ℕ). get_or heads i []) (sym h)) ∙ m.whole j)))
       | inr h ↦ ap (λ l. l ++ get_or left j []) (by_node_append j merged (f.entry ∷ []) ∙ (ap (λ l. by_node j merged ++ l) (by_node_other j f.entry [] (λ e. h (sym e ∙ own_log.0))) ∙ append-nil (by_node j merged))) ∙ (ap (λ l. by_node j merged ++ l) (left_other j h) ∙ m.whole j)
-      ]
+    ]
 
     logs_after : (j : ℕ) → IsLogFrom j 0 (get_or left j [])
     logs_after j = elim (cases_eq j k) [
-        inl h ↦ rw (h, left_here) (log_later k (f.entry.stamp + 1) f.rest own_log.2)
+      | inl h ↦ rw (h, left_here) (log_later k (f.entry.stamp + 1) f.rest own_log.2)
       | inr h ↦ rw (left_other j h) (m.logs_left j)
-      ]
+    ]
 
     rest_after : (d : Stamped E) (ds : List (Stamped E)) → f.rest ≡ d ∷ ds → IsFrom f.entry.stamp (f.entry.node + 1) d
     rest_after d ds e = let later = subst (IsLogFrom k (f.entry.stamp + 1)) e own_log.2 in inl (omega (arith, later.1))
@@ -109,18 +105,18 @@ module _ {E : Type 0} where
         let node = (subst (IsLogFrom j 0) e (m.logs_left j)).0 in
         let least = f.least j d ds e in
         elim (cases_eq f.entry.stamp d.stamp) [
-          inl same ↦ elim (leb_tells (suc j) k) [
-              inl p ↦ absurd (let less = f.lowest j d ds e p.1 in omega (arith, less, same))
+          | inl same ↦ elim (leb_tells (suc j) k) [
+            | inl p ↦ absurd (let less = f.lowest j d ds e p.1 in omega (arith, less, same))
             | inr p ↦ inr (same, omega (arith, node, own_log.0, p.1, other))
-            ]
-        | inr differ ↦ inl (omega (arith, least, differ))
+          ]
+          | inr differ ↦ inl (omega (arith, least, differ))
         ]
 
     next_after : (j : ℕ) (d : Stamped E) (ds : List (Stamped E)) → get_or left j [] ≡ d ∷ ds → RiseFrom 0 0 ((merged ++ f.entry ∷ []) ++ d ∷ [])
     next_after j d ds e = rises_by_next 0 0 merged f.entry d (m.next k f.entry f.rest f.log_is) (elim (cases_eq j k) [
-        inl h ↦ rest_after d ds (sym (ap (λ (i : ℕ). get_or left i []) h ∙ left_here) ∙ e)
+      | inl h ↦ rest_after d ds (sym (ap (λ (i : ℕ). get_or left i []) h ∙ left_here) ∙ e)
       | inr h ↦ other_after j d ds h (sym (left_other j h) ∙ e)
-      ])
+    ])
 
     pub merging_goes_on : Merging logs left (merged ++ f.entry ∷ [])
     merging_goes_on = record {
@@ -139,17 +135,31 @@ module _ {E : Type 0} where
   module _ (heads : List (List (Stamped E))) (n : ℕ) where
     pub below_empty : (first : Option ℕ) (least : ℕ) → FirstBelow heads n first least → get_or heads n [] ≡ [] → FirstBelow heads (n + 1) first least
     below_empty None least f none = λ j lt. elim (cases_eq j n) [ inl h ↦ ap (λ (i : ℕ). get_or heads i []) h ∙ none | inr h ↦ f j (omega (arith, lt, h)) ]
-    below_empty (Some k) least (e, es, kl, at, st, all) none = (e, es, omega (arith, kl), at, st, λ j d ds lt is. elim (cases_eq j n) [
-        inl h ↦ absurd (cc (sym none ∙ (ap (λ (i : ℕ). get_or heads i []) (sym h) ∙ is)))
-      | inr h ↦ all j d ds (omega (arith, lt, h)) is
-      ])
+    below_empty (Some k) least (e, es, kl, at, st, all) none = (
+      e,
+      es,
+      omega (arith, kl),
+      at,
+      st,
+      λ j d ds lt is. elim (cases_eq j n) [
+        | inl h ↦ absurd (cc (sym none ∙ (ap (λ (i : ℕ). get_or heads i []) (sym h) ∙ is)))
+        | inr h ↦ all j d ds (omega (arith, lt, h)) is
+      ],
+    )
 
     pub below_kept : (first : Option ℕ) (least : ℕ) (e : Stamped E) (es : List (Stamped E)) → FirstBelow heads n first least → get_or heads n [] ≡ e ∷ es → (IsSome first) × (least ≤ e.stamp) → FirstBelow heads (n + 1) first least
     below_kept None least e es f here le = absurd (cc (le.0))
-    below_kept (Some k) least e es (d, ds, kl, at, st, all) here le = (d, ds, omega (arith, kl), at, st, λ j c cs lt is. elim (cases_eq j n) [
-        inl h ↦ (let same : c ≡ e = cc (sym is ∙ (ap (λ (i : ℕ). get_or heads i []) h ∙ here)) in (rw same le.1, λ less. absurd (omega (arith, less, h, kl))))
-      | inr h ↦ all j c cs (omega (arith, lt, h)) is
-      ])
+    below_kept (Some k) least e es (d, ds, kl, at, st, all) here le = (
+      d,
+      ds,
+      omega (arith, kl),
+      at,
+      st,
+      λ j c cs lt is. elim (cases_eq j n) [
+        | inl h ↦ (let same : c ≡ e = cc (sym is ∙ (ap (λ (i : ℕ). get_or heads i []) h ∙ here)) in (rw same le.1, λ less. absurd (omega (arith, less, h, kl))))
+        | inr h ↦ all j c cs (omega (arith, lt, h)) is
+      ],
+    )
 
     below_lower : (first : Option ℕ) (least : ℕ) (e : Stamped E) (es : List (Stamped E)) → FirstBelow heads n first least → (first ≡ None) ⊎ (e.stamp < least) → (j : ℕ) (d : Stamped E) (ds : List (Stamped E)) → j < n → get_or heads j [] ≡ d ∷ ds → e.stamp < d.stamp
     below_lower None least e es f less j d ds lt is = absurd (cc (sym (f j lt) ∙ is))
@@ -157,10 +167,17 @@ module _ {E : Type 0} where
     below_lower (Some k) least e es (c, cs, kl, at, st, all) (inr less) j d ds lt is = let h = (all j d ds lt is).0 in omega (arith, h, less)
 
     pub below_new : (first : Option ℕ) (least : ℕ) (e : Stamped E) (es : List (Stamped E)) → FirstBelow heads n first least → get_or heads n [] ≡ e ∷ es → (first ≡ None) ⊎ (e.stamp < least) → FirstBelow heads (n + 1) (Some n) e.stamp
-    below_new first least e es f here less = (e, es, omega arith, here, refl, λ j d ds lt is. elim (cases_eq j n) [
-        inl h ↦ (let same : d ≡ e = cc (sym is ∙ (ap (λ (i : ℕ). get_or heads i []) h ∙ here)) in (rw same (omega arith), λ l. absurd (omega (arith, l, h))))
-      | inr h ↦ (let lower = below_lower first least e es f less j d ds (omega (arith, lt, h)) is in (omega (arith, lower), λ l. lower))
-      ])
+    below_new first least e es f here less = (
+      e,
+      es,
+      omega arith,
+      here,
+      refl,
+      λ j d ds lt is. elim (cases_eq j n) [
+        | inl h ↦ (let same : d ≡ e = cc (sym is ∙ (ap (λ (i : ℕ). get_or heads i []) h ∙ here)) in (rw same (omega arith), λ l. absurd (omega (arith, l, h))))
+        | inr h ↦ (let lower = below_lower first least e es f less j d ds (omega (arith, lt, h)) is in (omega (arith, lower), λ l. lower))
+      ],
+    )
 
   within_by : (heads : List (List (Stamped E))) (j : ℕ) (d : Stamped E) (ds : List (Stamped E)) → get_or heads j [] ≡ d ∷ ds → j < length heads
   within_by heads j d ds is = elim (leb_tells (length heads) j) [ inl p ↦ absurd (cc (sym (get_or_past heads j [] p.1) ∙ is)) | inr p ↦ p.1 ]

@@ -1,5 +1,5 @@
 -- Two logs.
-use Rattle.std.proofs.Common.{◌≡◌, ℕ, zero, suc, List, [], ◌∷◌}
+use Rattle.std.proofs.Common.{zero, suc, List, [], ◌∷◌}
 use Rattle.seam_stamp.specs.declared.Stamped.{Stamped}
 use Rattle.seam_stamp.specs.Logs.{IsLogFrom, AreLogs}
 

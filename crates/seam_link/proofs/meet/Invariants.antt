@@ -1,6 +1,5 @@
-use Rattle.std.proofs.Common.{◌≡◌, ℕ, ◌+◌, ◌≤◌, List, ◌++◌, length}
-use Rattle.std.specs.VecDeque.{deque_len}
-use Rattle.rtrb.specs.Ring.{sent, received, known_items}
+use Rattle.std.proofs.Common.{◌≡◌, ◌+◌, ◌≤◌, ◌++◌, length}
+use Rattle.rtrb.specs.Ring.{sent, known_items}
 use Rattle.seam_link.proofs.meet.Given as goal
 
 abbrev pub invariant-loop-i : goal.invariant-loop-i

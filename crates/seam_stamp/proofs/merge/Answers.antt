@@ -1,4 +1,4 @@
-use Rattle.std.proofs.Common.{rules, ◌≡◌, ◌∙◌, ◌+◌, ◌∷◌, ◌++◌, ◌<◌, ℕ, [], map, length, get_or, set, ap, sym, refl, subst, arith}
+use Rattle.std.proofs.Common.{rules, ◌≡◌, ◌∙◌, ◌∷◌, ◌++◌, ◌<◌, [], map, length, get_or, set, sym, subst, arith}
 use Rattle.std.proofs.lemmas.List.{map-set, length-map}
 use Rattle.seam_stamp.proofs.Orders.{Merging, read_view, merging_goes_on}
 use Rattle.seam_stamp.proofs.merge.Goals as goal

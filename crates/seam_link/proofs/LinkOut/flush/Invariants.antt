@@ -1,4 +1,4 @@
-use Rattle.std.proofs.Common.{◌≡◌, ℕ, List, ◌++◌, length}
+use Rattle.std.proofs.Common.{◌≡◌, ◌++◌, length}
 use Rattle.rtrb.specs.Ring.{sent}
 use Rattle.seam_link.specs.Ends.{ring_of_out}
 use Rattle.seam_link.proofs.LinkOut.flush.Given as goal
