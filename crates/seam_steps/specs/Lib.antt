@@ -1,0 +1,17 @@
+pub mod Maps
+pub mod Numbers
+pub mod Fitting
+pub mod Here
+pub mod Calls
+pub mod Reals
+pub mod Slots
+pub mod Settle
+pub mod CellCases
+pub mod Looks
+pub mod Cells
+pub mod Bases
+pub mod BaseCases
+pub mod Nodes
+pub mod Loads
+pub mod Holders
+pub mod Valid
