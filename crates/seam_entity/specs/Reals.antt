@@ -29,7 +29,7 @@ pub record RealView : Type 0 where
   pub generation : ℕ
   pub witness : Option WitnessView
 
--- a real, and beside it for how many more calls there is room in `done`, and the ranks of the senders whose order has a place
+-- a real, and beside it for how many more calls there is room in `done`, and the places of the senders whose order has room
 pub record RoomyReal : Type 0 where
   pub core : RealView
   pub spare : ℕ

@@ -6,11 +6,11 @@ use std::marker::Model;
 
 /// The orders of the senders that call a part.
 ///
-/// Contracts see each order from which something came, under its sender's rank, and beside them the senders whose order
-/// has a place.
+/// Contracts see each order from which something came, under its sender's place in the order of
+/// senders, and beside them the senders whose order has a place.
 #[derive(Drop)]
 pub struct Orders {
-    // In rising rank of the senders.
+    // In the order of the senders.
     entries: Vec<(Sender, InOrder<Call>)>,
 }
 
@@ -27,9 +27,10 @@ impl Model for Orders {
     ghost use Rattle.std.specs.List.Sorted.{IsStrictlySortedBy};
     ghost use Rattle.std.specs.Ordering.{nat_cmp};
     ghost use Rattle.std.specs.Prelude.{map};
-    ghost use Rattle.seam_entity.specs.Orders.{rank, view_of};
+    ghost use Rattle.seam_call.specs.Senders.{rank_of};
+    ghost use Rattle.seam_entity.specs.Orders.{view_of};
 
     ghost view = { λ o. view_of o.entries.items };
 
-    ghost invariant = { λ o. IsStrictlySortedBy nat_cmp (map (λ p. rank p.0) o.entries.items) };
+    ghost invariant = { λ o. IsStrictlySortedBy nat_cmp (map (λ p. rank_of p.0) o.entries.items) };
 }

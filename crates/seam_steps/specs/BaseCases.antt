@@ -18,9 +18,12 @@ use Rattle.seam_call.specs.declared.order.Order.TheVariants as order
 use Rattle.seam_call.specs.declared.shown.Shown.{Shown}
 use Rattle.seam_call.specs.declared.shown.Update.{Update as UpdateData}
 use Rattle.seam_call.specs.declared.shown.ClientText.TheVariants as text
-use Rattle.seam_entity.specs.Orders.{rank, order_of}
+use Rattle.seam_call.specs.Senders.{rank_of}
+use Rattle.seam_call.specs.Calls.{is_for}
+use Rattle.seam_entity.specs.Orders.{order_of}
 use Rattle.seam_entity.specs.declared.message.Msg.{Msg}
 use Rattle.seam_entity.specs.declared.message.Msg.TheVariants.{Call, BaseCall, Hand, Current, GhostSet, GhostDrop, Tick, Reap, Update}
+use Rattle.seam_steps.specs.Maps.{has_any}
 use Rattle.seam_steps.specs.Numbers.{is_small, may_rise}
 use Rattle.seam_steps.specs.Fitting.{can_do, changes}
 use Rattle.seam_steps.specs.Here.{Here, cell_count, base_of}
@@ -46,9 +49,13 @@ may_show (Some x) = may_rise x.last
 abbrev pub may_execute : PartView → Bool
 may_execute p = may_rise p.version && may_show p.proxy
 
+-- a call for a base part that fits its type
+abbrev pub fits_base_part : Here → ℕ → CallData → Bool
+fits_base_part h ty k = is_for part.Base k.entity k && can_do h.defs h.settings.size ty part.Base k.deed
+
 -- the part may be offered the call, which fits it
 abbrev pub may_call : Here → PartView → CallData → Bool
-may_call h p k = can_do h.defs h.settings.size p.ty part.Base k.deed && (may_offer (order_of p.orders k.sender) k.number && may_execute p)
+may_call h p k = fits_base_part h p.ty k && (may_offer (order_of p.orders k.sender) k.number && may_execute p)
 
 -- the part with its state after the deed, one version and one done call more
 abbrev pub with_deed : Here → PartView → CallData → PartView
@@ -63,7 +70,7 @@ with_order p s o = record p { orders = table.insert p.orders s o }
 
 -- the part after its sender's order was offered the call
 abbrev pub with_offer : PartView → CallData → PartView
-with_offer p k = with_order p (rank k.sender) (after_offer (order_of p.orders k.sender) k.number k)
+with_offer p k = with_order p (rank_of k.sender) (after_offer (order_of p.orders k.sender) k.number k)
 
 -- the call is executed where it is its turn, held where it is early, and nothing changes where it is late
 abbrev pub offered : Here → PartView → CallData → Ordering → PartView
@@ -240,10 +247,6 @@ abbrev pub base_steps : BaseView → Input Msg → Stepped BaseView Msg
 base_steps b Task = base_task b b.orders
 base_steps b (From a m) = unless_stray (is_stray b m) b (sends_none (case_of b m))
 
-abbrev is_some_left : {A : Type 0} → List A → Bool
-is_some_left [] = false
-is_some_left (x ∷ xs) = true
-
 -- the node has a task: an order, a ready call of a base part, or a ready update of a client
 abbrev pub base_has_work : BaseView → Bool
-base_has_work b = is_some_left b.orders || (is_some (ready_part b) || is_some (ready_proxy b))
+base_has_work b = has_any b.orders || (is_some (ready_part b) || is_some (ready_proxy b))

@@ -16,7 +16,7 @@ may_offer o n = nat_lt 0 n && (may_rise n && not (is_some (item_at n o.held)))
 abbrev pub is_ready : {T : Type 0} → OrderView T → Bool
 is_ready o = is_some (next_item o)
 
--- the order of the least sender, by rank, that has a ready call
+-- the order of the least sender that has a ready call
 abbrev pub ready_order : Orders → Option (ℕ × OrderView Call)
 ready_order os = find (λ p. is_ready p.1) (table.entries os)
 

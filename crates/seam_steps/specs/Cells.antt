@@ -11,7 +11,7 @@ use Rattle.seam_machine.specs.declared.machines.Input.TheVariants.{Task, From}
 use Rattle.seam_call.specs.declared.shown.GhostCopy.{GhostCopy}
 use Rattle.seam_entity.specs.Reals.{RealView}
 use Rattle.seam_entity.specs.declared.message.Msg.{Msg}
-use Rattle.seam_steps.specs.Maps.{Map, set_at}
+use Rattle.seam_steps.specs.Maps.{Map, set_at, has_any}
 use Rattle.seam_steps.specs.Here.{Here}
 use Rattle.seam_steps.specs.Calls.{has_ready}
 use Rattle.seam_steps.specs.Slots.{Slot, NextPlace, SlotStep, unless_stray}
@@ -118,10 +118,6 @@ abbrev pub cell_steps : CellView → Input Msg → Stepped CellView Msg
 cell_steps c Task = cell_task c c.survey
 cell_steps c (From a m) = cell_hears c m (about m)
 
-abbrev pub is_some_left : {A : Type 0} → List A → Bool
-is_some_left [] = false
-is_some_left (x ∷ xs) = true
-
 -- the cell has a task: an entity is to settle, to execute a ready call, or to look
 abbrev pub cell_has_work : CellView → Bool
-cell_has_work c = is_some_left c.survey || (is_some (ready_entity c) || is_some_left c.looks)
+cell_has_work c = has_any c.survey || (is_some (ready_entity c) || has_any c.looks)

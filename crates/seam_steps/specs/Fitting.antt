@@ -18,6 +18,7 @@ use Rattle.seam_defs.specs.declared.states.State.{State}
 use Rattle.seam_defs.specs.declared.states.Deed.{Deed}
 use Rattle.seam_defs.specs.declared.states.Deed.TheVariants.{Move, Method}
 use Rattle.seam_defs.specs.Types.{type_of, method_of}
+use Rattle.seam_call.specs.Calls.{same_part}
 use Rattle.seam_defs.specs.Deeds.{ghost_of, client_of, after, part_of_deed, properties_of}
 
 abbrev pub is_text : ValueType → Bool
@@ -38,11 +39,6 @@ are_of_group ps g vs = fit_values (map (λ p. p.ty) (properties_of ps g)) vs
 
 abbrev pub is_inside : ℕ → Pos → Bool
 is_inside size p = nat_lt p.x size && nat_lt p.z size
-
-abbrev pub same_part : Part → Part → Bool
-same_part part.Cell part.Cell = true
-same_part part.Base part.Base = true
-same_part a b = false
 
 -- the part of an entity of that type can do the deed: a cell part moves inside the space, and a method is one of the part with arguments that fit
 abbrev pub can_do : List TypeDef → ℕ → ℕ → Part → Deed → Bool

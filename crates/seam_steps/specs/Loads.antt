@@ -6,13 +6,13 @@ use Rattle.seam_defs.specs.declared.settings.Settings.{Settings}
 use Rattle.seam_defs.specs.declared.types.TypeDef.{TypeDef}
 use Rattle.seam_defs.specs.declared.flags.Group.TheVariants as group
 use Rattle.seam_defs.specs.Deeds.{start_values, properties_of}
-use Rattle.seam_call.specs.declared.call.Create.{Create}
+use Rattle.seam_call.specs.declared.create.Create.{Create}
 use Rattle.seam_call.specs.declared.order.Order.{Order}
 use Rattle.seam_call.specs.declared.order.Order.TheVariants as order
 use Rattle.seam_call.specs.declared.order.Batch.{Batch}
 use Rattle.seam_entity.specs.Orders.{new_order}
 use Rattle.seam_entity.specs.Reals.{RealView}
-use Rattle.seam_steps.specs.Maps.{set_at, each_value}
+use Rattle.seam_steps.specs.Maps.{set_at, each_value, has_any}
 use Rattle.seam_steps.specs.Here.{Here, cell_count, cell_numbers, base_numbers, peers_of, base_of, properties}
 use Rattle.seam_steps.specs.Reals.{created}
 use Rattle.seam_steps.specs.Cells.{CellView}
@@ -74,17 +74,13 @@ created_at t x (Base b) = Base (part_if (base_of b.here x.entity == b.here.me) (
 abbrev pub with_witness : Here → RealView → RealView
 with_witness h r = record r { witness = Some (record { view = record { radius = h.settings.view_radius; hysteresis = h.settings.view_hysteresis; entries = []; shown = table.empty }; told = None; sent = 0 }) }
 
-abbrev pub is_some_left : {A : Type 0} → List A → Bool
-is_some_left [] = false
-is_some_left (x ∷ xs) = true
-
 -- a client that was shown nothing
 abbrev pub new_proxy : ProxyView
 new_proxy = record { updates = new_order; lines = []; last = 0 }
 
 -- a part with a client, which is shown the part where its type has something for clients
 abbrev pub with_proxy : Here → PartView → PartView
-with_proxy h p = shown_to_client (is_some_left (properties_of (properties h p.ty) group.BaseClient)) h (record p { proxy = Some new_proxy })
+with_proxy h p = shown_to_client (has_any (properties_of (properties h p.ty) group.BaseClient)) h (record p { proxy = Some new_proxy })
 
 -- the entity's real gets a witness, and its base part a client
 abbrev pub attached : ℕ → NodeView → NodeView

@@ -1,5 +1,5 @@
 -- Which calls a real executes, and what they leave of it.
-use Rattle.std.specs.Prelude.{ℕ, ◌+◌, Bool, true, false, ◌&&◌, ◌==◌, nat_lt, List, [], ◌∷◌, ◌++◌, length, Option, None}
+use Rattle.std.specs.Prelude.{ℕ, ◌+◌, Bool, true, false, ◌&&◌, nat_lt, List, [], ◌∷◌, ◌++◌, length, Option, None}
 use Rattle.std.specs.FinMap as table
 use Rattle.std.specs.FinSet as set
 use Rattle.seam_geo.specs.declared.pos.Pos.{Pos}
@@ -10,7 +10,9 @@ use Rattle.seam_order.specs.Held.{OrderView}
 use Rattle.seam_order.specs.Offers.{after_offer, after_taking}
 use Rattle.seam_call.specs.declared.call.Call.{Call}
 use Rattle.seam_call.specs.declared.shown.GhostCopy.{GhostCopy}
-use Rattle.seam_entity.specs.Orders.{rank, order_of}
+use Rattle.seam_call.specs.Senders.{rank_of}
+use Rattle.seam_call.specs.Calls.{is_for}
+use Rattle.seam_entity.specs.Orders.{order_of}
 use Rattle.seam_entity.specs.Reals.{RealView}
 use Rattle.seam_steps.specs.Numbers.{may_rise}
 use Rattle.seam_steps.specs.Fitting.{is_inside, are_of_group, can_do, changes}
@@ -29,7 +31,7 @@ copy_of_real h r = record { ty = r.ty; version = r.public; state = ghost_of (pro
 
 -- a call for the entity's cell part that fits its type
 abbrev pub fits_cell_part : Here → ℕ → ℕ → Call → Bool
-fits_cell_part h e ty k = (k.entity == e) && can_do h.defs h.settings.size ty part.Cell k.deed
+fits_cell_part h e ty k = is_for part.Cell e k && can_do h.defs h.settings.size ty part.Cell k.deed
 
 -- the real's type is one of the definitions, its values are of the group, it is in the space, and each held call fits
 abbrev pub fits_real : Here → RealView → Bool
@@ -72,12 +74,12 @@ with_deed h r k = record r { state = after h.defs r.ty r.state k.deed; version =
 
 -- the real after its sender's order was offered the call
 abbrev pub with_offer : RealView → Call → RealView
-with_offer r k = with_order r (rank k.sender) (after_offer (order_of r.orders k.sender) k.number k)
+with_offer r k = with_order r (rank_of k.sender) (after_offer (order_of r.orders k.sender) k.number k)
 
 -- the real after a call whose turn it is
 abbrev pub executed : Here → RealView → Call → RealView
 executed h r k = with_offer (with_deed h r k) k
 
--- the real after the ready call of an order, which stands under that rank
+-- the real after the ready call of an order, which is kept under that place
 abbrev pub executed_ready : Here → RealView → ℕ × OrderView Call → Call → RealView
 executed_ready h r o k = with_order (with_deed h r k) o.0 (after_taking o.1)
