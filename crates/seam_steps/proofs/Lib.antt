@@ -4,3 +4,8 @@ pub mod Targets
 pub mod ValidCells
 pub mod ValidBases
 pub mod Peers
+pub mod Tables
+pub mod Quiet
+pub mod Early
+pub mod Late
+pub mod Views

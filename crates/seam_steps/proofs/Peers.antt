@@ -6,8 +6,8 @@ use Rattle.seam_machine.specs.declared.machines.Input.TheVariants.{Task, From}
 use Rattle.seam_entity.specs.declared.message.Msg.{Msg}
 use Rattle.seam_steps.specs.Here.{peers_of}
 use Rattle.seam_steps.specs.Slots.{Slot, SlotStep}
-use Rattle.seam_steps.specs.CellCases.{about}
-use Rattle.seam_steps.specs.Cells.{CellView, after_slot, unlisted_by, stepped, cell_steps, cell_task, ready_next, look_next, cell_hears, ready_entity}
+use Rattle.seam_steps.specs.CellCases.{about, slot_steps}
+use Rattle.seam_steps.specs.Cells.{CellView, after_slot, unlisted_by, stepped, cell_steps, cell_task, ready_next, look_next, cell_hears, ready_entity, surveys, calls_ready, looks_around, known_to, slot_of}
 use Rattle.seam_steps.specs.Nodes.{NodeView, node_steps, node_peers}
 use Rattle.seam_steps.specs.Nodes.NodeView.{Cell, Base}
 use Rattle.seam_steps.specs.Valid.{IsNode}
@@ -27,18 +27,18 @@ step_here c e t = slot_here t.unlisted c e t.slot
 
 look_here : (c : CellView) (es : List ℕ) → (look_next c es).state.here ≡ c.here
 look_here c [] = refl
-look_here c (e ∷ es) = step_here (record c { looks = es }) e _
+look_here c (e ∷ es) = step_here (record c { looks = es }) e (looks_around c e (table.get c.reals e) (known_to c e))
 
 ready_here : (c : CellView) (o : Option ℕ) → (ready_next c o).state.here ≡ c.here
-ready_here c (Some e) = step_here c e _
+ready_here c (Some e) = step_here c e (calls_ready c e (table.get c.reals e))
 ready_here c None = look_here c c.looks
 
 task_here : (c : CellView) (es : List ℕ) → (cell_task c es).state.here ≡ c.here
-task_here c (e ∷ es) = step_here (record c { survey = es }) e _
+task_here c (e ∷ es) = step_here (record c { survey = es }) e (surveys c e (table.get c.reals e))
 task_here c [] = ready_here c (ready_entity c)
 
 hears_here : (c : CellView) (m : Msg) (o : Option ℕ) → (cell_hears c m o).state.here ≡ c.here
-hears_here c m (Some e) = step_here c e _
+hears_here c m (Some e) = step_here c e (slot_steps c.here c.tree (slot_of c e) m)
 hears_here c m None = refl
 
 pub cell_here : (c : CellView) (i : Input Msg) → (cell_steps c i).state.here ≡ c.here

@@ -1,5 +1,5 @@
 -- A step sends to nodes of the net, and leaves next places that are cells.
-use Rattle.std.proofs.Common.{◌≡◌, ℕ, zero, suc, ◌+◌, ◌<◌, ◌≤◌, Bool, true, false, List, [], ◌∷◌, ◌++◌, Option, None, Some, map, ap, refl, arith}
+use Rattle.std.proofs.Common.{◌≡◌, ℕ, zero, suc, ◌+◌, ◌<◌, ◌≤◌, Bool, true, false, List, [], ◌∷◌, ◌++◌, Option, None, Some, map, not, ap, refl, arith}
 use Rattle.std.specs.Prelude.{filter_map}
 use Rattle.std.specs.List.{range_with_len, cons_option}
 use Rattle.std.specs.FinMap as table
@@ -12,6 +12,7 @@ use Rattle.std.proofs.lemmas.Nat.{mod_below}
 use Rattle.seam_tree.specs.Division.{Division, IsTree, leaf_at}
 use Rattle.seam_tree.specs.Cells.{Cells}
 use Rattle.seam_tree.proofs.Leaves.{leaf_is_cell}
+use Rattle.seam_machine.specs.Views.{Stepped}
 use Rattle.seam_machine.specs.Sends.{AllBelow}
 use Rattle.seam_machine.specs.declared.machines.Input.{Input}
 use Rattle.seam_machine.specs.declared.machines.Input.TheVariants.{Task, From}
@@ -36,7 +37,7 @@ use Rattle.seam_steps.specs.CellCases.{about, slot_steps, survey_task, ready_cal
 use Rattle.seam_steps.specs.Looks.{Known, numbered, look_by, look_task}
 use Rattle.seam_steps.specs.Cells
 use Rattle.seam_steps.specs.Cells.{CellView, cell_steps, cell_task, ready_next, look_next, cell_hears, ready_entity, known_to, slot_of}
-use Rattle.seam_steps.specs.Bases.{BaseView, PartView, RouteView}
+use Rattle.seam_steps.specs.Bases.{BaseView, PartView, RouteView, with_part}
 use Rattle.seam_steps.specs.BaseCases as BaseCases
 use Rattle.seam_steps.specs.BaseCases.{base_steps}
 use Rattle.seam_steps.specs.Nodes.{NodeView, node_steps, node_peers}
@@ -245,7 +246,7 @@ module _ (c : CellView) (is : IsCell c) where
 -- ---- base nodes
 
 module _ (b : BaseView) (is : IsBase b) where
-  unless_below : (d : Bool) (t : _) → Below (peers_of b.here) t.sent → Below (peers_of b.here) (BaseCases.unless_stray d b t).sent
+  unless_below : (d : Bool) (t : Stepped BaseView Msg) → Below (peers_of b.here) t.sent → Below (peers_of b.here) (BaseCases.unless_stray d b t).sent
   unless_below true t h = tt
   unless_below false t h = h
 
@@ -265,14 +266,14 @@ module _ (b : BaseView) (is : IsBase b) where
 
   proxy_below : (o : Option (ℕ × PartView)) → Below (peers_of b.here) (BaseCases.proxy_task b o).sent
   proxy_below None = tt
-  proxy_below (Some p) = unless_below _ _ tt
+  proxy_below (Some p) = unless_below (not (BaseCases.may_show p.1.proxy)) (BaseCases.sends_none (with_part b p.0 (BaseCases.after_showing p.1 p.1.proxy))) tt
 
   without_below : (o : Option (ℕ × PartView)) → Below (peers_of b.here) (BaseCases.task_without_orders b o).sent
-  without_below (Some p) = unless_below _ _ tt
+  without_below (Some p) = unless_below (not (BaseCases.may_execute p.1)) (BaseCases.sends_none (with_part b p.0 (BaseCases.after_ready b.here p.1 (ready_order p.1.orders)))) tt
   without_below None = proxy_below (BaseCases.ready_proxy b)
 
   base_task_below : (os : List Order) → Below (peers_of b.here) (BaseCases.base_task b os).sent
-  base_task_below (o ∷ os) = unless_below _ _ (order_below os o)
+  base_task_below (o ∷ os) = unless_below (BaseCases.stray_order b o) (BaseCases.order_of_node (record b { orders = os }) o) (order_below os o)
   base_task_below [] = without_below (BaseCases.ready_part b)
 
   base_targets : (i : Input Msg) → AllBelow (peers_of b.here) (base_steps b i).sent

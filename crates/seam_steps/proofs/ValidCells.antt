@@ -8,8 +8,8 @@ use Rattle.seam_entity.specs.declared.message.Msg.{Msg}
 use Rattle.seam_steps.specs.Maps.{Map, set_at}
 use Rattle.seam_steps.specs.Here.{cell_count}
 use Rattle.seam_steps.specs.Slots.{Slot, NextPlace, SlotStep}
-use Rattle.seam_steps.specs.CellCases.{about}
-use Rattle.seam_steps.specs.Cells.{CellView, after_slot, unlisted_by, stepped, cell_steps, cell_task, ready_next, look_next, cell_hears, ready_entity}
+use Rattle.seam_steps.specs.CellCases.{about, slot_steps}
+use Rattle.seam_steps.specs.Cells.{CellView, after_slot, unlisted_by, stepped, cell_steps, cell_task, ready_next, look_next, cell_hears, ready_entity, surveys, calls_ready, looks_around, known_to, slot_of, witnesses}
 use Rattle.seam_steps.specs.Valid.{NextsAreCells, IsCell}
 use Rattle.seam_steps.proofs.Slots.{get-set_at}
 use Rattle.seam_steps.proofs.Targets.{IsGood, StepIn, cell_surveys, cell_calls_ready, cell_looks, cell_slot}
@@ -33,24 +33,24 @@ step_valid : (c : CellView) (e : ℕ) (t : SlotStep) (is : IsCell c) → IsGood 
 step_valid c e t is good = unlisted_valid t.unlisted (after_slot c e t.slot) e (slot_valid c e t.slot is good.next)
 
 -- with other lists it is as valid
-other_lists : (c : CellView) (survey looks : List ℕ) → IsCell c → IsCell (record c { survey = survey; looks = looks })
+abbrev other_lists : (c : CellView) (survey looks : List ℕ) → IsCell c → IsCell (record c { survey = survey; looks = looks })
 other_lists c survey looks is = record { me_in = is.me_in; bases = is.bases; tree = is.tree; nexts = is.nexts }
 
 look_valid : (c : CellView) (es : List ℕ) → IsCell c → IsCell (look_next c es).state
 look_valid c [] is = is
-look_valid c (e ∷ es) is = step_valid (record c { looks = es }) e _ (other_lists c c.survey es is) (cell_looks c is e)
+look_valid c (e ∷ es) is = step_valid (record c { looks = es }) e (looks_around c e (table.get c.reals e) (known_to c e)) (other_lists c c.survey es is) (cell_looks c is e)
 
 ready_valid : (c : CellView) (o : Option ℕ) → IsCell c → IsCell (ready_next c o).state
-ready_valid c (Some e) is = step_valid c e _ is (cell_calls_ready c is e)
+ready_valid c (Some e) is = step_valid c e (calls_ready c e (table.get c.reals e)) is (cell_calls_ready c is e)
 ready_valid c None is = look_valid c c.looks is
 
 task_valid : (c : CellView) (es : List ℕ) → IsCell c → IsCell (cell_task c es).state
-task_valid c (e ∷ es) is = step_valid (record c { survey = es }) e _ (other_lists c es c.looks is) (cell_surveys c is e)
+task_valid c (e ∷ es) is = step_valid (record c { survey = es }) e (surveys c e (table.get c.reals e)) (other_lists c es c.looks is) (cell_surveys c is e)
 task_valid c [] is = ready_valid c (ready_entity c) is
 
 hears_valid : (c : CellView) (m : Msg) (o : Option ℕ) → IsCell c → IsCell (cell_hears c m o).state
-hears_valid c m (Some e) is = step_valid c e _ is (cell_slot c is e m)
-hears_valid c m None is = other_lists c c.survey _ is
+hears_valid c m (Some e) is = step_valid c e (slot_steps c.here c.tree (slot_of c e) m) is (cell_slot c is e m)
+hears_valid c m None is = other_lists c c.survey (witnesses c) is
 
 pub cell_stays_valid : (c : CellView) (i : Input Msg) → IsCell c → IsCell (cell_steps c i).state
 cell_stays_valid c Task is = task_valid c c.survey is

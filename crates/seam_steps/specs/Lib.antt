@@ -15,3 +15,7 @@ pub mod Nodes
 pub mod Loads
 pub mod Holders
 pub mod Valid
+pub mod Rows
+pub mod EarlyCall
+pub mod LateGhost
+pub mod ViewRounds
