@@ -4,10 +4,10 @@ use Rattle.seam_machine.specs.Nets.{happens, enabled, IsQuiet}
 use Rattle.seam_steps.specs.Nodes.{node_steps, node_has_work}
 use Rattle.seam_steps.specs.Holders.{holders}
 use Rattle.seam_steps.specs.Loads.{loaded, look_loaded, reaps_loaded}
-use Rattle.seam_steps.specs.Rows.{IsRow, empty_world, task, mail}
+use Rattle.seam_steps.specs.Rows.{IsRow, empty_world, task, mail, copy_at, done_in_cell, copy_in_cell, lines_of_client}
 use Rattle.seam_steps.proofs.Tables.{computing}
 use Rattle.seam_steps.proofs.Quiet.{is_quiet, quiet_of}
-use Rattle.seam_steps.specs.EarlyCall.{batch, world_0, world_1, world_2, world_3, world_4, world_5, world_6, world_7, world_8, world_9, world_10, world_11, world_12, passing_2, passing_3, passing_4, passing_5, passing_6, passing_7, passing_8, passing_9, passing_10, passing_11, steps, passing_steps}
+use Rattle.seam_steps.specs.EarlyCall.{batch, world_0, world_1, world_2, world_3, world_4, world_5, world_6, world_7, world_8, world_9, world_10, world_11, world_12, passing_2, passing_3, passing_4, passing_5, passing_6, passing_7, passing_8, passing_9, passing_10, passing_11, steps, passing_steps, the_move, hit_1, hit_2}
 
 pub load : loaded empty_world batch ≡ world_0
 unfolding world_0
@@ -166,6 +166,14 @@ ends = simp computing
 
 pub quiet : IsQuiet node_has_work world_12
 quiet = quiet_of world_12 ends
+
+pub done : done_in_cell world_12 1 1 ≡ Some (the_move ∷ hit_1 ∷ hit_2 ∷ [])
+unfolding world_12
+done = simp computing
+
+pub passing_done : done_in_cell passing_11 1 1 ≡ Some (hit_1 ∷ the_move ∷ hit_2 ∷ [])
+unfolding passing_11
+passing_done = simp computing
 
 passing_enabled_0 : enabled node_has_work world_0 (task 0) ≡ true
 unfolding world_0

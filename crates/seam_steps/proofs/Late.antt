@@ -4,10 +4,10 @@ use Rattle.seam_machine.specs.Nets.{happens, enabled, IsQuiet}
 use Rattle.seam_steps.specs.Nodes.{node_steps, node_has_work}
 use Rattle.seam_steps.specs.Holders.{holders}
 use Rattle.seam_steps.specs.Loads.{loaded, look_loaded, reaps_loaded}
-use Rattle.seam_steps.specs.Rows.{IsRow, empty_world, task, mail}
+use Rattle.seam_steps.specs.Rows.{IsRow, empty_world, task, mail, copy_at, done_in_cell, copy_in_cell, lines_of_client}
 use Rattle.seam_steps.proofs.Tables.{computing}
 use Rattle.seam_steps.proofs.Quiet.{is_quiet, quiet_of}
-use Rattle.seam_steps.specs.LateGhost.{batch, world_0, world_1, world_2, world_3, world_4, world_5, world_6, world_7, world_8, world_9, world_10, world_11, world_12, world_13, world_14, steps, reap_0, reap_1, reap_2, reap_3, until_reaped, from_reaped}
+use Rattle.seam_steps.specs.LateGhost.{batch, world_0, world_1, world_2, world_3, world_4, world_5, world_6, world_7, world_8, world_9, world_10, world_11, world_12, world_13, world_14, steps, reap_0, reap_1, reap_2, reap_3, until_reaped, from_reaped, move_1, move_2}
 
 pub load : loaded empty_world batch ≡ world_0
 unfolding world_0
@@ -190,6 +190,22 @@ ends = simp computing
 
 pub quiet : IsQuiet node_has_work world_14
 quiet = quiet_of world_14 ends
+
+pub done : done_in_cell world_14 1 1 ≡ Some (move_1 ∷ move_2 ∷ [])
+unfolding world_14
+done = simp computing
+
+pub copy_0 : copy_in_cell world_14 0 1 ≡ Some (copy_at 2 5100 4000)
+unfolding world_14
+copy_0 = simp computing
+
+pub copy_2 : copy_in_cell world_14 2 1 ≡ None
+unfolding world_14
+copy_2 = simp computing
+
+pub reap_copy : copy_in_cell reap_3 0 1 ≡ None
+unfolding reap_3
+reap_copy = simp computing
 
 pub reap_load : reaps_loaded world_14 (1 ∷ []) ≡ reap_0
 unfolding world_14 reap_0

@@ -50,9 +50,19 @@ module _ {X : Type 0} where
       apart true false x y o h = refl
       apart false b x y o h = refl
 
+module _ {X : Type 0} where
+  -- to remove what is not there
+  pub remove_other : (x : X) → table.remove (table.insert (table.empty {K = ℕ} {X = X} {R = nat_cmp}) 2 x) 1 ≡ table.insert table.empty 2 x
+  remove_other x = table.same_map nat_cmp_total table.nat_cmp-IsAntisymmetric _ _ (λ q. simp (table.get-insert, table.get-remove, table.get-empty, nat_cmp_total) (by q (eq_by_cmp nat_cmp q 1) (eq_by_cmp nat_cmp q 2) refl refl))
+    where
+      by : (q : ℕ) (a b : Bool) → eq_by_cmp nat_cmp q 1 ≡ a → eq_by_cmp nat_cmp q 2 ≡ b → cond a None (cond b (Some x) None) ≡ cond b (Some x) None
+      by q true true h k = absurd (grind (arith, nat_tests, h, k))
+      by q true false h k = refl
+      by q false b h k = refl
+
 -- an empty text is one
 pub is_utf8-nil : is_utf8 [] ≡ true
 is_utf8-nil = is_utf8-from_IsUtf8 [] IsUtf8-nil
 
 -- what of a world that has few entities computes
-pub ruleset computing = (table.get-insert, table.get-empty, set.contains-empty, set.contains-insert, nat_cmp_total, table.entries-insert, entries_empty, insert_again, insert_two, remove_inserted, remove_empty, is_utf8-nil)
+pub ruleset computing = (table.get-insert, table.get-empty, set.contains-empty, set.contains-insert, nat_cmp_total, table.entries-insert, entries_empty, insert_again, insert_two, remove_other, remove_inserted, remove_empty, is_utf8-nil)

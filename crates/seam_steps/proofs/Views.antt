@@ -4,10 +4,10 @@ use Rattle.seam_machine.specs.Nets.{happens, enabled, IsQuiet}
 use Rattle.seam_steps.specs.Nodes.{node_steps, node_has_work}
 use Rattle.seam_steps.specs.Holders.{holders}
 use Rattle.seam_steps.specs.Loads.{loaded, look_loaded, reaps_loaded}
-use Rattle.seam_steps.specs.Rows.{IsRow, empty_world, task, mail}
+use Rattle.seam_steps.specs.Rows.{IsRow, empty_world, task, mail, copy_at, done_in_cell, copy_in_cell, lines_of_client}
 use Rattle.seam_steps.proofs.Tables.{computing}
 use Rattle.seam_steps.proofs.Quiet.{is_quiet, quiet_of}
-use Rattle.seam_steps.specs.ViewRounds.{batch_1, batch_of, move_to, first_steps, first_looks, second_steps, second_looks, third_steps, third_looks, first_0, first_1, first_2, first_look_0, first_look_1, first_look_2, first_look_3, first_look_4, first_look_5, second_0, second_1, second_2, second_3, second_4, second_look_0, second_look_1, second_look_2, second_look_3, second_look_4, third_0, third_1, third_2, third_3, third_4, third_look_0, third_look_1, third_look_2, third_look_3, third_look_4}
+use Rattle.seam_steps.specs.ViewRounds.{batch_1, batch_of, move_to, first_steps, first_looks, second_steps, second_looks, third_steps, third_looks, base_line, line, own, enter_2, set_2, leave_2, first_0, first_1, first_2, first_look_0, first_look_1, first_look_2, first_look_3, first_look_4, first_look_5, second_0, second_1, second_2, second_3, second_4, second_look_0, second_look_1, second_look_2, second_look_3, second_look_4, third_0, third_1, third_2, third_3, third_4, third_look_0, third_look_1, third_look_2, third_look_3, third_look_4}
 
 pub first_load : loaded empty_world batch_1 ≡ first_0
 unfolding first_0
@@ -57,7 +57,7 @@ first_look_enabled_0 = refl
 
 first_look_happens_0 : happens node_steps first_look_0 (task 16) ≡ first_look_1
 unfolding first_look_0 first_look_1
-first_look_happens_0 = simp computing
+first_look_happens_0 = refl
 
 first_look_holders_0 : holders first_look_1 2 ≡ 1
 unfolding first_look_1
@@ -193,7 +193,7 @@ second_look_enabled_0 = refl
 
 second_look_happens_0 : happens node_steps second_look_0 (task 16) ≡ second_look_1
 unfolding second_look_0 second_look_1
-second_look_happens_0 = simp computing
+second_look_happens_0 = refl
 
 second_look_holders_0 : holders second_look_1 2 ≡ 1
 unfolding second_look_1
@@ -317,7 +317,7 @@ third_look_enabled_0 = refl
 
 third_look_happens_0 : happens node_steps third_look_0 (task 16) ≡ third_look_1
 unfolding third_look_0 third_look_1
-third_look_happens_0 = simp computing
+third_look_happens_0 = refl
 
 third_look_holders_0 : holders third_look_1 2 ≡ 1
 unfolding third_look_1
@@ -368,3 +368,15 @@ third_look_ends = simp computing
 
 pub third_look_quiet : IsQuiet node_has_work third_look_4
 third_look_quiet = quiet_of third_look_4 third_look_ends
+
+pub first_lines : lines_of_client first_look_5 17 1 ≡ Some (base_line ∷ line 2 own ∷ line 3 enter_2 ∷ [])
+unfolding first_look_5
+first_lines = simp computing
+
+pub second_lines : lines_of_client second_look_4 17 1 ≡ Some (line 4 set_2 ∷ [])
+unfolding second_look_4
+second_lines = simp computing
+
+pub third_lines : lines_of_client third_look_4 17 1 ≡ Some (line 5 leave_2 ∷ [])
+unfolding third_look_4
+third_lines = simp computing

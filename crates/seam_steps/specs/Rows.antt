@@ -1,5 +1,5 @@
 -- Worked rows: a world, events, and the world after each.
-use Rattle.std.specs.Prelude.{◌≡◌, ℕ, ◌-◌, pos, Bool, true, List, [], ◌∷◌, ◌++◌, length, map, fold, replicate, slice_set, slice_index_or, Option, None, Some}
+use Rattle.std.specs.Prelude.{◌≡◌, ℕ, ◌-◌, pos, Bool, true, List, [], ◌∷◌, ◌++◌, length, map, fold, replicate, slice_get, slice_set, slice_index_or, Option, None, Some, option_map}
 use Rattle.std.specs.List.{range_with_len}
 use Rattle.std.specs.FinMap as table
 use Rattle.seam_geo.specs.declared.pos.Pos.{Pos}
@@ -15,6 +15,7 @@ use Rattle.seam_defs.specs.declared.states.Deed.TheVariants.{Move, Method}
 use Rattle.seam_defs.specs.Builtin.{builtin}
 use Rattle.seam_defs.specs.Settings.{standard}
 use Rattle.seam_ghosts.specs.declared.Ghost.{Ghost}
+use Rattle.seam_ghosts.specs.Book.{copy_in}
 use Rattle.seam_order.specs.Held.{OrderView}
 use Rattle.seam_machine.specs.declared.machines.Event.{Event}
 use Rattle.seam_machine.specs.Nets.{enabled, happens}
@@ -23,6 +24,7 @@ use Rattle.seam_call.specs.declared.call.Call.{Call}
 use Rattle.seam_call.specs.declared.create.Create.{Create}
 use Rattle.seam_call.specs.declared.order.Order.{Order}
 use Rattle.seam_call.specs.declared.shown.GhostCopy.{GhostCopy}
+use Rattle.seam_call.specs.declared.shown.Line.{Line}
 use Rattle.seam_entity.specs.Orders.{Orders}
 use Rattle.seam_entity.specs.Reals.{RealView}
 use Rattle.seam_entity.specs.declared.message.Msg.{Msg}
@@ -30,6 +32,7 @@ use Rattle.seam_steps.specs.Maps.{Map}
 use Rattle.seam_steps.specs.Here.{Here, cell_count}
 use Rattle.seam_steps.specs.Slots.{NextPlace}
 use Rattle.seam_steps.specs.Cells.{CellView}
+use Rattle.seam_steps.specs.Bases.{PartView}
 use Rattle.seam_steps.specs.Nodes.{NodeView, World, node_has_work, node_steps}
 use Rattle.seam_steps.specs.Nodes.NodeView.{Cell, Base}
 use Rattle.seam_steps.specs.Loads.{here_of, opened}
@@ -125,3 +128,36 @@ abbrev pub world : Division → List NodeView → NodeView → NodeView → List
 world t cells b16 b17 ways = record {
   nodes = cells ++ map (idle t) (range_with_len (length cells) (cell_count - length cells)) ++ b16 ∷ b17 ∷ [];
   rows = fold with_way (replicate 18 (replicate 18 [])) ways }
+
+-- ---- what is told of a world
+
+abbrev pub done_of : Option NodeView → ℕ → Option (List Call)
+done_of (Some (Cell c)) e = option_map (λ r. r.done) (table.get c.reals e)
+done_of (Some (Base b)) e = None
+done_of None e = None
+
+-- the calls that the entity's real in cell k executed in this round
+abbrev pub done_in_cell : World → ℕ → ℕ → Option (List Call)
+done_in_cell w k e = done_of (slice_get w.nodes k) e
+
+abbrev pub copy_of_node : Option NodeView → ℕ → Option GhostCopy
+copy_of_node (Some (Cell c)) e = copy_in (table.get c.ghosts e)
+copy_of_node (Some (Base b)) e = None
+copy_of_node None e = None
+
+-- the entity's copy in cell k
+abbrev pub copy_in_cell : World → ℕ → ℕ → Option GhostCopy
+copy_in_cell w k e = copy_of_node (slice_get w.nodes k) e
+
+abbrev pub lines_of_part : Option PartView → Option (List Line)
+lines_of_part (Some p) = option_map (λ x. x.lines) p.proxy
+lines_of_part None = None
+
+abbrev pub lines_of_node : Option NodeView → ℕ → Option (List Line)
+lines_of_node (Some (Base b)) e = lines_of_part (table.get b.parts e)
+lines_of_node (Some (Cell c)) e = None
+lines_of_node None e = None
+
+-- the lines that the entity's client at node k was shown in this round
+abbrev pub lines_of_client : World → ℕ → ℕ → Option (List Line)
+lines_of_client w k e = lines_of_node (slice_get w.nodes k) e

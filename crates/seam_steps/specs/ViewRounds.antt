@@ -97,6 +97,15 @@ other_at version x = record { ty = 0; version = version; state = record { pos = 
 abbrev pub own : Shown
 own = Own 0 (record { pos = at 1000 1000; props = Number (pos 100) ∷ Number (pos 50) ∷ Number (pos 0) ∷ [] })
 
+abbrev pub enter_2 : Shown
+enter_2 = Enter 2 (other_at 0 1300)
+
+abbrev pub set_2 : Shown
+set_2 = Set 2 (other_at 1 1310)
+
+abbrev pub leave_2 : Shown
+leave_2 = Leave 2
+
 abbrev pub update : ℕ → Shown → Msg
 update n s = Update (record { entity = 1; number = n; shown = s })
 
@@ -147,13 +156,13 @@ first_look_2 = with_cell blind still [] (1 ∷ []) [] (part_of 1 (base_line ∷ 
 
 -- the witness looks
 unfoldable pub first_look_3 : World
-first_look_3 = with_cell entered still [] [] [] (part_of 1 (base_line ∷ []) 1) ((0, 17, update 1 own ∷ update 2 (Enter 2 (other_at 0 1300)) ∷ []) ∷ [])
+first_look_3 = with_cell entered still [] [] [] (part_of 1 (base_line ∷ []) 1) ((0, 17, update 1 own ∷ update 2 enter_2 ∷ []) ∷ [])
 
 unfoldable pub first_look_4 : World
-first_look_4 = with_cell entered still [] [] [] (part_of 2 (base_line ∷ line 2 own ∷ []) 2) ((0, 17, update 2 (Enter 2 (other_at 0 1300)) ∷ []) ∷ [])
+first_look_4 = with_cell entered still [] [] [] (part_of 2 (base_line ∷ line 2 own ∷ []) 2) ((0, 17, update 2 enter_2 ∷ []) ∷ [])
 
 unfoldable pub first_look_5 : World
-first_look_5 = with_cell entered still [] [] [] (part_of 3 (base_line ∷ line 2 own ∷ line 3 (Enter 2 (other_at 0 1300)) ∷ []) 3) []
+first_look_5 = with_cell entered still [] [] [] (part_of 3 (base_line ∷ line 2 own ∷ line 3 enter_2 ∷ []) 3) []
 
 abbrev pub first_looks : List (Event × World)
 first_looks = (task 16, first_look_1) ∷ (mail 0 16, first_look_2) ∷ (task 0, first_look_3) ∷ (mail 17 0, first_look_4) ∷ (mail 17 0, first_look_5) ∷ []
@@ -190,10 +199,10 @@ second_look_2 = with_cell entered (walked_1 (move_to 1 1310 ∷ [])) [] (1 ∷ [
 
 -- the witness looks
 unfoldable pub second_look_3 : World
-second_look_3 = with_cell changed (walked_1 (move_to 1 1310 ∷ [])) [] [] [] (part_of 3 [] 3) ((0, 17, update 3 (Set 2 (other_at 1 1310)) ∷ []) ∷ [])
+second_look_3 = with_cell changed (walked_1 (move_to 1 1310 ∷ [])) [] [] [] (part_of 3 [] 3) ((0, 17, update 3 set_2 ∷ []) ∷ [])
 
 unfoldable pub second_look_4 : World
-second_look_4 = with_cell changed (walked_1 (move_to 1 1310 ∷ [])) [] [] [] (part_of 4 (line 4 (Set 2 (other_at 1 1310)) ∷ []) 4) []
+second_look_4 = with_cell changed (walked_1 (move_to 1 1310 ∷ [])) [] [] [] (part_of 4 (line 4 set_2 ∷ []) 4) []
 
 abbrev pub second_looks : List (Event × World)
 second_looks = (task 16, second_look_1) ∷ (mail 0 16, second_look_2) ∷ (task 0, second_look_3) ∷ (mail 17 0, second_look_4) ∷ []
@@ -230,10 +239,10 @@ third_look_2 = with_cell changed (walked_2 (move_to 2 1311 ∷ [])) [] (1 ∷ []
 
 -- the witness looks
 unfoldable pub third_look_3 : World
-third_look_3 = with_cell left (walked_2 (move_to 2 1311 ∷ [])) [] [] [] (part_of 4 [] 4) ((0, 17, update 4 (Leave 2) ∷ []) ∷ [])
+third_look_3 = with_cell left (walked_2 (move_to 2 1311 ∷ [])) [] [] [] (part_of 4 [] 4) ((0, 17, update 4 leave_2 ∷ []) ∷ [])
 
 unfoldable pub third_look_4 : World
-third_look_4 = with_cell left (walked_2 (move_to 2 1311 ∷ [])) [] [] [] (part_of 5 (line 5 (Leave 2) ∷ []) 5) []
+third_look_4 = with_cell left (walked_2 (move_to 2 1311 ∷ [])) [] [] [] (part_of 5 (line 5 leave_2 ∷ []) 5) []
 
 abbrev pub third_looks : List (Event × World)
 third_looks = (task 16, third_look_1) ∷ (mail 0 16, third_look_2) ∷ (task 0, third_look_3) ∷ (mail 17 0, third_look_4) ∷ []
