@@ -9,3 +9,5 @@ pub mod Quiet
 pub mod Early
 pub mod Late
 pub mod Views
+pub mod CellSteps
+pub mod BaseSteps

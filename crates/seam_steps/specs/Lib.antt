@@ -19,3 +19,4 @@ pub mod Rows
 pub mod EarlyCall
 pub mod LateGhost
 pub mod ViewRounds
+pub mod OneStep

@@ -6,5 +6,7 @@
 //! alone, and `proofs/Tables` how worlds of a few entities compute.
 #![tactic(auto)]
 
+pub mod base_steps;
+pub mod cell_steps;
 pub mod laws;
 pub mod rows;
