@@ -11,3 +11,5 @@ pub mod Late
 pub mod Views
 pub mod CellSteps
 pub mod BaseSteps
+pub mod LookSteps
+pub mod LoadSteps

@@ -88,3 +88,7 @@ update n s = record { entity = 1; number = n; shown = s }
 -- base node k of a world of three cells, with entity 1's route
 abbrev pub base_of : ℕ → List Order → (ℕ × ℕ) → Map PartView → BaseView
 base_of k os to parts = record { here = here k; cells = 3; orders = os; routes = one (record { cell = to.0; generation = to.1 }); parts = parts }
+
+-- base node k of an opened world
+abbrev pub empty_node : ℕ → BaseView
+empty_node k = record { here = here k; cells = 1; orders = []; routes = table.empty; parts = table.empty }

@@ -5,6 +5,7 @@ use Rattle.std.specs.FinSet as set
 use Rattle.seam_value.specs.declared.values.Value.TheVariants.{Number}
 use Rattle.seam_tree.specs.Division.{Division}
 use Rattle.seam_defs.specs.declared.flags.Part.TheVariants as part
+use Rattle.seam_defs.specs.declared.states.State.{State}
 use Rattle.seam_defs.specs.declared.states.Deed.TheVariants.{Move}
 use Rattle.seam_machine.specs.declared.machines.Event.{Event}
 use Rattle.seam_call.specs.declared.sender.Sender.TheVariants as sender
@@ -94,8 +95,11 @@ walked_2 done = walker 2 1311 (moves 3) done
 abbrev pub other_at : ℕ → ℕ → GhostCopy
 other_at version x = record { ty = 0; version = version; state = record { pos = at x 1000; props = Number (pos 100) ∷ Number (pos 0) ∷ [] } }
 
+abbrev pub own_state : State
+own_state = record { pos = at 1000 1000; props = Number (pos 100) ∷ Number (pos 50) ∷ Number (pos 0) ∷ [] }
+
 abbrev pub own : Shown
-own = Own 0 (record { pos = at 1000 1000; props = Number (pos 100) ∷ Number (pos 50) ∷ Number (pos 0) ∷ [] })
+own = Own 0 own_state
 
 abbrev pub enter_2 : Shown
 enter_2 = Enter 2 (other_at 0 1300)

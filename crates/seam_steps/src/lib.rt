@@ -9,4 +9,6 @@
 pub mod base_steps;
 pub mod cell_steps;
 pub mod laws;
+pub mod loads;
+pub mod look_steps;
 pub mod rows;
