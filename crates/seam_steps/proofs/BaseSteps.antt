@@ -1,5 +1,5 @@
 -- Single steps of a base node, computed.
-use Rattle.std.proofs.Common.{◌≡◌, List, [], ◌∷◌, None, refl}
+use Rattle.std.proofs.Common.{◌≡◌, [], ◌∷◌, None, refl}
 use Rattle.seam_machine.specs.declared.machines.Input.TheVariants.{Task, From}
 use Rattle.seam_entity.specs.declared.message.Msg.TheVariants.{Call, BaseCall, Current, Tick, Reap, Update}
 use Rattle.seam_call.specs.declared.order.Order.TheVariants as order

@@ -1,5 +1,5 @@
 -- Single steps of a cell, computed.
-use Rattle.std.proofs.Common.{◌≡◌, ◌-◌, ◌^◌, List, [], ◌∷◌, None, Some, refl}
+use Rattle.std.proofs.Common.{◌≡◌, ◌-◌, ◌^◌, [], ◌∷◌, None, Some, refl}
 use Rattle.std.specs.FinSet as set
 use Rattle.seam_machine.specs.declared.machines.Input.TheVariants.{Task, From}
 use Rattle.seam_defs.specs.declared.states.Deed.TheVariants.{Move}

@@ -1,5 +1,5 @@
 -- What the loads make of single nodes, computed.
-use Rattle.std.proofs.Common.{◌≡◌, ◌-◌, ◌^◌, List, [], ◌∷◌, None, Some, refl}
+use Rattle.std.proofs.Common.{◌≡◌, [], ◌∷◌, None, refl}
 use Rattle.std.specs.FinSet as set
 use Rattle.seam_call.specs.declared.order.Order.TheVariants as order
 use Rattle.seam_steps.specs.Reals.{created}

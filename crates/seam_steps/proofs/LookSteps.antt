@@ -1,5 +1,5 @@
 -- Looks and ticks of a cell, computed.
-use Rattle.std.proofs.Common.{◌≡◌, ◌-◌, ◌^◌, List, [], ◌∷◌, None, Some, refl}
+use Rattle.std.proofs.Common.{◌≡◌, ◌-◌, ◌^◌, [], ◌∷◌, Some}
 use Rattle.std.specs.FinMap as table
 use Rattle.seam_machine.specs.declared.machines.Input.TheVariants.{Task, From}
 use Rattle.seam_entity.specs.declared.message.Msg.TheVariants.{Tick}

@@ -1,11 +1,10 @@
 -- A world is quiet where no node has a task and no link a message.
-use Rattle.std.proofs.Common.{◌≡◌, ℕ, zero, suc, Bool, true, false, not, ◌&&◌, List, [], ◌∷◌, Option, None, Some, refl, subst}
-use Rattle.std.specs.Prelude.{slice_get, slice_index_or}
+use Rattle.std.proofs.Common.{◌≡◌, ℕ, zero, suc, Bool, true, false, not, ◌&&◌, List, [], ◌∷◌, refl, subst}
+use Rattle.std.specs.Prelude.{slice_index_or}
 use Rattle.std.specs.List.{list_all}
 use Rattle.seam_machine.specs.Nets.{IsQuiet, link}
-use Rattle.seam_machine.specs.Events.{EachNode, EachLink}
+use Rattle.seam_machine.specs.Events.{EachNode}
 use Rattle.seam_machine.proofs.Quiet.{quiet_from}
-use Rattle.seam_entity.specs.declared.message.Msg.{Msg}
 use Rattle.seam_steps.specs.Maps.{has_any}
 use Rattle.seam_steps.specs.Nodes.{NodeView, World, node_has_work}
 

@@ -1,8 +1,7 @@
 -- At stray input nothing changes but the list that a task's entry is taken from.
-use Rattle.std.proofs.Common.{◌≡◌, ℕ, Bool, true, List, [], ◌∷◌, ap}
-use Rattle.std.specs.FinMap as table
+use Rattle.std.proofs.Common.{◌≡◌, ℕ, true, List, ◌∷◌, ap}
 use Rattle.seam_tree.specs.Division.{Division}
-use Rattle.seam_machine.specs.declared.machines.Input.TheVariants.{Task, From}
+use Rattle.seam_machine.specs.declared.machines.Input.TheVariants.{From}
 use Rattle.seam_call.specs.declared.order.Order.{Order}
 use Rattle.seam_entity.specs.declared.message.Msg.{Msg}
 use Rattle.seam_steps.specs.Here.{Here}

@@ -1,5 +1,5 @@
 -- For callers: how maps and sets of a few entries compute. std's do not unfold; these rules say what they are.
-use Rattle.std.proofs.Common.{◌≡◌, ℕ, Bool, true, false, cond, List, [], ◌∷◌, Option, None, Some, length, map, not, ◌&&◌, refl, sym, ap, ◌∙◌, arith, ◌+◌}
+use Rattle.std.proofs.Common.{◌≡◌, ℕ, Bool, true, false, cond, List, [], ◌∷◌, Option, None, Some, length, ◌&&◌, refl, sym, ◌∙◌, arith}
 use Rattle.std.specs.Ordering.{nat_cmp, eq_by_cmp}
 use Rattle.std.specs.Cmp.{nat_cmp_total}
 use Rattle.std.specs.Str.{is_utf8}

@@ -1,6 +1,6 @@
 -- A step sends to nodes of the net, and leaves next places that are cells.
 use Rattle.std.proofs.Common.{◌≡◌, ℕ, zero, suc, ◌+◌, ◌<◌, ◌≤◌, Bool, true, false, List, [], ◌∷◌, ◌++◌, Option, None, Some, map, not, ap, refl, arith}
-use Rattle.std.specs.Prelude.{filter_map}
+use Rattle.std.specs.Prelude.{filter_map, ◌==◌, ◌||◌}
 use Rattle.std.specs.List.{range_with_len, cons_option}
 use Rattle.std.specs.FinMap as table
 use Rattle.std.specs.FinSet as set
@@ -31,7 +31,7 @@ use Rattle.seam_steps.specs.Here.{Here, cell_count, base_of, peers_of}
 use Rattle.seam_steps.specs.Calls.{ready_order}
 use Rattle.seam_steps.specs.Reals.{copy_of_real, executed, executed_ready, with_offer, shows}
 use Rattle.seam_steps.specs.Slots.{Slot, NextPlace, SlotStep, rests, unless_stray, becomes}
-use Rattle.seam_steps.specs.Settle.{told, told_unless, ghost_message, ghost_messages, none_passed, both_passed, home_by, home_after, stays, goes, gone_to, settled_by, settled}
+use Rattle.seam_steps.specs.Settle.{told, told_unless, ghost_message, ghost_messages, home_by, home_after, stays, goes, gone_to, settled_by, settled}
 use Rattle.seam_steps.specs.CellCases
 use Rattle.seam_steps.specs.CellCases.{about, slot_steps, survey_task, ready_call_task}
 use Rattle.seam_steps.specs.Looks.{Known, numbered, look_by, look_task}
@@ -109,11 +109,11 @@ module _ (h : Here) (me_in : h.me < cell_count) (some : 1 ≤ h.settings.bases) 
   good_becomes : (s : Slot) → NextIn s.next → IsGood (becomes s)
   good_becomes s n = record { sends = tt; next = n }
 
-  ghosts_below : (r : RealView) (now : Cells) (beat : ℕ) (changed : Bool) (passes : ℕ → Bool) → Below (peers_of h) (ghost_messages h r now beat changed passes)
-  ghosts_below r now beat changed passes = chosen_below (peers_of h) 0 cell_count (ghost_message h r now beat changed passes) (λ k lt. told_below (peers_of h) k (passes k) (told r.entity beat (copy_of_real h r) (set.contains now k) (set.contains r.haunts k) changed) (omega (arith, lt)))
+  ghosts_below : (r : RealView) (j : ℕ) (haunts : Cells) (changed : Bool) → Below (peers_of h) (ghost_messages h r j haunts changed)
+  ghosts_below r j haunts changed = chosen_below (peers_of h) 0 cell_count (ghost_message h r j haunts changed) (λ k lt. told_below (peers_of h) k ((k == h.me) || (k == j)) (told r.entity (r.beat + 1) (copy_of_real h r) (set.contains haunts k) (set.contains r.haunts k) changed) (omega (arith, lt)))
 
   good_stays : (s : Slot) (r : RealView) (changed : Bool) → NextIn s.next → IsGood (stays h t s r changed)
-  good_stays s r changed n = record { sends = ghosts_below r _ (r.beat + 1) changed none_passed; next = n }
+  good_stays s r changed n = record { sends = ghosts_below r h.me _ changed; next = n }
 
   one_in : (x n : NextPlace) → x.cell < cell_count → Some x ≡ Some n → n.cell < cell_count
   one_in x n lt e = let same : x ≡ n = cc in let cell = ap (λ y. y.cell) same in omega (arith, cell, lt)
@@ -124,7 +124,7 @@ module _ (h : Here) (me_in : h.me < cell_count) (some : 1 ≤ h.settings.bases) 
     next = λ n e. one_in (record { cell = j; generation = r.generation + 1 }) n lt e }
 
   good_goes : (s : Slot) (r : RealView) (changed : Bool) (j : ℕ) → j < cell_count → IsGood (goes h t s r changed j)
-  good_goes s r changed j lt = good_gone s r j _ _ (ghosts_below r _ (r.beat + 1) changed (both_passed h.me j)) lt
+  good_goes s r changed j lt = good_gone s r j _ _ (ghosts_below r j _ changed) lt
 
   home_in : (b : Bool) (leaf : ℕ) → leaf < cell_count → home_by b h.me leaf < cell_count
   home_in true leaf lt = me_in

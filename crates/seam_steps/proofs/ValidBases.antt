@@ -1,5 +1,5 @@
 -- A base node's step keeps what is true of the node.
-use Rattle.std.proofs.Common.{◌≡◌, ℕ, ◌+◌, ◌<◌, ◌≤◌, Bool, true, false, cond, not, ltb, ◌&&◌, List, [], ◌∷◌, Option, None, Some, refl, sym, ap, ◌∙◌, arith}
+use Rattle.std.proofs.Common.{◌≡◌, ℕ, ◌<◌, Bool, true, false, cond, not, ltb, ◌&&◌, List, [], ◌∷◌, Option, None, Some, refl, sym, ap, ◌∙◌, arith}
 use Rattle.std.specs.Prelude.{nat_lt}
 use Rattle.std.specs.Ordering.{nat_cmp, eq_by_cmp}
 use Rattle.std.specs.Cmp.{nat_cmp_total}
@@ -18,7 +18,7 @@ use Rattle.seam_steps.specs.Numbers.{is_small}
 use Rattle.seam_steps.specs.Here.{cell_count}
 use Rattle.seam_steps.specs.Bases.{BaseView, PartView, RouteView, ProxyView}
 use Rattle.seam_steps.specs.BaseCases
-use Rattle.seam_steps.specs.Valid.{IsBase, RoutesAreCells}
+use Rattle.seam_steps.specs.Valid.{IsBase}
 
 -- what no step but that of a Current changes
 pub record SameRoutes (b c : BaseView) : Type 0 where

@@ -1,10 +1,10 @@
 -- "View hysteresis", event by event.
-use Rattle.std.proofs.Common.{◌≡◌, true, List, [], ◌∷◌, Some, None, refl}
+use Rattle.std.proofs.Common.{◌≡◌, true, [], ◌∷◌, Some, refl}
 use Rattle.seam_machine.specs.Nets.{happens, enabled, IsQuiet}
 use Rattle.seam_steps.specs.Nodes.{node_steps, node_has_work}
 use Rattle.seam_steps.specs.Holders.{holders}
-use Rattle.seam_steps.specs.Loads.{loaded, look_loaded, reaps_loaded}
-use Rattle.seam_steps.specs.Rows.{IsRow, empty_world, task, mail, copy_at, done_in_cell, copy_in_cell, lines_of_client}
+use Rattle.seam_steps.specs.Loads.{loaded, look_loaded}
+use Rattle.seam_steps.specs.Rows.{IsRow, empty_world, task, mail, lines_of_client}
 use Rattle.seam_steps.proofs.Tables.{computing}
 use Rattle.seam_steps.proofs.Quiet.{is_quiet, quiet_of}
 use Rattle.seam_steps.specs.ViewRounds.{batch_1, batch_of, move_to, first_steps, first_looks, second_steps, second_looks, third_steps, third_looks, base_line, line, own, enter_2, set_2, leave_2, first_0, first_1, first_2, first_look_0, first_look_1, first_look_2, first_look_3, first_look_4, first_look_5, second_0, second_1, second_2, second_3, second_4, second_look_0, second_look_1, second_look_2, second_look_3, second_look_4, third_0, third_1, third_2, third_3, third_4, third_look_0, third_look_1, third_look_2, third_look_3, third_look_4}

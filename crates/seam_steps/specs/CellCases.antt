@@ -1,5 +1,5 @@
 -- The cases of a cell's step: what a message, and a task about one entity, do to what the cell has of the entity.
-use Rattle.std.specs.Prelude.{ℕ, ◌+◌, Bool, true, false, not, ◌&&◌, nat_lt, is_some, List, [], ◌∷◌, map, filter_map, Option, None, Some, if◌then◌else◌}
+use Rattle.std.specs.Prelude.{ℕ, ◌+◌, Bool, true, false, not, ◌&&◌, nat_lt, List, [], ◌∷◌, map, filter_map, Option, None, Some}
 use Rattle.std.specs.List.{list_all}
 use Rattle.std.specs.Ordering.{nat_cmp}
 use Rattle.std.specs.declared.cmp.Ordering.{Ordering}
@@ -16,7 +16,7 @@ use Rattle.seam_entity.specs.declared.message.Msg.{Msg}
 use Rattle.seam_entity.specs.declared.message.Msg.TheVariants.{Call, BaseCall, Hand, Current, GhostSet, GhostDrop, Tick, Reap, Update}
 use Rattle.seam_steps.specs.Numbers.{is_small, may_rise}
 use Rattle.seam_steps.specs.Here.{Here, cell_numbers, base_numbers}
-use Rattle.seam_steps.specs.Calls.{ready_order, has_ready}
+use Rattle.seam_steps.specs.Calls.{ready_order}
 use Rattle.seam_steps.specs.Reals.{fits_real, fits_copy, may_settle, may_execute, may_call, with_offer, executed, executed_ready, shows}
 use Rattle.seam_steps.specs.Slots.{Slot, NextPlace, SlotStep, rests, unless_stray, becomes, sends, heard}
 use Rattle.seam_steps.specs.Settle.{settled}

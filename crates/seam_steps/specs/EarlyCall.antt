@@ -1,5 +1,5 @@
 -- "An early call is held": a call comes to a real before the one that its sender made first.
-use Rattle.std.specs.Prelude.{ℕ, true, false, List, [], ◌∷◌, Option, None, Some}
+use Rattle.std.specs.Prelude.{ℕ, false, List, [], ◌∷◌, None}
 use Rattle.std.specs.FinMap as table
 use Rattle.std.specs.FinSet as set
 use Rattle.seam_machine.specs.declared.machines.Event.{Event}

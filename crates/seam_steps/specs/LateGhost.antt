@@ -1,6 +1,5 @@
 -- "A late ghost message": words of a lower beat come after one of a greater beat. Then the entity is reaped.
-use Rattle.std.specs.Prelude.{ℕ, true, false, List, [], ◌∷◌, Option, None, Some}
-use Rattle.std.specs.FinMap as table
+use Rattle.std.specs.Prelude.{ℕ, false, List, [], ◌∷◌, None, Some}
 use Rattle.std.specs.FinSet as set
 use Rattle.seam_machine.specs.declared.machines.Event.{Event}
 use Rattle.seam_tree.specs.declared.boundary.Axis.TheVariants.{X, Z}

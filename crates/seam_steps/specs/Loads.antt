@@ -1,5 +1,5 @@
 -- A world as it is opened, and what the three loads make of one.
-use Rattle.std.specs.Prelude.{ℕ, ◌+◌, Bool, true, false, ◌==◌, List, [], ◌∷◌, ◌++◌, map, fold, replicate, Option, None, Some, option_map}
+use Rattle.std.specs.Prelude.{ℕ, Bool, true, false, ◌==◌, List, [], ◌∷◌, ◌++◌, map, fold, replicate, None, Some, option_map}
 use Rattle.std.specs.FinMap as table
 use Rattle.seam_tree.specs.Division.{Division, leaf_at, cells_of}
 use Rattle.seam_defs.specs.declared.settings.Settings.{Settings}

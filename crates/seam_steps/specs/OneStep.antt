@@ -1,5 +1,5 @@
 -- Single steps: nodes before and after them.
-use Rattle.std.specs.Prelude.{ℕ, pos, List, [], ◌∷◌, Option, None, Some}
+use Rattle.std.specs.Prelude.{ℕ, pos, List, [], ◌∷◌, Option, Some}
 use Rattle.std.specs.FinMap as table
 use Rattle.std.specs.FinSet as set
 use Rattle.seam_value.specs.declared.values.Value.TheVariants.{Number, Text}
@@ -24,7 +24,7 @@ use Rattle.seam_steps.specs.Maps.{Map}
 use Rattle.seam_steps.specs.Slots.{NextPlace}
 use Rattle.seam_steps.specs.Cells.{CellView}
 use Rattle.seam_steps.specs.Bases.{BaseView, PartView, ProxyView}
-use Rattle.seam_steps.specs.Rows.{at, call, hit, here, cell, real, order, one}
+use Rattle.seam_steps.specs.Rows.{at, call, here, cell, order, one}
 use Rattle.seam_steps.specs.LateGhost.{three_cells}
 
 -- cell k of the three

@@ -1,5 +1,5 @@
 -- Which calls a real executes, and what they leave of it.
-use Rattle.std.specs.Prelude.{ℕ, ◌+◌, Bool, true, false, ◌&&◌, nat_lt, List, [], ◌∷◌, ◌++◌, length, Option, None}
+use Rattle.std.specs.Prelude.{ℕ, ◌+◌, Bool, true, false, ◌&&◌, nat_lt, [], ◌∷◌, ◌++◌, length, None}
 use Rattle.std.specs.FinMap as table
 use Rattle.std.specs.FinSet as set
 use Rattle.seam_geo.specs.declared.pos.Pos.{Pos}

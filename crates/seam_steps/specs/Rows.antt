@@ -1,5 +1,5 @@
 -- Worked rows: a world, events, and the world after each.
-use Rattle.std.specs.Prelude.{◌≡◌, ℕ, ◌-◌, pos, Bool, true, List, [], ◌∷◌, ◌++◌, length, map, fold, replicate, slice_get, slice_set, slice_index_or, Option, None, Some, option_map}
+use Rattle.std.specs.Prelude.{◌≡◌, ℕ, ◌-◌, pos, true, List, [], ◌∷◌, ◌++◌, length, map, fold, replicate, slice_get, slice_set, slice_index_or, Option, None, Some, option_map}
 use Rattle.std.specs.List.{range_with_len}
 use Rattle.std.specs.FinMap as table
 use Rattle.seam_geo.specs.declared.pos.Pos.{Pos}
@@ -11,7 +11,7 @@ use Rattle.seam_tree.specs.Division.{Division}
 use Rattle.seam_tree.specs.Cells.{Cells}
 use Rattle.seam_defs.specs.declared.flags.Part.TheVariants as part
 use Rattle.seam_defs.specs.declared.states.Deed.{Deed}
-use Rattle.seam_defs.specs.declared.states.Deed.TheVariants.{Move, Method}
+use Rattle.seam_defs.specs.declared.states.Deed.TheVariants.{Method}
 use Rattle.seam_defs.specs.Builtin.{builtin}
 use Rattle.seam_defs.specs.Settings.{standard}
 use Rattle.seam_ghosts.specs.declared.Ghost.{Ghost}
@@ -22,7 +22,6 @@ use Rattle.seam_machine.specs.Nets.{enabled, happens}
 use Rattle.seam_call.specs.declared.sender.Sender.TheVariants as sender
 use Rattle.seam_call.specs.declared.call.Call.{Call}
 use Rattle.seam_call.specs.declared.create.Create.{Create}
-use Rattle.seam_call.specs.declared.order.Order.{Order}
 use Rattle.seam_call.specs.declared.shown.GhostCopy.{GhostCopy}
 use Rattle.seam_call.specs.declared.shown.Line.{Line}
 use Rattle.seam_entity.specs.Orders.{Orders}

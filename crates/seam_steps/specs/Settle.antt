@@ -1,5 +1,5 @@
 -- Settling: a real's home is found anew, its haunts are told, and it may be handed over.
-use Rattle.std.specs.Prelude.{ℕ, ◌+◌, Bool, true, false, ◌||◌, ◌==◌, nat_le, List, [], ◌∷◌, ◌++◌, filter_map, Option, None, Some, option_map, if◌then◌else◌}
+use Rattle.std.specs.Prelude.{ℕ, ◌+◌, Bool, true, false, ◌||◌, ◌==◌, nat_le, List, [], ◌∷◌, ◌++◌, filter_map, Option, None, Some, option_map}
 use Rattle.std.specs.FinSet as set
 use Rattle.seam_geo.specs.declared.pos.Pos.{Pos}
 use Rattle.seam_tree.specs.Division.{Division, leaf_at}
@@ -41,13 +41,14 @@ abbrev pub told_unless : Bool → ℕ → Option Msg → Option (ℕ × Msg)
 told_unless true k m = None
 told_unless false k m = option_map (λ x. (k, x)) m
 
--- what cell k is told, where the cells that are passed over hear nothing
-abbrev pub ghost_message : Here → RealView → Cells → ℕ → Bool → (ℕ → Bool) → ℕ → Option (ℕ × Msg)
-ghost_message h r now beat changed passes k = told_unless (passes k) k (told r.entity beat (copy_of_real h r) (set.contains now k) (set.contains r.haunts k) changed)
+-- what cell k is told of a real that settles in cell j with these haunts: this cell and cell j are told nothing
+abbrev pub ghost_message : Here → RealView → ℕ → Cells → Bool → ℕ → Option (ℕ × Msg)
+ghost_message h r j haunts changed k =
+    told_unless ((k == h.me) || (k == j)) k (told r.entity (r.beat + 1) (copy_of_real h r) (set.contains haunts k) (set.contains r.haunts k) changed)
 
--- what all cells are told, in rising number
-abbrev pub ghost_messages : Here → RealView → Cells → ℕ → Bool → (ℕ → Bool) → List (ℕ × Msg)
-ghost_messages h r now beat changed passes = filter_map (ghost_message h r now beat changed passes) cell_numbers
+-- what all cells are told, in rising number, under the next beat
+abbrev pub ghost_messages : Here → RealView → ℕ → Cells → Bool → List (ℕ × Msg)
+ghost_messages h r j haunts changed = filter_map (ghost_message h r j haunts changed) cell_numbers
 
 abbrev pub settled_to : RealView → Cells → ℕ → ℕ → RealView
 settled_to r haunts beat generation = record r { haunts = haunts; beat = beat; generation = generation }
@@ -58,16 +59,13 @@ abbrev pub beat_after : {A : Type 0} → List A → ℕ → ℕ
 beat_after [] beat = beat
 beat_after (m ∷ ms) beat = beat + 1
 
-abbrev pub none_passed : ℕ → Bool
-none_passed k = false
-
 abbrev pub stayed : Slot → RealView → Cells → List (ℕ × Msg) → SlotStep
 stayed s r haunts sent = record { slot = Some (record s { real = Some (settled_to r haunts (beat_after sent r.beat) r.generation) }); unlisted = false; sent = sent }
 
 abbrev pub stays : Here → Division → Slot → RealView → Bool → SlotStep
 stays h t s r changed =
     let haunts : Cells = haunts_at h t r.state.pos h.me r.haunts in
-    stayed s r haunts (ghost_messages h r haunts (r.beat + 1) changed none_passed)
+    stayed s r haunts (ghost_messages h r h.me haunts changed)
 
 -- ---- point 3: it goes to cell j; beat and generation rise, this cell counts as a former haunt, and its own book takes the
 -- copy or drops it; the Hand comes last
@@ -82,13 +80,10 @@ gone_to h s r j haunts sent = record {
     unlisted = true;
     sent = sent ++ (j, Hand (settled_to r haunts (r.beat + 1) (r.generation + 1))) ∷ [] }
 
-abbrev pub both_passed : ℕ → ℕ → ℕ → Bool
-both_passed i j k = (k == i) || (k == j)
-
 abbrev pub goes : Here → Division → Slot → RealView → Bool → ℕ → SlotStep
 goes h t s r changed j =
     let haunts : Cells = haunts_at h t r.state.pos j (set.insert r.haunts h.me) in
-    gone_to h s r j haunts (ghost_messages h r haunts (r.beat + 1) changed (both_passed h.me j))
+    gone_to h s r j haunts (ghost_messages h r j haunts changed)
 
 -- ---- all of it
 

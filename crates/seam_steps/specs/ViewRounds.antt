@@ -1,7 +1,6 @@
 -- "View hysteresis": three rounds of a witness in one cell and of another entity that walks out of its view.
-use Rattle.std.specs.Prelude.{ℕ, pos, true, false, List, [], ◌∷◌, ◌++◌, Option, None, Some}
+use Rattle.std.specs.Prelude.{ℕ, pos, false, List, [], ◌∷◌, Option, None, Some}
 use Rattle.std.specs.FinMap as table
-use Rattle.std.specs.FinSet as set
 use Rattle.seam_value.specs.declared.values.Value.TheVariants.{Number}
 use Rattle.seam_tree.specs.Division.{Division}
 use Rattle.seam_defs.specs.declared.flags.Part.TheVariants as part
@@ -28,8 +27,8 @@ use Rattle.seam_steps.specs.Reals.{created}
 use Rattle.seam_steps.specs.Bases.{PartView}
 use Rattle.seam_steps.specs.Nodes.{NodeView, World}
 use Rattle.seam_steps.specs.Nodes.NodeView.{Cell, Base}
-use Rattle.seam_steps.specs.Loads.{one_cell, new_part, with_witness}
-use Rattle.seam_steps.specs.Rows.{at, no, one, here, cell, Way, world, task, mail, values_of}
+use Rattle.seam_steps.specs.Loads.{one_cell, new_part}
+use Rattle.seam_steps.specs.Rows.{at, no, one, here, cell, Way, world, task, mail}
 use Rattle.seam_steps.specs.Rows.{order as in_order}
 
 abbrev pub space : Division
