@@ -1,4 +1,4 @@
--- How the entries of an ordered map stand for the versions shown. An entry without a version is room for one.
+-- How the entries of an ordered map refine the versions shown. An entry without a version is room for one.
 use Rattle.std.specs.Prelude.{ℕ, List, [], ◌∷◌, Option, None, Some}
 
 abbrev pub with_version : ℕ → Option ℕ → List (ℕ × ℕ) → List (ℕ × ℕ)

@@ -29,7 +29,7 @@ use std::marker::Model;
 #[cfg(test)]
 mod tests;
 
-/// What is known of an entity: its public version and where it stands.
+/// What is known of an entity: its public version and its position.
 #[derive(Clone, Copy, Debug, PartialEq, Eq)]
 pub struct Seen {
     pub entity: u32,
@@ -263,7 +263,7 @@ impl View {
         Ok(())
     }
 
-    /// The looks that bring the view up to what is known, for a witness that stands at `own`: the leaves in enter order, the sets
+    /// The looks that bring the view up to what is known, for a witness at `own`: the leaves in enter order, the sets
     /// in enter order, and the enters in rising number. It changes nothing, and makes room to keep the looks.
     ///
     /// What is known is in rising entity number, and the witness itself is not among it.
@@ -337,8 +337,8 @@ impl View {
         }
     }
 
-    // Takes the entities whose leaves stand first among the looks, in enter order as `plan` gives them, out of the view in one
-    // pass: one by one, each leave would move all entries behind it. To keep these leaves afterwards changes nothing.
+    // Takes the entities whose leaves come first among the looks, in enter order as `plan` gives them, out of the view in one
+    // pass: one by one, each leave would move all entries after it. To keep these leaves afterwards changes nothing.
     fn leave_together(&mut self, looks: &[Look])
         ensures same_after { (known : List Seen) → after_looks known self.new.core looks.now ≡ after_looks known self.old.core looks.now }
         ensures places { self.old.places ≤ self.new.places }

@@ -1,6 +1,6 @@
 use Rattle.std.proofs.Common.{eq-eqb, eqb-true, arith}
 use Rattle.seam_defs.proofs.Fitting.{takes-to, takes-from, args-more}
-use Rattle.seam_defs.proofs.defs.are_fitting.Goals as goal
+use Rattle.seam_defs.proofs.methods.are_fitting.Goals as goal
 
 pub returns-then-not-fits_at : goal.returns-then-not-fits_at
 returns-then-not-fits_at c = (
