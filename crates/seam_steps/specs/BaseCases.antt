@@ -7,6 +7,7 @@ use Rattle.std.specs.declared.cmp.Ordering.TheVariants.{Less, Equal, Greater}
 use Rattle.std.specs.FinMap as table
 use Rattle.seam_defs.specs.declared.flags.Part.TheVariants as part
 use Rattle.seam_defs.specs.Deeds.{after}
+use Rattle.seam_defs.specs.Tests.{changes}
 use Rattle.seam_order.specs.Held.{OrderView}
 use Rattle.seam_order.specs.Offers.{next_item, after_offer, after_taking}
 use Rattle.seam_machine.specs.Views.{Stepped}
@@ -25,8 +26,8 @@ use Rattle.seam_entity.specs.declared.message.Msg.{Msg}
 use Rattle.seam_entity.specs.declared.message.Msg.TheVariants.{Call, BaseCall, Hand, Current, GhostSet, GhostDrop, Tick, Reap, Update}
 use Rattle.seam_steps.specs.Maps.{has_any}
 use Rattle.seam_steps.specs.Numbers.{is_small, may_rise}
-use Rattle.seam_steps.specs.Fitting.{can_do, changes}
-use Rattle.seam_steps.specs.Here.{Here, cell_count, base_of}
+use Rattle.seam_steps.specs.Fitting.{can_do}
+use Rattle.seam_steps.specs.Here.{Here, cell_count, base_of, type_at}
 use Rattle.seam_steps.specs.Calls.{may_offer, is_ready, has_ready, ready_order}
 use Rattle.seam_steps.specs.Bases.{BaseView, PartView, ProxyView, RouteView, with_part, with_line, shown_to_client}
 
@@ -51,7 +52,7 @@ may_execute p = may_rise p.version && may_show p.proxy
 
 -- a call for a base part that fits its type
 abbrev pub fits_base_part : Here → ℕ → CallData → Bool
-fits_base_part h ty k = is_for part.Base k.entity k && can_do h.defs h.settings.size ty part.Base k.deed
+fits_base_part h ty k = is_for part.Base k.entity k && can_do h.settings.size (type_at h ty) part.Base k.deed
 
 -- the part may be offered the call, which fits it
 abbrev pub may_call : Here → PartView → CallData → Bool
@@ -59,11 +60,11 @@ may_call h p k = fits_base_part h p.ty k && (may_offer (order_of p.orders k.send
 
 -- the part with its state after the deed, one version and one done call more
 abbrev pub with_deed : Here → PartView → CallData → PartView
-with_deed h p k = record p { state = after h.defs p.ty p.state k.deed; version = p.version + 1; done = p.done ++ k ∷ [] }
+with_deed h p k = record p { state = after (type_at h p.ty) p.state k.deed; version = p.version + 1; done = p.done ++ k ∷ [] }
 
 -- the part after a call that it executes: where the call changed what its client is shown, the client is shown that
 abbrev pub executed : Here → PartView → CallData → PartView
-executed h p k = shown_to_client (changes h.defs p.ty p.state k.deed) h (with_deed h p k)
+executed h p k = shown_to_client (changes (type_at h p.ty) p.state k.deed) h (with_deed h p k)
 
 abbrev pub with_order : PartView → ℕ → OrderView CallData → PartView
 with_order p s o = record p { orders = table.insert p.orders s o }

@@ -30,6 +30,9 @@ peers_of h = cell_count + h.settings.bases
 abbrev pub base_of : Here → ℕ → ℕ
 base_of h e = cell_count + (e % h.settings.bases)
 
--- the properties of a type
+-- the type of a number, and its properties
+abbrev pub type_at : Here → ℕ → TypeDef
+type_at h ty = type_of h.defs ty
+
 abbrev pub properties : Here → ℕ → List Property
-properties h ty = (type_of h.defs ty).properties
+properties h ty = (type_at h ty).properties

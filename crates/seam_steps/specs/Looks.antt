@@ -6,7 +6,7 @@ use Rattle.seam_view.specs.declared.Look.TheVariants as look
 use Rattle.seam_view.specs.Looks.{one_look}
 use Rattle.seam_view.specs.Replica.{after_looks}
 use Rattle.seam_defs.specs.declared.flags.Group.TheVariants as group
-use Rattle.seam_defs.specs.Deeds.{other_of, own_of, taken}
+use Rattle.seam_defs.specs.Deeds.{other_of, own_of, projected}
 use Rattle.seam_call.specs.declared.shown.GhostCopy.{GhostCopy}
 use Rattle.seam_call.specs.declared.shown.Shown.{Shown}
 use Rattle.seam_call.specs.declared.shown.Shown.TheVariants.{Own, Enter, Set, Leave}
@@ -22,7 +22,7 @@ abbrev pub other_of_real : Here → RealView → GhostCopy
 other_of_real h r = record { ty = r.ty; version = r.public; state = other_of (properties h r.ty) r.state }
 
 abbrev pub other_of_copy : Here → GhostCopy → GhostCopy
-other_of_copy h c = record { ty = c.ty; version = c.version; state = record { pos = c.state.pos; props = taken (properties h c.ty) group.Ghost group.Other c.state.props } }
+other_of_copy h c = record { ty = c.ty; version = c.version; state = record { pos = c.state.pos; props = projected (properties h c.ty) group.Ghost group.Other c.state.props } }
 
 -- an entity with what is known of it
 abbrev pub Known : Type 0

@@ -6,6 +6,7 @@ use Rattle.seam_geo.specs.declared.pos.Pos.{Pos}
 use Rattle.seam_defs.specs.declared.flags.Part.TheVariants as part
 use Rattle.seam_defs.specs.declared.flags.Group.TheVariants as group
 use Rattle.seam_defs.specs.Deeds.{after, ghost_of, start_values}
+use Rattle.seam_defs.specs.Tests.{are_of_group, changes}
 use Rattle.seam_order.specs.Held.{OrderView}
 use Rattle.seam_order.specs.Offers.{after_offer, after_taking}
 use Rattle.seam_call.specs.declared.call.Call.{Call}
@@ -15,8 +16,8 @@ use Rattle.seam_call.specs.Calls.{is_for}
 use Rattle.seam_entity.specs.Orders.{order_of}
 use Rattle.seam_entity.specs.Reals.{RealView}
 use Rattle.seam_steps.specs.Numbers.{may_rise}
-use Rattle.seam_steps.specs.Fitting.{is_inside, are_of_group, can_do, changes}
-use Rattle.seam_steps.specs.Here.{Here, properties}
+use Rattle.seam_steps.specs.Fitting.{is_inside, can_do}
+use Rattle.seam_steps.specs.Here.{Here, type_at, properties}
 use Rattle.seam_steps.specs.Calls.{may_offer, all_held}
 
 -- a real that has done nothing
@@ -31,7 +32,7 @@ copy_of_real h r = record { ty = r.ty; version = r.public; state = ghost_of (pro
 
 -- a call for the entity's cell part that fits its type
 abbrev pub fits_cell_part : Here → ℕ → ℕ → Call → Bool
-fits_cell_part h e ty k = is_for part.Cell e k && can_do h.defs h.settings.size ty part.Cell k.deed
+fits_cell_part h e ty k = is_for part.Cell e k && can_do h.settings.size (type_at h ty) part.Cell k.deed
 
 -- the real's type is one of the definitions, its values are of the group, it is in the space, and each held call fits
 abbrev pub fits_real : Here → RealView → Bool
@@ -59,7 +60,7 @@ may_call h r k = fits_cell_part h r.entity r.ty k && (may_offer (order_of r.orde
 
 -- whether others may see what the call changes
 abbrev pub shows : Here → RealView → Call → Bool
-shows h r k = changes h.defs r.ty r.state k.deed
+shows h r k = changes (type_at h r.ty) r.state k.deed
 
 abbrev pub public_after : Bool → ℕ → ℕ → ℕ
 public_after true version public = version
@@ -70,7 +71,7 @@ with_order r s o = record r { orders = table.insert r.orders s o }
 
 -- the real with its state after the deed, one version and one done call more
 abbrev pub with_deed : Here → RealView → Call → RealView
-with_deed h r k = record r { state = after h.defs r.ty r.state k.deed; version = r.version + 1; public = public_after (shows h r k) (r.version + 1) r.public; done = r.done ++ k ∷ [] }
+with_deed h r k = record r { state = after (type_at h r.ty) r.state k.deed; version = r.version + 1; public = public_after (shows h r k) (r.version + 1) r.public; done = r.done ++ k ∷ [] }
 
 -- the real after its sender's order was offered the call
 abbrev pub with_offer : RealView → Call → RealView
