@@ -11,7 +11,7 @@ use Rattle.seam_defs.specs.declared.flags.Part.TheVariants as part
 use Rattle.seam_defs.specs.declared.states.State.{State}
 use Rattle.seam_defs.specs.declared.types.Property.{Property}
 use Rattle.seam_defs.specs.Groups.{in_group, IsWithin, held_by, shown_by}
-use Rattle.seam_defs.specs.Deeds.{projected, properties_of, ghost_of, other_of, values_text, text_of_projected, SameShown, IsOfGroup}
+use Rattle.seam_defs.specs.Deeds.{projected, ghost_of, other_of, values_text, text_of_projected, SameShown, IsOfGroup}
 use Rattle.seam_defs.proofs.Running.{shown-within}
 use Rattle.seam_defs.proofs.Places.{projected-out, projected-shown, projected-hidden, projected-nil}
 

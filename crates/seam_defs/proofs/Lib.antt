@@ -1,4 +1,3 @@
-pub mod WellFormed
 pub mod Zipped
 pub mod NameSearch
 pub mod Numbers
@@ -11,3 +10,5 @@ pub mod Keeping
 pub mod GroupsOfGroups
 pub mod TestLemmas
 pub mod Starts
+pub mod DefsTest
+pub mod WellFormed

@@ -1,5 +1,5 @@
 -- The values of a new entity are of its type's groups.
-use Rattle.std.proofs.Common.{◌≡◌, List, [], ◌∷◌, true, false, All, inl, inr}
+use Rattle.std.proofs.Common.{List, [], ◌∷◌, All, inl, inr}
 use Rattle.std.proofs.lemmas.Bool.{cases_Bool}
 use Rattle.std.proofs.lemmas.List.Elements.{All-head, All-tail}
 use Rattle.seam_value.specs.Values.{Fits}

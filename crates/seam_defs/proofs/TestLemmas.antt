@@ -1,18 +1,16 @@
 -- The tests decide their relations.
-use Rattle.std.proofs.Common.{◌≡◌, ◌≢◌, ℕ, ◌≤◌, ℤ, ◌≤ℤ◌, Bool, true, false, not, ◌&&◌, T, eqb, ◌↔◌, List, [], ◌∷◌, length, map, refl, ap, ◌∙◌, IsTrue, Result, Ok, Err}
+use Rattle.std.proofs.Common.{◌≡◌, ℕ, ◌≤◌, ℤ, ◌≤ℤ◌, Bool, true, false, not, ◌&&◌, T, eqb, ◌↔◌, List, [], ◌∷◌, length, map, refl, ap, ◌∙◌, IsTrue, Result, Ok, Err}
 use Rattle.std.specs.Prelude.{IfOk, OnOk}
 use Rattle.std.specs.Bool.{Decides}
-use Rattle.std.specs.Prelude.{int_le, nat_le, nat_lt}
+use Rattle.std.specs.Prelude.{int_le, nat_le}
 use Rattle.std.specs.List.{AllZip}
-use Rattle.std.specs.Cmp.Lexicographic.{pointwise}
 use Rattle.std.specs.Str.{IsUtf8, is_utf8}
 use Rattle.std.proofs.lemmas.Str.{IsUtf8-from_is_utf8, is_utf8-from_IsUtf8}
 use Rattle.std.proofs.lemmas.Slice.Eq.{slice_eq-Decides, bytes_eq-Decides}
 use Rattle.std.proofs.lemmas.Bool.{leb-true, le-leb}
-use Rattle.std.proofs.lemmas.Bool.Decides.{Decides-int_eq, Decides-eqb, Decides-ltb, Decides-and, Decides-not}
+use Rattle.std.proofs.lemmas.Bool.Decides.{Decides-int_eq, Decides-eqb, Decides-and, Decides-not}
 use Rattle.std.proofs.lemmas.Float.{T_from_true}
 use Rattle.std.specs.Int.Signed.{le_z_yes}
-use Rattle.seam_geo.specs.declared.pos.Pos.{Pos}
 use Rattle.seam_value.specs.Types.{least, greatest}
 use Rattle.seam_value.specs.Values.{Fits}
 use Rattle.seam_value.specs.declared.types.ValueType.{ValueType}
@@ -38,7 +36,7 @@ test_is false false h d = refl
 
 -- ---- values of a type
 
-text-Decides : (t : ValueType) → Decides (is_text t) (t ≡ type.Text)
+pub text-Decides : (t : ValueType) → Decides (is_text t) (t ≡ type.Text)
 text-Decides type.Text = ((λ e. refl), (λ e. refl))
 text-Decides type.Int8 = ((λ e. cc), (λ e. cc))
 text-Decides type.Int16 = ((λ e. cc), (λ e. cc))
@@ -62,7 +60,7 @@ nat_le-Decides a b = (leb-true a b, le-leb a b)
 utf8-Decides : (bytes : List ℕ) → Decides (is_utf8 bytes) (IsUtf8 bytes)
 utf8-Decides bytes = (IsUtf8-from_is_utf8 bytes, is_utf8-from_IsUtf8 bytes)
 
-fits-Decides : (t : ValueType) (v : Value) → Decides (fits_value t v) (Fits v t)
+pub fits-Decides : (t : ValueType) (v : Value) → Decides (fits_value t v) (Fits v t)
 fits-Decides t (Number z) =
     let number = Decides-not (is_text t) (text-Decides t) in
     let both = Decides-and (not (is_text t) && int_le (least t) z) (int_le z (greatest t)) (Decides-and (not (is_text t)) (int_le (least t) z) number (int_le-Decides (least t) z)) (int_le-Decides z (greatest t)) in

@@ -2,7 +2,7 @@
 use Rattle.std.specs.Prelude.{ℕ, ◌+◌, ◌≤◌}
 use Rattle.seam_defs.specs.declared.settings.Settings.{Settings}
 use Rattle.seam_defs.specs.declared.settings.TheConstants.{LARGEST_SIZE, LONGEST_DISTANCE}
-use Rattle.seam_defs.specs.declared.limits.TheConstants.{MOST_BASES}
+use Rattle.seam_defs.specs.declared.limits.TheConstants.{MOST_BASE_NODES}
 
 -- the settings where a header sets none
 abbrev pub standard : Settings
@@ -32,7 +32,7 @@ pub record AreInRange (s : Settings) : Type 0 where
   pub ghost_hysteresis : IsDistance s.ghost_hysteresis
   pub balance_shift : IsDistance s.balance_shift
   pub some_bases : 1 ≤ s.bases
-  pub bases : s.bases ≤ MOST_BASES
+  pub bases : s.bases ≤ MOST_BASE_NODES
 
 -- a cell has a ghost of each entity that a witness in it may have in view, also of a witness that is about to leave it
 abbrev pub GhostsReach : Settings → Type 0

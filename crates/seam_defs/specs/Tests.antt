@@ -1,6 +1,6 @@
 -- Tests of the relations on values, groups and deeds, for definitions that are functions: each is true exactly where its
 -- relation holds, as the public calls that answer it say.
-use Rattle.std.specs.Prelude.{ℕ, Bool, true, false, not, ◌&&◌, ◌==◌, nat_lt, nat_le, int_le, List, length, map}
+use Rattle.std.specs.Prelude.{Bool, true, false, not, ◌&&◌, ◌==◌, nat_lt, nat_le, int_le, List, length, map}
 use Rattle.std.specs.Ordering.{int_eq}
 use Rattle.std.specs.Cmp.Lexicographic.{pointwise}
 use Rattle.std.specs.Str.{bytes_eq, is_utf8}

@@ -20,7 +20,7 @@ mod types;
 pub use defs::Defs;
 pub use flags::{Flag, Group, Part};
 pub use limits::{
-    LONGEST_NAME, MOST_ARGUMENTS, MOST_BASES, MOST_METHODS, MOST_OPERATIONS, MOST_PROPERTIES,
+    LONGEST_NAME, MOST_ARGUMENTS, MOST_BASE_NODES, MOST_METHODS, MOST_OPERATIONS, MOST_PROPERTIES,
     MOST_TYPES,
 };
 pub use listed::Listed;

@@ -17,4 +17,4 @@ pub const MOST_OPERATIONS: usize = 32;
 pub const LONGEST_NAME: usize = 32;
 
 /// The most base nodes of a world.
-pub const MOST_BASES: u32 = 8;
+pub const MOST_BASE_NODES: u32 = 8;

@@ -1,7 +1,7 @@
 ghost use Rattle.std.specs.Prelude.{◌≡◌, ◌↔◌, ◌≤◌, IsTrue};
 ghost use Rattle.seam_defs.specs.Settings.{IsDistance, AreInRange, GhostsReach, AreLegal, standard as standard_settings};
 
-use crate::MOST_BASES;
+use crate::MOST_BASE_NODES;
 
 /// The largest space, on each axis.
 pub const LARGEST_SIZE: u32 = 1_000_000;
@@ -82,9 +82,9 @@ impl Settings {
     }
 
     fn has_bases(&self) -> bool
-        ensures { IsTrue result ↔ ((1 ≤ self.now.bases) × (self.now.bases ≤ MOST_BASES)) }
+        ensures { IsTrue result ↔ ((1 ≤ self.now.bases) × (self.now.bases ≤ MOST_BASE_NODES)) }
     {
-        1 <= self.bases && self.bases <= MOST_BASES
+        1 <= self.bases && self.bases <= MOST_BASE_NODES
     }
 
     fn has_view_distances(&self) -> bool

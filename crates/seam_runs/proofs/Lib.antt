@@ -1,0 +1,5 @@
+pub mod Keeping
+pub mod Runs
+pub mod Seeing
+pub mod Soundness
+pub mod Weighing

@@ -1,0 +1,4 @@
+pub mod Kept
+pub mod Seen
+pub mod Sound
+pub mod Weights
