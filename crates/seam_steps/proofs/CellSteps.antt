@@ -12,6 +12,10 @@ pub survey_tasks_first : cell_steps (cell_of 0 (both (real 100 0 0 (at 1000 1000
     ≡ record { state = cell_of 0 (both (real 100 0 0 (at 1000 1000) no [] set.empty 0 0) (second (real 100 0 0 (at 4900 4900) no [] (cells (1 ∷ 2 ∷ [])) 1 0))) no no (1 ∷ []) []; sent = (1, GhostSet 2 1 (copy_at 0 4900 4900)) ∷ (2, GhostSet 2 1 (copy_at 0 4900 4900)) ∷ [] }
 survey_tasks_first = simp computing
 
+pub survey_tasks_haunts_stay : cell_steps (cell_of 0 (one (real 100 0 0 (at 4900 4900) no [] (cells (1 ∷ 2 ∷ [])) 1 0)) no no (1 ∷ []) []) Task
+    ≡ cell_rests (cell_of 0 (one (real 100 0 0 (at 4900 4900) no [] (cells (1 ∷ 2 ∷ [])) 1 0)) no no [] [])
+survey_tasks_haunts_stay = simp computing
+
 pub survey_tasks_nothing_to_tell : cell_steps (cell_of 0 (one (real 100 0 0 (at 1000 1000) no [] set.empty 0 0)) no no (1 ∷ []) []) Task
     ≡ cell_rests (cell_of 0 (one (real 100 0 0 (at 1000 1000) no [] set.empty 0 0)) no no [] [])
 survey_tasks_nothing_to_tell = simp computing
@@ -76,8 +80,8 @@ pub calls_passed_on_neither : cell_steps (cell_of 0 no no no [] []) (From 16 (Ca
     ≡ cell_rests (cell_of 0 no no no [] [])
 calls_passed_on_neither = simp computing
 
-pub hand_overs_comes_back : cell_steps (cell_of 0 no (one (next_place 1 1)) (one (ghost 2 (Some (copy_at 1 5 5)))) (2 ∷ []) (2 ∷ [])) (From 1 (Hand (real 100 3 3 (at 4990 1000) no [] (cells (1 ∷ [])) 3 2)))
-    ≡ record { state = cell_of 0 (one (real 100 3 3 (at 4990 1000) no [] (cells (1 ∷ [])) 3 2)) no (one (ghost 3 None)) (2 ∷ []) (2 ∷ []); sent = (16, Current 1 0 2) ∷ (17, Current 1 0 2) ∷ [] }
+pub hand_overs_comes_back : cell_steps (cell_of 0 no (one (next_place 1 1)) (one (ghost 2 (Some (copy_at 1 5 5)))) (1 ∷ 2 ∷ []) (2 ∷ 1 ∷ [])) (From 1 (Hand (real 100 3 3 (at 4990 1000) no [] (cells (1 ∷ [])) 3 2)))
+    ≡ record { state = cell_of 0 (one (real 100 3 3 (at 4990 1000) no [] (cells (1 ∷ [])) 3 2)) no (one (ghost 3 None)) (1 ∷ 2 ∷ []) (2 ∷ 1 ∷ []); sent = (16, Current 1 0 2) ∷ (17, Current 1 0 2) ∷ [] }
 hand_overs_comes_back = simp computing
 
 pub hand_overs_greater_beat_stays : cell_steps (cell_of 0 no no (one (ghost 4 None)) [] []) (From 1 (Hand (real 100 3 3 (at 4990 1000) no [] (cells (1 ∷ [])) 3 2)))

@@ -11,10 +11,12 @@ ghost use Rattle.seam_steps.specs.OneStep.{cell_of, both, cells, second, far, no
 
 /// Survey task: the first entity of the list is taken and settles; the cells that become haunts are told in rising number, under
 /// the next beat. Where nothing is sent the beat stays, and where the real is not here the entry alone goes.
-#[tactic(auto, using(crate::proofs::CellSteps::survey_tasks_first, crate::proofs::CellSteps::survey_tasks_nothing_to_tell, crate::proofs::CellSteps::survey_tasks_not_here, crate::proofs::CellSteps::survey_tasks_drop))]
+#[tactic(auto, using(crate::proofs::CellSteps::survey_tasks_first, crate::proofs::CellSteps::survey_tasks_haunts_stay, crate::proofs::CellSteps::survey_tasks_nothing_to_tell, crate::proofs::CellSteps::survey_tasks_not_here, crate::proofs::CellSteps::survey_tasks_drop))]
 pub fn survey_tasks()
     ensures first { cell_steps (cell_of 0 (both (real 100 0 0 (at 1000 1000) no [] set.empty 0 0) (second (real 100 0 0 (at 4900 4900) no [] set.empty 0 0))) no no (2 ∷ 1 ∷ []) []) Task
         ≡ record { state = cell_of 0 (both (real 100 0 0 (at 1000 1000) no [] set.empty 0 0) (second (real 100 0 0 (at 4900 4900) no [] (cells (1 ∷ 2 ∷ [])) 1 0))) no no (1 ∷ []) []; sent = (1, GhostSet 2 1 (copy_at 0 4900 4900)) ∷ (2, GhostSet 2 1 (copy_at 0 4900 4900)) ∷ [] } }
+    ensures haunts_stay { cell_steps (cell_of 0 (one (real 100 0 0 (at 4900 4900) no [] (cells (1 ∷ 2 ∷ [])) 1 0)) no no (1 ∷ []) []) Task
+        ≡ cell_rests (cell_of 0 (one (real 100 0 0 (at 4900 4900) no [] (cells (1 ∷ 2 ∷ [])) 1 0)) no no [] []) }
     ensures nothing_to_tell { cell_steps (cell_of 0 (one (real 100 0 0 (at 1000 1000) no [] set.empty 0 0)) no no (1 ∷ []) []) Task
         ≡ cell_rests (cell_of 0 (one (real 100 0 0 (at 1000 1000) no [] set.empty 0 0)) no no [] []) }
     ensures not_here { cell_steps (cell_of 0 (one (real 100 0 0 (at 1000 1000) no [] set.empty 0 0)) no no (2 ∷ 1 ∷ []) []) Task
@@ -67,12 +69,12 @@ pub fn calls_passed_on()
         ≡ cell_rests (cell_of 0 no no no [] []) }
 {}
 
-/// Hand-over comes: the real is placed, its next place goes, the copy is dropped at the real's beat, the entity is put on no list,
+/// Hand-over comes: the real is placed, its next place goes, the copy is dropped at the real's beat, the lists stay,
 /// and every base node is told, in rising number.
 #[tactic(auto, using(crate::proofs::CellSteps::hand_overs_comes_back, crate::proofs::CellSteps::hand_overs_greater_beat_stays, crate::proofs::CellSteps::hand_overs_real_is_here, crate::proofs::CellSteps::hand_overs_cell_outside_tree, crate::proofs::CellSteps::hand_overs_haunt_outside_tree, crate::proofs::CellSteps::hand_overs_outside_space))]
 pub fn hand_overs()
-    ensures comes_back { cell_steps (cell_of 0 no (one (next_place 1 1)) (one (ghost 2 (Some (copy_at 1 5 5)))) (2 ∷ []) (2 ∷ [])) (From 1 (Hand (real 100 3 3 (at 4990 1000) no [] (cells (1 ∷ [])) 3 2)))
-        ≡ record { state = cell_of 0 (one (real 100 3 3 (at 4990 1000) no [] (cells (1 ∷ [])) 3 2)) no (one (ghost 3 None)) (2 ∷ []) (2 ∷ []); sent = (16, Current 1 0 2) ∷ (17, Current 1 0 2) ∷ [] } }
+    ensures comes_back { cell_steps (cell_of 0 no (one (next_place 1 1)) (one (ghost 2 (Some (copy_at 1 5 5)))) (1 ∷ 2 ∷ []) (2 ∷ 1 ∷ [])) (From 1 (Hand (real 100 3 3 (at 4990 1000) no [] (cells (1 ∷ [])) 3 2)))
+        ≡ record { state = cell_of 0 (one (real 100 3 3 (at 4990 1000) no [] (cells (1 ∷ [])) 3 2)) no (one (ghost 3 None)) (1 ∷ 2 ∷ []) (2 ∷ 1 ∷ []); sent = (16, Current 1 0 2) ∷ (17, Current 1 0 2) ∷ [] } }
     ensures greater_beat_stays { cell_steps (cell_of 0 no no (one (ghost 4 None)) [] []) (From 1 (Hand (real 100 3 3 (at 4990 1000) no [] (cells (1 ∷ [])) 3 2)))
         ≡ record { state = cell_of 0 (one (real 100 3 3 (at 4990 1000) no [] (cells (1 ∷ [])) 3 2)) no (one (ghost 4 None)) [] []; sent = (16, Current 1 0 2) ∷ (17, Current 1 0 2) ∷ [] } }
     ensures real_is_here { cell_steps (cell_of 0 (one (real 100 0 0 (at 1000 1000) no [] set.empty 0 0)) no no [] []) (From 1 (Hand (real 100 3 3 (at 4990 1000) no [] (cells (1 ∷ [])) 3 2)))
