@@ -9,7 +9,3 @@ pub mod Quiet
 pub mod Early
 pub mod Late
 pub mod Views
-pub mod CellSteps
-pub mod BaseSteps
-pub mod LookSteps
-pub mod LoadSteps

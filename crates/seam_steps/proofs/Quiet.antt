@@ -34,7 +34,8 @@ none_in (x ∷ xs) h = cc
 
 idle_at : (ns : List NodeView) → list_all is_idle ns ≡ true → EachNode (λ k s. node_has_work s ≡ false) ns
 idle_at [] h k s e = cc
-idle_at (n ∷ ns) h zero s e = let same : n ≡ s = cc in let idle = (both (is_idle n) (list_all is_idle ns) h).0 in not_true (node_has_work s) (subst (λ m. is_idle m ≡ true) same idle)
+idle_at (n ∷ ns) h zero s e = let same : n ≡ s = cc in let idle =
+    (both (is_idle n) (list_all is_idle ns) h).0 in not_true (node_has_work s) (subst (λ m. is_idle m ≡ true) same idle)
 idle_at (n ∷ ns) h (suc k) s e = idle_at ns (both (is_idle n) (list_all is_idle ns) h).1 k s e
 
 empty_at : {A : Type 0} (ls : List (List A)) (b : ℕ) → all_empty ls ≡ true → slice_index_or ls b [] ≡ []

@@ -9,13 +9,15 @@ use Rattle.seam_steps.specs.Slots.{Slot}
 use Rattle.seam_steps.specs.Cells.{CellView, slot_of, with_slot}
 
 -- what the map has at a number after it was set at one
-pub get-set_at : {X : Type 0} (m : Map X) (e q : ℕ) (o : Option X) → table.get (set_at m e o) q ≡ cond (eq_by_cmp nat_cmp q e) o (table.get m q)
+pub get-set_at : {X : Type 0} (m : Map X) (e q : ℕ) (o : Option X) → table.get (set_at m e o) q
+    ≡ cond (eq_by_cmp nat_cmp q e) o (table.get m q)
 get-set_at m e q None = table.get-remove nat_cmp_total m e q
 get-set_at m e q (Some x) = table.get-insert nat_cmp_total m e x q
 
 -- to set what is there changes nothing
 pub set_at-same : {X : Type 0} (m : Map X) (e : ℕ) → set_at m e (table.get m e) ≡ m
-set_at-same m e = table.same_map nat_cmp_total table.nat_cmp-IsAntisymmetric _ _ (λ q. get-set_at m e q (table.get m e) ∙ at q (eq_by_cmp nat_cmp q e) refl)
+set_at-same m e = table.same_map nat_cmp_total table.nat_cmp-IsAntisymmetric _ _
+    (λ q. get-set_at m e q (table.get m e) ∙ at q (eq_by_cmp nat_cmp q e) refl)
   where
     equal : (q : ℕ) → eq_by_cmp nat_cmp q e ≡ true → e ≡ q
     equal q is = grind (arith, nat_tests, is)
@@ -23,7 +25,8 @@ set_at-same m e = table.same_map nat_cmp_total table.nat_cmp-IsAntisymmetric _ _
     at q true is = ap (table.get m) (equal q is)
     at q false is = refl
 
-slot_of_both : (b : Bool) (s t : Slot) → record { real = cond b s.real t.real; next = cond b s.next t.next; ghost = cond b s.ghost t.ghost } ≡ cond b s t
+slot_of_both : (b : Bool) (s t : Slot) →
+    record { real = cond b s.real t.real; next = cond b s.next t.next; ghost = cond b s.ghost t.ghost } ≡ cond b s t
 slot_of_both true s t = refl
 slot_of_both false s t = refl
 

@@ -65,9 +65,12 @@ cons_below n None ps h k = k
 cons_below n (Some p) ps h k = (h, k)
 
 -- what is sent for some numbers of a range
-chosen_below : {M : Type 0} (n a len : ℕ) (f : ℕ → Option (ℕ × M)) → ((k : ℕ) → k < a + len → SomeBelow n (f k)) → Below n (filter_map f (range_with_len a len))
+chosen_below : {M : Type 0} (n a len : ℕ) (f : ℕ → Option (ℕ × M)) → ((k : ℕ) → k < a + len → SomeBelow n (f k)) →
+    Below n (filter_map f (range_with_len a len))
 chosen_below n a zero f h = tt
-chosen_below n a (suc len) f h = cons_below n (f a) (filter_map f (range_with_len (a + 1) len)) (h a (omega arith)) (chosen_below n (a + 1) len f (λ k lt. h k (omega (arith, lt))))
+chosen_below n a (suc len) f h =
+    cons_below n (f a) (filter_map f (range_with_len (a + 1) len)) (h a (omega arith))
+    (chosen_below n (a + 1) len f (λ k lt. h k (omega (arith, lt))))
 
 -- what is sent for each number of a range
 spread_below : {M : Type 0} (n a len : ℕ) (f : ℕ → M) → a + len ≤ n → Below n (map (λ k. (k, f k)) (range_with_len a len))
@@ -110,7 +113,10 @@ module _ (h : Here) (me_in : h.me < cell_count) (some : 1 ≤ h.settings.bases) 
   good_becomes s n = record { sends = tt; next = n }
 
   ghosts_below : (r : RealView) (j : ℕ) (haunts : Cells) (changed : Bool) → Below (peers_of h) (ghost_messages h r j haunts changed)
-  ghosts_below r j haunts changed = chosen_below (peers_of h) 0 cell_count (ghost_message h r j haunts changed) (λ k lt. told_below (peers_of h) k ((k == h.me) || (k == j)) (told r.entity (r.beat + 1) (copy_of_real h r) (set.contains haunts k) (set.contains r.haunts k) changed) (omega (arith, lt)))
+  ghosts_below r j haunts changed =
+      chosen_below (peers_of h) 0 cell_count (ghost_message h r j haunts changed)
+      (λ k lt. told_below (peers_of h) k ((k == h.me) || (k == j))
+      (told r.entity (r.beat + 1) (copy_of_real h r) (set.contains haunts k) (set.contains r.haunts k) changed) (omega (arith, lt)))
 
   good_stays : (s : Slot) (r : RealView) (changed : Bool) → NextIn s.next → IsGood (stays h t s r changed)
   good_stays s r changed n = record { sends = ghosts_below r h.me _ changed; next = n }
@@ -118,7 +124,8 @@ module _ (h : Here) (me_in : h.me < cell_count) (some : 1 ≤ h.settings.bases) 
   one_in : (x n : NextPlace) → x.cell < cell_count → Some x ≡ Some n → n.cell < cell_count
   one_in x n lt e = let same : x ≡ n = cc in let cell = ap (λ y. y.cell) same in omega (arith, cell, lt)
 
-  good_gone : (s : Slot) (r : RealView) (j : ℕ) (haunts : Cells) (sent : List (ℕ × Msg)) → Below (peers_of h) sent → j < cell_count → IsGood (gone_to h s r j haunts sent)
+  good_gone : (s : Slot) (r : RealView) (j : ℕ) (haunts : Cells) (sent : List (ℕ × Msg)) → Below (peers_of h) sent → j < cell_count →
+      IsGood (gone_to h s r j haunts sent)
   good_gone s r j haunts sent below lt = record {
     sends = append_below (peers_of h) sent _ below (omega (arith, lt), tt);
     next = λ n e. one_in (record { cell = j; generation = r.generation + 1 }) n lt e }
@@ -130,12 +137,14 @@ module _ (h : Here) (me_in : h.me < cell_count) (some : 1 ≤ h.settings.bases) 
   home_in true leaf lt = me_in
   home_in false leaf lt = lt
 
-  good_by : (b : Bool) (s : Slot) (r : RealView) (changed : Bool) (j : ℕ) → NextIn s.next → j < cell_count → IsGood (settled_by b h t s r changed j)
+  good_by : (b : Bool) (s : Slot) (r : RealView) (changed : Bool) (j : ℕ) → NextIn s.next → j < cell_count →
+      IsGood (settled_by b h t s r changed j)
   good_by true s r changed j n lt = good_stays s r changed n
   good_by false s r changed j n lt = good_goes s r changed j lt
 
   good_settled : (s : Slot) (r : RealView) (changed : Bool) → NextIn s.next → IsGood (settled h t s r changed)
-  good_settled s r changed n = good_by _ s r changed (home_after h t r.state.pos) n (home_in _ (leaf_at t r.state.pos) (leaf_in t r.state.pos tree))
+  good_settled s r changed n = good_by _ s r changed (home_after h t r.state.pos) n
+      (home_in _ (leaf_at t r.state.pos) (leaf_in t r.state.pos tree))
 
   good_offered : (s : Slot) (r : RealView) (k : CallData) (o : Ordering) → NextIn s.next → IsGood (CellCases.offered h t s r k o)
   good_offered s r k Less n = good_rests
@@ -154,14 +163,17 @@ module _ (h : Here) (me_in : h.me < cell_count) (some : 1 ≤ h.settings.bases) 
   none_in n e = cc
 
   good_hand : (s : Slot) (r : RealView) → IsGood (CellCases.hand_over_comes h s r)
-  good_hand s r = record { sends = spread_below (peers_of h) cell_count h.settings.bases (λ b. Current r.entity h.me r.generation) (omega arith); next = none_in }
+  good_hand s r = record { sends =
+      spread_below (peers_of h) cell_count h.settings.bases (λ b. Current r.entity h.me r.generation) (omega arith); next = none_in }
 
   good_set : (s : Slot) (beat : ℕ) (c : GhostCopy) (o : Option RealView) → NextIn s.next → IsGood (CellCases.ghost_set s beat c o)
   good_set s beat c None n = record { sends = tt; next = n }
   good_set s beat c (Some r) n = good_rests
 
   good_reap : (s : Slot) (o : Option RealView) → NextIn s.next → IsGood (CellCases.reap s o)
-  good_reap s (Some r) n = record { sends = chosen_below (peers_of h) 0 cell_count (CellCases.drop_at r) (λ k lt. drop_below (peers_of h) k (set.contains r.haunts k) (GhostDrop r.entity (r.beat + 1)) (omega (arith, lt))); next = n }
+  good_reap s (Some r) n = record { sends =
+      chosen_below (peers_of h) 0 cell_count (CellCases.drop_at r)
+      (λ k lt. drop_below (peers_of h) k (set.contains r.haunts k) (GhostDrop r.entity (r.beat + 1)) (omega (arith, lt))); next = n }
   good_reap s None n = good_rests
 
   good_case : (s : Slot) (m : Msg) → NextIn s.next → IsGood (CellCases.case_of h t s m)
@@ -185,7 +197,9 @@ module _ (h : Here) (me_in : h.me < cell_count) (some : 1 ≤ h.settings.bases) 
   numbered_below b e n (s ∷ ss) lt = (lt, numbered_below b e (n + 1) ss lt)
 
   good_look_by : (s : Slot) (r : RealView) (o : Option WitnessView) (known : List Known) → NextIn s.next → IsGood (look_by h s r o known)
-  good_look_by s r (Some w) known n = let lt = mod_below r.entity h.settings.bases some in record { sends = numbered_below (base_of h r.entity) r.entity w.sent _ (omega (arith, lt)); next = n }
+  good_look_by s r (Some w) known n = let lt =
+      mod_below r.entity h.settings.bases some
+      in record { sends = numbered_below (base_of h r.entity) r.entity w.sent _ (omega (arith, lt)); next = n }
   good_look_by s r None known n = good_rests
 
   pub good_look : (s : Slot) (o : Option RealView) (known : List Known) → NextIn s.next → IsGood (look_task h s o known)
@@ -196,7 +210,8 @@ module _ (h : Here) (me_in : h.me < cell_count) (some : 1 ≤ h.settings.bases) 
   good_survey s (Some r) n = good_settled s r false n
   good_survey s None n = good_rests
 
-  good_executes : (s : Slot) (r : RealView) (o : ℕ × OrderView CallData) (k : Option CallData) → NextIn s.next → IsGood (CellCases.executes_ready h t s r o k)
+  good_executes : (s : Slot) (r : RealView) (o : ℕ × OrderView CallData) (k : Option CallData) → NextIn s.next →
+      IsGood (CellCases.executes_ready h t s r o k)
   good_executes s r o (Some k) n = good_settled s (executed_ready h r o k) (shows h r k) n
   good_executes s r o None n = good_rests
 
@@ -212,13 +227,16 @@ module _ (h : Here) (me_in : h.me < cell_count) (some : 1 ≤ h.settings.bases) 
 
 module _ (c : CellView) (is : IsCell c) where
   pub cell_surveys : (e : ℕ) → IsGood c.here is.me_in is.bases c.tree is.tree (Cells.surveys c e (table.get c.reals e))
-  cell_surveys e = good_unless c.here is.me_in is.bases c.tree is.tree _ _ (good_survey c.here is.me_in is.bases c.tree is.tree (slot_of c e) (table.get c.reals e) (is.nexts e))
+  cell_surveys e = good_unless c.here is.me_in is.bases c.tree is.tree _ _
+      (good_survey c.here is.me_in is.bases c.tree is.tree (slot_of c e) (table.get c.reals e) (is.nexts e))
 
   pub cell_calls_ready : (e : ℕ) → IsGood c.here is.me_in is.bases c.tree is.tree (Cells.calls_ready c e (table.get c.reals e))
-  cell_calls_ready e = good_unless c.here is.me_in is.bases c.tree is.tree _ _ (good_ready c.here is.me_in is.bases c.tree is.tree (slot_of c e) (table.get c.reals e) (is.nexts e))
+  cell_calls_ready e = good_unless c.here is.me_in is.bases c.tree is.tree _ _
+      (good_ready c.here is.me_in is.bases c.tree is.tree (slot_of c e) (table.get c.reals e) (is.nexts e))
 
   pub cell_looks : (e : ℕ) → IsGood c.here is.me_in is.bases c.tree is.tree (Cells.looks_around c e (table.get c.reals e) (known_to c e))
-  cell_looks e = good_unless c.here is.me_in is.bases c.tree is.tree _ _ (good_look c.here is.me_in is.bases c.tree is.tree (slot_of c e) (table.get c.reals e) (known_to c e) (is.nexts e))
+  cell_looks e = good_unless c.here is.me_in is.bases c.tree is.tree _ _
+      (good_look c.here is.me_in is.bases c.tree is.tree (slot_of c e) (table.get c.reals e) (known_to c e) (is.nexts e))
 
   pub cell_slot : (e : ℕ) (m : Msg) → IsGood c.here is.me_in is.bases c.tree is.tree (slot_steps c.here c.tree (slot_of c e) m)
   cell_slot e m = good_slot c.here is.me_in is.bases c.tree is.tree (slot_of c e) m (is.nexts e)
@@ -246,15 +264,18 @@ module _ (c : CellView) (is : IsCell c) where
 -- ---- base nodes
 
 module _ (b : BaseView) (is : IsBase b) where
-  unless_below : (d : Bool) (t : Stepped BaseView Msg) → Below (peers_of b.here) t.sent → Below (peers_of b.here) (BaseCases.unless_stray d b t).sent
+  unless_below : (d : Bool) (t : Stepped BaseView Msg) → Below (peers_of b.here) t.sent →
+      Below (peers_of b.here) (BaseCases.unless_stray d b t).sent
   unless_below true t h = tt
   unless_below false t h = h
 
-  on_route_below : (o : Option RouteView) (m : Msg) → ((r : RouteView) → o ≡ Some r → r.cell < cell_count) → Below (peers_of b.here) (BaseCases.on_route o m)
+  on_route_below : (o : Option RouteView) (m : Msg) → ((r : RouteView) → o ≡ Some r → r.cell < cell_count) →
+      Below (peers_of b.here) (BaseCases.on_route o m)
   on_route_below None m n = tt
   on_route_below (Some r) m n = let lt = n r refl in (omega (arith, lt), tt)
 
-  base_below : (d : Bool) (os : List Order) (k : CallData) → Below (peers_of b.here) (BaseCases.base_order d (record b { orders = os }) k).sent
+  base_below : (d : Bool) (os : List Order) (k : CallData) →
+      Below (peers_of b.here) (BaseCases.base_order d (record b { orders = os }) k).sent
   base_below true os k = tt
   base_below false os k = let lt = mod_below k.entity b.here.settings.bases is.bases in (omega (arith, lt), tt)
 
@@ -266,19 +287,23 @@ module _ (b : BaseView) (is : IsBase b) where
 
   proxy_below : (o : Option (ℕ × PartView)) → Below (peers_of b.here) (BaseCases.proxy_task b o).sent
   proxy_below None = tt
-  proxy_below (Some p) = unless_below (not (BaseCases.may_show p.1.proxy)) (BaseCases.sends_none (with_part b p.0 (BaseCases.after_showing p.1 p.1.proxy))) tt
+  proxy_below (Some p) = unless_below (not (BaseCases.may_show p.1.proxy))
+      (BaseCases.sends_none (with_part b p.0 (BaseCases.after_showing p.1 p.1.proxy))) tt
 
   without_below : (o : Option (ℕ × PartView)) → Below (peers_of b.here) (BaseCases.task_without_orders b o).sent
-  without_below (Some p) = unless_below (not (BaseCases.may_execute p.1)) (BaseCases.sends_none (with_part b p.0 (BaseCases.after_ready b.here p.1 (ready_order p.1.orders)))) tt
+  without_below (Some p) = unless_below (not (BaseCases.may_execute p.1))
+      (BaseCases.sends_none (with_part b p.0 (BaseCases.after_ready b.here p.1 (ready_order p.1.orders)))) tt
   without_below None = proxy_below (BaseCases.ready_proxy b)
 
   base_task_below : (os : List Order) → Below (peers_of b.here) (BaseCases.base_task b os).sent
-  base_task_below (o ∷ os) = unless_below (BaseCases.stray_order b o) (BaseCases.order_of_node (record b { orders = os }) o) (order_below os o)
+  base_task_below (o ∷ os) = unless_below (BaseCases.stray_order b o) (BaseCases.order_of_node (record b { orders = os }) o)
+      (order_below os o)
   base_task_below [] = without_below (BaseCases.ready_part b)
 
   base_targets : (i : Input Msg) → AllBelow (peers_of b.here) (base_steps b i).sent
   base_targets Task = to_all (peers_of b.here) _ (base_task_below b.orders)
-  base_targets (From a m) = to_all (peers_of b.here) _ (unless_below (BaseCases.is_stray b m) (BaseCases.sends_none (BaseCases.case_of b m)) tt)
+  base_targets (From a m) = to_all (peers_of b.here) _
+      (unless_below (BaseCases.is_stray b m) (BaseCases.sends_none (BaseCases.case_of b m)) tt)
 
 -- a step of any node sends to nodes of the net
 pub node_targets : (s : NodeView) (i : Input Msg) → IsNode s → AllBelow (node_peers s) (node_steps s i).sent

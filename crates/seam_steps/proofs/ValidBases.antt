@@ -35,13 +35,15 @@ valid_of b c s is = record {
 same : (b : BaseView) → SameRoutes b b
 same b = record { here = refl; cells = refl; routes = refl }
 
-unless_same : (d : Bool) (b : BaseView) (t : Stepped BaseView Msg) → SameRoutes b t.state → SameRoutes b (BaseCases.unless_stray d b t).state
+unless_same : (d : Bool) (b : BaseView) (t : Stepped BaseView Msg) → SameRoutes b t.state →
+    SameRoutes b (BaseCases.unless_stray d b t).state
 unless_same true b t s = same b
 unless_same false b t s = s
 
 -- ---- current
 
-route_in : (d : Bool) (x r : RouteView) (o : Option RouteView) → cond d (Some x) o ≡ Some r → x.cell < cell_count → (o ≡ Some r → r.cell < cell_count) → r.cell < cell_count
+route_in : (d : Bool) (x r : RouteView) (o : Option RouteView) → cond d (Some x) o ≡ Some r → x.cell < cell_count →
+    (o ≡ Some r → r.cell < cell_count) → r.cell < cell_count
 route_in true x r o h lt f = let e : x ≡ r = cc in let c = ap (λ y. y.cell) e in omega (arith, c, lt)
 route_in false x r o h lt f = f h
 
@@ -53,7 +55,9 @@ cell_is_small n d h = by (ltb n cell_count) refl h
     by false t h = cc
 
 newer_valid : (d : Bool) (b : BaseView) (e : ℕ) (r : RouteView) → r.cell < cell_count → IsBase b → IsBase (BaseCases.newer_route d b e r)
-newer_valid true b e r lt is = record { bases = is.bases; cells = is.cells; routes = λ q x h. route_in (eq_by_cmp nat_cmp q e) r x (table.get b.routes q) (sym (table.get-insert nat_cmp_total b.routes e r q) ∙ h) lt (is.routes q x) }
+newer_valid true b e r lt is = record { bases = is.bases; cells = is.cells; routes =
+    λ q x h. route_in (eq_by_cmp nat_cmp q e) r x (table.get b.routes q) (sym (table.get-insert nat_cmp_total b.routes e r q) ∙ h) lt
+    (is.routes q x) }
 newer_valid false b e r lt is = is
 
 current_valid : (b : BaseView) (e : ℕ) (new : RouteView) (o : Option RouteView) (d : Bool) → BaseCases.stray_current new o ≡ d → IsBase b
@@ -68,8 +72,10 @@ call_same : (b : BaseView) (k : CallData) (o : Option PartView) → SameRoutes b
 call_same b k None = same b
 call_same b k (Some p) = record { here = refl; cells = refl; routes = refl }
 
-base_same : (d : Bool) (b : BaseView) (os : List Order) (k : CallData) → SameRoutes b (BaseCases.base_order d (record b { orders = os }) k).state
-base_same true b os k = let s = call_same (record b { orders = os }) k (table.get b.parts k.entity) in record { here = s.here; cells = s.cells; routes = s.routes }
+base_same : (d : Bool) (b : BaseView) (os : List Order) (k : CallData) →
+    SameRoutes b (BaseCases.base_order d (record b { orders = os }) k).state
+base_same true b os k = let s =
+    call_same (record b { orders = os }) k (table.get b.parts k.entity) in record { here = s.here; cells = s.cells; routes = s.routes }
 base_same false b os k = record { here = refl; cells = refl; routes = refl }
 
 order_same : (b : BaseView) (os : List Order) (o : Order) → SameRoutes b (BaseCases.order_of_node (record b { orders = os }) o).state
@@ -98,7 +104,8 @@ update_same : (b : BaseView) (u : UpdateData) (o : Option PartView) → SameRout
 update_same b u None = same b
 update_same b u (Some p) = updated_same b u p p.proxy
 
-heard_same : (b : BaseView) (c : BaseView) (d : Bool) → SameRoutes b c → SameRoutes b (BaseCases.unless_stray d b (BaseCases.sends_none c)).state
+heard_same : (b : BaseView) (c : BaseView) (d : Bool) → SameRoutes b c →
+    SameRoutes b (BaseCases.unless_stray d b (BaseCases.sends_none c)).state
 heard_same b c d s = unless_same d b (BaseCases.sends_none c) s
 
 pub base_stays_valid : (b : BaseView) (i : Input Msg) → IsBase b → IsBase (BaseCases.base_steps b i).state
@@ -123,7 +130,8 @@ current_here : (b : BaseView) (e : ℕ) (new : RouteView) (o : Option RouteView)
 current_here b e new None = refl
 current_here b e new (Some r) = newer_here _ b e new
 
-unless_here : (d : Bool) (b : BaseView) (c : BaseView) → c.here ≡ b.here → (BaseCases.unless_stray d b (BaseCases.sends_none c)).state.here ≡ b.here
+unless_here : (d : Bool) (b : BaseView) (c : BaseView) → c.here ≡ b.here →
+    (BaseCases.unless_stray d b (BaseCases.sends_none c)).state.here ≡ b.here
 unless_here true b c s = refl
 unless_here false b c s = s
 

@@ -168,7 +168,8 @@ proxy_task b (Some p) = unless_stray (not (may_show p.1.proxy)) b (sends_none (w
 -- task without orders: the least base part with a ready call executes the one of its least sender; else the least proxy with a
 -- ready update shows it
 abbrev pub task_without_orders : BaseView → Option (ℕ × PartView) → Stepped BaseView Msg
-task_without_orders b (Some p) = unless_stray (not (may_execute p.1)) b (sends_none (with_part b p.0 (after_ready b.here p.1 (ready_order p.1.orders))))
+task_without_orders b (Some p) =
+    unless_stray (not (may_execute p.1)) b (sends_none (with_part b p.0 (after_ready b.here p.1 (ready_order p.1.orders))))
 task_without_orders b None = proxy_task b (ready_proxy b)
 
 -- the first order is executed; a stray one stays

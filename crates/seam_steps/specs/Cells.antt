@@ -63,7 +63,8 @@ cell_rests c = record { state = c; sent = [] }
 
 -- the reals and the copies here, each as other clients are shown it
 abbrev pub known_in : CellView → List Known
-known_in c = map (λ p. (p.0, other_of_real c.here p.1)) (table.entries c.reals) ++ map (λ p. (p.0, other_of_copy c.here p.1)) (copied (table.entries c.ghosts))
+known_in c = map (λ p. (p.0, other_of_real c.here p.1)) (table.entries c.reals) ++
+    map (λ p. (p.0, other_of_copy c.here p.1)) (copied (table.entries c.ghosts))
 
 -- what the cell knows of others than e, in rising number; of an entity that has a real and a copy here, the real
 abbrev pub known_to : CellView → ℕ → List Known

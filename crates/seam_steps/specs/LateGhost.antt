@@ -76,10 +76,12 @@ abbrev pub heard : ℕ → Ghost GhostCopy → NodeView
 heard k g = Cell (cell three_cells k no no (one g) [] [])
 
 abbrev pub base_16 : List Order → (ℕ × ℕ) → NodeView
-base_16 os to = Base (record { here = here 16; cells = 3; orders = os; routes = one (record { cell = to.0; generation = to.1 }); parts = no })
+base_16 os to = Base (record { here = here 16; cells = 3; orders = os; routes = one (record { cell = to.0; generation = to.1 }); parts =
+    no })
 
 abbrev pub base_17 : List Order → (ℕ × ℕ) → Map PartView → NodeView
-base_17 os to parts = Base (record { here = here 17; cells = 3; orders = os; routes = one (record { cell = to.0; generation = to.1 }); parts = parts })
+base_17 os to parts = Base (record
+    { here = here 17; cells = 3; orders = os; routes = one (record { cell = to.0; generation = to.1 }); parts = parts })
 
 abbrev pub new_parts : Map PartView
 new_parts = one (new_part (here 17) 0)
@@ -88,73 +90,97 @@ abbrev pub with_cells : NodeView → NodeView → NodeView → NodeView → Node
 with_cells c0 c1 c2 b16 b17 ways = world three_cells (c0 ∷ c1 ∷ c2 ∷ []) b16 b17 ways
 
 unfoldable pub world_0 : World
-world_0 = with_cells (at_home made (1 ∷ [])) (idle three_cells 1) (idle three_cells 2) (base_16 (order.Cell move_1 ∷ order.Cell move_2 ∷ []) (0, 0)) (base_17 [] (0, 0) new_parts) []
+world_0 = with_cells (at_home made (1 ∷ [])) (idle three_cells 1) (idle three_cells 2)
+    (base_16 (order.Cell move_1 ∷ order.Cell move_2 ∷ []) (0, 0)) (base_17 [] (0, 0) new_parts) []
 
 -- survey: sets with beat 1
 unfoldable pub world_1 : World
-world_1 = with_cells (at_home surveyed []) (idle three_cells 1) (idle three_cells 2) (base_16 (order.Cell move_1 ∷ order.Cell move_2 ∷ []) (0, 0)) (base_17 [] (0, 0) new_parts) ((0, 1, set_1 ∷ []) ∷ (0, 2, set_1 ∷ []) ∷ [])
+world_1 = with_cells (at_home surveyed []) (idle three_cells 1) (idle three_cells 2)
+    (base_16 (order.Cell move_1 ∷ order.Cell move_2 ∷ []) (0, 0)) (base_17 [] (0, 0) new_parts)
+    ((0, 1, set_1 ∷ []) ∷ (0, 2, set_1 ∷ []) ∷ [])
 
 unfoldable pub world_2 : World
-world_2 = with_cells (at_home surveyed []) (idle three_cells 1) (idle three_cells 2) (base_16 (order.Cell move_2 ∷ []) (0, 0)) (base_17 [] (0, 0) new_parts) ((0, 1, set_1 ∷ []) ∷ (0, 2, set_1 ∷ []) ∷ (16, 0, Call move_1 ∷ []) ∷ [])
+world_2 = with_cells (at_home surveyed []) (idle three_cells 1) (idle three_cells 2) (base_16 (order.Cell move_2 ∷ []) (0, 0))
+    (base_17 [] (0, 0) new_parts) ((0, 1, set_1 ∷ []) ∷ (0, 2, set_1 ∷ []) ∷ (16, 0, Call move_1 ∷ []) ∷ [])
 
 unfoldable pub world_3 : World
-world_3 = with_cells (at_home surveyed []) (idle three_cells 1) (idle three_cells 2) (base_16 [] (0, 0)) (base_17 [] (0, 0) new_parts) ((0, 1, set_1 ∷ []) ∷ (0, 2, set_1 ∷ []) ∷ (16, 0, Call move_1 ∷ Call move_2 ∷ []) ∷ [])
+world_3 = with_cells (at_home surveyed []) (idle three_cells 1) (idle three_cells 2) (base_16 [] (0, 0)) (base_17 [] (0, 0) new_parts)
+    ((0, 1, set_1 ∷ []) ∷ (0, 2, set_1 ∷ []) ∷ (16, 0, Call move_1 ∷ Call move_2 ∷ []) ∷ [])
 
 -- first move: a set with beat 2 to cell 2, an own copy, and the hand-over to cell 1
 unfoldable pub world_4 : World
-world_4 = with_cells (left (ghost 2 (Some (copy_at 1 5100 4900)))) (idle three_cells 1) (idle three_cells 2) (base_16 [] (0, 0)) (base_17 [] (0, 0) new_parts) ((0, 1, set_1 ∷ Hand moved ∷ []) ∷ (0, 2, set_1 ∷ set_2 ∷ []) ∷ (16, 0, Call move_2 ∷ []) ∷ [])
+world_4 = with_cells (left (ghost 2 (Some (copy_at 1 5100 4900)))) (idle three_cells 1) (idle three_cells 2) (base_16 [] (0, 0))
+    (base_17 [] (0, 0) new_parts) ((0, 1, set_1 ∷ Hand moved ∷ []) ∷ (0, 2, set_1 ∷ set_2 ∷ []) ∷ (16, 0, Call move_2 ∷ []) ∷ [])
 
 -- the second move is passed on
 unfoldable pub world_5 : World
-world_5 = with_cells (left (ghost 2 (Some (copy_at 1 5100 4900)))) (idle three_cells 1) (idle three_cells 2) (base_16 [] (0, 0)) (base_17 [] (0, 0) new_parts) ((0, 1, set_1 ∷ Hand moved ∷ Call move_2 ∷ []) ∷ (0, 2, set_1 ∷ set_2 ∷ []) ∷ [])
+world_5 = with_cells (left (ghost 2 (Some (copy_at 1 5100 4900)))) (idle three_cells 1) (idle three_cells 2) (base_16 [] (0, 0))
+    (base_17 [] (0, 0) new_parts) ((0, 1, set_1 ∷ Hand moved ∷ Call move_2 ∷ []) ∷ (0, 2, set_1 ∷ set_2 ∷ []) ∷ [])
 
 -- a copy in cell 1
 unfoldable pub world_6 : World
-world_6 = with_cells (left (ghost 2 (Some (copy_at 1 5100 4900)))) (heard 1 (ghost 1 (Some (copy_at 0 4900 4900)))) (idle three_cells 2) (base_16 [] (0, 0)) (base_17 [] (0, 0) new_parts) ((0, 1, Hand moved ∷ Call move_2 ∷ []) ∷ (0, 2, set_1 ∷ set_2 ∷ []) ∷ [])
+world_6 = with_cells (left (ghost 2 (Some (copy_at 1 5100 4900)))) (heard 1 (ghost 1 (Some (copy_at 0 4900 4900)))) (idle three_cells 2)
+    (base_16 [] (0, 0)) (base_17 [] (0, 0) new_parts) ((0, 1, Hand moved ∷ Call move_2 ∷ []) ∷ (0, 2, set_1 ∷ set_2 ∷ []) ∷ [])
 
 -- the real comes there, and the copy goes
 unfoldable pub world_7 : World
-world_7 = with_cells (left (ghost 2 (Some (copy_at 1 5100 4900)))) (away moved) (idle three_cells 2) (base_16 [] (0, 0)) (base_17 [] (0, 0) new_parts) ((0, 1, Call move_2 ∷ []) ∷ (0, 2, set_1 ∷ set_2 ∷ []) ∷ (1, 16, Current 1 1 1 ∷ []) ∷ (1, 17, Current 1 1 1 ∷ []) ∷ [])
+world_7 = with_cells (left (ghost 2 (Some (copy_at 1 5100 4900)))) (away moved) (idle three_cells 2) (base_16 [] (0, 0))
+    (base_17 [] (0, 0) new_parts) ((0, 1, Call move_2 ∷ []) ∷ (0, 2, set_1 ∷ set_2 ∷ []) ∷ (1, 16, Current 1 1 1 ∷ []) ∷
+    (1, 17, Current 1 1 1 ∷ []) ∷ [])
 
 -- second move: a set with beat 3 to cell 0, a drop with beat 3 to cell 2
 unfoldable pub world_8 : World
-world_8 = with_cells (left (ghost 2 (Some (copy_at 1 5100 4900)))) (away moved_on) (idle three_cells 2) (base_16 [] (0, 0)) (base_17 [] (0, 0) new_parts) ((0, 2, set_1 ∷ set_2 ∷ []) ∷ (1, 16, Current 1 1 1 ∷ []) ∷ (1, 17, Current 1 1 1 ∷ []) ∷ (1, 0, set_3 ∷ []) ∷ (1, 2, GhostDrop 1 3 ∷ []) ∷ [])
+world_8 = with_cells (left (ghost 2 (Some (copy_at 1 5100 4900)))) (away moved_on) (idle three_cells 2) (base_16 [] (0, 0))
+    (base_17 [] (0, 0) new_parts) ((0, 2, set_1 ∷ set_2 ∷ []) ∷ (1, 16, Current 1 1 1 ∷ []) ∷ (1, 17, Current 1 1 1 ∷ []) ∷
+    (1, 0, set_3 ∷ []) ∷ (1, 2, GhostDrop 1 3 ∷ []) ∷ [])
 
 -- the drop comes before what was sent earlier
 unfoldable pub world_9 : World
-world_9 = with_cells (left (ghost 2 (Some (copy_at 1 5100 4900)))) (away moved_on) (heard 2 (ghost 3 None)) (base_16 [] (0, 0)) (base_17 [] (0, 0) new_parts) ((0, 2, set_1 ∷ set_2 ∷ []) ∷ (1, 16, Current 1 1 1 ∷ []) ∷ (1, 17, Current 1 1 1 ∷ []) ∷ (1, 0, set_3 ∷ []) ∷ [])
+world_9 = with_cells (left (ghost 2 (Some (copy_at 1 5100 4900)))) (away moved_on) (heard 2 (ghost 3 None)) (base_16 [] (0, 0))
+    (base_17 [] (0, 0) new_parts) ((0, 2, set_1 ∷ set_2 ∷ []) ∷ (1, 16, Current 1 1 1 ∷ []) ∷ (1, 17, Current 1 1 1 ∷ []) ∷
+    (1, 0, set_3 ∷ []) ∷ [])
 
 -- which is ignored
 unfoldable pub world_10 : World
-world_10 = with_cells (left (ghost 2 (Some (copy_at 1 5100 4900)))) (away moved_on) (heard 2 (ghost 3 None)) (base_16 [] (0, 0)) (base_17 [] (0, 0) new_parts) ((0, 2, set_2 ∷ []) ∷ (1, 16, Current 1 1 1 ∷ []) ∷ (1, 17, Current 1 1 1 ∷ []) ∷ (1, 0, set_3 ∷ []) ∷ [])
+world_10 = with_cells (left (ghost 2 (Some (copy_at 1 5100 4900)))) (away moved_on) (heard 2 (ghost 3 None)) (base_16 [] (0, 0))
+    (base_17 [] (0, 0) new_parts) ((0, 2, set_2 ∷ []) ∷ (1, 16, Current 1 1 1 ∷ []) ∷ (1, 17, Current 1 1 1 ∷ []) ∷ (1, 0, set_3 ∷ []) ∷ [])
 
 unfoldable pub world_11 : World
-world_11 = with_cells (left (ghost 2 (Some (copy_at 1 5100 4900)))) (away moved_on) (heard 2 (ghost 3 None)) (base_16 [] (0, 0)) (base_17 [] (0, 0) new_parts) ((1, 16, Current 1 1 1 ∷ []) ∷ (1, 17, Current 1 1 1 ∷ []) ∷ (1, 0, set_3 ∷ []) ∷ [])
+world_11 = with_cells (left (ghost 2 (Some (copy_at 1 5100 4900)))) (away moved_on) (heard 2 (ghost 3 None)) (base_16 [] (0, 0))
+    (base_17 [] (0, 0) new_parts) ((1, 16, Current 1 1 1 ∷ []) ∷ (1, 17, Current 1 1 1 ∷ []) ∷ (1, 0, set_3 ∷ []) ∷ [])
 
 unfoldable pub world_12 : World
-world_12 = with_cells (left (ghost 3 (Some (copy_at 2 5100 4000)))) (away moved_on) (heard 2 (ghost 3 None)) (base_16 [] (0, 0)) (base_17 [] (0, 0) new_parts) ((1, 16, Current 1 1 1 ∷ []) ∷ (1, 17, Current 1 1 1 ∷ []) ∷ [])
+world_12 = with_cells (left (ghost 3 (Some (copy_at 2 5100 4000)))) (away moved_on) (heard 2 (ghost 3 None)) (base_16 [] (0, 0))
+    (base_17 [] (0, 0) new_parts) ((1, 16, Current 1 1 1 ∷ []) ∷ (1, 17, Current 1 1 1 ∷ []) ∷ [])
 
 unfoldable pub world_13 : World
-world_13 = with_cells (left (ghost 3 (Some (copy_at 2 5100 4000)))) (away moved_on) (heard 2 (ghost 3 None)) (base_16 [] (1, 1)) (base_17 [] (0, 0) new_parts) ((1, 17, Current 1 1 1 ∷ []) ∷ [])
+world_13 = with_cells (left (ghost 3 (Some (copy_at 2 5100 4000)))) (away moved_on) (heard 2 (ghost 3 None)) (base_16 [] (1, 1))
+    (base_17 [] (0, 0) new_parts) ((1, 17, Current 1 1 1 ∷ []) ∷ [])
 
 unfoldable pub world_14 : World
-world_14 = with_cells (left (ghost 3 (Some (copy_at 2 5100 4000)))) (away moved_on) (heard 2 (ghost 3 None)) (base_16 [] (1, 1)) (base_17 [] (1, 1) new_parts) []
+world_14 = with_cells (left (ghost 3 (Some (copy_at 2 5100 4000)))) (away moved_on) (heard 2 (ghost 3 None)) (base_16 [] (1, 1))
+    (base_17 [] (1, 1) new_parts) []
 
 abbrev pub steps : List (Event × World)
-steps = (task 0, world_1) ∷ (task 16, world_2) ∷ (task 16, world_3) ∷ (mail 0 16, world_4) ∷ (mail 0 16, world_5) ∷ (mail 1 0, world_6) ∷ (mail 1 0, world_7) ∷ (mail 1 0, world_8) ∷ (mail 2 1, world_9) ∷ (mail 2 0, world_10) ∷ (mail 2 0, world_11) ∷ (mail 0 1, world_12) ∷ (mail 16 1, world_13) ∷ (mail 17 1, world_14) ∷ []
+steps = (task 0, world_1) ∷ (task 16, world_2) ∷ (task 16, world_3) ∷ (mail 0 16, world_4) ∷ (mail 0 16, world_5) ∷ (mail 1 0, world_6) ∷
+    (mail 1 0, world_7) ∷ (mail 1 0, world_8) ∷ (mail 2 1, world_9) ∷ (mail 2 0, world_10) ∷ (mail 2 0, world_11) ∷ (mail 0 1, world_12) ∷
+    (mail 16 1, world_13) ∷ (mail 17 1, world_14) ∷ []
 
 -- ---- a reap, with its load
 
 unfoldable pub reap_0 : World
-reap_0 = with_cells (left (ghost 3 (Some (copy_at 2 5100 4000)))) (away moved_on) (heard 2 (ghost 3 None)) (base_16 [] (1, 1)) (base_17 (order.Reap 1 ∷ []) (1, 1) new_parts) []
+reap_0 = with_cells (left (ghost 3 (Some (copy_at 2 5100 4000)))) (away moved_on) (heard 2 (ghost 3 None)) (base_16 [] (1, 1))
+    (base_17 (order.Reap 1 ∷ []) (1, 1) new_parts) []
 
 -- the base part goes, and the route's cell is told
 unfoldable pub reap_1 : World
-reap_1 = with_cells (left (ghost 3 (Some (copy_at 2 5100 4000)))) (away moved_on) (heard 2 (ghost 3 None)) (base_16 [] (1, 1)) (base_17 [] (1, 1) no) ((17, 1, Reap 1 ∷ []) ∷ [])
+reap_1 = with_cells (left (ghost 3 (Some (copy_at 2 5100 4000)))) (away moved_on) (heard 2 (ghost 3 None)) (base_16 [] (1, 1))
+    (base_17 [] (1, 1) no) ((17, 1, Reap 1 ∷ []) ∷ [])
 
 -- the real goes, and its haunt is told
 unfoldable pub reap_2 : World
-reap_2 = with_cells (left (ghost 3 (Some (copy_at 2 5100 4000)))) (heard 1 (ghost 4 None)) (heard 2 (ghost 3 None)) (base_16 [] (1, 1)) (base_17 [] (1, 1) no) ((1, 0, GhostDrop 1 4 ∷ []) ∷ [])
+reap_2 = with_cells (left (ghost 3 (Some (copy_at 2 5100 4000)))) (heard 1 (ghost 4 None)) (heard 2 (ghost 3 None)) (base_16 [] (1, 1))
+    (base_17 [] (1, 1) no) ((1, 0, GhostDrop 1 4 ∷ []) ∷ [])
 
 unfoldable pub reap_3 : World
 reap_3 = with_cells (left (ghost 4 None)) (heard 1 (ghost 4 None)) (heard 2 (ghost 3 None)) (base_16 [] (1, 1)) (base_17 [] (1, 1) no) []

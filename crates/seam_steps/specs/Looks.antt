@@ -22,7 +22,8 @@ abbrev pub other_of_real : Here → RealView → GhostCopy
 other_of_real h r = record { ty = r.ty; version = r.public; state = other_of (properties h r.ty) r.state }
 
 abbrev pub other_of_copy : Here → GhostCopy → GhostCopy
-other_of_copy h c = record { ty = c.ty; version = c.version; state = record { pos = c.state.pos; props = projected (properties h c.ty) group.Ghost group.Other c.state.props } }
+other_of_copy h c = record { ty = c.ty; version = c.version; state =
+    record { pos = c.state.pos; props = projected (properties h c.ty) group.Ghost group.Other c.state.props } }
 
 -- an entity with what is known of it
 abbrev pub Known : Type 0
@@ -51,7 +52,8 @@ own_if false s = []
 
 -- what the client is shown, in order: its own entity where that is due, then the looks
 abbrev pub all_shown : Here → RealView → WitnessView → List Known → List Look → List Shown
-all_shown h r w known looks = own_if (own_due w.told r.version) (Own r.version (own_of (properties h r.ty) r.state)) ++ filter_map (shown_for known) looks
+all_shown h r w known looks = own_if (own_due w.told r.version) (Own r.version (own_of (properties h r.ty) r.state)) ++
+    filter_map (shown_for known) looks
 
 -- the updates number from n + 1 on, and go to node b
 abbrev pub numbered : ℕ → ℕ → ℕ → List Shown → List (ℕ × Msg)
@@ -64,7 +66,9 @@ told_after false version told = told
 
 -- the witness after it told these, for these looks
 abbrev pub after_looking : List Known → List Look → List Shown → RealView → WitnessView → WitnessView
-after_looking known looks shown r w = record { view = after_looks (map seen_as known) w.view looks; told = told_after (own_due w.told r.version) r.version w.told; sent = w.sent + length shown }
+after_looking known looks shown r w =
+    record { view = after_looks (map seen_as known) w.view looks; told = told_after (own_due w.told r.version) r.version w.told; sent =
+    w.sent + length shown }
 
 -- how a witness looks at what is known
 abbrev pub looks_of : RealView → WitnessView → List Known → List Look

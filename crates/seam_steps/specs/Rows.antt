@@ -74,7 +74,8 @@ abbrev pub values_of : ℕ → List Value
 values_of hp = Number (pos hp) ∷ Number (pos 50) ∷ Number (pos 0) ∷ Text [] ∷ Number (pos 0) ∷ Number (pos 0) ∷ []
 
 abbrev pub copy_at : ℕ → ℕ → ℕ → GhostCopy
-copy_at version x z = record { ty = 0; version = version; state = record { pos = at x z; props = Number (pos 100) ∷ Number (pos 50) ∷ Number (pos 0) ∷ Number (pos 0) ∷ [] } }
+copy_at version x z = record { ty = 0; version = version; state =
+    record { pos = at x z; props = Number (pos 100) ∷ Number (pos 50) ∷ Number (pos 0) ∷ Number (pos 0) ∷ [] } }
 
 -- ---- maps of entity 1
 
@@ -99,7 +100,9 @@ orders a b = table.insert (table.insert table.empty 2 b) 1 a
 
 -- the real of entity 1, an avatar without a client
 abbrev pub real : (hp version public : ℕ) → Pos → Orders → List Call → Cells → (beat generation : ℕ) → RealView
-real hp version public p os done haunts beat generation = record { entity = 1; ty = 0; state = record { pos = p; props = values_of hp }; version = version; public = public; orders = os; done = done; haunts = haunts; beat = beat; generation = generation; witness = None }
+real hp version public p os done haunts beat generation =
+    record { entity = 1; ty = 0; state = record { pos = p; props = values_of hp }; version = version; public = public; orders = os; done =
+    done; haunts = haunts; beat = beat; generation = generation; witness = None }
 
 -- ---- worlds of the built-in types and the standard settings
 
@@ -110,7 +113,8 @@ abbrev pub empty_world : World
 empty_world = opened builtin standard
 
 abbrev pub cell : Division → ℕ → Map RealView → Map NextPlace → Map (Ghost GhostCopy) → List ℕ → List ℕ → CellView
-cell t k reals nexts ghosts survey looks = record { here = here k; tree = t; reals = reals; nexts = nexts; ghosts = ghosts; survey = survey; looks = looks }
+cell t k reals nexts ghosts survey looks =
+    record { here = here k; tree = t; reals = reals; nexts = nexts; ghosts = ghosts; survey = survey; looks = looks }
 
 abbrev pub idle : Division → ℕ → NodeView
 idle t k = Cell (cell t k no no no [] [])

@@ -11,10 +11,13 @@ ghost use Rattle.seam_steps.specs.OneStep.{cell_of, both, cells, second, far, no
 
 /// Survey task: the first entity of the list is taken and settles; the cells that become haunts are told in rising number, under
 /// the next beat. Where nothing is sent the beat stays, and where the real is not here the entry alone goes.
-#[tactic(auto, using(crate::proofs::CellSteps::survey_tasks_first, crate::proofs::CellSteps::survey_tasks_haunts_stay, crate::proofs::CellSteps::survey_tasks_nothing_to_tell, crate::proofs::CellSteps::survey_tasks_not_here, crate::proofs::CellSteps::survey_tasks_drop))]
 pub fn survey_tasks()
-    ensures first { cell_steps (cell_of 0 (both (real 100 0 0 (at 1000 1000) no [] set.empty 0 0) (second (real 100 0 0 (at 4900 4900) no [] set.empty 0 0))) no no (2 ∷ 1 ∷ []) []) Task
-        ≡ record { state = cell_of 0 (both (real 100 0 0 (at 1000 1000) no [] set.empty 0 0) (second (real 100 0 0 (at 4900 4900) no [] (cells (1 ∷ 2 ∷ [])) 1 0))) no no (1 ∷ []) []; sent = (1, GhostSet 2 1 (copy_at 0 4900 4900)) ∷ (2, GhostSet 2 1 (copy_at 0 4900 4900)) ∷ [] } }
+    ensures first { cell_steps (cell_of 0
+        (both (real 100 0 0 (at 1000 1000) no [] set.empty 0 0) (second (real 100 0 0 (at 4900 4900) no [] set.empty 0 0))) no no
+        (2 ∷ 1 ∷ []) []) Task
+        ≡ record { state = cell_of 0 (both (real 100 0 0 (at 1000 1000) no [] set.empty 0 0)
+            (second (real 100 0 0 (at 4900 4900) no [] (cells (1 ∷ 2 ∷ [])) 1 0))) no no (1 ∷ []) []; sent =
+            (1, GhostSet 2 1 (copy_at 0 4900 4900)) ∷ (2, GhostSet 2 1 (copy_at 0 4900 4900)) ∷ [] } }
     ensures haunts_stay { cell_steps (cell_of 0 (one (real 100 0 0 (at 4900 4900) no [] (cells (1 ∷ 2 ∷ [])) 1 0)) no no (1 ∷ []) []) Task
         ≡ cell_rests (cell_of 0 (one (real 100 0 0 (at 4900 4900) no [] (cells (1 ∷ 2 ∷ [])) 1 0)) no no [] []) }
     ensures nothing_to_tell { cell_steps (cell_of 0 (one (real 100 0 0 (at 1000 1000) no [] set.empty 0 0)) no no (1 ∷ []) []) Task
@@ -22,44 +25,69 @@ pub fn survey_tasks()
     ensures not_here { cell_steps (cell_of 0 (one (real 100 0 0 (at 1000 1000) no [] set.empty 0 0)) no no (2 ∷ 1 ∷ []) []) Task
         ≡ cell_rests (cell_of 0 (one (real 100 0 0 (at 1000 1000) no [] set.empty 0 0)) no no (1 ∷ []) []) }
     ensures drop { cell_steps (cell_of 0 (one (real 100 0 0 (at 4500 1000) no [] (cells (1 ∷ 2 ∷ [])) 3 0)) no no (1 ∷ []) []) Task
-        ≡ record { state = cell_of 0 (one (real 100 0 0 (at 4500 1000) no [] set.empty 4 0)) no no [] []; sent = (1, GhostDrop 1 4) ∷ (2, GhostDrop 1 4) ∷ [] } }
+        ≡ record { state = cell_of 0 (one (real 100 0 0 (at 4500 1000) no [] set.empty 4 0)) no no [] []; sent = (1, GhostDrop 1 4) ∷
+            (2, GhostDrop 1 4) ∷ [] } }
 {}
 
 /// Call, real here: in its turn it is executed and the real settles, early it is held, late nothing changes. A hand-over raises
 /// beat and generation, counts the cell as a former haunt, puts the copy into its own book, takes the entity off both lists, and sends the
 /// Hand last.
-#[tactic(auto, using(crate::proofs::CellSteps::calls_of_a_real_hand_over, crate::proofs::CellSteps::calls_of_a_real_within_hysteresis, crate::proofs::CellSteps::calls_of_a_real_private, crate::proofs::CellSteps::calls_of_a_real_held, crate::proofs::CellSteps::calls_of_a_real_late, crate::proofs::CellSteps::calls_of_a_real_turn_of_a_held_one))]
 pub fn calls_of_a_real()
-    ensures hand_over { cell_steps (cell_of 0 (one (real 100 0 0 (at 4990 4700) no [] (cells (1 ∷ 2 ∷ [])) 1 0)) no no (2 ∷ 1 ∷ []) (1 ∷ 2 ∷ [])) (From 16 (Call far))
-        ≡ record { state = cell_of 0 no (one (next_place 1 1)) (one (ghost 2 (Some (copy_at 1 5410 4700)))) (2 ∷ []) (2 ∷ []); sent = (2, GhostSet 1 2 (copy_at 1 5410 4700)) ∷ (1, Hand (real 100 1 1 (at 5410 4700) (of_first (order 2 [])) (far ∷ []) (cells (0 ∷ 2 ∷ [])) 2 1)) ∷ [] } }
-    ensures within_hysteresis { cell_steps (cell_of 0 (one (real 100 0 0 (at 4990 1000) no [] (cells (1 ∷ [])) 1 0)) no no [] []) (From 16 (Call (call 1 1 (Move (at 5009 1000)))))
-        ≡ record { state = cell_of 0 (one (real 100 1 1 (at 5009 1000) (of_first (order 2 [])) (call 1 1 (Move (at 5009 1000)) ∷ []) (cells (1 ∷ [])) 2 0)) no no [] []; sent = (1, GhostSet 1 2 (copy_at 1 5009 1000)) ∷ [] } }
-    ensures private { cell_steps (cell_of 0 (one (real 100 3 2 (at 4900 1000) no [] (cells (1 ∷ [])) 1 0)) no no [] []) (From 16 (Call (call 1 1 note)))
-        ≡ cell_rests (cell_of 0 (one (real 100 4 2 (at 4900 1000) (of_first (order 2 [])) (call 1 1 note ∷ []) (cells (1 ∷ [])) 1 0)) no no [] []) }
-    ensures held { cell_steps (cell_of 0 (one (real 100 0 0 (at 4900 1000) no [] (cells (1 ∷ [])) 1 0)) no no (1 ∷ []) (1 ∷ [])) (From 16 (Call (call 1 2 (hit 1))))
-        ≡ cell_rests (cell_of 0 (one (real 100 0 0 (at 4900 1000) (of_first (order 1 ((2, call 1 2 (hit 1)) ∷ []))) [] (cells (1 ∷ [])) 1 0)) no no (1 ∷ []) (1 ∷ [])) }
-    ensures late { cell_steps (cell_of 0 (one (real 99 1 1 (at 4900 1000) (of_first (order 2 [])) [] (cells (1 ∷ [])) 1 0)) no no [] []) (From 16 (Call (call 1 1 (hit 1))))
+    ensures hand_over { cell_steps (cell_of 0 (one (real 100 0 0 (at 4990 4700) no [] (cells (1 ∷ 2 ∷ [])) 1 0)) no no (2 ∷ 1 ∷ [])
+        (1 ∷ 2 ∷ [])) (From 16 (Call far))
+        ≡ record { state = cell_of 0 no (one (next_place 1 1)) (one (ghost 2 (Some (copy_at 1 5410 4700)))) (2 ∷ []) (2 ∷ []); sent =
+            (2, GhostSet 1 2 (copy_at 1 5410 4700)) ∷
+            (1, Hand (real 100 1 1 (at 5410 4700) (of_first (order 2 [])) (far ∷ []) (cells (0 ∷ 2 ∷ [])) 2 1)) ∷ [] } }
+    ensures within_hysteresis { cell_steps (cell_of 0 (one (real 100 0 0 (at 4990 1000) no [] (cells (1 ∷ [])) 1 0)) no no [] [])
+        (From 16 (Call (call 1 1 (Move (at 5009 1000)))))
+        ≡ record { state = cell_of 0 (one
+            (real 100 1 1 (at 5009 1000) (of_first (order 2 [])) (call 1 1 (Move (at 5009 1000)) ∷ []) (cells (1 ∷ [])) 2 0)) no no [] [];
+            sent = (1, GhostSet 1 2 (copy_at 1 5009 1000)) ∷ [] } }
+    ensures private { cell_steps (cell_of 0 (one (real 100 3 2 (at 4900 1000) no [] (cells (1 ∷ [])) 1 0)) no no [] [])
+        (From 16 (Call (call 1 1 note)))
+        ≡ cell_rests (cell_of 0 (one (real 100 4 2 (at 4900 1000) (of_first (order 2 [])) (call 1 1 note ∷ []) (cells (1 ∷ [])) 1 0)) no
+            no [] []) }
+    ensures held { cell_steps (cell_of 0 (one (real 100 0 0 (at 4900 1000) no [] (cells (1 ∷ [])) 1 0)) no no (1 ∷ []) (1 ∷ []))
+        (From 16 (Call (call 1 2 (hit 1))))
+        ≡ cell_rests (cell_of 0 (one (real 100 0 0 (at 4900 1000) (of_first (order 1 ((2, call 1 2 (hit 1)) ∷ []))) [] (cells (1 ∷ [])) 1
+            0)) no no (1 ∷ []) (1 ∷ [])) }
+    ensures late { cell_steps (cell_of 0 (one (real 99 1 1 (at 4900 1000) (of_first (order 2 [])) [] (cells (1 ∷ [])) 1 0)) no no [] [])
+        (From 16 (Call (call 1 1 (hit 1))))
         ≡ cell_rests (cell_of 0 (one (real 99 1 1 (at 4900 1000) (of_first (order 2 [])) [] (cells (1 ∷ [])) 1 0)) no no [] []) }
-    ensures turn_of_a_held_one { cell_steps (cell_of 0 (one (real 100 0 0 (at 1000 1000) (of_first (order 1 ((2, call 1 2 (hit 1)) ∷ []))) [] set.empty 0 0)) no no [] []) (From 16 (Call (call 1 1 (hit 1))))
-        ≡ cell_rests (cell_of 0 (one (real 99 1 1 (at 1000 1000) (of_first (order 2 ((2, call 1 2 (hit 1)) ∷ []))) (call 1 1 (hit 1) ∷ []) set.empty 0 0)) no no [] []) }
+    ensures turn_of_a_held_one { cell_steps
+        (cell_of 0 (one (real 100 0 0 (at 1000 1000) (of_first (order 1 ((2, call 1 2 (hit 1)) ∷ []))) [] set.empty 0 0)) no no [] [])
+        (From 16 (Call (call 1 1 (hit 1))))
+        ≡ cell_rests (cell_of 0 (one (real 99 1 1 (at 1000 1000) (of_first (order 2 ((2, call 1 2 (hit 1)) ∷ []))) (call 1 1 (hit 1) ∷ [])
+            set.empty 0 0)) no no [] []) }
 {}
 
 /// Ready-call task: without an entity to survey, the least entity that has a ready call executes the one of its least sender, and
 /// settles.
-#[tactic(auto, using(crate::proofs::CellSteps::ready_calls_least_sender, crate::proofs::CellSteps::ready_calls_told, crate::proofs::CellSteps::ready_calls_least_entity, crate::proofs::CellSteps::ready_calls_survey_first))]
 pub fn ready_calls()
-    ensures least_sender { cell_steps (cell_of 0 (one (real 100 0 0 (at 4990 100) (orders (has_first (call 1 1 (Move (at 6000 100)))) (has_first (call 2 1 (hit 1)))) [] (cells (1 ∷ [])) 1 0)) no no [] []) Task
-        ≡ record { state = cell_of 0 no (one (next_place 1 1)) (one (ghost 2 None)) [] []; sent = (1, Hand (real 100 1 1 (at 6000 100) (orders (order 2 []) (has_first (call 2 1 (hit 1)))) (call 1 1 (Move (at 6000 100)) ∷ []) set.empty 2 1)) ∷ [] } }
-    ensures told { cell_steps (cell_of 0 (one (real 100 0 0 (at 4990 100) (of_first (has_first (call 1 1 (Move (at 4980 100))))) [] (cells (1 ∷ [])) 1 0)) no no [] []) Task
-        ≡ record { state = cell_of 0 (one (real 100 1 1 (at 4980 100) (of_first (order 2 [])) (call 1 1 (Move (at 4980 100)) ∷ []) (cells (1 ∷ [])) 2 0)) no no [] []; sent = (1, GhostSet 1 2 (copy_at 1 4980 100)) ∷ [] } }
-    ensures least_entity { cell_steps (cell_of 0 (both (real 100 0 0 (at 1000 1000) (of_first (has_first (call 1 1 (hit 1)))) [] set.empty 0 0) (second (real 100 0 0 (at 1000 1000) (of_first (has_first (call 1 1 (hit 1)))) [] set.empty 0 0))) no no [] (2 ∷ [])) Task
-        ≡ cell_rests (cell_of 0 (both (real 99 1 1 (at 1000 1000) (of_first (order 2 [])) (call 1 1 (hit 1) ∷ []) set.empty 0 0) (second (real 100 0 0 (at 1000 1000) (of_first (has_first (call 1 1 (hit 1)))) [] set.empty 0 0))) no no [] (2 ∷ [])) }
-    ensures survey_first { cell_steps (cell_of 0 (one (real 100 0 0 (at 1000 1000) (of_first (has_first (call 1 1 (hit 1)))) [] set.empty 0 0)) no no (1 ∷ []) (1 ∷ [])) Task
-        ≡ cell_rests (cell_of 0 (one (real 100 0 0 (at 1000 1000) (of_first (has_first (call 1 1 (hit 1)))) [] set.empty 0 0)) no no [] (1 ∷ [])) }
+    ensures least_sender { cell_steps
+        (cell_of 0 (one (real 100 0 0 (at 4990 100) (orders (has_first (call 1 1 (Move (at 6000 100)))) (has_first (call 2 1 (hit 1)))) []
+        (cells (1 ∷ [])) 1 0)) no no [] []) Task
+        ≡ record { state = cell_of 0 no (one (next_place 1 1)) (one (ghost 2 None)) [] []; sent =
+            (1, Hand (real 100 1 1 (at 6000 100) (orders (order 2 []) (has_first (call 2 1 (hit 1)))) (call 1 1 (Move (at 6000 100)) ∷ [])
+            set.empty 2 1)) ∷ [] } }
+    ensures told { cell_steps (cell_of 0
+        (one (real 100 0 0 (at 4990 100) (of_first (has_first (call 1 1 (Move (at 4980 100))))) [] (cells (1 ∷ [])) 1 0)) no no [] []) Task
+        ≡ record { state = cell_of 0 (one
+            (real 100 1 1 (at 4980 100) (of_first (order 2 [])) (call 1 1 (Move (at 4980 100)) ∷ []) (cells (1 ∷ [])) 2 0)) no no [] [];
+            sent = (1, GhostSet 1 2 (copy_at 1 4980 100)) ∷ [] } }
+    ensures least_entity { cell_steps
+        (cell_of 0 (both (real 100 0 0 (at 1000 1000) (of_first (has_first (call 1 1 (hit 1)))) [] set.empty 0 0)
+        (second (real 100 0 0 (at 1000 1000) (of_first (has_first (call 1 1 (hit 1)))) [] set.empty 0 0))) no no [] (2 ∷ [])) Task
+        ≡ cell_rests (cell_of 0 (both (real 99 1 1 (at 1000 1000) (of_first (order 2 [])) (call 1 1 (hit 1) ∷ []) set.empty 0 0)
+            (second (real 100 0 0 (at 1000 1000) (of_first (has_first (call 1 1 (hit 1)))) [] set.empty 0 0))) no no [] (2 ∷ [])) }
+    ensures survey_first { cell_steps
+        (cell_of 0 (one (real 100 0 0 (at 1000 1000) (of_first (has_first (call 1 1 (hit 1)))) [] set.empty 0 0)) no no (1 ∷ []) (1 ∷ []))
+        Task
+        ≡ cell_rests (cell_of 0 (one (real 100 0 0 (at 1000 1000) (of_first (has_first (call 1 1 (hit 1)))) [] set.empty 0 0)) no no []
+            (1 ∷ [])) }
 {}
 
 /// Call, next place: the call is sent on as it is, and nothing changes.
-#[tactic(auto, using(crate::proofs::CellSteps::calls_passed_on_passed, crate::proofs::CellSteps::calls_passed_on_of_any_part, crate::proofs::CellSteps::calls_passed_on_neither))]
 pub fn calls_passed_on()
     ensures passed { cell_steps (cell_of 0 no (one (next_place 2 5)) no [] []) (From 16 (Call (call 1 9 (hit 1))))
         ≡ record { state = cell_of 0 no (one (next_place 2 5)) no [] []; sent = (2, Call (call 1 9 (hit 1))) ∷ [] } }
@@ -71,17 +99,23 @@ pub fn calls_passed_on()
 
 /// Hand-over comes: the real is placed, its next place goes, the copy is dropped at the real's beat, the lists stay,
 /// and every base node is told, in rising number.
-#[tactic(auto, using(crate::proofs::CellSteps::hand_overs_comes_back, crate::proofs::CellSteps::hand_overs_greater_beat_stays, crate::proofs::CellSteps::hand_overs_real_is_here, crate::proofs::CellSteps::hand_overs_cell_outside_tree, crate::proofs::CellSteps::hand_overs_haunt_outside_tree, crate::proofs::CellSteps::hand_overs_outside_space))]
 pub fn hand_overs()
-    ensures comes_back { cell_steps (cell_of 0 no (one (next_place 1 1)) (one (ghost 2 (Some (copy_at 1 5 5)))) (1 ∷ 2 ∷ []) (2 ∷ 1 ∷ [])) (From 1 (Hand (real 100 3 3 (at 4990 1000) no [] (cells (1 ∷ [])) 3 2)))
-        ≡ record { state = cell_of 0 (one (real 100 3 3 (at 4990 1000) no [] (cells (1 ∷ [])) 3 2)) no (one (ghost 3 None)) (1 ∷ 2 ∷ []) (2 ∷ 1 ∷ []); sent = (16, Current 1 0 2) ∷ (17, Current 1 0 2) ∷ [] } }
-    ensures greater_beat_stays { cell_steps (cell_of 0 no no (one (ghost 4 None)) [] []) (From 1 (Hand (real 100 3 3 (at 4990 1000) no [] (cells (1 ∷ [])) 3 2)))
-        ≡ record { state = cell_of 0 (one (real 100 3 3 (at 4990 1000) no [] (cells (1 ∷ [])) 3 2)) no (one (ghost 4 None)) [] []; sent = (16, Current 1 0 2) ∷ (17, Current 1 0 2) ∷ [] } }
-    ensures real_is_here { cell_steps (cell_of 0 (one (real 100 0 0 (at 1000 1000) no [] set.empty 0 0)) no no [] []) (From 1 (Hand (real 100 3 3 (at 4990 1000) no [] (cells (1 ∷ [])) 3 2)))
+    ensures comes_back { cell_steps (cell_of 0 no (one (next_place 1 1)) (one (ghost 2 (Some (copy_at 1 5 5)))) (1 ∷ 2 ∷ []) (2 ∷ 1 ∷ []))
+        (From 1 (Hand (real 100 3 3 (at 4990 1000) no [] (cells (1 ∷ [])) 3 2)))
+        ≡ record { state = cell_of 0 (one (real 100 3 3 (at 4990 1000) no [] (cells (1 ∷ [])) 3 2)) no (one (ghost 3 None)) (1 ∷ 2 ∷ [])
+            (2 ∷ 1 ∷ []); sent = (16, Current 1 0 2) ∷ (17, Current 1 0 2) ∷ [] } }
+    ensures greater_beat_stays { cell_steps (cell_of 0 no no (one (ghost 4 None)) [] [])
+        (From 1 (Hand (real 100 3 3 (at 4990 1000) no [] (cells (1 ∷ [])) 3 2)))
+        ≡ record { state = cell_of 0 (one (real 100 3 3 (at 4990 1000) no [] (cells (1 ∷ [])) 3 2)) no (one (ghost 4 None)) [] []; sent =
+            (16, Current 1 0 2) ∷ (17, Current 1 0 2) ∷ [] } }
+    ensures real_is_here { cell_steps (cell_of 0 (one (real 100 0 0 (at 1000 1000) no [] set.empty 0 0)) no no [] [])
+        (From 1 (Hand (real 100 3 3 (at 4990 1000) no [] (cells (1 ∷ [])) 3 2)))
         ≡ cell_rests (cell_of 0 (one (real 100 0 0 (at 1000 1000) no [] set.empty 0 0)) no no [] []) }
-    ensures cell_outside_tree { cell_steps (cell_of 3 no no no [] []) (From 1 (Hand (real 100 3 3 (at 4990 1000) no [] (cells (1 ∷ [])) 3 2)))
+    ensures cell_outside_tree { cell_steps (cell_of 3 no no no [] [])
+        (From 1 (Hand (real 100 3 3 (at 4990 1000) no [] (cells (1 ∷ [])) 3 2)))
         ≡ cell_rests (cell_of 3 no no no [] []) }
-    ensures haunt_outside_tree { cell_steps (cell_of 0 no no no [] []) (From 1 (Hand (real 100 3 3 (at 4990 1000) no [] (cells (3 ∷ [])) 3 2)))
+    ensures haunt_outside_tree { cell_steps (cell_of 0 no no no [] [])
+        (From 1 (Hand (real 100 3 3 (at 4990 1000) no [] (cells (3 ∷ [])) 3 2)))
         ≡ cell_rests (cell_of 0 no no no [] []) }
     ensures outside_space { cell_steps (cell_of 0 no no no [] []) (From 1 (Hand (real 100 3 3 (at 10000 1000) no [] set.empty 3 2)))
         ≡ cell_rests (cell_of 0 no no no [] []) }
@@ -89,7 +123,6 @@ pub fn hand_overs()
 
 /// Ghost set and ghost drop: a message is ignored unless its beat is greater than any heard before. A set where the real is changes
 /// nothing, and a drop is heard also there.
-#[tactic(auto, using(crate::proofs::CellSteps::ghost_messages_set, crate::proofs::CellSteps::ghost_messages_set_of_equal_beat, crate::proofs::CellSteps::ghost_messages_set_of_greater_beat, crate::proofs::CellSteps::ghost_messages_set_where_the_real_is, crate::proofs::CellSteps::ghost_messages_set_of_no_type, crate::proofs::CellSteps::ghost_messages_drop, crate::proofs::CellSteps::ghost_messages_drop_of_equal_beat, crate::proofs::CellSteps::ghost_messages_drop_where_the_real_is, crate::proofs::CellSteps::ghost_messages_drop_at_the_limit))]
 pub fn ghost_messages()
     ensures set { cell_steps (cell_of 1 no no no [] []) (From 0 (GhostSet 1 2 (copy_at 7 5 5)))
         ≡ cell_rests (cell_of 1 no no (one (ghost 2 (Some (copy_at 7 5 5)))) [] []) }
@@ -97,15 +130,18 @@ pub fn ghost_messages()
         ≡ cell_rests (cell_of 1 no no (one (ghost 2 None)) [] []) }
     ensures set_of_greater_beat { cell_steps (cell_of 1 no no (one (ghost 2 None)) [] []) (From 0 (GhostSet 1 3 (copy_at 7 5 5)))
         ≡ cell_rests (cell_of 1 no no (one (ghost 3 (Some (copy_at 7 5 5)))) [] []) }
-    ensures set_where_the_real_is { cell_steps (cell_of 0 (one (real 100 0 0 (at 1000 1000) no [] set.empty 0 0)) no no [] []) (From 1 (GhostSet 1 9 (copy_at 7 5 5)))
+    ensures set_where_the_real_is { cell_steps (cell_of 0 (one (real 100 0 0 (at 1000 1000) no [] set.empty 0 0)) no no [] [])
+        (From 1 (GhostSet 1 9 (copy_at 7 5 5)))
         ≡ cell_rests (cell_of 0 (one (real 100 0 0 (at 1000 1000) no [] set.empty 0 0)) no no [] []) }
-    ensures set_of_no_type { cell_steps (cell_of 1 no no no [] []) (From 0 (GhostSet 1 2 (record { ty = 2; version = 7; state = record { pos = at 5 5; props = [] } })))
+    ensures set_of_no_type { cell_steps (cell_of 1 no no no [] [])
+        (From 0 (GhostSet 1 2 (record { ty = 2; version = 7; state = record { pos = at 5 5; props = [] } })))
         ≡ cell_rests (cell_of 1 no no no [] []) }
     ensures drop { cell_steps (cell_of 1 no no (one (ghost 2 (Some (copy_at 7 5 5)))) [] []) (From 0 (GhostDrop 1 3))
         ≡ cell_rests (cell_of 1 no no (one (ghost 3 None)) [] []) }
     ensures drop_of_equal_beat { cell_steps (cell_of 1 no no (one (ghost 3 (Some (copy_at 7 5 5)))) [] []) (From 0 (GhostDrop 1 3))
         ≡ cell_rests (cell_of 1 no no (one (ghost 3 (Some (copy_at 7 5 5)))) [] []) }
-    ensures drop_where_the_real_is { cell_steps (cell_of 0 (one (real 100 0 0 (at 1000 1000) no [] set.empty 0 0)) no no [] []) (From 1 (GhostDrop 1 9))
+    ensures drop_where_the_real_is { cell_steps (cell_of 0 (one (real 100 0 0 (at 1000 1000) no [] set.empty 0 0)) no no [] [])
+        (From 1 (GhostDrop 1 9))
         ≡ cell_rests (cell_of 0 (one (real 100 0 0 (at 1000 1000) no [] set.empty 0 0)) no (one (ghost 9 None)) [] []) }
     ensures drop_at_the_limit { cell_steps (cell_of 1 no no no [] []) (From 0 (GhostDrop 1 (2 ^ 62)))
         ≡ cell_rests (cell_of 1 no no no [] []) }
@@ -113,9 +149,9 @@ pub fn ghost_messages()
 
 /// Reap: the real goes, and its entries in both lists; each haunt is told to drop its copy at the next beat, in rising number, and the
 /// own book does so.
-#[tactic(auto, using(crate::proofs::CellSteps::reaps_reaped, crate::proofs::CellSteps::reaps_next_place_alone))]
 pub fn reaps()
-    ensures reaped { cell_steps (cell_of 0 (one (real 100 0 0 (at 4990 4700) no [] (cells (1 ∷ 2 ∷ [])) 4 0)) no (one (ghost 3 None)) (1 ∷ 2 ∷ []) (2 ∷ 1 ∷ [])) (From 16 (Reap 1))
+    ensures reaped { cell_steps (cell_of 0 (one (real 100 0 0 (at 4990 4700) no [] (cells (1 ∷ 2 ∷ [])) 4 0)) no (one (ghost 3 None))
+        (1 ∷ 2 ∷ []) (2 ∷ 1 ∷ [])) (From 16 (Reap 1))
         ≡ record { state = cell_of 0 no no (one (ghost 5 None)) (2 ∷ []) (2 ∷ []); sent = (1, GhostDrop 1 5) ∷ (2, GhostDrop 1 5) ∷ [] } }
     ensures next_place_alone { cell_steps (cell_of 0 no (one (next_place 1 1)) no [] []) (From 16 (Reap 1))
         ≡ cell_rests (cell_of 0 no (one (next_place 1 1)) no [] []) }
@@ -123,21 +159,30 @@ pub fn reaps()
 
 /// Stray input at a cell: a call that is held already, is not of the cell part, has arguments or a place that do not fit, or a number
 /// of 0 or at the limit changes nothing.
-#[tactic(auto, using(crate::proofs::CellSteps::stray_calls_at_a_cell_held_already, crate::proofs::CellSteps::stray_calls_at_a_cell_base_part, crate::proofs::CellSteps::stray_calls_at_a_cell_outside, crate::proofs::CellSteps::stray_calls_at_a_cell_number_0, crate::proofs::CellSteps::stray_calls_at_a_cell_number_at_the_limit, crate::proofs::CellSteps::stray_calls_at_a_cell_last_number_held, crate::proofs::CellSteps::stray_calls_at_a_cell_beat_at_the_limit, crate::proofs::CellSteps::stray_calls_at_a_cell_not_for_cells))]
 pub fn stray_calls_at_a_cell()
-    ensures held_already { cell_steps (cell_of 0 (one (real 100 0 0 (at 1000 1000) (of_first (order 1 ((2, call 1 2 (hit 1)) ∷ []))) [] set.empty 0 0)) no no [] []) (From 16 (Call (call 1 2 (hit 5))))
-        ≡ cell_rests (cell_of 0 (one (real 100 0 0 (at 1000 1000) (of_first (order 1 ((2, call 1 2 (hit 1)) ∷ []))) [] set.empty 0 0)) no no [] []) }
-    ensures base_part { cell_steps (cell_of 0 (one (real 100 0 0 (at 1000 1000) no [] set.empty 0 0)) no no [] []) (From 16 (Call (promote 1)))
+    ensures held_already { cell_steps
+        (cell_of 0 (one (real 100 0 0 (at 1000 1000) (of_first (order 1 ((2, call 1 2 (hit 1)) ∷ []))) [] set.empty 0 0)) no no [] [])
+        (From 16 (Call (call 1 2 (hit 5))))
+        ≡ cell_rests (cell_of 0 (one (real 100 0 0 (at 1000 1000) (of_first (order 1 ((2, call 1 2 (hit 1)) ∷ []))) [] set.empty 0 0)) no
+            no [] []) }
+    ensures base_part { cell_steps (cell_of 0 (one (real 100 0 0 (at 1000 1000) no [] set.empty 0 0)) no no [] [])
+        (From 16 (Call (promote 1)))
         ≡ cell_rests (cell_of 0 (one (real 100 0 0 (at 1000 1000) no [] set.empty 0 0)) no no [] []) }
-    ensures outside { cell_steps (cell_of 0 (one (real 100 0 0 (at 1000 1000) no [] set.empty 0 0)) no no [] []) (From 16 (Call (call 1 1 (Move (at 10000 5)))))
+    ensures outside { cell_steps (cell_of 0 (one (real 100 0 0 (at 1000 1000) no [] set.empty 0 0)) no no [] [])
+        (From 16 (Call (call 1 1 (Move (at 10000 5)))))
         ≡ cell_rests (cell_of 0 (one (real 100 0 0 (at 1000 1000) no [] set.empty 0 0)) no no [] []) }
-    ensures number_0 { cell_steps (cell_of 0 (one (real 100 0 0 (at 1000 1000) no [] set.empty 0 0)) no no [] []) (From 16 (Call (call 1 0 (hit 1))))
+    ensures number_0 { cell_steps (cell_of 0 (one (real 100 0 0 (at 1000 1000) no [] set.empty 0 0)) no no [] [])
+        (From 16 (Call (call 1 0 (hit 1))))
         ≡ cell_rests (cell_of 0 (one (real 100 0 0 (at 1000 1000) no [] set.empty 0 0)) no no [] []) }
-    ensures number_at_the_limit { cell_steps (cell_of 0 (one (real 100 0 0 (at 1000 1000) no [] set.empty 0 0)) no no [] []) (From 16 (Call (call 1 (2 ^ 62 - 1) (hit 1))))
+    ensures number_at_the_limit { cell_steps (cell_of 0 (one (real 100 0 0 (at 1000 1000) no [] set.empty 0 0)) no no [] [])
+        (From 16 (Call (call 1 (2 ^ 62 - 1) (hit 1))))
         ≡ cell_rests (cell_of 0 (one (real 100 0 0 (at 1000 1000) no [] set.empty 0 0)) no no [] []) }
-    ensures last_number_held { cell_steps (cell_of 0 (one (real 100 0 0 (at 1000 1000) no [] set.empty 0 0)) no no [] []) (From 16 (Call (call 1 (2 ^ 62 - 2) (hit 1))))
-        ≡ cell_rests (cell_of 0 (one (real 100 0 0 (at 1000 1000) (of_first (order 1 ((2 ^ 62 - 2, call 1 (2 ^ 62 - 2) (hit 1)) ∷ []))) [] set.empty 0 0)) no no [] []) }
-    ensures beat_at_the_limit { cell_steps (cell_of 0 (one (real 100 0 0 (at 1000 1000) no [] set.empty (2 ^ 62 - 1) 0)) no no [] []) (From 16 (Call (call 1 1 (hit 1))))
+    ensures last_number_held { cell_steps (cell_of 0 (one (real 100 0 0 (at 1000 1000) no [] set.empty 0 0)) no no [] [])
+        (From 16 (Call (call 1 (2 ^ 62 - 2) (hit 1))))
+        ≡ cell_rests (cell_of 0 (one (real 100 0 0 (at 1000 1000) (of_first (order 1 ((2 ^ 62 - 2, call 1 (2 ^ 62 - 2) (hit 1)) ∷ []))) []
+            set.empty 0 0)) no no [] []) }
+    ensures beat_at_the_limit { cell_steps (cell_of 0 (one (real 100 0 0 (at 1000 1000) no [] set.empty (2 ^ 62 - 1) 0)) no no [] [])
+        (From 16 (Call (call 1 1 (hit 1))))
         ≡ cell_rests (cell_of 0 (one (real 100 0 0 (at 1000 1000) no [] set.empty (2 ^ 62 - 1) 0)) no no [] []) }
     ensures not_for_cells { cell_steps (cell_of 0 no no no [] []) (From 16 (Current 1 0 1))
         ≡ cell_rests (cell_of 0 no no no [] []) }
