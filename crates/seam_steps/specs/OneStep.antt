@@ -1,5 +1,5 @@
 -- Single steps: nodes before and after them.
-use Rattle.std.specs.Prelude.{ℕ, pos, List, [], ◌∷◌, Option, Some}
+use Rattle.std.specs.Prelude.{ℕ, pos, List, [], ◌∷◌, Option, None, Some}
 use Rattle.std.specs.FinMap as table
 use Rattle.std.specs.FinSet as set
 use Rattle.seam_value.specs.declared.values.Value.TheVariants.{Number, Text}
@@ -24,12 +24,23 @@ use Rattle.seam_steps.specs.Maps.{Map}
 use Rattle.seam_steps.specs.Slots.{NextPlace}
 use Rattle.seam_steps.specs.Cells.{CellView}
 use Rattle.seam_steps.specs.Bases.{BaseView, PartView, ProxyView}
-use Rattle.seam_steps.specs.Rows.{at, call, here, cell, order, one}
+use Rattle.seam_steps.specs.Rows.{at, call, here, cell, real, order, one, no}
 use Rattle.seam_steps.specs.LateGhost.{three_cells}
 
 -- cell k of the three
 abbrev pub cell_of : ℕ → Map RealView → Map NextPlace → Map (Ghost GhostCopy) → List ℕ → List ℕ → CellView
 cell_of k reals nexts ghosts survey looks = cell three_cells k reals nexts ghosts survey looks
+
+-- the real of entity 1, far from any other cell
+abbrev pub inland : RealView
+inland = real 100 0 0 (at 1000 1000) no [] set.empty 0 0
+
+-- cell 0 with this real of entity 1 alone, and with these survey and look lists
+abbrev pub home_listing : RealView → List ℕ → List ℕ → CellView
+home_listing r survey looks = cell_of 0 (one r) no no survey looks
+
+abbrev pub home : RealView → CellView
+home r = home_listing r [] []
 
 -- two entities
 abbrev pub both : {X : Type 0} → X → X → Map X
@@ -87,6 +98,13 @@ ranked version rank = text.Base version (Number (pos rank) ∷ [])
 abbrev pub update : ℕ → Shown → Update
 update n s = record { entity = 1; number = n; shown = s }
 
+-- parts that have done nothing, with a client that was shown nothing, and without one
+abbrev pub new_client : PartView
+new_client = part_of 0 0 1 no [] (proxy 1 [] [] 0)
+
+abbrev pub without_client : PartView
+without_client = part_of 0 0 1 no [] None
+
 -- base node k of a world of three cells, with entity 1's route
 abbrev pub base_of : ℕ → List Order → (ℕ × ℕ) → Map PartView → BaseView
 base_of k os to parts = record { here = here k; cells = 3; orders = os; routes = one (record { cell = to.0; generation = to.1 }); parts =
@@ -95,3 +113,10 @@ base_of k os to parts = record { here = here k; cells = 3; orders = os; routes =
 -- base node k of an opened world
 abbrev pub empty_node : ℕ → BaseView
 empty_node k = record { here = here k; cells = 1; orders = []; routes = table.empty; parts = table.empty }
+
+-- entity 1's base node with this part of it, and with these orders
+abbrev pub base_ordered : List Order → PartView → BaseView
+base_ordered os p = base_of 17 os (1, 2) (one p)
+
+abbrev pub base_with : PartView → BaseView
+base_with p = base_ordered [] p

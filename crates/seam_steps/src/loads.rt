@@ -16,8 +16,7 @@ ghost use Rattle.seam_steps.specs.OneStep.{empty_node, part_of, proxy, line, ran
 pub fn creates()
     ensures leaf { created_at two_cells (avatar_at 5000 100) (idle two_cells 1)
         ≡ Cell (cell two_cells 1 (one (created (here 1) 1 0 (at 5000 100))) no no [] []) }
-    ensures other_cell { created_at two_cells (avatar_at 5000 100) (idle two_cells 0)
-        ≡ idle two_cells 0 }
+    ensures other_cell { created_at two_cells (avatar_at 5000 100) (idle two_cells 0) ≡ idle two_cells 0 }
     ensures its_base_node { created_at two_cells (avatar_at 5000 100) (Base (empty_node 17))
         ≡ Base (record (empty_node 17) { routes = one (record { cell = 1; generation = 0 }); parts = one (new_part (here 17) 0) }) }
     ensures other_base_node { created_at two_cells (avatar_at 5000 100) (Base (empty_node 16))
@@ -55,10 +54,8 @@ pub fn rounds_begin()
 pub fn orders_given()
     ensures its_node { ordered_at (16, order.Tick) (Base (record (empty_node 16) { orders = order.Reap 2 ∷ [] }))
         ≡ Base (record (empty_node 16) { orders = order.Reap 2 ∷ order.Tick ∷ [] }) }
-    ensures other_node { ordered_at (16, order.Tick) (Base (empty_node 17))
-        ≡ Base (empty_node 17) }
+    ensures other_node { ordered_at (16, order.Tick) (Base (empty_node 17)) ≡ Base (empty_node 17) }
     ensures reap { reap_ordered_at 3 (Base (record (empty_node 17) { orders = order.Reap 1 ∷ [] }))
         ≡ Base (record (empty_node 17) { orders = order.Reap 1 ∷ order.Reap 3 ∷ [] }) }
-    ensures reap_elsewhere { reap_ordered_at 3 (Base (empty_node 16))
-        ≡ Base (empty_node 16) }
+    ensures reap_elsewhere { reap_ordered_at 3 (Base (empty_node 16)) ≡ Base (empty_node 16) }
 {}
