@@ -158,16 +158,52 @@ unfolding world_12
 holders_11 = simp computing
 
 pub row : IsRow 1 1 world_0 steps
-row = (enabled_0, happens_0, holders_0,
-    (enabled_1, happens_1, holders_1,
-    (enabled_2, happens_2, holders_2,
-    (enabled_3, happens_3, holders_3,
-    (enabled_4, happens_4, holders_4,
-    (enabled_5, happens_5, holders_5,
-    (enabled_6, happens_6, holders_6,
-    (enabled_7, happens_7, holders_7,
-    (enabled_8, happens_8, holders_8,
-    (enabled_9, happens_9, holders_9, (enabled_10, happens_10, holders_10, (enabled_11, happens_11, holders_11, tt))))))))))))
+row = (
+  enabled_0,
+  happens_0,
+  holders_0,
+  (
+    enabled_1,
+    happens_1,
+    holders_1,
+    (
+      enabled_2,
+      happens_2,
+      holders_2,
+      (
+        enabled_3,
+        happens_3,
+        holders_3,
+        (
+          enabled_4,
+          happens_4,
+          holders_4,
+          (
+            enabled_5,
+            happens_5,
+            holders_5,
+            (
+              enabled_6,
+              happens_6,
+              holders_6,
+              (
+                enabled_7,
+                happens_7,
+                holders_7,
+                (
+                  enabled_8,
+                  happens_8,
+                  holders_8,
+                  (enabled_9, happens_9, holders_9, (enabled_10, happens_10, holders_10, (enabled_11, happens_11, holders_11, tt))),
+                ),
+              ),
+            ),
+          ),
+        ),
+      ),
+    ),
+  ),
+)
 
 ends : is_quiet world_12 ≡ true
 unfolding world_12
@@ -317,16 +353,52 @@ unfolding passing_11
 passing_holders_10 = simp computing
 
 pub passing_row : IsRow 1 1 world_0 passing_steps
-passing_row = (passing_enabled_0, passing_happens_0, passing_holders_0,
-    (passing_enabled_1, passing_happens_1, passing_holders_1,
-    (passing_enabled_2, passing_happens_2, passing_holders_2,
-    (passing_enabled_3, passing_happens_3, passing_holders_3,
-    (passing_enabled_4, passing_happens_4, passing_holders_4,
-    (passing_enabled_5, passing_happens_5, passing_holders_5,
-    (passing_enabled_6, passing_happens_6, passing_holders_6,
-    (passing_enabled_7, passing_happens_7, passing_holders_7,
-    (passing_enabled_8, passing_happens_8, passing_holders_8,
-    (passing_enabled_9, passing_happens_9, passing_holders_9, (passing_enabled_10, passing_happens_10, passing_holders_10, tt)))))))))))
+passing_row = (
+  passing_enabled_0,
+  passing_happens_0,
+  passing_holders_0,
+  (
+    passing_enabled_1,
+    passing_happens_1,
+    passing_holders_1,
+    (
+      passing_enabled_2,
+      passing_happens_2,
+      passing_holders_2,
+      (
+        passing_enabled_3,
+        passing_happens_3,
+        passing_holders_3,
+        (
+          passing_enabled_4,
+          passing_happens_4,
+          passing_holders_4,
+          (
+            passing_enabled_5,
+            passing_happens_5,
+            passing_holders_5,
+            (
+              passing_enabled_6,
+              passing_happens_6,
+              passing_holders_6,
+              (
+                passing_enabled_7,
+                passing_happens_7,
+                passing_holders_7,
+                (
+                  passing_enabled_8,
+                  passing_happens_8,
+                  passing_holders_8,
+                  (passing_enabled_9, passing_happens_9, passing_holders_9, (passing_enabled_10, passing_happens_10, passing_holders_10, tt)),
+                ),
+              ),
+            ),
+          ),
+        ),
+      ),
+    ),
+  ),
+)
 
 passing_ends : is_quiet passing_11 ≡ true
 unfolding passing_11

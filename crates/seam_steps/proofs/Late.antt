@@ -182,18 +182,62 @@ unfolding world_14
 holders_13 = simp computing
 
 pub row : IsRow 1 1 world_0 steps
-row = (enabled_0, happens_0, holders_0,
-    (enabled_1, happens_1, holders_1,
-    (enabled_2, happens_2, holders_2,
-    (enabled_3, happens_3, holders_3,
-    (enabled_4, happens_4, holders_4,
-    (enabled_5, happens_5, holders_5,
-    (enabled_6, happens_6, holders_6,
-    (enabled_7, happens_7, holders_7,
-    (enabled_8, happens_8, holders_8,
-    (enabled_9, happens_9, holders_9,
-    (enabled_10, happens_10, holders_10,
-    (enabled_11, happens_11, holders_11, (enabled_12, happens_12, holders_12, (enabled_13, happens_13, holders_13, tt))))))))))))))
+row = (
+  enabled_0,
+  happens_0,
+  holders_0,
+  (
+    enabled_1,
+    happens_1,
+    holders_1,
+    (
+      enabled_2,
+      happens_2,
+      holders_2,
+      (
+        enabled_3,
+        happens_3,
+        holders_3,
+        (
+          enabled_4,
+          happens_4,
+          holders_4,
+          (
+            enabled_5,
+            happens_5,
+            holders_5,
+            (
+              enabled_6,
+              happens_6,
+              holders_6,
+              (
+                enabled_7,
+                happens_7,
+                holders_7,
+                (
+                  enabled_8,
+                  happens_8,
+                  holders_8,
+                  (
+                    enabled_9,
+                    happens_9,
+                    holders_9,
+                    (
+                      enabled_10,
+                      happens_10,
+                      holders_10,
+                      (enabled_11, happens_11, holders_11, (enabled_12, happens_12, holders_12, (enabled_13, happens_13, holders_13, tt))),
+                    ),
+                  ),
+                ),
+              ),
+            ),
+          ),
+        ),
+      ),
+    ),
+  ),
+)
 
 ends : is_quiet world_14 ≡ true
 unfolding world_14

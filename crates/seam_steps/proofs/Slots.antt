@@ -21,6 +21,7 @@ set_at-same m e = table.same_map nat_cmp_total table.nat_cmp-IsAntisymmetric _ _
   where
     equal : (q : ℕ) → eq_by_cmp nat_cmp q e ≡ true → e ≡ q
     equal q is = grind (arith, nat_tests, is)
+
     at : (q : ℕ) (b : Bool) → eq_by_cmp nat_cmp q e ≡ b → cond b (table.get m e) (table.get m q) ≡ table.get m q
     at q true is = ap (table.get m) (equal q is)
     at q false is = refl

@@ -50,6 +50,7 @@ module _ {X : Type 0} where
           by true true h k = absurd (grind (arith, nat_tests, h, k))
           by true false h k = refl
           by false b h k = refl
+
       apart : (a b : Bool) (x y : X) (o : Option X) → (a && b) ≡ false → cond b (Some y) (cond a (Some x) o)
           ≡ cond a (Some x) (cond b (Some y) o)
       apart true true x y o h = cc
@@ -74,5 +75,18 @@ pub is_utf8-nil : is_utf8 [] ≡ true
 is_utf8-nil = is_utf8-from_IsUtf8 [] IsUtf8-nil
 
 -- what of a world that has few entities computes
-pub ruleset computing = (table.get-insert, table.get-empty, set.contains-empty, set.contains-insert, nat_cmp_total, table.entries-insert,
-    entries_empty, insert_again, insert_two, remove_other, remove_inserted, remove_empty, is_utf8-nil)
+pub ruleset computing = (
+  table.get-insert,
+  table.get-empty,
+  set.contains-empty,
+  set.contains-insert,
+  nat_cmp_total,
+  table.entries-insert,
+  entries_empty,
+  insert_again,
+  insert_two,
+  remove_other,
+  remove_inserted,
+  remove_empty,
+  is_utf8-nil,
+)

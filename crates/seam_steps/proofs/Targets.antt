@@ -128,7 +128,8 @@ module _ (h : Here) (me_in : h.me < cell_count) (some : 1 ≤ h.settings.bases) 
       IsGood (gone_to h s r j haunts sent)
   good_gone s r j haunts sent below lt = record {
     sends = append_below (peers_of h) sent _ below (omega (arith, lt), tt);
-    next = λ n e. one_in (record { cell = j; generation = r.generation + 1 }) n lt e }
+    next = λ n e. one_in (record { cell = j; generation = r.generation + 1 }) n lt e;
+  }
 
   good_goes : (s : Slot) (r : RealView) (changed : Bool) (j : ℕ) → j < cell_count → IsGood (goes h t s r changed j)
   good_goes s r changed j lt = good_gone s r j _ _ (ghosts_below r j _ changed) lt
@@ -163,17 +164,23 @@ module _ (h : Here) (me_in : h.me < cell_count) (some : 1 ≤ h.settings.bases) 
   none_in n e = cc
 
   good_hand : (s : Slot) (r : RealView) → IsGood (CellCases.hand_over_comes h s r)
-  good_hand s r = record { sends =
-      spread_below (peers_of h) cell_count h.settings.bases (λ b. Current r.entity h.me r.generation) (omega arith); next = none_in }
+  good_hand s r = record {
+    sends =
+        spread_below (peers_of h) cell_count h.settings.bases (λ b. Current r.entity h.me r.generation) (omega arith);
+    next = none_in;
+  }
 
   good_set : (s : Slot) (beat : ℕ) (c : GhostCopy) (o : Option RealView) → NextIn s.next → IsGood (CellCases.ghost_set s beat c o)
   good_set s beat c None n = record { sends = tt; next = n }
   good_set s beat c (Some r) n = good_rests
 
   good_reap : (s : Slot) (o : Option RealView) → NextIn s.next → IsGood (CellCases.reap s o)
-  good_reap s (Some r) n = record { sends =
-      chosen_below (peers_of h) 0 cell_count (CellCases.drop_at r)
-      (λ k lt. drop_below (peers_of h) k (set.contains r.haunts k) (GhostDrop r.entity (r.beat + 1)) (omega (arith, lt))); next = n }
+  good_reap s (Some r) n = record {
+    sends =
+        chosen_below (peers_of h) 0 cell_count (CellCases.drop_at r)
+        (λ k lt. drop_below (peers_of h) k (set.contains r.haunts k) (GhostDrop r.entity (r.beat + 1)) (omega (arith, lt)));
+    next = n;
+  }
   good_reap s None n = good_rests
 
   good_case : (s : Slot) (m : Msg) → NextIn s.next → IsGood (CellCases.case_of h t s m)

@@ -30,7 +30,8 @@ valid_of : (b c : BaseView) → SameRoutes b c → IsBase b → IsBase c
 valid_of b c s is = record {
   bases = let e = ap (λ h. h.settings.bases) s.here in let le = is.bases in omega (arith, e, le);
   cells = let e = s.cells in let le = is.cells in omega (arith, e, le);
-  routes = λ e r h. is.routes e r (sym (ap (λ m. table.get m e) s.routes) ∙ h) }
+  routes = λ e r h. is.routes e r (sym (ap (λ m. table.get m e) s.routes) ∙ h);
+}
 
 same : (b : BaseView) → SameRoutes b b
 same b = record { here = refl; cells = refl; routes = refl }
@@ -55,9 +56,13 @@ cell_is_small n d h = by (ltb n cell_count) refl h
     by false t h = cc
 
 newer_valid : (d : Bool) (b : BaseView) (e : ℕ) (r : RouteView) → r.cell < cell_count → IsBase b → IsBase (BaseCases.newer_route d b e r)
-newer_valid true b e r lt is = record { bases = is.bases; cells = is.cells; routes =
-    λ q x h. route_in (eq_by_cmp nat_cmp q e) r x (table.get b.routes q) (sym (table.get-insert nat_cmp_total b.routes e r q) ∙ h) lt
-    (is.routes q x) }
+newer_valid true b e r lt is = record {
+  bases = is.bases;
+  cells = is.cells;
+  routes =
+      λ q x h. route_in (eq_by_cmp nat_cmp q e) r x (table.get b.routes q) (sym (table.get-insert nat_cmp_total b.routes e r q) ∙ h) lt
+      (is.routes q x);
+}
 newer_valid false b e r lt is = is
 
 current_valid : (b : BaseView) (e : ℕ) (new : RouteView) (o : Option RouteView) (d : Bool) → BaseCases.stray_current new o ≡ d → IsBase b

@@ -112,11 +112,27 @@ unfolding first_look_5
 first_look_holders_4 = simp computing
 
 pub first_look_row : IsRow 2 1 first_look_0 first_looks
-first_look_row = (first_look_enabled_0, first_look_happens_0, first_look_holders_0,
-    (first_look_enabled_1, first_look_happens_1, first_look_holders_1,
-    (first_look_enabled_2, first_look_happens_2, first_look_holders_2,
-    (first_look_enabled_3, first_look_happens_3, first_look_holders_3,
-    (first_look_enabled_4, first_look_happens_4, first_look_holders_4, tt)))))
+first_look_row = (
+  first_look_enabled_0,
+  first_look_happens_0,
+  first_look_holders_0,
+  (
+    first_look_enabled_1,
+    first_look_happens_1,
+    first_look_holders_1,
+    (
+      first_look_enabled_2,
+      first_look_happens_2,
+      first_look_holders_2,
+      (
+        first_look_enabled_3,
+        first_look_happens_3,
+        first_look_holders_3,
+        (first_look_enabled_4, first_look_happens_4, first_look_holders_4, tt),
+      ),
+    ),
+  ),
+)
 
 first_look_ends : is_quiet first_look_5 ≡ true
 unfolding first_look_5
@@ -178,9 +194,17 @@ unfolding second_4
 second_holders_3 = simp computing
 
 pub second_row : IsRow 2 1 second_0 second_steps
-second_row = (second_enabled_0, second_happens_0, second_holders_0,
-    (second_enabled_1, second_happens_1, second_holders_1,
-    (second_enabled_2, second_happens_2, second_holders_2, (second_enabled_3, second_happens_3, second_holders_3, tt))))
+second_row = (
+  second_enabled_0,
+  second_happens_0,
+  second_holders_0,
+  (
+    second_enabled_1,
+    second_happens_1,
+    second_holders_1,
+    (second_enabled_2, second_happens_2, second_holders_2, (second_enabled_3, second_happens_3, second_holders_3, tt)),
+  ),
+)
 
 second_ends : is_quiet second_4 ≡ true
 unfolding second_4
@@ -242,10 +266,22 @@ unfolding second_look_4
 second_look_holders_3 = simp computing
 
 pub second_look_row : IsRow 2 1 second_look_0 second_looks
-second_look_row = (second_look_enabled_0, second_look_happens_0, second_look_holders_0,
-    (second_look_enabled_1, second_look_happens_1, second_look_holders_1,
-    (second_look_enabled_2, second_look_happens_2, second_look_holders_2,
-    (second_look_enabled_3, second_look_happens_3, second_look_holders_3, tt))))
+second_look_row = (
+  second_look_enabled_0,
+  second_look_happens_0,
+  second_look_holders_0,
+  (
+    second_look_enabled_1,
+    second_look_happens_1,
+    second_look_holders_1,
+    (
+      second_look_enabled_2,
+      second_look_happens_2,
+      second_look_holders_2,
+      (second_look_enabled_3, second_look_happens_3, second_look_holders_3, tt),
+    ),
+  ),
+)
 
 second_look_ends : is_quiet second_look_4 ≡ true
 unfolding second_look_4
@@ -307,9 +343,17 @@ unfolding third_4
 third_holders_3 = simp computing
 
 pub third_row : IsRow 2 1 third_0 third_steps
-third_row = (third_enabled_0, third_happens_0, third_holders_0,
-    (third_enabled_1, third_happens_1, third_holders_1,
-    (third_enabled_2, third_happens_2, third_holders_2, (third_enabled_3, third_happens_3, third_holders_3, tt))))
+third_row = (
+  third_enabled_0,
+  third_happens_0,
+  third_holders_0,
+  (
+    third_enabled_1,
+    third_happens_1,
+    third_holders_1,
+    (third_enabled_2, third_happens_2, third_holders_2, (third_enabled_3, third_happens_3, third_holders_3, tt)),
+  ),
+)
 
 third_ends : is_quiet third_4 ≡ true
 unfolding third_4
@@ -371,10 +415,22 @@ unfolding third_look_4
 third_look_holders_3 = simp computing
 
 pub third_look_row : IsRow 2 1 third_look_0 third_looks
-third_look_row = (third_look_enabled_0, third_look_happens_0, third_look_holders_0,
-    (third_look_enabled_1, third_look_happens_1, third_look_holders_1,
-    (third_look_enabled_2, third_look_happens_2, third_look_holders_2,
-    (third_look_enabled_3, third_look_happens_3, third_look_holders_3, tt))))
+third_look_row = (
+  third_look_enabled_0,
+  third_look_happens_0,
+  third_look_holders_0,
+  (
+    third_look_enabled_1,
+    third_look_happens_1,
+    third_look_holders_1,
+    (
+      third_look_enabled_2,
+      third_look_happens_2,
+      third_look_holders_2,
+      (third_look_enabled_3, third_look_happens_3, third_look_holders_3, tt),
+    ),
+  ),
+)
 
 third_look_ends : is_quiet third_look_4 ≡ true
 unfolding third_look_4

@@ -32,8 +32,15 @@ abbrev pub hit_2 : CallData
 hit_2 = call 2 2 (hit 1)
 
 abbrev pub batch : Batch
-batch = record { tree = two_cells; creates = avatar_at 4000 100 ∷ []; clients = []; destroys = []; balance = false; orders =
-    (16, order.Cell the_move) ∷ (17, order.Cell hit_1) ∷ (17, order.Cell hit_2) ∷ [] }
+batch = record {
+  tree = two_cells;
+  creates = avatar_at 4000 100 ∷ [];
+  clients = [];
+  destroys = [];
+  balance = false;
+  orders =
+      (16, order.Cell the_move) ∷ (17, order.Cell hit_1) ∷ (17, order.Cell hit_2) ∷ [];
+}
 
 abbrev pub made : RealView
 made = created (here 0) 1 0 (at 4000 100)
@@ -65,12 +72,24 @@ away r = Cell (cell two_cells 1 (one r) no (one (ghost 1 None)) [] [])
 
 -- the base nodes with their orders and their routes
 abbrev pub base_16 : List Order → (ℕ × ℕ) → NodeView
-base_16 os to = Base (record { here = here 16; cells = 2; orders = os; routes = one (record { cell = to.0; generation = to.1 }); parts =
-    table.empty })
+base_16 os to = Base (record {
+  here = here 16;
+  cells = 2;
+  orders = os;
+  routes = one (record { cell = to.0; generation = to.1 });
+  parts =
+      table.empty;
+})
 
 abbrev pub base_17 : List Order → (ℕ × ℕ) → NodeView
-base_17 os to = Base (record { here = here 17; cells = 2; orders = os; routes = one (record { cell = to.0; generation = to.1 }); parts =
-    one (new_part (here 17) 0) })
+base_17 os to = Base (record {
+  here = here 17;
+  cells = 2;
+  orders = os;
+  routes = one (record { cell = to.0; generation = to.1 });
+  parts =
+      one (new_part (here 17) 0);
+})
 
 abbrev pub with_cells : NodeView → NodeView → NodeView → NodeView → List Way → World
 with_cells c0 c1 b16 b17 ways = world two_cells (c0 ∷ c1 ∷ []) b16 b17 ways

@@ -1,5 +1,5 @@
 -- Who has an entity's real.
-use Rattle.std.specs.Prelude.{ℕ, ◌+◌, ◌==◌, Option, None, Some, if◌then◌else◌}
+use Rattle.std.specs.Prelude.{ℕ, ◌==◌, Option, None, Some, if◌then◌else◌}
 use Rattle.std.specs.FinMap as table
 use Rattle.seam_runs.specs.Weights.{weight}
 use Rattle.seam_entity.specs.Reals.{RealView}

@@ -33,8 +33,15 @@ abbrev pub move_2 : CallData
 move_2 = call 1 2 (Move (at 5100 4000))
 
 abbrev pub batch : Batch
-batch = record { tree = three_cells; creates = avatar_at 4900 4900 ∷ []; clients = []; destroys = []; balance = false; orders =
-    (16, order.Cell move_1) ∷ (16, order.Cell move_2) ∷ [] }
+batch = record {
+  tree = three_cells;
+  creates = avatar_at 4900 4900 ∷ [];
+  clients = [];
+  destroys = [];
+  balance = false;
+  orders =
+      (16, order.Cell move_1) ∷ (16, order.Cell move_2) ∷ [];
+}
 
 abbrev pub made : RealView
 made = created (here 0) 1 0 (at 4900 4900)
@@ -76,8 +83,14 @@ abbrev pub heard : ℕ → Ghost GhostCopy → NodeView
 heard k g = Cell (cell three_cells k no no (one g) [] [])
 
 abbrev pub base_16 : List Order → (ℕ × ℕ) → NodeView
-base_16 os to = Base (record { here = here 16; cells = 3; orders = os; routes = one (record { cell = to.0; generation = to.1 }); parts =
-    no })
+base_16 os to = Base (record {
+  here = here 16;
+  cells = 3;
+  orders = os;
+  routes = one (record { cell = to.0; generation = to.1 });
+  parts =
+      no;
+})
 
 abbrev pub base_17 : List Order → (ℕ × ℕ) → Map PartView → NodeView
 base_17 os to parts = Base (record

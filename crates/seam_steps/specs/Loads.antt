@@ -34,8 +34,16 @@ here_of defs settings k = record { me = k; defs = defs; settings = settings }
 
 abbrev pub empty_cell : List TypeDef → Settings → ℕ → NodeView
 empty_cell defs settings k = Cell
-    (record { here = here_of defs settings k; tree = one_cell settings.size; reals = table.empty; nexts = table.empty; ghosts =
-    table.empty; survey = []; looks = [] })
+    (record {
+      here = here_of defs settings k;
+      tree = one_cell settings.size;
+      reals = table.empty;
+      nexts = table.empty;
+      ghosts =
+          table.empty;
+      survey = [];
+      looks = [];
+    })
 
 abbrev pub empty_base : List TypeDef → Settings → ℕ → NodeView
 empty_base defs settings k = Base
@@ -47,7 +55,8 @@ opened defs settings =
     let h : Here = here_of defs settings 0 in
     record {
       nodes = map (empty_cell defs settings) cell_numbers ++ map (empty_base defs settings) (base_numbers h);
-      rows = replicate (peers_of h) (replicate (peers_of h) []) }
+      rows = replicate (peers_of h) (replicate (peers_of h) []);
+    }
 
 -- ---- load, point 1: entities are created
 
@@ -57,8 +66,14 @@ real_if false c x = c
 
 -- a base part that has done nothing
 abbrev pub new_part : Here → ℕ → PartView
-new_part h ty = record { ty = ty; state = record { pos = record { x = 0; z = 0 }; props = start_values (properties h ty) group.Base };
-    version = 0; orders = table.empty; done = []; proxy = None }
+new_part h ty = record {
+  ty = ty;
+  state = record { pos = record { x = 0; z = 0 }; props = start_values (properties h ty) group.Base };
+  version = 0;
+  orders = table.empty;
+  done = [];
+  proxy = None;
+}
 
 abbrev pub part_if : Bool → BaseView → Create → BaseView
 part_if true b x = record b { parts = table.insert b.parts x.entity (new_part b.here x.ty) }
@@ -76,9 +91,20 @@ created_at t x (Base b) = Base (part_if (base_of b.here x.entity == b.here.me) (
 
 -- a real with a witness that has told nothing
 abbrev pub with_witness : Here → RealView → RealView
-with_witness h r = record r { witness =
-    Some (record { view = record { radius = h.settings.view_radius; hysteresis = h.settings.view_hysteresis; entries = []; shown =
-    table.empty }; told = None; sent = 0 }) }
+with_witness h r = record r {
+  witness =
+      Some (record {
+        view = record {
+          radius = h.settings.view_radius;
+          hysteresis = h.settings.view_hysteresis;
+          entries = [];
+          shown =
+              table.empty;
+        };
+        told = None;
+        sent = 0;
+      });
+}
 
 -- a client that was shown nothing
 abbrev pub new_proxy : ProxyView

@@ -22,8 +22,12 @@ abbrev pub other_of_real : Here → RealView → GhostCopy
 other_of_real h r = record { ty = r.ty; version = r.public; state = other_of (properties h r.ty) r.state }
 
 abbrev pub other_of_copy : Here → GhostCopy → GhostCopy
-other_of_copy h c = record { ty = c.ty; version = c.version; state =
-    record { pos = c.state.pos; props = projected (properties h c.ty) group.Ghost group.Other c.state.props } }
+other_of_copy h c = record {
+  ty = c.ty;
+  version = c.version;
+  state =
+      record { pos = c.state.pos; props = projected (properties h c.ty) group.Ghost group.Other c.state.props };
+}
 
 -- an entity with what is known of it
 abbrev pub Known : Type 0
@@ -67,8 +71,12 @@ told_after false version told = told
 -- the witness after it told these, for these looks
 abbrev pub after_looking : List Known → List Look → List Shown → RealView → WitnessView → WitnessView
 after_looking known looks shown r w =
-    record { view = after_looks (map seen_as known) w.view looks; told = told_after (own_due w.told r.version) r.version w.told; sent =
-    w.sent + length shown }
+    record {
+      view = after_looks (map seen_as known) w.view looks;
+      told = told_after (own_due w.told r.version) r.version w.told;
+      sent =
+          w.sent + length shown;
+    }
 
 -- how a witness looks at what is known
 abbrev pub looks_of : RealView → WitnessView → List Known → List Look
@@ -79,9 +87,10 @@ shown_of h r w known = all_shown h r w known (looks_of r w known)
 
 abbrev pub looks_with : Here → Slot → RealView → WitnessView → List Known → List Shown → SlotStep
 looks_with h s r w known shown = record {
-    slot = Some (record s { real = Some (record r { witness = Some (after_looking known (looks_of r w known) shown r w) }) });
-    unlisted = false;
-    sent = numbered (base_of h r.entity) r.entity w.sent shown }
+  slot = Some (record s { real = Some (record r { witness = Some (after_looking known (looks_of r w known) shown r w) }) });
+  unlisted = false;
+  sent = numbered (base_of h r.entity) r.entity w.sent shown;
+}
 
 abbrev pub look_by : Here → Slot → RealView → Option WitnessView → List Known → SlotStep
 look_by h s r (Some w) known = looks_with h s r w known (shown_of h r w known)

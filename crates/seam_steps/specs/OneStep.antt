@@ -83,8 +83,14 @@ pay n = base_call n (Method 5 (Number (pos 7) ∷ []))
 
 abbrev pub part_of : (version gold rank : ℕ) → Orders → List Call → Option ProxyView → PartView
 part_of version gold rank os done x =
-    record { ty = 0; state = record { pos = at 0 0; props = Number (pos gold) ∷ Number (pos rank) ∷ [] }; version = version; orders = os;
-    done = done; proxy = x }
+    record {
+      ty = 0;
+      state = record { pos = at 0 0; props = Number (pos gold) ∷ Number (pos rank) ∷ [] };
+      version = version;
+      orders = os;
+      done = done;
+      proxy = x;
+    }
 
 abbrev pub proxy : ℕ → List (ℕ × Shown) → List Line → ℕ → Option ProxyView
 proxy next held lines last = Some (record { updates = order next held; lines = lines; last = last })
@@ -107,8 +113,14 @@ without_client = part_of 0 0 1 no [] None
 
 -- base node k of a world of three cells, with entity 1's route
 abbrev pub base_of : ℕ → List Order → (ℕ × ℕ) → Map PartView → BaseView
-base_of k os to parts = record { here = here k; cells = 3; orders = os; routes = one (record { cell = to.0; generation = to.1 }); parts =
-    parts }
+base_of k os to parts = record {
+  here = here k;
+  cells = 3;
+  orders = os;
+  routes = one (record { cell = to.0; generation = to.1 });
+  parts =
+      parts;
+}
 
 -- base node k of an opened world
 abbrev pub empty_node : ℕ → BaseView

@@ -22,8 +22,20 @@ use Rattle.seam_steps.specs.Calls.{may_offer, all_held}
 
 -- a real that has done nothing
 abbrev pub created : Here → ℕ → ℕ → Pos → RealView
-created h e ty p = record { entity = e; ty = ty; state = record { pos = p; props = start_values (properties h ty) group.Real }; version =
-    0; public = 0; orders = table.empty; done = []; haunts = set.empty; beat = 0; generation = 0; witness = None }
+created h e ty p = record {
+  entity = e;
+  ty = ty;
+  state = record { pos = p; props = start_values (properties h ty) group.Real };
+  version =
+      0;
+  public = 0;
+  orders = table.empty;
+  done = [];
+  haunts = set.empty;
+  beat = 0;
+  generation = 0;
+  witness = None;
+}
 
 -- what its ghosts hold
 abbrev pub copy_of_real : Here → RealView → GhostCopy
@@ -73,8 +85,13 @@ with_order r s o = record r { orders = table.insert r.orders s o }
 
 -- the real with its state after the deed, one version and one done call more
 abbrev pub with_deed : Here → RealView → Call → RealView
-with_deed h r k = record r { state = after (type_at h r.ty) r.state k.deed; version = r.version + 1; public =
-    public_after (shows h r k) (r.version + 1) r.public; done = r.done ++ k ∷ [] }
+with_deed h r k = record r {
+  state = after (type_at h r.ty) r.state k.deed;
+  version = r.version + 1;
+  public =
+      public_after (shows h r k) (r.version + 1) r.public;
+  done = r.done ++ k ∷ [];
+}
 
 -- the real after its sender's order was offered the call
 abbrev pub with_offer : RealView → Call → RealView

@@ -74,8 +74,12 @@ abbrev pub values_of : ℕ → List Value
 values_of hp = Number (pos hp) ∷ Number (pos 50) ∷ Number (pos 0) ∷ Text [] ∷ Number (pos 0) ∷ Number (pos 0) ∷ []
 
 abbrev pub copy_at : ℕ → ℕ → ℕ → GhostCopy
-copy_at version x z = record { ty = 0; version = version; state =
-    record { pos = at x z; props = Number (pos 100) ∷ Number (pos 50) ∷ Number (pos 0) ∷ Number (pos 0) ∷ [] } }
+copy_at version x z = record {
+  ty = 0;
+  version = version;
+  state =
+      record { pos = at x z; props = Number (pos 100) ∷ Number (pos 50) ∷ Number (pos 0) ∷ Number (pos 0) ∷ [] };
+}
 
 -- ---- maps of entity 1
 
@@ -101,8 +105,20 @@ orders a b = table.insert (table.insert table.empty 2 b) 1 a
 -- the real of entity 1, an avatar without a client
 abbrev pub real : (hp version public : ℕ) → Pos → Orders → List Call → Cells → (beat generation : ℕ) → RealView
 real hp version public p os done haunts beat generation =
-    record { entity = 1; ty = 0; state = record { pos = p; props = values_of hp }; version = version; public = public; orders = os; done =
-    done; haunts = haunts; beat = beat; generation = generation; witness = None }
+    record {
+      entity = 1;
+      ty = 0;
+      state = record { pos = p; props = values_of hp };
+      version = version;
+      public = public;
+      orders = os;
+      done =
+          done;
+      haunts = haunts;
+      beat = beat;
+      generation = generation;
+      witness = None;
+    }
 
 -- ---- worlds of the built-in types and the standard settings
 
@@ -130,7 +146,8 @@ with_way rows w = slice_set rows w.0 (slice_set (slice_index_or rows w.0 []) w.1
 abbrev pub world : Division → List NodeView → NodeView → NodeView → List Way → World
 world t cells b16 b17 ways = record {
   nodes = cells ++ map (idle t) (range_with_len (length cells) (cell_count - length cells)) ++ b16 ∷ b17 ∷ [];
-  rows = fold with_way (replicate 18 (replicate 18 [])) ways }
+  rows = fold with_way (replicate 18 (replicate 18 [])) ways;
+}
 
 -- ---- what is told of a world
 

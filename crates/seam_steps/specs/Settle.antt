@@ -45,7 +45,7 @@ told_unless false k m = option_map (λ x. (k, x)) m
 abbrev pub ghost_message : Here → RealView → ℕ → Cells → Bool → ℕ → Option (ℕ × Msg)
 ghost_message h r j haunts changed k =
     told_unless ((k == h.me) || (k == j)) k
-        (told r.entity (r.beat + 1) (copy_of_real h r) (set.contains haunts k) (set.contains r.haunts k) changed)
+    (told r.entity (r.beat + 1) (copy_of_real h r) (set.contains haunts k) (set.contains r.haunts k) changed)
 
 -- what all cells are told, in rising number, under the next beat
 abbrev pub ghost_messages : Here → RealView → ℕ → Cells → Bool → List (ℕ × Msg)
@@ -61,8 +61,11 @@ beat_after [] beat = beat
 beat_after (m ∷ ms) beat = beat + 1
 
 abbrev pub stayed : Slot → RealView → Cells → List (ℕ × Msg) → SlotStep
-stayed s r haunts sent = record { slot = Some (record s { real = Some (settled_to r haunts (beat_after sent r.beat) r.generation) });
-    unlisted = false; sent = sent }
+stayed s r haunts sent = record {
+  slot = Some (record s { real = Some (settled_to r haunts (beat_after sent r.beat) r.generation) });
+  unlisted = false;
+  sent = sent;
+}
 
 abbrev pub stays : Here → Division → Slot → RealView → Bool → SlotStep
 stays h t s r changed =
@@ -78,10 +81,11 @@ copy_if false c = None
 
 abbrev pub gone_to : Here → Slot → RealView → ℕ → Cells → List (ℕ × Msg) → SlotStep
 gone_to h s r j haunts sent = record {
-    slot = Some (heard (record s { real = None; next = Some (record { cell = j; generation = r.generation + 1 }) }) (r.beat + 1)
-        (copy_if (set.contains haunts h.me) (copy_of_real h r)));
-    unlisted = true;
-    sent = sent ++ (j, Hand (settled_to r haunts (r.beat + 1) (r.generation + 1))) ∷ [] }
+  slot = Some (heard (record s { real = None; next = Some (record { cell = j; generation = r.generation + 1 }) }) (r.beat + 1)
+      (copy_if (set.contains haunts h.me) (copy_of_real h r)));
+  unlisted = true;
+  sent = sent ++ (j, Hand (settled_to r haunts (r.beat + 1) (r.generation + 1))) ∷ [];
+}
 
 abbrev pub goes : Here → Division → Slot → RealView → Bool → ℕ → SlotStep
 goes h t s r changed j =

@@ -47,8 +47,15 @@ move_to n x = record { entity = 2; part = part.Cell; sender = sender.Base 1; num
 
 -- the batches of the three rounds
 abbrev pub batch_1 : Batch
-batch_1 = record { tree = space; creates = made_at 1 1000 ∷ made_at 2 1300 ∷ []; clients = 1 ∷ []; orders = []; destroys = []; balance =
-    false }
+batch_1 = record {
+  tree = space;
+  creates = made_at 1 1000 ∷ made_at 2 1300 ∷ [];
+  clients = 1 ∷ [];
+  orders = [];
+  destroys = [];
+  balance =
+      false;
+}
 
 abbrev pub batch_of : CallData → Batch
 batch_of k = record { tree = space; creates = []; clients = []; orders = (16, order.Cell k) ∷ []; destroys = []; balance = false }
@@ -94,8 +101,12 @@ walked_2 done = walker 2 1311 (moves 3) done
 -- ---- lines
 
 abbrev pub other_at : ℕ → ℕ → GhostCopy
-other_at version x = record { ty = 0; version = version; state =
-    record { pos = at x 1000; props = Number (pos 100) ∷ Number (pos 0) ∷ [] } }
+other_at version x = record {
+  ty = 0;
+  version = version;
+  state =
+      record { pos = at x 1000; props = Number (pos 100) ∷ Number (pos 0) ∷ [] };
+}
 
 abbrev pub own_state : State
 own_state = record { pos = at 1000 1000; props = Number (pos 100) ∷ Number (pos 50) ∷ Number (pos 0) ∷ [] }
@@ -128,13 +139,25 @@ part_of next lines last = record (new_part (here 17) 0) { proxy = Some (record {
 -- ---- worlds
 
 abbrev pub base_16 : List Order → NodeView
-base_16 os = Base (record { here = here 16; cells = 1; orders = os; routes =
-    both (record { cell = 0; generation = 0 }) (record { cell = 0; generation = 0 }); parts =
-    table.insert table.empty 2 (new_part (here 16) 0) })
+base_16 os = Base (record {
+  here = here 16;
+  cells = 1;
+  orders = os;
+  routes =
+      both (record { cell = 0; generation = 0 }) (record { cell = 0; generation = 0 });
+  parts =
+      table.insert table.empty 2 (new_part (here 16) 0);
+})
 
 abbrev pub base_17 : PartView → NodeView
-base_17 p = Base (record { here = here 17; cells = 1; orders = []; routes =
-    both (record { cell = 0; generation = 0 }) (record { cell = 0; generation = 0 }); parts = one p })
+base_17 p = Base (record {
+  here = here 17;
+  cells = 1;
+  orders = [];
+  routes =
+      both (record { cell = 0; generation = 0 }) (record { cell = 0; generation = 0 });
+  parts = one p;
+})
 
 abbrev pub with_cell : WitnessView → RealView → List ℕ → List ℕ → List Order → PartView → List Way → World
 with_cell w o survey looks os p ways =

@@ -42,12 +42,12 @@ pub fn base_calls()
     ensures first { base_steps (base_with (part_of 0 0 1 (of_first (in_order 1 ((2, promote 2) ∷ []))) [] (proxy 1 [] [] 0)))
         (From 16 (BaseCall (promote 1)))
         ≡ sends_none (base_with (part_of 1 0 2 (of_first (in_order 2 ((2, promote 2) ∷ []))) (promote 1 ∷ [])
-            (proxy 1 [] (line 1 (ranked 1 2) ∷ []) 1))) }
+        (proxy 1 [] (line 1 (ranked 1 2) ∷ []) 1))) }
     ensures late { base_steps (base_with
         (part_of 1 0 2 (of_first (in_order 2 ((2, promote 2) ∷ []))) (promote 1 ∷ []) (proxy 1 [] (line 1 (ranked 1 2) ∷ []) 1)))
         (From 16 (BaseCall (promote 1)))
         ≡ sends_none (base_with (part_of 1 0 2 (of_first (in_order 2 ((2, promote 2) ∷ []))) (promote 1 ∷ [])
-            (proxy 1 [] (line 1 (ranked 1 2) ∷ []) 1))) }
+        (proxy 1 [] (line 1 (ranked 1 2) ∷ []) 1))) }
     ensures unseen { base_steps (base_with new_client) (From 16 (BaseCall (pay 1)))
         ≡ sends_none (base_with (part_of 1 7 1 (of_first (in_order 2 [])) (pay 1 ∷ []) (proxy 1 [] [] 0))) }
     ensures without_a_client { base_steps (base_with without_client) (From 16 (BaseCall (promote 1)))
@@ -66,7 +66,7 @@ pub fn tasks_without_orders()
         (base_with (part_of 1 0 2 (of_first (in_order 2 ((2, promote 2) ∷ []))) (promote 1 ∷ [])
         (proxy 1 [] (line 1 (ranked 1 2) ∷ []) 1))) Task
         ≡ sends_none (base_with (part_of 2 0 3 (of_first (in_order 3 [])) (promote 1 ∷ promote 2 ∷ [])
-            (proxy 1 [] (line 1 (ranked 1 2) ∷ line 2 (ranked 2 3) ∷ []) 2))) }
+        (proxy 1 [] (line 1 (ranked 1 2) ∷ line 2 (ranked 2 3) ∷ []) 2))) }
     ensures call_before_update { base_steps
         (base_with (part_of 0 0 1 (of_first (has_first (pay 1))) [] (proxy 1 ((1, Leave 3) ∷ []) [] 0))) Task
         ≡ sends_none (base_with (part_of 1 7 1 (of_first (in_order 2 [])) (pay 1 ∷ []) (proxy 1 ((1, Leave 3) ∷ []) [] 0))) }
@@ -76,7 +76,7 @@ pub fn tasks_without_orders()
         (base_of 17 [] (1, 2) (both (part_of 0 0 1 (of_first (has_first (pay 1))) [] None)
         (part_of 0 0 1 (of_first (has_first (pay 1))) [] None))) Task
         ≡ sends_none (base_of 17 [] (1, 2)
-            (both (part_of 1 7 1 (of_first (in_order 2 [])) (pay 1 ∷ []) None) (part_of 0 0 1 (of_first (has_first (pay 1))) [] None))) }
+        (both (part_of 1 7 1 (of_first (in_order 2 [])) (pay 1 ∷ []) None) (part_of 0 0 1 (of_first (has_first (pay 1))) [] None))) }
     ensures least_sender { base_steps (base_with (part_of 0 0 1 (orders (has_first (promote 1)) (has_first (pay 1))) [] None)) Task
         ≡ sends_none (base_with (part_of 1 0 2 (orders (in_order 2 []) (has_first (pay 1))) (promote 1 ∷ []) None)) }
 {}

@@ -14,8 +14,11 @@ ghost use Rattle.seam_steps.specs.OneStep.{cell_of, inland, home, home_listing, 
 pub fn survey_tasks()
     ensures first { cell_steps (cell_of 0 (both inland (second (real 100 0 0 (at 4900 4900) no [] set.empty 0 0))) no no (2 ∷ 1 ∷ []) [])
         Task
-        ≡ record { state = cell_of 0 (both inland (second (real 100 0 0 (at 4900 4900) no [] (cells (1 ∷ 2 ∷ [])) 1 0))) no no (1 ∷ [])
-            []; sent = (1, GhostSet 2 1 (copy_at 0 4900 4900)) ∷ (2, GhostSet 2 1 (copy_at 0 4900 4900)) ∷ [] } }
+        ≡ record {
+          state = cell_of 0 (both inland (second (real 100 0 0 (at 4900 4900) no [] (cells (1 ∷ 2 ∷ [])) 1 0))) no no (1 ∷ [])
+              [];
+          sent = (1, GhostSet 2 1 (copy_at 0 4900 4900)) ∷ (2, GhostSet 2 1 (copy_at 0 4900 4900)) ∷ [];
+        } }
     ensures haunts_stay { cell_steps (home_listing (real 100 0 0 (at 4900 4900) no [] (cells (1 ∷ 2 ∷ [])) 1 0) (1 ∷ []) []) Task
         ≡ cell_rests (home (real 100 0 0 (at 4900 4900) no [] (cells (1 ∷ 2 ∷ [])) 1 0)) }
     ensures nothing_to_tell { cell_steps (home_listing inland (1 ∷ []) []) Task ≡ cell_rests (home inland) }
@@ -30,19 +33,25 @@ pub fn survey_tasks()
 pub fn calls_of_a_real()
     ensures hand_over { cell_steps (home_listing (real 100 0 0 (at 4990 4700) no [] (cells (1 ∷ 2 ∷ [])) 1 0) (2 ∷ 1 ∷ []) (1 ∷ 2 ∷ []))
         (From 16 (Call far))
-        ≡ record { state = cell_of 0 no (one (next_place 1 1)) (one (ghost 2 (Some (copy_at 1 5410 4700)))) (2 ∷ []) (2 ∷ []); sent =
-            (2, GhostSet 1 2 (copy_at 1 5410 4700)) ∷
-            (1, Hand (real 100 1 1 (at 5410 4700) (of_first (order 2 [])) (far ∷ []) (cells (0 ∷ 2 ∷ [])) 2 1)) ∷ [] } }
+        ≡ record {
+          state = cell_of 0 no (one (next_place 1 1)) (one (ghost 2 (Some (copy_at 1 5410 4700)))) (2 ∷ []) (2 ∷ []);
+          sent =
+              (2, GhostSet 1 2 (copy_at 1 5410 4700)) ∷
+              (1, Hand (real 100 1 1 (at 5410 4700) (of_first (order 2 [])) (far ∷ []) (cells (0 ∷ 2 ∷ [])) 2 1)) ∷ [];
+        } }
     ensures within_hysteresis { cell_steps (home (real 100 0 0 (at 4990 1000) no [] (cells (1 ∷ [])) 1 0))
         (From 16 (Call (call 1 1 (Move (at 5009 1000)))))
-        ≡ record { state = home (real 100 1 1 (at 5009 1000) (of_first (order 2 [])) (call 1 1 (Move (at 5009 1000)) ∷ [])
-            (cells (1 ∷ [])) 2 0); sent = (1, GhostSet 1 2 (copy_at 1 5009 1000)) ∷ [] } }
+        ≡ record {
+          state = home (real 100 1 1 (at 5009 1000) (of_first (order 2 [])) (call 1 1 (Move (at 5009 1000)) ∷ [])
+              (cells (1 ∷ [])) 2 0);
+          sent = (1, GhostSet 1 2 (copy_at 1 5009 1000)) ∷ [];
+        } }
     ensures private { cell_steps (home (real 100 3 2 (at 4900 1000) no [] (cells (1 ∷ [])) 1 0)) (From 16 (Call (call 1 1 note)))
         ≡ cell_rests (home (real 100 4 2 (at 4900 1000) (of_first (order 2 [])) (call 1 1 note ∷ []) (cells (1 ∷ [])) 1 0)) }
     ensures held { cell_steps (home_listing (real 100 0 0 (at 4900 1000) no [] (cells (1 ∷ [])) 1 0) (1 ∷ []) (1 ∷ []))
         (From 16 (Call (call 1 2 (hit 1))))
         ≡ cell_rests (home_listing (real 100 0 0 (at 4900 1000) (of_first (order 1 ((2, call 1 2 (hit 1)) ∷ []))) [] (cells (1 ∷ [])) 1 0)
-            (1 ∷ []) (1 ∷ [])) }
+        (1 ∷ []) (1 ∷ [])) }
     ensures late { cell_steps (home (real 99 1 1 (at 4900 1000) (of_first (order 2 [])) [] (cells (1 ∷ [])) 1 0))
         (From 16 (Call (call 1 1 (hit 1))))
         ≡ cell_rests (home (real 99 1 1 (at 4900 1000) (of_first (order 2 [])) [] (cells (1 ∷ [])) 1 0)) }
@@ -50,7 +59,7 @@ pub fn calls_of_a_real()
         (home (real 100 0 0 (at 1000 1000) (of_first (order 1 ((2, call 1 2 (hit 1)) ∷ []))) [] set.empty 0 0))
         (From 16 (Call (call 1 1 (hit 1))))
         ≡ cell_rests (home (real 99 1 1 (at 1000 1000) (of_first (order 2 ((2, call 1 2 (hit 1)) ∷ []))) (call 1 1 (hit 1) ∷ []) set.empty
-            0 0)) }
+        0 0)) }
 {}
 
 /// Ready-call task: without an entity to survey, the least entity that has a ready call executes the one of its least sender, and
@@ -59,18 +68,26 @@ pub fn ready_calls()
     ensures least_sender { cell_steps
         (home (real 100 0 0 (at 4990 100) (orders (has_first (call 1 1 (Move (at 6000 100)))) (has_first (call 2 1 (hit 1)))) []
         (cells (1 ∷ [])) 1 0)) Task
-        ≡ record { state = cell_of 0 no (one (next_place 1 1)) (one (ghost 2 None)) [] []; sent =
-            (1, Hand (real 100 1 1 (at 6000 100) (orders (order 2 []) (has_first (call 2 1 (hit 1)))) (call 1 1 (Move (at 6000 100)) ∷ [])
-            set.empty 2 1)) ∷ [] } }
+        ≡ record {
+          state = cell_of 0 no (one (next_place 1 1)) (one (ghost 2 None)) [] [];
+          sent = (
+            1,
+            Hand (real 100 1 1 (at 6000 100) (orders (order 2 []) (has_first (call 2 1 (hit 1)))) (call 1 1 (Move (at 6000 100)) ∷ [])
+                set.empty 2 1),
+          ) ∷ [];
+        } }
     ensures told { cell_steps (home
         (real 100 0 0 (at 4990 100) (of_first (has_first (call 1 1 (Move (at 4980 100))))) [] (cells (1 ∷ [])) 1 0)) Task
-        ≡ record { state = home (real 100 1 1 (at 4980 100) (of_first (order 2 [])) (call 1 1 (Move (at 4980 100)) ∷ []) (cells (1 ∷ []))
-            2 0); sent = (1, GhostSet 1 2 (copy_at 1 4980 100)) ∷ [] } }
+        ≡ record {
+          state = home (real 100 1 1 (at 4980 100) (of_first (order 2 [])) (call 1 1 (Move (at 4980 100)) ∷ []) (cells (1 ∷ []))
+              2 0);
+          sent = (1, GhostSet 1 2 (copy_at 1 4980 100)) ∷ [];
+        } }
     ensures least_entity { cell_steps
         (cell_of 0 (both (real 100 0 0 (at 1000 1000) (of_first (has_first (call 1 1 (hit 1)))) [] set.empty 0 0)
         (second (real 100 0 0 (at 1000 1000) (of_first (has_first (call 1 1 (hit 1)))) [] set.empty 0 0))) no no [] (2 ∷ [])) Task
         ≡ cell_rests (cell_of 0 (both (real 99 1 1 (at 1000 1000) (of_first (order 2 [])) (call 1 1 (hit 1) ∷ []) set.empty 0 0)
-            (second (real 100 0 0 (at 1000 1000) (of_first (has_first (call 1 1 (hit 1)))) [] set.empty 0 0))) no no [] (2 ∷ [])) }
+        (second (real 100 0 0 (at 1000 1000) (of_first (has_first (call 1 1 (hit 1)))) [] set.empty 0 0))) no no [] (2 ∷ [])) }
     ensures survey_first { cell_steps
         (home_listing (real 100 0 0 (at 1000 1000) (of_first (has_first (call 1 1 (hit 1)))) [] set.empty 0 0) (1 ∷ []) (1 ∷ [])) Task
         ≡ cell_rests (home_listing (real 100 0 0 (at 1000 1000) (of_first (has_first (call 1 1 (hit 1)))) [] set.empty 0 0) [] (1 ∷ [])) }
@@ -90,12 +107,18 @@ pub fn calls_passed_on()
 pub fn hand_overs()
     ensures comes_back { cell_steps (cell_of 0 no (one (next_place 1 1)) (one (ghost 2 (Some (copy_at 1 5 5)))) (1 ∷ 2 ∷ []) (2 ∷ 1 ∷ []))
         (From 1 (Hand (real 100 3 3 (at 4990 1000) no [] (cells (1 ∷ [])) 3 2)))
-        ≡ record { state = cell_of 0 (one (real 100 3 3 (at 4990 1000) no [] (cells (1 ∷ [])) 3 2)) no (one (ghost 3 None)) (1 ∷ 2 ∷ [])
-            (2 ∷ 1 ∷ []); sent = (16, Current 1 0 2) ∷ (17, Current 1 0 2) ∷ [] } }
+        ≡ record {
+          state = cell_of 0 (one (real 100 3 3 (at 4990 1000) no [] (cells (1 ∷ [])) 3 2)) no (one (ghost 3 None)) (1 ∷ 2 ∷ [])
+              (2 ∷ 1 ∷ []);
+          sent = (16, Current 1 0 2) ∷ (17, Current 1 0 2) ∷ [];
+        } }
     ensures greater_beat_stays { cell_steps (cell_of 0 no no (one (ghost 4 None)) [] [])
         (From 1 (Hand (real 100 3 3 (at 4990 1000) no [] (cells (1 ∷ [])) 3 2)))
-        ≡ record { state = cell_of 0 (one (real 100 3 3 (at 4990 1000) no [] (cells (1 ∷ [])) 3 2)) no (one (ghost 4 None)) [] []; sent =
-            (16, Current 1 0 2) ∷ (17, Current 1 0 2) ∷ [] } }
+        ≡ record {
+          state = cell_of 0 (one (real 100 3 3 (at 4990 1000) no [] (cells (1 ∷ [])) 3 2)) no (one (ghost 4 None)) [] [];
+          sent =
+              (16, Current 1 0 2) ∷ (17, Current 1 0 2) ∷ [];
+        } }
     ensures real_is_here { cell_steps (home inland) (From 1 (Hand (real 100 3 3 (at 4990 1000) no [] (cells (1 ∷ [])) 3 2)))
         ≡ cell_rests (home inland) }
     ensures cell_outside_tree { cell_steps (cell_of 3 no no no [] [])
@@ -154,7 +177,7 @@ pub fn stray_calls_at_a_cell()
     ensures number_at_the_limit { cell_steps (home inland) (From 16 (Call (call 1 (2 ^ 62 - 1) (hit 1)))) ≡ cell_rests (home inland) }
     ensures last_number_held { cell_steps (home inland) (From 16 (Call (call 1 (2 ^ 62 - 2) (hit 1))))
         ≡ cell_rests (home (real 100 0 0 (at 1000 1000) (of_first (order 1 ((2 ^ 62 - 2, call 1 (2 ^ 62 - 2) (hit 1)) ∷ []))) [] set.empty
-            0 0)) }
+        0 0)) }
     ensures beat_at_the_limit { cell_steps (home (real 100 0 0 (at 1000 1000) no [] set.empty (2 ^ 62 - 1) 0))
         (From 16 (Call (call 1 1 (hit 1))))
         ≡ cell_rests (home (real 100 0 0 (at 1000 1000) no [] set.empty (2 ^ 62 - 1) 0)) }

@@ -29,10 +29,12 @@ pub fn clients()
     ensures witness { attached 1 (Cell
         (cell two_cells 0 (both (created (here 0) 1 0 (at 5 5)) (created (here 0) 2 0 (at 5 5))) no no [] []))
         ≡ Cell (cell two_cells 0 (both (with_witness (here 0) (created (here 0) 1 0 (at 5 5))) (created (here 0) 2 0 (at 5 5))) no no []
-            []) }
+        []) }
     ensures proxy { attached 1 (Base (record (empty_node 17) { parts = one (new_part (here 17) 0) }))
-        ≡ Base (record (empty_node 17) { parts =
-            one (record (new_part (here 17) 0) { proxy = proxy 1 [] (line 1 (ranked 0 1) ∷ []) 1 }) }) }
+        ≡ Base (record (empty_node 17) {
+          parts =
+              one (record (new_part (here 17) 0) { proxy = proxy 1 [] (line 1 (ranked 0 1) ∷ []) 1 });
+        }) }
     ensures nothing_to_show { attached 1 (Base (record (empty_node 17) { parts = one (new_part (here 17) 1) }))
         ≡ Base (record (empty_node 17) { parts = one (record (new_part (here 17) 1) { proxy = proxy 1 [] [] 0 }) }) }
 {}
@@ -44,7 +46,7 @@ pub fn rounds_begin()
         (Cell (cell space 0 (both (real 99 1 1 (at 5 5) no (call 1 1 (hit 1) ∷ []) set.empty 0 0) (created (here 0) 2 0 (at 5 5)))
         (one (next_place 1 1)) (one (ghost 3 None)) [] []))
         ≡ Cell (cell two_cells 0 (both (real 99 1 1 (at 5 5) no [] set.empty 0 0) (created (here 0) 2 0 (at 5 5))) no (one (ghost 3 None))
-            (1 ∷ 2 ∷ []) []) }
+        (1 ∷ 2 ∷ []) []) }
     ensures base { base_round 3 (Base
         (record (empty_node 17) { parts = one (part_of 1 0 2 no (promote 1 ∷ []) (proxy 1 [] (line 1 (ranked 1 2) ∷ []) 1)) }))
         ≡ Base (record (empty_node 17) { cells = 3; parts = one (part_of 1 0 2 no [] (proxy 1 [] [] 1)) }) }
