@@ -165,8 +165,7 @@ module _ (h : Here) (me_in : h.me < cell_count) (some : 1 ≤ h.settings.bases) 
 
   good_hand : (s : Slot) (r : RealView) → IsGood (CellCases.hand_over_comes h s r)
   good_hand s r = record {
-    sends =
-        spread_below (peers_of h) cell_count h.settings.bases (λ b. Current r.entity h.me r.generation) (omega arith);
+    sends = spread_below (peers_of h) cell_count h.settings.bases (λ b. Current r.entity h.me r.generation) (omega arith);
     next = none_in;
   }
 
@@ -176,8 +175,7 @@ module _ (h : Here) (me_in : h.me < cell_count) (some : 1 ≤ h.settings.bases) 
 
   good_reap : (s : Slot) (o : Option RealView) → NextIn s.next → IsGood (CellCases.reap s o)
   good_reap s (Some r) n = record {
-    sends =
-        chosen_below (peers_of h) 0 cell_count (CellCases.drop_at r)
+    sends = chosen_below (peers_of h) 0 cell_count (CellCases.drop_at r)
         (λ k lt. drop_below (peers_of h) k (set.contains r.haunts k) (GhostDrop r.entity (r.beat + 1)) (omega (arith, lt)));
     next = n;
   }

@@ -59,8 +59,7 @@ newer_valid : (d : Bool) (b : BaseView) (e : ℕ) (r : RouteView) → r.cell < c
 newer_valid true b e r lt is = record {
   bases = is.bases;
   cells = is.cells;
-  routes =
-      λ q x h. route_in (eq_by_cmp nat_cmp q e) r x (table.get b.routes q) (sym (table.get-insert nat_cmp_total b.routes e r q) ∙ h) lt
+  routes = λ q x h. route_in (eq_by_cmp nat_cmp q e) r x (table.get b.routes q) (sym (table.get-insert nat_cmp_total b.routes e r q) ∙ h) lt
       (is.routes q x);
 }
 newer_valid false b e r lt is = is

@@ -59,8 +59,7 @@ abbrev pub hand_over_comes : Here → Slot → RealView → SlotStep
 hand_over_comes h s r = record {
   slot = Some (heard (record s { real = Some r; next = None }) r.beat None);
   unlisted = false;
-  sent =
-      currents h r;
+  sent = currents h r;
 }
 
 abbrev pub has_small_numbers : RealView → Bool

@@ -38,8 +38,7 @@ batch = record {
   clients = [];
   destroys = [];
   balance = false;
-  orders =
-      (16, order.Cell the_move) ∷ (17, order.Cell hit_1) ∷ (17, order.Cell hit_2) ∷ [];
+  orders = (16, order.Cell the_move) ∷ (17, order.Cell hit_1) ∷ (17, order.Cell hit_2) ∷ [];
 }
 
 abbrev pub made : RealView
@@ -77,8 +76,7 @@ base_16 os to = Base (record {
   cells = 2;
   orders = os;
   routes = one (record { cell = to.0; generation = to.1 });
-  parts =
-      table.empty;
+  parts = table.empty;
 })
 
 abbrev pub base_17 : List Order → (ℕ × ℕ) → NodeView
@@ -87,8 +85,7 @@ base_17 os to = Base (record {
   cells = 2;
   orders = os;
   routes = one (record { cell = to.0; generation = to.1 });
-  parts =
-      one (new_part (here 17) 0);
+  parts = one (new_part (here 17) 0);
 })
 
 abbrev pub with_cells : NodeView → NodeView → NodeView → NodeView → List Way → World

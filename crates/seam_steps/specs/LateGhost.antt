@@ -39,8 +39,7 @@ batch = record {
   clients = [];
   destroys = [];
   balance = false;
-  orders =
-      (16, order.Cell move_1) ∷ (16, order.Cell move_2) ∷ [];
+  orders = (16, order.Cell move_1) ∷ (16, order.Cell move_2) ∷ [];
 }
 
 abbrev pub made : RealView
@@ -88,8 +87,7 @@ base_16 os to = Base (record {
   cells = 3;
   orders = os;
   routes = one (record { cell = to.0; generation = to.1 });
-  parts =
-      no;
+  parts = no;
 })
 
 abbrev pub base_17 : List Order → (ℕ × ℕ) → Map PartView → NodeView

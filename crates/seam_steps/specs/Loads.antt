@@ -39,8 +39,7 @@ empty_cell defs settings k = Cell
       tree = one_cell settings.size;
       reals = table.empty;
       nexts = table.empty;
-      ghosts =
-          table.empty;
+      ghosts = table.empty;
       survey = [];
       looks = [];
     })
@@ -92,18 +91,16 @@ created_at t x (Base b) = Base (part_if (base_of b.here x.entity == b.here.me) (
 -- a real with a witness that has told nothing
 abbrev pub with_witness : Here → RealView → RealView
 with_witness h r = record r {
-  witness =
-      Some (record {
-        view = record {
-          radius = h.settings.view_radius;
-          hysteresis = h.settings.view_hysteresis;
-          entries = [];
-          shown =
-              table.empty;
-        };
-        told = None;
-        sent = 0;
-      });
+  witness = Some (record {
+    view = record {
+      radius = h.settings.view_radius;
+      hysteresis = h.settings.view_hysteresis;
+      entries = [];
+      shown = table.empty;
+    };
+    told = None;
+    sent = 0;
+  });
 }
 
 -- a client that was shown nothing

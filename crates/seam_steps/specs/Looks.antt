@@ -25,8 +25,7 @@ abbrev pub other_of_copy : Here → GhostCopy → GhostCopy
 other_of_copy h c = record {
   ty = c.ty;
   version = c.version;
-  state =
-      record { pos = c.state.pos; props = projected (properties h c.ty) group.Ghost group.Other c.state.props };
+  state = record { pos = c.state.pos; props = projected (properties h c.ty) group.Ghost group.Other c.state.props };
 }
 
 -- an entity with what is known of it
@@ -74,8 +73,7 @@ after_looking known looks shown r w =
     record {
       view = after_looks (map seen_as known) w.view looks;
       told = told_after (own_due w.told r.version) r.version w.told;
-      sent =
-          w.sent + length shown;
+      sent = w.sent + length shown;
     }
 
 -- how a witness looks at what is known

@@ -118,8 +118,7 @@ base_of k os to parts = record {
   cells = 3;
   orders = os;
   routes = one (record { cell = to.0; generation = to.1 });
-  parts =
-      parts;
+  parts = parts;
 }
 
 -- base node k of an opened world

@@ -26,8 +26,7 @@ created h e ty p = record {
   entity = e;
   ty = ty;
   state = record { pos = p; props = start_values (properties h ty) group.Real };
-  version =
-      0;
+  version = 0;
   public = 0;
   orders = table.empty;
   done = [];
@@ -88,8 +87,7 @@ abbrev pub with_deed : Here → RealView → Call → RealView
 with_deed h r k = record r {
   state = after (type_at h r.ty) r.state k.deed;
   version = r.version + 1;
-  public =
-      public_after (shows h r k) (r.version + 1) r.public;
+  public = public_after (shows h r k) (r.version + 1) r.public;
   done = r.done ++ k ∷ [];
 }
 

@@ -77,8 +77,7 @@ abbrev pub copy_at : ℕ → ℕ → ℕ → GhostCopy
 copy_at version x z = record {
   ty = 0;
   version = version;
-  state =
-      record { pos = at x z; props = Number (pos 100) ∷ Number (pos 50) ∷ Number (pos 0) ∷ Number (pos 0) ∷ [] };
+  state = record { pos = at x z; props = Number (pos 100) ∷ Number (pos 50) ∷ Number (pos 0) ∷ Number (pos 0) ∷ [] };
 }
 
 -- ---- maps of entity 1
@@ -112,8 +111,7 @@ real hp version public p os done haunts beat generation =
       version = version;
       public = public;
       orders = os;
-      done =
-          done;
+      done = done;
       haunts = haunts;
       beat = beat;
       generation = generation;

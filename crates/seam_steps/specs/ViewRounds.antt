@@ -53,8 +53,7 @@ batch_1 = record {
   clients = 1 ∷ [];
   orders = [];
   destroys = [];
-  balance =
-      false;
+  balance = false;
 }
 
 abbrev pub batch_of : CallData → Batch
@@ -104,8 +103,7 @@ abbrev pub other_at : ℕ → ℕ → GhostCopy
 other_at version x = record {
   ty = 0;
   version = version;
-  state =
-      record { pos = at x 1000; props = Number (pos 100) ∷ Number (pos 0) ∷ [] };
+  state = record { pos = at x 1000; props = Number (pos 100) ∷ Number (pos 0) ∷ [] };
 }
 
 abbrev pub own_state : State
@@ -143,10 +141,8 @@ base_16 os = Base (record {
   here = here 16;
   cells = 1;
   orders = os;
-  routes =
-      both (record { cell = 0; generation = 0 }) (record { cell = 0; generation = 0 });
-  parts =
-      table.insert table.empty 2 (new_part (here 16) 0);
+  routes = both (record { cell = 0; generation = 0 }) (record { cell = 0; generation = 0 });
+  parts = table.insert table.empty 2 (new_part (here 16) 0);
 })
 
 abbrev pub base_17 : PartView → NodeView
@@ -154,8 +150,7 @@ base_17 p = Base (record {
   here = here 17;
   cells = 1;
   orders = [];
-  routes =
-      both (record { cell = 0; generation = 0 }) (record { cell = 0; generation = 0 });
+  routes = both (record { cell = 0; generation = 0 }) (record { cell = 0; generation = 0 });
   parts = one p;
 })
 

@@ -35,8 +35,7 @@ pub fn calls_of_a_real()
         (From 16 (Call far))
         ≡ record {
           state = cell_of 0 no (one (next_place 1 1)) (one (ghost 2 (Some (copy_at 1 5410 4700)))) (2 ∷ []) (2 ∷ []);
-          sent =
-              (2, GhostSet 1 2 (copy_at 1 5410 4700)) ∷
+          sent = (2, GhostSet 1 2 (copy_at 1 5410 4700)) ∷
               (1, Hand (real 100 1 1 (at 5410 4700) (of_first (order 2 [])) (far ∷ []) (cells (0 ∷ 2 ∷ [])) 2 1)) ∷ [];
         } }
     ensures within_hysteresis { cell_steps (home (real 100 0 0 (at 4990 1000) no [] (cells (1 ∷ [])) 1 0))
@@ -116,8 +115,7 @@ pub fn hand_overs()
         (From 1 (Hand (real 100 3 3 (at 4990 1000) no [] (cells (1 ∷ [])) 3 2)))
         ≡ record {
           state = cell_of 0 (one (real 100 3 3 (at 4990 1000) no [] (cells (1 ∷ [])) 3 2)) no (one (ghost 4 None)) [] [];
-          sent =
-              (16, Current 1 0 2) ∷ (17, Current 1 0 2) ∷ [];
+          sent = (16, Current 1 0 2) ∷ (17, Current 1 0 2) ∷ [];
         } }
     ensures real_is_here { cell_steps (home inland) (From 1 (Hand (real 100 3 3 (at 4990 1000) no [] (cells (1 ∷ [])) 3 2)))
         ≡ cell_rests (home inland) }

@@ -32,8 +32,7 @@ pub fn clients()
         []) }
     ensures proxy { attached 1 (Base (record (empty_node 17) { parts = one (new_part (here 17) 0) }))
         ≡ Base (record (empty_node 17) {
-          parts =
-              one (record (new_part (here 17) 0) { proxy = proxy 1 [] (line 1 (ranked 0 1) ∷ []) 1 });
+          parts = one (record (new_part (here 17) 0) { proxy = proxy 1 [] (line 1 (ranked 0 1) ∷ []) 1 });
         }) }
     ensures nothing_to_show { attached 1 (Base (record (empty_node 17) { parts = one (new_part (here 17) 1) }))
         ≡ Base (record (empty_node 17) { parts = one (record (new_part (here 17) 1) { proxy = proxy 1 [] [] 0 }) }) }

@@ -40,8 +40,7 @@ pub fn look_tasks()
     ensures not_known { cell_steps (cell space 0 (one (watcher entered)) no (no) [] (1 ∷ [])) Task
         ≡ record {
           state = cell space 0 (one (watcher (witness [] (table.insert table.empty 2 0) (Some 0) 3))) no (no) [] [];
-          sent =
-              (17, update 3 (Leave 2)) ∷ [];
+          sent = (17, update 3 (Leave 2)) ∷ [];
         } }
     ensures older_copy { cell_steps
         (cell space 0 (one (watcher (witness ((2, 5) ∷ []) (table.insert table.empty 2 5) (Some 0) 2))) no
