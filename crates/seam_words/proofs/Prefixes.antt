@@ -13,7 +13,7 @@ use Rattle.seam_words.proofs.Runs.{HasRun}
 two_gaps : (a b : List ℕ) → IsGap a → IsGap b → IsGap (a ++ b)
 two_gaps a b p q = list_all-append is_blank a b ∙ grind (arith, p, q)
 
--- words may be read behind a gap
+-- words may be read after a gap
 pub skip_gap : (at : ℕ) (gap bytes : List ℕ) (spans : List Span) (tail : List ℕ) → IsGap gap → HasFirstWords (at + length gap) bytes spans tail → HasFirstWords at (gap ++ bytes) spans tail
 skip_gap at gap bytes [] tail g h = (gap ++ h.0, two_gaps gap h.0 g h.1, ap (λ (xs : List ℕ). gap ++ xs) h.2 ∙ sym (append_assoc gap h.0 tail))
 skip_gap at gap bytes (span ∷ spans) tail g h = (
@@ -31,12 +31,12 @@ skip_gap at gap bytes (span ∷ spans) tail g h = (
   h.2,
 )
 
-pub behind_gap : (at later : ℕ) (bytes : List ℕ) (spans : List Span) (tail rest : List ℕ) → HasRun is_blank bytes rest → later + length rest ≡ at + length bytes → HasFirstWords later rest spans tail → HasFirstWords at bytes spans tail
-behind_gap at later bytes spans tail rest r e h =
+pub after_gap : (at later : ℕ) (bytes : List ℕ) (spans : List Span) (tail rest : List ℕ) → HasRun is_blank bytes rest → later + length rest ≡ at + length bytes → HasFirstWords later rest spans tail → HasFirstWords at bytes spans tail
+after_gap at later bytes spans tail rest r e h =
     let place : later ≡ at + length r.run = omega (arith, ap length r.whole, length-append r.run rest) in
     rw r.whole (skip_gap at r.run rest spans tail r.passes (subst (λ (n : ℕ). HasFirstWords n rest spans tail) place h))
 
--- a word, and then the words behind it
+-- a word, and then the words after it
 pub word_first : (at : ℕ) (bytes rest : List ℕ) (span : Span) (spans : List Span) (tail : List ℕ) → IsFirstWord span.quoted bytes rest → span.start ≡ at → span.end + length rest ≡ at + length bytes → HasFirstWords span.end rest spans tail → HasFirstWords at bytes (span ∷ spans) tail
 word_first at bytes rest span spans tail w s e h = (
   rest,
@@ -53,7 +53,7 @@ word_first at bytes rest span spans tail w s e h = (
   h,
 )
 
--- a fault behind the words so far
+-- a fault after the words so far
 pub fault_of_word : (count : ℕ) (bytes : List ℕ) (e : WordsError) → count < 16 → RefusesWord bytes e → HasFaultAt count bytes e
 fault_of_word count bytes NotUtf8 c h = h
 fault_of_word count bytes OpenQuote c h = (c, h)

@@ -1,0 +1,15 @@
+-- The numbers of base nodes.
+use Rattle.std.specs.Prelude.{ℕ, ◌≤◌}
+
+-- the most base nodes of a world
+abbrev pub most_base_nodes : ℕ
+most_base_nodes = 8
+
+-- the number is that of one of the first base nodes, of which there are so many
+pub record IsBaseNodeOf (count n : ℕ) : Type 0 where
+  pub from_one : 1 ≤ n
+  pub most : n ≤ count
+
+-- the number is that of a base node
+abbrev pub IsBaseNode : ℕ → Type 0
+IsBaseNode n = IsBaseNodeOf most_base_nodes n
