@@ -7,7 +7,7 @@
 //!
 //! Crates above cite these modules of `proofs`: `Occurring` (what an enabled event is, and what it leaves of nodes and rows), `Puts`
 //! (a link after items were put or a message was fed), `Writes` (a list after one place was written), `Totals` (sums over lists),
-//! `SendLemmas` (the items that go to one node), `Quiet` (a quiet net is empty), `Parts` (a net and its parts).
+//! `SendLemmas` (the items that go to one node), `Flats` (rows as one list), `Quiet` (a quiet net is empty), `Parts` (a net and its parts).
 #![tactic(auto)]
 
 ghost use Rattle.std.specs.Prelude.{◌≡◌};

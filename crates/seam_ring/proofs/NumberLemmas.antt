@@ -1,18 +1,18 @@
 -- The one number of a net of counters, and counters that do not know how many they are.
-use Rattle.std.proofs.Common.{◌≡◌, ℕ, zero, suc, ◌+◌, ◌≤◌, Bool, true, List, [], ◌∷◌, length, Option, None, Some, refl, sym, ap, ◌∙◌, subst, arith, inl, inr}
+use Rattle.std.proofs.Common.{◌≡◌, ℕ, zero, suc, ◌≤◌, true, List, [], ◌∷◌, Option, None, Some, refl, ap, ◌∙◌, arith, inl, inr}
 use Rattle.seam_machine.specs.Views.{NetView}
-use Rattle.seam_machine.specs.Sends.{AllBelow, items_to}
+use Rattle.seam_machine.specs.Sends.{items_to}
 use Rattle.seam_machine.specs.Nets.{enabled, happens, input_from, LeadsTo}
 use Rattle.seam_machine.specs.Events.{Occurs}
 use Rattle.seam_machine.specs.declared.machines.Input.{Input}
 use Rattle.seam_machine.specs.declared.machines.Input.TheVariants.{Task, From}
 use Rattle.seam_machine.specs.declared.machines.Event.{Event}
-use Rattle.seam_machine.proofs.Occurring.{occurs, occurs_works}
-use Rattle.seam_runs.specs.Seen.{seen, SeesSteps}
+use Rattle.seam_machine.proofs.Occurring.{occurs}
+use Rattle.seam_runs.specs.Seen.{seen}
 use Rattle.seam_runs.proofs.Soundness.{sound_sends}
 use Rattle.seam_runs.proofs.Seeing.{seen_leads}
-use Rattle.seam_flows.specs.Flows.{Flow, Goes, comes, letters_of, letter_in}
-use Rattle.seam_flows.specs.Tokens.{Handles, still, turns, lands, leaves, relays, SendsOne, SendsNone, HasOne, place_after, token_after}
+use Rattle.seam_flows.specs.Flows.{Flow, Goes, letters_of, letter_in}
+use Rattle.seam_flows.specs.Tokens.{still, leaves, relays, SendsOne, HasOne, place_after, token_after}
 use Rattle.seam_flows.proofs.Bridge.{event_goes}
 use Rattle.seam_flows.proofs.SendLists.{sees_one_here, sees_one_there}
 use Rattle.seam_flows.proofs.TokenLemmas.{sole_goes, one_goes}

@@ -1,4 +1,5 @@
 pub mod Keeping
+pub mod MapSums
 pub mod Runs
 pub mod Seeing
 pub mod Soundness

@@ -2,7 +2,10 @@
 //!
 //! A law over any fact has the fact as a ghost member of a type parameter.
 
-ghost use Rattle.std.specs.Prelude.{◌≡◌, ℕ, ◌+◌, ◌≤◌, List, [], ◌∷◌, ◌++◌, length, Bool, true, Some, drop};
+ghost use Rattle.std.specs.Prelude.{◌≡◌, ℕ, ◌+◌, ◌*◌, ◌≤◌, List, [], ◌∷◌, ◌++◌, length, Bool, true, Option, Some, drop, filter_map};
+ghost use Rattle.std.specs.List.{range_with_len};
+ghost use Rattle.std.specs.Ordering.{nat_cmp};
+ghost use Rattle.std.specs.FinMap as map;
 ghost use Rattle.seam_machine.specs.declared.machines.Input.{Input};
 ghost use Rattle.seam_machine.specs.declared.machines.Event.{Event};
 ghost use Rattle.seam_machine.specs.Views.{Stepped, NetView};
@@ -10,6 +13,7 @@ ghost use Rattle.seam_machine.specs.Sends.{AllBelow};
 ghost use Rattle.seam_machine.specs.Nets.{link, enabled, happens, run, LeadsTo, IsSquare};
 ghost use Rattle.seam_machine.specs.Events.{Occurs, EachNode, EachLink, link_left, link_added};
 ghost use Rattle.seam_runs.specs.Weights.{weight, input_weight, sent_weight, counted, Lowers};
+ghost use Rattle.seam_runs.specs.Sums.{weight_or, map_total};
 ghost use Rattle.seam_runs.specs.Kept.{StaysTrue};
 ghost use Rattle.seam_runs.specs.Sound.{IsSound};
 ghost use Rattle.seam_runs.specs.Seen.{seen, SeesSteps, SeesWork};
@@ -159,4 +163,18 @@ pub fn nets_are_seen<N, V, T>()
         LeadsTo has_work steps w es v → LeadsTo seen_work seen_steps (seen f w) es (seen f v) }
     ensures enabled { (f : N → V) (has_work : N → Bool) (seen_work : V → Bool) → SeesWork f has_work seen_work →
         (w : NetView N T) (e : Event) → enabled seen_work (seen f w) e ≡ enabled has_work w e }
+{}
+
+/// What the values of a finite map weigh together, after a value was put and after one was removed.
+pub fn a_map_weighs_its_values<X>()
+    ensures put { (f : X → ℕ) (m : map.FinMap nat_cmp X) (k : ℕ) (x : X) →
+        map_total f (map.insert m k x) + weight_or f (map.get m k) ≡ map_total f m + f x }
+    ensures removed { (f : X → ℕ) (m : map.FinMap nat_cmp X) (k : ℕ) →
+        map_total f (map.remove m k) + weight_or f (map.get m k) ≡ map_total f m }
+{}
+
+/// Where what is chosen for each node of a range weighs at most so much, what is sent weighs at most that for each node.
+pub fn chosen_sends_are_bounded<T>()
+    ensures { (g : ℕ → T → ℕ) (f : ℕ → Option (ℕ × T)) (most from len : ℕ) → ((k : ℕ) → weight_or (λ p. g p.0 p.1) (f k) ≤ most) →
+        sent_weight g (filter_map f (range_with_len from len)) ≤ len * most }
 {}

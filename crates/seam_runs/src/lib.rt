@@ -4,13 +4,14 @@
 //! all runs is an induction over the list of events: what is proved here of one event holds after every run.
 //!
 //! Crates above cite these modules of `proofs`: `Runs` (join, part and extend runs; what they keep; how long they are), `Keeping`
-//! (each node, each link, each link exactly), `Weighing` (the weight of a net, by the node to which a message goes), `Soundness` (a net of
+//! (each node, each link, each link exactly), `Weighing` (the weight of a net, by the node to which a message goes), `MapSums` (sums over finite maps), `Soundness` (a net of
 //! machines stays one), `Seeing` (a net through a function on its nodes).
 #![tactic(auto)]
 
 mod laws;
 
 pub use laws::{
-    LinkFact, NetFact, NetMeasure, NodeFact, each_link_is_kept, each_node_is_kept, links_are_exact,
-    nets_are_seen, runs_end, runs_extend, runs_join, runs_keep, soundness_is_kept, weights_move,
+    LinkFact, NetFact, NetMeasure, NodeFact, a_map_weighs_its_values, chosen_sends_are_bounded,
+    each_link_is_kept, each_node_is_kept, links_are_exact, nets_are_seen, runs_end, runs_extend,
+    runs_join, runs_keep, soundness_is_kept, weights_move,
 };

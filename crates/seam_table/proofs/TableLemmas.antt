@@ -1,6 +1,6 @@
 -- What a table answers, by what its entries hold.
-use Rattle.std.proofs.Common.{◌≡◌, ◌<◌, nat_lt, find, slice_get, ℕ, Bool, true, false, not, cond, ◌||◌, ◌&&◌, List, [], ◌∷◌, Option, None, Some, refl, sym, ap, ◌∙◌, arith, is_some, length}
-use Rattle.std.specs.Option.{option_flatten, IfSome, IsSome}
+use Rattle.std.proofs.Common.{◌≡◌, find, slice_get, ℕ, Bool, true, false, not, cond, ◌||◌, ◌&&◌, List, [], ◌∷◌, Option, None, Some, refl, sym, ap, ◌∙◌, arith, is_some, length}
+use Rattle.std.specs.Option.{option_flatten, IfSome}
 use Rattle.std.specs.Ordering.{nat_cmp, eq_by_cmp, is_eq}
 use Rattle.std.specs.Cmp.{nat_cmp_total, eq_by_cmp_equiv}
 use Rattle.std.specs.Map.{lookup, keys_of}
@@ -105,11 +105,14 @@ or_same true r h = h refl
 or_same false r h = refl
 
 -- room that is there already
-pub room-there : {T : Type 0} (m : BTreeMap ℕ (Option T)) (e : ℕ) → is_some (get nat_cmp m e) ≡ true → (table_of m.entries).room ≡ set.insert (table_of m.entries).room e
-room-there m e there =
+pub room_inserted : (room : set.FinSet nat_cmp) (e : ℕ) → set.contains room e ≡ true → set.insert room e ≡ room
+room_inserted room e there =
     set.same_set nat_cmp_total set.nat_cmp-IsAntisymmetric _ _ (λ q.
-    or_same (eq_by_cmp nat_cmp q e) (set.contains (table_of m.entries).room q) (λ t. room-slot m q ∙ ap (λ k. is_some (get nat_cmp m k)) (sym (key_is q e t)) ∙ there)
-    ∙ sym (set.contains-insert nat_cmp_total (table_of m.entries).room e q))
+    set.contains-insert nat_cmp_total room e q
+    ∙ sym (or_same (eq_by_cmp nat_cmp q e) (set.contains room q) (λ t. ap (set.contains room) (sym (key_is q e t)) ∙ there)))
+
+pub room-there : {T : Type 0} (m : BTreeMap ℕ (Option T)) (e : ℕ) → is_some (get nat_cmp m e) ≡ true → (table_of m.entries).room ≡ set.insert (table_of m.entries).room e
+room-there m e there = sym (room_inserted (table_of m.entries).room e (room-slot m e ∙ there))
 
 -- ---- an item out, with its room or without
 

@@ -4,7 +4,7 @@
 //! all or none of them, makes room first and changes what cannot fail then.
 #![tactic(auto)]
 
-ghost use Rattle.std.specs.Prelude.{◌≡◌, find, true, false, OnOk, OnErr, IfOk, IfErr, IfSome, option_map, option_copied};
+ghost use Rattle.std.specs.Prelude.{◌≡◌, ℕ, Bool, Some, find, true, false, OnOk, OnErr, IfOk, IfErr, IfSome, option_map, option_copied};
 ghost use Rattle.std.specs.FinMap as map;
 ghost use Rattle.std.specs.FinSet as set;
 ghost use Rattle.std.specs.Ordering.{nat_cmp};
@@ -103,6 +103,7 @@ impl<T: Drop> Table<T> {
         requires { set.contains self.old.room n ≡ true }
         ensures old { result ≡ map.get self.old.items n }
         ensures after { self.new ≡ with_item self.old n item }
+        ensures room { self.new.room ≡ self.old.room }
     {
         let Ok(old) = self.put(n, item) else {
             unreachable!()
@@ -230,3 +231,9 @@ pub fn send_table<T: Send>(table: Table<T>) -> Table<T>
 {
     sent(table)
 }
+
+/// An item that a search of a table's entries finds is the table's item of that number, and passes the test.
+pub fn what_is_found_is_there<T>()
+    ensures { (test : ℕ × T → Bool) (m : map.FinMap nat_cmp T) (p : ℕ × T) → find test (map.entries m) ≡ Some p →
+        (map.get m p.0 ≡ Some p.1) × (test p ≡ true) }
+{}

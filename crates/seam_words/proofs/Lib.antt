@@ -1,4 +1,4 @@
 pub mod Pieces
 pub mod Runs
-pub mod Fronts
+pub mod Prefixes
 pub mod Scan

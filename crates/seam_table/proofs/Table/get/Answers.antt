@@ -1,6 +1,5 @@
-use Rattle.std.proofs.Common.{sym, ap, ◌∙◌, is_some, true, ◌≡◌}
+use Rattle.std.proofs.Common.{sym, ap, ◌∙◌}
 use Rattle.std.specs.FinMap as map
-use Rattle.std.specs.FinSet as set
 use Rattle.std.specs.Option.{option_flatten}
 use Rattle.seam_table.specs.Entries.{table_of}
 use Rattle.seam_table.proofs.TableLemmas.{item-slot, room_of_entry, same_room}
