@@ -14,6 +14,7 @@ ghost use Rattle.std.specs.Ordering.{nat_cmp};
 ghost use Rattle.std.specs.BTreeMap.{IsOrdered};
 ghost use Rattle.seam_ghosts.specs.Book.{BookView, beat_of, copy_in, copy_of, copies, is_after, answer, with_ghost, after_message};
 
+pub use seam_memory::NoMemoryFor;
 use std::alloc::{AllocError, Global};
 use std::collections::BTreeMap;
 use std::marker::Model;
@@ -21,12 +22,6 @@ use std::ops::Bound;
 
 #[cfg(test)]
 mod tests;
-
-/// There was no memory. The item that was given comes back.
-#[derive(Debug, Drop, PartialEq, Eq)]
-pub struct NoMemoryFor<T> {
-    pub item: T,
-}
 
 /// What became of a message about a ghost.
 #[derive(Clone, Copy, Debug, PartialEq, Eq)]

@@ -21,8 +21,9 @@ pub use laws::{
     links_are_exact, parts_are_the_net, quiet_is_empty, runs_end, runs_go_on, runs_join, runs_keep,
     soundness_is_kept, the_newest_entry_is_kept, weights_move,
 };
-pub use machines::{Event, Input, Machine, NoMemoryFor};
+pub use machines::{Event, Input, Machine};
 pub use nets::{Net, NetParts};
+pub use seam_memory::NoMemoryFor;
 pub use sends::Out;
 
 fn sent<T: Send>(value: T) -> T

@@ -6,6 +6,7 @@ ghost use Rattle.seam_machine.specs.Views.{Stepped, OutView};
 ghost use Rattle.seam_machine.specs.Sends.{AllBelow};
 
 use crate::sends::Out;
+use seam_memory::NoMemoryFor;
 use std::alloc::Global;
 
 /// What a step takes: the node's own task, or a message from that node.
@@ -13,12 +14,6 @@ use std::alloc::Global;
 pub enum Input<T> {
     Task,
     From(u8, T),
-}
-
-/// There was no memory. The item that was given comes back.
-#[derive(Debug, Drop, PartialEq, Eq)]
-pub struct NoMemoryFor<T> {
-    pub item: T,
 }
 
 /// Node `node` takes its own task, or the first message of the link from `from`.

@@ -11,18 +11,13 @@ ghost use Rattle.std.specs.VecDeque.{deque_len};
 ghost use Rattle.seam_order.specs.Held.{OrderView, item_at, IsInOrder};
 ghost use Rattle.seam_order.specs.Offers.{offer_answer, after_offer, next_item, after_taking};
 
+pub use seam_memory::NoMemoryFor;
 use std::alloc::Global;
 use std::collections::VecDeque;
 use std::marker::Model;
 
 #[cfg(test)]
 mod tests;
-
-/// There was no memory. The item that was given comes back.
-#[derive(Debug, Drop, PartialEq, Eq)]
-pub struct NoMemoryFor<T> {
-    pub item: T,
-}
 
 /// What an offered item meets.
 #[derive(Debug, Drop, PartialEq, Eq)]

@@ -1,5 +1,5 @@
-use Rattle.seam_machine_uses.proofs.RingLemmas.{small_stays, next_stays}
-use Rattle.seam_machine_uses.proofs.counter.small_numbers_stay_small.Goals as goal
+use Rattle.seam_ring.proofs.RingLemmas.{small_stays, next_stays}
+use Rattle.seam_ring.proofs.counter.small_numbers_stay_small.Goals as goal
 
 pub returns-clause-small : goal.returns-clause-small
 returns-clause-small c = λ w v g h. small_stays g h

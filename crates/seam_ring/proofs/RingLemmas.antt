@@ -20,9 +20,9 @@ use Rattle.seam_machine.proofs.Following.{mail-goes}
 use Rattle.seam_machine.proofs.NewestLemmas.{newest-stays}
 use Rattle.std.specs.List.{AllByRecursion}
 use Rattle.seam_machine.proofs.Soundness.{sound_sends, sound-happens}
-use Rattle.seam_machine_uses.specs.Views.{CounterView}
-use Rattle.seam_machine_uses.specs.Counters.{task_steps, passed, counter_steps, counter_work, IsCounter, counter_targets, counter_peers, counter_valid}
-use Rattle.seam_machine_uses.specs.Rings.{IsSoundNet, IsRing, given_to_do, to_do, to_go, small, no_counter, SmallMoves, AllSmall, next_entry, brings_none}
+use Rattle.seam_ring.specs.Views.{CounterView}
+use Rattle.seam_ring.specs.Counters.{task_steps, passed, counter_steps, counter_work, IsCounter, counter_targets, counter_peers, counter_valid}
+use Rattle.seam_ring.specs.Rings.{IsSoundNet, IsRing, given_to_do, to_do, to_go, small, no_counter, SmallMoves, AllSmall, next_entry, brings_none}
 
 task_falls : (c : CounterView) (o : Option ℕ) → is_some o ≡ true → to_do (task_steps c o).state + sent_weight to_go (task_steps c o).sent + 1 ≡ given_to_do o
 task_falls c None h = cc

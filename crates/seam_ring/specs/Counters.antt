@@ -5,7 +5,7 @@ use Rattle.seam_machine.specs.Views.{Stepped}
 use Rattle.seam_machine.specs.Sends.{AllBelow}
 use Rattle.seam_machine.specs.declared.machines.Input.{Input}
 use Rattle.seam_machine.specs.declared.machines.Input.TheVariants.{Task, From}
-use Rattle.seam_machine_uses.specs.Views.{CounterView}
+use Rattle.seam_ring.specs.Views.{CounterView}
 
 -- a counter sends a number that it was given to the next one
 abbrev pub task_steps : CounterView → Option ℕ → Stepped CounterView ℕ

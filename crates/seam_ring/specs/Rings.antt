@@ -5,8 +5,8 @@ use Rattle.seam_machine.specs.Flows.{Flow}
 use Rattle.seam_machine.specs.Views.{NetView}
 use Rattle.seam_machine.specs.Events.{EachNode, EachLink}
 use Rattle.seam_machine.specs.Sound.{IsSound}
-use Rattle.seam_machine_uses.specs.Views.{CounterView}
-use Rattle.seam_machine_uses.specs.Counters.{IsCounter}
+use Rattle.seam_ring.specs.Views.{CounterView}
+use Rattle.seam_ring.specs.Counters.{IsCounter}
 
 abbrev pub IsSoundNet : NetView CounterView ℕ → Type 0
 IsSoundNet w = IsSound (λ c. c.peers) IsCounter w

@@ -7,9 +7,9 @@ ghost use Rattle.seam_machine.specs.Weights.{weight};
 ghost use Rattle.seam_machine.specs.Flows.{Flow, Goes, flow_of};
 ghost use Rattle.seam_machine.specs.Newest.{Newest};
 ghost use Rattle.seam_machine.specs.declared.machines.Event.{Event};
-ghost use Rattle.seam_machine_uses.specs.Views.{CounterView};
-ghost use Rattle.seam_machine_uses.specs.Counters.{counter_steps, counter_work, IsCounter, counter_targets, counter_peers, counter_valid};
-ghost use Rattle.seam_machine_uses.specs.Rings.{IsRing, IsSoundNet, to_do, to_go, small, no_counter, SmallMoves, AllSmall, next_entry, brings_none};
+ghost use Rattle.seam_ring.specs.Views.{CounterView};
+ghost use Rattle.seam_ring.specs.Counters.{counter_steps, counter_work, IsCounter, counter_targets, counter_peers, counter_valid};
+ghost use Rattle.seam_ring.specs.Rings.{IsRing, IsSoundNet, to_do, to_go, small, no_counter, SmallMoves, AllSmall, next_entry, brings_none};
 
 use seam_machine::{Input, Machine, NoMemoryFor, Out};
 use std::alloc::Global;
@@ -25,7 +25,7 @@ pub struct Counter {
 
 impl Model for Counter {
     ghost use Rattle.std.specs.Prelude.{◌<◌};
-    ghost use Rattle.seam_machine_uses.specs.Views.{CounterView};
+    ghost use Rattle.seam_ring.specs.Views.{CounterView};
 
     ghost Value = { CounterView };
 

@@ -1,0 +1,11 @@
+//! What a call that keeps an item answers if allocation fails.
+#![tactic(auto)]
+
+#[cfg(test)]
+mod tests;
+
+/// Allocation failed. The item that was given comes back.
+#[derive(Debug, Drop, PartialEq, Eq)]
+pub struct NoMemoryFor<T> {
+    pub item: T,
+}
