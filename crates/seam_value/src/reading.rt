@@ -29,7 +29,7 @@ impl Value {
 }
 
 // The number of type `t` that the bytes spell.
-fn read_number(bytes: &[u8], t: ValueType) -> Result<Value, ValueError>
+pub(crate) fn read_number(bytes: &[u8], t: ValueType) -> Result<Value, ValueError>
     requires { t ≢ ValueType.Text }
     ensures value { IfOk result (λ v. Fits v t × (text_of v ≡ bytes.now)) }
     ensures cause { IfErr result (Refuses bytes.now t) }

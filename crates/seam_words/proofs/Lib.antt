@@ -2,3 +2,4 @@ pub mod Pieces
 pub mod Runs
 pub mod Fronts
 pub mod Scan
+mod TextTables
