@@ -5,8 +5,13 @@
 //! Of `proofs/`, `InOrderLemmas` and `RunLemmas` are for callers.
 #![tactic(auto)]
 
+mod laws;
 mod limits;
 mod verdict;
 
+pub use laws::{
+    command_is_one, full_order_is_legal, header_is_one, long_line_is_refused,
+    one_sender_one_transcript, unknown_command_is_refused, verdict_is_one,
+};
 pub use limits::{MOST_ENTITIES, MOST_LINES};
 pub use verdict::{Cause, Entry, Verdict};

@@ -3,3 +3,4 @@ pub mod Runs
 pub mod Fronts
 pub mod Scan
 mod TextTables
+pub mod WordTexts
