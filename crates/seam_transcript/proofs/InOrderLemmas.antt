@@ -1,7 +1,6 @@
 -- The order in which calls are executed as they were accepted: it is full, and its rounds are legal.
-use Rattle.std.proofs.Common.{◌≡◌, ◌+◌, ℕ, Bool, true, false, List, [], ◌∷◌, ◌++◌, length, refl, sym, ◌∙◌, ap, subst, arith, append-nil}
+use Rattle.std.proofs.Common.{◌≡◌, ◌+◌, ℕ, Bool, true, false, List, [], ◌∷◌, ◌++◌, length, refl, sym, ◌∙◌, ap, arith, append-nil}
 use Rattle.std.specs.Prelude.{filter, fold, ◌&&◌, cond}
-use Rattle.std.specs.List.{filter_map}
 use Rattle.std.proofs.lemmas.List.{take_all}
 use Rattle.std.proofs.lemmas.List.Elements.{filter-append, filter_map-append}
 use Rattle.std.proofs.lemmas.List.Sums.{fold-append}
@@ -14,8 +13,8 @@ use Rattle.seam_call.specs.Calls.{is_for, is_from}
 use Rattle.seam_call.specs.declared.sender.Sender.{Sender}
 use Rattle.seam_call.specs.declared.call.Call.{Call}
 use Rattle.seam_call.specs.declared.create.Create.{Create}
-use Rattle.seam_transcript.specs.Header.{Header}
-use Rattle.seam_transcript.specs.Book.{Book, entries, called, calls_of, created_as, accepted, with_round_ended}
+use Rattle.seam_transcript.specs.declared.header.Header.{Header}
+use Rattle.seam_transcript.specs.Book.{Book, entries, called, calls_of, created_as, accepted}
 use Rattle.seam_transcript.specs.Orders.{Orders, of_sender, IsFull, IsLegal}
 use Rattle.seam_transcript.specs.FlatTable.{flat, first_state}
 use Rattle.seam_transcript.specs.Standing.{Standing}

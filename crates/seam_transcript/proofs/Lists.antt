@@ -70,4 +70,3 @@ pub listed_is_one : (entities : ℕ → Option Create) (xs ys : List Create) →
 listed_is_one entities xs ys one other =
     list_is_one xs ys (rises xs one.rising) (rises ys other.rising)
     (λ c has. (other.exact c).1 ((one.exact c).0 has)) (λ c has. (one.exact c).1 ((other.exact c).0 has))
-

@@ -1,5 +1,5 @@
 -- Runs through lines.
-use Rattle.std.proofs.Common.{◌≡◌, List, [], ◌∷◌, ◌++◌, refl, sym, ap, ◌∙◌, subst, append_assoc, append-nil}
+use Rattle.std.proofs.Common.{List, [], ◌∷◌, ◌++◌, refl, sym, ap, ◌∙◌, subst, append_assoc, append-nil}
 use Rattle.seam_io.specs.Lines.{Line}
 use Rattle.seam_transcript.specs.Transcript.{Run}
 

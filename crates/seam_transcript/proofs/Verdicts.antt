@@ -26,8 +26,8 @@ use Rattle.seam_call.specs.declared.sender.Sender.TheVariants as sender
 use Rattle.seam_call.specs.declared.call.Call.{Call}
 use Rattle.seam_call.specs.declared.create.Create.{Create}
 use Rattle.seam_transcript.specs.Language as language
-use Rattle.seam_transcript.specs.Header.{Header}
-use Rattle.seam_transcript.specs.Book.{Book, live_as, accepted, IsBuilt, NamesType, NamesMethod, NamesDeed, NamesCreate, NamesCall, Means, rank, Holds, SpellsNone, IsFirst, IsEmptyLine, Spells, Judges}
+use Rattle.seam_transcript.specs.declared.header.Header.{Header}
+use Rattle.seam_transcript.specs.Book.{Book, live_as, accepted, IsBuilt, NamesType, NamesDeed, NamesCreate, NamesCall, Means, rank, Holds, SpellsNone, IsFirst, Spells, Judges}
 use Rattle.seam_transcript.specs.declared.verdict.Entry.{Entry}
 use Rattle.seam_transcript.specs.declared.verdict.Entry.TheVariants as entry
 use Rattle.seam_transcript.specs.declared.verdict.Cause.{Cause}

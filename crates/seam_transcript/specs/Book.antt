@@ -1,10 +1,9 @@
 -- The book of what was accepted: which lines it accepts, and what it then holds.
-use Rattle.std.specs.Prelude.{◌≡◌, ◌⊎◌, ℕ, ◌+◌, ◌<◌, ◌≤◌, List, [], ◌∷◌, ◌++◌, codes, length, map, filter, find, ◌==◌, Option, Some, None}
+use Rattle.std.specs.Prelude.{◌≡◌, ℕ, ◌+◌, ◌<◌, ◌≤◌, List, [], ◌∷◌, ◌++◌, length, map, filter, find, ◌==◌, Option, Some, None}
 use Rattle.std.specs.List.{filter_map}
 use Rattle.seam_io.specs.Lines.{Line, Content, Long}
 use Rattle.seam_words.specs.Faults.{Refuses}
 use Rattle.seam_words.specs.Texts.{HasWords}
-use Rattle.seam_words.specs.declared.words.WordsError.{WordsError}
 use Rattle.seam_value.specs.NumberWords.{SpellsNumber, SpellsPositive}
 use Rattle.seam_value.specs.Values.{text_of}
 use Rattle.seam_value.specs.declared.types.ValueType.TheVariants as type
@@ -23,7 +22,7 @@ use Rattle.seam_call.specs.declared.sender.Sender.TheVariants as sender
 use Rattle.seam_call.specs.declared.call.Call.{Call}
 use Rattle.seam_call.specs.declared.create.Create.{Create}
 use Rattle.seam_transcript.specs.Language as language
-use Rattle.seam_transcript.specs.Header.{Header}
+use Rattle.seam_transcript.specs.declared.header.Header.{Header}
 use Rattle.seam_transcript.specs.declared.verdict.Entry.{Entry}
 use Rattle.seam_transcript.specs.declared.verdict.Entry.TheVariants as entry
 use Rattle.seam_transcript.specs.declared.verdict.Cause.{Cause}

@@ -4,13 +4,7 @@ use Rattle.std.specs.List.{flat_map}
 use Rattle.seam_io.specs.Lines.{Line, Content}
 use Rattle.seam_defs.specs.Settings.{standard}
 use Rattle.seam_defs.specs.Builtin.{builtin}
-use Rattle.seam_defs.specs.declared.settings.Settings.{Settings}
-use Rattle.seam_defs.specs.declared.types.TypeDef.{TypeDef}
-
--- what a header sets: the settings of the world, and the types of its entities
-pub record Header : Type 0 where
-  pub settings : Settings
-  pub defs : List TypeDef
+use Rattle.seam_transcript.specs.declared.header.Header.{Header}
 
 -- the text of a header sets this: so far the empty text alone, which sets the standard settings and the built-in types
 pub record Reads (text : List ℕ) (h : Header) : Type 0 where

@@ -5,10 +5,12 @@
 //! Of `proofs/`, `InOrderLemmas` and `RunLemmas` are for callers.
 #![tactic(auto)]
 
+mod header;
 mod laws;
 mod limits;
 mod verdict;
 
+pub use header::Header;
 pub use laws::{
     command_is_one, full_order_is_legal, header_is_one, long_line_is_refused,
     one_sender_one_transcript, unknown_command_is_refused, verdict_is_one,
