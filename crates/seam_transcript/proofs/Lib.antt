@@ -6,3 +6,4 @@ pub mod SkipLemmas
 pub mod InOrderLemmas
 pub mod Verdicts
 pub mod OneSender
+pub mod HeaderLemmas

@@ -224,7 +224,7 @@ last_is_one h one s false xs ys own x y = (end_is_one h one s xs ys x.0 y.0 own 
 -- ---- headers
 
 -- so far a header has no line but its end
-no_header_lines : (head : List Line) (text : List ℕ) → AreHeaderLines head text → head ≡ []
+pub no_header_lines : (head : List Line) (text : List ℕ) → AreHeaderLines head text → head ≡ []
 no_header_lines head text are = are.are ∙ ap (map Content) (none are.contents (ap length (sym are.whole) ∙ omega (arith, are.most)))
   where
     none : (contents : List (List ℕ)) → length (flat_map (λ (content : List ℕ). content ++ 10 ∷ []) contents) ≡ 0 → contents ≡ []

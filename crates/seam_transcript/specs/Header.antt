@@ -40,3 +40,10 @@ pub record BeginWithHeader (lines : List Line) (h : Header) (count : ℕ) (rest 
 -- no header's end was read, and what was read may yet begin a header
 abbrev pub AwaitHeader : List Line → Type 0
 AwaitHeader lines = (text : List ℕ) × AreHeaderLines lines text
+
+-- the numbers of the causes of which a header is at fault: its end is missing, or more lines come before it than may
+abbrev pub no_end : ℕ
+no_end = 10
+
+abbrev pub too_long : ℕ
+too_long = 11
