@@ -26,7 +26,7 @@ pub fn base_named(name: &[u8], bases: u32) -> Option<BaseNode>
     match name {
         [b'b', number @ ..] => match whole_number(number) {
             Some(number) => {
-                if 1 <= number && number <= MOST_BASE_NODES as u32 && number <= bases {
+                if is_base_node(number, bases) {
                     Some(BaseNode::of(number as u8))
                 } else {
                     None
@@ -36,6 +36,13 @@ pub fn base_named(name: &[u8], bases: u32) -> Option<BaseNode>
         },
         _ => None,
     }
+}
+
+// Whether the number is that of one of so many base nodes.
+fn is_base_node(number: u32, bases: u32) -> bool
+    ensures { IsTrue result ↔ IsBaseNodeOf bases number }
+{
+    1 <= number && number <= MOST_BASE_NODES as u32 && number <= bases
 }
 
 /// The entity that the words of a `create` name: None where its number is none from 1 on, no type of calls that are built has

@@ -1,13 +1,7 @@
-use Rattle.std.proofs.Common.{arith, inl, inr}
+use Rattle.std.proofs.lemmas.Bool.{false≢true}
 use Rattle.seam_accept.proofs.NamingLemmas.{no_node}
 use Rattle.seam_accept.proofs.naming.base_named.Goals as goal
 
-pub returns-else-number-ge1 : goal.returns-else-number-ge1
-returns-else-number-ge1 c n among is =
-    no_node c.args.bases c.in-Some.number c.args.name.now n
-    (λ a.
-    let from_one = a.node.from_one in
-    let most = a.node.most in
-    let within = a.within in
-    elim c.else-number-ge1.either [ inl w ↦ omega arith | inr o ↦ elim o [ inl w ↦ omega arith | inr w ↦ omega arith ] ])
-    c.in-Some.ensures.spelled among is
+pub returns-else-is_base_node : goal.returns-else-is_base_node
+returns-else-is_base_node c n among is =
+    no_node c.args.bases c.in-Some.number c.args.name.now n (λ a. false≢true (c.if-is_base_node.ensures.1 a)) c.in-Some.ensures.spelled among is
