@@ -39,6 +39,7 @@ pub enum Form<'a, 'b> {
 }
 
 /// A command, by its words. What they name is looked up when it is judged. Contracts see the command of the language.
+#[derive(Drop)]
 pub struct Command<'a, 'b> {
     form: Form<'a, 'b>,
 }

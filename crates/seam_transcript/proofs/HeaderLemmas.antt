@@ -1,5 +1,5 @@
 -- Headers of which so far the end alone was read.
-use Rattle.std.proofs.Common.{◌≡◌, ◌≢◌, ◌+◌, ◌≤◌, ℕ, List, [], ◌∷◌, ◌++◌, length, map, refl, sym, ◌∙◌, ap, subst, arith, length-append}
+use Rattle.std.proofs.Common.{◌≡◌, ◌≢◌, ◌+◌, ◌≤◌, ℕ, List, [], ◌∷◌, ◌++◌, length, map, refl, sym, ◌∙◌, ap, subst, arith, length-append, append_assoc}
 use Rattle.std.proofs.lemmas.List.Elements.{All-nil}
 use Rattle.seam_io.specs.Lines.{Line, Content}
 use Rattle.seam_transcript.specs.declared.header.Header.{Header}
@@ -43,3 +43,14 @@ lines_of_header lines h count rest begins =
     let number = begins.number in
     let parts = length-append begins.head (separator ∷ rest) in
     ap length begins.whole ∙ omega (arith, number, parts)
+
+-- a header stays one when lines are appended
+pub header_of_append : (lines : List Line) (h : Header) (count : ℕ) (rest more : List Line) → BeginWithHeader lines h count rest → BeginWithHeader (lines ++ more) h count (rest ++ more)
+header_of_append lines h count rest more begins = record {
+  head = begins.head;
+  text = begins.text;
+  are = begins.are;
+  reads = begins.reads;
+  number = begins.number;
+  whole = ap (λ (ls : List Line). ls ++ more) begins.whole ∙ append_assoc begins.head (separator ∷ rest) more;
+}

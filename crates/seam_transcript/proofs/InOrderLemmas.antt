@@ -1,7 +1,8 @@
 -- The order in which calls are executed as they were accepted: it is full, and its rounds are legal.
-use Rattle.std.proofs.Common.{◌≡◌, ◌+◌, ◌≤◌, ℕ, Bool, true, false, List, [], ◌∷◌, ◌++◌, length, refl, sym, ◌∙◌, ap, arith, append-nil, append_assoc}
-use Rattle.std.specs.Prelude.{filter, fold, ◌&&◌, cond}
+use Rattle.std.proofs.Common.{◌≡◌, ◌+◌, ◌≤◌, ℕ, Bool, true, false, List, [], ◌∷◌, ◌++◌, length, refl, sym, ◌∙◌, ap, arith, append-nil, append_assoc, Some}
+use Rattle.std.specs.Prelude.{find, ◌==◌, filter, fold, ◌&&◌, cond}
 use Rattle.std.proofs.lemmas.List.{take_all}
+use Rattle.std.proofs.lemmas.Option.{same_Some}
 use Rattle.std.proofs.lemmas.List.Elements.{filter-append, filter_map-append}
 use Rattle.std.proofs.lemmas.List.Sums.{fold-append, length-filter, count_by-le-length}
 use Rattle.seam_defs.specs.Deeds.{after}
@@ -114,3 +115,12 @@ flat_with_call h p c order x =
     ap run (take_all (length (order ++ x ∷ [])) (order ++ x ∷ []) (omega arith))
     ∙ fold-append (λ (s : State) (y : Call). after h.defs c.ty s y.deed) (first_state h p c) order (x ∷ [])
     ∙ ap (λ (xs : List Call). after h.defs c.ty (run xs) x.deed) (sym (take_all (length order) order (omega arith)))
+
+-- what made an entity has its number
+pub found_entity : (creates : List Create) (e : ℕ) (c : Create) → find (λ d. d.entity == e) creates ≡ Some c → c.entity ≡ e
+found_entity [] e c is = cc
+found_entity (x ∷ xs) e c is = cases (x.entity == e) refl (found_entity xs e c) is
+  where
+    cases : (b : Bool) → (x.entity == e) ≡ b → (find (λ d. d.entity == e) xs ≡ Some c → c.entity ≡ e) → cond b (Some x) (find (λ d. d.entity == e) xs) ≡ Some c → c.entity ≡ e
+    cases true same again h = ap (λ (d : Create). d.entity) (sym (same_Some x c h)) ∙ grind (arith, same)
+    cases false other again h = again h

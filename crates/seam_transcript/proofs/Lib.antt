@@ -1,5 +1,5 @@
-mod Lists
-mod LineLaws
+pub mod Lists
+pub mod LineLaws
 pub mod Names
 pub mod RunLemmas
 pub mod SkipLemmas

@@ -28,14 +28,3 @@ pub unknown_command : (h : Header) (s t : Standing) (line : List ℕ) (words : L
     → Step h s (Content line) pieces t ↔ ((pieces ≡ Refusal (s.lines + 1) cause.NoCommand ∷ []) × (t ≡ with_line s))
 unknown_command h s t line words pieces not has none =
     step_of_verdict h s t (Content line) pieces (verdict.Refused cause.NoCommand) (none_is_refused h s.book line words not has none) (λ w judged. none_only h s.book line words w not has none judged)
-
--- a header stays one when lines are appended
-pub header_of_append : (lines : List Line) (h : Header) (count : ℕ) (rest more : List Line) → BeginWithHeader lines h count rest → BeginWithHeader (lines ++ more) h count (rest ++ more)
-header_of_append lines h count rest more begins = record {
-  head = begins.head;
-  text = begins.text;
-  are = begins.are;
-  reads = begins.reads;
-  number = begins.number;
-  whole = ap (λ (ls : List Line). ls ++ more) begins.whole ∙ append_assoc begins.head (separator ∷ rest) more;
-}

@@ -1,4 +1,4 @@
-use Rattle.seam_transcript.proofs.LineLaws.{header_of_append}
+use Rattle.seam_transcript.proofs.HeaderLemmas.{header_of_append}
 use Rattle.seam_transcript.proofs.OneSender.{header_is_one, header_has_defs}
 use Rattle.seam_transcript.proofs.laws.header_is_one.Goals as goal
 
