@@ -1,0 +1,8 @@
+mod Rows
+mod FirstPath
+mod TwoSenders
+mod LiveLemmas
+mod Walks
+mod Judging
+mod Turns
+mod Results
