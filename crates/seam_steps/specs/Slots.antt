@@ -43,3 +43,8 @@ sends ms = record { slot = None; unlisted = false; sent = ms }
 -- the own book takes a message of this beat: it is ignored unless its beat is greater than any heard before
 abbrev pub heard : Slot → ℕ → Option GhostCopy → Slot
 heard s beat copy = record s { ghost = ghost_after s.ghost (record { beat = beat; copy = copy }) }
+
+-- the slot after a step of it
+abbrev pub slot_after : Option Slot → Slot → Slot
+slot_after None s = s
+slot_after (Some t) s = t
