@@ -389,7 +389,12 @@ passing_row = (
                   passing_enabled_8,
                   passing_happens_8,
                   passing_holders_8,
-                  (passing_enabled_9, passing_happens_9, passing_holders_9, (passing_enabled_10, passing_happens_10, passing_holders_10, tt)),
+                  (
+                    passing_enabled_9,
+                    passing_happens_9,
+                    passing_holders_9,
+                    (passing_enabled_10, passing_happens_10, passing_holders_10, tt),
+                  ),
                 ),
               ),
             ),

@@ -43,10 +43,12 @@ same_slot : (c : CellView) (e q : ℕ) (b : Bool) → eq_by_cmp nat_cmp q e ≡ 
 same_slot c e q true is = let same : q ≡ e = grind (arith, nat_tests, is) in ap (slot_of c) same
 same_slot c e q false is = refl
 
-after_slot_is : (c : CellView) (e q : ℕ) (o : Option Slot) → slot_of (after_slot c e o) q ≡ cond (eq_by_cmp nat_cmp q e) (slot_after o (slot_of c e)) (slot_of c q)
+after_slot_is : (c : CellView) (e q : ℕ) (o : Option Slot) → slot_of (after_slot c e o) q
+    ≡ cond (eq_by_cmp nat_cmp q e) (slot_after o (slot_of c e)) (slot_of c q)
 after_slot_is c e q None = same_slot c e q (eq_by_cmp nat_cmp q e) refl
 after_slot_is c e q (Some s) = slot_with c e q s
 
 -- the slot of an entity after a step of one entity's slot
-pub slot_stepped : (c : CellView) (e q : ℕ) (t : SlotStep) → slot_of (stepped c e t).state q ≡ cond (eq_by_cmp nat_cmp q e) (slot_after t.slot (slot_of c e)) (slot_of c q)
+pub slot_stepped : (c : CellView) (e q : ℕ) (t : SlotStep) → slot_of (stepped c e t).state q
+    ≡ cond (eq_by_cmp nat_cmp q e) (slot_after t.slot (slot_of c e)) (slot_of c q)
 slot_stepped c e q t = unlisted_slot t.unlisted (after_slot c e t.slot) e q ∙ after_slot_is c e q t.slot
