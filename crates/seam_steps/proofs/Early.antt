@@ -411,3 +411,8 @@ passing_ends = simp computing
 
 pub passing_quiet : IsQuiet node_has_work passing_11
 passing_quiet = quiet_of passing_11 passing_ends
+
+-- what each row's contract says
+pub ruleset early_call = (load, row, quiet, done)
+
+pub ruleset passed_call = (load, passing_row, passing_quiet, passing_done)

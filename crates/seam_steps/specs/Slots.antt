@@ -17,7 +17,8 @@ pub record Slot : Type 0 where
   pub next : Option NextPlace
   pub ghost : Option (Ghost GhostCopy)
 
--- what a step makes of one entity's slot, or None where it stays; whether the entity's entries in the survey and look lists go; and what is sent
+-- what a step makes of one entity's slot, or None where it stays; whether the entity's entries in the survey and look lists go;
+-- and what is sent
 pub record SlotStep : Type 0 where
   pub slot : Option Slot
   pub unlisted : Bool

@@ -26,7 +26,7 @@ pub fn steps_stay_in_the_net()
 {}
 
 /// At stray input nothing changes and nothing is sent.
-#[tactic(auto, using(crate::proofs::Stray::stray_rests, crate::proofs::Stray::stray_at_base_rests, crate::proofs::Stray::stray_order_rests))]
+#[tactic(auto, using(crate::proofs::Stray::stray_laws))]
 pub fn stray_input_changes_nothing()
     ensures cell { (h : Here) (t : Division) (s : Slot) (m : Msg) → is_stray h t s m ≡ true → slot_steps h t s m ≡ rests }
     ensures base { (b : BaseView) (a : ℕ) (m : Msg) → is_stray_at_base b m ≡ true → base_steps b (From a m) ≡ sends_none b }
