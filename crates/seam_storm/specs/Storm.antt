@@ -18,7 +18,7 @@ field n = 32 ∷ decimal n
 abbrev pub cuts : List ℕ
 cuts = codes "%%\ncut 0 x 5000\ncut 0 z 5000\ncut 1 z 5000\n"
 
--- the avatars stand on a raster of eight columns, 1,250 apart, from 100 on
+-- the avatars are on a raster of eight columns, 1,250 apart, from 100 on
 abbrev pub raster : ℕ → ℕ
 raster i = 100 + 1250 * i
 
@@ -47,7 +47,7 @@ kind d = d / 64 % 4
 abbrev pub is_move : ℕ → Bool
 is_move d = nat_lt (kind d) 2
 
--- the entity moves to where a second draw f says
+-- the entity moves to where a second draw f puts it
 abbrev pub move_line : ℕ → ℕ → List ℕ
 move_line e f = codes "move" ++ sender e ++ field e ++ field (f % 10000) ++ field (f / 10000 % 10000) ++ 10 ∷ []
 
@@ -61,7 +61,7 @@ method_of d = if kind d == 2 then codes " hit" else codes " heal"
 abbrev pub drawn_line : ℕ → List ℕ
 drawn_line x = if is_move (draw x) then move_line (entity (draw x)) (draw (next_seed x)) else call_line (entity (draw x)) (method_of (draw x)) (draw x / 256 % 100)
 
--- the seed after those draws: a move takes two
+-- the seed after those draws: a move needs two
 abbrev pub seed_after : ℕ → ℕ
 seed_after x = if is_move (draw x) then next_seed (next_seed x) else next_seed x
 

@@ -93,7 +93,7 @@ fn opening(alloc: Global) -> Result<Vec<u8>, AllocError>
     Ok(text)
 }
 
-// Copies as much of the text as fits to the front of the buffer, and gives how many bytes.
+// Copies as much of the text as fits to the beginning of the buffer, and gives how many bytes.
 fn copy_some(text: &[u8], buf: &mut [u8]) -> usize
     requires some { 0 < length text.now }
     requires room { 0 < length buf.old }
