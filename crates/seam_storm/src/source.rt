@@ -129,11 +129,7 @@ impl StormSource {
 }
 
 impl Source for StormSource {
-    ghost left = { λ s. Some s.left };
-
-    ghost faults = { λ s. 0 };
-
-    ghost ends = { λ s. s.ends };
+    ghost state = { λ s. record { left = Some s.left; faults = 0; ends = s.ends } };
 
     fn read(&mut self, buf: &mut [u8]) -> Result<usize, Failed> {
         if self.at < self.opening.len() {

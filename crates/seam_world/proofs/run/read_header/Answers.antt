@@ -1,4 +1,4 @@
-use Rattle.std.proofs.Common.{[], ◌∷◌, refl, sym, ap, ◌∙◌, subst}
+use Rattle.std.proofs.Common.{[], refl, sym, ap, ◌∙◌}
 use Rattle.seam_io.specs.Lines.{Content, Long}
 use Rattle.seam_world.proofs.RunLemmas.{long_is_no_end, other_line, no_line, header_read_fault, header_limit, header_ends, header_no_memory}
 use Rattle.seam_world.proofs.run.read_header.Goals as goal
