@@ -9,7 +9,8 @@ use Rattle.seam_value.specs.declared.values.ValueError.TheVariants.{NotNumber, O
 use Rattle.seam_value.proofs.Answers.{refuses_none}
 use Rattle.seam_value.proofs.Decimals.{decimal_of-injective, number_text_is}
 use Rattle.std.specs.Fmt.{decimal}
-use Rattle.seam_value.specs.NumberWords.{IsWhole, SpellsNumber, SpellsPositive}
+use Rattle.seam_value.specs.Numbers.{IsWhole}
+use Rattle.seam_value.specs.NumberWords.{SpellsNumber, SpellsPositive}
 
 -- a number that 32 bits hold fits the type of such numbers
 pub whole-fits : (n : ℕ) → IsWhole n → Fits (Number (pos n)) type.Uint32

@@ -1,10 +1,7 @@
 -- Words that are numbers.
-use Rattle.std.specs.Prelude.{◌≡◌, ℕ, ◌<◌, ◌^◌, List}
+use Rattle.std.specs.Prelude.{◌≡◌, ℕ, ◌<◌, List}
+use Rattle.seam_value.specs.Numbers.{IsWhole}
 use Rattle.seam_value.specs.Values.{decimal_of}
-
--- a number that 32 bits hold
-abbrev pub IsWhole : ℕ → Type 0
-IsWhole n = n < 2 ^ 32
 
 -- the word is the spelling of the number, which 32 bits hold
 pub record SpellsNumber (word : List ℕ) (n : ℕ) : Type 0 where

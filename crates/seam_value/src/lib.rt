@@ -14,6 +14,7 @@ mod writing;
 
 pub use laws::spelling_is_one_to_one;
 pub use numbers::{positive_number, whole_number};
+pub use reading::read_number;
 pub use texts::ShortText;
 pub use types::ValueType;
 pub use values::{Value, ValueError};

@@ -2,8 +2,7 @@
 ghost use Rattle.std.specs.Prelude.{◌≡◌, ℕ, MatchOption};
 ghost use Rattle.seam_value.specs.NumberWords.{SpellsNumber, SpellsPositive};
 
-use crate::reading::read_number;
-use crate::{Value, ValueType};
+use crate::{ValueType, read_number};
 
 /// The number that a word spells: None where it spells none that 32 bits hold. A number has one spelling, its decimal digits
 /// without a leading zero.
@@ -11,8 +10,7 @@ pub fn whole_number(word: &[u8]) -> Option<u32>
     ensures { MatchOption result ((n : ℕ) → ¬ (SpellsNumber word.now n)) (SpellsNumber word.now) }
 {
     match read_number(word, ValueType::Uint32) {
-        Ok(Value::Number(number)) => Some(number as u32),
-        Ok(Value::Text(_)) => None,
+        Ok(number) => Some(number as u32),
         Err(_) => None,
     }
 }

@@ -1,4 +1,4 @@
-//! The words of a line: what stands between spaces and tabs, or in quotes.
+//! The words of a line: what is between spaces and tabs, or in quotes.
 #![tactic(auto)]
 
 mod laws;

@@ -1,0 +1,214 @@
+//! Links with two ends: one puts items, the other one takes them, in two threads or in one. No item is lost, and all come in
+//! the order in which they were put.
+//!
+//! A link is a ring of a fixed size between one producer and one consumer, as Lamport, "Proving the Correctness of
+//! Multiprocess Programs" (1977), and a spill at the producer's end for what the ring has no room for.
+#![tactic(auto)]
+
+ghost use Rattle.std.specs.Prelude.{◌≡◌, ℕ, ◌+◌, ◌≤◌, [], ◌∷◌, ◌++◌, OnOk, IfOk, IfErr, IfSome, IfNone};
+
+use rtrb::{Consumer, Producer, PushError, RingBuffer};
+use seam_memory::NoMemoryFor;
+use std::alloc::{AllocError, Global};
+use std::collections::VecDeque;
+use std::marker::Model;
+use std::snapshot::Snapshot;
+
+/// The end that puts. What the ring has no room for waits in the spill.
+#[derive(Drop)]
+pub struct LinkOut<T: Drop> {
+    ring: Producer<T>,
+    spill: VecDeque<T>,
+}
+
+impl<T: Drop> Model for LinkOut<T> {
+    ghost use Rattle.std.specs.Prelude.{◌++◌};
+    ghost use Rattle.std.specs.declared.alloc.Global.{Global};
+    ghost use Rattle.rtrb.specs.Ring.{sent};
+    ghost use Rattle.seam_link.specs.Ends.{OutView, ring_of_out};
+
+    ghost Value = { OutView T Global };
+
+    ghost view = { λ o. record { put = sent o.ring ++ o.spill.items; ring = ring_of_out o.ring } };
+}
+
+/// A count that only contracts see. It has no greatest value and takes no memory.
+#[derive(Drop)]
+pub struct Count {
+    before: Option<Snapshot<Count>>,
+}
+
+impl Model for Count {
+    ghost use Rattle.std.specs.Prelude.{ℕ};
+    ghost use Rattle.std.specs.Coded.{coded_ℕ};
+    ghost use Rattle.seam_link.specs.Counts.{after};
+
+    ghost Value = { ℕ };
+
+    ghost coded = { coded_ℕ };
+
+    ghost view = { λ n. after n.before };
+
+    ghost size = { λ n. n };
+}
+
+impl Count {
+    fn new() -> Count
+        ensures { result ≡ 0 }
+    {
+        Count { before: None }
+    }
+
+    fn raise(&mut self)
+        ensures { self.new ≡ self.old + 1 }
+    {
+        let old = Snapshot::of(&*self);
+        self.before = Some(old);
+    }
+}
+
+/// The end that takes.
+#[derive(Drop)]
+pub struct LinkIn<T: Drop> {
+    ring: Consumer<T>,
+    nones: Count,
+}
+
+impl<T: Drop> Model for LinkIn<T> {
+    ghost use Rattle.std.specs.declared.alloc.Global.{Global};
+    ghost use Rattle.rtrb.specs.Ring.{received};
+    ghost use Rattle.seam_link.specs.Ends.{InView, ring_of_in};
+
+    ghost Value = { InView T Global };
+
+    ghost view = { λ i. record { taken = received i.ring; nones = i.nones; ring = ring_of_in i.ring } };
+}
+
+/// A link whose ring has room for `cap` items.
+pub fn link<T: Drop>(alloc: Global, cap: u32) -> Result<(LinkOut<T>, LinkIn<T>), AllocError>
+    requires { 1 ≤ cap }
+    ensures one { IfOk result (λ r. r.0.ring ≡ r.1.ring) }
+    ensures empty { IfOk result (λ r. (r.0.put ≡ []) × (r.1.taken ≡ [])) }
+{
+    let (producer, consumer) = RingBuffer::new(alloc, cap as usize)?;
+    Ok((
+        LinkOut {
+            ring: producer,
+            spill: VecDeque::new(alloc),
+        },
+        LinkIn {
+            ring: consumer,
+            nones: Count::new(),
+        },
+    ))
+}
+
+impl<T: Drop> LinkOut<T> {
+    /// Puts an item into the link, after all that was put before. If allocation fails, the item comes back.
+    pub fn put(&mut self, item: T) -> Result<(), NoMemoryFor<T>>
+        ensures ok { OnOk result (self.new.put ≡ self.old.put ++ item ∷ []) }
+        ensures err { IfErr result (λ e. (self.new.put ≡ self.old.put) × (e.item ≡ item)) }
+        ensures ring { self.new.ring ≡ self.old.ring }
+    {
+        self.flush();
+        if !self.spill.is_empty() {
+            return self.spill_over(item);
+        }
+        match self.ring.push(item) {
+            Ok(()) => return Ok(()),
+            Err(PushError::Full(back)) => return self.spill_over(back),
+        }
+    }
+
+    // Puts an item to the end of the spill.
+    fn spill_over(&mut self, item: T) -> Result<(), NoMemoryFor<T>>
+        ensures ok { OnOk result (self.new.put ≡ self.old.put ++ item ∷ []) }
+        ensures err { IfErr result (λ e. (self.new.put ≡ self.old.put) × (e.item ≡ item)) }
+        ensures ring { self.new.ring ≡ self.old.ring }
+    {
+        if self.spill.reserve(1).is_err() {
+            return Err(NoMemoryFor { item });
+        }
+        self.spill.push_back_reserved(item);
+        Ok(())
+    }
+
+    /// Moves items from the spill to the ring, while it has room.
+    pub fn flush(&mut self)
+        ensures { self.new ≡ self.old }
+    {
+        while !self.spill.is_empty() && !self.ring.is_full() {
+            if let Some(item) = self.spill.pop_front() {
+                self.ring.push_reserved(item);
+            }
+        }
+    }
+}
+
+impl<T: Drop> LinkIn<T> {
+    /// The next item of the ring. None where none was seen there; another thread may put one at that moment.
+    pub fn take(&mut self) -> Option<T>
+        ensures some { IfSome result (λ x. self.new.taken ≡ self.old.taken ++ x ∷ []) }
+        ensures none { IfNone result (self.new.taken ≡ self.old.taken) }
+        ensures more { IfNone result (self.new.nones ≡ self.old.nones + 1) }
+        ensures same { IfSome result (λ _. self.new.nones ≡ self.old.nones) }
+        ensures ring { self.new.ring ≡ self.old.ring }
+    {
+        match self.ring.pop() {
+            Ok(item) => return Some(item),
+            Err(_) => {
+                self.nones.raise();
+                return None;
+            }
+        }
+    }
+}
+
+/// What was put into a link and not taken from it, once both ends are in one thread again.
+pub fn meet<T: Drop>(alloc: Global, out: LinkOut<T>, end: LinkIn<T>) -> Result<Vec<T>, AllocError>
+    requires { out.ring ≡ end.ring }
+    ensures { IfOk result (λ v. end.taken ++ v.items ≡ out.put) }
+{
+    let LinkOut {
+        mut ring,
+        mut spill,
+    } = out;
+    let LinkIn {
+        ring: mut consumer,
+        nones: _,
+    } = end;
+    let mut left = Vec::new(alloc);
+    let n = consumer.slots_beside(&mut ring);
+    left.reserve(n)?;
+    for _i in 0..n {
+        left.push_reserved(consumer.pop_known());
+    }
+    left.reserve(spill.len())?;
+    while let Some(item) = spill.pop_front() {
+        left.push_reserved(item);
+    }
+    Ok(left)
+}
+
+fn sent<T: Send>(value: T) -> T
+    ensures { result ≡ value }
+{
+    value
+}
+
+/// The end that puts may go to another thread where its items may.
+pub fn send_out<T: Drop + Send>(end: LinkOut<T>) -> LinkOut<T>
+    ensures { result ≡ end }
+{
+    sent(end)
+}
+
+/// The end that takes may go to another thread where its items may.
+pub fn send_in<T: Drop + Send>(end: LinkIn<T>) -> LinkIn<T>
+    ensures { result ≡ end }
+{
+    sent(end)
+}
+
+#[cfg(test)]
+mod tests;

@@ -1,0 +1,3 @@
+pub mod Moves
+mod Runs
+pub mod Whole

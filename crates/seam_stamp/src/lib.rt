@@ -1,0 +1,84 @@
+//! Stamped logs, and their merge into one list.
+//!
+//! Each node of a net has a log of its events with stamps that rise strictly, by the clocks of Lamport, "Time, Clocks, and the
+//! Ordering of Events in a Distributed System" (1978). A letter carries the stamp of the event that sent it. All logs together
+//! are ordered by stamp and, where stamps are equal, by node.
+//!
+//! Of `proofs/`, `Orders` is for callers.
+#![tactic(auto)]
+
+ghost use Rattle.std.specs.Prelude.{◌≡◌, ℕ, ◌<◌, ◌≤◌, [], ◌∷◌, IfOk, IfSome, IfNone, map};
+ghost use Rattle.seam_stamp.specs.declared.Stamped.{Stamped};
+ghost use Rattle.seam_stamp.specs.Logs.{AreLogs, IsMerge};
+ghost use Rattle.seam_stamp.specs.Heads.{IsFirst, AllEmpty};
+
+use std::alloc::{AllocError, Global};
+use std::collections::VecDeque;
+
+/// An item with the stamp of the event that sent it, or 0 where no event did.
+#[derive(Debug, Drop, PartialEq, Eq)]
+pub struct Letter<T> {
+    pub stamp: u64,
+    pub item: T,
+}
+
+/// An entry of a log: a node's event with its stamp.
+#[derive(Debug, Drop, PartialEq, Eq)]
+pub struct Stamped<E> {
+    pub stamp: u64,
+    pub node: u8,
+    pub item: E,
+}
+
+/// All entries of the logs, ordered by stamp and, where stamps are equal, by node. Log k is that of node k.
+pub fn merge<E: Drop>(
+    alloc: Global,
+    logs: Vec<Vec<Stamped<E>>>,
+) -> Result<Vec<Stamped<E>>, AllocError>
+    requires { AreLogs (map (λ l. l.items) logs.items) }
+    ensures { IfOk result (λ v. IsMerge (map (λ l. l.items) logs.items) v.items) }
+{
+    let mut heads = queues(alloc, logs)?;
+    let mut merged = Vec::new(alloc);
+    while let Some(k) = first_head(&heads) {
+        if let Some(entry) = heads[k].pop_front() {
+            merged.push(entry)?;
+        }
+    }
+    Ok(merged)
+}
+
+// The logs as queues, whose first entries are looked at.
+fn queues<E: Drop>(
+    alloc: Global,
+    logs: Vec<Vec<Stamped<E>>>,
+) -> Result<Vec<VecDeque<Stamped<E>>>, AllocError>
+    ensures { IfOk result (λ v. map (λ q. q.items) v.items ≡ map (λ l. l.items) logs.items) }
+{
+    let mut queues = Vec::new(alloc);
+    for log in logs {
+        queues.push(VecDeque::from_vec(log))?;
+    }
+    Ok(queues)
+}
+
+// The queue whose first entry has the least stamp, the lowest one among equals.
+fn first_head<E>(heads: &Vec<VecDeque<Stamped<E>>>) -> Option<usize>
+    ensures some { IfSome result (IsFirst (map (λ q. q.items) heads.now.items)) }
+    ensures none { IfNone result (AllEmpty (map (λ q. q.items) heads.now.items)) }
+{
+    let mut first = None;
+    let mut least = 0;
+    for k in 0..heads.len() {
+        if let Some(entry) = heads[k].front() {
+            if first.is_none() || entry.stamp < least {
+                first = Some(k);
+                least = entry.stamp;
+            }
+        }
+    }
+    first
+}
+
+#[cfg(test)]
+mod tests;
