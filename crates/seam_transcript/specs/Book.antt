@@ -105,7 +105,8 @@ pub record NamesType (defs : List TypeDef) (type_name : language.Word) (ty : ℕ
   pub takes_calls : (m : ℕ) × IsBuilt defs ty m
 
 -- the words name a method of a type, whose calls are built, and spell the arguments that it takes
-pub record NamesMethod (defs : List TypeDef) (ty : ℕ) (method_name : language.Word) (arguments : List language.Word) (m : ℕ) (args : List Value) : Type 0 where
+pub record NamesMethod (defs : List TypeDef) (ty : ℕ) (method_name : language.Word) (arguments : List language.Word) (m : ℕ)
+    (args : List Value) : Type 0 where
   pub built : IsBuilt defs ty m
   pub named : (method_of defs ty m).name ≡ method_name
   pub takes : TakesArgs (method_of defs ty m).args args
@@ -113,7 +114,8 @@ pub record NamesMethod (defs : List TypeDef) (ty : ℕ) (method_name : language.
 
 -- and this is what a call of it does
 abbrev pub NamesDeed : List TypeDef → ℕ → language.Word → List language.Word → Deed → Type 0
-NamesDeed defs ty method_name arguments deed = (m : ℕ) × (args : List Value) × (deed ≡ Method m args) × NamesMethod defs ty method_name arguments m args
+NamesDeed defs ty method_name arguments deed =
+    (m : ℕ) × (args : List Value) × (deed ≡ Method m args) × NamesMethod defs ty method_name arguments m args
 
 -- the words name an entity that may be made: its number, its type and a position of the space
 pub record NamesCreate (h : Header) (entity type_name x z : language.Word) (c : Create) : Type 0 where
@@ -142,7 +144,8 @@ pub record MayCreate (b : Book) (c : Create) : Type 0 where
 
 -- The words name a call that may be accepted: its sender is one of the world, its entity lives and has the method, and it has
 -- the sender's next number.
-pub record NamesCall (h : Header) (b : Book) (sender_name entity method_name : language.Word) (arguments : List language.Word) (c : Call) : Type 0 where
+pub record NamesCall (h : Header) (b : Book) (sender_name entity method_name : language.Word) (arguments : List language.Word)
+    (c : Call) : Type 0 where
   pub sender : NamesSender h b sender_name c.sender
   pub number : SpellsPositive entity c.entity
   pub made : Create
