@@ -1,4 +1,4 @@
-use crate::{base_named, create_named, deed_named, read_line, standard_header, Form};
+use crate::{Form, base_named, create_named, deed_named, read_line, standard_header};
 use seam_defs::Deed;
 use seam_transcript::Cause;
 use std::process::Abort;

@@ -272,11 +272,28 @@ first_ended : IsEnded first_input first_text
 first_ended =
     let pieces : List Piece = Ended first_end first_data ∷ [] in
     ended_after first_input (Content (codes "create 1 Avatar 100 100") ∷ Content (codes "call b1 1 hit 30") ∷ Content (codes "call b1 1 heal 5") ∷ Content (codes "sync") ∷ [])
-    pieces [] (after_round first_end) first_text first_lines
-    ([], pieces, after_lines 2 with_avatar, refl, create_step,
-    ([], pieces, after_lines 3 with_hit, refl, hit_step,
-    ([], pieces, after_lines 4 with_heal, refl, heal_step,
-    (pieces, [], after_round first_end, refl, (verdict.Synced, sync_judged plain_header with_heal, (first_data, refl, first_round)), (refl, refl)))))
+    pieces [] (after_round first_end) first_text first_lines (
+      [],
+      pieces,
+      after_lines 2 with_avatar,
+      refl,
+      create_step,
+      (
+        [],
+        pieces,
+        after_lines 3 with_hit,
+        refl,
+        hit_step,
+        (
+          [],
+          pieces,
+          after_lines 4 with_heal,
+          refl,
+          heal_step,
+          (pieces, [], after_round first_end, refl, (verdict.Synced, sync_judged plain_header with_heal, (first_data, refl, first_round)), (refl, refl)),
+        ),
+      ),
+    )
     refl first_form
 
 -- ---- its sender

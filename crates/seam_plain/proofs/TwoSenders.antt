@@ -157,11 +157,28 @@ two_ended : (text : List ℕ) (r : RoundData) (t : Standing) → IsRound plain_h
 two_ended text r t round none form =
     let pieces : List Piece = Ended ending r ∷ [] in
     ended_after two_input (Content (codes "create 1 Avatar 100 100") ∷ Content (codes "call b1 1 hit 30") ∷ Content (codes "call b2 1 heal 5") ∷ Content (codes "sync") ∷ [])
-    pieces [] t text two_lines
-    ([], pieces, after_lines 2 with_avatar, refl, create_step,
-    ([], pieces, after_lines 3 with_hit, refl, hit_step,
-    ([], pieces, after_lines 4 with_both, refl, heal2_step,
-    (pieces, [], t, refl, (verdict.Synced, sync_judged plain_header with_both, (r, refl, round)), (refl, refl)))))
+    pieces [] t text two_lines (
+      [],
+      pieces,
+      after_lines 2 with_avatar,
+      refl,
+      create_step,
+      (
+        [],
+        pieces,
+        after_lines 3 with_hit,
+        refl,
+        hit_step,
+        (
+          [],
+          pieces,
+          after_lines 4 with_both,
+          refl,
+          heal2_step,
+          (pieces, [], t, refl, (verdict.Synced, sync_judged plain_header with_both, (r, refl, round)), (refl, refl)),
+        ),
+      ),
+    )
     (subst (λ (n : ℕ). MatchBool (n == 0) (◌≡◌ {A = List Piece} [] []) ((u : Standing) × EndsRound plain_header t [] u)) (sym none) refl) form
 
 pub first_order : IsEnded two_input as_accepted

@@ -35,8 +35,8 @@ pub fn long_line_is_refused()
 /// A line whose words spell no command that the book accepts is refused for that and nothing else, and changes nothing but the
 /// count of lines.
 pub fn unknown_command_is_refused()
-    ensures { (h : Header) (s t : Standing) (line : List ℕ) (words : List (List ℕ)) (pieces : List Piece) → ¬ (IsSkipped line) → HasWords line words
-        → SpellsNone h s.book words → Step h s (Content line) pieces t
+    ensures { (h : Header) (s t : Standing) (line : List ℕ) (words : List (List ℕ)) (pieces : List Piece)
+        → ¬ (IsSkipped line) → HasWords line words → SpellsNone h s.book words → Step h s (Content line) pieces t
         ↔ ((pieces ≡ Refusal (s.lines + 1) NoCommand ∷ []) × (t ≡ with_line s)) }
 {}
 

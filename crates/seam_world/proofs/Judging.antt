@@ -7,6 +7,7 @@ use Rattle.std.proofs.lemmas.Option.{none-some, same_Some}
 use Rattle.seam_value.specs.NumberWords.{SpellsPositive}
 use Rattle.seam_value.specs.declared.values.Value.{Value}
 use Rattle.seam_value.proofs.NumberWords.{spells_one_number}
+use Rattle.seam_defs.specs.Types.{type_of}
 use Rattle.seam_defs.specs.Deeds.{part_of_deed}
 use Rattle.seam_defs.specs.declared.types.TypeDef.{TypeDef}
 use Rattle.seam_defs.specs.declared.flags.Part.{Part}

@@ -4,6 +4,7 @@ use Rattle.std.specs.Prelude.{◌==◌, slice_index, if◌then◌else◌, cond}
 use Rattle.std.proofs.lemmas.List.{get_or-set_same, get_or-set_other, length-set}
 use Rattle.std.proofs.lemmas.List.Elements.{filter-append}
 use Rattle.std.proofs.lemmas.Bool.Decides.{eqb_tells}
+use Rattle.seam_defs.specs.Types.{type_of}
 use Rattle.seam_defs.specs.Deeds.{after}
 use Rattle.seam_defs.specs.declared.flags.Part.{Part}
 use Rattle.seam_defs.specs.declared.states.State.{State}

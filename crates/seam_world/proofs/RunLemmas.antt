@@ -94,8 +94,11 @@ module _ (began : SourceState) (sink : SinkState) (now later : SourceState) (rea
     later = now_later;
     failed = λ e. let l = g.later in omega arith;
     allowed = tt;
-    tells = (text_of g.header.defs g.pieces ++ text,
-        (f.0, f.1, ap (λ (x : List ℕ). text_of g.header.defs g.pieces ++ x) f.2 ∙ sym (append_assoc (text_of g.header.defs g.pieces) prefix (f.0 ∷ f.1))), transcript);
+    tells = (
+      text_of g.header.defs g.pieces ++ text,
+      (f.0, f.1, ap (λ (x : List ℕ). text_of g.header.defs g.pieces ++ x) f.2 ∙ sym (append_assoc (text_of g.header.defs g.pieces) prefix (f.0 ∷ f.1))),
+      transcript,
+    );
   }
 
   open_more : (line : Line) (text : List ℕ) (new : Script) → LineRead g.header g.standing line new text → IsOpen (g.read ++ line ∷ []) (text_of g.header.defs g.pieces ++ text)

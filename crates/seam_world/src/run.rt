@@ -73,7 +73,8 @@ fn read_header<S: Source>(
     lines: &mut Lines,
     input: &mut S,
 ) -> Result<(Header, u64), Status>
-    ensures header { (began : SourceState) (sink : SinkState) → Reading began (S.state input.old) lines.old [] [] → lines.old.limit ≡ most_bytes →
+    ensures header { (began : SourceState) (sink : SinkState) → Reading began (S.state input.old) lines.old [] [] →
+        lines.old.limit ≡ most_bytes →
         MatchResult result
         (λ h. HasHeader began (S.state input.new) lines.new h.0 h.1)
         (λ s. Stopped s began (S.state input.new) sink sink) }

@@ -52,7 +52,8 @@ impl Script {
     // The verdict on a line.
     fn verdict_on(&self, line: &[u8]) -> Result<Verdict, AllocError>
         requires { length line.now ≤ 4096 }
-        ensures { IfOk result (λ v. (h : Headers) (t : Standing) → HasCounted h t self.now → t.lines ≤ 2 ^ 61 → Judges h t.book (Content line.now) v) }
+        ensures { IfOk result (λ v. (h : Headers) (t : Standing) → HasCounted h t self.now → t.lines ≤ 2 ^ 61
+            → Judges h t.book (Content line.now) v) }
     {
         let mut table: [&[u8]; Words::MOST] = [b""; Words::MOST];
         match read_line(line, &mut table) {
@@ -75,7 +76,8 @@ impl Script {
 
     // Does what a verdict on a line asks for, and appends what is printed.
     fn follow(&mut self, verdict: Verdict, out: &mut Vec<u8>) -> Result<(), AllocError>
-        ensures { OnOk result ((h : Headers) (t : Standing) (line : Lines) → HasCounted h t self.old → Judges h t.book line verdict → t.lines ≤ 2 ^ 61
+        ensures { OnOk result ((h : Headers) (t : Standing) (line : Lines) → HasCounted h t self.old → Judges h t.book line verdict
+            → t.lines ≤ 2 ^ 61
             → (text : List ℕ) × VerdictFollowed h t verdict self.new text × (out.new.items ≡ out.old.items ++ text)) }
     {
         match verdict {

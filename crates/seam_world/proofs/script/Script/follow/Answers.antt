@@ -27,9 +27,12 @@ returns-then-self-eq-MOST_LINES c = on_ok c.end_round.result
     let ended = was.fewer.ended in
     let means = subst (Judges h t.book line) c.in-Accepted.is judged in
     let table = c.in_ok-accept-in-Accepted.ensures h t.book means.1 was.ready.table (omega arith) means.3 in
-    let e = ends h (with_book t (with_entry t.book x)) (kept_ready h t x c.args.self.now _ was table refl refl) (omega arith) in
-    (e.0, verdict_named h t _ _ _ _ c.in-Accepted.is
-    (kept_last h t x c.args.self.now c.end_round.new.self e.0 was (sym c.saturating_add-self.ensures ∙ c.if-self-eq-MOST_LINES.true) e.1), e.2))
+    let e = ends h (with_book t (with_entry t.book x)) (kept_ready h t x c.args.self.now _ was table refl refl) (omega arith) in (
+      e.0,
+      verdict_named h t _ _ _ _ c.in-Accepted.is
+          (kept_last h t x c.args.self.now c.end_round.new.self e.0 was (sym c.saturating_add-self.ensures ∙ c.if-self-eq-MOST_LINES.true) e.1),
+      e.2,
+    ))
     c.end_round.ensures
 
 pub returns-else-self-eq-MOST_LINES : goal.returns-else-self-eq-MOST_LINES
@@ -37,9 +40,12 @@ returns-else-self-eq-MOST_LINES c = λ h t line was judged few.
     let x = c.in-Accepted.entry in
     let accepted = was.fewer.accepted in
     let means = subst (Judges h t.book line) c.in-Accepted.is judged in
-    let table = c.in_ok-accept-in-Accepted.ensures h t.book means.1 was.ready.table (omega arith) means.3 in
-    ([], verdict_named h t _ _ _ [] c.in-Accepted.is
-    (kept_open h t x c.args.self.now _ was c.saturating_add-self.ensures c.if-self-eq-MOST_LINES.false table refl refl), sym (append-nil c.args.out.now.items))
+    let table = c.in_ok-accept-in-Accepted.ensures h t.book means.1 was.ready.table (omega arith) means.3 in (
+      [],
+      verdict_named h t _ _ _ [] c.in-Accepted.is
+          (kept_open h t x c.args.self.now _ was c.saturating_add-self.ensures c.if-self-eq-MOST_LINES.false table refl refl),
+      sym (append-nil c.args.out.now.items),
+    )
 
 pub returns-in-Synced : goal.returns-in-Synced
 returns-in-Synced c = on_ok c.end_round-in-Synced.result
