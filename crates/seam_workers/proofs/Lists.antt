@@ -22,7 +22,7 @@ module _ {X : Type 0} where
   get_seam [] x rest = refl
   get_seam (y ∷ xs) x rest = get_seam xs x rest
 
-  -- the last of a beginning stands in the whole
+  -- the last of a prefix is in the whole
   pub begins-last : (xs ys : List X) (x : X) → Begins (xs ++ x ∷ []) ys → slice_get ys (length xs) ≡ Some x
   begins-last xs ys x b = subst (λ l. slice_get l (length xs) ≡ Some x) b.1 (get_seam xs x b.0)
 
@@ -37,7 +37,7 @@ module _ {X : Type 0} where
   filled-none (None ∷ xs) = filled-none xs
   filled-none (Some x ∷ xs) = ap suc (filled-none xs)
 
-  -- one more stands where none stood
+  -- one place more is filled
   pub filled-set : (xs : List (Option X)) (i : ℕ) (y : Option X) (z : X) → slice_get xs i ≡ Some None → filled (set (set xs i y) i (Some z)) ≡ filled xs + 1
   filled-set [] i y z e = absurd (cc)
   filled-set (None ∷ xs) zero y z e = omega arith
@@ -50,7 +50,7 @@ module _ {X : Type 0} where
   filled-most (None ∷ xs) = let h = filled-most xs in omega arith
   filled-most (Some x ∷ xs) = let h = filled-most xs in omega arith
 
-  -- where all stand, the last does, and all before it
+  -- where all places are filled, the last is, and all before it
   pub full-last : (xs : List (Option X)) (p : Option X) → filled (xs ++ p ∷ []) ≡ length (xs ++ p ∷ []) → IsSome p × (filled xs ≡ length xs)
   full-last [] None e = absurd (omega arith)
   full-last [] (Some x) e = (refl, refl)
@@ -68,7 +68,7 @@ module _ {X : Type 0} where
   snoc-none (z ∷ xs) x zero e = e
   snoc-none (z ∷ xs) x (suc k) e = snoc-none xs x k e
 
-  -- what stands in a list after a write
+  -- what is in a list after a write
   set_either : (xs : List X) (i : ℕ) (y x : X) (k : ℕ) → slice_get (set xs i y) k ≡ Some x → ((k ≡ i) × (y ≡ x)) ⊎ (slice_get xs k ≡ Some x)
   set_either [] i y x k e = inr e
   set_either (z ∷ xs) zero y x zero e = inl (refl, cc)

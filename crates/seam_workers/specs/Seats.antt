@@ -1,4 +1,4 @@
--- Logged nodes behind locks, and at their places after it.
+-- Logged nodes under locks, and at their places after it.
 use Rattle.std.specs.Prelude.{◌≡◌, ℕ, suc, Bool, false, List, [], ◌∷◌, length, Option, None, Some, slice_get}
 use Rattle.seam_machine.specs.Views.{Stepped}
 use Rattle.seam_machine.specs.declared.machines.Input.{Input}

@@ -1,6 +1,6 @@
 //! Workers that step the nodes of a net in threads, and the net that they leave.
 //!
-//! Each node is behind a lock of its own, with its links and a log of its steps; workers visit the nodes again and again. Once
+//! Each node is under a lock of its own, with its links and a log of its steps; workers visit the nodes again and again. Once
 //! they are done, the ends of the links meet, the logs are merged, and the net is put together again. Whatever the workers did,
 //! the net is the run of the events that are returned (Lamport, "Time, Clocks, and the Ordering of Events in a Distributed
 //! System", 1978).
@@ -321,7 +321,7 @@ fn sorted<M: Machine, J: Naming<M, M::Msg> + Claims>(
     Ok(nodes)
 }
 
-// Each node behind its lock, with its claim.
+// Each node under its lock, with its claim.
 fn seated<M: Machine, J: Naming<M, M::Msg> + Claims>(
     alloc: Global,
     mut nodes: Vec<M>,
