@@ -137,7 +137,7 @@ module _ {N M : Type 0} (has_work : N → Bool) (steps : N → Input M → Stepp
   passed : (a b : ℕ) → a < n → b < n → received a (deeds b) ++ left_of hand met a b ≡ first a b ++ items_to b (sends steps (start a) (deeds a))
   passed a b la lb =
       let got = received a (deeds b) in
-      sym (append_assoc got (taken_by a (hand b)) (met a b)) ∙ (ap (λ l. l ++ met a b) (sym ((did b lb).taken_is a)) ∙ (joined.meet a b la lb ∙ (did a la).put_is b))
+      sym (append_assoc got (taken_by a (hand b)) (met a b)) ∙ (ap (λ l. l ++ met a b) (sym ((did b lb).taken_is a la)) ∙ (joined.meet a b la lb ∙ (did a la).put_is b lb))
 
   fits : Fits has_work steps n w start (λ _. 0) first (left_of hand met) found.moves
   fits = record {

@@ -15,8 +15,8 @@ pub record Did {N M : Type 0} (has_work : N → Bool) (steps : N → Input M →
   pub log_is : log ≡ entries me ds
   pub node_is : now ≡ state_after steps start ds
   pub legal : Legal has_work steps n 0 start ds
-  pub taken_is : (a : ℕ) → taken a ≡ received a ds ++ taken_by a hand
-  pub put_is : (b : ℕ) → put b ≡ first b ++ items_to b (sends steps start ds)
+  pub taken_is : (a : ℕ) → a < n → taken a ≡ received a ds ++ taken_by a hand
+  pub put_is : (b : ℕ) → b < n → put b ≡ first b ++ items_to b (sends steps start ds)
 
 -- what is left of the link from a to b: the letter in hand, and what met in the link
 abbrev pub left_of : {M : Type 0} → (ℕ → Option (ℕ × Letter M)) → (ℕ → ℕ → List (Letter M)) → ℕ → ℕ → List (Letter M)

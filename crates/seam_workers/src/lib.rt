@@ -1,0 +1,444 @@
+//! Workers that step the nodes of a net in threads, and the net that they leave.
+//!
+//! Each node is under a lock of its own, with its links and a log of its steps; workers visit the nodes again and again. Once
+//! they are done, the ends of the links meet, the logs are merged, and the net is put together again. Whatever the workers did,
+//! the net is the run of the events that are returned (Lamport, "Time, Clocks, and the Ordering of Events in a Distributed
+//! System", 1978).
+//!
+//! No clause says that two workers run at once, how much they do, or that they end: tests show it.
+#![tactic(auto)]
+
+ghost use Rattle.std.specs.Prelude.{◌≡◌, ◌≢◌, ℕ, ◌+◌, ◌<◌, ◌≤◌, length, map, true, Some, IfOk, vec_len, slice_get};
+ghost use Rattle.std.specs.List.{All};
+ghost use Rattle.seam_machine.specs.Nets.{LeadsTo, ArePeers};
+ghost use Rattle.seam_workers.specs.Seats.{Placed, filled, AreRuns, roots_of, HasEnds};
+ghost use Rattle.seam_workers.specs.Rejoined.{HasEventOf};
+
+mod joins;
+
+use crate::joins::rejoin;
+use crossbeam_utils::CachePadded;
+use seam_logged::{Apart, Ends, Logged, Naming, Try};
+use seam_machine::{Event, Machine, Net, NetParts};
+use seam_mesh::linked;
+use std::alloc::{AllocError, Global};
+use std::marker::{Brand, Model};
+use std::sync::ledger::{Blank, Ledger};
+use std::sync::{Mutex, Wait};
+use std::thread;
+use std::thread::Threads;
+
+/// How many workers there are, and how many tries each of them has at most. An even worker visits the nodes in rising order,
+/// an odd one in falling order.
+#[derive(Clone, Copy, Debug, PartialEq, Eq)]
+pub struct Crew {
+    pub workers: u32,
+    pub turns: u32,
+}
+
+/// What a worker calls before each try, while it has the node's lock.
+pub trait Gate {
+    fn at_step<R: Threads + Wait + Sync>(&self, rt: &R, node: u8);
+}
+
+/// A gate that holds nobody.
+#[derive(Clone, Copy, Debug)]
+pub struct OpenGate;
+
+impl Gate for OpenGate {
+    fn at_step<R: Threads + Wait + Sync>(&self, _rt: &R, _node: u8) {}
+}
+
+/// The names of the claims of a run in contracts: one for each node's number. The call that starts a run picks them.
+pub trait Claims {
+    ghost use Rattle.std.specs.Prelude.{ℕ, List};
+
+    ghost claims: { List ℕ };
+}
+
+impl Claims for Brand {
+    ghost use Rattle.std.specs.Prelude.{[]};
+
+    ghost claims = { [] };
+}
+
+/// A logged node, with the one claim of its number. Two claims of one name cannot both be there.
+#[derive(Drop)]
+pub struct Seat<M: Machine, J: Naming<M, M::Msg> + Claims> {
+    logged: Logged<M, J>,
+    claim: Blank,
+}
+
+impl<M: Machine, J: Naming<M, M::Msg> + Claims> Model for Seat<M, J> {
+    ghost use Rattle.std.specs.Prelude.{◌≡◌, Some, slice_get};
+    ghost use Rattle.seam_logged.specs.Logs.{LoggedView};
+    ghost use Rattle.std.specs.declared.alloc.Global.{Global};
+
+    ghost Value = { LoggedView M M.Msg Global };
+
+    ghost view = { λ s. s.logged };
+
+    ghost invariant = { λ s. (slice_get J.claims s.logged.me ≡ Some s.claim.name) × (s.claim.parts ≡ 1) };
+}
+
+// Two claims of one name have no part.
+fn of_one_name<L: Ledger>(a: Blank, b: Blank)
+    requires first { a.name ≡ L.name }
+    requires second { b.name ≡ L.name }
+    requires whole { a.parts ≡ L.parts }
+    requires equal { b.parts ≡ L.parts }
+    ensures { L.parts ≡ 0 }
+{
+    let (_, mut one) = a.open::<L>();
+    let (_, two) = b.open::<L>();
+    one.merge(two);
+}
+
+// The same of two claims whose name is not known before.
+fn apart(a: Blank, b: Blank)
+    requires same { a.name ≡ b.name }
+    requires equal { a.parts ≡ b.parts }
+    ensures { a.parts ≡ 0 }
+{
+    of_one_name::<Brand>(a, b)
+}
+
+impl<M: Machine, J: Naming<M, M::Msg> + Claims> Seat<M, J> {
+    // The node with its claim.
+    fn new(logged: Logged<M, J>, claim: Blank) -> Seat<M, J>
+        requires name { slice_get J.claims logged.me ≡ Some claim.name }
+        requires whole { claim.parts ≡ 1 }
+        ensures { result ≡ logged }
+    {
+        Seat { logged, claim }
+    }
+
+    // The number, which is one of the run's.
+    fn number(&self) -> u8
+        ensures me { result ≡ self.now.me }
+        ensures within { result < length J.claims }
+    {
+        let _claim = &self.claim;
+        self.logged.me()
+    }
+
+    // Makes one step, if there is one to make.
+    fn try_step(&mut self, alloc: Global) -> Try
+        ensures { self.new.me ≡ self.old.me }
+    {
+        self.logged.try_step(alloc)
+    }
+
+    // The node without its claim.
+    fn into_logged(self) -> Logged<M, J>
+        ensures { result ≡ self }
+    {
+        let Seat { logged, claim: _ } = self;
+        logged
+    }
+
+    // Two seats of one run have different numbers.
+    fn differ(self, other: Seat<M, J>)
+        ensures { self.me ≢ other.me }
+    {
+        let Seat {
+            logged: a,
+            claim: mine,
+        } = self;
+        let Seat {
+            logged: b,
+            claim: theirs,
+        } = other;
+        if a.me() == b.me() {
+            apart(mine, theirs);
+            unreachable!()
+        }
+    }
+}
+
+// A claim for each of n numbers.
+fn new_claims(alloc: Global, n: usize) -> Result<Vec<Blank>, AllocError>
+    ensures many { IfOk result (λ v. vec_len v ≡ n) }
+    ensures whole { IfOk result (λ v. All (λ b. b.parts ≡ 1) v.items) }
+{
+    let mut blanks = Vec::new(alloc);
+    for _i in 0..n {
+        blanks.push(Blank::new(1))?;
+    }
+    Ok(blanks)
+}
+
+// A worker's number, and how many tries it has.
+#[derive(Clone, Copy)]
+struct Tries {
+    number: usize,
+    turns: u32,
+}
+
+// Tries one step of a node.
+fn visit<M: Machine, J: Naming<M, M::Msg> + Claims, G: Gate, R: Threads + Wait + Sync>(
+    rt: &R,
+    alloc: Global,
+    place: &CachePadded<Mutex<Seat<M, J>>>,
+    gate: &G,
+) -> Try {
+    let lock: &Mutex<Seat<M, J>> = place;
+    let mut held = lock.lock(rt);
+    gate.at_step(rt, held.number());
+    held.try_step(alloc)
+}
+
+// Which of n nodes a worker visits at its turn.
+fn place_at(number: usize, turn: u32, n: usize) -> usize
+    requires { 0 < n }
+    ensures { result < n }
+{
+    let k = turn as usize % n;
+    if number % 2 == 0 { k } else { n - 1 - k }
+}
+
+// Visits the nodes in turn, until no step was made over as many visits as there are nodes. False if allocation failed.
+fn work<M: Machine, J: Naming<M, M::Msg> + Claims, G: Gate, R: Threads + Wait + Sync>(
+    rt: &R,
+    alloc: Global,
+    places: &[CachePadded<Mutex<Seat<M, J>>>],
+    tries: Tries,
+    gate: &G,
+) -> bool {
+    let n = places.len();
+    if n == 0 {
+        return true;
+    }
+    let mut idle = 0;
+    for turn in 0..tries.turns {
+        match visit(rt, alloc, &places[place_at(tries.number, turn, n)], gate) {
+            Try::Stepped => idle = 0,
+            Try::Idle => idle += 1,
+            Try::NoMemory => return false,
+        }
+        if idle >= n {
+            return true;
+        }
+    }
+    true
+}
+
+// Each worker's visits, in a thread of its own.
+fn visits<
+    M: Machine + Send,
+    J: Naming<M, M::Msg> + Claims + Send,
+    G: Gate + Sync,
+    R: Threads + Wait + Sync,
+>(
+    rt: &R,
+    alloc: Global,
+    places: &[CachePadded<Mutex<Seat<M, J>>>],
+    crew: Crew,
+    gate: &G,
+) -> Result<Vec<bool>, AllocError>
+where
+    M::Msg: Send,
+{
+    thread::map_indices(
+        rt,
+        alloc,
+        crew.workers as usize,
+        &|i: usize| {
+            work(
+                rt,
+                alloc,
+                places,
+                Tries {
+                    number: i,
+                    turns: crew.turns,
+                },
+                gate,
+            )
+        },
+    )
+}
+
+// Puts a seat at the place of its number, where no seat is yet.
+fn settle<M: Machine, J: Naming<M, M::Msg> + Claims>(
+    found: &mut Vec<Option<Seat<M, J>>>,
+    seat: Seat<M, J>,
+)
+    requires many { length found.old.items ≡ length J.claims }
+    requires placed { Placed found.old.items }
+    ensures placed { Placed found.new.items }
+    ensures filled { filled found.new.items ≡ filled found.old.items + 1 }
+    ensures same { length found.new.items ≡ length found.old.items }
+{
+    let me = seat.number() as usize;
+    match found[me].take() {
+        None => found[me] = Some(seat),
+        Some(other) => {
+            seat.differ(other);
+            unreachable!()
+        }
+    }
+}
+
+// The seats at the places of their numbers.
+fn unlocked<M: Machine, J: Naming<M, M::Msg> + Claims>(
+    alloc: Global,
+    mut places: Vec<CachePadded<Mutex<Seat<M, J>>>>,
+) -> Result<Vec<Option<Seat<M, J>>>, AllocError>
+    requires many { vec_len places ≡ length J.claims }
+    ensures placed { IfOk result (λ r. Placed r.items) }
+    ensures full { IfOk result (λ r. filled r.items ≡ length r.items) }
+    ensures same { IfOk result (λ r. vec_len r ≡ vec_len places) }
+{
+    let n = places.len();
+    let mut found: Vec<Option<Seat<M, J>>> = Vec::new(alloc);
+    for _i in 0..n {
+        found.push(None)?;
+    }
+    while let Some(place) = places.pop() {
+        settle(&mut found, place.into_inner().into_inner());
+    }
+    Ok(found)
+}
+
+// The nodes in the order of their numbers. Each that has a task and made no step makes its first one.
+fn sorted<M: Machine, J: Naming<M, M::Msg> + Claims>(
+    alloc: Global,
+    mut found: Vec<Option<Seat<M, J>>>,
+) -> Result<Vec<Apart<M>>, AllocError>
+    requires placed { Placed found.items }
+    requires full { filled found.items ≡ length found.items }
+    ensures many { IfOk result (λ r. vec_len r ≡ vec_len found) }
+    ensures runs { IfOk result (λ r. AreRuns M.has_work M.steps M.peer_count J.roots r.items) }
+{
+    let mut nodes = Vec::new(alloc);
+    while let Some(place) = found.pop() {
+        let seat = place.unwrap();
+        let mut logged = seat.into_logged();
+        logged.finish(alloc)?;
+        nodes.push(logged.apart())?;
+    }
+    nodes.reverse();
+    Ok(nodes)
+}
+
+// Each node under its lock, with its claim.
+fn seated<M: Machine, J: Naming<M, M::Msg> + Claims>(
+    alloc: Global,
+    mut nodes: Vec<M>,
+    mut ends: Vec<Ends<M::Msg>>,
+    mut claims: Vec<Blank>,
+) -> Result<Vec<CachePadded<Mutex<Seat<M, J>>>>, AllocError>
+    requires few { vec_len nodes < 256 }
+    requires roots { J.roots ≡ roots_of nodes.items ends.items }
+    requires wide { HasEnds M.peer_count J.roots }
+    requires names { J.claims ≡ map (λ b. b.name) claims.items }
+    requires whole { All (λ b. b.parts ≡ 1) claims.items }
+    requires each { vec_len ends ≡ vec_len nodes }
+    requires each_claim { vec_len claims ≡ vec_len nodes }
+    ensures { IfOk result (λ r. vec_len r ≡ vec_len nodes) }
+{
+    let mut places = Vec::new(alloc);
+    while let Some(node) = nodes.pop() {
+        let claim = claims.pop().unwrap();
+        let end = ends.pop().unwrap();
+        let logged: Logged<M, J> = Logged::new(alloc, node, nodes.len() as u8, end);
+        places.push(CachePadded::new(Mutex::new(Seat::new(logged, claim))))?;
+    }
+    places.reverse();
+    Ok(places)
+}
+
+// The nodes of a run, the ends of their links, and the claims of their numbers.
+#[derive(Drop)]
+struct Start<M: Machine> {
+    nodes: Vec<M>,
+    ends: Vec<Ends<M::Msg>>,
+    claims: Vec<Blank>,
+}
+
+// Steps the nodes of the run J in threads.
+fn run_named<
+    M: Machine + Send,
+    J: Naming<M, M::Msg> + Claims + Send,
+    G: Gate + Sync,
+    R: Threads + Wait + Sync,
+>(rt: &R, alloc: Global, start: Start<M>, crew: Crew, gate: &G) -> Result<Vec<Apart<M>>, AllocError>
+where
+    M::Msg: Send,
+    requires few { vec_len start.nodes < 256 }
+    requires roots { J.roots ≡ roots_of start.nodes.items start.ends.items }
+    requires wide { HasEnds M.peer_count J.roots }
+    requires names { J.claims ≡ map (λ b. b.name) start.claims.items }
+    requires whole { All (λ b. b.parts ≡ 1) start.claims.items }
+    requires each { vec_len start.ends ≡ vec_len start.nodes }
+    requires each_claim { vec_len start.claims ≡ vec_len start.nodes }
+    ensures many { IfOk result (λ r. vec_len r ≡ vec_len start.nodes) }
+    ensures runs { IfOk result (λ r. AreRuns M.has_work M.steps M.peer_count J.roots r.items) }
+{
+    let Start {
+        nodes,
+        ends,
+        claims,
+    } = start;
+    let places: Vec<CachePadded<Mutex<Seat<M, J>>>> = seated(alloc, nodes, ends, claims)?;
+    let done = visits(rt, alloc, places.as_slice(), crew, gate)?;
+    if !done.iter().all(|b| *b) {
+        return Err(AllocError);
+    }
+    let found = unlocked(alloc, places)?;
+    sorted(alloc, found)
+}
+
+// Steps the nodes of the start in threads. The node given back at each place is the replay of its log from the one at that place.
+fn run_nodes<M: Machine + Send, G: Gate + Sync, R: Threads + Wait + Sync>(
+    rt: &R,
+    alloc: Global,
+    start: Start<M>,
+    crew: Crew,
+    gate: &G,
+) -> Result<Vec<Apart<M>>, AllocError>
+where
+    M::Msg: Send,
+    requires few { vec_len start.nodes < 256 }
+    requires wide { HasEnds M.peer_count (roots_of start.nodes.items start.ends.items) }
+    requires whole { All (λ b. b.parts ≡ 1) start.claims.items }
+    requires each { vec_len start.ends ≡ vec_len start.nodes }
+    requires each_claim { vec_len start.claims ≡ vec_len start.nodes }
+    ensures many { IfOk result (λ r. vec_len r ≡ vec_len start.nodes) }
+    ensures runs { IfOk result (λ r. AreRuns M.has_work M.steps M.peer_count (roots_of start.nodes.items start.ends.items) r.items) }
+{
+    run_named::<M, Brand, G, R>(rt, alloc, start, crew, gate)
+}
+
+/// Runs the net by workers in threads. Each node that has a task makes a step, and a net with nothing to do starts no thread.
+/// If allocation fails, nothing is given back.
+pub fn run_workers<M: Machine + Send, G: Gate + Sync, R: Threads + Wait + Sync>(
+    rt: &R,
+    alloc: Global,
+    net: Net<M>,
+    crew: Crew,
+    gate: &G,
+) -> Result<(Net<M>, Vec<Event>), AllocError>
+where
+    M::Msg: Send,
+    requires workers { (1 ≤ crew.workers) × (crew.workers ≤ 16) }
+    requires turns { 1 ≤ crew.turns }
+    requires peers { ArePeers M.peer_count net }
+    ensures run { IfOk result (λ r. LeadsTo M.has_work M.steps net r.1.items r.0) }
+    ensures tasks { IfOk result (λ r. (k : ℕ) (s : M) → slice_get net.nodes k ≡ Some s → M.has_work s ≡ true → HasEventOf k r.1.items) }
+{
+    let n = net.node_count();
+    if net.is_quiet() {
+        return Ok((net, Vec::new(alloc)));
+    }
+    let NetParts { nodes, links } = net.apart(alloc)?;
+    let ends = linked(alloc, n, links)?;
+    let claims = new_claims(alloc, n)?;
+    let start = Start {
+        nodes,
+        ends,
+        claims,
+    };
+    let done = run_nodes(rt, alloc, start, crew, gate)?;
+    rejoin(alloc, done)
+}
