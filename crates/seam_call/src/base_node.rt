@@ -42,6 +42,14 @@ impl BaseNode {
         }
     }
 
+    /// The base node of a number that is one.
+    pub fn of(number: u8) -> BaseNode
+        requires { IsBaseNode number }
+        ensures { result ≡ number }
+    {
+        BaseNode { number }
+    }
+
     /// Its number, from 1 on.
     pub fn number(self) -> u8
         ensures number { result ≡ self }

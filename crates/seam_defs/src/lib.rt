@@ -1,5 +1,8 @@
 //! Definitions of entities: types, properties with their distribution flags, methods whose bodies are lists of simple
 //! operations, and what one deed does to a state.
+//!
+//! Of `proofs/`, `NameSearch` (a name among names in rising order), `Numbers` (the type of a number is well formed) and
+//! `WellFormed` (the built-in types are) are for callers.
 #![tactic(auto)]
 
 mod builtin;

@@ -10,7 +10,8 @@ use Rattle.std.proofs.lemmas.List.{length-take, length-drop, same_from_push, tak
 use Rattle.std.proofs.lemmas.List.Elements.{All-take}
 use Rattle.seam_io.specs.Causes.{Rose}
 use Rattle.seam_io.specs.Lines.{Line, Content, Long, is_feed, lines_of, whole_lines_of, lines_left, HasNoFeed}
-use Rattle.seam_io.specs.Reading.{SourceState, Reader, Reading, IsExact, NeedsMore, IsDone, IsSparing, lines_given}
+use Rattle.seam_io.specs.Reading.{Reader, Reading, IsExact, NeedsMore, IsDone, IsSparing, lines_given}
+use Rattle.seam_io.specs.States.{SourceState}
 use Rattle.seam_io.specs.Steps.{Moves, Answers, Fills}
 use Rattle.seam_io.specs.declared.lines.Next.{Next}
 use Rattle.seam_io.specs.declared.lines.Next.TheVariants as next

@@ -4,7 +4,8 @@ ghost use Rattle.std.specs.Io.KnownBytes.{ReadConsumes};
 ghost use Rattle.std.specs.Str.Lines.{strip_carriage_return};
 ghost use Rattle.seam_io.specs.Causes.{Rose, HasCause, CountsEnds};
 ghost use Rattle.seam_io.specs.Lines.{Line, Long, line_of, HasNoFeed};
-ghost use Rattle.seam_io.specs.Reading.{SourceState, source_state, Reader, Reading, IsExact, IsSparing, IsDone, NeedsMore, lines_given, budget};
+ghost use Rattle.seam_io.specs.Reading.{Reader, Reading, IsExact, IsSparing, IsDone, NeedsMore, lines_given, budget};
+ghost use Rattle.seam_io.specs.States.{SourceState};
 ghost use Rattle.seam_io.specs.Steps.{IsFeedAt, LetsGo, Answers, Waits};
 
 use crate::{Failed, Source};
@@ -86,9 +87,9 @@ fn read_at<S: Source>(
     requires fits { at + want ≤ length buffer.old }
     ensures bound { IfOk result (λ n. n ≤ want) }
     ensures kept { take at buffer.new ≡ take at buffer.old }
-    ensures bytes { ReadConsumes (S.left source.old) (S.left source.new) result (drop at buffer.new) }
-    ensures end { CountsEnds (S.ends source.old) (S.ends source.new) result }
-    ensures cause { HasCause (S.faults source.old) (S.faults source.new) result }
+    ensures bytes { ReadConsumes (S.state source.old).left (S.state source.new).left result (drop at buffer.new) }
+    ensures end { CountsEnds (S.state source.old).ends (S.state source.new).ends result }
+    ensures cause { HasCause (S.state source.old).faults (S.state source.new).faults result }
 {
     source.read(&mut buffer[at..at + want])
 }
@@ -108,9 +109,9 @@ fn refill<S: Source>(
     ensures bound { IfOk result (λ n. n ≤ want) }
     ensures len { vec_len buffer.new ≡ vec_len buffer.old }
     ensures kept { take (end - start) buffer.new.items ≡ slice_range buffer.old.items start end }
-    ensures bytes { ReadConsumes (S.left source.old) (S.left source.new) result (drop (end - start) buffer.new.items) }
-    ensures end { CountsEnds (S.ends source.old) (S.ends source.new) result }
-    ensures cause { HasCause (S.faults source.old) (S.faults source.new) result }
+    ensures bytes { ReadConsumes (S.state source.old).left (S.state source.new).left result (drop (end - start) buffer.new.items) }
+    ensures end { CountsEnds (S.state source.old).ends (S.state source.new).ends result }
+    ensures cause { HasCause (S.state source.old).faults (S.state source.new).faults result }
 {
     if start > 0 {
         buffer.copy_within(start..end, 0);
@@ -161,14 +162,14 @@ impl Lines {
     /// limit. Calls after [`Next::End`] answer it again without a read.
     pub fn next<S: Source>(&mut self, source: &mut S) -> Next
         ensures reads { (start : SourceState) (given : List ℕ) (read : List Line) →
-            Reading start (source_state (S.left source.old) (S.faults source.old) (S.ends source.old)) self.old given read →
+            Reading start (S.state source.old) self.old given read →
             (got : List ℕ)
-            × Reading start (source_state (S.left source.new) (S.faults source.new) (S.ends source.new)) self.new
+            × Reading start (S.state source.new) self.new
             (given ++ got) (read ++ lines_given result self.new.line)
             × IsExact result self.new (given ++ got) read
             × IsSparing got }
-        ensures fault { result ≡ Next.ReadFault → Rose (S.faults source.old) (S.faults source.new) }
-        ensures later { S.faults source.old ≤ S.faults source.new }
+        ensures fault { result ≡ Next.ReadFault → Rose (S.state source.old).faults (S.state source.new).faults }
+        ensures later { (S.state source.old).faults ≤ (S.state source.new).faults }
 
         // No read is made where the next answer needs none, and the end is answered again.
         ensures quiet { ¬ (NeedsMore self.old) → (source.new ≡ source.old) × (self.new.taken ≡ self.old.taken)
@@ -278,12 +279,12 @@ impl Lines {
         requires short { length self.old.held ≤ 4096 }
         requires line { self.old.line ≡ [] }
         ensures reads { (start : SourceState) (given : List ℕ) (read : List Line) →
-            Reading start (source_state (S.left source.old) (S.faults source.old) (S.ends source.old)) self.old given read →
+            Reading start (S.state source.old) self.old given read →
             (got : List ℕ)
-            × Reading start (source_state (S.left source.new) (S.faults source.new) (S.ends source.new)) self.new (given ++ got) read
+            × Reading start (S.state source.new) self.new (given ++ got) read
             × (self.new.held ≡ self.old.held ++ got)
             × (length got ≤ 4096) }
-        ensures cause { HasCause (S.faults source.old) (S.faults source.new) result }
+        ensures cause { HasCause (S.state source.old).faults (S.state source.new).faults result }
         ensures budget { budget self.new ≤ budget self.old }
         ensures limit { self.new.limit ≡ self.old.limit }
         ensures line { self.new.line ≡ [] }

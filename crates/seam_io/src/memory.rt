@@ -76,11 +76,7 @@ fn cut_at(cuts: &[u32], reads: u64, room: usize) -> usize
 }
 
 impl Source for MemSource {
-    ghost left = { λ s. Some s.left };
-
-    ghost faults = { λ s. s.faults };
-
-    ghost ends = { λ s. s.ends };
+    ghost state = { λ s. record { left = Some s.left; faults = s.faults; ends = s.ends } };
 
     fn read(&mut self, buf: &mut [u8]) -> Result<usize, Failed>
         requires { 0 < length buf.old }
@@ -164,9 +160,7 @@ impl MemSink {
 }
 
 impl Sink for MemSink {
-    ghost written = { λ s. Some s.bytes };
-
-    ghost faults = { λ s. s.faults };
+    ghost state = { λ s. record { written = Some s.bytes; faults = s.faults } };
 
     fn write(&mut self, piece: &[u8]) -> Result<usize, Failed>
         requires { 0 < length piece.now }

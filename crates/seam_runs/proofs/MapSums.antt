@@ -80,7 +80,7 @@ module _ {X : Type 0} (f : X → ℕ) where
       at q true e = sym (ap (map.get m) (tied q k e) ∙ is)
       at q false e = refl
 
-  -- what a map weighs after something was taken out
+  -- what a map weighs after a value was removed
   pub total_of_remove : (m : map.FinMap nat_cmp X) (k : ℕ) → map_total f (map.remove m k) + weight_or f (map.get m k) ≡ map_total f m
   total_of_remove m k = by (map.get m k) refl
     where

@@ -389,7 +389,12 @@ passing_row = (
                   passing_enabled_8,
                   passing_happens_8,
                   passing_holders_8,
-                  (passing_enabled_9, passing_happens_9, passing_holders_9, (passing_enabled_10, passing_happens_10, passing_holders_10, tt)),
+                  (
+                    passing_enabled_9,
+                    passing_happens_9,
+                    passing_holders_9,
+                    (passing_enabled_10, passing_happens_10, passing_holders_10, tt),
+                  ),
                 ),
               ),
             ),
@@ -406,3 +411,8 @@ passing_ends = simp computing
 
 pub passing_quiet : IsQuiet node_has_work passing_11
 passing_quiet = quiet_of passing_11 passing_ends
+
+-- what each row's contract says
+pub ruleset early_call = (load, row, quiet, done)
+
+pub ruleset passed_call = (load, passing_row, passing_quiet, passing_done)

@@ -314,3 +314,8 @@ reap_ends = simp computing
 
 pub reap_quiet : IsQuiet node_has_work reap_3
 reap_quiet = quiet_of reap_3 reap_ends
+
+-- what each row's contract says
+pub ruleset late_message = (load, row, quiet, done, copy_0, copy_2)
+
+pub ruleset reaped_entity = (reap_load, until_row, reap_row, reap_quiet, reap_copy)

@@ -1,6 +1,7 @@
 pub mod Slots
 pub mod Stray
 pub mod Targets
+pub mod Keys
 pub mod ValidCells
 pub mod ValidBases
 pub mod Peers

@@ -20,3 +20,5 @@ stray_at_base_rests b a m is = ap (λ d. BaseCases.unless_stray d b (BaseCases.s
 pub stray_order_rests : (b : BaseView) (o : Order) (os : List Order) → BaseCases.stray_order b o ≡ true → BaseCases.base_task b (o ∷ os)
     ≡ BaseCases.sends_none b
 stray_order_rests b o os is = ap (λ d. BaseCases.unless_stray d b (BaseCases.order_of_node (record b { orders = os }) o)) is
+
+pub ruleset stray_laws = (stray_rests, stray_at_base_rests, stray_order_rests)

@@ -450,3 +450,10 @@ second_lines = simp computing
 pub third_lines : lines_of_client third_look_4 17 1 ≡ Some (line 5 leave_2 ∷ [])
 unfolding third_look_4
 third_lines = simp computing
+
+-- what each row's contract says
+pub ruleset entering = (first_load, first_row, first_quiet, first_look_load, first_look_row, first_look_quiet, first_lines)
+
+pub ruleset changing = (second_load, second_row, second_quiet, second_look_load, second_look_row, second_look_quiet, second_lines)
+
+pub ruleset leaving = (third_load, third_row, third_quiet, third_look_load, third_look_row, third_look_quiet, third_lines)

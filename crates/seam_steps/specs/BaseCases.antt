@@ -110,9 +110,12 @@ base_order false b k = record { state = b; sent = (base_of b.here k.entity, Base
 abbrev pub is_base_node_of : Here → ℕ → Bool
 is_base_node_of h e = base_of h e == h.me
 
--- tick order: every cell of the tree is told
+abbrev pub tick_to : ℕ → ℕ × Msg
+tick_to k = (k, Tick)
+
+-- tick order: every cell of the tree is told, in rising number
 abbrev pub tick_order : BaseView → Stepped BaseView Msg
-tick_order b = record { state = b; sent = map (λ k. (k, Tick)) (range_with_len 0 b.cells) }
+tick_order b = record { state = b; sent = map tick_to (range_with_len 0 b.cells) }
 
 -- reap order: the route's cell is told, and the base part goes where it is here; the route stays
 abbrev pub reap_order : BaseView → ℕ → Stepped BaseView Msg
@@ -133,9 +136,12 @@ stray_order b (order.Reap e) = is_none (table.get b.routes e)
 
 -- ---- the task without orders
 
+abbrev pub part_is_ready : ℕ × PartView → Bool
+part_is_ready p = has_ready p.1.orders
+
 -- the least base part that has a ready call
 abbrev pub ready_part : BaseView → Option (ℕ × PartView)
-ready_part b = find (λ p. has_ready p.1.orders) (table.entries b.parts)
+ready_part b = find part_is_ready (table.entries b.parts)
 
 abbrev pub executes_ready : Here → PartView → ℕ × OrderView CallData → Option CallData → PartView
 executes_ready h p o (Some k) = with_order (executed h p k) o.0 (after_taking o.1)
@@ -149,9 +155,12 @@ abbrev pub proxy_is_ready : Option ProxyView → Bool
 proxy_is_ready None = false
 proxy_is_ready (Some x) = is_ready x.updates
 
+abbrev pub client_is_ready : ℕ × PartView → Bool
+client_is_ready p = proxy_is_ready p.1.proxy
+
 -- the least base part whose client has a ready update
 abbrev pub ready_proxy : BaseView → Option (ℕ × PartView)
-ready_proxy b = find (λ p. proxy_is_ready p.1.proxy) (table.entries b.parts)
+ready_proxy b = find client_is_ready (table.entries b.parts)
 
 abbrev pub shows_next : ProxyView → Option Shown → ProxyView
 shows_next x None = x

@@ -16,13 +16,22 @@ may_offer o n = nat_lt 0 n && (may_rise n && not (is_some (item_at n o.held)))
 abbrev pub is_ready : {T : Type 0} → OrderView T → Bool
 is_ready o = is_some (next_item o)
 
+abbrev pub order_is_ready : ℕ × OrderView Call → Bool
+order_is_ready p = is_ready p.1
+
 -- the order of the least sender that has a ready call
 abbrev pub ready_order : Orders → Option (ℕ × OrderView Call)
-ready_order os = find (λ p. is_ready p.1) (table.entries os)
+ready_order os = find order_is_ready (table.entries os)
 
 abbrev pub has_ready : Orders → Bool
 has_ready os = is_some (ready_order os)
 
+abbrev pub item_passes : (Call → Bool) → ℕ × Call → Bool
+item_passes test q = test q.1
+
+abbrev pub order_passes : (Call → Bool) → ℕ × OrderView Call → Bool
+order_passes test p = list_all (item_passes test) p.1.held
+
 -- every held call passes the test
 abbrev pub all_held : (Call → Bool) → Orders → Bool
-all_held test os = list_all (λ p. list_all (λ q. test q.1) p.1.held) (table.entries os)
+all_held test os = list_all (order_passes test) (table.entries os)

@@ -50,9 +50,12 @@ stray_call h k None None = true
 
 -- ---- a hand-over
 
--- each base node is told that the real is here
+abbrev pub current_to : Here → RealView → ℕ → ℕ × Msg
+current_to h r b = (b, Current r.entity h.me r.generation)
+
+-- each base node is told, in rising number, that the real is here
 abbrev pub currents : Here → RealView → List (ℕ × Msg)
-currents h r = map (λ b. (b, Current r.entity h.me r.generation)) (base_numbers h)
+currents h r = map (current_to h r) (base_numbers h)
 
 -- hand-over comes: the real is placed, the next place goes, the own book drops the copy at the real's beat, and every base node is told
 abbrev pub hand_over_comes : Here → Slot → RealView → SlotStep

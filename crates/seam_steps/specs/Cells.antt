@@ -11,7 +11,7 @@ use Rattle.seam_machine.specs.declared.machines.Input.TheVariants.{Task, From}
 use Rattle.seam_call.specs.declared.shown.GhostCopy.{GhostCopy}
 use Rattle.seam_entity.specs.Reals.{RealView}
 use Rattle.seam_entity.specs.declared.message.Msg.{Msg}
-use Rattle.seam_steps.specs.Maps.{Map, set_at, has_any}
+use Rattle.seam_steps.specs.Maps.{Map, set_at, number_of, has_any}
 use Rattle.seam_steps.specs.Here.{Here}
 use Rattle.seam_steps.specs.Calls.{has_ready}
 use Rattle.seam_steps.specs.Slots.{Slot, NextPlace, SlotStep, unless_stray}
@@ -61,14 +61,22 @@ cell_rests c = record { state = c; sent = [] }
 
 -- ---- what the cell knows
 
+abbrev pub known_real : Here → ℕ × RealView → Known
+known_real h p = (p.0, other_of_real h p.1)
+
+abbrev pub known_copy : Here → ℕ × GhostCopy → Known
+known_copy h p = (p.0, other_of_copy h p.1)
+
 -- the reals and the copies here, each as other clients are shown it
 abbrev pub known_in : CellView → List Known
-known_in c = map (λ p. (p.0, other_of_real c.here p.1)) (table.entries c.reals) ++
-    map (λ p. (p.0, other_of_copy c.here p.1)) (copied (table.entries c.ghosts))
+known_in c = map (known_real c.here) (table.entries c.reals) ++ map (known_copy c.here) (copied (table.entries c.ghosts))
+
+abbrev pub is_of_another : ℕ → Known → Bool
+is_of_another e k = is_another e k.0
 
 -- what the cell knows of others than e, in rising number; of an entity that has a real and a copy here, the real
 abbrev pub known_to : CellView → ℕ → List Known
-known_to c e = filter (λ k. is_another e k.0) (table.entries (table.from_entries {R = nat_cmp} (known_in c)))
+known_to c e = filter (is_of_another e) (table.entries (table.from_entries {R = nat_cmp} (known_in c)))
 
 -- ---- tasks
 
@@ -81,9 +89,12 @@ calls_ready c e r = unless_stray (stray_ready_call r) (ready_call_task c.here c.
 abbrev pub looks_around : CellView → ℕ → Option RealView → List Known → SlotStep
 looks_around c e r known = unless_stray (stray_look c.here r known) (look_task c.here (slot_of c e) r known)
 
+abbrev pub real_is_ready : ℕ × RealView → Bool
+real_is_ready p = has_ready p.1.orders
+
 -- the least entity whose real has a ready call
 abbrev pub ready_entity : CellView → Option ℕ
-ready_entity c = option_map (λ p. p.0) (find (λ p. has_ready p.1.orders) (table.entries c.reals))
+ready_entity c = option_map number_of (find real_is_ready (table.entries c.reals))
 
 -- last, the first entity of the look list is taken and looks
 abbrev pub look_next : CellView → List ℕ → Stepped CellView Msg
@@ -102,9 +113,12 @@ cell_task c [] = ready_next c (ready_entity c)
 
 -- ---- messages
 
+abbrev pub has_witness : ℕ × RealView → Bool
+has_witness p = is_some p.1.witness
+
 -- the entities whose reals have a witness, in rising number
 abbrev pub witnesses : CellView → List ℕ
-witnesses c = map (λ p. p.0) (filter (λ p. is_some p.1.witness) (table.entries c.reals))
+witnesses c = map number_of (filter has_witness (table.entries c.reals))
 
 -- tick: the look list becomes the reals with a witness, in rising entity number
 abbrev pub tick : CellView → CellView

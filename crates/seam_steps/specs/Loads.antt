@@ -154,27 +154,39 @@ abbrev pub ordered_at : ℕ × Order → NodeView → NodeView
 ordered_at o (Cell c) = Cell c
 ordered_at o (Base b) = Base (order_if (o.0 == b.here.me) b o.1)
 
+abbrev pub with_order : World → ℕ × Order → World
+with_order w o = with_nodes w (ordered_at o)
+
 abbrev pub with_orders : World → List (ℕ × Order) → World
-with_orders w os = fold (λ v o. with_nodes v (ordered_at o)) w os
+with_orders w os = fold with_order w os
 
 -- ---- the three loads
+
+abbrev pub with_created : Division → World → Create → World
+with_created t w x = with_nodes w (created_at t x)
+
+abbrev pub with_client : World → ℕ → World
+with_client w e = with_nodes w (attached e)
 
 -- a batch is loaded: base nodes begin the round, entities are created, clients attached, cells begin the round, and the orders
 -- are given
 abbrev pub loaded : World → Batch → World
 loaded w b =
     let begun : World = with_nodes w (base_round (cells_of b.tree)) in
-    let made : World = fold (λ v x. with_nodes v (created_at b.tree x)) begun b.creates in
-    let joined : World = fold (λ v e. with_nodes v (attached e)) made b.clients in
+    let made : World = fold (with_created b.tree) begun b.creates in
+    let joined : World = fold with_client made b.clients in
     with_orders (with_nodes joined (cell_round b.tree)) b.orders
 
 abbrev pub reap_ordered_at : ℕ → NodeView → NodeView
 reap_ordered_at e (Cell c) = Cell c
 reap_ordered_at e (Base b) = Base (order_if (base_of b.here e == b.here.me) b (order.Reap e))
 
+abbrev pub with_reap : World → ℕ → World
+with_reap w e = with_nodes w (reap_ordered_at e)
+
 -- a reap of each entity, in the given order, is appended to the list of the entity's base node
 abbrev pub reaps_loaded : World → List ℕ → World
-reaps_loaded w es = fold (λ v e. with_nodes v (reap_ordered_at e)) w es
+reaps_loaded w es = fold with_reap w es
 
 -- a tick is appended to the list of the first base node
 abbrev pub look_loaded : World → World

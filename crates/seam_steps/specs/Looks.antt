@@ -35,14 +35,21 @@ Known = ℕ × GhostCopy
 abbrev pub seen_as : Known → Seen
 seen_as k = record { entity = k.0; version = k.1.version; pos = k.1.state.pos }
 
+abbrev pub is_of : ℕ → Known → Bool
+is_of e k = k.0 == e
+
+abbrev pub shown_of_known : Known → GhostCopy
+shown_of_known k = k.1
+
+-- what is known of an entity
 abbrev pub known_of : ℕ → List Known → Option GhostCopy
-known_of e known = option_map (λ k. k.1) (find (λ k. k.0 == e) known)
+known_of e known = option_map shown_of_known (find (is_of e) known)
 
 -- what the client is shown for a look
 abbrev pub shown_for : List Known → Look → Option Shown
 shown_for known (look.Leave e) = Some (Leave e)
-shown_for known (look.Set e) = option_map (λ c. Set e c) (known_of e known)
-shown_for known (look.Enter e) = option_map (λ c. Enter e c) (known_of e known)
+shown_for known (look.Set e) = option_map (Set e) (known_of e known)
+shown_for known (look.Enter e) = option_map (Enter e) (known_of e known)
 
 -- the witness's own state is to be shown: it never was, or its version is greater than that of the last one
 abbrev pub own_due : Option ℕ → ℕ → Bool

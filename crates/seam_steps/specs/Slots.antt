@@ -17,7 +17,8 @@ pub record Slot : Type 0 where
   pub next : Option NextPlace
   pub ghost : Option (Ghost GhostCopy)
 
--- what a step makes of one entity's slot, or None where it stays; whether the entity's entries in the survey and look lists go; and what is sent
+-- what a step makes of one entity's slot, or None where it stays; whether the entity's entries in the survey and look lists go;
+-- and what is sent
 pub record SlotStep : Type 0 where
   pub slot : Option Slot
   pub unlisted : Bool
@@ -43,3 +44,8 @@ sends ms = record { slot = None; unlisted = false; sent = ms }
 -- the own book takes a message of this beat: it is ignored unless its beat is greater than any heard before
 abbrev pub heard : Slot → ℕ → Option GhostCopy → Slot
 heard s beat copy = record s { ghost = ghost_after s.ghost (record { beat = beat; copy = copy }) }
+
+-- the slot after a step of it
+abbrev pub slot_after : Option Slot → Slot → Slot
+slot_after None s = s
+slot_after (Some t) s = t

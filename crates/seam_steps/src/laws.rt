@@ -9,9 +9,9 @@ ghost use Rattle.seam_machine.specs.declared.machines.Input.TheVariants.{From};
 ghost use Rattle.seam_call.specs.declared.order.Order.{Order};
 ghost use Rattle.seam_entity.specs.declared.message.Msg.{Msg};
 ghost use Rattle.seam_steps.specs.Here.{Here};
-ghost use Rattle.seam_steps.specs.Slots.{Slot, rests};
+ghost use Rattle.seam_steps.specs.Slots.{Slot, SlotStep, rests, slot_after};
 ghost use Rattle.seam_steps.specs.CellCases.{is_stray, slot_steps};
-ghost use Rattle.seam_steps.specs.Cells.{CellView, slot_of, with_slot};
+ghost use Rattle.seam_steps.specs.Cells.{CellView, slot_of, with_slot, stepped};
 ghost use Rattle.seam_steps.specs.Bases.{BaseView};
 ghost use Rattle.seam_steps.specs.BaseCases.{is_stray as is_stray_at_base, stray_order, base_steps, base_task, sends_none};
 ghost use Rattle.seam_steps.specs.Nodes.{NodeView, node_steps, node_peers};
@@ -26,15 +26,17 @@ pub fn steps_stay_in_the_net()
 {}
 
 /// At stray input nothing changes and nothing is sent.
-#[tactic(auto, using(crate::proofs::Stray::stray_rests, crate::proofs::Stray::stray_at_base_rests, crate::proofs::Stray::stray_order_rests))]
+#[tactic(auto, using(crate::proofs::Stray::stray_laws))]
 pub fn stray_input_changes_nothing()
     ensures cell { (h : Here) (t : Division) (s : Slot) (m : Msg) → is_stray h t s m ≡ true → slot_steps h t s m ≡ rests }
     ensures base { (b : BaseView) (a : ℕ) (m : Msg) → is_stray_at_base b m ≡ true → base_steps b (From a m) ≡ sends_none b }
     ensures order { (b : BaseView) (o : Order) (os : List Order) → stray_order b o ≡ true → base_task b (o ∷ os) ≡ sends_none b }
 {}
 
-/// A change of one entity's slot changes that slot alone.
-#[tactic(auto, using(crate::proofs::Slots::slot_with))]
+/// A change of one entity's slot changes that slot alone, and so does a step of it.
+#[tactic(auto, using(crate::proofs::Slots::slot_with, crate::proofs::Slots::slot_stepped))]
 pub fn slots_are_apart()
-    ensures { (c : CellView) (e q : ℕ) (s : Slot) → slot_of (with_slot c e s) q ≡ cond (eq_by_cmp nat_cmp q e) s (slot_of c q) }
+    ensures change { (c : CellView) (e q : ℕ) (s : Slot) → slot_of (with_slot c e s) q ≡ cond (eq_by_cmp nat_cmp q e) s (slot_of c q) }
+    ensures step { (c : CellView) (e q : ℕ) (t : SlotStep)
+        → slot_of (stepped c e t).state q ≡ cond (eq_by_cmp nat_cmp q e) (slot_after t.slot (slot_of c e)) (slot_of c q) }
 {}

@@ -11,7 +11,7 @@ ghost use Rattle.seam_steps.specs.LateGhost as late;
 ghost use Rattle.seam_steps.specs.ViewRounds as view;
 
 /// A call that comes early is held until its turn; one that comes where the real was is passed on.
-#[tactic(auto, using(crate::proofs::Early::load, crate::proofs::Early::row, crate::proofs::Early::quiet, crate::proofs::Early::done))]
+#[tactic(auto, using(crate::proofs::Early::early_call))]
 pub fn an_early_call_is_held()
     ensures load { loaded empty_world early.batch ≡ early.world_0 }
     ensures events { IsRow 1 1 early.world_0 early.steps }
@@ -20,7 +20,7 @@ pub fn an_early_call_is_held()
 {}
 
 /// "Passing on": a call that comes after the hand-over follows the real.
-#[tactic(auto, using(crate::proofs::Early::load, crate::proofs::Early::passing_row, crate::proofs::Early::passing_quiet, crate::proofs::Early::passing_done))]
+#[tactic(auto, using(crate::proofs::Early::passed_call))]
 pub fn a_call_is_passed_on()
     ensures load { loaded empty_world early.batch ≡ early.world_0 }
     ensures events { IsRow 1 1 early.world_0 early.passing_steps }
@@ -29,7 +29,7 @@ pub fn a_call_is_passed_on()
 {}
 
 /// A ghost message that comes after one of a greater beat is ignored.
-#[tactic(auto, using(crate::proofs::Late::load, crate::proofs::Late::row, crate::proofs::Late::quiet, crate::proofs::Late::done, crate::proofs::Late::copy_0, crate::proofs::Late::copy_2))]
+#[tactic(auto, using(crate::proofs::Late::late_message))]
 pub fn a_late_ghost_message_is_ignored()
     ensures load { loaded empty_world late.batch ≡ late.world_0 }
     ensures events { IsRow 1 1 late.world_0 late.steps }
@@ -40,7 +40,7 @@ pub fn a_late_ghost_message_is_ignored()
 {}
 
 /// An entity that is reaped has no real from then on, and no ghost in the end.
-#[tactic(auto, using(crate::proofs::Late::reap_load, crate::proofs::Late::until_row, crate::proofs::Late::reap_row, crate::proofs::Late::reap_quiet, crate::proofs::Late::reap_copy))]
+#[tactic(auto, using(crate::proofs::Late::reaped_entity))]
 pub fn a_reaped_entity_is_gone()
     ensures load { reaps_loaded late.world_14 (1 ∷ []) ≡ late.reap_0 }
     ensures before { IsRow 1 1 late.reap_0 late.until_reaped }
@@ -50,7 +50,7 @@ pub fn a_reaped_entity_is_gone()
 {}
 
 /// "View hysteresis", round 1: an entity at the radius enters the view of a new client, which is first shown its base part.
-#[tactic(auto, using(crate::proofs::Views::first_load, crate::proofs::Views::first_row, crate::proofs::Views::first_quiet, crate::proofs::Views::first_look_load, crate::proofs::Views::first_look_row, crate::proofs::Views::first_look_quiet, crate::proofs::Views::first_lines))]
+#[tactic(auto, using(crate::proofs::Views::entering))]
 pub fn an_entity_enters_a_view()
     ensures load { loaded empty_world view.batch_1 ≡ view.first_0 }
     ensures events { IsRow 2 1 view.first_0 view.first_steps }
@@ -62,7 +62,7 @@ pub fn an_entity_enters_a_view()
 {}
 
 /// "View hysteresis", round 2: within the hysteresis it stays, and its change is shown.
-#[tactic(auto, using(crate::proofs::Views::second_load, crate::proofs::Views::second_row, crate::proofs::Views::second_quiet, crate::proofs::Views::second_look_load, crate::proofs::Views::second_look_row, crate::proofs::Views::second_look_quiet, crate::proofs::Views::second_lines))]
+#[tactic(auto, using(crate::proofs::Views::changing))]
 pub fn an_entity_changes_in_a_view()
     ensures load { loaded view.first_look_5 (view.batch_of (view.move_to 1 1310)) ≡ view.second_0 }
     ensures events { IsRow 2 1 view.second_0 view.second_steps }
@@ -74,7 +74,7 @@ pub fn an_entity_changes_in_a_view()
 {}
 
 /// "View hysteresis", round 3: beyond radius and hysteresis it leaves.
-#[tactic(auto, using(crate::proofs::Views::third_load, crate::proofs::Views::third_row, crate::proofs::Views::third_quiet, crate::proofs::Views::third_look_load, crate::proofs::Views::third_look_row, crate::proofs::Views::third_look_quiet, crate::proofs::Views::third_lines))]
+#[tactic(auto, using(crate::proofs::Views::leaving))]
 pub fn an_entity_leaves_a_view()
     ensures load { loaded view.second_look_4 (view.batch_of (view.move_to 2 1311)) ≡ view.third_0 }
     ensures events { IsRow 2 1 view.third_0 view.third_steps }

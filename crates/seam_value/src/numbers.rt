@@ -1,15 +1,13 @@
-// Words that are whole numbers.
-ghost use Rattle.std.specs.Prelude.{◌≡◌, ◌≢◌, ◌<◌, ℕ, MatchOption};
-ghost use Rattle.seam_value.specs.Numbers.{IsWhole};
-ghost use Rattle.seam_value.specs.Values.{decimal_of};
+// Words that are numbers, as commands and headers have them.
+ghost use Rattle.std.specs.Prelude.{◌≡◌, ℕ, MatchOption};
+ghost use Rattle.seam_value.specs.NumberWords.{SpellsNumber, SpellsPositive};
 
 use crate::{ValueType, read_number};
 
-/// The number of 32 bits without a sign that the word spells in decimal: None where it spells none, as with a leading zero.
+/// The number that a word spells: None where it spells none that 32 bits hold. A number has one spelling, its decimal digits
+/// without a leading zero.
 pub fn whole_number(word: &[u8]) -> Option<u32>
-    ensures { MatchOption result
-        ((n : ℕ) → IsWhole n → decimal_of n ≢ word.now)
-        (λ n. IsWhole n × (decimal_of n ≡ word.now)) }
+    ensures { MatchOption result ((n : ℕ) → ¬ (SpellsNumber word.now n)) (SpellsNumber word.now) }
 {
     match read_number(word, ValueType::Uint32) {
         Ok(number) => Some(number as u32),
@@ -17,11 +15,9 @@ pub fn whole_number(word: &[u8]) -> Option<u32>
     }
 }
 
-/// The same of a number from 1 on, as entities have.
+/// The number from 1 on that a word spells.
 pub fn positive_number(word: &[u8]) -> Option<u32>
-    ensures { MatchOption result
-        ((n : ℕ) → 0 < n → IsWhole n → decimal_of n ≢ word.now)
-        (λ n. (0 < n) × IsWhole n × (decimal_of n ≡ word.now)) }
+    ensures { MatchOption result ((n : ℕ) → ¬ (SpellsPositive word.now n)) (SpellsPositive word.now) }
 {
     match whole_number(word) {
         Some(0) => None,

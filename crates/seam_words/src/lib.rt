@@ -5,8 +5,10 @@ mod laws;
 mod splitting;
 #[cfg(test)]
 mod tests;
+mod texts;
 mod words;
 
 pub use laws::{fault_is_one, words_are_one};
 pub use splitting::split_line;
+pub use texts::words_of_line;
 pub use words::{Span, Words, WordsError};
