@@ -1,4 +1,4 @@
--- What clap finds for the options with a number, in words that the command takes.
+-- What clap finds for the options with a number, in words that it does not refuse.
 use Rattle.std.proofs.Common.{◌≡◌, ◌⊎◌, ◌∙◌, ◌<◌, ◌≤◌, ap, sym, subst, refl, inl, inr, zero, suc, ℕ, Bool, true, false, List, [], ◌∷◌, length, is_some, Option, Some, None, arith, cond}
 use Rattle.std.specs.Prelude.{find, option_map, unwrap_or, slice_get, pos, codes}
 use Rattle.std.specs.Borrow.{Bor}
@@ -88,7 +88,8 @@ module _ (old : Command) (m : ArgMatches) (p : IsParsedFrom old m) (is : app_of 
   no_groups : groups_of p.built ≡ []
   no_groups = (p.from.same_groups (simple_groups old (ap (λ (a : App). all_simple a.top.rules) is))).1 ∙ simple.groups
 
-  module _ (k : ℕ) (d : Arg) (lt : k < 4) (name : Text) (most : ℕ) (defaults : List Text) (rule : slice_index_or rules k (rule_of d) ≡ number_rule name most defaults) where
+  module _ (k : ℕ) (d : Arg) (lt : k < 4) (name : Text) (most : ℕ) (defaults : List Text)
+      (rule : slice_index_or rules k (rule_of d) ≡ number_rule name most defaults) where
     abbrev arg : Arg
     arg = slice_index_or (args_of old) k d
 
@@ -105,7 +106,8 @@ module _ (old : Command) (m : ArgMatches) (p : IsParsedFrom old m) (is : app_of 
     name_is = ap (λ (r : Rule). r.id) rule_is
 
     -- an argument of the built command with the id of this one has its rules
-    rules_by_id : (j : ℕ) (x : Arg) → j < length (args_of p.built) → slice_index_or (args_of p.built) j x ≡ x → bytes_eq x.id.now arg.id.now ≡ true → SameRules arg x
+    rules_by_id : (j : ℕ) (x : Arg) → j < length (args_of p.built) → slice_index_or (args_of p.built) j x ≡ x
+        → bytes_eq x.id.now arg.id.now ≡ true → SameRules arg x
     rules_by_id = same_rules_by_id old m p k d low
         (λ j e below same.
         let ids : (slice_index_or (args_of old) j e).id.now ≡ arg.id.now = (bytes_eq-Decides _ _).0 same in
@@ -118,7 +120,8 @@ module _ (old : Command) (m : ArgMatches) (p : IsParsedFrom old m) (is : app_of 
     parser_is : (y : Arg) → SameRules arg y → parser_of y ≡ test
     parser_is y s = ap parser_of_value (s.parser test (ap (λ (r : Rule). r.parser) rule_is))
 
-    module _ (x : MatchedArg) (found : matched_of (found_of m) arg.id.now ≡ Some x) (e : Entry) (same : e.1 ≡ x) (key : e.0.now ≡ arg.id.now) (pass : EntryPasses p.built e) where
+    module _ (x : MatchedArg) (found : matched_of (found_of m) arg.id.now ≡ Some x) (e : Entry) (same : e.1 ≡ x)
+        (key : e.0.now ≡ arg.id.now) (pass : EntryPasses p.built e) where
       no_group : e.1.is_group ≡ true → ⊥
       no_group g = elim (pass.3 g) [
         | inl empty ↦ let bad : k ≡ 4 = sym (id_at k d lt) ∙ ap place_of (sym key ∙ empty) in absurd (omega (arith, bad, lt))
@@ -134,7 +137,8 @@ module _ (old : Command) (m : ArgMatches) (p : IsParsedFrom old m) (is : app_of 
       ]
 
       value_passes : (v : Bor Text) → PassesArg p.built e.0.now v.now → IsSignedIn (pos 1) (pos most) v.now
-      value_passes v h = subst (λ (q : ValueParser). Accepts h.1.ignore_case q v.now) (parser_is h.1 (rules_by_id h.0 h.1 h.2 h.3 (rw key at h.4.0))) h.4.1
+      value_passes v h = subst (λ (q : ValueParser). Accepts h.1.ignore_case q v.now)
+          (parser_is h.1 (rules_by_id h.0 h.1 h.2 h.3 (rw key at h.4.0))) h.4.1
 
       values_pass : All (λ v. IsSignedIn (pos 1) (pos most) v.now) e.1.vals.items
       values_pass = elim pass.0 [
@@ -171,7 +175,11 @@ module _ (old : Command) (m : ArgMatches) (p : IsParsedFrom old m) (is : app_of 
           let first = first_is_read (IsSignedIn (pos 1) (pos most)) e.1.vals.items values_pass some_value in
           let at : matched_of (found_of m) arg.id.now ≡ Some e.1 = found ∙ ap Some (sym same) in
           subst (λ (id : Text). HasNumber (found_of m) id most) name_is
-          (record { text = first.0; is = text_of_entry (found_of m) arg.id.now e.1 (without_minus first.0) at reading_is first.1; number = first.2 })
+          (record {
+            text = first.0;
+            is = text_of_entry (found_of m) arg.id.now e.1 (without_minus first.0) at reading_is first.1;
+            number = first.2;
+          })
 
     number_found : (x : MatchedArg) → matched_of (found_of m) arg.id.now ≡ Some x → HasNumber (found_of m) name most
     number_found x found =
@@ -182,16 +190,19 @@ module _ (old : Command) (m : ArgMatches) (p : IsParsedFrom old m) (is : app_of 
     pub may_have_number : (one_text (found_of m) name ≡ None) ⊎ HasNumber (found_of m) name most
     may_have_number = go (matched_of (found_of m) arg.id.now) refl
       where
-        go : (o : Option MatchedArg) → matched_of (found_of m) arg.id.now ≡ o → (one_text (found_of m) name ≡ None) ⊎ HasNumber (found_of m) name most
+        go : (o : Option MatchedArg) → matched_of (found_of m) arg.id.now ≡ o
+            → (one_text (found_of m) name ≡ None) ⊎ HasNumber (found_of m) name most
         go None none = inl (subst (λ (id : Text). one_text (found_of m) id ≡ None) name_is (rw none refl))
         go (Some x) found = inr (number_found x found)
 
     -- an option with a default has its number
     pub has_number : 0 < length defaults → HasNumber (found_of m) name most
     has_number some =
-        let values : length (items_of arg.default_vals) ≡ length defaults = sym (length-map (items_of arg.default_vals) (λ s. s.now)) ∙ ap (λ (r : Rule). length r.defaults) rule_is in
+        let values : length (items_of arg.default_vals) ≡ length defaults =
+        sym (length-map (items_of arg.default_vals) (λ s. s.now)) ∙ ap (λ (r : Rule). length r.defaults) rule_is in
         let wants : WantsDefault arg = ((simple.args k d low).default_ifs, omega (arith, values, some)) in
-        go (matched_of (found_of m) arg.id.now) refl (entry_is_found (found_of m).entries.items arg.id.now (default_present old m p simple.globals k d low wants))
+        go (matched_of (found_of m) arg.id.now) refl
+        (entry_is_found (found_of m).entries.items arg.id.now (default_present old m p simple.globals k d low wants))
       where
         go : (o : Option MatchedArg) → matched_of (found_of m) arg.id.now ≡ o → is_some o ≡ true → HasNumber (found_of m) name most
         go None none some = cc

@@ -27,7 +27,8 @@ returns c =
     ap rule_of c.default_value-workers.ensures ∙ ap (with_default (codes "4" ∷ [])) c.number_option.ensures.rule in
     let turns_is : rule_of c.default_value-turns.result ≡ number_rule (codes "turns") MOST_TURNS (codes "1000" ∷ []) =
     ap rule_of c.default_value-turns.ensures ∙ ap (with_default (codes "1000" ∷ [])) c.number_option-2.ensures.rule in
-    let storm_is : rule_of c.number_option-storm.result ≡ number_rule (codes "storm") LONGEST_STORM [] = c.number_option-storm.ensures.rule in
+    let storm_is : rule_of c.number_option-storm.result ≡ number_rule (codes "storm") LONGEST_STORM [] =
+    c.number_option-storm.ensures.rule in
     let trace_is : rule_of c.action-trace.result ≡ flag_rule (codes "trace") = search rules in
     let named : app_of c.no_binary_name.result ≡ without_name (new_app (codes "seamless")) =
     ap app_of_fields c.no_binary_name.ensures ∙ ap without_name c.new-2.ensures.app in
@@ -39,7 +40,10 @@ returns c =
     let words = map string_bytes c.args.words.now in
     let parse = c.try_get_matches_from in
     record {
-      fails = subst (λ (a : App). FailsBy (fault_of a words) parse.result) command_is (parse.ensures.kinds (ap is_simple_and_free command_is ∙ is_free));
-      found = IfOk-weaker parse.result _ _ (λ m h. (h (ap is_simple command_is ∙ simple)).0 ∙ ap (λ (a : App). matches_of a words) command_is) parse.ensures.matches;
-      numbers = IfOk-weaker parse.result _ _ (λ m h. has_numbers c.in_ok-command.command m h command_is c.action-trace.result) parse.ensures.parsed;
+      fails = subst (λ (a : App). FailsBy (fault_of a words) parse.result) command_is
+          (parse.ensures.kinds (ap is_simple_and_free command_is ∙ is_free));
+      found = IfOk-weaker parse.result _ _
+          (λ m h. (h (ap is_simple command_is ∙ simple)).0 ∙ ap (λ (a : App). matches_of a words) command_is) parse.ensures.matches;
+      numbers = IfOk-weaker parse.result _ _
+          (λ m h. has_numbers c.in_ok-command.command m h command_is c.action-trace.result) parse.ensures.parsed;
     }

@@ -14,7 +14,8 @@ returns c =
     found (codes "workers") MOST_WORKERS c.get_one.result c.requires.workers (omega arith) (λ u x g. g.0) c.get_one.ensures.value in
     let turns = number_is_read _ (λ bs r. ParsesUnsigned 32 10 bs r × ExplainsUnsignedError 10 bs r × HasUnsignedDigitsIfOk bs r)
     found (codes "turns") MOST_TURNS c.get_one-2.result c.requires.turns (omega arith) (λ u x g. g.0) c.get_one-2.ensures.value in
-    let storm : (option_map number_of (one_of (codes "storm") (rows_of found)) ≡ c.get_one-3.result) × IfSome c.get_one-3.result (IsUpTo LONGEST_STORM) = elim c.requires.storm [
+    let storm : (option_map number_of (one_of (codes "storm") (rows_of found)) ≡ c.get_one-3.result)
+    × IfSome c.get_one-3.result (IsUpTo LONGEST_STORM) = elim c.requires.storm [
       | inl none ↦
           let is : c.get_one-3.result ≡ None = c.get_one-3.ensures.none none in
           (no_number_is_read found (codes "storm") none ∙ sym is, subst (λ (o : Option ℕ). IfSome o (IsUpTo LONGEST_STORM)) (sym is) tt)
