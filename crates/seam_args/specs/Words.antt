@@ -1,0 +1,65 @@
+-- The command line of the server: its command, by clap's own definition of a simple command, and the options of the words.
+use Rattle.std.specs.Prelude.{◌≡◌, ◌↔◌, ◌≤◌, ℕ, ◌∷◌, [], List, Some, pos, codes, true, IfSome, find, option_map, option_and_then}
+use Rattle.std.specs.Str.{bytes_eq}
+use Rattle.std.specs.Str.Parse.{digits_value, without_leading_plus}
+use Rattle.clap.specs.Words.{App, Row, Rule, Text, fault_of, new_app, new_rule, one_of, with_rule}
+use Rattle.clap.specs.declared.builder.ArgAction.TheVariants.{Set, SetTrue}
+use Rattle.clap.specs.declared.builder.ValueParser.TheVariants as parser
+use Rattle.clap.specs.declared.parser.matches.ValueSource.TheVariants.{CommandLine}
+use Rattle.seam_args.specs.declared.Options.{Options}
+use Rattle.seam_args.specs.declared.TheConstants.{MOST_WORKERS, MOST_TURNS, LONGEST_STORM}
+
+-- an option whose value is a number from 1 to `most`, with these defaults
+abbrev pub number_rule : Text → ℕ → List Text → Rule
+number_rule name most defaults = record (new_rule name) {
+  long = Some name;
+  action = Some Set;
+  defaults = defaults;
+  parser = Some (parser.Signed (pos 1) (pos most));
+}
+
+-- a flag, which has no value
+abbrev pub flag_rule : Text → Rule
+flag_rule name = record (new_rule name) { long = Some name; action = Some SetTrue }
+
+-- the command, where the words do not begin with the name of the program
+abbrev pub without_name : App → App
+without_name a = record a { top = record a.top { no_binary_name = true } }
+
+-- the command of the server
+abbrev pub command : App
+command =
+    with_rule (with_rule (with_rule (with_rule (without_name (new_app (codes "seamless")))
+    (number_rule (codes "workers") MOST_WORKERS (codes "4" ∷ [])))
+    (number_rule (codes "turns") MOST_TURNS (codes "1000" ∷ [])))
+    (number_rule (codes "storm") LONGEST_STORM []))
+    (flag_rule (codes "trace"))
+
+-- the command refuses the words
+abbrev pub AreRefused : List Text → Type 0
+AreRefused words = fault_of command words ≡ [] → ⊥
+
+-- the number that digits spell, where a plus may come first
+abbrev pub number_of : Text → ℕ
+number_of text = digits_value 10 (without_leading_plus text)
+
+-- the words have the option: what was found for it is no default
+abbrev pub IsGiven : Text → List Row → Type 0
+IsGiven option rows = option_and_then (λ r. r.source) (find (λ r. bytes_eq r.id option) rows) ≡ Some CommandLine
+
+-- the options, by what was found for each: the number that its text spells, or for the flag, whether the words have it
+pub record AreOptions (rows : List Row) (options : Options) : Type 0 where
+  pub workers : option_map number_of (one_of (codes "workers") rows) ≡ Some options.workers
+  pub turns : option_map number_of (one_of (codes "turns") rows) ≡ Some options.turns
+  pub storm : option_map number_of (one_of (codes "storm") rows) ≡ options.storm
+  pub trace : IsGiven (codes "trace") rows ↔ (options.trace ≡ true)
+
+-- a number from 1 to `most`
+abbrev pub IsUpTo : ℕ → ℕ → Type 0
+IsUpTo most n = (1 ≤ n) × (n ≤ most)
+
+-- each number is in the range of its option
+pub record AreInRange (options : Options) : Type 0 where
+  pub workers : IsUpTo MOST_WORKERS options.workers
+  pub turns : IsUpTo MOST_TURNS options.turns
+  pub storm : IfSome options.storm (IsUpTo LONGEST_STORM)
