@@ -4,8 +4,6 @@
 #[cfg(test)]
 mod faults;
 #[cfg(test)]
-mod plain;
-#[cfg(test)]
 mod rows;
 #[cfg(test)]
 mod runs;

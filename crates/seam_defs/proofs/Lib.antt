@@ -1,6 +1,5 @@
-pub mod WellFormed
 pub mod Zipped
-pub mod Names
+pub mod NameSearch
 pub mod Numbers
 pub mod Saturation
 pub mod Places
@@ -9,3 +8,7 @@ pub mod Replacing
 pub mod Fitting
 pub mod Keeping
 pub mod GroupsOfGroups
+pub mod TestLemmas
+pub mod Starts
+pub mod DefsTest
+pub mod WellFormed

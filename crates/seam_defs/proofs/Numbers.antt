@@ -1,4 +1,4 @@
--- What a number of well-formed definitions stands for.
+-- What a number of well-formed definitions means.
 use Rattle.std.proofs.Common.{◌≡◌, ℕ, refl, List, length, true, get_or, lit≤, inl, inr}
 use Rattle.std.proofs.lemmas.Bool.{cases_lt}
 use Rattle.std.proofs.lemmas.List.{get_or_past}
@@ -17,7 +17,7 @@ use Rattle.seam_defs.specs.Types.{no_type, type_of, names_of_methods, are_rising
 no_type-is : IsType no_type
 no_type-is = record { properties = lit≤ tt; property_names = refl; defaults = All-nil _; methods = lit≤ tt; method_names = refl; bodies = All-nil _ }
 
--- every number stands for a well-formed type
+-- every number means a well-formed type
 pub type_of-is : (defs : List TypeDef) → AreDefs defs → (ty : ℕ) → IsType (type_of defs ty)
 type_of-is defs are ty = elim (cases_lt ty (length defs)) [ inl within ↦ are.types ty no_type within | inr past ↦ rw (get_or_past defs ty no_type past) no_type-is ]
 

@@ -1,4 +1,4 @@
--- Where a property's value stands among those of its group, and what taking a group shows of the values.
+-- The place of a property's value among those of its group, and what a projection shows of the values.
 use Rattle.std.proofs.Common.{◌≡◌, ℕ, zero, suc, refl, sym, ap, ◌∙◌, List, [], ◌∷◌, length, true, false, inl, inr, arith}
 use Rattle.std.specs.List.{zip}
 use Rattle.std.proofs.lemmas.Bool.{cases_Bool}
@@ -6,7 +6,7 @@ use Rattle.seam_value.specs.declared.values.Value.{Value}
 use Rattle.seam_defs.specs.declared.flags.Group.{Group}
 use Rattle.seam_defs.specs.declared.types.Property.{Property}
 use Rattle.seam_defs.specs.Groups.{in_group, IsWithin}
-use Rattle.seam_defs.specs.Deeds.{properties_of, taken, place_of, value_at}
+use Rattle.seam_defs.specs.Deeds.{properties_of, projected, place_of, value_at}
 use Rattle.seam_defs.specs.Running.{is_in}
 
 module _ (p : Property) (ps : List Property) (g : Group) (k : ℕ) where
@@ -32,17 +32,17 @@ zip-nil [] = refl
 zip-nil (x ∷ xs) = refl
 
 module _ (p : Property) (ps : List Property) (held g : Group) where
-  pub taken-out : (vs : List Value) → in_group p.flag held ≡ false → taken (p ∷ ps) held g vs ≡ taken ps held g vs
-  taken-out vs h = rw h refl
+  pub projected-out : (vs : List Value) → in_group p.flag held ≡ false → projected (p ∷ ps) held g vs ≡ projected ps held g vs
+  projected-out vs h = rw h refl
 
-  pub taken-shown : (v : Value) (vs : List Value) → in_group p.flag held ≡ true → in_group p.flag g ≡ true → taken (p ∷ ps) held g (v ∷ vs) ≡ v ∷ taken ps held g vs
-  taken-shown v vs h s = rw (h, s) refl
+  pub projected-shown : (v : Value) (vs : List Value) → in_group p.flag held ≡ true → in_group p.flag g ≡ true → projected (p ∷ ps) held g (v ∷ vs) ≡ v ∷ projected ps held g vs
+  projected-shown v vs h s = rw (h, s) refl
 
-  pub taken-hidden : (v : Value) (vs : List Value) → in_group p.flag held ≡ true → in_group p.flag g ≡ false → taken (p ∷ ps) held g (v ∷ vs) ≡ taken ps held g vs
-  taken-hidden v vs h s = rw (h, s) refl
+  pub projected-hidden : (v : Value) (vs : List Value) → in_group p.flag held ≡ true → in_group p.flag g ≡ false → projected (p ∷ ps) held g (v ∷ vs) ≡ projected ps held g vs
+  projected-hidden v vs h s = rw (h, s) refl
 
-pub taken-nil : (ps : List Property) (held g : Group) → taken ps held g [] ≡ []
-taken-nil ps held g = rw (zip-nil {B = Value} (properties_of ps held)) refl
+pub projected-nil : (ps : List Property) (held g : Group) → projected ps held g [] ≡ []
+projected-nil ps held g = rw (zip-nil {B = Value} (properties_of ps held)) refl
 
 -- two lists of values have the same value for each property that is shown
 abbrev pub Agree : List Property → Group → Group → List Value → List Value → Type 0
@@ -69,7 +69,7 @@ module _ (held shown : Group) (sub : IsWithin shown held) where
   agree-same : (ps : List Property) (vs : List Value) → Agree ps held shown vs vs
   agree-same ps vs k at = refl
 
-  pub agree-from : (ps : List Property) (vs ws : List Value) → length vs ≡ length ws → taken ps held shown vs ≡ taken ps held shown ws → Agree ps held shown vs ws
+  pub agree-from : (ps : List Property) (vs ws : List Value) → length vs ≡ length ws → projected ps held shown vs ≡ projected ps held shown ws → Agree ps held shown vs ws
   agree-from [] vs ws long same = λ k at. absurd cc
   agree-from (p ∷ ps) [] [] long same = agree-same (p ∷ ps) []
   agree-from (p ∷ ps) [] (w ∷ ws) long same = absurd (omega arith)
@@ -78,14 +78,14 @@ module _ (held shown : Group) (sub : IsWithin shown held) where
       elim (cases_Bool (in_group p.flag held)) [
         | inl inside ↦ elim (cases_Bool (in_group p.flag shown)) [
           | inl seen ↦
-              let both : v ∷ taken ps held shown vs ≡ w ∷ taken ps held shown ws = sym (taken-shown p ps held shown v vs inside seen) ∙ same ∙ taken-shown p ps held shown w ws inside seen in
+              let both : v ∷ projected ps held shown vs ≡ w ∷ projected ps held shown ws = sym (projected-shown p ps held shown v vs inside seen) ∙ same ∙ projected-shown p ps held shown w ws inside seen in
               agree-in p ps v w vs ws inside (λ _. cc) (agree-from ps vs ws (omega arith) cc)
-          | inr unseen ↦ agree-in p ps v w vs ws inside (λ seen. absurd cc) (agree-from ps vs ws (omega arith) (sym (taken-hidden p ps held shown v vs inside unseen) ∙ same ∙ taken-hidden p ps held shown w ws inside unseen))
+          | inr unseen ↦ agree-in p ps v w vs ws inside (λ seen. absurd cc) (agree-from ps vs ws (omega arith) (sym (projected-hidden p ps held shown v vs inside unseen) ∙ same ∙ projected-hidden p ps held shown w ws inside unseen))
         ]
-        | inr out ↦ agree-out p ps (v ∷ vs) (w ∷ ws) out (agree-from ps (v ∷ vs) (w ∷ ws) long (sym (taken-out p ps held shown (v ∷ vs) out) ∙ same ∙ taken-out p ps held shown (w ∷ ws) out))
+        | inr out ↦ agree-out p ps (v ∷ vs) (w ∷ ws) out (agree-from ps (v ∷ vs) (w ∷ ws) long (sym (projected-out p ps held shown (v ∷ vs) out) ∙ same ∙ projected-out p ps held shown (w ∷ ws) out))
       ]
 
-  pub agree-to : (ps : List Property) (vs ws : List Value) → length vs ≡ length ws → Agree ps held shown vs ws → taken ps held shown vs ≡ taken ps held shown ws
+  pub agree-to : (ps : List Property) (vs ws : List Value) → length vs ≡ length ws → Agree ps held shown vs ws → projected ps held shown vs ≡ projected ps held shown ws
   agree-to [] vs ws long agree = refl
   agree-to (p ∷ ps) [] [] long agree = refl
   agree-to (p ∷ ps) [] (w ∷ ws) long agree = absurd (omega arith)
@@ -93,12 +93,12 @@ module _ (held shown : Group) (sub : IsWithin shown held) where
   agree-to (p ∷ ps) (v ∷ vs) (w ∷ ws) long agree =
       elim (cases_Bool (in_group p.flag held)) [
         | inl inside ↦
-            let rest : taken ps held shown vs ≡ taken ps held shown ws = agree-to ps vs ws (omega arith) (agree-in-back p ps v w vs ws inside agree) in
+            let rest : projected ps held shown vs ≡ projected ps held shown ws = agree-to ps vs ws (omega arith) (agree-in-back p ps v w vs ws inside agree) in
             elim (cases_Bool (in_group p.flag shown)) [
               | inl seen ↦
                   let first : v ≡ w = agree zero seen in
-                  taken-shown p ps held shown v vs inside seen ∙ cc (first, rest) ∙ sym (taken-shown p ps held shown w ws inside seen)
-              | inr unseen ↦ taken-hidden p ps held shown v vs inside unseen ∙ rest ∙ sym (taken-hidden p ps held shown w ws inside unseen)
+                  projected-shown p ps held shown v vs inside seen ∙ cc (first, rest) ∙ sym (projected-shown p ps held shown w ws inside seen)
+              | inr unseen ↦ projected-hidden p ps held shown v vs inside unseen ∙ rest ∙ sym (projected-hidden p ps held shown w ws inside unseen)
             ]
-        | inr out ↦ taken-out p ps held shown (v ∷ vs) out ∙ agree-to ps (v ∷ vs) (w ∷ ws) long (agree-out-back p ps (v ∷ vs) (w ∷ ws) out agree) ∙ sym (taken-out p ps held shown (w ∷ ws) out)
+        | inr out ↦ projected-out p ps held shown (v ∷ vs) out ∙ agree-to ps (v ∷ vs) (w ∷ ws) long (agree-out-back p ps (v ∷ vs) (w ∷ ws) out agree) ∙ sym (projected-out p ps held shown (w ∷ ws) out)
       ]

@@ -12,7 +12,7 @@ use Rattle.seam_defs.specs.declared.types.Property.{Property}
 use Rattle.seam_defs.specs.declared.types.Operation.{Operation}
 use Rattle.seam_defs.specs.Deeds.{place_of, type_at, value_at, number_of, operated, target, operand, operand_value, after_with, after_operation, after_body}
 use Rattle.seam_defs.specs.Running.{is_in, is_free, OthersStay}
-use Rattle.seam_defs.proofs.Names.{and-left, and-right}
+use Rattle.seam_defs.proofs.NameSearch.{and-left, and-right}
 use Rattle.seam_defs.proofs.Places.{one-place}
 
 module _ (ps : List Property) (g : Group) (body : List Operation) (i : ℕ) (within : i < length body) (op : Operation) (op_is : op ≡ get_or body i op) where

@@ -13,9 +13,9 @@ use Rattle.seam_defs.specs.declared.flags.Part.TheVariants as part
 use Rattle.seam_defs.specs.declared.types.Property.{Property}
 use Rattle.seam_defs.specs.declared.types.Operation.{Operation}
 use Rattle.seam_defs.specs.Groups.{in_group, held_by, IsWithin, shown_by}
-use Rattle.seam_defs.specs.Deeds.{taken, place_of, value_at, target}
+use Rattle.seam_defs.specs.Deeds.{projected, place_of, value_at, target}
 use Rattle.seam_defs.specs.Running.{is_in, is_free, WereReplaced, OthersStay, SameOn, SameBelow, IsFirstShown}
-use Rattle.seam_defs.proofs.Names.{item}
+use Rattle.seam_defs.proofs.NameSearch.{item}
 use Rattle.seam_defs.proofs.Places.{Agree, agree-from, agree-to}
 
 -- what others may see of a part is held by it
@@ -107,7 +107,7 @@ module _ (ps : List Property) (part : Part) (body : List Operation) (old new : L
       ]
 
   -- the body has left what others may see exactly where it has left it on the properties that it is on
-  pub same-shown : SameOn ps (held_by part) (shown_by part) body old new ↔ (taken ps (held_by part) (shown_by part) old ≡ taken ps (held_by part) (shown_by part) new)
+  pub same-shown : SameOn ps (held_by part) (shown_by part) body old new ↔ (projected ps (held_by part) (shown_by part) old ≡ projected ps (held_by part) (shown_by part) new)
   same-shown = (
     (λ same. agree-to (held_by part) (shown_by part) (shown-within part) ps old new (sym long) (agree same)),
     (λ same j d within at. agree-from (held_by part) (shown_by part) (shown-within part) ps old new (sym long) same _ at),

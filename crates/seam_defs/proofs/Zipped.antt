@@ -8,7 +8,7 @@ use Rattle.seam_defs.specs.Groups.{in_group}
 use Rattle.seam_defs.specs.declared.flags.Group.{Group}
 use Rattle.seam_defs.specs.declared.types.Property.{Property}
 use Rattle.seam_value.specs.declared.values.Value.{Value}
-use Rattle.seam_defs.specs.Deeds.{properties_of, property_text, values_text, taken}
+use Rattle.seam_defs.specs.Deeds.{properties_of, property_text, values_text, projected}
 
 pub zip-append : {A B : Type 0} (xs ys : List A) (vs : List B) → zip (xs ++ ys) vs ≡ zip xs vs ++ zip ys (drop (length xs) vs)
 zip-append [] ys vs = refl
@@ -32,28 +32,28 @@ module _ (ps : List Property) (g : Group) (i : ℕ) (p : Property) (within : i <
   pub text-same : (vs : List Value) → in_group p.flag g ≡ false → values_text (take (i + 1) ps) g vs ≡ values_text (take i ps) g vs
   text-same vs other = ap (λ qs. flat_map property_text (zip qs vs)) (properties-same other)
 
-one-taken : (p : Property) (g : Group) (ws : List Value) → in_group p.flag g ≡ true → map (λ e. e.1) (filter (λ e. in_group e.0.flag g) (zip (p ∷ []) ws)) ≡ take 1 ws
-one-taken p g [] seen = refl
-one-taken p g (w ∷ ws) seen = rw seen refl
+one-projected : (p : Property) (g : Group) (ws : List Value) → in_group p.flag g ≡ true → map (λ e. e.1) (filter (λ e. in_group e.0.flag g) (zip (p ∷ []) ws)) ≡ take 1 ws
+one-projected p g [] seen = refl
+one-projected p g (w ∷ ws) seen = rw seen refl
 
-none-taken : (p : Property) (g : Group) (ws : List Value) → in_group p.flag g ≡ false → map (λ e. e.1) (filter (λ e. in_group e.0.flag g) (zip (p ∷ []) ws)) ≡ []
-none-taken p g [] unseen = refl
-none-taken p g (w ∷ ws) unseen = rw unseen refl
+none-projected : (p : Property) (g : Group) (ws : List Value) → in_group p.flag g ≡ false → map (λ e. e.1) (filter (λ e. in_group e.0.flag g) (zip (p ∷ []) ws)) ≡ []
+none-projected p g [] unseen = refl
+none-projected p g (w ∷ ws) unseen = rw unseen refl
 
 module _ (ps : List Property) (held g : Group) (i : ℕ) (p : Property) (within : i < length ps) (here : p ≡ get_or ps i p) (vs : List Value) where
-  pub taken-other : in_group p.flag held ≡ false → taken (take (i + 1) ps) held g vs ≡ taken (take i ps) held g vs
-  taken-other other = ap (λ qs. map (λ e. e.1) (filter (λ e. in_group e.0.flag g) (zip qs vs))) (properties-same ps held i p within here other)
+  pub projected-other : in_group p.flag held ≡ false → projected (take (i + 1) ps) held g vs ≡ projected (take i ps) held g vs
+  projected-other other = ap (λ qs. map (λ e. e.1) (filter (λ e. in_group e.0.flag g) (zip qs vs))) (properties-same ps held i p within here other)
 
-  taken-split : in_group p.flag held ≡ true →
-      taken (take (i + 1) ps) held g vs ≡ taken (take i ps) held g vs ++ map (λ e. e.1) (filter (λ e. in_group e.0.flag g) (zip (p ∷ []) (drop (length (properties_of (take i ps) held)) vs)))
-  taken-split inside =
+  projected-split : in_group p.flag held ≡ true →
+      projected (take (i + 1) ps) held g vs ≡ projected (take i ps) held g vs ++ map (λ e. e.1) (filter (λ e. in_group e.0.flag g) (zip (p ∷ []) (drop (length (properties_of (take i ps) held)) vs)))
+  projected-split inside =
       let rest = drop (length (properties_of (take i ps) held)) vs in
       let before = zip (properties_of (take i ps) held) vs in
       rw (properties-more ps held i p within here inside, zip-append (properties_of (take i ps) held) (p ∷ []) vs, filter-append (λ e. in_group e.0.flag g) before (zip (p ∷ []) rest))
       (map-append (λ e. e.1) (filter (λ e. in_group e.0.flag g) before) (filter (λ e. in_group e.0.flag g) (zip (p ∷ []) rest)))
 
-  pub taken-more : in_group p.flag held ≡ true → in_group p.flag g ≡ true → taken (take (i + 1) ps) held g vs ≡ taken (take i ps) held g vs ++ take 1 (drop (length (properties_of (take i ps) held)) vs)
-  taken-more inside seen = taken-split inside ∙ ap (λ l. taken (take i ps) held g vs ++ l) (one-taken p g (drop (length (properties_of (take i ps) held)) vs) seen)
+  pub projected-more : in_group p.flag held ≡ true → in_group p.flag g ≡ true → projected (take (i + 1) ps) held g vs ≡ projected (take i ps) held g vs ++ take 1 (drop (length (properties_of (take i ps) held)) vs)
+  projected-more inside seen = projected-split inside ∙ ap (λ l. projected (take i ps) held g vs ++ l) (one-projected p g (drop (length (properties_of (take i ps) held)) vs) seen)
 
-  pub taken-unseen : in_group p.flag held ≡ true → in_group p.flag g ≡ false → taken (take (i + 1) ps) held g vs ≡ taken (take i ps) held g vs
-  taken-unseen inside unseen = taken-split inside ∙ ap (λ l. taken (take i ps) held g vs ++ l) (none-taken p g (drop (length (properties_of (take i ps) held)) vs) unseen) ∙ append-nil (taken (take i ps) held g vs)
+  pub projected-unseen : in_group p.flag held ≡ true → in_group p.flag g ≡ false → projected (take (i + 1) ps) held g vs ≡ projected (take i ps) held g vs
+  projected-unseen inside unseen = projected-split inside ∙ ap (λ l. projected (take i ps) held g vs ++ l) (none-projected p g (drop (length (properties_of (take i ps) held)) vs) unseen) ∙ append-nil (projected (take i ps) held g vs)

@@ -1,4 +1,4 @@
--- The types that stand where a header defines none: an avatar and a chest.
+-- The types of a world whose header defines none: an avatar and a chest.
 use Rattle.std.specs.Prelude.{ℕ, pos, Bool, true, false, List, [], ◌∷◌, codes}
 use Rattle.seam_value.specs.declared.types.ValueType.{ValueType}
 use Rattle.seam_value.specs.declared.types.ValueType.TheVariants as type

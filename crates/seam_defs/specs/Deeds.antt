@@ -1,5 +1,5 @@
 -- Groups of values, and what a deed does to a state.
-use Rattle.std.specs.Prelude.{◌≡◌, ℕ, ℤ, pos, ◌-◌, ◌+ℤ◌, ◌-ℤ◌, List, ◌∷◌, ◌++◌, length, map, filter, fold, slice_index_or, slice_set, take}
+use Rattle.std.specs.Prelude.{◌≡◌, ⊤, ℕ, ℤ, pos, ◌-◌, ◌<◌, ◌+ℤ◌, ◌-ℤ◌, List, ◌∷◌, ◌++◌, length, map, filter, fold, slice_index_or, slice_set, take}
 use Rattle.std.specs.List.{AllZip, zip, flat_map}
 use Rattle.std.specs.Int.{int_min, int_max}
 use Rattle.seam_value.specs.Types.{least, greatest}
@@ -22,7 +22,7 @@ use Rattle.seam_defs.specs.Groups.{in_group, held_by}
 use Rattle.seam_defs.specs.declared.flags.Part.{Part}
 use Rattle.seam_defs.specs.declared.flags.Part.TheVariants as part
 use Rattle.seam_value.specs.declared.types.ValueType.TheVariants as type
-use Rattle.seam_defs.specs.Types.{type_of, method_of}
+use Rattle.seam_defs.specs.Types.{method_of}
 
 -- ---- groups
 
@@ -38,9 +38,9 @@ IsOfGroup ps g values = AllZip (λ p v. Fits v p.ty) (properties_of ps g) values
 abbrev pub start_values : List Property → Group → List Value
 start_values ps g = map (λ p. p.default) (properties_of ps g)
 
--- of the values of a group those whose properties stand in another one too
-abbrev pub taken : List Property → Group → Group → List Value → List Value
-taken ps held g values = map (λ e. e.1) (filter (λ e. in_group e.0.flag g) (zip (properties_of ps held) values))
+-- a group's values projected to another group: those whose properties are in it too
+abbrev pub projected : List Property → Group → Group → List Value → List Value
+projected ps held g values = map (λ e. e.1) (filter (λ e. in_group e.0.flag g) (zip (properties_of ps held) values))
 
 -- the text of a property: a space, the name, `=` and the value's spelling
 abbrev pub property_text : Property × Value → List ℕ
@@ -56,10 +56,10 @@ values_text ps g values = flat_map property_text (zip (properties_of ps g) value
 abbrev pub TakesArgs : List ValueType → List Value → Type 0
 TakesArgs types args = AllZip (λ t v. Fits v t) types args
 
--- the deed is one that the type can do: a move, or a method with the arguments that it takes
-abbrev pub FitsDeed : List TypeDef → ℕ → Deed → Type 0
-FitsDeed defs ty (Move p) = Unit {0}
-FitsDeed defs ty (Method m args) = TakesArgs (method_of defs ty m).args args
+-- the deed is one that the type can do: a move, or one of its methods with the arguments that it takes
+abbrev pub FitsDeed : TypeDef → Deed → Type 0
+FitsDeed t (Move p) = ⊤
+FitsDeed t (Method m args) = (m < length t.methods) × TakesArgs (method_of t m).args args
 
 -- the nearest number of a number type
 abbrev pub nearest : ValueType → ℤ → ℤ
@@ -70,7 +70,7 @@ abbrev pub number_of : Value → ℤ
 number_of (Number z) = z
 number_of (Text bytes) = pos 0
 
--- what an operand stands for (a well-typed one has its argument)
+-- the value of an operand (a well-typed one has its argument)
 abbrev pub operand_value : List Value → Operand → Value
 operand_value args (Arg k) = slice_index_or args (k - 1) (Number (pos 0))
 operand_value args (Constant v) = v
@@ -81,7 +81,7 @@ target (Put k a) = k
 target (Add k a) = k
 target (Sub k a) = k
 
--- what an operation takes
+-- the operand of an operation
 abbrev pub operand : Operation → Operand
 operand (Put k a) = a
 operand (Add k a) = a
@@ -105,7 +105,7 @@ type_at ps k = slice_index_or (map (λ p. p.ty) ps) k type.Text
 abbrev pub value_at : List Value → ℕ → Value
 value_at values place = slice_index_or values place (Number (pos 0))
 
--- a group's values after an operation whose operand stands for the value `by`: the value of its property is replaced
+-- a group's values after an operation whose operand has the value `by`: the value of its property is replaced
 abbrev pub after_with : List Property → Group → List Value → Operation → Value → List Value
 after_with ps g values op by =
     let place = place_of ps g (target op) in
@@ -120,33 +120,33 @@ abbrev pub after_body : List Property → Group → List Value → List Operatio
 after_body ps g args body values = fold (λ vs op. after_operation ps g args vs op) values body
 
 -- the state after a deed: a move sets the position alone, a method runs its body on the values of its part
-abbrev pub after : List TypeDef → ℕ → State → Deed → State
-after defs ty s (Move p) = record { pos = p; props = s.props }
-after defs ty s (Method m args) =
-    record { pos = s.pos; props = after_body (type_of defs ty).properties (held_by (method_of defs ty m).part) args (method_of defs ty m).body s.props }
+abbrev pub after : TypeDef → State → Deed → State
+after t s (Move p) = record { pos = p; props = s.props }
+after t s (Method m args) =
+    record { pos = s.pos; props = after_body t.properties (held_by (method_of t m).part) args (method_of t m).body s.props }
 
 -- the part that a deed is done on: a move is for the cell part
-abbrev pub part_of_deed : List TypeDef → ℕ → Deed → Part
-part_of_deed defs ty (Move p) = part.Cell
-part_of_deed defs ty (Method m args) = (method_of defs ty m).part
+abbrev pub part_of_deed : TypeDef → Deed → Part
+part_of_deed t (Move p) = part.Cell
+part_of_deed t (Method m args) = (method_of t m).part
 
 -- ---- what is held where
 
 -- what a ghost holds of a real's state
 abbrev pub ghost_of : List Property → State → State
-ghost_of ps s = record { pos = s.pos; props = taken ps group.Real group.Ghost s.props }
+ghost_of ps s = record { pos = s.pos; props = projected ps group.Real group.Ghost s.props }
 
 -- what the own client is shown of the cell part
 abbrev pub own_of : List Property → State → State
-own_of ps s = record { pos = s.pos; props = taken ps group.Real group.Own s.props }
+own_of ps s = record { pos = s.pos; props = projected ps group.Real group.Own s.props }
 
 -- what other clients are shown of it
 abbrev pub other_of : List Property → State → State
-other_of ps s = record { pos = s.pos; props = taken ps group.Real group.Other s.props }
+other_of ps s = record { pos = s.pos; props = projected ps group.Real group.Other s.props }
 
 -- what the own client is shown of the base part
 abbrev pub client_of : List Property → State → List Value
-client_of ps s = taken ps group.Base group.BaseClient s.props
+client_of ps s = projected ps group.Base group.BaseClient s.props
 
 -- what others may see of a part is as it was: of a cell part what a ghost holds, of a base part what its client is shown
 abbrev pub SameShown : List Property → Part → State → State → Type 0
@@ -154,5 +154,5 @@ SameShown ps part.Cell old new = ghost_of ps old ≡ ghost_of ps new
 SameShown ps part.Base old new = client_of ps old ≡ client_of ps new
 
 -- the text of one group's values, of those of a group that holds them
-abbrev pub text_of_taken : List Property → Group → Group → State → List ℕ
-text_of_taken ps held g s = values_text ps g (taken ps held g s.props)
+abbrev pub text_of_projected : List Property → Group → Group → State → List ℕ
+text_of_projected ps held g s = values_text ps g (projected ps held g s.props)

@@ -7,7 +7,7 @@ use Rattle.seam_defs.specs.declared.flags.Group.TheVariants as group
 use Rattle.seam_defs.specs.declared.flags.Part.{Part}
 use Rattle.seam_defs.specs.declared.flags.Part.TheVariants as part
 
--- the flag table: the groups that properties of a flag stand in
+-- the flag table: the groups that properties of a flag are in
 abbrev pub in_group : Flag → Group → Bool
 in_group flag.Base group.Base = true
 in_group flag.BaseAndClient group.Base = true
@@ -39,6 +39,6 @@ abbrev pub shown_by : Part → Group
 shown_by part.Cell = group.Ghost
 shown_by part.Base = group.BaseClient
 
--- what stands in one group stands in another one too
+-- what is in one group is in another one too
 abbrev pub IsWithin : Group → Group → Type 0
 IsWithin inner outer = (f : Flag) → in_group f inner ≡ true → in_group f outer ≡ true

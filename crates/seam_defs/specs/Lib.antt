@@ -5,3 +5,4 @@ pub mod Deeds
 pub mod Builtin
 pub mod Rows
 pub mod Running
+pub mod Tests

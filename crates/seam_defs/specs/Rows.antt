@@ -1,4 +1,4 @@
--- What a row of the table of the built-in types stands for: not part of the public contracts.
+-- What a row of the table of the built-in types means: not part of the public contracts.
 use Rattle.std.specs.Prelude.{ℕ, ℤ, Bool, ◌&&◌, nat_le, List, [], length, map, Option, Some, None}
 use Rattle.std.specs.List.{list_all}
 use Rattle.seam_value.specs.declared.values.Value.{Value}

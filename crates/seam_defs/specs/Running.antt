@@ -14,7 +14,7 @@ abbrev pub is_held : Option Property → Group → Bool
 is_held (Some p) g = in_group p.flag g
 is_held None g = false
 
--- whether there is a property of the number, and it stands in the group
+-- whether there is a property of the number, and it is in the group
 abbrev pub is_in : List Property → Group → ℕ → Bool
 is_in ps g k = is_held (slice_get ps k) g
 
@@ -26,7 +26,7 @@ is_free k body = list_all (λ op. not (target op == k)) body
 abbrev pub OnGroup : List Property → Group → List Operation → Type 0
 OnGroup ps g body = (j : ℕ) (d : Operation) → j < length body → is_in ps g (target (slice_index_or body j d)) ≡ true
 
--- beside the first operation on a property stands the value that the property had before the body
+-- beside the first operation on a property is the value that the property had before the body
 abbrev pub WereReplaced : List Property → Group → List Operation → List Value → List Value → Type 0
 WereReplaced ps g body old replaced =
     (j : ℕ) (d : Operation) (v : Value) → j < length body → is_free (target (slice_index_or body j d)) (take j body) ≡ true →

@@ -1,5 +1,5 @@
 -- Types of entities: how they are numbered, and which are well formed.
-use Rattle.std.specs.Prelude.{◌≡◌, ◌≢◌, ℕ, ◌-◌, ◌<◌, ◌≤◌, Bool, true, false, IsTrue, ◌&&◌, ◌||◌, nat_le, ◌==◌, List, [], ◌∷◌, length, map, All, Some, slice_get, slice_index_or, codes}
+use Rattle.std.specs.Prelude.{◌≡◌, ◌≢◌, ℕ, ◌-◌, ◌<◌, ◌≤◌, Bool, true, false, IsTrue, ◌&&◌, ◌||◌, nat_le, nat_lt, ◌==◌, List, [], ◌∷◌, length, map, All, Some, slice_get, slice_index_or, codes}
 use Rattle.std.specs.List.{list_all}
 use Rattle.std.specs.Ordering.{nat_cmp, is_lt}
 use Rattle.std.specs.Cmp.Lexicographic.{slice_cmp}
@@ -15,6 +15,7 @@ use Rattle.seam_defs.specs.declared.types.Operation.TheVariants.{Put, Add, Sub}
 use Rattle.seam_defs.specs.declared.types.Method.{Method}
 use Rattle.seam_defs.specs.declared.types.TypeDef.{TypeDef}
 use Rattle.seam_defs.specs.Groups.{in_group, held_by}
+use Rattle.seam_defs.specs.declared.limits.TheConstants.{MOST_TYPES, MOST_PROPERTIES, MOST_METHODS, MOST_ARGUMENTS, MOST_OPERATIONS, LONGEST_NAME}
 
 -- ---- numbers: a type, a method and a property is numbered by its place
 
@@ -28,23 +29,26 @@ no_method = record { name = []; part = part.Cell; exposed = false; args = []; bo
 abbrev pub type_of : List TypeDef → ℕ → TypeDef
 type_of defs ty = slice_index_or defs ty no_type
 
-abbrev pub method_of : List TypeDef → ℕ → ℕ → Method
-method_of defs ty m = slice_index_or (type_of defs ty).methods m no_method
+abbrev pub method_of : TypeDef → ℕ → Method
+method_of t m = slice_index_or t.methods m no_method
 
 -- ---- which definitions are well formed
 
-abbrev is_letter : ℕ → Bool
+abbrev pub is_letter : ℕ → Bool
 is_letter c = (nat_le 65 c && nat_le c 90) || (nat_le 97 c && nat_le c 122)
 
-abbrev is_name_byte : ℕ → Bool
+abbrev pub is_name_byte : ℕ → Bool
 is_name_byte c = is_letter c || (nat_le 48 c && nat_le c 57) || (c == 95)
+
+abbrev pub is_after_letter : List ℕ → Bool
+is_after_letter cs = list_all is_name_byte cs && nat_lt (length cs) LONGEST_NAME
 
 -- a name is a letter, and then at most 31 letters, digits or `_`
 abbrev pub is_name : List ℕ → Bool
 is_name [] = false
-is_name (c ∷ cs) = is_letter c && list_all is_name_byte cs && nat_le (length cs) 31
+is_name (c ∷ cs) = is_letter c && is_after_letter cs
 
--- the names are names, and stand in strictly rising byte order
+-- the names are names, in strictly rising byte order
 abbrev pub is_before : List ℕ → List ℕ → Bool
 is_before a b = is_lt (slice_cmp nat_cmp a b)
 
@@ -84,21 +88,26 @@ names_of_types ts = map (λ t. t.name) ts
 -- typed
 pub record IsMethod (ps : List Property) (m : Method) : Type 0 where
   pub not_move : m.name ≢ codes "move"
-  pub args : length m.args ≤ 8
-  pub operations : length m.body ≤ 32
+  pub args : length m.args ≤ MOST_ARGUMENTS
+  pub operations : length m.body ≤ MOST_OPERATIONS
   pub body : All (IsOperation ps m) m.body
 
 -- a type has at most 32 properties, whose defaults fit, and at most 32 methods
 pub record IsType (t : TypeDef) : Type 0 where
-  pub properties : length t.properties ≤ 32
+  pub properties : length t.properties ≤ MOST_PROPERTIES
   pub property_names : IsTrue (are_rising (names_of_properties t.properties))
   pub defaults : All (λ p. Fits p.default p.ty) t.properties
-  pub methods : length t.methods ≤ 32
+  pub methods : length t.methods ≤ MOST_METHODS
   pub method_names : IsTrue (are_rising (names_of_methods t.methods))
   pub bodies : All (IsMethod t.properties) t.methods
 
 -- definitions have at most 64 types
 pub record AreDefs (defs : List TypeDef) : Type 0 where
-  pub count : length defs ≤ 64
+  pub count : length defs ≤ MOST_TYPES
   pub names : IsTrue (are_rising (names_of_types defs))
   pub types : All IsType defs
+
+-- definitions, and beside them the type that other numbers mean
+pub record IsDefs (defs : List TypeDef) (none : TypeDef) : Type 0 where
+  pub are : AreDefs defs
+  pub others : none ≡ no_type

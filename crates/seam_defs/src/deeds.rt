@@ -3,11 +3,12 @@ ghost use Rattle.std.specs.Prelude.{◌≡◌, ◌≢◌, ◌<◌, ◌↔◌, �
 ghost use Rattle.seam_value.specs.declared.values.Value.{Value as AnyValue};
 ghost use Rattle.seam_defs.specs.declared.types.Operation.{Operation as AnyOperation};
 ghost use Rattle.seam_defs.specs.Groups.{held_by, shown_by};
-ghost use Rattle.seam_defs.specs.Types.{type_of, IsMethod};
-ghost use Rattle.seam_defs.specs.Deeds.{nearest as nearest_number, number_of, operand_value, operated, target, operand, place_of, type_at, value_at, after_with, after_body, after, part_of_deed, taken, SameShown, IsOfGroup, TakesArgs, FitsDeed};
+ghost use Rattle.seam_defs.specs.Types.{IsType, IsMethod};
+ghost use Rattle.seam_defs.specs.Tests.{changes};
+ghost use Rattle.seam_defs.specs.Deeds.{nearest as nearest_number, number_of, operand_value, operated, target, operand, place_of, type_at, value_at, after_with, after_body, after, part_of_deed, projected, SameShown, IsOfGroup, TakesArgs, FitsDeed};
 ghost use Rattle.seam_defs.specs.Running.{is_in, is_free, OnGroup, WereReplaced, OthersStay, SameOn, IsFirstShown};
 
-use crate::{Args, Deed, Defs, Group, Method, Operand, Operation, Part, Property, Props, State};
+use crate::{Deed, Group, Method, Operand, Operation, Part, Property, Props, State, TypeDef};
 use seam_value::{Value, ValueType};
 use std::alloc::{AllocError, Global};
 
@@ -55,15 +56,39 @@ impl Operation {
     }
 }
 
-impl Defs {
+impl TypeDef {
     /// Does a deed on a state of the part that it is for, and answers whether what others may see of the part has changed
     /// in value: of a cell part the position and the ghosted properties, of a base part what its client is shown. A state
-    /// whose values are of the part's group keeps that under a deed that fits. After want of memory the state is as it was.
-    pub fn apply(&self, ty: u16, state: &mut State, deed: &Deed) -> Result<bool, AllocError>
-        ensures ok { OnOk result (state.new ≡ after self.now ty state.old deed.now) }
-        ensures changed { IfOk result (λ c. (c ≡ false) ↔ SameShown (type_of self.now ty).properties (part_of_deed self.now ty deed.now) state.old state.new) }
+    /// whose values are of the part's group keeps that under a deed that fits. If allocation fails the state is as it was.
+    pub fn apply(&self, state: &mut State, deed: &Deed) -> Result<bool, AllocError>
+        requires { IsType self.now }
+        ensures ok { OnOk result (state.new ≡ after self.now state.old deed.now) }
+        ensures changed { IfOk result (λ c. (c ≡ false) ↔ SameShown self.now.properties (part_of_deed self.now deed.now) state.old state.new) }
+        ensures test { IfOk result (λ c. c ≡ changes self.now state.old deed.now) }
         ensures err { OnErr result (state.new ≡ state.old) }
-        ensures kept { FitsDeed self.now ty deed.now → let properties = (type_of self.now ty).properties in let group = held_by (part_of_deed self.now ty deed.now) in IsOfGroup properties group state.old.props → IsOfGroup properties group state.new.props }
+        ensures kept { FitsDeed self.now deed.now → let group = held_by (part_of_deed self.now deed.now) in IsOfGroup self.now.properties group state.old.props → IsOfGroup self.now.properties group state.new.props }
+    {
+        self.perform(state, deed)
+    }
+
+    /// The state after a deed, and whether what others may see of the part differs there; the state itself stays as it is.
+    pub fn state_after(&self, state: &State, deed: &Deed) -> Result<(State, bool), AllocError>
+        requires { IsType self.now }
+        ensures after { IfOk result (λ r. r.0 ≡ after self.now state.now deed.now) }
+        ensures changed { IfOk result (λ r. r.1 ≡ changes self.now state.now deed.now) }
+    {
+        let mut later = state.copy()?;
+        let changed = self.apply(&mut later, deed)?;
+        Ok((later, changed))
+    }
+
+    // What `apply` does, without its test.
+    fn perform(&self, state: &mut State, deed: &Deed) -> Result<bool, AllocError>
+        requires { IsType self.now }
+        ensures ok { OnOk result (state.new ≡ after self.now state.old deed.now) }
+        ensures changed { IfOk result (λ c. (c ≡ false) ↔ SameShown self.now.properties (part_of_deed self.now deed.now) state.old state.new) }
+        ensures err { OnErr result (state.new ≡ state.old) }
+        ensures kept { FitsDeed self.now deed.now → let group = held_by (part_of_deed self.now deed.now) in IsOfGroup self.now.properties group state.old.props → IsOfGroup self.now.properties group state.new.props }
     {
         match deed {
             Deed::Move(to) => {
@@ -71,11 +96,10 @@ impl Defs {
                 state.pos = *to;
                 Ok(changed)
             }
-            Deed::Method(number, args) => match self.method(ty, *number) {
+            Deed::Method(number, args) => match self.method(*number) {
                 Some(method) => {
                     run(
-                        self.alloc,
-                        self.properties(ty),
+                        self.properties.as_slice(),
                         method,
                         args.values(),
                         &mut state.props,
@@ -87,9 +111,8 @@ impl Defs {
     }
 }
 
-// Runs a method's body. What it needs of memory it takes first, so that it cannot fail half-way.
+// Runs a method's body. What it needs of memory it allocates first, so that it cannot fail half-way.
 fn run(
-    alloc: Global,
     properties: &[Property],
     method: &Method,
     args: &[Value],
@@ -98,11 +121,11 @@ fn run(
     requires { IsMethod properties.now method.now }
     ensures kept { TakesArgs method.now.args args.now → IsOfGroup properties.now (held_by method.now.part) props.old → IsOfGroup properties.now (held_by method.now.part) props.new }
     ensures ok { OnOk result (props.new ≡ after_body properties.now (held_by method.now.part) args.now method.now.body props.old) }
-    ensures changed { IfOk result (λ c. (c ≡ false) ↔ (taken properties.now (held_by method.now.part) (shown_by method.now.part) props.old ≡ taken properties.now (held_by method.now.part) (shown_by method.now.part) props.new)) }
+    ensures changed { IfOk result (λ c. (c ≡ false) ↔ (projected properties.now (held_by method.now.part) (shown_by method.now.part) props.old ≡ projected properties.now (held_by method.now.part) (shown_by method.now.part) props.new)) }
     ensures err { OnErr result (props.new ≡ props.old) }
 {
     let body = method.body.as_slice();
-    let mut values = operand_values(alloc, args, body)?;
+    let mut values = operand_values(*method.body.allocator(), args, body)?;
     Ok(execute(properties, method.part, body, props, &mut values))
 }
 
@@ -117,7 +140,7 @@ fn execute(
     requires long { length values.old ≡ length body.now }
     requires group { OnGroup properties.now (held_by part) body.now }
     ensures after { (args : List AnyValue) → values.old ≡ map (λ op. operand_value args (operand op)) body.now → props.new ≡ after_body properties.now (held_by part) args body.now props.old }
-    ensures changed { (result ≡ false) ↔ (taken properties.now (held_by part) (shown_by part) props.old ≡ taken properties.now (held_by part) (shown_by part) props.new) }
+    ensures changed { (result ≡ false) ↔ (projected properties.now (held_by part) (shown_by part) props.old ≡ projected properties.now (held_by part) (shown_by part) props.new) }
 {
     replace_values(properties, part.held(), body, props, values);
     any_changed(properties, part, body, props, values)
@@ -208,7 +231,7 @@ fn is_free(property: u16, body: &[Operation]) -> bool
     body.iter().all(|operation| operation.target() != property)
 }
 
-// Whether a property stands in the group.
+// Whether a property is in the group.
 fn is_in(properties: &[Property], group: Group, property: u16) -> bool
     ensures { result ≡ is_in properties.now group property }
 {

@@ -10,7 +10,7 @@ pub enum Part {
 }
 
 /// A property's distribution flag: which part holds it, and who is told of it (BigWorld Server Programming Guide,
-/// "Properties"). Which groups a flag stands in is this project's own table.
+/// "Properties"). Which groups a flag is in is this project's own table.
 #[derive(Clone, Copy, Debug, PartialEq, Eq)]
 pub enum Flag {
     Base,
@@ -36,7 +36,7 @@ pub enum Group {
 }
 
 impl Flag {
-    /// Whether properties of this flag stand in the group.
+    /// Whether properties of this flag are in the group.
     pub fn in_group(self, group: Group) -> bool
         ensures { result ≡ in_group_of self group }
     {

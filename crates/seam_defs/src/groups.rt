@@ -1,62 +1,50 @@
 // Groups of values: their start, a group of a group, and their text.
-ghost use Rattle.std.specs.Prelude.{◌≡◌, ◌<◌, ◌↔◌, ◌++◌, IsTrue, OnOk, OnErr, IfOk, List, [], ◌∷◌, length, take, drop};
+ghost use Rattle.std.specs.Prelude.{◌≡◌, ◌↔◌, ◌++◌, IsTrue, OnOk, OnErr, IfOk, List, [], ◌∷◌, length, take, drop};
 ghost use Rattle.std.specs.List.{flat_map, zip};
-ghost use Rattle.seam_defs.specs.Types.{type_of};
+ghost use Rattle.seam_defs.specs.Types.{IsType};
+ghost use Rattle.seam_defs.specs.Tests.{are_of_group as are_values_of_group};
 ghost use Rattle.seam_defs.specs.Running.{FitsAt};
-ghost use Rattle.seam_defs.specs.Deeds.{properties_of, start_values, taken, property_text, values_text, IsOfGroup};
+ghost use Rattle.seam_defs.specs.Deeds.{properties_of, start_values, projected, property_text, values_text, IsOfGroup};
 
-use crate::{Defs, Group, Property, Props};
+use crate::{Group, Property, Props, TypeDef};
 use seam_value::{Value, ValueType};
 use std::alloc::{AllocError, Global};
 
-impl Defs {
-    // The properties of a type.
-    pub(crate) fn properties(&self, ty: u16) -> &[Property]
-        ensures { result.now ≡ (type_of self.now ty).properties }
-    {
-        match self.types.get(ty as usize) {
-            Some(t) => t.properties.as_slice(),
-            None => &[],
-        }
-    }
-
+impl TypeDef {
     /// The values of a group that a new entity of the type has.
-    pub fn start_props(&self, ty: u16, group: Group) -> Result<Props, AllocError>
-        ensures { IfOk result (λ props. props ≡ start_values (type_of self.now ty).properties group) }
+    pub fn start_props(&self, group: Group) -> Result<Props, AllocError>
+        ensures value { IfOk result (λ props. props ≡ start_values self.now.properties group) }
+        ensures of_group { IsType self.now → IfOk result (λ props. IsOfGroup self.now.properties group props) }
     {
-        let mut values = Vec::new(self.alloc);
-        for property in self.properties(ty) {
-            if property.flag.in_group(group) {
-                values.push(property.default.copy(self.alloc)?)?;
-            }
-        }
+        let mut values = Vec::with_capacity(*self.properties.allocator(), self.count_of(group))?;
+        push_defaults(self.properties.as_slice(), group, &mut values)?;
         Ok(Props::of(values))
     }
 
-    /// Whether there is such a type, and the values are those of its group: one for each of the group's properties, in
-    /// name order, that fits its type.
-    pub fn is_of_group(&self, ty: u16, group: Group, props: &Props) -> bool
-        ensures { IsTrue result ↔ ((ty < length self.now) × IsOfGroup (type_of self.now ty).properties group props.now) }
+    /// Whether the values are those of the group: one for each of its properties, in name order, that fits its type.
+    pub fn is_of_group(&self, group: Group, props: &Props) -> bool
+        ensures of_group { IsTrue result ↔ IsOfGroup self.now.properties group props.now }
+        ensures test { result ≡ are_values_of_group self.now.properties group props.now }
     {
-        self.has_type(ty) && are_of_group(self.properties(ty), group, props.values())
+        are_of_group(self.properties.as_slice(), group, props.values())
     }
 
-    /// Copies of those values of the group `held` whose properties stand in the group `group` too.
-    pub fn take_group(
+    /// Copies of those values of the group `held` whose properties are in the group `group` too.
+    pub fn project_group(
         &self,
-        ty: u16,
         held: Group,
         props: &Props,
         group: Group,
     ) -> Result<Props, AllocError>
-        ensures { IfOk result (λ taken_props. taken_props ≡ taken (type_of self.now ty).properties held group props.now) }
+        ensures { IfOk result (λ projection. projection ≡ projected self.now.properties held group props.now) }
     {
-        let mut values = Vec::new(self.alloc);
+        let alloc = *self.properties.allocator();
+        let mut values = Vec::with_capacity(alloc, self.count_of(group))?;
         let mut place = 0;
-        for property in self.properties(ty) {
+        for property in self.properties.as_slice() {
             if property.flag.in_group(held) {
                 if property.flag.in_group(group) {
-                    copy_at(self.alloc, props.values(), place, &mut values)?;
+                    copy_at(alloc, props.values(), place, &mut values)?;
                 }
                 place += 1;
             }
@@ -65,19 +53,18 @@ impl Defs {
     }
 
     /// Appends the text of a group's values: for each of its properties, in name order, a space, the name, `=` and the
-    /// value's spelling. After want of memory `out` is as it was.
+    /// value's spelling. If allocation fails `out` is as it was.
     pub fn write_props(
         &self,
-        ty: u16,
         group: Group,
         props: &Props,
         out: &mut Vec<u8>,
     ) -> Result<(), AllocError>
-        ensures ok { OnOk result (out.new.items ≡ out.old.items ++ values_text (type_of self.now ty).properties group props.now) }
+        ensures ok { OnOk result (out.new.items ≡ out.old.items ++ values_text self.now.properties group props.now) }
         ensures err { OnErr result (out.new.items ≡ out.old.items) }
     {
         let mark = out.len();
-        match push_group(self.alloc, self.properties(ty), group, props.values(), out) {
+        match push_group(self.properties.as_slice(), group, props.values(), out) {
             Ok(()) => Ok(()),
             Err(error) => {
                 out.truncate(mark);
@@ -85,11 +72,35 @@ impl Defs {
             }
         }
     }
+
+    // How many properties the group has.
+    fn count_of(&self, group: Group) -> usize {
+        self.properties
+            .as_slice()
+            .iter()
+            .filter(|property| property.flag.in_group(group))
+            .count()
+    }
+}
+
+// Appends the values of the group that a new entity has.
+fn push_defaults(
+    properties: &[Property],
+    group: Group,
+    out: &mut Vec<Value>,
+) -> Result<(), AllocError>
+    ensures { OnOk result (out.new.items ≡ out.old.items ++ start_values properties.now group) }
+{
+    for property in properties {
+        if property.flag.in_group(group) {
+            out.push(property.default.copy(*out.allocator())?)?;
+        }
+    }
+    Ok(())
 }
 
 // Appends the texts of the group's properties.
 fn push_group(
-    alloc: Global,
     properties: &[Property],
     group: Group,
     values: &[Value],
@@ -101,7 +112,7 @@ fn push_group(
     let mut place = 0;
     for property in properties {
         if property.flag.in_group(group) {
-            push_at(alloc, property, values, place, out)?;
+            push_at(property, values, place, out)?;
             place += 1;
         }
     }
@@ -110,7 +121,6 @@ fn push_group(
 
 // Appends the text of a property with the value at a place, where there is one.
 fn push_at(
-    alloc: Global,
     property: &Property,
     values: &[Value],
     place: usize,
@@ -120,24 +130,19 @@ fn push_at(
     ensures kept { take (length out.old.items) out.new.items ≡ out.old.items }
 {
     match values.get(place) {
-        Some(value) => push_property(alloc, property, value, out),
+        Some(value) => push_property(property, value, out),
         None => Ok(()),
     }
 }
 
-fn push_property(
-    alloc: Global,
-    property: &Property,
-    value: &Value,
-    out: &mut Vec<u8>,
-) -> Result<(), AllocError>
+fn push_property(property: &Property, value: &Value, out: &mut Vec<u8>) -> Result<(), AllocError>
     ensures ok { OnOk result (out.new.items ≡ out.old.items ++ property_text (property.now, value.now)) }
     ensures kept { take (length out.old.items) out.new.items ≡ out.old.items }
 {
     out.extend_from_slice(b" ")?;
     out.extend_from_slice(property.name.bytes())?;
     out.extend_from_slice(b"=")?;
-    value.write(alloc, out)
+    value.write(out)
 }
 
 // Whether the values are those of a group.

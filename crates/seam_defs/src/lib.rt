@@ -1,5 +1,8 @@
 //! Definitions of entities: types, properties with their distribution flags, methods whose bodies are lists of simple
 //! operations, and what one deed does to a state.
+//!
+//! Of `proofs/`, `NameSearch` (a name among names in rising order), `Numbers` (the type of a number is well formed) and
+//! `WellFormed` (the built-in types are) are for callers.
 #![tactic(auto)]
 
 mod builtin;
@@ -9,15 +12,23 @@ mod defs;
 mod flags;
 mod groups;
 pub mod laws;
+mod limits;
 mod listed;
+mod methods;
+mod names;
 mod settings;
 mod states;
 mod types;
 
 pub use defs::Defs;
 pub use flags::{Flag, Group, Part};
+pub use limits::{
+    LONGEST_NAME, MOST_ARGUMENTS, MOST_BASE_NODES, MOST_METHODS, MOST_OPERATIONS, MOST_PROPERTIES,
+    MOST_TYPES,
+};
 pub use listed::Listed;
-pub use settings::Settings;
+pub use names::is_name;
+pub use settings::{LARGEST_SIZE, LONGEST_DISTANCE, Settings};
 pub use states::{Args, Deed, Props, State};
 pub use types::{Method, Operand, Operation, Property, TypeDef};
 

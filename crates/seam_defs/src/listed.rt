@@ -1,5 +1,6 @@
 ghost use Rattle.std.specs.Prelude.{◌≡◌};
 
+use std::alloc::Global;
 use std::marker::Model;
 
 /// A vector that contracts see as the list of its items, so that two with equal items are equal.
@@ -29,5 +30,10 @@ impl<T> Listed<T> {
         ensures { result.now ≡ self.now }
     {
         &self.items
+    }
+
+    /// Where the items are allocated.
+    pub fn allocator(&self) -> &Global {
+        self.items.allocator()
     }
 }

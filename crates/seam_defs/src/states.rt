@@ -80,6 +80,14 @@ impl Props {
         Props { values }
     }
 
+    /// Equal values.
+    pub fn copy(&self) -> Result<Props, AllocError>
+        ensures { IfOk result (λ props. props ≡ self.now) }
+    {
+        let values = copy_values(*self.values.allocator(), &self.values)?;
+        Ok(Props { values })
+    }
+
     /// The values.
     pub(crate) fn values(&self) -> &[Value]
         ensures { result.now ≡ self.now }
@@ -146,4 +154,16 @@ pub enum Deed {
 pub struct State {
     pub pos: Pos,
     pub props: Props,
+}
+
+impl State {
+    /// An equal state.
+    pub fn copy(&self) -> Result<State, AllocError>
+        ensures { IfOk result (λ state. state ≡ self.now) }
+    {
+        Ok(State {
+            pos: self.pos,
+            props: self.props.copy()?,
+        })
+    }
 }

@@ -71,27 +71,52 @@ fn has_methods(alloc: Global, methods: &[Method], rows: &[&str]) -> Result<bool,
 fn builtin_types_are_those_of_the_table(rt: HostRuntime) -> Result<(), Fail> {
     let alloc = rt.alloc();
     let defs = Defs::builtin(alloc)?.copy()?;
-    assert_eq!(rt; defs.type_name(AVATAR), b"Avatar".as_slice());
-    assert_eq!(rt; defs.type_name(CHEST), b"Chest".as_slice());
+    assert_eq!(rt; defs.type_at(AVATAR).name.bytes(), b"Avatar".as_slice());
+    assert_eq!(rt; defs.type_at(CHEST).name.bytes(), b"Chest".as_slice());
     assert!(rt; !defs.has_type(2));
-    assert!(rt; has_properties(alloc, defs.properties(AVATAR), &AVATAR_PROPERTIES)?);
-    assert!(rt; has_properties(alloc, defs.properties(CHEST), &CHEST_PROPERTIES)?);
-    assert!(rt; has_methods(alloc, defs.methods(AVATAR), &AVATAR_METHODS)?);
-    assert!(rt; has_methods(alloc, defs.methods(CHEST), &CHEST_METHODS)?);
+    assert!(rt;
+        has_properties(
+            alloc,
+            defs.type_at(AVATAR).properties.as_slice(),
+            &AVATAR_PROPERTIES
+        )?
+    );
+    assert!(rt;
+        has_properties(
+            alloc,
+            defs.type_at(CHEST).properties.as_slice(),
+            &CHEST_PROPERTIES
+        )?
+    );
+    assert!(rt;
+        has_methods(
+            alloc,
+            defs.type_at(AVATAR).methods.as_slice(),
+            &AVATAR_METHODS
+        )?
+    );
+    assert!(rt;
+        has_methods(
+            alloc,
+            defs.type_at(CHEST).methods.as_slice(),
+            &CHEST_METHODS
+        )?
+    );
     Ok(())
 }
 
 #[test]
 fn groups_of_a_new_avatar_are_written(rt: HostRuntime) -> Result<(), Fail> {
     let defs = Defs::builtin(rt.alloc())?;
-    let own = defs.start_props(AVATAR, Group::Own)?;
+    let avatar = defs.type_at(AVATAR);
+    let own = avatar.start_props(Group::Own)?;
     let mut text = Vec::new(rt.alloc());
-    defs.write_props(AVATAR, Group::Own, &own, &mut text)?;
+    avatar.write_props(Group::Own, &own, &mut text)?;
     assert_eq!(rt; text.as_slice(), b" hp=100 mana=50 xp=0".as_slice());
-    let real = defs.start_props(AVATAR, Group::Real)?;
-    let other = defs.take_group(AVATAR, Group::Real, &real, Group::Other)?;
+    let real = avatar.start_props(Group::Real)?;
+    let other = avatar.project_group(Group::Real, &real, Group::Other)?;
     text.clear();
-    defs.write_props(AVATAR, Group::Other, &other, &mut text)?;
+    avatar.write_props(Group::Other, &other, &mut text)?;
     assert_eq!(rt; text.as_slice(), b" hp=100 mood=0".as_slice());
     Ok(())
 }
@@ -109,14 +134,15 @@ fn arguments_are_copied(rt: HostRuntime) -> Result<(), Fail> {
 fn a_heal_stops_at_the_greatest_number(rt: HostRuntime) -> Result<(), Fail> {
     let defs = Defs::builtin(rt.alloc())?;
     let pos = Pos { x: 0, z: 0 };
-    let props = defs.start_props(AVATAR, Group::Real)?;
+    let avatar = defs.type_at(AVATAR);
+    let props = avatar.start_props(Group::Real)?;
     let mut state = State { pos, props };
-    let heal = defs.find_method(AVATAR, b"heal").ok_or("heal")?;
+    let heal = avatar.find_method(b"heal").ok_or("heal")?;
     let args = Args::of(vec![in rt.alloc(); Value::Number(2_147_483_647)]?);
     let deed = Deed::Method(heal, args);
-    assert!(rt; defs.apply(AVATAR, &mut state, &deed)?);
+    assert!(rt; avatar.apply(&mut state, &deed)?);
     assert!(rt; state.props.at(0) == Some(&Value::Number(2_147_483_647)));
-    assert!(rt; !defs.apply(AVATAR, &mut state, &deed)?);
+    assert!(rt; !avatar.apply(&mut state, &deed)?);
     Ok(())
 }
 
@@ -127,7 +153,7 @@ fn sent<T: Send>(value: T) -> T {
 #[test]
 fn definitions_states_and_deeds_may_cross_threads(rt: HostRuntime) -> Result<(), Fail> {
     let defs = sent(Defs::builtin(rt.alloc())?);
-    let props: Props = sent(defs.start_props(CHEST, Group::Real)?);
+    let props: Props = sent(defs.type_at(CHEST).start_props(Group::Real)?);
     let state = sent(State {
         pos: Pos { x: 1, z: 2 },
         props,

@@ -18,7 +18,7 @@ use Rattle.std.specs.declared.ops.Bound.TheVariants.{Unbounded}
 use Rattle.std.specs.FinMap as map
 use Rattle.std.specs.FinSet as set
 use Rattle.seam_ghosts.specs.declared.Ghost.{Ghost}
-use Rattle.seam_ghosts.specs.Book.{BookView, beat_in, copy_in, beat_of, copy_of, with_ghost, after_message, with_copy, copied, copies, is_after}
+use Rattle.seam_ghosts.specs.Book.{BookView, beat_in, copy_in, beat_of, copy_of, with_ghost, after_message, ghost_after, with_copy, copied, copies, is_after}
 use Rattle.seam_ghosts.specs.Slots.{with_known, known, book_of, low_bound, count_of_slot, count_of_copies}
 
 -- an entry's ghost, where there is an entry and it has one
@@ -254,3 +254,10 @@ others_step w e g q true n = map.get-insert nat_cmp_total w.ghosts e g q ∙ ap 
 
 pub others_stay : {P : Type 0} (w : BookView P) (e : ℕ) (g : Ghost P) (q : ℕ) → q ≢ e → map.get (after_message w e g).ghosts q ≡ map.get w.ghosts q
 others_stay w e g q n = others_step w e g q (nat_lt (beat_of w e) g.beat) n
+
+entry_step : {P : Type 0} (w : BookView P) (e : ℕ) (g : Ghost P) (b : Bool) → map.get (cond b (with_ghost w e g) w).ghosts e ≡ cond b (Some g) (map.get w.ghosts e)
+entry_step w e g false = refl
+entry_step w e g true = ghost-here w e g
+
+pub entry_after : {P : Type 0} (w : BookView P) (e : ℕ) (g : Ghost P) → map.get (after_message w e g).ghosts e ≡ ghost_after (map.get w.ghosts e) g
+entry_after w e g = entry_step w e g (nat_lt (beat_of w e) g.beat)

@@ -64,3 +64,7 @@ with_ghost w e g = record { ghosts = map.insert w.ghosts e g; room = set.insert 
 -- after a message with a ghost of the entity: it is known from now on where its beat is greater, and else nothing changed
 abbrev pub after_message : {P : Type 0} → BookView P → ℕ → Ghost P → BookView P
 after_message w e g = if nat_lt (beat_of w e) g.beat then with_ghost w e g else w
+
+-- what is known of an entity after a message with a ghost of it: the ghost of the greater beat, and of equal ones the former
+abbrev pub ghost_after : {P : Type 0} → Option (Ghost P) → Ghost P → Option (Ghost P)
+ghost_after known g = if nat_lt (beat_in known) g.beat then Some g else known

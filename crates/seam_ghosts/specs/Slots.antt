@@ -1,4 +1,4 @@
--- How the entries of an ordered map stand for a book. An entry without a ghost is room for one.
+-- How the entries of an ordered map refine a book. An entry without a ghost is room for one.
 use Rattle.std.specs.Prelude.{ℕ, List, [], ◌∷◌, length, Option, None, Some, is_some, if◌then◌else◌}
 use Rattle.std.specs.Map.{keys_of}
 use Rattle.std.specs.FinMap as map

@@ -12,7 +12,7 @@ ghost use Rattle.seam_ghosts.specs.declared.Ghost.{Ghost};
 ghost use Rattle.seam_ghosts.specs.Slots.{low_bound, book_of, count_of_slot, count_of_copies};
 ghost use Rattle.std.specs.Ordering.{nat_cmp};
 ghost use Rattle.std.specs.BTreeMap.{IsOrdered};
-ghost use Rattle.seam_ghosts.specs.Book.{BookView, beat_of, copy_in, copy_of, copies, is_after, answer, with_ghost, after_message};
+ghost use Rattle.seam_ghosts.specs.Book.{BookView, beat_of, copy_in, copy_of, copies, is_after, answer, with_ghost, after_message, ghost_after};
 
 pub use seam_memory::NoMemoryFor;
 use std::alloc::{AllocError, Global};
@@ -314,4 +314,5 @@ pub fn beats_never_fall<P>()
     ensures greatest { (w : BookView P) (e : ℕ) (g : Ghost P) → beat_of (after_message w e g) e ≡ max (beat_of w e) g.beat }
     ensures newest { (w : BookView P) (e : ℕ) (g : Ghost P) → copy_of (after_message w e g) e ≡ (if nat_lt (beat_of w e) g.beat then g.copy else copy_of w e) }
     ensures others { (w : BookView P) (e : ℕ) (g : Ghost P) (q : ℕ) → q ≢ e → map.get (after_message w e g).ghosts q ≡ map.get w.ghosts q }
+    ensures entry { (w : BookView P) (e : ℕ) (g : Ghost P) → map.get (after_message w e g).ghosts e ≡ ghost_after (map.get w.ghosts e) g }
 {}

@@ -1,21 +1,13 @@
 -- What has happened between a source and the lines read from it.
-use Rattle.std.specs.Prelude.{◌≡◌, ℕ, ◌≤◌, ◌<◌, ◌+◌, ◌-◌, ◌↔◌, if◌then◌else◌, Bool, true, false, List, [], ◌∷◌, ◌++◌, length, take, Option}
+use Rattle.std.specs.Prelude.{◌≡◌, ℕ, ◌≤◌, ◌<◌, ◌+◌, ◌-◌, ◌↔◌, if◌then◌else◌, Bool, true, false, List, [], ◌∷◌, ◌++◌, length, take}
 use Rattle.std.specs.Io.KnownBytes.{Consumes, IsAtEnd}
 use Rattle.seam_io.specs.Causes.{Rose}
+use Rattle.seam_io.specs.States.{SourceState}
 use Rattle.seam_io.specs.Lines.{Line, Content, Long, lines_of, whole_lines_of, lines_left, HasNoFeed}
 use Rattle.seam_io.specs.declared.lines.Next.{Next}
 use Rattle.seam_io.specs.declared.lines.Next.TheVariants as next
 
--- a source as it stands: the bytes that are left, where it tells them, and its counts of faults and of ends
-pub record SourceState : Type 0 where
-  pub left : Option (List ℕ)
-  pub faults : ℕ
-  pub ends : ℕ
-
-abbrev pub source_state : Option (List ℕ) → ℕ → ℕ → SourceState
-source_state left faults ends = record { left = left; faults = faults; ends = ends }
-
--- A reader of lines: the bytes that it took and did not give, whether the front of a line that is too long is gone
+-- A reader of lines: the bytes that it took and did not give, whether the prefix of a line that is too long is gone
 -- from them, whether the source said that it is at its end, how many bytes it took and may take, and the line that it
 -- gave last.
 pub record Reader : Type 0 where

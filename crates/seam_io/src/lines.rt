@@ -4,7 +4,8 @@ ghost use Rattle.std.specs.Io.KnownBytes.{ReadConsumes};
 ghost use Rattle.std.specs.Str.Lines.{strip_carriage_return};
 ghost use Rattle.seam_io.specs.Causes.{Rose, HasCause, CountsEnds};
 ghost use Rattle.seam_io.specs.Lines.{Line, Long, line_of, HasNoFeed};
-ghost use Rattle.seam_io.specs.Reading.{SourceState, source_state, Reader, Reading, IsExact, IsSparing, IsDone, NeedsMore, lines_given, budget};
+ghost use Rattle.seam_io.specs.Reading.{Reader, Reading, IsExact, IsSparing, IsDone, NeedsMore, lines_given, budget};
+ghost use Rattle.seam_io.specs.States.{SourceState};
 ghost use Rattle.seam_io.specs.Steps.{IsFeedAt, LetsGo, Answers, Waits};
 
 use crate::{Failed, Source};
@@ -40,10 +41,10 @@ pub struct Lines {
     start: usize,
     seen: usize,
     end: usize,
-    // Where the content of the line that was given stands.
+    // Where the content of the line that was given is.
     line_start: usize,
     line_end: usize,
-    // The front of a line that is too long was let go.
+    // The prefix of a line that is too long was let go.
     passing: bool,
     ended: bool,
     taken: u64,
@@ -86,14 +87,14 @@ fn read_at<S: Source>(
     requires fits { at + want ≤ length buffer.old }
     ensures bound { IfOk result (λ n. n ≤ want) }
     ensures kept { take at buffer.new ≡ take at buffer.old }
-    ensures bytes { ReadConsumes (S.left source.old) (S.left source.new) result (drop at buffer.new) }
-    ensures end { CountsEnds (S.ends source.old) (S.ends source.new) result }
-    ensures cause { HasCause (S.faults source.old) (S.faults source.new) result }
+    ensures bytes { ReadConsumes (S.state source.old).left (S.state source.new).left result (drop at buffer.new) }
+    ensures end { CountsEnds (S.state source.old).ends (S.state source.new).ends result }
+    ensures cause { HasCause (S.state source.old).faults (S.state source.new).faults result }
 {
     source.read(&mut buffer[at..at + want])
 }
 
-// Moves the part of the buffer between two places to its front, and reads at most `want` bytes behind it.
+// Moves the part of the buffer between two places to its start, and reads at most `want` bytes after it.
 fn refill<S: Source>(
     buffer: &mut Vec<u8>,
     start: usize,
@@ -108,9 +109,9 @@ fn refill<S: Source>(
     ensures bound { IfOk result (λ n. n ≤ want) }
     ensures len { vec_len buffer.new ≡ vec_len buffer.old }
     ensures kept { take (end - start) buffer.new.items ≡ slice_range buffer.old.items start end }
-    ensures bytes { ReadConsumes (S.left source.old) (S.left source.new) result (drop (end - start) buffer.new.items) }
-    ensures end { CountsEnds (S.ends source.old) (S.ends source.new) result }
-    ensures cause { HasCause (S.faults source.old) (S.faults source.new) result }
+    ensures bytes { ReadConsumes (S.state source.old).left (S.state source.new).left result (drop (end - start) buffer.new.items) }
+    ensures end { CountsEnds (S.state source.old).ends (S.state source.new).ends result }
+    ensures cause { HasCause (S.state source.old).faults (S.state source.new).faults result }
 {
     if start > 0 {
         buffer.copy_within(start..end, 0);
@@ -161,14 +162,14 @@ impl Lines {
     /// limit. Calls after [`Next::End`] answer it again without a read.
     pub fn next<S: Source>(&mut self, source: &mut S) -> Next
         ensures reads { (start : SourceState) (given : List ℕ) (read : List Line) →
-            Reading start (source_state (S.left source.old) (S.faults source.old) (S.ends source.old)) self.old given read →
+            Reading start (S.state source.old) self.old given read →
             (got : List ℕ)
-            × Reading start (source_state (S.left source.new) (S.faults source.new) (S.ends source.new)) self.new
+            × Reading start (S.state source.new) self.new
             (given ++ got) (read ++ lines_given result self.new.line)
             × IsExact result self.new (given ++ got) read
             × IsSparing got }
-        ensures fault { result ≡ Next.ReadFault → Rose (S.faults source.old) (S.faults source.new) }
-        ensures later { S.faults source.old ≤ S.faults source.new }
+        ensures fault { result ≡ Next.ReadFault → Rose (S.state source.old).faults (S.state source.new).faults }
+        ensures later { (S.state source.old).faults ≤ (S.state source.new).faults }
 
         // No read is made where the next answer needs none, and the end is answered again.
         ensures quiet { ¬ (NeedsMore self.old) → (source.new ≡ source.old) × (self.new.taken ≡ self.old.taken)
@@ -212,7 +213,7 @@ impl Lines {
         None
     }
 
-    // How many bytes stand before the first line feed that is held.
+    // How many bytes come before the first line feed that is held.
     fn find_feed(&self) -> Option<usize>
         ensures { MatchOption result (HasNoFeed self.now.held) (IsFeedAt self.now.held) }
     {
@@ -222,7 +223,7 @@ impl Lines {
         }
     }
 
-    // Gives the line of the first `len` bytes that are held, and lets `skip` bytes behind them go.
+    // Gives the line of the first `len` bytes that are held, and lets `skip` bytes after them go.
     fn give(&mut self, len: usize, skip: usize) -> Next
         requires { len + skip ≤ length self.old.held }
         ensures rest { self.new ≡ record self.old { held = drop (len + skip) self.old.held; passing = false; line = self.new.line } }
@@ -244,7 +245,7 @@ impl Lines {
         Next::Line
     }
 
-    // Lets what is held go where it is the front of a line that is too long.
+    // Lets what is held go where it is the prefix of a line that is too long.
     fn let_go(&mut self)
         requires { HasNoFeed self.old.held }
         ensures { LetsGo self.old self.new }
@@ -278,12 +279,12 @@ impl Lines {
         requires short { length self.old.held ≤ 4096 }
         requires line { self.old.line ≡ [] }
         ensures reads { (start : SourceState) (given : List ℕ) (read : List Line) →
-            Reading start (source_state (S.left source.old) (S.faults source.old) (S.ends source.old)) self.old given read →
+            Reading start (S.state source.old) self.old given read →
             (got : List ℕ)
-            × Reading start (source_state (S.left source.new) (S.faults source.new) (S.ends source.new)) self.new (given ++ got) read
+            × Reading start (S.state source.new) self.new (given ++ got) read
             × (self.new.held ≡ self.old.held ++ got)
             × (length got ≤ 4096) }
-        ensures cause { HasCause (S.faults source.old) (S.faults source.new) result }
+        ensures cause { HasCause (S.state source.old).faults (S.state source.new).faults result }
         ensures budget { budget self.new ≤ budget self.old }
         ensures limit { self.new.limit ≡ self.old.limit }
         ensures line { self.new.line ≡ [] }

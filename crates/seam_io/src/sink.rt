@@ -1,7 +1,8 @@
 // A sink of bytes, the adapter over a writer of std, and the writing of a whole text.
-ghost use Rattle.std.specs.Prelude.{◌≡◌, ◌<◌, ◌≤◌, List, ℕ, Option, length, take, IfOk, IfErr, OnOk};
+ghost use Rattle.std.specs.Prelude.{◌≡◌, ◌<◌, ◌≤◌, length, take, IfOk, IfErr, OnOk};
 ghost use Rattle.std.specs.Io.KnownBytes.{WriteAppends, Appends};
 ghost use Rattle.seam_io.specs.Causes.{HasCause};
+ghost use Rattle.seam_io.specs.States.{SinkState};
 
 use crate::Failed;
 use std::io::Write;
@@ -13,20 +14,17 @@ use thiserror::Error;
 /// A sink counts its faults: the count never falls, and is 0 in a new sink. The objects of this crate keep it in a
 /// `u64`, whose last value stays.
 pub trait Sink {
-    /// The bytes that were written, where the sink tells them.
-    ghost written: { Self → Option (List ℕ) };
+    /// The bytes that were written, where the sink tells them, and how often a write has failed.
+    ghost state: { Self → SinkState };
 
-    /// How often a write has failed.
-    ghost faults: { Self → ℕ };
-
-    /// Appends a front of `piece`, at least one byte, and answers how many bytes that were.
+    /// Appends a prefix of `piece`, at least one byte, and answers how many bytes that were.
     ///
     /// `Failed` appends nothing, and comes only where the count of faults rose.
     fn write(&mut self, piece: &[u8]) -> Result<usize, Failed>
         requires { 0 < length piece.now }
         ensures bound { IfOk result (λ n. (0 < n) × (n ≤ length piece.now)) }
-        ensures bytes { WriteAppends (written self.old) (written self.new) result piece.now }
-        ensures cause { HasCause (faults self.old) (faults self.new) result };
+        ensures bytes { WriteAppends (state self.old).written (state self.new).written result piece.now }
+        ensures cause { HasCause (state self.old).faults (state self.new).faults result };
 }
 
 /// A sink over a writer of std, which is trusted to write.
@@ -58,9 +56,7 @@ impl<W: Write> RealSink<W> {
 }
 
 impl<W: Write> Sink for RealSink<W> {
-    ghost written = { λ s. W.contents s.inner };
-
-    ghost faults = { λ s. s.faults };
+    ghost state = { λ s. record { written = W.contents s.inner; faults = s.faults } };
 
     // An error of the writer is a fault, and so is a count that is 0 or greater than the piece.
     fn write(&mut self, piece: &[u8]) -> Result<usize, Failed> {
@@ -86,10 +82,10 @@ pub struct WriteFault {
 ///
 /// `WriteFault` comes only where the sink's count of faults rose in this call.
 pub fn write_whole<K: Sink>(sink: &mut K, bytes: &[u8]) -> Result<(), WriteFault>
-    ensures ok { OnOk result (Appends (K.written sink.old) (K.written sink.new) bytes.now) }
+    ensures ok { OnOk result (Appends (K.state sink.old).written (K.state sink.new).written bytes.now) }
     ensures err { IfErr result (λ e. (e.wrote < length bytes.now)
-        × Appends (K.written sink.old) (K.written sink.new) (take e.wrote bytes.now)) }
-    ensures cause { HasCause (K.faults sink.old) (K.faults sink.new) result }
+        × Appends (K.state sink.old).written (K.state sink.new).written (take e.wrote bytes.now)) }
+    ensures cause { HasCause (K.state sink.old).faults (K.state sink.new).faults result }
 {
     let mut wrote = 0;
     while wrote < bytes.len() {

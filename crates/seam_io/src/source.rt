@@ -1,8 +1,9 @@
 // A source of bytes, and the adapter over a reader of std.
-ghost use Rattle.std.specs.Prelude.{◌≡◌, ◌<◌, ℕ, List, Option, length};
+ghost use Rattle.std.specs.Prelude.{◌≡◌, ◌<◌, length};
 ghost use Rattle.std.specs.Io.{ReadsAtMost};
 ghost use Rattle.std.specs.Io.KnownBytes.{ReadConsumes};
 ghost use Rattle.seam_io.specs.Causes.{HasCause, CountsEnds};
+ghost use Rattle.seam_io.specs.States.{SourceState};
 
 use std::io::Read;
 use std::marker::Model;
@@ -18,25 +19,19 @@ pub struct Failed;
 /// A source counts its faults and how often it said that it is at its end. Neither count falls, and both are 0 in a
 /// new source. The objects of this crate keep them in a `u64`, whose last value stays.
 pub trait Source {
-    /// The bytes that are left to read, where the source tells them.
-    ghost left: { Self → Option (List ℕ) };
+    /// The bytes that are left to read, where the source tells them, and how often a read has failed and has found the end.
+    ghost state: { Self → SourceState };
 
-    /// How often a read has failed.
-    ghost faults: { Self → ℕ };
-
-    /// How often a read has found the end.
-    ghost ends: { Self → ℕ };
-
-    /// Takes the next bytes, at least one and at most as many as `buf` has room for, to the front of `buf`.
+    /// Takes the next bytes, at least one and at most as many as `buf` has room for, to the start of `buf`.
     ///
     /// `Ok(0)` is the end of the input: no byte is left, and the count of ends rose. `Failed` takes nothing, and comes
     /// only where the count of faults rose.
     fn read(&mut self, buf: &mut [u8]) -> Result<usize, Failed>
         requires { 0 < length buf.old }
         ensures bound { ReadsAtMost result buf.new }
-        ensures bytes { ReadConsumes (left self.old) (left self.new) result buf.new }
-        ensures end { CountsEnds (ends self.old) (ends self.new) result }
-        ensures cause { HasCause (faults self.old) (faults self.new) result };
+        ensures bytes { ReadConsumes (state self.old).left (state self.new).left result buf.new }
+        ensures end { CountsEnds (state self.old).ends (state self.new).ends result }
+        ensures cause { HasCause (state self.old).faults (state self.new).faults result };
 }
 
 /// A source over a reader of std, which is trusted to read.
@@ -73,11 +68,7 @@ impl<R: Read> RealSource<R> {
 }
 
 impl<R: Read> Source for RealSource<R> {
-    ghost left = { λ s. R.remaining s.inner };
-
-    ghost faults = { λ s. s.faults };
-
-    ghost ends = { λ s. s.ends };
+    ghost state = { λ s. record { left = R.remaining s.inner; faults = s.faults; ends = s.ends } };
 
     // An error of the reader is a fault, and so is a count that is greater than the room.
     fn read(&mut self, buf: &mut [u8]) -> Result<usize, Failed> {

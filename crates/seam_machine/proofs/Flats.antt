@@ -26,7 +26,7 @@ length-flat n (r ∷ rs) wide =
     let more = one_more_row (length rs) n in
     omega (arith, here, rest, one, more)
 
--- the element at place b of row a stands at place a * n + b
+-- the element at place b of row a is at place a * n + b
 pub flat-place : {X : Type 0} (n : ℕ) (rows : List (List X)) (a b : ℕ) (d : X) → All (λ r. length r ≡ n) rows → a < length rows → b < n → get_or (flat rows) (a * n + b) d ≡ get_or (get_or rows a []) b d
 flat-place n [] a b d wide la lb = absurd (omega (arith, la))
 flat-place n (r ∷ rs) zero b d wide la lb =
@@ -39,7 +39,7 @@ flat-place n (r ∷ rs) (suc a) b d wide la lb =
     let at : suc a * n + b ≡ length r + (a * n + b) = omega (arith, here, more) in
     ap (λ i. get_or (r ++ flat rs) i d) at ∙ (get_or-append-add r (flat rs) (a * n + b) d ∙ flat-place n rs a b d (All-tail (λ r. length r ≡ n) r rs wide) (omega (arith, la)) lb)
 
--- two lists in front of others are equal where they are as long
+-- two prefixes of a list are equal where they are as long
 split : {X : Type 0} (xs ys us vs : List X) → length xs ≡ length us → xs ++ ys ≡ us ++ vs → (xs ≡ us) × (ys ≡ vs)
 split [] ys [] vs n e = (refl, e)
 split [] ys (u ∷ us) vs n e = absurd (omega (arith, n))

@@ -33,7 +33,7 @@ module _ {M : Type 0} where
       let t = All-head (λ p. p.0 < length rows) p ps q.targets in
       q.sender_in (omega (arith, t))
 
-  -- what waits stands at the ends of the sender's links
+  -- what waits is at the ends of the sender's links
   view_step : (rows : List (List (List M))) (busy : List ℕ) (sender : ℕ) (out : List (ℕ × M)) (b : Bool) → is_empty out ≡ b → IsLinks rows busy sender out → (x y : ℕ) → link (send_all rows sender out) x y ≡ link rows x y ++ link_added sender out x y
   view_step rows busy sender out true e q x y =
       let none = empty_is out e in
@@ -148,7 +148,7 @@ module _ {M : Type 0} where
       let there : get_or (set rows sender row') sender [] ≡ row' = get_or-set_same rows sender row' [] lt in
       rw there (rw set-set (ap (λ r. set rows sender r) (moved ∙ ap (λ r. put_all r out) at)))
 
-  -- the first item of a link to node b was taken: its count falls as nothing is left
+  -- the first item of a link to node b was fed to it: its count falls as nothing is left
   module _ (rows : List (List (List M))) (busy : List ℕ) (sender : ℕ) (out : List (ℕ × M)) (q : IsLinks rows busy sender out) (a b : ℕ) (row : List (List M)) (at : row ≡ get_or rows a []) (holds : 0 < length (get_or row b [])) where
     serves_in : (a < length rows) × (b < length rows)
     serves_in =
@@ -207,7 +207,7 @@ module _ {M : Type 0} where
   pub read_row : (rows : List (List (List M))) (a b : ℕ) (row : List (List M)) → 0 < length (link rows a b) → row ≡ get_or rows a row → row ≡ get_or rows a []
   read_row rows a b row h e = get_or_read rows a row (link_holds_in rows a b (link rows a b) refl h).0 e []
 
-  -- what a served node sent stands in its links
+  -- what a served node sent is in its links
   pub served_rows : (rows now : List (List (List M))) (a b : ℕ) (row row' : List (List M)) (out rest sent : List (ℕ × M)) → now ≡ rows → row ≡ get_or rows a [] → row' ≡ row_less row b → out ≡ rest ++ sent → rest ≡ [] → send_all (set rows a row') b out ≡ send_all (rows_less now a b) b sent
   served_rows rows now a b row row' out rest sent same at less o none =
       let all : out ≡ sent = o ∙ ap (λ r. r ++ sent) none in

@@ -1,4 +1,4 @@
--- The links after items were put at their ends, and after the first item of one was taken.
+-- The links after items were put at their ends, and after the first item of one was fed to its node.
 use Rattle.std.proofs.Common.{◌≡◌, ℕ, zero, suc, ◌<◌, Bool, true, false, cond, eqb, ◌&&◌, List, [], ◌∷◌, ◌++◌, length, Some, get_or, set, drop, refl, sym, ap, ◌∙◌, arith, append_assoc}
 use Rattle.std.proofs.lemmas.List.{length-set, append-nil}
 use Rattle.std.proofs.lemmas.List.Elements.{All-head, All-tail}
@@ -80,6 +80,6 @@ less_rows rows a k x y m ms got h (other n g) =
     let one : (eqb x a && eqb y k) ≡ false = rw two refl in
     rw one (ap (λ r. get_or r y []) g)
 
--- each link after the first item of one was taken
+-- each link after the first item of one was fed to its node
 pub link-rows_less : {M : Type 0} (rows : List (List (List M))) (a k x y : ℕ) (m : M) (ms : List M) → link rows a k ≡ m ∷ ms → link (rows_less rows a k) x y ≡ link_left rows k (Some a) x y
 link-rows_less rows a k x y m ms h = less_rows rows a k x y m ms (get_or (rows_less rows a k) x []) h (written rows a (row_less (get_or rows a []) k) [] x)

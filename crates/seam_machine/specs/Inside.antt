@@ -3,8 +3,8 @@ use Rattle.std.specs.Prelude.{◌≡◌, ℕ, ◌+◌, ◌<◌, ◌≤◌, Bool,
 use Rattle.std.specs.List.{All}
 use Rattle.seam_machine.specs.Views.{Stepped, NetView}
 use Rattle.seam_machine.specs.Sends.{AllBelow}
-use Rattle.seam_machine.specs.Nets.{letter, input_from, row_less, rows_after_taking, put_all, send_all, IsSquare}
-use Rattle.seam_machine.specs.Weights.{total}
+use Rattle.seam_machine.specs.Nets.{letter, input_from, row_less, rows_after_feeding, put_all, send_all, IsSquare}
+use Rattle.seam_machine.specs.Totals.{total}
 use Rattle.seam_machine.specs.declared.machines.Input.{Input}
 
 -- the links, and whether none of their messages waits for room
@@ -35,7 +35,8 @@ pub record Delivers {M : Type 0} (row : List (List M)) (items : List (ℕ × M))
   pub wide : length row' ≡ length row
   pub busy_len : length busy' ≡ length busy
   pub targets : AllBelow (length row) items'
-  pub counts : (b : ℕ) → slice_index_or busy' b 0 + filled (slice_index_or row b []) ≡ slice_index_or busy b 0 + filled (slice_index_or row' b [])
+  pub counts : (b : ℕ)
+      → slice_index_or busy' b 0 + filled (slice_index_or row b []) ≡ slice_index_or busy b 0 + filled (slice_index_or row' b [])
   pub fits : CountsFit busy' row'
 
 -- at most 255 nodes, a link for each pair, a count of filled links for each node, and what waits goes from a node to nodes
@@ -47,13 +48,13 @@ pub record IsLinks {M : Type 0} (rows : List (List (List M))) (busy : List ℕ) 
   pub targets : AllBelow (length rows) out
   pub sender_in : 0 < length rows → sender < length rows
 
--- the first of the items, which goes to node `to`, stands at the end of its link
+-- the first of the items, which goes to node `to`, is at the end of its link
 pub record PutsFirst {M : Type 0} (to : ℕ) (row : List (List M)) (items : List (ℕ × M)) (row' : List (List M)) (items' : List (ℕ × M)) : Type 0 where
   pub item : M
   pub items_are : items ≡ (to, item) ∷ items'
   pub row_is : row' ≡ slice_set row to (slice_index_or row to [] ++ item ∷ [])
 
--- the node took the first item of its link, and sent what its step sends
+-- the node was fed the first item of its link, and sent what its step sends
 pub record Serves {N M : Type 0} (steps : N → Input M → Stepped N M) (from to : ℕ) (row : List (List M)) (s : N) (out : List (ℕ × M)) (row' : List (List M)) (s' : N) (out' : List (ℕ × M)) : Type 0 where
   pub input : Input M
   pub is_fed : letter from (slice_index_or row to []) ≡ Some input
@@ -61,12 +62,12 @@ pub record Serves {N M : Type 0} (steps : N → Input M → Stepped N M) (from t
   pub state_is : s' ≡ (steps s input).state
   pub out_is : out' ≡ out ++ (steps s input).sent
 
--- node k took its input, and what its step sent stands in its links
+-- node k was fed its input, and what its step sent is in its links
 pub record Feeds {N M : Type 0} (steps : N → Input M → Stepped N M) (k : ℕ) (from : Option ℕ) (rows : List (List (List M))) (s : N) (rows' : List (List (List M))) (s' : N) : Type 0 where
   pub input : Input M
   pub is_fed : input_from rows k from ≡ Some input
   pub state_is : s' ≡ (steps s input).state
-  pub rows_is : rows' ≡ send_all (rows_after_taking rows k from) k (steps s input).sent
+  pub rows_is : rows' ≡ send_all (rows_after_feeding rows k from) k (steps s input).sent
 
 -- at most 255 nodes, and a link for each pair of them
 pub record IsNet {N M : Type 0} (w : NetView N M) : Type 0 where

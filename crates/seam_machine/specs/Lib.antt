@@ -1,10 +1,7 @@
 pub mod Views
 pub mod Sends
-pub mod Sound
 pub mod Nets
-pub mod Weights
+pub mod Totals
 pub mod Events
-pub mod Flows
 pub mod Inside
-pub mod Newest
 pub mod Orders

@@ -19,11 +19,11 @@ put_all row (p ∷ ps) = put_all (slice_set row p.0 (slice_index_or row p.0 [] +
 abbrev pub send_all : {M : Type 0} → List (List (List M)) → ℕ → List (ℕ × M) → List (List (List M))
 send_all rows a items = slice_set rows a (put_all (slice_index_or rows a []) items)
 
--- one node's links after the first item of the link to b was taken
+-- one node's links after the first item of the link to b was fed
 abbrev pub row_less : {M : Type 0} → List (List M) → ℕ → List (List M)
 row_less row b = slice_set row b (drop 1 (slice_index_or row b []))
 
--- all links after the first item of the link from a to b was taken
+-- all links after the first item of the link from a to b was fed
 abbrev pub rows_less : {M : Type 0} → List (List (List M)) → ℕ → ℕ → List (List (List M))
 rows_less rows a b = slice_set rows a (row_less (slice_index_or rows a []) b)
 
@@ -37,22 +37,23 @@ abbrev pub input_from : {M : Type 0} → List (List (List M)) → ℕ → Option
 input_from rows k None = Some Task
 input_from rows k (Some a) = letter a (link rows a k)
 
--- the links without what the event takes
-abbrev pub rows_after_taking : {M : Type 0} → List (List (List M)) → ℕ → Option ℕ → List (List (List M))
-rows_after_taking rows k None = rows
-rows_after_taking rows k (Some a) = rows_less rows a k
+-- the links without what the event feeds
+abbrev pub rows_after_feeding : {M : Type 0} → List (List (List M)) → ℕ → Option ℕ → List (List (List M))
+rows_after_feeding rows k None = rows
+rows_after_feeding rows k (Some a) = rows_less rows a k
 
 -- the net after node k, where these links were left, made this step
 abbrev pub stepped_net : {N M : Type 0} → List N → List (List (List M)) → ℕ → Stepped N M → NetView N M
 stepped_net nodes rows k t = record { nodes = slice_set nodes k t.state; rows = send_all rows k t.sent }
 
-abbrev pub happens_by : {N M : Type 0} → (N → Input M → Stepped N M) → NetView N M → ℕ → Option ℕ → Option N → Option (Input M) → NetView N M
-happens_by steps w k from (Some s) (Some i) = stepped_net w.nodes (rows_after_taking w.rows k from) k (steps s i)
+abbrev pub happens_by : {N M : Type 0} → (N → Input M → Stepped N M) → NetView N M → ℕ → Option ℕ → Option N → Option (Input M)
+    → NetView N M
+happens_by steps w k from (Some s) (Some i) = stepped_net w.nodes (rows_after_feeding w.rows k from) k (steps s i)
 happens_by steps w k from (Some s) None = w
 happens_by steps w k from None i = w
 
 -- the net after an event: its node's state is what its step gives, the message is gone from its link, and what the step
--- sent stands at the ends of the node's links
+-- sent is at the ends of the node's links
 abbrev pub happens : {N M : Type 0} → (N → Input M → Stepped N M) → NetView N M → Event → NetView N M
 happens steps w e = happens_by steps w e.node e.from (slice_get w.nodes e.node) (input_from w.rows e.node e.from)
 
@@ -103,7 +104,7 @@ abbrev pub flat : {X : Type 0} → List (List X) → List X
 flat [] = []
 flat (r ∷ rs) = r ++ flat rs
 
--- the nodes and the links of the net: with n nodes, the link from a to b stands at place a * n + b
+-- the nodes and the links of the net: with n nodes, the link from a to b is at place a * n + b
 pub record AreParts {N M : Type 0} (p : PartsView N M) (w : NetView N M) : Type 0 where
   pub nodes : p.nodes ≡ w.nodes
   pub links : p.links ≡ flat w.rows

@@ -1,4 +1,4 @@
--- The order in which enabled events are taken.
+-- The order in which enabled events happen.
 use Rattle.std.specs.Prelude.{◌≡◌, ℕ, ◌<◌, ◌⊎◌, Option, None, Some}
 use Rattle.seam_machine.specs.declared.machines.Event.{Event}
 

@@ -1,5 +1,5 @@
 -- Items on their way out, each with the number of its target.
-use Rattle.std.specs.Prelude.{ℕ, ◌<◌, ◌==◌, List, [], ◌∷◌, Option, None, Some, if◌then◌else◌}
+use Rattle.std.specs.Prelude.{ℕ, zero, suc, map, ◌++◌, ◌<◌, ◌==◌, List, [], ◌∷◌, Option, None, Some, if◌then◌else◌}
 use Rattle.std.specs.List.{All}
 
 -- to whom the first of the items goes
@@ -15,3 +15,8 @@ items_to b (p ∷ ps) = if p.0 == b then p.1 ∷ items_to b ps else items_to b p
 -- each item goes to a node below n
 abbrev pub AllBelow : {M : Type 0} → ℕ → List (ℕ × M) → Type 0
 AllBelow n items = All (λ p. p.0 < n) items
+
+-- what f has for each node below n, in the order of the nodes
+abbrev pub spread : {M : Type 0} → ℕ → (ℕ → List M) → List (ℕ × M)
+spread zero f = []
+spread (suc n) f = spread n f ++ map (λ m. (n, m)) (f n)

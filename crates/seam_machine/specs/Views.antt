@@ -11,7 +11,7 @@ pub record OutView (M : Type 0) : Type 0 where
   pub items : List (ℕ × M)
   pub spare : ℕ
 
--- the nodes, and the links: rows[a][b] is the link from node a to node b, its front first
+-- the nodes, and the links: rows[a][b] is the link from node a to node b, its oldest message first
 pub record NetView (N M : Type 0) : Type 0 where
   pub nodes : List N
   pub rows : List (List (List M))

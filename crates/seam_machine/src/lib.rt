@@ -1,9 +1,13 @@
 //! Machines that send each other items, and nets of them.
 //!
-//! A machine makes one step at a time: it takes its own task or one message, and sends messages to its peers.
+//! A machine makes one step at a time: it is fed its own task or one message, and sends messages to its peers.
 //! A net is a list of machines and a first-in first-out link for each ordered pair of them; an event is one step of one node.
 //! After Lamport, "Time, Clocks, and the Ordering of Events in a Distributed System" (1978): what nodes do is events in each
 //! node's order, tied by messages.
+//!
+//! Crates above cite these modules of `proofs`: `Occurring` (what an enabled event is, and what it leaves of nodes and rows), `Puts`
+//! (a link after items were put or a message was fed), `Writes` (a list after one place was written), `Totals` (sums over lists),
+//! `SendLemmas` (the items that go to one node), `Flats` (rows as one list), `Quiet` (a quiet net is empty), `Parts` (a net and its parts).
 #![tactic(auto)]
 
 ghost use Rattle.std.specs.Prelude.{◌≡◌};
@@ -16,10 +20,7 @@ mod rows;
 mod sends;
 
 pub use laws::{
-    LetterFact, LinkFact, NetFact, NetMeasure, NodeFact, Register, Watch, a_move_keeps_facts,
-    an_event_is_a_move, an_event_leaves_the_others, each_link_is_kept, each_node_is_kept,
-    links_are_exact, parts_are_the_net, quiet_is_empty, runs_end, runs_go_on, runs_join, runs_keep,
-    soundness_is_kept, the_newest_entry_is_kept, weights_move,
+    a_node_put_back_changes_nothing, an_event_leaves_the_others, parts_are_the_net, quiet_is_empty,
 };
 pub use machines::{Event, Input, Machine};
 pub use nets::{Net, NetParts};

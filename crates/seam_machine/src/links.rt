@@ -101,7 +101,7 @@ fn deliver<T>(row: &mut Row<T>, busy: &mut Vec<u8>, out: &mut Out<T>) -> Result<
 }
 
 impl<T> Links<T> {
-    /// How many messages stand in the link.
+    /// How many messages the link holds.
     pub fn waiting(&self, from: usize, to: u8) -> usize
         ensures { result ≡ length (link self.now.rows from to) }
     {
@@ -134,7 +134,7 @@ impl<T> Links<T> {
         None
     }
 
-    // Nothing stands in a link to that node, where the answer is true.
+    // No link to that node holds a message, where the answer is true.
     fn is_idle(&self, to: u8) -> bool
         ensures { result ≡ true → (a : ℕ) → link self.now.rows a to ≡ [] }
     {
@@ -145,7 +145,7 @@ impl<T> Links<T> {
         self.busy[at] == 0 && self.out.count_to(to) == 0
     }
 
-    /// The least node from which something stands in a link to that node.
+    /// The least node whose link to that node holds a message.
     pub fn first_from(&self, to: u8) -> Option<u8>
         ensures some { IfSome result (λ a. 0 < length (link self.now.rows a to)) }
         ensures first { IfSome result (λ a. (c : ℕ) → c < a → link self.now.rows c to ≡ []) }

@@ -9,14 +9,14 @@ use crate::sends::Out;
 use seam_memory::NoMemoryFor;
 use std::alloc::Global;
 
-/// What a step takes: the node's own task, or a message from that node.
+/// What a step is fed: the node's own task, or a message from that node.
 #[derive(Debug, Drop, PartialEq, Eq)]
 pub enum Input<T> {
     Task,
     From(u8, T),
 }
 
-/// Node `node` takes its own task, or the first message of the link from `from`.
+/// Node `node` is fed its own task, or the first message of the link from `from`.
 #[derive(Clone, Copy, Debug, PartialEq, Eq)]
 pub struct Event {
     pub node: u8,
@@ -52,7 +52,7 @@ pub trait Machine: Drop {
     fn known(&self)
         ensures { valid self.now };
 
-    /// Takes the input and sends what the step sends. Without memory the input comes back and nothing has changed.
+    /// Makes the step and sends what it sends. If allocation fails, the input comes back and nothing has changed.
     fn step(
         &mut self,
         alloc: Global,

@@ -14,7 +14,7 @@ use std::alloc::{AllocError, Global};
 use std::collections::VecDeque;
 use std::marker::Model;
 
-/// The nodes and the links of a net; with n nodes, the link from a to b stands at place `a * n + b`.
+/// The nodes and the links of a net; with n nodes, the link from a to b is at place `a * n + b`.
 #[derive(Drop)]
 pub struct NetParts<M: Machine> {
     pub nodes: Vec<M>,
@@ -91,7 +91,11 @@ impl<M: Machine> Net<M> {
     /// A net with empty links.
     pub fn new(alloc: Global, nodes: Vec<M>) -> Result<Net<M>, AllocError>
         requires { length nodes.items < 256 }
-        ensures { IfOk result (λ w. w ≡ record { nodes = nodes.items; rows = replicate (length nodes.items) (replicate (length nodes.items) []) }) }
+        ensures { IfOk result (λ w. w ≡ record {
+          nodes = nodes.items;
+          rows = replicate (length nodes.items)
+              (replicate (length nodes.items) []);
+        }) }
     {
         let rows = empty_rows(alloc, nodes.len())?;
         let links = Links::of_rows(alloc, rows)?;
@@ -137,14 +141,14 @@ impl<M: Machine> Net<M> {
         self.nodes.get(n as usize)
     }
 
-    /// How many messages stand in the link; 0 where one of the nodes does not exist.
+    /// How many messages the link holds; 0 where one of the nodes does not exist.
     pub fn waiting(&self, from: u8, to: u8) -> usize
         ensures { result ≡ length (link self.now.rows from to) }
     {
         self.links.waiting(from as usize, to)
     }
 
-    /// The message at place i of the link, counted from 0 at its front; none where i is not below `waiting`.
+    /// The message at place i of the link, counted from 0 at the oldest; none where i is not below `waiting`.
     pub fn message(&self, from: u8, to: u8, i: usize) -> Option<&M::Msg>
         ensures { option_copied result ≡ slice_get (link self.now.rows from to) i }
     {
@@ -194,7 +198,7 @@ impl<M: Machine> Net<M> {
         self.next_event().is_none()
     }
 
-    /// The event happens: its node takes its task, or the first message of the link. Without memory nothing has changed.
+    /// The event happens: its node is fed its task, or the first message of the link. If allocation fails, nothing has changed.
     pub fn step(&mut self, alloc: Global, event: Event) -> Result<(), AllocError>
         requires enabled { enabled M.has_work self.old event ≡ true }
         requires peers { ArePeers M.peer_count self.old }

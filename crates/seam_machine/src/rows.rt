@@ -71,7 +71,7 @@ impl<T: Drop> Row<T> {
 }
 
 impl<T> Row<T> {
-    /// How many messages stand in the link to that node.
+    /// How many messages the link to that node holds.
     pub fn len(&self, to: usize) -> usize
         ensures len { result ≡ length (slice_index_or self.now to []) }
         ensures small { result < 2 ^ 63 }

@@ -9,7 +9,8 @@ use Rattle.seam_machine.specs.Sends.{items_to, AllBelow}
 use Rattle.seam_machine.specs.Events.{Occurs, link_left, link_added}
 use Rattle.seam_machine.proofs.SendLemmas.{items_to-append}
 use Rattle.seam_machine.proofs.Occurring.{square-happens, length-happens}
-use Rattle.seam_machine.proofs.Keeping.{node-here, node-there, link-exact}
+use Rattle.seam_machine.proofs.Occurring.{node_here, node_there}
+use Rattle.seam_runs.proofs.Keeping.{link_is_exact}
 use Rattle.seam_machine.specs.declared.machines.Input.{Input}
 use Rattle.seam_machine.specs.declared.machines.Event.{Event}
 use Rattle.seam_stamp.specs.declared.Letter.{Letter}
@@ -157,8 +158,8 @@ module _ {N M : Type 0} (has_work : N → Bool) (steps : N → Input M → Stepp
 
   nodes_after : (k : ℕ) → k < n → slice_get w'.nodes k ≡ Some (start' k)
   nodes_after k lt = elim (cases_eq k b) [
-    | inl f ↦ rw (changed_here start b t.state k f, f) (node-here steps w e occurs_now)
-    | inr f ↦ rw (changed_other start b t.state k f) (node-there steps w e occurs_now k f ∙ fits.nodes k lt)
+    | inl f ↦ rw (changed_here start b t.state k f, f) (node_here steps w e occurs_now)
+    | inr f ↦ rw (changed_other start b t.state k f) (node_there steps w e occurs_now k f ∙ fits.nodes k lt)
   ]
 
   below : AllBelow (length w.nodes) t.sent
@@ -169,7 +170,7 @@ module _ {N M : Type 0} (has_work : N → Bool) (steps : N → Input M → Stepp
       let got = drop (length (goes b d.took p q)) (first p q) in
       let more = comes b (stamped d.stamp t.sent) p q in
       let left : link_left w.rows b (from_by d.took) p q ≡ items got = left_by_move w.rows b d.took p q ∙ (ap (drop (length (goes b d.took p q))) (fits.links p q lp lq) ∙ sym (items-drop (length (goes b d.took p q)) (first p q))) in
-      link-exact steps w e occurs_now fits.square below p q ∙ (ap (λ z. z ++ link_added b t.sent p q) left ∙ (ap (λ z. items got ++ z) (added_by_move b d.stamp t.sent p q) ∙ sym (items-append got more)))
+      link_is_exact steps w e occurs_now fits.square below p q ∙ (ap (λ z. z ++ link_added b t.sent p q) left ∙ (ap (λ z. items got ++ z) (added_by_move b d.stamp t.sent p q) ∙ sym (items-append got more)))
 
   abbrev last' : ℕ → ℕ
   last' = changed last b d.stamp

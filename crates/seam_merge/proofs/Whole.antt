@@ -10,7 +10,7 @@ use Rattle.seam_machine.specs.Sends.{items_to}
 use Rattle.seam_machine.specs.declared.machines.Input.{Input}
 use Rattle.seam_machine.specs.declared.machines.Event.{Event}
 use Rattle.seam_machine.proofs.Occurring.{occurs, square-happens, length-happens}
-use Rattle.seam_machine.proofs.Runs.{run-keeps}
+use Rattle.seam_runs.proofs.Runs.{run_keeps}
 use Rattle.seam_stamp.specs.declared.Letter.{Letter}
 use Rattle.seam_stamp.specs.declared.Stamped.{Stamped}
 use Rattle.seam_stamp.specs.Logs.{by_node, IsFrom, RiseFrom, IsMerge}
@@ -102,7 +102,7 @@ module _ {N M : Type 0} (has_work : N → Bool) (steps : N → Input M → Stepp
   Shape n v = IsSquare v × (length v.nodes ≡ n)
 
   shape_run : (n : ℕ) (w : NetView N M) (es : List Event) → Shape n w → AllEnabled has_work steps w es → Shape n (run steps w es)
-  shape_run n w es s a = run-keeps has_work steps (Shape n) (λ u e p may. let o = occurs has_work u e may in (square-happens steps u e o p.0, length-happens steps u e o ∙ p.1)) w es s a
+  shape_run n w es s a = run_keeps has_work steps (Shape n) (λ u e p may. let o = occurs has_work u e may in (square-happens steps u e o p.0, length-happens steps u e o ∙ p.1)) w es s a
 
 module _ {N M : Type 0} (has_work : N → Bool) (steps : N → Input M → Stepped N M) (n : ℕ) (w v : NetView N M) (start now : ℕ → N) (logs : List (List (Stamped Event))) (hand : ℕ → Option (ℕ × Letter M)) (first taken put met : ℕ → ℕ → List (Letter M)) (merged : List (Stamped Event)) (joined : Joined has_work steps n w start now logs hand first taken put met) (merge : IsMerge logs merged) (rebuilt : IsRebuilt n now (left_of hand met) v) where
   abbrev log : ℕ → List (Stamped Event)

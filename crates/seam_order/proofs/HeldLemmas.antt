@@ -1,4 +1,4 @@
--- What is held in rising number: where an item stands, where one more goes, and what stays rising.
+-- What is held in rising number: the place of an item, that of one more, and what stays rising.
 use Rattle.std.proofs.Common.{◌≡◌, ◌≢◌, ℕ, zero, suc, ◌+◌, ◌<◌, ◌≤◌, ◌^◌, Bool, true, false, cond, eqb, ltb, List, [], ◌∷◌, length, Option, None, Some, get_or, refl, sym, ap, ◌∙◌, subst, arith, is_some}
 use Rattle.std.specs.List.{AllWithin, insert}
 use Rattle.std.specs.List.Sorted.{IsNonDecreasingBy}
@@ -44,7 +44,7 @@ item_below low n (p ∷ ps) r lt =
     let other : eqb p.0 n ≡ false = differs p.0 n (λ e. omega (arith, e, k, lt)) in
     rw other (item_below (p.0 + 1) n ps r.2 (omega (arith, k, lt)))
 
--- the place of a number, and what stands there
+-- the place of a number, and the item there
 pub item_here : {T : Type 0} (n : ℕ) (xs : List (ℕ × T)) (at : ℕ) (d : ℕ × T) → AllWithin (λ p. p.0 < n) xs 0 at → at < length xs → (get_or xs at d).0 ≡ n → is_some (item_at n xs) ≡ true
 item_here n [] at d b lt e = absurd (omega (arith, lt))
 item_here n (p ∷ ps) zero d b lt e = rw (is_same p.0 n e) refl
@@ -64,7 +64,7 @@ item_missing low n (p ∷ ps) (suc at) r b a ne =
     let other : eqb p.0 n ≡ false = differs p.0 n (λ e. omega (arith, e, first)) in
     rw other (item_missing (p.0 + 1) n ps at r.2 (λ k d l h. b (suc k) d (omega arith) (omega (arith, h))) (λ k d l h. a (suc k) d (omega (arith, l)) (omega (arith, h))) (λ d lt. ne d (omega (arith, lt))))
 
--- whether the number waits is told by what stands at its place
+-- whether the number waits is told by the item at its place
 place_cases : {T : Type 0} (low n : ℕ) (xs : List (ℕ × T)) (at : ℕ) (p : ℕ × T) (b : Bool) → eqb p.0 n ≡ b → RiseFrom low xs → AllWithin (λ p. p.0 < n) xs 0 at → AllWithin (λ p. n ≤ p.0) xs at (length xs) → at < length xs → p ≡ get_or xs at p → is_some (item_at n xs) ≡ b
 place_cases low n xs at p true t r below above lt e = item_here n xs at p below lt (let s : p.0 ≡ n = grind (arith, nat_tests) in sym (ap (λ q. q.0) e) ∙ s)
 place_cases low n xs at p false t r below above lt e =

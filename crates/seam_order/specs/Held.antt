@@ -11,7 +11,7 @@ abbrev pub item_at : {T : Type 0} → ℕ → List (ℕ × T) → Option T
 item_at n [] = None
 item_at n (p ∷ ps) = if p.0 == n then Some p.1 else item_at n ps
 
--- the items with one more, which stands before the greater numbers
+-- the items with one more, before the greater numbers
 abbrev pub with_item : {T : Type 0} → ℕ → T → List (ℕ × T) → List (ℕ × T)
 with_item n x [] = (n, x) ∷ []
 with_item n x (p ∷ ps) = if nat_lt n p.0 then (n, x) ∷ p ∷ ps else p ∷ with_item n x ps

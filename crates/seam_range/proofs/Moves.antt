@@ -73,7 +73,7 @@ with_after m n e o w k = ap (with_x k.0) (w k.1) ∙ (with_cond k.0 (is_eq (nat_
 here : (m : tree.BTreeMap ℕ Pos) (s : tree.BTreeMap (ℕ × ℕ) Pos) (e : ℕ) (k : ℕ × ℕ) → IsIndexed m s → eqb e k.1 ≡ true → tree.get by_both s k ≡ with_x k.0 (tree.get nat_cmp m e)
 here m s e k i t = i.listed k ∙ ap (λ q. with_x k.0 (tree.get nat_cmp m q)) (number_is e k.1 t)
 
--- an entity put where it did not stand, or moved along the band of its x
+-- an entity put at a position that it did not have, or moved along the band of its x
 pub indexed-put : (m n : tree.BTreeMap ℕ Pos) (s t : tree.BTreeMap (ℕ × ℕ) Pos) (e : ℕ) (p : Pos) → IsIndexed m s → tree.IsOrdered nat_cmp n → Writes m n e (Some p) → Marks s t (p.x, e) (Some p) → ((a : ℕ) → eqb p.x a ≡ false → with_x a (tree.get nat_cmp m e) ≡ None) → IsIndexed n t
 indexed-put m n s t e p i o w h same = record {
   ordered = o;

@@ -29,7 +29,7 @@ abbrev pub is_near_to : Pos → ℕ → Option Pos → Bool
 is_near_to p d None = false
 is_near_to p d (Some q) = is_within p d q
 
--- the entity stands at distance at most d from p
+-- the entity is at distance at most d from p
 abbrev pub near : tree.BTreeMap ℕ Pos → Pos → ℕ → ℕ → Bool
 near m p d q = is_near_to p d (tree.get nat_cmp m q)
 

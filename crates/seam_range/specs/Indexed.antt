@@ -1,4 +1,4 @@
--- How an ordered map by x and entity stands beside the positions.
+-- How an ordered map by x and entity refines the positions.
 use Rattle.std.specs.Prelude.{◌≡◌, ℕ, Option, None, Some, nat_eq, if◌then◌else◌}
 use Rattle.std.specs.Ordering.{nat_cmp, ordering_then}
 use Rattle.std.specs.declared.cmp.Ordering.{Ordering}

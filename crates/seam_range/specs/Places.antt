@@ -1,4 +1,4 @@
--- Where entities stand, and which of them stand near a position.
+-- The positions of entities, and which of them are near a position.
 use Rattle.std.specs.Prelude.{ℕ, Bool, nat_le, List}
 use Rattle.std.specs.Ordering.{nat_cmp}
 use Rattle.std.specs.List.{filter}

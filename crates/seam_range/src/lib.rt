@@ -1,4 +1,4 @@
-//! Entities by where they stand, for queries of those that are near.
+//! Entities by their positions, for queries of those that are near.
 #![tactic(auto)]
 
 ghost use Rattle.std.specs.Prelude.{◌≡◌, is_some, IfOk, OnOk, OnErr};

@@ -1,52 +1,54 @@
 -- What each event of a net of counters keeps and lowers.
 use Rattle.std.proofs.Common.{◌≡◌, ℕ, zero, suc, ◌+◌, ◌<◌, ◌≤◌, Bool, true, false, cond, eqb, ltb, List, [], ◌∷◌, length, Option, None, Some, is_some, drop, refl, sym, ap, ◌∙◌, subst, arith}
-use Rattle.seam_machine.specs.Flows.{Flow, Goes, comes, flow_of, letters_of, more_letter}
-use Rattle.seam_machine.specs.Newest.{NotAbove, AllBring, entry_in, taken_entry, Newest}
+use Rattle.seam_flows.specs.Flows.{Flow, Goes, comes, flow_of, letters_of, more_letter}
+use Rattle.seam_flows.specs.Newest.{NotAbove, AllBring, entry_in, greater_entry, Newest}
+use Rattle.std.proofs.lemmas.Bool.{ne_eqb}
 use Rattle.std.proofs.lemmas.Bool.Decides.{nat_tests}
 use Rattle.seam_machine.specs.Views.{NetView}
 use Rattle.seam_machine.specs.Sends.{AllBelow, items_to}
 use Rattle.seam_machine.specs.Nets.{enabled, happens, LeadsTo}
-use Rattle.seam_machine.specs.Events.{Occurs, StaysTrue}
-use Rattle.seam_machine.specs.Weights.{weight, input_weight, sent_weight, counted, Lowers}
+use Rattle.seam_machine.specs.Events.{Occurs}
+use Rattle.seam_runs.specs.Kept.{StaysTrue}
+use Rattle.seam_runs.specs.Weights.{weight, input_weight, sent_weight, counted, Lowers}
 use Rattle.seam_machine.specs.declared.machines.Input.{Input}
 use Rattle.seam_machine.specs.declared.machines.Input.TheVariants.{Task, From}
 use Rattle.seam_machine.specs.declared.machines.Event.{Event}
 use Rattle.seam_machine.proofs.Occurring.{occurs, occurs_works}
-use Rattle.seam_machine.proofs.Runs.{leads-ends, leads-keeps}
-use Rattle.seam_machine.proofs.Weighing.{weight-moves}
-use Rattle.seam_machine.proofs.Keeping.{each-node, each-link}
-use Rattle.seam_machine.proofs.Bridge.{event-goes}
-use Rattle.seam_machine.proofs.Following.{mail-goes}
-use Rattle.seam_machine.proofs.NewestLemmas.{newest-stays}
+use Rattle.seam_runs.proofs.Runs.{leads_end, leads_keeps}
+use Rattle.seam_runs.proofs.Weighing.{weight_moves}
+use Rattle.seam_runs.proofs.Keeping.{each_node, each_link}
+use Rattle.seam_flows.proofs.Bridge.{event_goes}
+use Rattle.seam_flows.proofs.Following.{letters_kept}
+use Rattle.seam_flows.proofs.NewestLemmas.{newest_stays}
 use Rattle.std.specs.List.{AllByRecursion}
-use Rattle.seam_machine.proofs.Soundness.{sound_sends, sound-happens}
+use Rattle.seam_runs.proofs.Soundness.{sound_sends, sound_happens}
 use Rattle.seam_ring.specs.Views.{CounterView}
-use Rattle.seam_ring.specs.Counters.{task_steps, passed, counter_steps, counter_work, IsCounter, counter_targets, counter_peers, counter_valid}
+use Rattle.seam_ring.specs.Counters.{task_steps, passed, counter_steps, counter_work, counter_laws}
 use Rattle.seam_ring.specs.Rings.{IsSoundNet, IsRing, given_to_do, to_do, to_go, small, no_counter, SmallMoves, AllSmall, next_entry, brings_none}
 
 task_falls : (c : CounterView) (o : Option ℕ) → is_some o ≡ true → to_do (task_steps c o).state + sent_weight to_go (task_steps c o).sent + 1 ≡ given_to_do o
 task_falls c None h = cc
 task_falls c (Some n) h = omega arith
 
-passed_falls : (c : CounterView) (n : ℕ) → to_do c + sent_weight to_go (passed c n) + 1 ≡ to_do c + to_go n
-passed_falls c zero = omega arith
-passed_falls c (suc n) = omega arith
+passed_falls : (c : CounterView) (k n : ℕ) → to_do c + sent_weight to_go (passed c n) + 1 ≡ to_do c + to_go k n
+passed_falls c k zero = omega arith
+passed_falls c k (suc n) = omega arith
 
-step_falls : (c : CounterView) (i : Input ℕ) → (i ≡ Task → counter_work c ≡ true) → to_do (counter_steps c i).state + sent_weight to_go (counter_steps c i).sent + 1 ≡ to_do c + input_weight to_go i
-step_falls c Task h = let f = task_falls c c.given (h refl) in omega (arith, f)
-step_falls c (From a n) h = passed_falls c n
+step_falls : (k : ℕ) (c : CounterView) (i : Input ℕ) → (i ≡ Task → counter_work c ≡ true) → to_do (counter_steps c i).state + sent_weight to_go (counter_steps c i).sent + 1 ≡ to_do c + input_weight to_go k i
+step_falls k c Task h = let f = task_falls c c.given (h refl) in omega (arith, f)
+step_falls k c (From a n) h = passed_falls c k n
 
 sends_in : (w : NetView CounterView ℕ) (e : Event) (o : Occurs w e) → IsSoundNet w → AllBelow (length w.nodes) (counter_steps o.node o.input).sent
-sends_in w e o q = sound_sends counter_work (λ c. c.peers) IsCounter counter_steps counter_targets counter_peers counter_valid w e o q
+sends_in w e o q = sound_sends counter_laws w e o q
 
 stays_sound : (w : NetView CounterView ℕ) (e : Event) (o : Occurs w e) → IsSoundNet w → IsSoundNet (happens counter_steps w e)
-stays_sound w e o q = sound-happens counter_work (λ c. c.peers) IsCounter counter_steps counter_targets counter_peers counter_valid w e o q
+stays_sound w e o q = sound_happens counter_laws w e o q
 
 falls : (w : NetView CounterView ℕ) (e : Event) → IsSoundNet w → enabled counter_work w e ≡ true → Lowers counter_steps (λ w e. false) (weight to_do to_go) w e
 falls w e q h =
     let o = occurs counter_work w e h in
-    let moved = weight-moves to_do to_go counter_steps w e o q.square (sends_in w e o q) in
-    let less = step_falls o.node o.input (occurs_works counter_work w e h o) in
+    let moved = weight_moves to_do to_go counter_steps w e o q.square (sends_in w e o q) in
+    let less = step_falls e.node o.node o.input (occurs_works counter_work w e h o) in
     omega (arith, moved, less)
 
 counts_none : (w : NetView CounterView ℕ) (es : List Event) → counted counter_steps (λ w e. false) w es ≡ 0
@@ -55,7 +57,7 @@ counts_none w (e ∷ es) = let h = counts_none (happens counter_steps w e) es in
 
 pub ring_ends : (w v : NetView CounterView ℕ) (es : List Event) → IsSoundNet w → LeadsTo counter_work counter_steps w es v → length es + weight to_do to_go v ≤ weight to_do to_go w
 ring_ends w v es q a =
-    let h = leads-ends counter_work counter_steps (λ w e. false) (weight to_do to_go) IsSoundNet (λ x e s on. (stays_sound x e (occurs counter_work x e on) s, falls x e s on)) w v es q a in
+    let h = leads_end counter_work counter_steps (λ w e. false) (weight to_do to_go) IsSoundNet (λ x e s on. (stays_sound x e (occurs counter_work x e on) s, falls x e s on)) w v es q a in
     let none = counts_none w es in
     omega (arith, h, none)
 
@@ -90,18 +92,15 @@ module _ (after : ℕ → ℕ) where
   ring_happens w e o r =
       let next = r.nexts e.node o.node o.is_node in
       record {
-        nexts = each-node (λ k c. c.next ≡ after k) counter_steps w e o r.nexts (step_next o.node o.input ∙ next);
-        mail = each-link OnlyNext counter_steps w e o r.mail (λ a f ne. ap (drop 1) (r.mail a e.node ne)) (step_stays e.node o.node o.input next);
+        nexts = each_node (λ k c. c.next ≡ after k) counter_steps w e o r.nexts (step_next o.node o.input ∙ next);
+        mail = each_link OnlyNext counter_steps w e o r.mail (λ a f ne. ap (drop 1) (r.mail a e.node ne)) (step_stays e.node o.node o.input next);
       }
 
   pub ring_leads : (w v : NetView CounterView ℕ) (es : List Event) → IsRing after w → LeadsTo counter_work counter_steps w es v → IsRing after v
-  ring_leads w v es r a = leads-keeps counter_work counter_steps (IsRing after) (λ x e q h. ring_happens x e (occurs counter_work x e h) q) w v es r a
-
-apart_is : (a b : ℕ) → (a ≡ b → ⊥) → eqb a b ≡ false
-apart_is a b n = grind (arith, nat_tests)
+  ring_leads w v es r a = leads_keeps counter_work counter_steps (IsRing after) (λ x e q h. ring_happens x e (occurs counter_work x e h) q) w v es r a
 
 one_alone : (to n j : ℕ) → (j ≡ to → ⊥) → letters_of small (items_to j ((to, n) ∷ [])) ≡ []
-one_alone to n j ne = ap (λ b. letters_of small (cond b (n ∷ []) [])) (apart_is to j (λ e. ne (sym e)))
+one_alone to n j ne = ap (λ b. letters_of small (cond b (n ∷ []) [])) (ne_eqb to j (λ e. ne (sym e)))
 
 task_alone : (c : CounterView) (o : Option ℕ) (j : ℕ) → (j ≡ c.next → ⊥) → letters_of small (items_to j (task_steps c o).sent) ≡ []
 task_alone c None j ne = refl
@@ -139,7 +138,7 @@ step_small c Task j = task_small c c.given j
 step_small c (From a n) j = passed_small c n j
 
 pub small_stays : {w v : Flow CounterView ℕ} (g : Goes SmallMoves w v) → AllSmall w → AllSmall v
-small_stays g h = mail-goes (λ x y n. n < 10) g h g.moves.below
+small_stays g h = letters_kept (λ x y n. n < 10) g h g.moves.below
 
 none_brought : (Q : ℕ × ℕ → Type 0) (ls : List ℕ) → AllBring brings_none Q ls
 none_brought Q [] = tt
@@ -149,13 +148,13 @@ none_in : (o : Option ℕ) → entry_in brings_none o ≡ None
 none_in None = refl
 none_in (Some n) = refl
 
-pub next_stays : {w v : Flow CounterView ℕ} (k c : ℕ) (g : Goes SmallMoves w v) → Newest next_entry brings_none w k c → Newest next_entry brings_none v k c
-next_stays {w} {v} k c g n =
-    newest-stays brings_none next_entry g k c n (λ e.
+pub next_stays : {w v : Flow CounterView ℕ} (k key c : ℕ) (g : Goes SmallMoves w v) → Newest next_entry brings_none w k key c → Newest next_entry brings_none v k key c
+next_stays {w} {v} k key c g n =
+    newest_stays brings_none next_entry g k key c n (λ e.
     let here : (v.slot k).next ≡ (w.slot k).next = subst (λ j. (v.slot j).next ≡ (w.slot j).next) e g.moves.same in
-    ap (λ m. (0, m)) here ∙ sym (ap (taken_entry (next_entry (w.slot k))) (none_in (comes g.input)))) (none_brought (NotAbove n.key c) (g.out k))
+    ap (λ m. (0, m)) here ∙ sym (ap (greater_entry (next_entry (w.slot k))) (none_in (comes g.input)))) (none_brought (NotAbove key c) (g.out k))
 
 pub small_goes : (w : NetView CounterView ℕ) (e : Event) → IsSoundNet w → enabled counter_work w e ≡ true → Goes SmallMoves (flow_of (λ c. c) no_counter small w) (flow_of (λ c. c) no_counter small (happens counter_steps w e))
 small_goes w e q h =
     let o = occurs counter_work w e h in
-    event-goes small (λ c. c) no_counter SmallMoves counter_steps w e o q.square (sends_in w e o q) (record { same = step_next o.node o.input; alone = λ j ne. step_alone o.node o.input j ne; below = λ j. step_small o.node o.input j })
+    event_goes small (λ c. c) no_counter SmallMoves counter_steps w e o q.square (sends_in w e o q) (record { same = step_next o.node o.input; alone = λ j ne. step_alone o.node o.input j ne; below = λ j. step_small o.node o.input j })

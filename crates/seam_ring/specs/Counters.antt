@@ -3,6 +3,7 @@ use Rattle.std.specs.Prelude.{◌≡◌, ℕ, zero, suc, ◌<◌, Bool, List, []
 use Rattle.std.proofs.lemmas.List.Elements.{All-nil, All-cons}
 use Rattle.seam_machine.specs.Views.{Stepped}
 use Rattle.seam_machine.specs.Sends.{AllBelow}
+use Rattle.seam_runs.specs.Sound.{MachineLaws}
 use Rattle.seam_machine.specs.declared.machines.Input.{Input}
 use Rattle.seam_machine.specs.declared.machines.Input.TheVariants.{Task, From}
 use Rattle.seam_ring.specs.Views.{CounterView}
@@ -60,3 +61,7 @@ counter_peers c (From a n) h = refl
 pub counter_valid : (c : CounterView) (i : Input ℕ) → IsCounter c → IsCounter (counter_steps c i).state
 counter_valid c Task h = task_valid c c.given h
 counter_valid c (From a n) h = h
+
+-- a counter as a machine
+abbrev pub counter_laws : MachineLaws CounterView ℕ
+counter_laws = record { has_work = counter_work; peer_count = λ c. c.peers; valid = IsCounter; steps = counter_steps; targets = counter_targets; keeps_peers = counter_peers; stays_valid = counter_valid }

@@ -1,10 +1,11 @@
 -- Rings of counters: each sends to one other alone, and what is left to do falls with each event.
 use Rattle.std.specs.Prelude.{◌≡◌, ℕ, ◌+◌, ◌<◌, nat_lt, List, [], Option, None, Some, if◌then◌else◌}
 use Rattle.std.specs.List.{AllByRecursion}
-use Rattle.seam_machine.specs.Flows.{Flow}
+use Rattle.seam_flows.specs.Flows.{Flow, flow_of}
+use Rattle.seam_flows.specs.Tokens.{Handles, holders}
 use Rattle.seam_machine.specs.Views.{NetView}
 use Rattle.seam_machine.specs.Events.{EachNode, EachLink}
-use Rattle.seam_machine.specs.Sound.{IsSound}
+use Rattle.seam_runs.specs.Sound.{IsSound}
 use Rattle.seam_ring.specs.Views.{CounterView}
 use Rattle.seam_ring.specs.Counters.{IsCounter}
 
@@ -24,8 +25,8 @@ given_to_do (Some n) = n + 2
 abbrev pub to_do : CounterView → ℕ
 to_do c = given_to_do c.given
 
-abbrev pub to_go : ℕ → ℕ
-to_go n = n + 1
+abbrev pub to_go : ℕ → ℕ → ℕ
+to_go k n = n + 1
 
 -- the numbers below ten, as letters of one entity; at a counter it has the counter
 abbrev pub small : ℕ → Option ℕ
@@ -50,3 +51,27 @@ next_entry c = (0, c.next)
 
 abbrev pub brings_none : ℕ → Option (ℕ × ℕ)
 brings_none n = None
+
+-- a number that is passed on is one less
+abbrev pub Lowered : ℕ → ℕ → Type 0
+Lowered n m = n ≡ m + 1
+
+-- the number that a counter was given
+abbrev pub given : CounterView → Option ℕ
+given c = c.given
+
+-- what a net of counters looks like where every number is a letter
+abbrev pub numbers : NetView CounterView ℕ → Flow CounterView ℕ
+numbers w = flow_of (λ c. c) no_counter Some w
+
+-- how many numbers there are, given or on their way
+abbrev pub number_count : NetView CounterView ℕ → ℕ
+number_count w = holders (λ c. c) Some given Some w
+
+-- a step that leaves the one number, or passes it on
+abbrev pub NumberMoves : ℕ → CounterView → Option ℕ → CounterView → (ℕ → List ℕ) → Type 0
+NumberMoves k s i t out = Handles given Some Lowered s i t out
+
+-- a counter without how many there are
+abbrev pub alone : CounterView → CounterView
+alone c = record c { peers = 0 }

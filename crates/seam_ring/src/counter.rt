@@ -1,15 +1,7 @@
-//! A counter, and laws of every run of a ring of counters.
+//! A counter that passes numbers on.
 
-ghost use Rattle.std.specs.Prelude.{◌≡◌, ℕ, ◌+◌, ◌<◌, ◌≤◌, ◌++◌, List, length, true, Some, Option, OnOk, OnErr, IfErr};
-ghost use Rattle.seam_machine.specs.Views.{NetView};
-ghost use Rattle.seam_machine.specs.Nets.{enabled, happens, LeadsTo};
-ghost use Rattle.seam_machine.specs.Weights.{weight};
-ghost use Rattle.seam_machine.specs.Flows.{Flow, Goes, flow_of};
-ghost use Rattle.seam_machine.specs.Newest.{Newest};
-ghost use Rattle.seam_machine.specs.declared.machines.Event.{Event};
-ghost use Rattle.seam_ring.specs.Views.{CounterView};
+ghost use Rattle.std.specs.Prelude.{◌≡◌, ◌<◌, ◌++◌, true, OnOk, OnErr, IfErr};
 ghost use Rattle.seam_ring.specs.Counters.{counter_steps, counter_work, IsCounter, counter_targets, counter_peers, counter_valid};
-ghost use Rattle.seam_ring.specs.Rings.{IsRing, IsSoundNet, to_do, to_go, small, no_counter, SmallMoves, AllSmall, next_entry, brings_none};
 
 use seam_machine::{Input, Machine, NoMemoryFor, Out};
 use std::alloc::Global;
@@ -106,24 +98,3 @@ impl Machine for Counter {
         }
     }
 }
-
-/// A run of a net of counters is no longer than what its counters and numbers have before them.
-pub fn runs_of_a_ring_end()
-    ensures { (w v : NetView CounterView ℕ) (es : List Event) → IsSoundNet w → LeadsTo counter_work counter_steps w es v → length es + weight to_do to_go v ≤ weight to_do to_go w }
-{}
-
-/// A ring stays a ring over every run.
-pub fn a_ring_stays_a_ring()
-    ensures { (after : ℕ → ℕ) (w v : NetView CounterView ℕ) (es : List Event) → IsRing after w → LeadsTo counter_work counter_steps w es v → IsRing after v }
-{}
-
-/// Small numbers on their way stay below ten, and each counter sends on to the same one: the newest entry of its register.
-pub fn small_numbers_stay_small()
-    ensures small { (w v : Flow CounterView ℕ) → Goes SmallMoves w v → AllSmall w → AllSmall v }
-    ensures next { (w v : Flow CounterView ℕ) (k c : ℕ) → Goes SmallMoves w v → Newest next_entry brings_none w k c → Newest next_entry brings_none v k c }
-{}
-
-/// Each event is a step of the flow of small numbers.
-pub fn small_numbers_are_seen()
-    ensures { (w : NetView CounterView ℕ) (e : Event) → IsSoundNet w → enabled counter_work w e ≡ true → Goes SmallMoves (flow_of (λ c. c) no_counter small w) (flow_of (λ c. c) no_counter small (happens counter_steps w e)) }
-{}

@@ -6,14 +6,14 @@ use seam_machine::{Event, Machine, Net, send_net};
 use std::alloc::{AllocError, Global};
 use std::test::Fail;
 
-// Takes the first enabled event again and again, until the net is quiet or so many were taken. Gives how many were.
+// Lets the first enabled event happen again and again, until the net is quiet or so many happened. Gives how many did.
 fn run<M: Machine>(alloc: Global, net: &mut Net<M>, most: u32) -> Result<u32, AllocError>
     requires { ArePeers M.peer_count net.old }
     ensures { ArePeers M.peer_count net.new }
 {
-    for taken in 0..most {
+    for count in 0..most {
         let Some(event) = net.next_event() else {
-            return Ok(taken);
+            return Ok(count);
         };
         net.step(alloc, event)?;
     }

@@ -1,236 +1,279 @@
--- Where all calls come from one sender, an input has one transcript.
-use Rattle.std.proofs.Common.{◌≡◌, ◌<◌, ℕ, Bool, true, false, List, [], ◌∷◌, ◌++◌, map, get_or, suc, ◌⊎◌, Option, refl, sym, ◌∙◌, ap, subst, arith, inl, inr}
-use Rattle.std.specs.Prelude.{All, Contains, filter, cond, ◌&&◌, ◌==◌, MatchBool}
-use Rattle.std.specs.List.{AllPairs}
-use Rattle.std.specs.List.Sorted.{IsStrictlyIncreasing}
+-- Where each entity has one sender, an input has one ended transcript.
+use Rattle.std.proofs.Common.{◌≡◌, ◌+◌, ℕ, Bool, true, false, List, [], ◌∷◌, ◌++◌, map, length, refl, sym, ◌∙◌, ap, subst, arith}
+use Rattle.std.specs.Prelude.{All, filter, cond, ◌&&◌, ◌==◌, MatchBool}
+use Rattle.std.specs.List.{flat_map}
 use Rattle.std.proofs.Math.Bool.{and-false}
 use Rattle.std.proofs.Math.Path.{fun_ext}
-use Rattle.std.proofs.lemmas.List.{append_cancel_left, get_or-map, length-map}
-use Rattle.std.proofs.lemmas.List.Elements.{All-nil, All-head, All-tail, All-rest, All-push, All-contains}
-use Rattle.std.proofs.lemmas.List.Kept.{AllPairs-from_increasing}
-use Rattle.seam_io.specs.Lines.{Line, Content, Long}
+use Rattle.std.proofs.lemmas.List.{append_cancel_left}
+use Rattle.std.proofs.lemmas.List.Elements.{All-nil, All-head, All-tail, All-push, filter_map-append}
+use Rattle.std.proofs.Common.{append-nil, append_assoc, length-append}
+use Rattle.seam_io.specs.Lines.{Line, Content}
 use Rattle.seam_defs.specs.Types.{AreDefs}
 use Rattle.seam_defs.specs.declared.flags.Part.{Part}
-use Rattle.seam_defs.specs.declared.states.Deed.TheVariants.{Method}
+use Rattle.seam_defs.specs.declared.flags.Part.TheVariants as part
 use Rattle.seam_defs.proofs.WellFormed.{builtin-are-defs}
-use Rattle.seam_transcript.specs.declared.sender.Sender.{Sender}
-use Rattle.seam_transcript.specs.declared.sender.Sender.TheVariants.{Base}
-use Rattle.seam_transcript.specs.declared.executed.Executed.{Executed}
-use Rattle.seam_transcript.specs.Language.{Command, Create, Call, Sync, Says}
-use Rattle.seam_transcript.specs.Book.{Header, Book, Created, Called, empty_header, created_as, lives_as, same_sender, sender_text, is_for, is_from, accepted, call_of, Accepts, Cause, TooLong, BadWords, Verdict, Skipped, Refused, Accepted, Judges}
-use Rattle.seam_transcript.specs.Orders.{Orders, numbered, of_sender, IsFull}
-use Rattle.seam_transcript.specs.Standing.{Standing, behind_header, counted, with_book}
-use Rattle.seam_transcript.specs.Round.{RoundData, Lists, text_of_round, IsRound}
-use Rattle.seam_transcript.specs.Transcript.{separator, Takes, Run, ends_round, EndsInput, IsEnded}
+use Rattle.seam_call.specs.Senders.{same_sender}
+use Rattle.seam_call.specs.Calls.{is_from, same_part}
+use Rattle.seam_call.specs.declared.sender.Sender.{Sender}
+use Rattle.seam_call.specs.declared.sender.Sender.TheVariants as sender
+use Rattle.seam_call.specs.declared.call.Call.{Call}
+use Rattle.seam_call.specs.declared.create.Create.{Create}
+use Rattle.seam_transcript.specs.Language as language
+use Rattle.seam_transcript.specs.declared.header.Header.{Header}
+use Rattle.seam_transcript.specs.Header.{Reads, AreHeaderLines, BeginWithHeader, separator}
+use Rattle.seam_transcript.specs.Book.{Book, entries, called, calls_of, created_as, live_as, accepted, open_lines, with_entry, Means, Spells, Judges}
+use Rattle.seam_transcript.specs.Orders.{Orders, of_sender, IsFull}
+use Rattle.seam_transcript.specs.Standing.{Standing, after_header, with_line, with_book}
+use Rattle.seam_transcript.specs.Round.{RoundData, DoneLine, HomeLine, BaseLine, done_lines, home_line, base_line, ExtendsOrders, HasHomes, HasBases, IsRound}
+use Rattle.seam_transcript.specs.Transcript.{Piece, Ended, text_of, EndsRound, most_lines, Follows, Step, Run, EndsInput, IsEnded}
 use Rattle.seam_transcript.specs.Senders.{CallIsFrom, CallsAreFrom}
-use Rattle.seam_transcript.proofs.Sequences.{same_sender-is}
-use Rattle.seam_transcript.proofs.PlainLemmas.{contains-here, contains-there, contains-cases}
-use Rattle.seam_transcript.proofs.Verdicts.{one-sender, one-verdict}
-use Rattle.seam_transcript.proofs.Rows.{behind-separator}
+use Rattle.seam_transcript.specs.declared.verdict.Entry.{Entry}
+use Rattle.seam_transcript.specs.declared.verdict.Entry.TheVariants as entry
+use Rattle.seam_transcript.specs.declared.verdict.Verdict.{Verdict}
+use Rattle.seam_transcript.specs.declared.verdict.Verdict.TheVariants as verdict
+use Rattle.seam_transcript.proofs.Lists.{listed_is_one}
+use Rattle.seam_transcript.proofs.Verdicts.{sender_is_one, verdict_is_one_of}
 
 -- ---- orders
 
--- the accepted calls are from this sender
-abbrev From : Sender → List Called → Type 0
-From s calls = All (λ (c : Called). c.sender ≡ s) calls
+-- the call is from its entity's one sender
+abbrev IsOwn : (ℕ → Sender) → Call → Type 0
+IsOwn one c = c.sender ≡ one c.entity
 
-same_sender-itself : (s : Sender) → same_sender s s ≡ true
-same_sender-itself (Base n) = grind arith
+-- all calls are
+abbrev AreOwn : (ℕ → Sender) → List Call → Type 0
+AreOwn one calls = All (IsOwn one) calls
 
--- no call is from another one
-none-passes : (s t : Sender) (p : Part) (e : ℕ) (calls : List Called) → same_sender s t ≡ false → From s calls → filter (is_from p e t) calls ≡ []
-none-passes s t p e [] other from = refl
-none-passes s t p e (c ∷ calls) other from =
-    let not_its : same_sender c.sender t ≡ false = ap (λ (x : Sender). same_sender x t) (All-head (λ (x : Called). x.sender ≡ s) c calls from) ∙ other in
-    let not : is_from p e t c ≡ false = ap (λ (b : Bool). is_for p e c && b) not_its ∙ and-false (is_for p e c) in
-    ap (λ (b : Bool). cond b (c ∷ filter (is_from p e t) calls) (filter (is_from p e t) calls)) not
-    ∙ none-passes s t p e calls other (All-tail (λ (x : Called). x.sender ≡ s) c calls from)
+same_sender_of_itself : (s : Sender) → same_sender s s ≡ true
+same_sender_of_itself (sender.Base n) = grind arith
+same_sender_of_itself (sender.Client e) = grind arith
+
+same_sender_is : (s t : Sender) → same_sender s t ≡ true → s ≡ t
+same_sender_is (sender.Base m) (sender.Base n) same = ap sender.Base (grind (arith, same))
+same_sender_is (sender.Client d) (sender.Client e) same = ap sender.Client (grind (arith, same))
+same_sender_is (sender.Base m) (sender.Client e) same = cc
+same_sender_is (sender.Client d) (sender.Base n) same = cc
+
+-- a call of another sender is not for the entity
+other_is_not_for : (one : ℕ → Sender) (p : Part) (e : ℕ) (t : Sender) (c : Call) → same_sender (one e) t ≡ false → IsOwn one c → is_from p e t c ≡ false
+other_is_not_for one p e t c other own = cases (c.entity == e) refl
+  where
+    cases : (b : Bool) → (c.entity == e) ≡ b → ((b && same_part c.part p) && same_sender c.sender t) ≡ false
+    cases false is = refl
+    cases true is =
+        let entity : c.entity ≡ e = grind (arith, is) in
+        let not : same_sender c.sender t ≡ false = ap (λ (s : Sender). same_sender s t) (own ∙ ap one entity) ∙ other in
+        ap (λ (x : Bool). same_part c.part p && x) not ∙ and-false (same_part c.part p)
+
+-- no accepted call for the entity is from another sender
+none_of_others : (one : ℕ → Sender) (p : Part) (e : ℕ) (t : Sender) (calls : List Call) → same_sender (one e) t ≡ false → AreOwn one calls → filter (is_from p e t) calls ≡ []
+none_of_others one p e t [] other own = refl
+none_of_others one p e t (c ∷ calls) other own =
+    ap (λ (b : Bool). cond b (c ∷ filter (is_from p e t) calls) (filter (is_from p e t) calls)) (other_is_not_for one p e t c other (All-head (IsOwn one) c calls own))
+    ∙ none_of_others one p e t calls other (All-tail (IsOwn one) c calls own)
 
 -- an order without calls of other senders
-abbrev NoneOther : Sender → List Executed → Type 0
-NoneOther s order = (t : Sender) → same_sender s t ≡ false → of_sender t order ≡ []
+abbrev HasNoOther : Sender → List Call → Type 0
+HasNoOther s order = (t : Sender) → same_sender s t ≡ false → of_sender t order ≡ []
 
-none-behind : (s : Sender) (x : Executed) (order : List Executed) → NoneOther s (x ∷ order) → NoneOther s order
-none-behind s x order none t other = cases (same_sender x.sender t) (none t other)
+no_other_later : (s : Sender) (x : Call) (order : List Call) → HasNoOther s (x ∷ order) → HasNoOther s order
+no_other_later s x order none t other = cases (same_sender x.sender t) (none t other)
   where
     cases : (b : Bool) → cond b (x ∷ of_sender t order) (of_sender t order) ≡ [] → of_sender t order ≡ []
     cases true is = cc
     cases false is = is
 
-not-empty : (x : Executed) (xs : List Executed) → x ∷ xs ≡ [] → ⊥
-not-empty x xs is = cc
+not_empty : (x : Call) (xs : List Call) → x ∷ xs ≡ [] → ⊥
+not_empty x xs is = cc
 
 -- it has calls of the sender alone
-all-own : (s : Sender) (order : List Executed) → NoneOther s order → of_sender s order ≡ order
-all-own s [] none = refl
-all-own s (x ∷ order) none = cases (same_sender s x.sender) refl (all-own s order (none-behind s x order none))
+all_of_sender : (s : Sender) (order : List Call) → HasNoOther s order → of_sender s order ≡ order
+all_of_sender s [] none = refl
+all_of_sender s (x ∷ order) none = cases (same_sender s x.sender) refl (all_of_sender s order (no_other_later s x order none))
   where
     cases : (b : Bool) → same_sender s x.sender ≡ b → of_sender s order ≡ order → of_sender s (x ∷ order) ≡ x ∷ order
     cases true is rest =
-        let own : same_sender x.sender s ≡ true = subst (λ (t : Sender). same_sender t s ≡ true) (same_sender-is s x.sender is) (same_sender-itself s) in
-        ap (λ (b : Bool). cond b (x ∷ of_sender s order) (of_sender s order)) own ∙ ap (λ (xs : List Executed). x ∷ xs) rest
+        let own : same_sender x.sender s ≡ true = subst (λ (t : Sender). same_sender t s ≡ true) (same_sender_is s x.sender is) (same_sender_of_itself s) in
+        ap (λ (b : Bool). cond b (x ∷ of_sender s order) (of_sender s order)) own ∙ ap (λ (xs : List Call). x ∷ xs) rest
     cases false is rest =
         let here : x ∷ of_sender x.sender order ≡ [] =
-        ap (λ (b : Bool). cond b (x ∷ of_sender x.sender order) (of_sender x.sender order)) (sym (same_sender-itself x.sender)) ∙ none x.sender is in
-        absurd (not-empty x (of_sender x.sender order) here)
+        ap (λ (b : Bool). cond b (x ∷ of_sender x.sender order) (of_sender x.sender order)) (sym (same_sender_of_itself x.sender)) ∙ none x.sender is in
+        absurd (not_empty x (of_sender x.sender order) here)
 
 -- two full orders are one
-full-one : (s : Sender) (b : Book) (p : Part) (e : ℕ) (order other : List Executed) → From s b.calls → IsFull b p e order → IsFull b p e other → order ≡ other
-full-one s b p e order other from full full' =
-    let none : (t : Sender) → same_sender s t ≡ false → numbered t 1 (accepted b p e t) ≡ [] = λ t not. ap (λ (cs : List Called). numbered t 1 (map (λ (c : Called). c.deed) cs)) (none-passes s t p e b.calls not from) in
-    sym (all-own s order (λ t not. full t ∙ none t not)) ∙ full s ∙ sym (full' s) ∙ all-own s other (λ t not. full' t ∙ none t not)
-
--- ---- lists of entities
-
--- each entity's number is below those of the later ones
-abbrev Rises : List Created → Type 0
-Rises list = AllPairs (λ (a b : Created). a.entity < b.entity) list
-
-rises : (list : List Created) → IsStrictlyIncreasing (map (λ c. c.entity) list) → Rises list
-rises list rising i j d first within =
-    let entity : Created → ℕ = λ (c : Created). c.entity in
-    let below = AllPairs-from_increasing (map entity list) rising i j 0 first (omega (arith, length-map list entity)) in
-    subst (λ (n : ℕ). n < (get_or list j d).entity) (get_or-map entity list i d 0 (omega arith))
-    (subst (λ (n : ℕ). get_or (map entity list) i 0 < n) (get_or-map entity list j d 0 within) below)
-
-rises-behind : (x : Created) (xs : List Created) → Rises (x ∷ xs) → Rises xs
-rises-behind x xs rise i j d first within = rise (suc i) (suc j) d (omega arith) (omega arith)
-
-first-below : (x c : Created) (xs : List Created) → Rises (x ∷ xs) → Contains xs c → x.entity < c.entity
-first-below x c xs rise has =
-    All-contains (λ (d : Created). x.entity < d.entity) xs c (λ k d within. rise 0 (suc k) d (omega arith) (omega arith)) has
-
-none-in-empty : (c : Created) → Contains [] c → ⊥
-none-in-empty c (k, within, is) = omega arith
-
--- what is above the first one is behind it
-behind : (x c : Created) (xs : List Created) → (x ≡ c) ⊎ Contains xs c → x.entity < c.entity → Contains xs c
-behind x c xs (inl same) above = let number = ap (λ (d : Created). d.entity) same in absurd (omega (arith, number))
-behind x c xs (inr has) above = has
-
--- rising lists with the same elements are one
-one-list : (xs ys : List Created) → Rises xs → Rises ys → ((c : Created) → Contains xs c → Contains ys c) → ((c : Created) → Contains ys c → Contains xs c) → xs ≡ ys
-one-list [] [] rise rise' there back = refl
-one-list [] (y ∷ ys) rise rise' there back = absurd (none-in-empty y (back y (contains-here y ys)))
-one-list (x ∷ xs) [] rise rise' there back = absurd (none-in-empty x (there x (contains-here x xs)))
-one-list (x ∷ xs) (y ∷ ys) rise rise' there back =
-    let same : x ≡ y = heads (contains-cases y x ys (there x (contains-here x xs))) (contains-cases x y xs (back y (contains-here y ys))) in
-    ap (λ (c : Created). c ∷ xs) same
-    ∙ ap (λ (cs : List Created). y ∷ cs) (one-list xs ys (rises-behind x xs rise) (rises-behind y ys rise')
-    (λ c has. behind y c ys (contains-cases y c ys (there c (contains-there x c xs has))) (subst (λ (d : Created). d.entity < c.entity) same (first-below x c xs rise has)))
-    (λ c has. behind x c xs (contains-cases x c xs (back c (contains-there y c ys has))) (subst (λ (d : Created). d.entity < c.entity) (sym same) (first-below y c ys rise' has))))
-  where
-    heads : (y ≡ x) ⊎ Contains ys x → (x ≡ y) ⊎ Contains xs y → x ≡ y
-    heads (inl same) other = sym same
-    heads (inr has) (inl same) = same
-    heads (inr has) (inr has') =
-        let one = first-below y x ys rise' has in
-        let other = first-below x y xs rise has' in
-        absurd (omega arith)
-
--- the entities that a function gives are listed in one way
-lists-one : (entities : ℕ → Option Created) (xs ys : List Created) → Lists entities xs → Lists entities ys → xs ≡ ys
-lists-one entities xs ys one other =
-    one-list xs ys (rises xs one.rising) (rises ys other.rising)
-    (λ c has. (other.exact c).1 ((one.exact c).0 has)) (λ c has. (one.exact c).1 ((other.exact c).0 has))
+full_order_is_one : (one : ℕ → Sender) (b : Book) (p : Part) (e : ℕ) (order other : List Call) → AreOwn one (calls_of (entries b)) → IsFull (accepted b p e) order → IsFull (accepted b p e) other → order ≡ other
+full_order_is_one one b p e order other own full full' =
+    let none : (t : Sender) → same_sender (one e) t ≡ false → accepted b p e t ≡ [] = λ t not. none_of_others one p e t (calls_of (entries b)) not own in
+    sym (all_of_sender (one e) order (λ t not. full t ∙ none t not)) ∙ full (one e) ∙ sym (full' (one e)) ∙ all_of_sender (one e) other (λ t not. full' t ∙ none t not)
 
 -- ---- rounds
 
-same-standing : (s t : Standing) → s.lines ≡ t.lines → s.book ≡ t.book → s.orders ≡ t.orders → s.rounds ≡ t.rounds → s ≡ t
-same-standing s t lines book orders rounds = λ i. record { lines = lines i; book = book i; orders = orders i; rounds = rounds i }
+same_standing : (s t : Standing) → s.lines ≡ t.lines → s.rounds ≡ t.rounds → s.book ≡ t.book → s.orders ≡ t.orders → s ≡ t
+same_standing s t lines rounds book orders = λ i. record { lines = lines i; rounds = rounds i; book = book i; orders = orders i }
 
-same-round : (r u : RoundData) → r.made ≡ u.made → r.homed ≡ u.homed → r.based ≡ u.based → r.done ≡ u.done → r.home ≡ u.home → r ≡ u
-same-round r u made homed based done home = λ i. record { made = made i; homed = homed i; based = based i; done = done i; home = home i }
+same_data : (r u : RoundData) → r.number ≡ u.number → r.did ≡ u.did → r.dob ≡ u.dob → r.homes ≡ u.homes → r.bases ≡ u.bases → r ≡ u
+same_data r u number did dob homes bases = λ i. record { number = number i; did = did i; dob = dob i; homes = homes i; bases = bases i }
 
--- a round has one text, and leaves one standing
-one-round : (h : Header) (who : Sender) (s : Standing) (x y : List ℕ) (t u : Standing) → From who s.book.calls → IsRound h s x t → IsRound h s y u → (x ≡ y) × (t ≡ u)
-one-round h who s x y t u from one other =
-    let orders : t.orders ≡ u.orders = fun_ext (λ p. fun_ext (λ e. full-one who s.book p e (t.orders p e) (u.orders p e) from (one.orders.full p e) (other.orders.full p e))) in
-    let same : t ≡ u = same-standing t u (one.lines ∙ sym other.lines) (one.book ∙ sym other.book) orders (one.rounds ∙ sym other.rounds) in
-    let done : one.round.done ≡ other.round.done = fun_ext (λ p. fun_ext (λ e. append_cancel_left (s.orders p e) (one.round.done p e) (other.round.done p e)
-    (sym (one.orders.further p e) ∙ ap (λ (o : Orders). o p e) orders ∙ other.orders.further p e))) in
-    let round : one.round ≡ other.round =
-    same-round one.round other.round (lists-one (created_as s.book) one.round.made other.round.made one.orders.listed other.orders.listed)
-    (lists-one (lives_as s.book) one.round.homed other.round.homed one.homes.listed other.homes.listed) (lists-one (lives_as s.book) one.round.based other.round.based one.bases other.bases)
-    done (fun_ext (λ e. one.homes.cells e ∙ sym (other.homes.cells e))) in
-    (one.form ∙ ap (λ (v : Standing). text_of_round h v.rounds v.orders one.round) same ∙ ap (text_of_round h u.rounds u.orders) round ∙ sym other.form, same)
+-- the lines of executed calls are one list
+done_is_one : (b : Book) (p : Part) (before after after' : ℕ → List Call) (xs ys : List DoneLine) → after ≡ after' → ExtendsOrders b p before after xs → ExtendsOrders b p before after' ys → xs ≡ ys
+done_is_one b p before after after' xs ys same x y =
+    let done : x.done ≡ y.done = fun_ext (λ e. append_cancel_left (before e) (x.done e) (y.done e) (sym (x.further e) ∙ ap (λ (o : ℕ → List Call). o e) same ∙ y.further e)) in
+    x.are ∙ ap (λ (d : ℕ → List Call). done_lines d x.made) done ∙ ap (done_lines y.done) (listed_is_one (created_as b) x.made y.made x.listed y.listed) ∙ sym y.are
 
--- where a test tells whether a round ends
-one-end : (h : Header) (who : Sender) (s : Standing) (ends : Bool) (x y : List ℕ) (t u : Standing) → From who s.book.calls
-    → MatchBool ends (IsRound h s x t) ((x ≡ []) × (t ≡ s)) → MatchBool ends (IsRound h s y u) ((y ≡ []) × (u ≡ s)) → (x ≡ y) × (t ≡ u)
-one-end h who s true x y t u from one other = one-round h who s x y t u from one other
-one-end h who s false x y t u from one other = (one.0 ∙ sym other.0, one.1 ∙ sym other.1)
+homes_are_one : (h : Header) (b : Book) (orders other : Orders) (xs ys : List HomeLine) → orders ≡ other → HasHomes h b orders xs → HasHomes h b other ys → xs ≡ ys
+homes_are_one h b orders other xs ys same x y =
+    x.are ∙ ap (λ (o : Orders). map (λ (c : Create). home_line h (o part.Cell c.entity) c) x.live) same
+    ∙ ap (map (λ (c : Create). home_line h (other part.Cell c.entity) c)) (listed_is_one (live_as b) x.live y.live x.listed y.listed) ∙ sym y.are
 
--- and it leaves the calls
-end-keeps : (h : Header) (who : Sender) (s : Standing) (ends : Bool) (x : List ℕ) (t : Standing) → From who s.book.calls → MatchBool ends (IsRound h s x t) ((x ≡ []) × (t ≡ s)) → From who t.book.calls
-end-keeps h who s true x t from is = subst (λ (b : Book). From who b.calls) (sym is.book) from
-end-keeps h who s false x t from is = subst (λ (v : Standing). From who v.book.calls) (sym is.1) from
+bases_are_one : (h : Header) (b : Book) (orders other : Orders) (xs ys : List BaseLine) → orders ≡ other → HasBases h b orders xs → HasBases h b other ys → xs ≡ ys
+bases_are_one h b orders other xs ys same x y =
+    x.are ∙ ap (λ (o : Orders). map (λ (c : Create). base_line h (o part.Base c.entity) c) x.live) same
+    ∙ ap (map (λ (c : Create). base_line h (other part.Base c.entity) c)) (listed_is_one (live_as b) x.live y.live x.listed y.listed) ∙ sym y.are
+
+-- by their parts the orders after a round are one
+orders_by_part : (one : ℕ → Sender) (b : Book) (p : Part) (before after after' : ℕ → List Call) (xs ys : List DoneLine) → AreOwn one (calls_of (entries b))
+    → ExtendsOrders b p before after xs → ExtendsOrders b p before after' ys → after ≡ after'
+orders_by_part one b p before after after' xs ys own x y = fun_ext (λ e. full_order_is_one one b p e (after e) (after' e) own (x.full e) (y.full e))
+
+same_orders : (o u : Orders) → o part.Cell ≡ u part.Cell → o part.Base ≡ u part.Base → o ≡ u
+same_orders o u cell base = fun_ext by_part
+  where
+    by_part : (p : Part) → o p ≡ u p
+    by_part part.Cell = cell
+    by_part part.Base = base
+
+-- a round is one, and leaves one standing
+round_is_one : (h : Header) (one : ℕ → Sender) (s : Standing) (r q : RoundData) (t u : Standing) → AreOwn one (calls_of (entries s.book)) → IsRound h s r t → IsRound h s q u → (r ≡ q) × (t ≡ u)
+round_is_one h one s r q t u own x y =
+    let cell : t.orders part.Cell ≡ u.orders part.Cell = orders_by_part one s.book part.Cell (s.orders part.Cell) (t.orders part.Cell) (u.orders part.Cell) r.did q.did own x.did y.did in
+    let base : t.orders part.Base ≡ u.orders part.Base = orders_by_part one s.book part.Base (s.orders part.Base) (t.orders part.Base) (u.orders part.Base) r.dob q.dob own x.dob y.dob in
+    let orders : t.orders ≡ u.orders = same_orders t.orders u.orders cell base in (
+      same_data r q (x.number ∙ sym y.number) (done_is_one s.book part.Cell (s.orders part.Cell) (t.orders part.Cell) (u.orders part.Cell) r.did q.did cell x.did y.did)
+          (done_is_one s.book part.Base (s.orders part.Base) (t.orders part.Base) (u.orders part.Base) r.dob q.dob base x.dob y.dob)
+          (homes_are_one h s.book t.orders u.orders r.homes q.homes orders x.homes y.homes) (bases_are_one h s.book t.orders u.orders r.bases q.bases orders x.bases y.bases),
+      same_standing t u (x.lines ∙ sym y.lines) (x.rounds ∙ sym y.rounds) (x.book ∙ sym y.book) orders,
+    )
+
+end_is_one : (h : Header) (one : ℕ → Sender) (s : Standing) (xs ys : List Piece) (t u : Standing) → AreOwn one (calls_of (entries s.book)) → EndsRound h s xs t → EndsRound h s ys u → (xs ≡ ys) × (t ≡ u)
+end_is_one h one s xs ys t u own (r, is, x) (q, is', y) =
+    let same = round_is_one h one s r q t u own x y in (is ∙ ap (λ (d : RoundData). Ended s d ∷ []) same.0 ∙ sym is', same.1)
+
+-- after a round the book has the same calls
+calls_after_round : (h : Header) (one : ℕ → Sender) (s t : Standing) (r : RoundData) → AreOwn one (calls_of (entries s.book)) → IsRound h s r t → AreOwn one (calls_of (entries t.book))
+calls_after_round h one s t r own x =
+    subst (λ (b : Book). AreOwn one (calls_of (entries b))) (sym x.book) (subst (λ (xs : List Entry). AreOwn one (calls_of xs)) (sym (append-nil (entries s.book))) own)
 
 -- ---- lines
 
+-- where a test tells whether the round ends
+kept_is_one : (h : Header) (one : ℕ → Sender) (s : Standing) (full : Bool) (xs ys : List Piece) (t u : Standing) → AreOwn one (calls_of (entries s.book))
+    → MatchBool full (EndsRound h s xs t) ((xs ≡ []) × (t ≡ s)) → MatchBool full (EndsRound h s ys u) ((ys ≡ []) × (u ≡ s)) → (xs ≡ ys) × (t ≡ u) × AreOwn one (calls_of (entries t.book))
+kept_is_one h one s true xs ys t u own x y =
+    let same = end_is_one h one s xs ys t u own x y in (same.0, same.1, calls_after_round h one s t x.0 own x.2)
+kept_is_one h one s false xs ys t u own x y =
+    (x.0 ∙ sym y.0, x.1 ∙ sym y.1, subst (λ (v : Standing). AreOwn one (calls_of (entries v.book))) (sym x.1) own)
+
+calls_with_entry : (b : Book) (x : Entry) → calls_of (entries (with_entry b x)) ≡ calls_of (entries b) ++ calls_of (x ∷ [])
+calls_with_entry b x = ap calls_of (sym (append_assoc b.past b.current (x ∷ []))) ∙ filter_map-append called (entries b) (x ∷ [])
+
 -- an accepted call is from the sender that its line names
-accepts-keeps : (h : Header) (who : Sender) (b next : Book) (c : Command) → ((name : List ℕ) (e : ℕ) (method : List ℕ) (arguments : List (List ℕ)) → c ≡ Call name e method arguments → name ≡ sender_text who)
-    → From who b.calls → Accepts h b c next → From who next.calls
-accepts-keeps h who b next (Create e name x z) names from accepts = subst (λ (k : Book). From who k.calls) (sym accepts.2) from
-accepts-keeps h who b next Sync names from accepts = subst (λ (k : Book). From who k.calls) (sym accepts) from
-accepts-keeps h who b next (Call name e method arguments) names from accepts =
-    let call : Called = call_of h.defs accepts.1 accepts.0 (Method accepts.2 accepts.3) in
-    let own : accepts.0 ≡ who = one-sender accepts.0 who (accepts.4.known_as ∙ names name e method arguments refl) in
-    subst (λ (k : Book). From who k.calls) (sym accepts.6) (All-push (λ (c : Called). c.sender ≡ who) b.calls call from own)
-
-not-skipped : (c : Command) (next : Book) → Accepted c next ≡ Skipped → ⊥
-not-skipped c next is = cc
-
-not-refused : (c : Command) (next : Book) (cause : Cause) → Accepted c next ≡ Refused cause → ⊥
-not-refused c next cause is = cc
-
-judges-keeps : (h : Header) (who : Sender) (b next : Book) (line : Line) (c : Command) → CallIsFrom who line → From who b.calls → Judges h b line (Accepted c next) → From who next.calls
-judges-keeps h who b next Long c names from judged = absurd (not-refused c next TooLong judged)
-judges-keeps h who b next (Content line) c names from (inl skipped) = absurd (not-skipped c next skipped.1)
-judges-keeps h who b next (Content line) c names from (inr (_, inl bad)) = absurd (not-refused c next (BadWords bad.0) bad.2)
-judges-keeps h who b next (Content line) c names from (inr (_, inr judged)) =
-    accepts-keeps h who b next c (λ name e method arguments is. names judged.0 name e method arguments judged.1 (subst (Says judged.0) is judged.2.0)) from judged.2.1
+entry_is_own : (h : Header) (one : ℕ → Sender) (b : Book) (line : Line) (c : language.Command) (x : Entry) → CallIsFrom one line → Spells line c → Means h b c x → AreOwn one (calls_of (entries b))
+    → AreOwn one (calls_of (entries (with_entry b x)))
+entry_is_own h one b line language.Sync x names spells means own = absurd means
+entry_is_own h one b line (language.Create e n px pz) x names spells (c, _, _, is) own =
+    subst (λ (y : Entry). AreOwn one (calls_of (entries (with_entry b y)))) (sym is)
+    (subst (AreOwn one) (sym (calls_with_entry b (entry.Created c) ∙ append-nil (calls_of (entries b)))) own)
+entry_is_own h one b line (language.Call s e n a) x names spells (c, call, is) own =
+    let from : c.sender ≡ one c.entity = sender_is_one c.sender (one c.entity) (call.sender.spelled ∙ names s e n a c.entity spells call.number) in
+    subst (λ (y : Entry). AreOwn one (calls_of (entries (with_entry b y)))) (sym is)
+    (subst (AreOwn one) (sym (calls_with_entry b (entry.Called c))) (All-push (IsOwn one) (calls_of (entries b)) c own from))
 
 -- a verdict has one text, and leaves one standing
-one-take : (h : Header) (who : Sender) (s : Standing) (line : Line) (v : Verdict) (x y : List ℕ) (t u : Standing) → CallIsFrom who line → From who s.book.calls → Judges h s.book line v
-    → Takes h (counted s) v x t → Takes h (counted s) v y u → (x ≡ y) × (t ≡ u) × From who t.book.calls
-one-take h who s line Skipped x y t u names from judged one other = (one.0 ∙ sym other.0, one.1 ∙ sym other.1, subst (λ (k : Standing). From who k.book.calls) (sym one.1) from)
-one-take h who s line (Refused cause) x y t u names from judged one other = (one.0 ∙ sym other.0, one.1 ∙ sym other.1, subst (λ (k : Standing). From who k.book.calls) (sym one.1) from)
-one-take h who s line (Accepted c b) x y t u names from judged one other =
-    let from_next = judges-keeps h who s.book b line c names from judged in
-    let at : Standing = with_book (counted s) b in
-    let both = one-end h who at (ends_round c b) x y t u from_next one other in
-    (both.0, both.1, end-keeps h who at (ends_round c b) x t from_next one)
+follows_one : (h : Header) (one : ℕ → Sender) (s : Standing) (line : Line) (v : Verdict) (xs ys : List Piece) (t u : Standing) → CallIsFrom one line → AreOwn one (calls_of (entries s.book)) → Judges h s.book line v
+    → Follows h (with_line s) v xs t → Follows h (with_line s) v ys u → (xs ≡ ys) × (t ≡ u) × AreOwn one (calls_of (entries t.book))
+follows_one h one s line verdict.Skipped xs ys t u names own judged x y = (x.0 ∙ sym y.0, x.1 ∙ sym y.1, subst (λ (k : Standing). AreOwn one (calls_of (entries k.book))) (sym x.1) own)
+follows_one h one s line (verdict.Refused c) xs ys t u names own judged x y = (x.0 ∙ sym y.0, x.1 ∙ sym y.1, subst (λ (k : Standing). AreOwn one (calls_of (entries k.book))) (sym x.1) own)
+follows_one h one s line (verdict.Accepted added) xs ys t u names own (_, c, spells, means) x y =
+    let at : Standing = with_book (with_line s) (with_entry s.book added) in
+    kept_is_one h one at (open_lines at.book == most_lines) xs ys t u (entry_is_own h one s.book line c added names spells means own) x y
+follows_one h one s line verdict.Synced xs ys t u names own judged x y =
+    let same = end_is_one h one (with_line s) xs ys t u own x y in (same.0, same.1, calls_after_round h one (with_line s) t x.0 own x.2)
 
 -- ---- inputs
 
 -- a run has one text, and leaves one standing
-one-run : (h : Header) (who : Sender) (lines : List Line) (s t u : Standing) (x y : List ℕ) → AreDefs h.defs → CallsAreFrom who lines → From who s.book.calls
-    → Run h s lines x t → Run h s lines y u → (x ≡ y) × (t ≡ u) × From who t.book.calls
-one-run h who [] s t u x y are names from one other = (one.0 ∙ sym other.0, one.1 ∙ sym other.1, subst (λ (k : Standing). From who k.book.calls) (sym one.1) from)
-one-run h who (line ∷ lines) s t u x y are names from one other =
-    let step = one.4 in
-    let step' = other.4 in
-    let verdict : step.0 ≡ step'.0 = one-verdict h s.book line step.0 step'.0 are step.1 step'.1 in
-    let first = one-take h who s line step.0 one.0 other.0 one.2 other.2 (All-head (CallIsFrom who) line lines names) from step.1 step.2
-    (subst (λ (v : Verdict). Takes h (counted s) v other.0 other.2) (sym verdict) step'.2) in
-    let rest = one-run h who lines one.2 t u one.1 other.1 are (All-tail (CallIsFrom who) line lines names) first.2 one.5
-    (subst (λ (k : Standing). Run h k lines other.1 u) (sym first.1) other.5) in
-    (one.3 ∙ ap (λ (z : List ℕ). z ++ one.1) first.0 ∙ ap (λ (z : List ℕ). other.0 ++ z) rest.0 ∙ sym other.3, rest.1, rest.2)
+run_is_one : (h : Header) (one : ℕ → Sender) (lines : List Line) (s t u : Standing) (xs ys : List Piece) → AreDefs h.defs → CallsAreFrom one lines → AreOwn one (calls_of (entries s.book))
+    → Run (Step h) s lines xs t → Run (Step h) s lines ys u → (xs ≡ ys) × (t ≡ u) × AreOwn one (calls_of (entries t.book))
+run_is_one h one [] s t u xs ys are names own x y = (x.0 ∙ sym y.0, x.1 ∙ sym y.1, subst (λ (k : Standing). AreOwn one (calls_of (entries k.book))) (sym x.1) own)
+run_is_one h one (line ∷ lines) s t u xs ys are names own x y =
+    let step = x.4 in
+    let step' = y.4 in
+    let verdict : step.0 ≡ step'.0 = verdict_is_one_of h s.book line step.0 step'.0 are step.1 step'.1 in
+    let first = follows_one h one s line step.0 x.0 y.0 x.2 y.2 (All-head (CallIsFrom one) line lines names) own step.1 step.2
+    (subst (λ (v : Verdict). Follows h (with_line s) v y.0 y.2) (sym verdict) step'.2) in
+    let rest = run_is_one h one lines x.2 t u x.1 y.1 are (All-tail (CallIsFrom one) line lines names) first.2 x.5
+    (subst (λ (k : Standing). Run (Step h) k lines y.1 u) (sym first.1) y.5) in
+    (x.3 ∙ ap (λ (z : List Piece). z ++ x.1) first.0 ∙ ap (λ (z : List Piece). y.0 ++ z) rest.0 ∙ sym y.3, rest.1, rest.2)
 
 -- so has what is printed at the end
-one-last : (h : Header) (who : Sender) (s : Standing) (none : Bool) (x y : List ℕ) → From who s.book.calls
-    → MatchBool none (x ≡ []) ((t : Standing) × IsRound h s x t) → MatchBool none (y ≡ []) ((t : Standing) × IsRound h s y t) → x ≡ y
-one-last h who s true x y from one other = one ∙ sym other
-one-last h who s false x y from one other = (one-round h who s x y one.0 other.0 from one.1 other.1).0
+last_is_one : (h : Header) (one : ℕ → Sender) (s : Standing) (none : Bool) (xs ys : List Piece) → AreOwn one (calls_of (entries s.book))
+    → MatchBool none (xs ≡ []) ((t : Standing) × EndsRound h s xs t) → MatchBool none (ys ≡ []) ((t : Standing) × EndsRound h s ys t) → xs ≡ ys
+last_is_one h one s true xs ys own x y = x ∙ sym y
+last_is_one h one s false xs ys own x y = (end_is_one h one s xs ys x.0 y.0 own x.1 y.1).0
 
--- an input whose calls are from one sender has one ended transcript
-pub one-transcript : (lines : List Line) (s : Sender) (x y : List ℕ) → CallsAreFrom s lines → IsEnded lines x → IsEnded lines y → x ≡ y
-one-transcript lines s x y names one other =
-    let rest : List Line = one.4.rest in
-    let is : lines ≡ separator ∷ rest = one.4.header.2 in
-    let a = behind-separator lines rest x is one in
-    let b = behind-separator lines rest y is other in
-    let run = one-run empty_header s rest (behind_header 1) a.2 b.2 a.0 b.0 builtin-are-defs (All-rest (CallIsFrom s) separator rest lines is names) (All-nil (λ (c : Called). c.sender ≡ s)) a.3 b.3 in
-    let last : a.1 ≡ b.1 = one-last empty_header s a.2 (a.2.book.open_lines == 0) a.1 b.1 run.2 a.4 (subst (λ (k : Standing). EndsInput empty_header k b.1) (sym run.1) b.4) in
-    a.5 ∙ ap (λ (z : List ℕ). z ++ a.1) run.0 ∙ ap (λ (z : List ℕ). b.0 ++ z) last ∙ sym b.5
+-- ---- headers
+
+-- so far a header has no line but its end
+pub no_header_lines : (head : List Line) (text : List ℕ) → AreHeaderLines head text → head ≡ []
+no_header_lines head text are = are.are ∙ ap (map Content) (none are.contents (ap length (sym are.whole) ∙ omega (arith, are.most)))
+  where
+    none : (contents : List (List ℕ)) → length (flat_map (λ (content : List ℕ). content ++ 10 ∷ []) contents) ≡ 0 → contents ≡ []
+    none [] is = refl
+    none (content ∷ contents) is =
+        let parts = length-append (content ++ 10 ∷ []) (flat_map (λ (c : List ℕ). c ++ 10 ∷ []) contents) in
+        let feed = length-append content (10 ∷ []) in
+        absurd (omega (arith, is, parts, feed))
+
+same_header : (h k : Header) → h.settings ≡ k.settings → h.defs ≡ k.defs → h ≡ k
+same_header h k settings defs = λ i. record { settings = settings i; defs = defs i }
+
+-- what lines with a header begin with is one
+pub header_is_one : (lines : List Line) (h k : Header) (m n : ℕ) (rest more : List Line) → BeginWithHeader lines h m rest → BeginWithHeader lines k n more → (h ≡ k) × (m ≡ n) × (rest ≡ more)
+header_is_one lines h k m n rest more x y =
+    let none = no_header_lines x.head x.text x.are in
+    let none' = no_header_lines y.head y.text y.are in
+    let here : lines ≡ separator ∷ rest = x.whole ∙ ap (λ (ls : List Line). ls ++ separator ∷ rest) none in
+    let here' : lines ≡ separator ∷ more = y.whole ∙ ap (λ (ls : List Line). ls ++ separator ∷ more) none' in (
+      same_header h k (x.reads.settings ∙ sym y.reads.settings) (x.reads.defs ∙ sym y.reads.defs),
+      x.number ∙ ap (λ (ls : List Line). length ls + 1) (none ∙ sym none') ∙ sym y.number,
+      ap tail (sym here ∙ here'),
+    )
+  where
+    tail : List Line → List Line
+    tail [] = []
+    tail (line ∷ ls) = ls
+
+-- the types that a header sets are well formed
+pub header_has_defs : (text : List ℕ) (h : Header) → Reads text h → AreDefs h.defs
+header_has_defs text h reads = subst AreDefs (sym reads.defs) builtin-are-defs
+
+-- the lines after a header are calls of the same senders
+rest_is_from : (one : ℕ → Sender) (h : Header) (lines rest : List Line) (n : ℕ) → CallsAreFrom one lines → BeginWithHeader lines h n rest → CallsAreFrom one rest
+rest_is_from one h lines rest n names begins =
+    let here : lines ≡ separator ∷ rest = begins.whole ∙ ap (λ (ls : List Line). ls ++ separator ∷ rest) (no_header_lines begins.head begins.text begins.are) in
+    All-tail (CallIsFrom one) separator rest (subst (CallsAreFrom one) here names)
+
+-- an input whose entities have one sender each has one ended transcript
+pub transcript_is_one : (lines : List Line) (one : ℕ → Sender) (x y : List ℕ) → CallsAreFrom one lines → IsEnded lines x → IsEnded lines y → x ≡ y
+transcript_is_one lines one x y names (h, xs, last, t, prints, ends, is) (k, ys, last', u, prints', ends', is') =
+    let same = header_is_one lines h k prints.count prints'.count prints.rest prints'.rest prints.header prints'.header in
+    let run' : Run (Step h) (after_header prints.count) prints.rest ys u =
+    subst (λ (ls : List Line). Run (Step h) (after_header prints.count) ls ys u) (sym same.2)
+    (subst (λ (n : ℕ). Run (Step h) (after_header n) prints'.rest ys u) (sym same.1)
+    (subst (λ (j : Header). Run (Step j) (after_header prints'.count) prints'.rest ys u) (sym same.0) prints'.run)) in
+    let run = run_is_one h one prints.rest (after_header prints.count) t u xs ys (header_has_defs prints.header.text h prints.header.reads)
+    (rest_is_from one h lines prints.rest prints.count names prints.header) (All-nil (IsOwn one)) prints.run run' in
+    let ends_here : EndsInput h t last' = subst (λ (v : Standing). EndsInput h v last') (sym run.1) (subst (λ (j : Header). EndsInput j u last') (sym same.0) ends') in
+    let last_same : last ≡ last' = last_is_one h one t (open_lines t.book == 0) last last' run.2 ends ends_here in
+    is ∙ ap (λ (ps : List Piece). text_of h.defs (ps ++ last)) run.0 ∙ ap (λ (ps : List Piece). text_of h.defs (ys ++ ps)) last_same
+    ∙ ap (λ (j : Header). text_of j.defs (ys ++ last')) same.0 ∙ sym is'

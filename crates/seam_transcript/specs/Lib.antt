@@ -1,12 +1,11 @@
 pub mod Language
+pub mod Header
 pub mod Book
 pub mod Orders
-pub mod Standing
-pub mod Sequence
 pub mod FlatTable
+pub mod Standing
 pub mod Round
+pub mod Texts
 pub mod Transcript
 pub mod Senders
-pub mod Said
-pub mod Plain
-pub mod PlainStands
+pub mod InOrder

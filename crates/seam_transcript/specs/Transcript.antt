@@ -1,67 +1,79 @@
 -- What is printed for the lines of an input.
-use Rattle.std.specs.Prelude.{◌≡◌, ◌⊎◌, ℕ, Bool, true, List, [], ◌∷◌, ◌++◌, codes, ◌==◌, MatchBool}
-use Rattle.seam_io.specs.Lines.{Line, Content}
-use Rattle.seam_value.specs.Values.{decimal_of}
-use Rattle.seam_transcript.specs.Language.{Command, Sync}
-use Rattle.seam_transcript.specs.Book.{Header, empty_header, Book, cause_text, Verdict, Skipped, Refused, Accepted, Judges}
-use Rattle.seam_transcript.specs.Standing.{Standing, behind_header, counted, with_book}
-use Rattle.seam_transcript.specs.Round.{IsRound}
+use Rattle.std.specs.Prelude.{◌≡◌, ◌⊎◌, ℕ, List, [], ◌∷◌, ◌++◌, ◌==◌, MatchBool}
+use Rattle.std.specs.List.{flat_map}
+use Rattle.seam_io.specs.Lines.{Line}
+use Rattle.seam_defs.specs.declared.types.TypeDef.{TypeDef}
+use Rattle.seam_transcript.specs.declared.header.Header.{Header}
+use Rattle.seam_transcript.specs.Header.{BeginWithHeader, AwaitHeader}
+use Rattle.seam_transcript.specs.Book.{open_lines, with_entry, Judges}
+use Rattle.seam_transcript.specs.Standing.{Standing, after_header, with_line, with_book}
+use Rattle.seam_transcript.specs.Round.{RoundData, IsRound}
+use Rattle.seam_transcript.specs.Texts.{refusal, round_text}
+use Rattle.seam_transcript.specs.declared.verdict.Cause.{Cause}
+use Rattle.seam_transcript.specs.declared.verdict.Verdict.{Verdict}
+use Rattle.seam_transcript.specs.declared.verdict.Verdict.TheVariants as verdict
 
--- the line of a refused line: its number and the cause
-abbrev pub refusal : ℕ → List ℕ → List ℕ
-refusal number cause = codes "line " ++ decimal_of number ++ 32 ∷ cause ++ 10 ∷ []
+-- what is printed at once: the refusal of a line, or a round that ended at a standing
+pub data Piece : Type 0 where
+  Refusal : (line : ℕ) → Cause → Piece
+  Ended : Standing → RoundData → Piece
 
--- whether a command, after which the book is this one, ends the round: `sync` does, and the 65,536th other one of the round
-abbrev pub ends_round : Command → Book → Bool
-ends_round Sync b = true
-ends_round c b = b.open_lines == 65536
+abbrev pub piece_text : List TypeDef → Piece → List ℕ
+piece_text defs (Refusal line c) = refusal line c
+piece_text defs (Ended s r) = round_text defs r
 
--- What is printed for a line that the standing has counted, by the verdict on it, and the standing behind it.
-abbrev pub Takes : Header → Standing → Verdict → List ℕ → Standing → Type 0
-Takes h s Skipped text t = (text ≡ []) × (t ≡ s)
-Takes h s (Refused cause) text t = (text ≡ refusal s.lines (cause_text cause)) × (t ≡ s)
-Takes h s (Accepted c b) text t =
-    MatchBool (ends_round c b) (IsRound h (with_book s b) text t) ((text ≡ []) × (t ≡ with_book s b))
+-- the text of pieces
+abbrev pub text_of : List TypeDef → List Piece → List ℕ
+text_of defs pieces = flat_map (piece_text defs) pieces
 
--- The next line is taken, with what is printed for it.
-abbrev pub Step : Header → Standing → Line → List ℕ → Standing → Type 0
-Step h s line text t = (v : Verdict) × Judges h s.book line v × Takes h (counted s) v text t
+-- the open round ends at the standing `s`, and its text is legal; `t` is the standing after it
+abbrev pub EndsRound : Header → Standing → List Piece → Standing → Type 0
+EndsRound h s pieces t = (r : RoundData) × (pieces ≡ Ended s r ∷ []) × IsRound h s r t
 
--- Lines are taken, one after another.
-abbrev pub Run : Header → Standing → List Line → List ℕ → Standing → Type 0
-Run h s [] text t = (text ≡ []) × (t ≡ s)
-Run h s (line ∷ lines) text t =
-    (front rest : List ℕ) × (mid : Standing) × (text ≡ front ++ rest) × Step h s line front mid × Run h mid lines rest t
+-- a round ends with so many accepted lines other than `sync`
+abbrev pub most_lines : ℕ
+most_lines = 65536
 
--- the header's end
-abbrev pub separator : Line
-separator = Content (codes "%%")
+-- a line was accepted, with which the standing is `s`: where the round is full, it ends
+abbrev pub Keeps : Header → Standing → List Piece → Standing → Type 0
+Keeps h s pieces t = MatchBool (open_lines s.book == most_lines) (EndsRound h s pieces t) ((pieces ≡ []) × (t ≡ s))
 
--- Lines begin with the header, of `count` lines, its end among them, and the lines `rest` are behind it. So far a header has
--- no other line than its end, and sets nothing.
-abbrev pub BeginWithHeader : List Line → Header → ℕ → List Line → Type 0
-BeginWithHeader lines h count rest = (h ≡ empty_header) × (count ≡ 1) × (lines ≡ separator ∷ rest)
+-- What is printed for a line that the standing has counted, by the verdict on it, and the standing after it.
+abbrev pub Follows : Header → Standing → Verdict → List Piece → Standing → Type 0
+Follows h s verdict.Skipped pieces t = (pieces ≡ []) × (t ≡ s)
+Follows h s (verdict.Refused c) pieces t = (pieces ≡ Refusal s.lines c ∷ []) × (t ≡ s)
+Follows h s (verdict.Accepted x) pieces t = Keeps h (with_book s (with_entry s.book x)) pieces t
+Follows h s verdict.Synced pieces t = EndsRound h s pieces t
 
--- no line behind a header was read: so far no line at all
-abbrev pub AwaitHeader : List Line → Type 0
-AwaitHeader lines = lines ≡ []
+-- The next line is read, with what is printed for it.
+abbrev pub Step : Header → Standing → Line → List Piece → Standing → Type 0
+Step h s line pieces t = (v : Verdict) × Judges h s.book line v × Follows h (with_line s) v pieces t
 
--- the lines behind the header print the text, one after another, and leave this standing
-pub record PrintLines (lines : List Line) (h : Header) (text : List ℕ) (t : Standing) : Type 0 where
+-- Lines are read, one after another, by steps of any kind.
+abbrev pub Run : {S P : Type 0} → (S → Line → List P → S → Type 0) → S → List Line → List P → S → Type 0
+Run Steps s [] pieces t = (pieces ≡ []) × (t ≡ s)
+Run {S} {P} Steps s (line ∷ lines) pieces t =
+    (first rest : List P) × (mid : S) × (pieces ≡ first ++ rest) × Steps s line first mid × Run Steps mid lines rest t
+
+-- the lines after the header print the pieces, one after another, and leave this standing
+pub record PrintLines (lines : List Line) (h : Header) (pieces : List Piece) (t : Standing) : Type 0 where
   pub count : ℕ
   pub rest : List Line
   pub header : BeginWithHeader lines h count rest
-  pub run : Run h (behind_header count) rest text t
+  pub run : Run (Step h) (after_header count) rest pieces t
 
--- An open transcript of the lines read: nothing where they have no header yet, and else what the lines behind it print.
+-- An open transcript of the lines read: nothing where they have no header yet, and else what the lines after it print.
 abbrev pub IsOpen : List Line → List ℕ → Type 0
-IsOpen lines text = ((text ≡ []) × AwaitHeader lines) ⊎ ((h : Header) × (t : Standing) × PrintLines lines h text t)
+IsOpen lines text =
+    ((text ≡ []) × AwaitHeader lines)
+    ⊎ ((h : Header) × (pieces : List Piece) × (t : Standing) × PrintLines lines h pieces t × (text ≡ text_of h.defs pieces))
 
 -- what is printed at the end of the input: a last round, where a line was accepted since the last one ended
-abbrev pub EndsInput : Header → Standing → List ℕ → Type 0
-EndsInput h s text = MatchBool (s.book.open_lines == 0) (text ≡ []) ((t : Standing) × IsRound h s text t)
+abbrev pub EndsInput : Header → Standing → List Piece → Type 0
+EndsInput h s pieces = MatchBool (open_lines s.book == 0) (pieces ≡ []) ((t : Standing) × EndsRound h s pieces t)
 
--- An ended transcript of all lines: what the lines behind the header print, and then what is printed at the end.
+-- An ended transcript of all lines: what the lines after the header print, and then what is printed at the end.
 abbrev pub IsEnded : List Line → List ℕ → Type 0
 IsEnded lines text =
-    (h : Header) × (front last : List ℕ) × (t : Standing) × PrintLines lines h front t × EndsInput h t last × (text ≡ front ++ last)
+    (h : Header) × (pieces last : List Piece) × (t : Standing) × PrintLines lines h pieces t × EndsInput h t last
+    × (text ≡ text_of h.defs (pieces ++ last))

@@ -2,4 +2,4 @@
 pub const MOST_ENTITIES: usize = 65_536;
 
 /// A round ends with so many accepted lines other than `sync`.
-pub const MOST_LINES: u32 = 65_536;
+pub const MOST_LINES: usize = 65_536;

@@ -5,4 +5,5 @@ pub mod Agree
 pub mod Padded
 pub mod Changes
 pub mod Sets
+pub mod Leaves
 pub mod Moves

@@ -26,7 +26,7 @@ pub record IsInSpace (t : Division) (p : Pos) : Type 0 where
 abbrev pub cells_of : Division → ℕ
 cells_of t = length t.cuts + 1
 
--- what stands where there is no cut
+-- the entry where there is no cut
 abbrev pub no_cut : Cut
 no_cut = record { cell = 0; boundary = record { axis = X; at = 0 } }
 

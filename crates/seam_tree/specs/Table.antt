@@ -1,4 +1,4 @@
--- The table of a tree's cuts: fifteen places, and what stands in those that are free.
+-- The table of a tree's cuts: fifteen places, and the entry of those that are free.
 use Rattle.std.specs.Prelude.{◌-◌, List, length, ◌++◌, replicate}
 use Rattle.seam_tree.specs.declared.cut.Cut.{Cut}
 use Rattle.seam_tree.specs.Division.{no_cut}

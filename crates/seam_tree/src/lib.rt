@@ -1,6 +1,7 @@
 //! A space cut into at most sixteen cells by boundaries along its axes, and sets of such cells.
 //!
-//! The tree of boundaries is that of the cells of a BigWorld space (BigWorld Server Overview, load balancing).
+//! The tree of boundaries is that of the cells of a BigWorld space (BigWorld Server Overview, load balancing). For callers,
+//! `proofs/Leaves` says that a leaf is a cell.
 #![tactic(auto)]
 
 mod boundary;

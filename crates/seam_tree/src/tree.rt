@@ -14,7 +14,7 @@ use std::marker::Model;
 // The most cuts that a tree has.
 const MOST_CUTS: usize = 15;
 
-// What stands in the table where there is no cut.
+// The entry of the table where there is no cut.
 const NO_CUT: Cut = Cut {
     cell: 0,
     boundary: Boundary {
@@ -148,7 +148,7 @@ impl Tree {
 
     /// Cuts a cell along an axis, and gives the number of the new cell and of the boundary.
     ///
-    /// Refused, and then unchanged, by the first that stands: NoCell where there is no such cell, OutsideCell where one of
+    /// Refused, and then unchanged, by the first that holds: NoCell where there is no such cell, OutsideCell where one of
     /// the two parts would be empty, TooManyCells where there are sixteen cells.
     pub fn cut(&mut self, cell: u32, axis: Axis, at: u32) -> Result<u8, CutError>
         ensures made { IfOk result (λ new. new ≡ cells_of self.old) }
@@ -184,7 +184,7 @@ impl Tree {
 
     /// Moves a boundary to another place along its axis.
     ///
-    /// Refused, and then unchanged, by the first that stands: NoBoundary where there is no such boundary, WouldEmpty where
+    /// Refused, and then unchanged, by the first that holds: NoBoundary where there is no such boundary, WouldEmpty where
     /// some cell's area would be empty.
     pub fn shift(&mut self, b: u32, at: u32) -> Result<(), ShiftError>
         ensures moved { OnOk result (self.new ≡ with_place self.old b at) }

@@ -14,12 +14,12 @@ use Rattle.seam_value.specs.Causes.{RefusesText, Refuses}
 use Rattle.seam_value.proofs.Spellings.{quoted-injective}
 use Rattle.seam_value.proofs.Signs.{number_text-injective, no_quote}
 
-pub number_value : (r : Result Value ValueError) (t : ValueType) (z : ℤ) (bytes : List ℕ) → number_text z ≡ bytes → IfOk r (λ v. Fits v t × (v ≡ Number z)) → IfOk r (λ v. Fits v t × (text_of v ≡ bytes))
-number_value (Ok v) t z bytes e h = (h.0, ap text_of h.1 ∙ e)
+pub number_value : (r : Result ℤ ValueError) (t : ValueType) (z : ℤ) (bytes : List ℕ) → number_text z ≡ bytes → IfOk r (λ y. Fits (Number y) t × (y ≡ z)) → IfOk r (λ y. Fits (Number y) t × (number_text y ≡ bytes))
+number_value (Ok y) t z bytes e h = (h.0, ap number_text h.1 ∙ e)
 number_value (Err x) t z bytes e h = tt
 
-pub number_cause : (r : Result Value ValueError) (t : ValueType) (z : ℤ) (bytes : List ℕ) → t ≢ type.Text → number_text z ≡ bytes → IfErr r (λ e. (e ≡ OutOfRange) × ¬ (Fits (Number z) t)) → IfErr r (Refuses bytes t)
-number_cause (Ok v) t z bytes n e h = tt
+pub number_cause : (r : Result ℤ ValueError) (t : ValueType) (z : ℤ) (bytes : List ℕ) → t ≢ type.Text → number_text z ≡ bytes → IfErr r (λ e. (e ≡ OutOfRange) × ¬ (Fits (Number z) t)) → IfErr r (Refuses bytes t)
+number_cause (Ok y) t z bytes n e h = tt
 number_cause (Err OutOfRange) t z bytes n e h = (n, z, e, h.1)
 number_cause (Err NotNumber) t z bytes n e h = let wrong = h.0 in cc
 number_cause (Err BadString) t z bytes n e h = let wrong = h.0 in cc
@@ -70,3 +70,11 @@ refuses_none bytes t v NoMemory f s h = refl
 pub reads_back : (r : Result Value ValueError) (bytes : List ℕ) (t : ValueType) → IfOk r (λ v. Fits v t × (text_of v ≡ bytes)) → IfErr r (Refuses bytes t) → (v : Value) → Fits v t → text_of v ≡ bytes → MatchResult r (λ read. read ≡ v) (λ e. e ≡ NoMemory)
 reads_back (Ok read) bytes t h k v f s = text_of-injective read v (h.1 ∙ sym s)
 reads_back (Err e) bytes t h k v f s = refuses_none bytes t v e f s k
+
+-- a number that fits and is spelled so is read as itself
+pub number_read : (r : Result ℤ ValueError) (bytes : List ℕ) (t : ValueType) → t ≢ type.Text → IfOk r (λ z. Fits (Number z) t × (number_text z ≡ bytes)) → IfErr r (Refuses bytes t) → (z : ℤ) → Fits (Number z) t → number_text z ≡ bytes → r ≡ Ok z
+number_read (Ok y) bytes t n h k z f s = ap Ok (number_text-injective y z (h.1 ∙ sym s))
+number_read (Err e) bytes t n h k z f s = absurd (n (memory_at_text (refuses_none bytes t (Number z) e f s k) k))
+  where
+    memory_at_text : e ≡ NoMemory → Refuses bytes t e → t ≡ type.Text
+    memory_at_text same h = rw same at h

@@ -25,10 +25,10 @@ decimal_of_pos n h = grind (arith, common_steps)
 decimal_of_step : (n : ℕ) → 10 ≤ n → decimal_of n ≡ decimal_of (n / 10) ++ (48 + n % 10) ∷ []
 decimal_of_step n h =
     let above : 0 < n = omega arith in
-    let front : 0 < n / 10 = omega arith in
+    let higher : 0 < n / 10 = omega arith in
     let glyphs : List ℕ → List ℕ = map (λ d. 48 + d) in
     decimal_of_pos n above ∙ ap glyphs (digits_of_step 10 n (omega arith) above) ∙ map-append (λ d. 48 + d) (digits_of 10 (n / 10)) (n % 10 ∷ [])
-    ∙ ap (λ (xs : List ℕ). xs ++ (48 + n % 10) ∷ []) (sym (decimal_of_pos (n / 10) front))
+    ∙ ap (λ (xs : List ℕ). xs ++ (48 + n % 10) ∷ []) (sym (decimal_of_pos (n / 10) higher))
 
 decimal_of_digit : (n : ℕ) → n < 10 → decimal_of n ≡ (48 + n) ∷ []
 unfolding decimal_of
@@ -51,8 +51,8 @@ number_text_is (negsuc n) f = ap (λ (xs : List ℕ). 45 ∷ xs) (decimal_of_is 
 
 -- a fact of a number and its digits, from the digits one after another
 from_step : (P : ℕ → List ℕ → Type 0) → ((n : ℕ) → n < 10 → P n ((48 + n) ∷ [])) → ((n : ℕ) (ds : List ℕ) → 10 ≤ n → P (n / 10) ds → P n (ds ++ (48 + n % 10) ∷ [])) → (n : ℕ) → (10 ≤ n → P (n / 10) (decimal_of (n / 10))) → (b : Bool) → ltb n 10 ≡ b → P n (decimal_of n)
-from_step P one more n front true e = let small : n < 10 = ltb-true n 10 e in subst (P n) (sym (decimal_of_digit n small)) (one n small)
-from_step P one more n front false e = let big : 10 ≤ n = ltb-false n 10 e in subst (P n) (sym (decimal_of_step n big)) (more n (decimal_of (n / 10)) big (front big))
+from_step P one more n higher true e = let small : n < 10 = ltb-true n 10 e in subst (P n) (sym (decimal_of_digit n small)) (one n small)
+from_step P one more n higher false e = let big : 10 ≤ n = ltb-false n 10 e in subst (P n) (sym (decimal_of_step n big)) (more n (decimal_of (n / 10)) big (higher big))
 
 decimal_of_by_steps : (P : ℕ → List ℕ → Type 0) → ((n : ℕ) → n < 10 → P n ((48 + n) ∷ [])) → ((n : ℕ) (ds : List ℕ) → 10 ≤ n → P (n / 10) ds → P n (ds ++ (48 + n % 10) ∷ [])) → (fuel n : ℕ) → n ≤ fuel → P n (decimal_of n)
 decimal_of_by_steps P one more zero n h = from_step P one more n (λ big. absurd (omega arith)) (ltb n 10) refl
@@ -127,9 +127,9 @@ and_right false b h = cc
 -- a numeral is the decimal of its digits' number
 onto_digit : (n d c : ℕ) → 0 < n → d < 10 → 48 + d ≡ c → decimal_of (n * 10 + d) ≡ decimal_of n ++ c ∷ []
 onto_digit n d c h small e =
-    let front : (n * 10 + d) / 10 ≡ n = omega arith in
+    let higher : (n * 10 + d) / 10 ≡ n = omega arith in
     let last : (n * 10 + d) % 10 ≡ d = omega arith in
-    decimal_of_step (n * 10 + d) (omega arith) ∙ rw (front, last, e) refl
+    decimal_of_step (n * 10 + d) (omega arith) ∙ rw (higher, last, e) refl
 
 onto_digits : (n : ℕ) (ds : List ℕ) → 0 < n → list_all is_digit ds ≡ true → decimal_of (digits_value_after 10 n ds) ≡ decimal_of n ++ ds
 onto_digits n [] h d = grind (arith, common_steps)

@@ -3,3 +3,4 @@ pub mod Signs
 pub mod Spellings
 pub mod Magnitudes
 pub mod Answers
+pub mod NumberWords

@@ -10,7 +10,7 @@ use Rattle.seam_value.specs.Numerals.{IsNumeral, SplitsSign, IsSignedNumeral, si
 use Rattle.seam_value.specs.Values.{Fits, decimal_of, number_text}
 use Rattle.seam_value.proofs.Decimals.{decimal_of_numeral, decimal_of-digits_value, decimal_of-injective, glyph_is, and_left, decimal_of_zero}
 
--- a numeral behind its sign is the text of its number
+-- a numeral after its sign is the text of its number
 negative_text : (n : ℕ) (ds : List ℕ) → decimal_of n ≡ ds → ds ≢ 48 ∷ [] → number_text (signed true n) ≡ 45 ∷ ds
 negative_text zero ds e other = absurd (other (sym e ∙ decimal_of_zero))
 negative_text (suc n) ds e other = ap (λ (xs : List ℕ). 45 ∷ xs) e

@@ -3,3 +3,4 @@ pub mod Texts
 pub mod Values
 pub mod Numerals
 pub mod Causes
+pub mod NumberWords

@@ -12,12 +12,12 @@ pub record IsNumeral (digits : List ℕ) : Type 0 where
   pub some : 0 < length digits
   pub first : slice_index digits 0 ≡ 48 → length digits ≡ 1
 
--- the digits behind the sign, if there is one
+-- the digits after the sign, if there is one
 abbrev pub SplitsSign : List ℕ → Bool → List ℕ → Type 0
 SplitsSign bytes true digits = bytes ≡ 45 ∷ digits
 SplitsSign bytes false digits = (bytes ≡ digits) × (slice_index bytes 0 ≢ 45)
 
--- a numeral behind a sign or none, and no `-0`
+-- a numeral after a sign or none, and no `-0`
 pub record IsSignedNumeral (is_negative : Bool) (digits : List ℕ) : Type 0 where
   pub numeral : IsNumeral digits
   pub sign : is_negative ≡ true → digits ≢ 48 ∷ []

@@ -8,8 +8,8 @@ pub record IsShortText (bytes : List ℕ) : Type 0 where
   pub utf8 : IsUtf8 bytes
   pub short : length bytes ≤ 255
 
--- a byte as it stands between quotes: `\"`, `\\` and `\n` stand for a quote, a backslash and a line feed, and every other
--- byte for itself
+-- a byte as it is written between quotes: `\"`, `\\` and `\n` for a quote, a backslash and a line feed, and every other
+-- byte as itself
 abbrev pub spelled_byte : ℕ → List ℕ
 spelled_byte b = if b == 34 then 92 ∷ 34 ∷ [] else (if b == 92 then 92 ∷ 92 ∷ [] else (if b == 10 then 92 ∷ 110 ∷ [] else b ∷ []))
 

@@ -3,6 +3,7 @@
 #![tactic(auto)]
 
 mod laws;
+mod numbers;
 mod reading;
 #[cfg(test)]
 mod tests;
@@ -12,6 +13,8 @@ mod values;
 mod writing;
 
 pub use laws::spelling_is_one_to_one;
+pub use numbers::{positive_number, whole_number};
+pub use reading::read_number;
 pub use texts::ShortText;
 pub use types::ValueType;
 pub use values::{Value, ValueError};

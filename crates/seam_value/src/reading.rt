@@ -1,11 +1,11 @@
 // A value from its spelling.
-ghost use Rattle.std.specs.Prelude.{◌≡◌, ◌≢◌, ◌≤◌, ◌<◌, ◌^◌, ◌↔◌, ◌∷◌, [], ◌++◌, ℕ, List, length, IsTrue, IfOk, IfErr, IfSome, MatchOption, MatchResult};
+ghost use Rattle.std.specs.Prelude.{◌≡◌, ◌≢◌, ◌≤◌, ◌<◌, ◌^◌, ◌↔◌, ◌∷◌, [], ◌++◌, ℕ, ℤ, Ok, List, length, IsTrue, IfOk, IfErr, IfSome, MatchOption, MatchResult};
 ghost use Rattle.seam_value.specs.declared.values.Value.{Value as Values};
 ghost use Rattle.std.specs.List.{list_all, flat_map};
 ghost use Rattle.std.specs.Str.Parse.{digits_value};
 ghost use Rattle.seam_value.specs.Numerals.{is_digit, IsNumeral, IsSignedNumeral, SplitsSign, signed};
 ghost use Rattle.seam_value.specs.Texts.{spelled_byte, quoted, IsShortText};
-ghost use Rattle.seam_value.specs.Values.{Fits, text_of};
+ghost use Rattle.seam_value.specs.Values.{Fits, text_of, number_text};
 ghost use Rattle.seam_value.specs.Causes.{Refuses};
 
 use crate::{ShortText, Value, ValueError, ValueType};
@@ -18,21 +18,23 @@ impl Value {
         ensures value { IfOk result (λ v. Fits v t × (text_of v ≡ bytes.now)) }
         ensures cause { IfErr result (Refuses bytes.now t) }
 
-        // The spelling of a value that fits is read as that value, unless memory is wanting.
+        // The spelling of a value that fits is read as that value, unless allocation fails.
         ensures spelled { (v : Values) → Fits v t → text_of v ≡ bytes.now → MatchResult result (λ read. read ≡ v) (λ e. e ≡ ValueError.NoMemory) }
     {
         match t {
             ValueType::Text => Ok(Value::Text(read_text(alloc, bytes)?)),
-            _ => read_number(bytes, t),
+            _ => Ok(Value::Number(read_number(bytes, t)?)),
         }
     }
 }
 
-// The number of type `t` that the bytes spell.
-fn read_number(bytes: &[u8], t: ValueType) -> Result<Value, ValueError>
+/// The number of the number type `t` that the bytes spell, else the first cause why there is none: `NotNumber` or
+/// `OutOfRange`. It allocates nothing.
+pub fn read_number(bytes: &[u8], t: ValueType) -> Result<i128, ValueError>
     requires { t ≢ ValueType.Text }
-    ensures value { IfOk result (λ v. Fits v t × (text_of v ≡ bytes.now)) }
+    ensures value { IfOk result (λ z. Fits (Value.Number z) t × (number_text z ≡ bytes.now)) }
     ensures cause { IfErr result (Refuses bytes.now t) }
+    ensures spelled { (z : ℤ) → Fits (Value.Number z) t → number_text z ≡ bytes.now → result ≡ Ok z }
 {
     let (is_negative, digits) = split_sign(bytes);
     if !is_signed_numeral(is_negative, digits) {
@@ -44,7 +46,7 @@ fn read_number(bytes: &[u8], t: ValueType) -> Result<Value, ValueError>
     }
 }
 
-// Whether a minus sign stands first, and what follows it.
+// Whether a minus sign comes first, and what follows it.
 fn split_sign(bytes: &[u8]) -> (bool, &[u8])
     ensures { SplitsSign bytes.now result.0 result.1.now }
 {
@@ -102,13 +104,12 @@ fn signed(is_negative: bool, size: u64) -> i128
     }
 }
 
-fn in_range(number: i128, t: ValueType) -> Result<Value, ValueError>
-    ensures value { IfOk result (λ v. Fits v t × (v ≡ Value.Number number)) }
+fn in_range(number: i128, t: ValueType) -> Result<i128, ValueError>
+    ensures value { IfOk result (λ z. Fits (Value.Number z) t × (z ≡ number)) }
     ensures cause { IfErr result (λ e. (e ≡ ValueError.OutOfRange) × ¬ (Fits (Value.Number number) t)) }
 {
-    let value = Value::Number(number);
-    if value.fits(t) {
-        Ok(value)
+    if Value::Number(number).fits(t) {
+        Ok(number)
     } else {
         Err(ValueError::OutOfRange)
     }
@@ -157,7 +158,7 @@ fn content_of(alloc: Global, spelled: &[u8]) -> Result<Option<Vec<u8>>, AllocErr
     Ok(Some(content))
 }
 
-// The byte whose spelling stands first, and what follows.
+// The byte whose spelling comes first, and what follows.
 fn first_byte(spelled: &[u8]) -> Option<(u8, &[u8])>
     ensures found { MatchOption result ((b : ℕ) (after : List ℕ) → spelled.now ≢ spelled_byte b ++ after) (λ p. spelled.now ≡ spelled_byte p.0 ++ p.1.now) }
     ensures shorter { IfSome result (λ p. length p.1.now < length spelled.now) }

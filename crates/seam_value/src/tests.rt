@@ -8,7 +8,7 @@ fn text(alloc: Global, bytes: &[u8]) -> Result<Value, ValueError> {
 
 fn spelling(alloc: Global, value: &Value) -> Result<Vec<u8>, AllocError> {
     let mut out = Vec::from_slice(alloc, b"=")?;
-    value.write(alloc, &mut out)?;
+    value.write(&mut out)?;
     Ok(out)
 }
 

@@ -1,5 +1,5 @@
 // Short texts.
-ghost use Rattle.std.specs.Prelude.{◌≡◌, ◌==◌, ◌↔◌, IsTrue, IfOk, IfErr};
+ghost use Rattle.std.specs.Prelude.{◌≡◌, [], ◌==◌, ◌↔◌, IsTrue, IfOk, IfErr};
 ghost use Rattle.std.specs.Str.{IsUtf8};
 ghost use Rattle.std.proofs.Common.{rules};
 ghost use Rattle.std.specs.Cmp.Rules.{comparing};
@@ -45,6 +45,15 @@ impl Eq for ShortText {
 impl ShortText {
     /// The longest text, in bytes.
     pub const MAX_LEN: usize = 255;
+
+    /// The empty text.
+    pub fn empty(alloc: Global) -> ShortText
+        ensures { result ≡ [] }
+    {
+        ShortText {
+            bytes: Vec::new(alloc),
+        }
+    }
 
     /// A copy of the bytes. Refuses with `BadString` bytes that are not UTF-8, and with `TooLong` more than 255 of them.
     pub fn new(alloc: Global, bytes: &[u8]) -> Result<ShortText, ValueError>

@@ -25,7 +25,7 @@ pub enum ValueError {
     BadString,
     /// A text of more than 255 bytes.
     TooLong,
-    /// No memory was left.
+    /// Allocation failed.
     NoMemory,
 }
 

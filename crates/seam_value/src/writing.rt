@@ -1,26 +1,22 @@
 // The spelling of a value.
-ghost use Rattle.std.specs.Prelude.{◌≡◌, ◌++◌, OnOk, OnErr};
+ghost use Rattle.std.specs.Prelude.{◌≡◌, ◌++◌, OnOk, OnErr, length, take};
 ghost use Rattle.std.specs.List.{flat_map};
 ghost use Rattle.seam_value.specs.Texts.{spelled_byte, quoted};
 ghost use Rattle.seam_value.specs.Values.{text_of, number_text};
 
 use crate::Value;
 use itoa::Buffer;
-use std::alloc::{AllocError, Global};
+use std::alloc::AllocError;
 
 impl Value {
-    /// Appends the spelling of the value. After want of memory `out` is as it was.
-    pub fn write(&self, alloc: Global, out: &mut Vec<u8>) -> Result<(), AllocError>
+    /// Appends the spelling of the value. If allocation fails `out` is as it was.
+    pub fn write(&self, out: &mut Vec<u8>) -> Result<(), AllocError>
         ensures ok { OnOk result (out.new.items ≡ out.old.items ++ text_of self.now) }
         ensures err { OnErr result (out.new.items ≡ out.old.items) }
     {
         match self {
-            Value::Number(z) => push_number(out, *z),
-            Value::Text(s) => {
-                let mut piece = Vec::new(alloc);
-                push_quoted(&mut piece, s.bytes())?;
-                out.extend_from_slice(&piece)
-            }
+            Value::Number(number) => push_number(out, *number),
+            Value::Text(text) => write_quoted(out, text.bytes()),
         }
     }
 }
@@ -33,10 +29,26 @@ fn push_number(out: &mut Vec<u8>, number: i128) -> Result<(), AllocError>
     out.extend_from_slice(buffer.format(number).as_bytes())
 }
 
+// The bytes in quotes, or nothing at all.
+fn write_quoted(out: &mut Vec<u8>, bytes: &[u8]) -> Result<(), AllocError>
+    ensures ok { OnOk result (out.new.items ≡ out.old.items ++ quoted bytes.now) }
+    ensures err { OnErr result (out.new.items ≡ out.old.items) }
+{
+    let mark = out.len();
+    match push_quoted(out, bytes) {
+        Ok(()) => Ok(()),
+        Err(error) => {
+            out.truncate(mark);
+            Err(error)
+        }
+    }
+}
+
 // The bytes in quotes.
 #[tactic(auto, unfolding(crate::specs::Texts::quoted))]
 fn push_quoted(out: &mut Vec<u8>, bytes: &[u8]) -> Result<(), AllocError>
-    ensures { OnOk result (out.new.items ≡ out.old.items ++ quoted bytes.now) }
+    ensures ok { OnOk result (out.new.items ≡ out.old.items ++ quoted bytes.now) }
+    ensures kept { take (length out.old.items) out.new.items ≡ out.old.items }
 {
     out.push(b'"')?;
     push_spelled(out, bytes)?;
@@ -44,17 +56,26 @@ fn push_quoted(out: &mut Vec<u8>, bytes: &[u8]) -> Result<(), AllocError>
     Ok(())
 }
 
-// The bytes as they stand between quotes.
+// The bytes as they are written between quotes.
 fn push_spelled(out: &mut Vec<u8>, bytes: &[u8]) -> Result<(), AllocError>
-    ensures { OnOk result (out.new.items ≡ out.old.items ++ flat_map spelled_byte bytes.now) }
+    ensures ok { OnOk result (out.new.items ≡ out.old.items ++ flat_map spelled_byte bytes.now) }
+    ensures kept { take (length out.old.items) out.new.items ≡ out.old.items }
 {
-    for b in bytes {
-        match b {
-            b'"' => out.extend_from_slice(b"\\\"")?,
-            b'\\' => out.extend_from_slice(b"\\\\")?,
-            b'\n' => out.extend_from_slice(b"\\n")?,
-            _ => out.extend_from_slice(&[*b])?,
-        }
+    for byte in bytes {
+        push_byte(out, *byte)?;
     }
     Ok(())
+}
+
+// A byte as it is written between quotes.
+fn push_byte(out: &mut Vec<u8>, byte: u8) -> Result<(), AllocError>
+    ensures ok { OnOk result (out.new.items ≡ out.old.items ++ spelled_byte byte) }
+    ensures err { OnErr result (out.new.items ≡ out.old.items) }
+{
+    match byte {
+        b'"' => out.extend_from_slice(b"\\\""),
+        b'\\' => out.extend_from_slice(b"\\\\"),
+        b'\n' => out.extend_from_slice(b"\\n"),
+        _ => out.extend_from_slice(&[byte]),
+    }
 }

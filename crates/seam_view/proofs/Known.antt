@@ -1,4 +1,4 @@
--- Where an entity stands among what is known, in rising number.
+-- The place of an entity among what is known, in rising number.
 use Rattle.std.proofs.Common.{◌≡◌, ◌≢◌, ℕ, zero, suc, ◌<◌, ◌≤◌, true, false, eqb, List, [], ◌∷◌, length, map, None, Some, get_or, refl, arith}
 use Rattle.std.specs.Ordering.{nat_cmp}
 use Rattle.std.specs.List.{AllWithin, AllByRecursion}

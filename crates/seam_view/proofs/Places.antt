@@ -20,7 +20,7 @@ key_at x [] i d h lt = absurd (omega (arith, lt))
 key_at x (p ∷ es) zero d h lt = let e : eqb x p.0 ≡ false = h.0 in grind (arith, nat_tests)
 key_at x (p ∷ es) (suc i) d h lt = key_at x es i d h.1 (omega (arith, lt))
 
--- one more of distinct entities stands last
+-- one more of distinct entities comes last
 pub placed-next : (es : List (ℕ × ℕ)) (i : ℕ) (d : ℕ × ℕ) → IsDistinct eqb (keys_of es) → i < length es → insert_entry eqb (take i es) (get_or es i d).0 (get_or es i d).1 ≡ take (i + 1) es
 placed-next [] i d u lt = absurd (omega (arith, lt))
 placed-next (p ∷ es) zero d u lt = refl

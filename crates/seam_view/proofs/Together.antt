@@ -28,9 +28,9 @@ module _ {F : Type 0} (T : F → ℕ → ℕ → Bool → ℕ → F → Type 0) 
 abbrev Absent : ℕ → List (ℕ × ℕ) → Type 0
 Absent e es = AllByRecursion (λ p. eqb e p.0 ≡ false) es
 
--- no entity of es is among those in front
+-- no entity of es is among the earlier ones
 abbrev Apart : List (ℕ × ℕ) → List (ℕ × ℕ) → Type 0
-Apart front es = AllByRecursion (λ p. Absent p.0 front) es
+Apart earlier es = AllByRecursion (λ p. Absent p.0 earlier) es
 
 number_is : (a b : ℕ) → eqb a b ≡ true → a ≡ b
 number_is a b t = grind (arith, nat_tests)
@@ -42,9 +42,9 @@ absent-keys : (e : ℕ) (es : List (ℕ × ℕ)) → AllByRecursion (λ y. eqb e
 absent-keys e [] h = tt
 absent-keys e (p ∷ es) h = (h.0, absent-keys e es h.1)
 
-absent-append : (e : ℕ) (front es : List (ℕ × ℕ)) → Absent e front → Absent e es → Absent e (front ++ es)
+absent-append : (e : ℕ) (earlier es : List (ℕ × ℕ)) → Absent e earlier → Absent e es → Absent e (earlier ++ es)
 absent-append e [] es h k = k
-absent-append e (p ∷ front) es h k = (h.0, absent-append e front es h.1 k)
+absent-append e (p ∷ earlier) es h k = (h.0, absent-append e earlier es h.1 k)
 
 absent_cond : (e : ℕ) (b : Bool) (p : ℕ × ℕ) (es : List (ℕ × ℕ)) → eqb e p.0 ≡ false → Absent e es → Absent e (cond b (p ∷ es) es)
 absent_cond e true p es h k = (h, k)
@@ -54,21 +54,21 @@ absent-walked : (e : ℕ) (looks : List Look) (es : List (ℕ × ℕ)) → Absen
 absent-walked e looks [] h = tt
 absent-walked e looks (p ∷ es) h = absent_cond e (not (leaves_next p.0 looks)) p (walked (looks_past p.0 looks) es) h.0 (absent-walked e (looks_past p.0 looks) es h.1)
 
-apart-push : (p : ℕ × ℕ) (front es : List (ℕ × ℕ)) → AllByRecursion (λ y. eqb p.0 y ≡ false) (keys_of es) → Apart front es → Apart (front ++ p ∷ []) es
-apart-push p front [] h k = tt
-apart-push p front (q ∷ es) h k = (absent-append q.0 front (p ∷ []) k.0 (differs_too p.0 q.0 h.0, tt), apart-push p front es h.1 k.1)
+apart-push : (p : ℕ × ℕ) (earlier es : List (ℕ × ℕ)) → AllByRecursion (λ y. eqb p.0 y ≡ false) (keys_of es) → Apart earlier es → Apart (earlier ++ p ∷ []) es
+apart-push p earlier [] h k = tt
+apart-push p earlier (q ∷ es) h k = (absent-append q.0 earlier (p ∷ []) k.0 (differs_too p.0 q.0 h.0, tt), apart-push p earlier es h.1 k.1)
 
-push-append : (front : List (ℕ × ℕ)) (p : ℕ × ℕ) (es : List (ℕ × ℕ)) → (front ++ p ∷ []) ++ es ≡ front ++ p ∷ es
+push-append : (earlier : List (ℕ × ℕ)) (p : ℕ × ℕ) (es : List (ℕ × ℕ)) → (earlier ++ p ∷ []) ++ es ≡ earlier ++ p ∷ es
 push-append [] p es = refl
-push-append (q ∷ front) p es = ap (λ xs. q ∷ xs) (push-append front p es)
+push-append (q ∷ earlier) p es = ap (λ xs. q ∷ xs) (push-append earlier p es)
 
 without-absent : (e : ℕ) (es : List (ℕ × ℕ)) → Absent e es → without e es ≡ es
 without-absent e [] h = refl
 without-absent e (p ∷ es) h = rw h.0 (ap (λ xs. p ∷ xs) (without-absent e es h.1))
 
-without-here : (e : ℕ) (front : List (ℕ × ℕ)) (p : ℕ × ℕ) (es : List (ℕ × ℕ)) → Absent e front → eqb e p.0 ≡ true → without e (front ++ p ∷ es) ≡ front ++ es
+without-here : (e : ℕ) (earlier : List (ℕ × ℕ)) (p : ℕ × ℕ) (es : List (ℕ × ℕ)) → Absent e earlier → eqb e p.0 ≡ true → without e (earlier ++ p ∷ es) ≡ earlier ++ es
 without-here e [] p es h t = rw t refl
-without-here e (q ∷ front) p es h t = rw h.0 (ap (λ xs. q ∷ xs) (without-here e front p es h.1 t))
+without-here e (q ∷ earlier) p es h t = rw h.0 (ap (λ xs. q ∷ xs) (without-here e earlier p es h.1 t))
 
 module _ (known : List Seen) (r : Replica) where
   -- what the view is after the looks, where these were its entries
@@ -76,30 +76,30 @@ module _ (known : List Seen) (r : Replica) where
   seen_with looks es = fold (after_look known) (record r { entries = es }) looks
 
   abbrev Same : List (ℕ × ℕ) → List (ℕ × ℕ) → List Look → Type 0
-  Same front es looks = seen_with looks (front ++ walked looks es) ≡ seen_with looks (front ++ es)
+  Same earlier es looks = seen_with looks (earlier ++ walked looks es) ≡ seen_with looks (earlier ++ es)
 
   -- its turn has come
-  left_now : (front : List (ℕ × ℕ)) (p : ℕ × ℕ) (es : List (ℕ × ℕ)) (looks : List Look) → leaves_next p.0 looks ≡ true → Absent p.0 front → Absent p.0 es → ((looks : List Look) → Same front es looks) → seen_with looks (front ++ walked (drop 1 looks) es) ≡ seen_with looks (front ++ p ∷ es)
-  left_now front p es [] t f k rest = cc
-  left_now front p es (Set x ∷ looks) t f k rest = cc
-  left_now front p es (Enter x ∷ looks) t f k rest = cc
-  left_now front p es (Leave x ∷ looks) t f k rest =
+  left_now : (earlier : List (ℕ × ℕ)) (p : ℕ × ℕ) (es : List (ℕ × ℕ)) (looks : List Look) → leaves_next p.0 looks ≡ true → Absent p.0 earlier → Absent p.0 es → ((looks : List Look) → Same earlier es looks) → seen_with looks (earlier ++ walked (drop 1 looks) es) ≡ seen_with looks (earlier ++ p ∷ es)
+  left_now earlier p es [] t f k rest = cc
+  left_now earlier p es (Set x ∷ looks) t f k rest = cc
+  left_now earlier p es (Enter x ∷ looks) t f k rest = cc
+  left_now earlier p es (Leave x ∷ looks) t f k rest =
       let same = number_is p.0 x t in
-      let gone = without-absent x (front ++ walked looks es) (absent-append x front (walked looks es) (subst (λ e. Absent e front) same f) (absent-walked x looks es (subst (λ e. Absent e es) same k))) in
-      let taken = without-here x front p es (subst (λ e. Absent e front) same f) (ap (λ e. eqb e p.0) (sym same) ∙ (ap (λ e. eqb p.0 e) same ∙ t)) in
+      let gone = without-absent x (earlier ++ walked looks es) (absent-append x earlier (walked looks es) (subst (λ e. Absent e earlier) same f) (absent-walked x looks es (subst (λ e. Absent e es) same k))) in
+      let taken = without-here x earlier p es (subst (λ e. Absent e earlier) same f) (ap (λ e. eqb e p.0) (sym same) ∙ (ap (λ e. eqb p.0 e) same ∙ t)) in
       ap (seen_with looks) gone ∙ (rest looks ∙ ap (seen_with looks) (sym taken))
 
-  turn : (front : List (ℕ × ℕ)) (p : ℕ × ℕ) (es : List (ℕ × ℕ)) (looks : List Look) (b : Bool) → leaves_next p.0 looks ≡ b → Absent p.0 front → Absent p.0 es → ((looks : List Look) → Same front es looks) → ((looks : List Look) → Same (front ++ p ∷ []) es looks) → seen_with looks (front ++ cond (not b) (p ∷ walked (cond b (drop 1 looks) looks) es) (walked (cond b (drop 1 looks) looks) es)) ≡ seen_with looks (front ++ p ∷ es)
-  turn front p es looks true t f k rest past = left_now front p es looks t f k rest
-  turn front p es looks false t f k rest past =
-      ap (seen_with looks) (sym (push-append front p (walked looks es))) ∙ (past looks ∙ ap (seen_with looks) (push-append front p es))
+  turn : (earlier : List (ℕ × ℕ)) (p : ℕ × ℕ) (es : List (ℕ × ℕ)) (looks : List Look) (b : Bool) → leaves_next p.0 looks ≡ b → Absent p.0 earlier → Absent p.0 es → ((looks : List Look) → Same earlier es looks) → ((looks : List Look) → Same (earlier ++ p ∷ []) es looks) → seen_with looks (earlier ++ cond (not b) (p ∷ walked (cond b (drop 1 looks) looks) es) (walked (cond b (drop 1 looks) looks) es)) ≡ seen_with looks (earlier ++ p ∷ es)
+  turn earlier p es looks true t f k rest past = left_now earlier p es looks t f k rest
+  turn earlier p es looks false t f k rest past =
+      ap (seen_with looks) (sym (push-append earlier p (walked looks es))) ∙ (past looks ∙ ap (seen_with looks) (push-append earlier p es))
 
-  same-past : (front es : List (ℕ × ℕ)) (looks : List Look) → Apart front es → IsDistinct eqb (keys_of es) → Same front es looks
-  same-past front [] looks a u = refl
-  same-past front (p ∷ es) looks a u =
+  same-past : (earlier es : List (ℕ × ℕ)) (looks : List Look) → Apart earlier es → IsDistinct eqb (keys_of es) → Same earlier es looks
+  same-past earlier [] looks a u = refl
+  same-past earlier (p ∷ es) looks a u =
       let once = IsDistinct-head eqb p.0 (keys_of es) u in
       let tail = IsDistinct-tail eqb p.0 (keys_of es) u in
-      turn front p es looks (leaves_next p.0 looks) refl a.0 (absent-keys p.0 es once) (λ more. same-past front es more a.1 tail) (λ more. same-past (front ++ p ∷ []) es more (apart-push p front es once a.1) tail)
+      turn earlier p es looks (leaves_next p.0 looks) refl a.0 (absent-keys p.0 es once) (λ more. same-past earlier es more a.1 tail) (λ more. same-past (earlier ++ p ∷ []) es more (apart-push p earlier es once a.1) tail)
 
   none_in_front : (es : List (ℕ × ℕ)) → Apart [] es
   none_in_front [] = tt

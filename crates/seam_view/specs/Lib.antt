@@ -1,4 +1,3 @@
 pub mod Replica
 pub mod Looks
-pub mod Slots
 pub mod Together

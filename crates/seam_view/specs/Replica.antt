@@ -33,7 +33,7 @@ view_code = code_by (Replica × (ℕ × set.FinSet nat_cmp)) (coded× replica_co
 abbrev pub seen_of : ℕ → List Seen → Option Seen
 seen_of e known = find (λ s. nat_eq s.entity e) known
 
--- the entity keeps its place and takes the version, or stands last where it was not in view
+-- the entity keeps its place and gets the version, or comes last where it was not in view
 abbrev pub placed : ℕ → ℕ → List (ℕ × ℕ) → List (ℕ × ℕ)
 placed e v [] = (e, v) ∷ []
 placed e v (p ∷ ps) = if nat_eq e p.0 then (p.0, v) ∷ ps else p ∷ placed e v ps
@@ -52,7 +52,7 @@ abbrev pub after_showing : Replica → ℕ → Option Seen → Replica
 after_showing r e None = r
 after_showing r e (Some s) = with_version_shown r e s.version
 
--- after a look: one that leaves is gone, and its version is still known; one that is set keeps its place; one that enters stands last
+-- after a look: one that leaves is gone, and its version is still known; one that is set keeps its place; one that enters comes last
 abbrev pub after_look : List Seen → Replica → Look → Replica
 after_look known r (Leave e) = record r { entries = without e r.entries }
 after_look known r (Set e) = after_showing r e (seen_of e known)

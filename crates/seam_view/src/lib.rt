@@ -4,16 +4,15 @@
 //! of the BigWorld Server Overview.)
 #![tactic(auto)]
 
-ghost use Rattle.std.specs.Prelude.{◌≡◌, ◌≤◌, ◌++◌, ℕ, List, [], filter, map, length, slice_get, option_copied, IfOk, OnOk, OnErr, is_some, false, not, IfSome, drop};
+ghost use Rattle.std.specs.Prelude.{◌≡◌, ◌≤◌, ◌++◌, ℕ, List, [], filter, map, length, slice_get, option_copied, IfOk, OnOk, OnErr, is_some, false, not, IfSome, drop, find};
 ghost use Rattle.std.specs.Ordering.{nat_cmp};
 ghost use Rattle.std.specs.List.Sorted.{IsStrictlySortedBy};
 ghost use Rattle.std.specs.Prelude.{◌<◌, ◌+◌, nat_eq, true};
 ghost use Rattle.std.specs.List.{All, AllWithin, IsDistinct};
-ghost use Rattle.std.specs.BTreeMap.{get, IsOrdered};
 ghost use Rattle.std.specs.Map.{keys_of};
 ghost use Rattle.seam_geo.specs.declared.pos.Pos.{Pos};
 ghost use Rattle.seam_view.specs.declared.Seen.{Seen};
-ghost use Rattle.seam_view.specs.Slots.{kept};
+ghost use Rattle.seam_table.specs.Tables.{is_after};
 ghost use Rattle.std.specs.FinMap as versions;
 ghost use Rattle.std.specs.FinSet as set;
 ghost use Rattle.seam_view.specs.Replica.{Replica, HasRoom, without, seen_of, entity_of, with_version_shown, after_showing, after_look, after_looks};
@@ -22,14 +21,14 @@ ghost use Rattle.seam_view.specs.Looks.{is_far, in_view, not_older, leaves, has_
 
 use indexmap::IndexMap;
 use seam_geo::{Pos, dist};
+use seam_table::Table;
 use std::alloc::{AllocError, Global};
-use std::collections::BTreeMap;
 use std::marker::Model;
 
 #[cfg(test)]
 mod tests;
 
-/// What is known of an entity: its public version and where it stands.
+/// What is known of an entity: its public version and its position.
 #[derive(Clone, Copy, Debug, PartialEq, Eq)]
 pub struct Seen {
     pub entity: u32,
@@ -57,8 +56,7 @@ pub struct View {
     radius: u32,
     hysteresis: u32,
     view: IndexMap<u32, u64>,
-    // An entry without a version is room for one.
-    shown: BTreeMap<u32, Option<u64>>,
+    shown: Table<u64>,
 }
 
 impl Model for View {
@@ -68,17 +66,9 @@ impl Model for View {
 
     ghost coded = { view_code };
 
-    ghost use Rattle.std.specs.Map.{keys_of};
-    ghost use Rattle.std.specs.Ordering.{nat_cmp};
-    ghost use Rattle.std.specs.BTreeMap.{IsOrdered};
-    ghost use Rattle.std.specs.FinMap as versions;
-    ghost use Rattle.std.specs.FinSet as set;
     ghost use Rattle.indexmap.specs.IndexMap.{spare};
-    ghost use Rattle.seam_view.specs.Slots.{kept};
 
-    ghost view = { λ v. record { core = record { radius = v.radius; hysteresis = v.hysteresis; entries = v.view.entries; shown = versions.from_entries (kept v.shown.entries) }; places = spare v.view; room = set.from_list (keys_of v.shown.entries) } };
-
-    ghost invariant = { λ v. IsOrdered nat_cmp v.shown };
+    ghost view = { λ v. record { core = record { radius = v.radius; hysteresis = v.hysteresis; entries = v.view.entries; shown = v.shown.items }; places = spare v.view; room = v.shown.room } };
 }
 
 impl View {
@@ -91,7 +81,7 @@ impl View {
             radius,
             hysteresis,
             view: IndexMap::new(alloc),
-            shown: BTreeMap::new(alloc),
+            shown: Table::new(alloc),
         }
     }
 
@@ -140,26 +130,18 @@ impl View {
     pub fn shown(&self, e: u32) -> Option<u64>
         ensures { result ≡ versions.get self.now.core.shown e }
     {
-        match self.shown.get(&e) {
-            Some(version) => *version,
-            None => None,
-        }
+        self.shown.get(e).copied()
     }
 
-    /// The version at place i of those shown, in rising entity number; none where i is not below their count. It takes time with i.
-    pub fn shown_at(&self, i: usize) -> Option<(u32, u64)>
-        ensures { result ≡ slice_get (versions.entries self.now.core.shown) i }
+    /// The first version shown, in rising entity number, of those whose number is greater than the given one, or of all where
+    /// none is given.
+    pub fn shown_after(&self, after: Option<u32>) -> Option<(u32, u64)>
+        ensures { result ≡ find (λ p. is_after after p.0) (versions.entries self.now.core.shown) }
     {
-        let mut left = i;
-        for (e, slot) in &self.shown {
-            if let Some(version) = slot {
-                if left == 0 {
-                    return Some((*e, *version));
-                }
-                left -= 1;
-            }
+        match self.shown.next_after(after) {
+            Some((e, version)) => Some((e, *version)),
+            None => None,
         }
-        None
     }
 
     // Whether an entity in view leaves it.
@@ -263,7 +245,7 @@ impl View {
         Ok(())
     }
 
-    /// The looks that bring the view up to what is known, for a witness that stands at `own`: the leaves in enter order, the sets
+    /// The looks that bring the view up to what is known, for a witness at `own`: the leaves in enter order, the sets
     /// in enter order, and the enters in rising number. It changes nothing, and makes room to keep the looks.
     ///
     /// What is known is in rising entity number, and the witness itself is not among it.
@@ -301,10 +283,7 @@ impl View {
         let Ok(_) = self.view.insert(e, version) else {
             unreachable!()
         };
-        match self.shown.insert(e, Some(version)) {
-            Ok(_) => return,
-            Err(_) => unreachable!(),
-        }
+        let _ = self.shown.put_reserved(e, version);
     }
 
     // Shows the entity as it is known.
@@ -337,8 +316,8 @@ impl View {
         }
     }
 
-    // Takes the entities whose leaves stand first among the looks, in enter order as `plan` gives them, out of the view in one
-    // pass: one by one, each leave would move all entries behind it. To keep these leaves afterwards changes nothing.
+    // Takes the entities whose leaves come first among the looks, in enter order as `plan` gives them, out of the view in one
+    // pass: one by one, each leave would move all entries after it. To keep these leaves afterwards changes nothing.
     fn leave_together(&mut self, looks: &[Look])
         ensures same_after { (known : List Seen) → after_looks known self.new.core looks.now ≡ after_looks known self.old.core looks.now }
         ensures places { self.old.places ≤ self.new.places }
@@ -391,14 +370,16 @@ fn view_of(alloc: Global, pairs: &[(u32, u64)]) -> Result<IndexMap<u32, u64>, Al
 }
 
 // The versions of the pairs.
-fn shown_of(alloc: Global, pairs: &[(u32, u64)]) -> Result<BTreeMap<u32, Option<u64>>, AllocError>
+fn shown_of(alloc: Global, pairs: &[(u32, u64)]) -> Result<Table<u64>, AllocError>
     requires { IsStrictlySortedBy nat_cmp (keys_of pairs.now) }
-    ensures same { IfOk result (λ m. versions.from_entries {R = nat_cmp} (kept m.entries) ≡ versions.from_entries pairs.now) }
-    ensures ordered { IfOk result (IsOrdered nat_cmp) }
+    ensures { IfOk result (λ t. t.items ≡ versions.from_entries pairs.now) }
 {
-    let mut made = BTreeMap::new(alloc);
+    let mut made = Table::new(alloc);
     for (e, version) in pairs {
-        made.insert(*e, Some(*version))?;
+        match made.put(*e, *version) {
+            Ok(_) => {}
+            Err(_) => return Err(AllocError),
+        }
     }
     Ok(made)
 }
@@ -448,36 +429,14 @@ fn find_seen(known: &[Seen], e: u32) -> Option<&Seen>
 }
 
 // Makes room to keep a version of the entity of each look.
-fn reserve_versions(
-    shown: &mut BTreeMap<u32, Option<u64>>,
-    looks: &[Look],
-) -> Result<(), AllocError>
-    requires { IsOrdered nat_cmp shown.old }
-    ensures same { versions.from_entries {R = nat_cmp} (kept shown.new.entries) ≡ versions.from_entries (kept shown.old.entries) }
-    ensures room { OnOk result (All (λ look. is_some (get nat_cmp shown.new (entity_of look)) ≡ true) looks.now) }
-    ensures ordered { IsOrdered nat_cmp shown.new }
+fn reserve_versions(shown: &mut Table<u64>, looks: &[Look]) -> Result<(), AllocError>
+    ensures same { shown.new.items ≡ shown.old.items }
+    ensures room { OnOk result (All (λ look. set.contains shown.new.room (entity_of look) ≡ true) looks.now) }
 {
     for look in looks {
-        reserve_version(shown, entity(look))?;
+        shown.reserve(entity(look))?;
     }
     Ok(())
-}
-
-// Makes room to keep a version of the entity.
-fn reserve_version(shown: &mut BTreeMap<u32, Option<u64>>, e: u32) -> Result<(), AllocError>
-    ensures same { versions.from_entries {R = nat_cmp} (kept shown.new.entries) ≡ versions.from_entries (kept shown.old.entries) }
-    ensures stays { (q : ℕ) → is_some (get nat_cmp shown.old q) ≡ true → is_some (get nat_cmp shown.new q) ≡ true }
-    ensures room { OnOk result (is_some (get nat_cmp shown.new e) ≡ true) }
-    ensures ordered { IsOrdered nat_cmp shown.new }
-{
-    if shown.contains_key(&e) {
-        let _ = shown.len();
-        return Ok(());
-    }
-    match shown.insert(e, None) {
-        Ok(_) => Ok(()),
-        Err(_) => Err(AllocError),
-    }
 }
 
 /// What is known of entities that are neither in view nor near makes no difference: two lists that agree on all the others give the

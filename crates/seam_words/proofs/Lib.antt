@@ -1,4 +1,6 @@
 pub mod Pieces
 pub mod Runs
-pub mod Fronts
+pub mod Prefixes
 pub mod Scan
+mod TextTables
+pub mod WordTexts

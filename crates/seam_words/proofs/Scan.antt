@@ -11,7 +11,7 @@ use Rattle.seam_words.specs.Words.{is_blank, is_plain, is_escaped, IsGap, IsPlai
 use Rattle.seam_words.specs.Faults.{HasOpenQuote, IsNoEscape, HasFaultAt, HasFault, Refuses}
 use Rattle.seam_words.specs.Faults.HasOpenQuote.{inside, unended, followed}
 
--- where the reading stands: between words, in a word that began at a place, behind a backslash in it, behind a closing quote
+-- Where the reading is: between words, in a word that began at a place, after a backslash in it, after a closing quote
 data Place : Type 0 where
   between : Place
   plain : ℕ → Place
@@ -156,8 +156,8 @@ fault_scan : (at : ℕ) (words : List Span) (bytes : List ℕ) (e : WordsError) 
 fault_scan at words bytes NotUtf8 h = absurd h
 fault_scan at words bytes OpenQuote h = open_scan at words bytes h.0 h.1
 fault_scan at words bytes BadEscape h =
-    rw h.1.whole (begin_quoted 16 at words (h.1.front ++ 92 ∷ h.1.rest) h.0 ∙ inside_scan 16 at (at + 1) words h.1.front (92 ∷ h.1.rest) h.1.pieces)
-    ∙ escape_scan at (at + 1 + length h.1.front + 1) words h.1.rest h.1.bad
+    rw h.1.whole (begin_quoted 16 at words (h.1.prefix ++ 92 ∷ h.1.rest) h.0 ∙ inside_scan 16 at (at + 1) words h.1.prefix (92 ∷ h.1.rest) h.1.pieces)
+    ∙ escape_scan at (at + 1 + length h.1.prefix + 1) words h.1.rest h.1.bad
 fault_scan at words [] TooManyWords h = absurd h.1
 fault_scan at words (b ∷ bytes) TooManyWords h =
     let full : nat_le 16 (length words) ≡ true = grind (arith, common_steps) in

@@ -6,7 +6,7 @@ use Rattle.seam_words.specs.declared.words.WordsError.{WordsError}
 use Rattle.seam_words.specs.declared.words.WordsError.TheVariants.{NotUtf8, OpenQuote, BadEscape, TooManyWords}
 use Rattle.seam_words.specs.Words.{is_blank, is_escaped, IsPlainWord, ArePieces, IsQuotedWord, HasFirstWords}
 
--- a quote that stands where none may stand, or is missing, in the bytes where a word should begin
+-- a quote where none may be, or is missing, in the bytes where a word should begin
 pub data HasOpenQuote (bytes : List ℕ) : Type 0 where
   -- inside a plain word
   inside : (word rest : List ℕ) → IsPlainWord word → bytes ≡ word ++ 34 ∷ rest → HasOpenQuote bytes
@@ -15,18 +15,18 @@ pub data HasOpenQuote (bytes : List ℕ) : Type 0 where
   -- a closing quote that is followed by another byte than a space or a tab
   followed : (word : List ℕ) (b : ℕ) (rest : List ℕ) → IsQuotedWord word → is_blank b ≡ false → bytes ≡ word ++ b ∷ rest → HasOpenQuote bytes
 
--- the byte that makes an escape of a backslash does not stand first
+-- the byte that makes an escape of a backslash does not come first
 abbrev pub IsNoEscape : List ℕ → Type 0
 IsNoEscape [] = Unit {0}
 IsNoEscape (b ∷ bytes) = is_escaped b ≡ false
 
 -- a backslash in a quoted word that begins no escape
 pub record HasBadEscape (bytes : List ℕ) : Type 0 where
-  pub front : List ℕ
+  pub prefix : List ℕ
   pub rest : List ℕ
-  pub pieces : ArePieces front
+  pub pieces : ArePieces prefix
   pub bad : IsNoEscape rest
-  pub whole : bytes ≡ 34 ∷ front ++ 92 ∷ rest
+  pub whole : bytes ≡ 34 ∷ prefix ++ 92 ∷ rest
 
 -- a word begins with the bytes
 abbrev pub BeginsWord : List ℕ → Type 0
@@ -40,7 +40,7 @@ HasFaultAt count bytes OpenQuote = (count < 16) × HasOpenQuote bytes
 HasFaultAt count bytes BadEscape = (count < 16) × HasBadEscape bytes
 HasFaultAt count bytes TooManyWords = (count ≡ 16) × BeginsWord bytes
 
--- the first fault of a line from the left: all that stands before it is good words
+-- the first fault of a line from the left: all before it is good words
 pub record HasFault (line : List ℕ) (error : WordsError) : Type 0 where
   pub spans : List Span
   pub tail : List ℕ

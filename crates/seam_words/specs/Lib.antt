@@ -1,4 +1,5 @@
 pub mod Words
+pub mod Texts
 pub mod Faults
 pub mod Parts
 pub mod Table

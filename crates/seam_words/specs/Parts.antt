@@ -5,53 +5,53 @@ use Rattle.seam_words.specs.declared.words.WordsError.TheVariants.{NotUtf8, Open
 use Rattle.seam_words.specs.Words.{IsPiece, ArePieces, IsWord, EndsWord}
 use Rattle.seam_words.specs.Faults.{HasOpenQuote, HasBadEscape, IsNoEscape}
 
--- a word stands first, and `rest` follows it
+-- a word comes first, and `rest` follows it
 pub record IsFirstWord (quoted : Bool) (bytes rest : List ℕ) : Type 0 where
   pub word : List ℕ
   pub good : IsWord quoted word
   pub ends : EndsWord rest
   pub whole : bytes ≡ word ++ rest
 
--- no good word stands first
+-- no good word comes first
 abbrev pub RefusesWord : List ℕ → WordsError → Type 0
 RefusesWord bytes OpenQuote = HasOpenQuote bytes
 RefusesWord bytes BadEscape = HasBadEscape bytes
 RefusesWord bytes NotUtf8 = ⊥
 RefusesWord bytes TooManyWords = ⊥
 
--- no piece of a quoted word can stand first: the bytes are at their end, or at a quote
+-- no piece of a quoted word can come first: the bytes are at their end, or at a quote
 abbrev pub EndsPieces : List ℕ → Type 0
 EndsPieces [] = Unit {0}
 EndsPieces (b ∷ bytes) = b ≡ 34
 
--- a quote stands first, and a word can end behind it
+-- a quote comes first, and a word can end after it
 abbrev pub ClosesWord : List ℕ → Type 0
 ClosesWord [] = ⊥
 ClosesWord (b ∷ bytes) = (b ≡ 34) × EndsWord bytes
 
--- a piece stands first, and `rest` follows it
+-- a piece comes first, and `rest` follows it
 pub record HasPiece (bytes rest : List ℕ) : Type 0 where
   pub piece : List ℕ
   pub good : IsPiece piece
   pub whole : bytes ≡ piece ++ rest
 
--- a backslash stands first and begins no escape
+-- a backslash comes first and begins no escape
 pub record HasBadPiece (bytes : List ℕ) : Type 0 where
   pub rest : List ℕ
   pub bad : IsNoEscape rest
   pub whole : bytes ≡ 92 ∷ rest
 
--- as many pieces as can stand first, and `rest` follows them
+-- as many pieces as can come first, and `rest` follows them
 pub record HasPieces (bytes rest : List ℕ) : Type 0 where
-  pub front : List ℕ
-  pub pieces : ArePieces front
+  pub prefix : List ℕ
+  pub pieces : ArePieces prefix
   pub ends : EndsPieces rest
-  pub whole : bytes ≡ front ++ rest
+  pub whole : bytes ≡ prefix ++ rest
 
--- behind some pieces a backslash begins no escape
+-- after some pieces a backslash begins no escape
 pub record RefusesPieces (bytes : List ℕ) : Type 0 where
-  pub front : List ℕ
+  pub prefix : List ℕ
   pub rest : List ℕ
-  pub pieces : ArePieces front
+  pub pieces : ArePieces prefix
   pub bad : IsNoEscape rest
-  pub whole : bytes ≡ front ++ 92 ∷ rest
+  pub whole : bytes ≡ prefix ++ 92 ∷ rest

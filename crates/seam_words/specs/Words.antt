@@ -49,7 +49,7 @@ abbrev pub EndsWord : List ℕ → Type 0
 EndsWord [] = Unit {0}
 EndsWord (b ∷ bytes) = is_blank b ≡ true
 
--- behind a gap the bytes from place `at` on have this word first, and `rest` follows it
+-- after a gap the bytes from place `at` on have this word first, and `rest` follows it
 pub record HasFirstWord (at : ℕ) (bytes : List ℕ) (span : Span) (rest : List ℕ) : Type 0 where
   pub gap : List ℕ
   pub word : List ℕ
@@ -60,7 +60,7 @@ pub record HasFirstWord (at : ℕ) (bytes : List ℕ) (span : Span) (rest : List
   pub start : span.start ≡ at + length gap
   pub end : span.end ≡ span.start + length word
 
--- the bytes from place `at` on have these words first, and behind a gap `tail` follows them
+-- the bytes from place `at` on have these words first, and after a gap `tail` follows them
 abbrev pub HasFirstWords : ℕ → List ℕ → List Span → List ℕ → Type 0
 HasFirstWords at bytes [] tail = (gap : List ℕ) × IsGap gap × (bytes ≡ gap ++ tail)
 HasFirstWords at bytes (span ∷ spans) tail = (rest : List ℕ) × HasFirstWord at bytes span rest × HasFirstWords span.end rest spans tail

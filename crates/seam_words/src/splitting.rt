@@ -74,7 +74,7 @@ fn is_plain(b: u8) -> bool
     !(is_blank(b) || b == b'"')
 }
 
-// What follows the blanks that stand first.
+// What follows the blanks that come first.
 fn after_gap(bytes: &[u8]) -> &[u8]
     ensures rest { result.now ≡ drop (prefix_len is_blank bytes.now) bytes.now }
     ensures within { length result.now ≤ length bytes.now }
@@ -89,7 +89,7 @@ fn gap_len(bytes: &[u8]) -> usize
     bytes.iter().take_while(|b| is_blank(**b)).count()
 }
 
-// What follows the word that stands first.
+// What follows the word that comes first.
 fn after_word(bytes: &[u8], quoted: bool) -> Result<&[u8], WordsError>
     requires some { BeginsWord bytes.now }
     requires quote { quoted ≡ (slice_index bytes.now 0 == 34) }
@@ -149,7 +149,7 @@ fn after_quoted(bytes: &[u8]) -> Result<&[u8], WordsError>
     }
 }
 
-// Whether a quote stands first, and a word can end behind it.
+// Whether a quote comes first, and a word can end after it.
 fn closes_word(bytes: &[u8]) -> bool
     ensures { IsTrue result ↔ ClosesWord bytes.now }
 {
@@ -177,7 +177,7 @@ fn ends_pieces(bytes: &[u8]) -> bool
     matches!(bytes, [] | [b'"', ..])
 }
 
-// What follows the piece that stands first. `None` where a backslash begins no escape.
+// What follows the piece that comes first. `None` where a backslash begins no escape.
 fn after_piece(bytes: &[u8]) -> Option<&[u8]>
     requires { ¬ EndsPieces bytes.now }
     ensures piece { MatchOption result (HasBadPiece bytes.now) (λ rest. HasPiece bytes.now rest.now) }
@@ -190,7 +190,7 @@ fn after_piece(bytes: &[u8]) -> Option<&[u8]>
     }
 }
 
-// What follows the byte behind a backslash. `None` where it is none that may stand there.
+// What follows the byte after a backslash. `None` where it is none that may come there.
 fn after_escaped(bytes: &[u8]) -> Option<&[u8]>
     ensures { MatchOption result (IsNoEscape bytes.now) (λ rest. (is_escaped (slice_index bytes.now 0) ≡ true) × (bytes.now ≡ slice_index bytes.now 0 ∷ rest.now)) }
 {

@@ -10,7 +10,7 @@ use std::marker::Model;
 pub struct Span {
     pub start: u32,
     pub end: u32,
-    /// Whether the word stands in quotes. Both quotes are then in the span.
+    /// Whether the word is in quotes. Both quotes are then in the span.
     pub quoted: bool,
 }
 

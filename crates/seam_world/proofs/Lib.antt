@@ -1,8 +1,13 @@
-pub mod Rounds
-pub mod RunLemmas
-pub mod ScriptLemmas
-pub mod Parts
-pub mod Writing
-pub mod Creates
-pub mod Executing
-pub mod Starts
+mod Writing
+mod Parts
+mod Books
+mod Executing
+mod Creates
+mod Judging
+mod Starts
+mod Rounds
+mod ScriptLemmas
+mod Results
+mod TextLemmas
+mod Prefixes
+mod RunLemmas

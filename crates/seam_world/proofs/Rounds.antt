@@ -1,6 +1,6 @@
--- What the table prints for a round is a legal text.
-use Rattle.std.proofs.Common.{◌≡◌, ◌+◌, ℕ, List, [], ◌∷◌, ◌++◌, length, map, get_or, refl, sym, ◌∙◌, ap, subst, append-nil, Some, None, Option}
-use Rattle.std.specs.Prelude.{codes, Contains, unwrap_or, MatchOption}
+-- What the table prints for a round is legal.
+use Rattle.std.proofs.Common.{◌≡◌, ◌+◌, ℕ, List, [], ◌∷◌, ◌++◌, length, map, get_or, refl, sym, ◌∙◌, ap, subst, Some, None, Option}
+use Rattle.std.specs.Prelude.{Contains, unwrap_or, MatchOption}
 use Rattle.std.specs.List.{flat_map, All}
 use Rattle.std.specs.Ordering.{nat_cmp}
 use Rattle.std.specs.BTreeMap.{get}
@@ -14,207 +14,181 @@ use Rattle.std.proofs.lemmas.Map.Keys.{IsStrictlyIncreasing-from_sorted}
 use Rattle.std.proofs.lemmas.List.Elements.{All-head, All-tail, All-cons, All-nil}
 use Rattle.seam_defs.specs.declared.flags.Part.{Part}
 use Rattle.seam_defs.specs.declared.flags.Part.TheVariants as part
-use Rattle.seam_transcript.specs.declared.executed.Executed.{Executed}
-use Rattle.seam_transcript.specs.Book.{Header, Book, Created, created_as, closed}
-use Rattle.seam_transcript.specs.Orders.{Orders}
+use Rattle.seam_defs.specs.declared.states.State.{State}
+use Rattle.seam_call.specs.declared.call.Call.{Call}
+use Rattle.seam_call.specs.declared.create.Create.{Create}
+use Rattle.seam_transcript.specs.declared.header.Header.{Header}
+use Rattle.seam_transcript.specs.Book.{Book, entries as entries_of, creates_of, created_as}
 use Rattle.seam_transcript.specs.FlatTable.{flat}
+use Rattle.seam_transcript.specs.InOrder.{in_order, round_in_order, after_round}
+use Rattle.seam_transcript.specs.Orders.{Orders}
 use Rattle.seam_transcript.specs.Standing.{Standing}
-use Rattle.seam_transcript.specs.Round.{Lists, IsRound, number_line, executed_line, home_line, base_line}
-use Rattle.seam_transcript.specs.Sequence.{sequence}
-use Rattle.seam_world.specs.Table.{EntityStands, TableStands}
-use Rattle.seam_world.specs.Text.{done_text, home_text, base_text, table_text}
+use Rattle.seam_transcript.specs.Round.{DoneLine, HomeLine, BaseLine, RoundData, Lists, done_lines, home_line, base_line, only_cell, IsRound}
+use Rattle.seam_transcript.proofs.InOrderLemmas.{found_entity, round_in_order_is_legal}
+use Rattle.seam_world.specs.Table.{EntityRefines, TableRefines}
+use Rattle.seam_world.specs.Text.{done_of, home_of, base_of, round_of}
 use Rattle.seam_world.specs.declared.table.Entity.{Entity}
 use Rattle.seam_world.specs.declared.table.Table.{Table}
-use Rattle.seam_transcript.proofs.Sequences.{sequence-full, full-legal}
 
-abbrev nobody : Created
+abbrev nobody : Create
 nobody = record { entity = 0; ty = 0; pos = record { x = 0; z = 0 } }
 
 -- the `create` of an entry of the table
-abbrev made_as : Book → ℕ × Entity → Created
+abbrev made_as : Book → ℕ × Entity → Create
 made_as b x = unwrap_or (created_as b x.0) nobody
 
-abbrev live_of : Book → List (ℕ × Entity) → List Created
+abbrev live_of : Book → List (ℕ × Entity) → List Create
 live_of b entries = map (made_as b) entries
 
--- the calls that a part executed in the open round
-abbrev part_done : Part → Option Entity → List Executed
-part_done p None = []
-part_done part.Cell (Some v) = v.cell.done.items
-part_done part.Base (Some v) = v.base.done.items
-
-abbrev done_of : Table → Orders
-done_of t p e = part_done p (get nat_cmp t.entities e)
-
 -- an entry of the table, and the entity of the book that it is
-record IsEntry (h : Header) (b : Book) (before : Orders) (t : Table) (x : ℕ × Entity) : Type 0 where
+record IsEntry (h : Header) (b : Book) (t : Table) (x : ℕ × Entity) : Type 0 where
   found : get nat_cmp t.entities x.0 ≡ Some x.1
-  stands : EntityStands h b before x.0 x.1
-  made : made_as b x ≡ stands.made
+  refines : EntityRefines h b x.0 x.1
+  made : made_as b x ≡ refines.made
 
-is_entry : (h : Header) (b : Book) (before : Orders) (t : Table) (x : ℕ × Entity) → TableStands h b before t → get nat_cmp t.entities x.0 ≡ Some x.1 → IsEntry h b before t x
-is_entry h b before t x stands found =
-    let here : EntityStands h b before x.0 x.1 =
-    subst (λ (o : Option Entity). MatchOption o (created_as b x.0 ≡ None) (EntityStands h b before x.0)) found (stands.each x.0) in
-    record { found = found; stands = here; made = ap (λ (o : Option Created). unwrap_or o nobody) here.is }
-
--- texts of the same entries one after another
-same_texts : {X Y : Type 0} (entries : List X) (g : X → Y) (f : Y → List ℕ) (k : X → List ℕ) → All (λ x. f (g x) ≡ k x) entries → flat_map f (map g entries) ≡ flat_map k entries
-same_texts [] g f k same = refl
-same_texts {X} {Y} (x ∷ xs) g f k same =
-    ap (λ (front : List ℕ). front ++ flat_map f (map g xs)) (All-head (λ x. f (g x) ≡ k x) x xs same)
-    ∙ ap (λ (rest : List ℕ). k x ++ rest) (same_texts xs g f k (All-tail (λ x. f (g x) ≡ k x) x xs same))
-
-no_texts : {X : Type 0} (xs : List X) (f : X → List ℕ) → All (λ x. f x ≡ []) xs → flat_map f xs ≡ []
-no_texts [] f none = refl
-no_texts {X} (x ∷ xs) f none =
-    ap (λ (front : List ℕ). front ++ flat_map f xs) (All-head (λ x. f x ≡ []) x xs none) ∙ no_texts xs f (All-tail (λ x. f x ≡ []) x xs none)
-
--- what is behind something that is all, is nothing
-pub none_behind : (before done : List Executed) → before ++ done ≡ [] → done ≡ []
-none_behind [] done e = e
-none_behind (x ∷ before) done e = cc
-
--- ---- the parts of the text
-
--- the calls that an entity executed
-did_text : (h : Header) (b : Book) (before : Orders) (t : Table) (x : ℕ × Entity) → IsEntry h b before t x
-    → flat_map (executed_line (codes "did ") h.defs (made_as b x).entity (made_as b x).ty) (done_of t part.Cell (made_as b x).entity) ≡ done_text h.defs x
-did_text h b before t x is =
-    let entity : (made_as b x).entity ≡ x.0 = ap (λ (c : Created). c.entity) is.made ∙ is.stands.entity in
-    let ty : (made_as b x).ty ≡ x.1.ty = ap (λ (c : Created). c.ty) is.made ∙ sym is.stands.ty in
-    let done : done_of t part.Cell (made_as b x).entity ≡ x.1.cell.done.items =
-    ap (done_of t part.Cell) entity ∙ ap (part_done part.Cell) is.found in
-    ap (λ (e : ℕ). flat_map (executed_line (codes "did ") h.defs e (made_as b x).ty) (done_of t part.Cell (made_as b x).entity)) entity
-    ∙ ap (λ (ty : ℕ). flat_map (executed_line (codes "did ") h.defs x.0 ty) (done_of t part.Cell (made_as b x).entity)) ty
-    ∙ ap (flat_map (executed_line (codes "did ") h.defs x.0 x.1.ty)) done
-
--- its base part executed none
-dob_text : (h : Header) (b : Book) (before : Orders) (t : Table) (x : ℕ × Entity) → TableStands h b before t → IsEntry h b before t x
-    → flat_map (executed_line (codes "dob ") h.defs (made_as b x).entity (made_as b x).ty) (done_of t part.Base (made_as b x).entity) ≡ []
-dob_text h b before t x stands is =
-    let entity : (made_as b x).entity ≡ x.0 = ap (λ (c : Created). c.entity) is.made ∙ is.stands.entity in
-    let none : x.1.base.done.items ≡ [] = none_behind (before part.Base x.0) x.1.base.done.items (is.stands.base.done ∙ stands.on_cell x.0) in
-    let done : done_of t part.Base (made_as b x).entity ≡ [] = ap (done_of t part.Base) entity ∙ ap (part_done part.Base) is.found ∙ none in
-    ap (flat_map (executed_line (codes "dob ") h.defs (made_as b x).entity (made_as b x).ty)) done
-
-home_is : (h : Header) (b : Book) (before : Orders) (t : Table) (x : ℕ × Entity) → IsEntry h b before t x
-    → (let c = made_as b x in let order = sequence b.calls part.Cell c.entity in home_line h.defs c.entity c.ty 0 (length order) (flat h part.Cell c order (length order))) ≡ home_text h.defs x
-home_is h b before t x is =
-    let made = is.stands.made in
-    let order : ℕ → List Executed = sequence b.calls part.Cell in
-    ap (λ (c : Created). home_line h.defs c.entity c.ty 0 (length (order c.entity)) (flat h part.Cell c (order c.entity) (length (order c.entity)))) is.made
-    ∙ ap (λ (e : ℕ). home_line h.defs e made.ty 0 (length (order e)) (flat h part.Cell made (order e) (length (order e)))) is.stands.entity
-    ∙ ap (λ (ty : ℕ). home_line h.defs x.0 ty 0 (length (order x.0)) (flat h part.Cell made (order x.0) (length (order x.0)))) (sym is.stands.ty)
-    ∙ ap (λ (v : ℕ). home_line h.defs x.0 x.1.ty 0 v (flat h part.Cell made (order x.0) (length (order x.0)))) (sym is.stands.cell.version)
-    ∙ ap (home_line h.defs x.0 x.1.ty 0 x.1.cell.version) (sym is.stands.cell.state)
-
-base_is : (h : Header) (b : Book) (before : Orders) (t : Table) (x : ℕ × Entity) → IsEntry h b before t x
-    → (let c = made_as b x in let order = sequence b.calls part.Base c.entity in base_line h.defs c.entity c.ty (length order) (flat h part.Base c order (length order))) ≡ base_text h.defs x
-base_is h b before t x is =
-    let made = is.stands.made in
-    let order : ℕ → List Executed = sequence b.calls part.Base in
-    ap (λ (c : Created). base_line h.defs c.entity c.ty (length (order c.entity)) (flat h part.Base c (order c.entity) (length (order c.entity)))) is.made
-    ∙ ap (λ (e : ℕ). base_line h.defs e made.ty (length (order e)) (flat h part.Base made (order e) (length (order e)))) is.stands.entity
-    ∙ ap (λ (ty : ℕ). base_line h.defs x.0 ty (length (order x.0)) (flat h part.Base made (order x.0) (length (order x.0)))) (sym is.stands.ty)
-    ∙ ap (λ (v : ℕ). base_line h.defs x.0 x.1.ty v (flat h part.Base made (order x.0) (length (order x.0)))) (sym is.stands.base.version)
-    ∙ ap (base_line h.defs x.0 x.1.ty x.1.base.version) (sym is.stands.base.state)
+is_entry : (h : Header) (b : Book) (t : Table) (x : ℕ × Entity) → TableRefines h b t → get nat_cmp t.entities x.0 ≡ Some x.1 → IsEntry h b t x
+is_entry h b t x was found =
+    let here : EntityRefines h b x.0 x.1 =
+    subst (λ (o : Option Entity). MatchOption o (created_as b x.0 ≡ None) (EntityRefines h b x.0)) found (was.each x.0) in
+    record { found = found; refines = here; made = ap (λ (o : Option Create). unwrap_or o nobody) here.is }
 
 -- every entry of the table is an entity of the book
-entries_are : (h : Header) (b : Book) (before : Orders) (t : Table) → TableStands h b before t → All (IsEntry h b before t) t.entities.entries
-entries_are h b before t stands k d within = is_entry h b before t (get_or t.entities.entries k d) stands (All-found nat_cmp_total t.entities stands.ordered k d within)
+entries_are : (h : Header) (b : Book) (t : Table) → TableRefines h b t → All (IsEntry h b t) t.entities.entries
+entries_are h b t was k d within = is_entry h b t (get_or t.entities.entries k d) was (All-found nat_cmp_total t.entities was.ordered k d within)
 
--- ---- the orders
+entity_of : (h : Header) (b : Book) (t : Table) (x : ℕ × Entity) (is : IsEntry h b t x) → is.refines.made.entity ≡ x.0
+entity_of h b t x is = found_entity (creates_of (entries_of b)) x.0 is.refines.made is.refines.is
 
-goes_on_at : (h : Header) (b : Book) (before : Orders) (t : Table) (p : Part) (e : ℕ) (o : Option Entity) → TableStands h b before t
-    → MatchOption o (created_as b e ≡ None) (EntityStands h b before e) → sequence b.calls p e ≡ before p e ++ part_done p o
-goes_on_at h b before t p e None stands is = stands.uncalled p e is ∙ sym (stands.unordered p e is) ∙ sym (append-nil (before p e))
-goes_on_at h b before t part.Cell e (Some v) stands is = sym is.cell.done
-goes_on_at h b before t part.Base e (Some v) stands is = sym is.base.done
+number_of_made : (h : Header) (b : Book) (t : Table) (x : ℕ × Entity) (is : IsEntry h b t x) → (made_as b x).entity ≡ x.0
+number_of_made h b t x is = ap (λ (c : Create). c.entity) is.made ∙ entity_of h b t x is
+
+type_of_made : (h : Header) (b : Book) (t : Table) (x : ℕ × Entity) (is : IsEntry h b t x) → (made_as b x).ty ≡ x.1.ty
+type_of_made h b t x is = ap (λ (c : Create). c.ty) is.made ∙ sym is.refines.ty
 
 -- ---- the live entities
 
-made_keys : (h : Header) (b : Book) (before : Orders) (t : Table) (entries : List (ℕ × Entity)) → All (IsEntry h b before t) entries
+made_keys : (h : Header) (b : Book) (t : Table) (entries : List (ℕ × Entity)) → All (IsEntry h b t) entries
     → map (λ c. c.entity) (live_of b entries) ≡ map (λ x. x.0) entries
-made_keys h b before t [] all = refl
-made_keys h b before t (x ∷ xs) all =
-    let is = All-head (IsEntry h b before t) x xs all in
-    let entity : (made_as b x).entity ≡ x.0 = ap (λ (c : Created). c.entity) is.made ∙ is.stands.entity in
-    ap (λ (e : ℕ). e ∷ map (λ c. c.entity) (live_of b xs)) entity ∙ ap (λ (es : List ℕ). x.0 ∷ es) (made_keys h b before t xs (All-tail (IsEntry h b before t) x xs all))
+made_keys h b t [] all = refl
+made_keys h b t (x ∷ xs) all =
+    let is = All-head (IsEntry h b t) x xs all in
+    let entity : (made_as b x).entity ≡ x.0 = ap (λ (c : Create). c.entity) is.made ∙ entity_of h b t x is in
+    ap (λ (e : ℕ). e ∷ map (λ c. c.entity) (live_of b xs)) entity ∙ ap (λ (es : List ℕ). x.0 ∷ es) (made_keys h b t xs (All-tail (IsEntry h b t) x xs all))
 
-made_created : (h : Header) (b : Book) (before : Orders) (t : Table) (x : ℕ × Entity) → IsEntry h b before t x → created_as b (made_as b x).entity ≡ Some (made_as b x)
-made_created h b before t x is =
-    let entity : (made_as b x).entity ≡ x.0 = ap (λ (c : Created). c.entity) is.made ∙ is.stands.entity in
-    ap (created_as b) entity ∙ is.stands.is ∙ ap (λ (c : Created). Some c) (sym is.made)
+made_created : (h : Header) (b : Book) (t : Table) (x : ℕ × Entity) → IsEntry h b t x → created_as b (made_as b x).entity ≡ Some (made_as b x)
+made_created h b t x is =
+    let entity : (made_as b x).entity ≡ x.0 = ap (λ (c : Create). c.entity) is.made ∙ entity_of h b t x is in
+    ap (created_as b) entity ∙ is.refines.is ∙ ap (λ (c : Create). Some c) (sym is.made)
 
-live_created : (h : Header) (b : Book) (before : Orders) (t : Table) (entries : List (ℕ × Entity)) → All (IsEntry h b before t) entries
-    → All (λ (c : Created). created_as b c.entity ≡ Some c) (live_of b entries)
-live_created h b before t [] all = All-nil (λ (c : Created). created_as b c.entity ≡ Some c)
-live_created h b before t (x ∷ xs) all =
-    All-cons (λ (c : Created). created_as b c.entity ≡ Some c) (made_as b x) (live_of b xs)
-    (made_created h b before t x (All-head (IsEntry h b before t) x xs all))
-    (live_created h b before t xs (All-tail (IsEntry h b before t) x xs all))
+live_created : (h : Header) (b : Book) (t : Table) (entries : List (ℕ × Entity)) → All (IsEntry h b t) entries
+    → All (λ (c : Create). created_as b c.entity ≡ Some c) (live_of b entries)
+live_created h b t [] all = All-nil (λ (c : Create). created_as b c.entity ≡ Some c)
+live_created h b t (x ∷ xs) all =
+    All-cons (λ (c : Create). created_as b c.entity ≡ Some c) (made_as b x) (live_of b xs)
+    (made_created h b t x (All-head (IsEntry h b t) x xs all))
+    (live_created h b t xs (All-tail (IsEntry h b t) x xs all))
 
 contained_made : {X Y : Type 0} (f : X → Y) (xs : List X) (x : X) → Contains xs x → Contains (map f xs) (f x)
 contained_made f xs x (k, within, is) =
     (k, rw (length-map xs f) within, get_or-map f xs k x ∙ ap f is)
 
-created_live : (h : Header) (b : Book) (before : Orders) (t : Table) → TableStands h b before t → (c : Created) → created_as b c.entity ≡ Some c
-    → (o : Option Entity) → get nat_cmp t.entities c.entity ≡ o → MatchOption o (created_as b c.entity ≡ None) (EntityStands h b before c.entity)
+created_live : (h : Header) (b : Book) (t : Table) → TableRefines h b t → (c : Create) → created_as b c.entity ≡ Some c
+    → (o : Option Entity) → get nat_cmp t.entities c.entity ≡ o → MatchOption o (created_as b c.entity ≡ None) (EntityRefines h b c.entity)
     → Contains (live_of b t.entities.entries) c
-created_live h b before t stands c is None found here = absurd (none_some (sym here ∙ is))
+created_live h b t was c is None found here = absurd (none_some (sym here ∙ is))
   where
     none_some : {A : Type 0} {a : A} → None ≡ Some a → ⊥
     none_some e = cc
-created_live h b before t stands c is (Some v) found here =
-    let entry : Contains t.entities.entries (c.entity, v) = (btree_map_get_iff nat_cmp_total exact_unsigned t.entities stands.ordered c.entity v).0 found in
-    let made : made_as b (c.entity, v) ≡ c = ap (λ (o : Option Created). unwrap_or o nobody) is in
+created_live h b t was c is (Some v) found here =
+    let entry : Contains t.entities.entries (c.entity, v) = (btree_map_get_iff nat_cmp_total exact_unsigned t.entities was.ordered c.entity v).0 found in
+    let made : made_as b (c.entity, v) ≡ c = ap (λ (o : Option Create). unwrap_or o nobody) is in
     subst (Contains (live_of b t.entities.entries)) made (contained_made (made_as b) t.entities.entries (c.entity, v) entry)
 
-lists_live : (h : Header) (b : Book) (before : Orders) (t : Table) → TableStands h b before t → Lists (created_as b) (live_of b t.entities.entries)
-lists_live h b before t stands = record {
-  rising = rw (made_keys h b before t t.entities.entries (entries_are h b before t stands)) (IsStrictlyIncreasing-from_sorted (tree.keys t.entities) stands.ordered);
+lists_live : (h : Header) (b : Book) (t : Table) → TableRefines h b t → Lists (created_as b) (live_of b t.entities.entries)
+lists_live h b t was = record {
+  rising = rw (made_keys h b t t.entities.entries (entries_are h b t was)) (IsStrictlyIncreasing-from_sorted (tree.keys t.entities) was.ordered);
   exact = λ c. (
-    (λ (k, within, is). subst (λ (x : Created). created_as b x.entity ≡ Some x) is
-        (live_created h b before t t.entities.entries (entries_are h b before t stands) k c within)),
-    (λ is. created_live h b before t stands c is (get nat_cmp t.entities c.entity) refl (stands.each c.entity)),
+    (λ (k, within, is). subst (λ (x : Create). created_as b x.entity ≡ Some x) is
+        (live_created h b t t.entities.entries (entries_are h b t was) k c within)),
+    (λ is. created_live h b t was c is (get nat_cmp t.entities c.entity) refl (was.each c.entity)),
   );
 }
 
+-- ---- the lines
+
+-- lines of the same entries, one after another
+same_lists : {X Y L : Type 0} (entries : List X) (g : X → Y) (f : Y → List L) (k : X → List L) → All (λ x. f (g x) ≡ k x) entries → flat_map f (map g entries) ≡ flat_map k entries
+same_lists [] g f k same = refl
+same_lists {X} {Y} {L} (x ∷ xs) g f k same =
+    ap (λ (first : List L). first ++ flat_map f (map g xs)) (All-head (λ x. f (g x) ≡ k x) x xs same)
+    ∙ ap (λ (rest : List L). k x ++ rest) (same_lists xs g f k (All-tail (λ x. f (g x) ≡ k x) x xs same))
+
+same_lines : {X Y L : Type 0} (entries : List X) (g : X → Y) (f : Y → L) (k : X → L) → All (λ x. f (g x) ≡ k x) entries → map f (map g entries) ≡ map k entries
+same_lines [] g f k same = refl
+same_lines {X} {Y} {L} (x ∷ xs) g f k same =
+    ap (λ (first : L). first ∷ map f (map g xs)) (All-head (λ x. f (g x) ≡ k x) x xs same)
+    ∙ ap (λ (rest : List L). k x ∷ rest) (same_lines xs g f k (All-tail (λ x. f (g x) ≡ k x) x xs same))
+
+-- the calls that an entity's parts executed in the round
+did_is : (h : Header) (b : Book) (t : Table) (x : ℕ × Entity) → IsEntry h b t x
+    → map (λ c. record { ty = (made_as b x).ty; call = c }) (in_order b.current part.Cell (made_as b x).entity) ≡ done_of (λ v. v.cell) x
+did_is h b t x is =
+    ap (λ (e : ℕ). map (λ (c : Call). record { ty = (made_as b x).ty; call = c }) (in_order b.current part.Cell e)) (number_of_made h b t x is)
+    ∙ ap (λ (ty : ℕ). map (λ (c : Call). record { ty = ty; call = c }) (in_order b.current part.Cell x.0)) (type_of_made h b t x is)
+    ∙ ap (map (λ (c : Call). record { ty = x.1.ty; call = c })) (sym is.refines.cell.done)
+
+dob_is : (h : Header) (b : Book) (t : Table) (x : ℕ × Entity) → IsEntry h b t x
+    → map (λ c. record { ty = (made_as b x).ty; call = c }) (in_order b.current part.Base (made_as b x).entity) ≡ done_of (λ v. v.base) x
+dob_is h b t x is =
+    ap (λ (e : ℕ). map (λ (c : Call). record { ty = (made_as b x).ty; call = c }) (in_order b.current part.Base e)) (number_of_made h b t x is)
+    ∙ ap (λ (ty : ℕ). map (λ (c : Call). record { ty = ty; call = c }) (in_order b.current part.Base x.0)) (type_of_made h b t x is)
+    ∙ ap (map (λ (c : Call). record { ty = x.1.ty; call = c })) (sym is.refines.base.done)
+
+same_home : (a b : HomeLine) → a.entity ≡ b.entity → a.ty ≡ b.ty → a.cell ≡ b.cell → a.version ≡ b.version → a.state ≡ b.state → a ≡ b
+same_home a b entity ty cell version state = λ i. record { entity = entity i; ty = ty i; cell = cell i; version = version i; state = state i }
+
+same_base : (a b : BaseLine) → a.entity ≡ b.entity → a.ty ≡ b.ty → a.version ≡ b.version → a.props ≡ b.props → a ≡ b
+same_base a b entity ty version props = λ i. record { entity = entity i; ty = ty i; version = version i; props = props i }
+
+home_is : (h : Header) (b : Book) (t : Table) (x : ℕ × Entity) → IsEntry h b t x
+    → home_line h (in_order (entries_of b) part.Cell (made_as b x).entity) (made_as b x) ≡ home_of x
+home_is h b t x is =
+    let order : ℕ → List Call = in_order (entries_of b) part.Cell in
+    let number = number_of_made h b t x is in
+    same_home (home_line h (order (made_as b x).entity) (made_as b x)) (home_of x) number (type_of_made h b t x is) refl
+    (ap (λ (e : ℕ). length (order e)) number ∙ sym is.refines.cell.version)
+    (ap (λ (e : ℕ). flat h part.Cell (made_as b x) (order e) (length (order e))) number
+    ∙ ap (λ (c : Create). flat h part.Cell c (order x.0) (length (order x.0))) is.made ∙ sym is.refines.cell.state)
+
+base_is : (h : Header) (b : Book) (t : Table) (x : ℕ × Entity) → IsEntry h b t x
+    → base_line h (in_order (entries_of b) part.Base (made_as b x).entity) (made_as b x) ≡ base_of x
+base_is h b t x is =
+    let order : ℕ → List Call = in_order (entries_of b) part.Base in
+    let number = number_of_made h b t x is in
+    same_base (base_line h (order (made_as b x).entity) (made_as b x)) (base_of x) number (type_of_made h b t x is)
+    (ap (λ (e : ℕ). length (order e)) number ∙ sym is.refines.base.version)
+    (ap (λ (e : ℕ). (flat h part.Base (made_as b x) (order e) (length (order e))).props) number
+    ∙ ap (λ (c : Create). (flat h part.Base c (order x.0) (length (order x.0))).props) is.made ∙ ap (λ (s : State). s.props) (sym is.refines.base.state))
+
 -- ---- the round
 
-same_form : (r d o h b e d' h' b' : List ℕ) → d' ≡ d → o ≡ [] → h' ≡ h → b' ≡ b → r ++ d ++ h ++ b ++ e ≡ r ++ d' ++ o ++ h' ++ b' ++ e
-same_form r d o h b e d' h' b' did none homes bases = rw (did, none, homes, bases, append-nil) refl
+same_data : (r u : RoundData) → r.number ≡ u.number → r.did ≡ u.did → r.dob ≡ u.dob → r.homes ≡ u.homes → r.bases ≡ u.bases → r ≡ u
+same_data r u number did dob homes bases = λ i. record { number = number i; did = did i; dob = dob i; homes = homes i; bases = bases i }
 
--- the standing behind the round
-abbrev pub behind_round : Standing → Standing
-behind_round t = record { lines = t.lines; book = closed t.book; orders = sequence t.book.calls; rounds = t.rounds + 1 }
+-- the round of the table's entities is that of the book
+round_is : (h : Header) (b : Book) (t : Table) (number : ℕ) → TableRefines h b t → round_in_order h number b (live_of b t.entities.entries) ≡ round_of number t.entities.entries
+round_is h b t number was =
+    let xs = t.entities.entries in
+    let all : All (IsEntry h b t) xs = entries_are h b t was in
+    same_data (round_in_order h number b (live_of b xs)) (round_of number xs) refl
+    (same_lists xs (made_as b) (λ c. map (λ y. record { ty = c.ty; call = y }) (in_order b.current part.Cell c.entity)) (done_of (λ v. v.cell)) (λ k d within. did_is h b t _ (all k d within)))
+    (same_lists xs (made_as b) (λ c. map (λ y. record { ty = c.ty; call = y }) (in_order b.current part.Base c.entity)) (done_of (λ v. v.base)) (λ k d within. dob_is h b t _ (all k d within)))
+    (same_lines xs (made_as b) (λ c. home_line h (in_order (entries_of b) part.Cell c.entity) c) home_of (λ k d within. home_is h b t _ (all k d within)))
+    (same_lines xs (made_as b) (λ c. base_line h (in_order (entries_of b) part.Base c.entity) c) base_of (λ k d within. base_is h b t _ (all k d within)))
 
--- What the table prints is a legal text of the round, which goes on from the orders before it to the table's own.
-pub table_round : (h : Header) (s : Standing) (t : Table) → TableStands h s.book s.orders t
-    → IsRound h s (table_text (s.rounds + 1) h.defs t.entities.entries) (behind_round s)
-table_round h s t stands =
-    let b : Book = s.book in
-    let before : Orders = s.orders in
-    let live : List Created = live_of b t.entities.entries in
-    record {
-      round = record { made = live; homed = live; based = live; done = done_of t; home = λ e. 0 };
-      form = let entries = t.entities.entries in
-          let all : All (IsEntry h b before t) entries = entries_are h b before t stands in
-          same_form (number_line (codes "round ") (s.rounds + 1)) _ _ _ _ (number_line (codes "end ") (s.rounds + 1)) _ _ _
-          (same_texts entries (made_as b) (λ c. flat_map (executed_line (codes "did ") h.defs c.entity c.ty) (done_of t part.Cell c.entity)) (done_text h.defs) (λ k d within. did_text h b before t _ (all k d within)))
-          (same_texts entries (made_as b) (λ c. flat_map (executed_line (codes "dob ") h.defs c.entity c.ty) (done_of t part.Base c.entity)) (λ x. []) (λ k d within. dob_text h b before t _ stands (all k d within)) ∙ no_texts entries (λ x. []) (λ k d within. refl))
-          (same_texts entries (made_as b) (λ c. let order = sequence b.calls part.Cell c.entity in home_line h.defs c.entity c.ty 0 (length order) (flat h part.Cell c order (length order))) (home_text h.defs) (λ k d within. home_is h b before t _ (all k d within)))
-          (same_texts entries (made_as b) (λ c. let order = sequence b.calls part.Base c.entity in base_line h.defs c.entity c.ty (length order) (flat h part.Base c order (length order))) (base_text h.defs) (λ k d within. base_is h b before t _ (all k d within)));
-      orders = record {
-        listed = lists_live h b before t stands;
-        further = λ p e. goes_on_at h b before t p e (get nat_cmp t.entities e) stands (stands.each e);
-        legal = λ p e. full-legal b p e (sequence b.calls p e) (sequence-full b p e);
-        full = λ p e. sequence-full b p e;
-      };
-      homes = record { listed = lists_live h b before t stands; cells = λ e. refl };
-      bases = lists_live h b before t stands;
-      lines = refl;
-      book = refl;
-      rounds = refl;
-    }
+-- What the table prints is a legal round, after rounds in which all calls were executed as they were accepted.
+pub table_round : (h : Header) (s : Standing) (t : Table) → TableRefines h s.book t → s.orders ≡ in_order s.book.past
+    → IsRound h s (round_of (s.rounds + 1) t.entities.entries) (after_round s)
+table_round h s t was orders =
+    subst (λ (r : RoundData). IsRound h s r (after_round s)) (round_is h s.book t (s.rounds + 1) was)
+    (round_in_order_is_legal h s (live_of s.book t.entities.entries) (lists_live h s.book t was) orders)

@@ -1,59 +1,72 @@
--- How far a script was taken, beside the standing of a transcript.
-use Rattle.std.specs.Prelude.{◌≡◌, ◌≢◌, ℕ, ◌+◌, ◌<◌, List, length}
-use Rattle.seam_io.specs.Lines.{Line, Content}
-use Rattle.seam_transcript.specs.Language.{IsSkipped, HasWords, Command, Sync, Says}
-use Rattle.seam_transcript.specs.Book.{Header, Judges, Verdict}
+-- How far a script was read, beside the standing of a transcript.
+use Rattle.std.specs.Prelude.{◌≡◌, ℕ, ◌+◌, ◌<◌, List, length}
+use Rattle.seam_io.specs.Lines.{Line}
+use Rattle.seam_transcript.specs.declared.header.Header.{Header}
+use Rattle.seam_transcript.specs.declared.verdict.Verdict.{Verdict}
+use Rattle.seam_transcript.specs.Book.{entries, open_lines}
 use Rattle.seam_transcript.specs.Standing.{Standing}
-use Rattle.seam_transcript.specs.Round.{IsRound}
-use Rattle.seam_transcript.specs.Transcript.{Takes, Step}
-use Rattle.seam_world.specs.Table.{TableStands, Judged}
+use Rattle.seam_transcript.specs.InOrder.{in_order, after_round}
+use Rattle.seam_transcript.specs.Round.{IsRound, RoundData}
+use Rattle.seam_transcript.specs.Texts.{round_text}
+use Rattle.seam_transcript.specs.Transcript.{Piece, text_of, most_lines, Follows, Step, EndsInput}
+use Rattle.seam_world.specs.Table.{TableRefines}
 use Rattle.seam_world.specs.declared.script.Script.{Script}
-use Rattle.seam_world.specs.declared.table.Outcome.{Outcome}
 
--- the script's table and counts are those of the standing, but for the accepted lines of the open round; fewer calls were
--- accepted, and fewer rounds ended, than lines were taken
+-- the script's table and counts are those of the standing, but for the accepted lines of the open round
 pub record IsReady (h : Header) (t : Standing) (s : Script) : Type 0 where
-  pub table : TableStands h t.book t.orders s.table
+  pub table : TableRefines h t.book s.table
+  pub orders : t.orders ≡ in_order t.book.past
   pub line : s.line ≡ t.lines
   pub round : s.round ≡ t.rounds
-  pub calls : length t.book.calls < t.lines
-  pub rounds : t.rounds < t.lines
 
--- the script stands where the transcript does
-pub record ScriptStands (h : Header) (t : Standing) (s : Script) : Type 0 where
+-- fewer lines were accepted, and fewer rounds ended, than lines were read: even with so many more
+pub record HasFewer (more : ℕ) (t : Standing) : Type 0 where
+  pub accepted : length (entries t.book) + more < t.lines
+  pub ended : t.rounds + more < t.lines
+
+-- the script refines the standing, where so many more lines may be accepted
+pub record Refines (more : ℕ) (h : Header) (t : Standing) (s : Script) : Type 0 where
   pub ready : IsReady h t s
-  pub accepted : s.accepted ≡ t.book.open_lines
-  pub below_most : t.book.open_lines < 65536
+  pub accepted : s.accepted ≡ open_lines t.book
+  pub below_most : open_lines t.book < most_lines
+  pub fewer : HasFewer more t
 
--- the open round ended, and its text is the piece; where a line ended it, the script goes on
-pub record EndsOpenRound (h : Header) (t : Standing) (new : Script) (piece : List ℕ) : Type 0 where
+-- the script is between two lines
+abbrev pub ScriptRefines : Header → Standing → Script → Type 0
+ScriptRefines h t s = Refines 0 h t s
+
+-- the script has counted a line, of which nothing has followed
+abbrev pub HasCounted : Header → Standing → Script → Type 0
+HasCounted h t s = Refines 1 h t s
+
+-- the open round ended with this text
+pub record RoundEnds (h : Header) (t : Standing) (new : Script) (text : List ℕ) : Type 0 where
+  pub round : RoundData
+  pub legal : IsRound h t round (after_round t)
+  pub whole : text ≡ round_text h.defs round
+  pub ready : IsReady h (after_round t) new
+  pub accepted : new.accepted ≡ 0
+
+-- a verdict was followed, with this text
+pub record VerdictFollowed (h : Header) (t : Standing) (v : Verdict) (new : Script) (text : List ℕ) : Type 0 where
+  pub pieces : List Piece
   pub next : Standing
-  pub ends : IsRound h t piece next
-  pub stands : t.rounds + 1 < t.lines → ScriptStands h next new
-
--- a command other than `sync` was judged, and the script's counts are those from before it
-pub record IsJudged (h : Header) (t : Standing) (c : Command) (o : Outcome) (s : Script) : Type 0 where
-  pub other : c ≢ Sync
-  pub judged : Judged h t.book c t.orders s.table o
-  pub line : s.line ≡ t.lines
-  pub round : s.round ≡ t.rounds
-  pub accepted : s.accepted ≡ t.book.open_lines
-  pub below_most : t.book.open_lines < 65536
-  pub calls : length t.book.calls + 1 < t.lines
-  pub rounds : t.rounds + 1 < t.lines
-
--- a command was taken, with the verdict on each line that says it, and its text is the piece
-pub record TakesPieceOf (h : Header) (t : Standing) (c : Command) (new : Script) (piece : List ℕ) : Type 0 where
-  pub verdict : Verdict
-  pub judges : (line : List ℕ) (words : List (List ℕ)) → ¬ (IsSkipped line) → HasWords line words → Says words c → Judges h t.book (Content line) verdict
-  pub next : Standing
-  pub takes : Takes h t verdict piece next
+  pub follows : Follows h t v pieces next
+  pub whole : text ≡ text_of h.defs pieces
   pub lines : next.lines ≡ t.lines
-  pub stands : ScriptStands h next new
+  pub refines : ScriptRefines h next new
 
--- a line was taken, and its text is the piece
-pub record TakesPiece (h : Header) (t : Standing) (line : Line) (new : Script) (piece : List ℕ) : Type 0 where
+-- a line was read, with this text
+pub record LineRead (h : Header) (t : Standing) (line : Line) (new : Script) (text : List ℕ) : Type 0 where
+  pub pieces : List Piece
   pub next : Standing
-  pub step : Step h t line piece next
+  pub step : Step h t line pieces next
+  pub whole : text ≡ text_of h.defs pieces
   pub lines : next.lines ≡ t.lines + 1
-  pub stands : ScriptStands h next new
+  pub refines : ScriptRefines h next new
+
+-- the input ended, with this text
+pub record InputEnded (h : Header) (t : Standing) (text : List ℕ) : Type 0 where
+  pub pieces : List Piece
+  pub ends : EndsInput h t pieces
+  pub whole : text ≡ text_of h.defs pieces

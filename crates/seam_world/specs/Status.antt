@@ -1,5 +1,6 @@
 -- The exit status of each end of a run.
 use Rattle.std.specs.Prelude.{◌≡◌, ◌⊎◌, ℕ}
+use Rattle.seam_transcript.specs.Header.{no_end, too_long}
 use Rattle.seam_world.specs.declared.status.Status.{Status}
 use Rattle.seam_world.specs.declared.status.Status.TheVariants as status
 
@@ -16,17 +17,17 @@ code_of status.NoMemory = 6
 abbrev pub IsHeaderEnd : Status → Type 0
 IsHeaderEnd status.Done = ⊥
 IsHeaderEnd status.Usage = ⊥
-IsHeaderEnd (status.BadHeader k) = (k ≡ 10) ⊎ (k ≡ 11)
+IsHeaderEnd (status.BadHeader k) = (k ≡ no_end) ⊎ (k ≡ too_long)
 IsHeaderEnd status.ReadFault = Unit {0}
 IsHeaderEnd status.WriteFault = ⊥
 IsHeaderEnd status.Limit = Unit {0}
-IsHeaderEnd status.NoMemory = ⊥
+IsHeaderEnd status.NoMemory = Unit {0}
 
 -- the statuses that a run without words may end with
 abbrev pub IsRunEnd : Status → Type 0
 IsRunEnd status.Done = Unit {0}
 IsRunEnd status.Usage = ⊥
-IsRunEnd (status.BadHeader k) = (k ≡ 10) ⊎ (k ≡ 11)
+IsRunEnd (status.BadHeader k) = (k ≡ no_end) ⊎ (k ≡ too_long)
 IsRunEnd status.ReadFault = Unit {0}
 IsRunEnd status.WriteFault = Unit {0}
 IsRunEnd status.Limit = Unit {0}

@@ -1,20 +1,24 @@
 // The run of a script, from the bytes of a source to what is written to a sink.
-ghost use Rattle.std.specs.Prelude.{◌≡◌, ◌≢◌, ◌↔◌, ◌∷◌, ◌<◌, ◌≤◌, ◌^◌, ◌⊎◌, ◌++◌, ◌+◌, [], List, ℕ, Option, MatchOption, MatchBool, IfNone, length, codes};
-ghost use Rattle.std.specs.Io.KnownBytes.{Appends, Consumes};
+ghost use Rattle.std.specs.Prelude.{◌≡◌, ◌≢◌, ◌↔◌, ◌∷◌, ◌<◌, ◌≤◌, ◌^◌, ◌⊎◌, ◌++◌, ◌+◌, [], List, ℕ, Option, MatchOption, MatchResult, MatchBool, IfNone, length, codes};
+ghost use Rattle.std.specs.Io.KnownBytes.{Appends};
 ghost use Rattle.seam_io.specs.Causes.{Rose};
+ghost use Rattle.seam_io.specs.States.{SourceState, SinkState};
 ghost use Rattle.seam_io.specs.Lines.{Content, Long};
-ghost use Rattle.seam_io.specs.Reading.{SourceState, source_state, Reading, budget};
-ghost use Rattle.seam_transcript.specs.Book.{empty_header};
+ghost use Rattle.seam_io.specs.Reading.{Reading, budget};
+ghost use Rattle.seam_transcript.specs.declared.header.Header.{Header as Headers};
+ghost use Rattle.seam_transcript.specs.Header.{separator, no_end, too_long};
 ghost use Rattle.seam_transcript.specs.Standing.{Standing};
-ghost use Rattle.seam_transcript.specs.Transcript.{separator, EndsInput};
-ghost use Rattle.seam_world.specs.Status.{IsHeaderEnd, IsRunEnd};
-ghost use Rattle.seam_world.specs.Script.{ScriptStands, TakesPiece};
-ghost use Rattle.seam_world.specs.Ends.{RunEnds, Tells, HasFaultLine, IsFront, fault_line as fault_line_of};
-ghost use Rattle.seam_world.specs.Histories.{Going, Stopped, Prints};
+ghost use Rattle.seam_transcript.specs.Transcript.{IsOpen, IsEnded};
+ghost use Rattle.seam_world.specs.Status.{IsRunEnd};
+ghost use Rattle.seam_world.specs.Script.{ScriptRefines, LineRead, InputEnded};
+ghost use Rattle.seam_world.specs.Ends.{RunEnds, HasFaultLine, IsPrefix, most_bytes, fault_line as fault_line_of};
+ghost use Rattle.seam_world.specs.Histories.{HasHeader, Going, Stopped, Prints};
 
 use crate::Status;
 use crate::script::Script;
+use seam_accept::standard_header;
 use seam_io::{Lines, Next, Sink, Source, write_whole};
+use seam_transcript::Header;
 use std::alloc::Global;
 
 // The most bytes of input.
@@ -29,13 +33,11 @@ pub fn run_seamless<S: Source, K: Sink>(
     out: &mut K,
 ) -> Status
     // What was written is the text that the status tells of, and then its fault line.
-    ensures ends { RunEnds result (source_state (S.left input.old) (S.faults input.old) (S.ends input.old))
-        (source_state (S.left input.new) (S.faults input.new) (S.ends input.new))
-        (K.written out.old) (K.written out.new) (K.faults out.old) (K.faults out.new) }
+    ensures ends { RunEnds IsOpen IsEnded result (S.state input.old) (S.state input.new) (K.state out.old) (K.state out.new) }
     ensures usage { (result ≡ Status.Usage) ↔ (words.now ≢ []) }
-    ensures read { result ≡ Status.ReadFault → Rose (S.faults input.old) (S.faults input.new) }
-    ensures write { result ≡ Status.WriteFault → Rose (K.faults out.old) (K.faults out.new) }
-    ensures later { (S.faults input.old ≤ S.faults input.new) × (K.faults out.old ≤ K.faults out.new) }
+    ensures read { result ≡ Status.ReadFault → Rose (S.state input.old).faults (S.state input.new).faults }
+    ensures write { result ≡ Status.WriteFault → Rose (K.state out.old).faults (K.state out.new).faults }
+    ensures later { ((S.state input.old).faults ≤ (S.state input.new).faults) × ((K.state out.old).faults ≤ (K.state out.new).faults) }
 {
     if !words.is_empty() {
         put_fault(out, Status::Usage);
@@ -48,62 +50,62 @@ pub fn run_seamless<S: Source, K: Sink>(
 
 // The whole run but for the fault line.
 fn run_body<S: Source, K: Sink>(alloc: Global, input: &mut S, out: &mut K) -> Status
-    ensures stopped { Stopped result (source_state (S.left input.old) (S.faults input.old) (S.ends input.old))
-        (source_state (S.left input.new) (S.faults input.new) (S.ends input.new))
-        (K.written out.old) (K.written out.new) (K.faults out.old) (K.faults out.new) }
-    ensures later { S.faults input.old ≤ S.faults input.new }
+    ensures stopped { Stopped result (S.state input.old) (S.state input.new) (K.state out.old) (K.state out.new) }
+    ensures later { (S.state input.old).faults ≤ (S.state input.new).faults }
 {
     let mut lines = match Lines::new(alloc, LIMIT) {
         Ok(lines) => lines,
         Err(_) => return Status::NoMemory,
     };
-    match read_header(&mut lines, input) {
-        None => {}
-        Some(status) => return status,
-    }
-    let mut script = match Script::new(alloc) {
-        Ok(script) => script,
-        Err(_) => return Status::NoMemory,
+    let (header, count) = match read_header(alloc, &mut lines, input) {
+        Ok(header) => header,
+        Err(status) => return status,
     };
+    let mut script = Script::new(alloc, header, count);
     let mut text = Vec::new(alloc);
     run_lines(&mut lines, &mut script, &mut text, input, out)
 }
 
-// Reads the header, which has to be empty: its first line ends it. Answers the status where the run ends there.
-fn read_header<S: Source>(lines: &mut Lines, input: &mut S) -> Option<Status>
-    ensures header { (began : SourceState) →
-        Reading began (source_state (S.left input.old) (S.faults input.old) (S.ends input.old)) lines.old [] [] →
-        lines.old.limit ≡ 2 ^ 40 →
-        MatchOption result
-        ((given : List ℕ) × Reading began (source_state (S.left input.new) (S.faults input.new) (S.ends input.new)) lines.new given (separator ∷ []))
-        (λ s. (given : List ℕ) × Consumes began.left (S.left input.new) given × (length given ≤ 2 ^ 40)
-        × Tells s began (source_state (S.left input.new) (S.faults input.new) (S.ends input.new)) given [] × IsHeaderEnd s) }
-    ensures limit { lines.new.limit ≡ lines.old.limit }
-    ensures later { S.faults input.old ≤ S.faults input.new }
+// Reads the header, which has to be empty: its first line ends it. Answers what it sets, and of how many lines it is; or the
+// status where the run ends there.
+fn read_header<S: Source>(
+    alloc: Global,
+    lines: &mut Lines,
+    input: &mut S,
+) -> Result<(Header, u64), Status>
+    ensures header { (began : SourceState) (sink : SinkState) → Reading began (S.state input.old) lines.old [] [] →
+        lines.old.limit ≡ most_bytes →
+        MatchResult result
+        (λ h. HasHeader began (S.state input.new) lines.new h.0 h.1)
+        (λ s. Stopped s began (S.state input.new) sink sink) }
+    ensures later { (S.state input.old).faults ≤ (S.state input.new).faults }
 {
     match lines.next(input) {
         Next::Line => {
             if is_separator(lines.line()) {
-                None
+                match standard_header(alloc) {
+                    Ok(header) => Ok((header, 1)),
+                    Err(_) => Err(Status::NoMemory),
+                }
             } else {
-                Some(Status::BadHeader(11))
+                Err(Status::BadHeader(11))
             }
         }
-        Next::Long => Some(Status::BadHeader(11)),
-        Next::End => Some(Status::BadHeader(10)),
-        Next::ReadFault => Some(Status::ReadFault),
-        Next::Limit => Some(Status::Limit),
+        Next::Long => Err(Status::BadHeader(11)),
+        Next::End => Err(Status::BadHeader(10)),
+        Next::ReadFault => Err(Status::ReadFault),
+        Next::Limit => Err(Status::Limit),
     }
 }
 
 // Whether the line ends the header.
 fn is_separator(line: &[u8]) -> bool
-    ensures { MatchBool result (line.now ≡ codes "%%") (line.now ≢ codes "%%") }
+    ensures { MatchBool result (Content line.now ≡ separator) (Content line.now ≢ separator) }
 {
     matches!(line, b"%%")
 }
 
-// Takes line by line, until the run ends.
+// Reads line by line, until the run ends.
 fn run_lines<S: Source, K: Sink>(
     lines: &mut Lines,
     script: &mut Script,
@@ -111,10 +113,10 @@ fn run_lines<S: Source, K: Sink>(
     input: &mut S,
     out: &mut K,
 ) -> Status
-    ensures history { (began : SourceState) (old : Option (List ℕ)) (before : ℕ) →
-        Going began (source_state (S.left input.old) (S.faults input.old) (S.ends input.old)) lines.old old (K.written out.old) before (K.faults out.old) script.old →
-        Stopped result began (source_state (S.left input.new) (S.faults input.new) (S.ends input.new)) old (K.written out.new) before (K.faults out.new) }
-    ensures later { S.faults input.old ≤ S.faults input.new }
+    ensures history { (began : SourceState) (sink : SinkState) →
+        Going began (S.state input.old) lines.old sink (K.state out.old) script.old →
+        Stopped result began (S.state input.new) sink (K.state out.new) }
+    ensures later { (S.state input.old).faults ≤ (S.state input.new).faults }
 {
     loop {
         match turn(lines, script, text, input, out) {
@@ -124,7 +126,7 @@ fn run_lines<S: Source, K: Sink>(
     }
 }
 
-// One line: it is read, the script takes it, and what is printed for it is written. Answers the status where the run ends.
+// One line: it is read, the script follows it, and what is printed for it is written. Answers the status where the run ends.
 fn turn<S: Source, K: Sink>(
     lines: &mut Lines,
     script: &mut Script,
@@ -132,12 +134,12 @@ fn turn<S: Source, K: Sink>(
     input: &mut S,
     out: &mut K,
 ) -> Option<Status>
-    ensures history { (began : SourceState) (old : Option (List ℕ)) (before : ℕ) →
-        Going began (source_state (S.left input.old) (S.faults input.old) (S.ends input.old)) lines.old old (K.written out.old) before (K.faults out.old) script.old →
+    ensures history { (began : SourceState) (sink : SinkState) →
+        Going began (S.state input.old) lines.old sink (K.state out.old) script.old →
         MatchOption result
-        (Going began (source_state (S.left input.new) (S.faults input.new) (S.ends input.new)) lines.new old (K.written out.new) before (K.faults out.new) script.new)
-        (λ s. Stopped s began (source_state (S.left input.new) (S.faults input.new) (S.ends input.new)) old (K.written out.new) before (K.faults out.new)) }
-    ensures later { S.faults input.old ≤ S.faults input.new }
+        (Going began (S.state input.new) lines.new sink (K.state out.new) script.new)
+        (λ s. Stopped s began (S.state input.new) sink (K.state out.new)) }
+    ensures later { (S.state input.old).faults ≤ (S.state input.new).faults }
     ensures falls { IfNone result (budget lines.new < budget lines.old) }
 {
     match lines.next(input) {
@@ -159,33 +161,33 @@ fn print_line<K: Sink>(
     out: &mut K,
 ) -> Option<Status>
     requires { length line.now ≤ 4096 }
-    ensures prints { (t : Standing) → ScriptStands empty_header t script.old → t.lines < 2 ^ 61 →
-        Prints (TakesPiece empty_header t (Content line.now) script.new) (K.written out.old) (K.written out.new) (K.faults out.old) (K.faults out.new) result }
-    ensures later { K.faults out.old ≤ K.faults out.new }
+    ensures prints { (h : Headers) (t : Standing) → ScriptRefines h t script.old → t.lines < 2 ^ 61 →
+        Prints (LineRead h t (Content line.now) script.new) (K.state out.old) (K.state out.new) result }
+    ensures later { (K.state out.old).faults ≤ (K.state out.new).faults }
 {
     text.clear();
-    match script.take_line(line, text) {
+    match script.read_line(line, text) {
         Ok(()) => print(out, text),
         Err(_) => Some(Status::NoMemory),
     }
 }
 
 fn print_long<K: Sink>(script: &mut Script, text: &mut Vec<u8>, out: &mut K) -> Option<Status>
-    ensures prints { (t : Standing) → ScriptStands empty_header t script.old → t.lines < 2 ^ 61 →
-        Prints (TakesPiece empty_header t Long script.new) (K.written out.old) (K.written out.new) (K.faults out.old) (K.faults out.new) result }
-    ensures later { K.faults out.old ≤ K.faults out.new }
+    ensures prints { (h : Headers) (t : Standing) → ScriptRefines h t script.old → t.lines < 2 ^ 61 →
+        Prints (LineRead h t Long script.new) (K.state out.old) (K.state out.new) result }
+    ensures later { (K.state out.old).faults ≤ (K.state out.new).faults }
 {
     text.clear();
-    match script.take_long(text) {
+    match script.read_long(text) {
         Ok(()) => print(out, text),
         Err(_) => Some(Status::NoMemory),
     }
 }
 
 fn print_last<K: Sink>(script: &mut Script, text: &mut Vec<u8>, out: &mut K) -> Option<Status>
-    ensures prints { (t : Standing) → ScriptStands empty_header t script.old → t.lines < 2 ^ 61 →
-        Prints (EndsInput empty_header t) (K.written out.old) (K.written out.new) (K.faults out.old) (K.faults out.new) result }
-    ensures later { K.faults out.old ≤ K.faults out.new }
+    ensures prints { (h : Headers) (t : Standing) → ScriptRefines h t script.old → t.lines < 2 ^ 61 →
+        Prints (InputEnded h t) (K.state out.old) (K.state out.new) result }
+    ensures later { (K.state out.old).faults ≤ (K.state out.new).faults }
 {
     text.clear();
     match script.finish(text) {
@@ -196,8 +198,8 @@ fn print_last<K: Sink>(script: &mut Script, text: &mut Vec<u8>, out: &mut K) -> 
 
 // Writes a text, and answers the status where the sink fails.
 fn print<K: Sink>(out: &mut K, text: &[u8]) -> Option<Status>
-    ensures prints { Prints (λ piece. piece ≡ text.now) (K.written out.old) (K.written out.new) (K.faults out.old) (K.faults out.new) result }
-    ensures later { K.faults out.old ≤ K.faults out.new }
+    ensures prints { Prints (λ piece. piece ≡ text.now) (K.state out.old) (K.state out.new) result }
+    ensures later { (K.state out.old).faults ≤ (K.state out.new).faults }
 {
     match write_whole(out, text) {
         Ok(()) => None,
@@ -205,21 +207,21 @@ fn print<K: Sink>(out: &mut K, text: &[u8]) -> Option<Status>
     }
 }
 
-// Writes the fault line of a status, as far as it goes.
+// Writes the fault line of a status, as much of it as the sink accepts.
 fn put_fault<K: Sink>(out: &mut K, status: Status)
     requires { IsRunEnd status ⊎ (status ≡ Status.Usage) }
-    ensures written { (tail : List ℕ) × Appends (K.written out.old) (K.written out.new) tail
-        × HasFaultLine status (K.faults out.old) (K.faults out.new) tail }
-    ensures later { K.faults out.old ≤ K.faults out.new }
+    ensures written { (tail : List ℕ) × Appends (K.state out.old).written (K.state out.new).written tail
+        × HasFaultLine status (K.state out.old) (K.state out.new) tail }
+    ensures later { (K.state out.old).faults ≤ (K.state out.new).faults }
 {
     put(out, fault_line(status));
 }
 
-// Writes a line, as far as it goes.
+// Writes a line, as much of it as the sink accepts.
 fn put<K: Sink>(out: &mut K, line: &[u8])
-    ensures written { (tail : List ℕ) × Appends (K.written out.old) (K.written out.new) tail
-        × ((tail ≡ line.now) ⊎ (IsFront tail line.now × Rose (K.faults out.old) (K.faults out.new))) }
-    ensures later { K.faults out.old ≤ K.faults out.new }
+    ensures written { (tail : List ℕ) × Appends (K.state out.old).written (K.state out.new).written tail
+        × ((tail ≡ line.now) ⊎ (IsPrefix tail line.now × Rose (K.state out.old).faults (K.state out.new).faults)) }
+    ensures later { (K.state out.old).faults ≤ (K.state out.new).faults }
 {
     let _ = write_whole(out, line);
 }
@@ -240,7 +242,7 @@ fn fault_line(status: Status) -> &'static [u8]
 }
 
 fn header_fault_line(cause: u8) -> &'static [u8]
-    requires { (cause ≡ 10) ⊎ (cause ≡ 11) }
+    requires { (cause ≡ no_end) ⊎ (cause ≡ too_long) }
     ensures { result.now ≡ fault_line_of (Status.BadHeader cause) }
 {
     if cause == 10 {

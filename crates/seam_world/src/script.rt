@@ -1,113 +1,107 @@
 // A script, line by line.
 ghost use Rattle.std.specs.Prelude.{◌≡◌, ◌<◌, ◌≤◌, ◌^◌, ◌++◌, List, ℕ, length, OnOk, IfOk};
-ghost use Rattle.seam_io.specs.Lines.{Content, Long};
-ghost use Rattle.seam_transcript.specs.Book.{empty_header};
-ghost use Rattle.seam_transcript.specs.Language.{Command as Commands};
-ghost use Rattle.seam_transcript.specs.Standing.{Standing, behind_header};
-ghost use Rattle.seam_transcript.specs.Transcript.{EndsInput};
-ghost use Rattle.seam_world.specs.Script.{IsReady, ScriptStands, IsJudged, TakesPiece, TakesPieceOf, EndsOpenRound};
+ghost use Rattle.seam_io.specs.Lines.{Line as Lines, Content, Long};
+ghost use Rattle.seam_transcript.specs.declared.header.Header.{Header as Headers};
+ghost use Rattle.seam_transcript.specs.Book.{Judges};
+ghost use Rattle.seam_transcript.specs.Standing.{Standing, after_header};
+ghost use Rattle.seam_world.specs.Script.{IsReady, ScriptRefines, HasCounted, RoundEnds, VerdictFollowed, LineRead, InputEnded};
 
-use crate::table::{Outcome, Table};
+use crate::table::Table;
 use crate::text::push_round;
-use seam_defs::{Defs, Settings};
-use seam_transcript::{MOST_LINES, Said, push_bad_words, push_refusal, read_line};
+use seam_accept::read_line;
+use seam_report::push_refusal;
+use seam_transcript::{Cause, Header, MOST_LINES, Verdict};
+use seam_words::Words;
 use std::alloc::{AllocError, Global};
 
-/// How far a script was taken: the world, and the counts of its lines and rounds.
+/// How far a script was read: the world, and the counts of its lines and rounds.
 #[derive(Drop)]
 pub struct Script {
-    alloc: Global,
     table: Table,
     // the number of the last line
     line: u64,
     // the number of the last round that ended, and how many lines were accepted since
     round: u64,
-    accepted: u32,
+    accepted: usize,
 }
 
 impl Script {
-    /// A script whose header, of one line, was empty.
-    pub fn new(alloc: Global) -> Result<Self, AllocError>
-        ensures { IfOk result (ScriptStands empty_header (behind_header 1)) }
+    /// A script after a header of so many lines.
+    pub fn new(alloc: Global, header: Header, lines: u64) -> Self
+        ensures { 0 < lines → ScriptRefines header (after_header lines) result }
     {
-        let defs = Defs::builtin(alloc)?;
-        Ok(Script {
-            alloc,
-            table: Table::new(alloc, defs, Settings::standard()),
-            line: 1,
+        Script {
+            table: Table::new(alloc, header),
+            line: lines,
             round: 0,
             accepted: 0,
-        })
-    }
-
-    /// Takes the next line, and appends what is printed for it.
-    pub fn take_line(&mut self, line: &[u8], out: &mut Vec<u8>) -> Result<(), AllocError>
-        requires { length line.now ≤ 4096 }
-        ensures { OnOk result ((t : Standing) → ScriptStands empty_header t self.old → t.lines < 2 ^ 61
-            → (piece : List ℕ) × TakesPiece empty_header t (Content line.now) self.new piece × (out.new.items ≡ out.old.items ++ piece)) }
-    {
-        self.line = self.line.saturating_add(1);
-        let mut table: [&[u8]; 16] = [b""; 16];
-        match read_line(self.alloc, line, &mut table) {
-            Said::Skipped => Ok(()),
-            Said::Sync => self.end_round(out),
-            Said::BadWords(error) => push_bad_words(out, self.line, error.number()),
-            Said::Create {
-                entity,
-                type_name,
-                pos,
-            } => {
-                let outcome = self.table.create(entity, type_name, pos)?;
-                self.judged(outcome, out)
-            }
-            Said::Call {
-                sender_name,
-                entity,
-                method_name,
-                arguments,
-            } => {
-                let outcome = self
-                    .table
-                    .call(sender_name, entity, method_name, arguments)?;
-                self.judged(outcome, out)
-            }
-            Said::Nothing => push_refusal(out, self.line, b"command"),
         }
     }
 
-    // Counts an accepted command, or prints that it was refused.
-    fn judged(&mut self, outcome: Outcome, out: &mut Vec<u8>) -> Result<(), AllocError>
-        ensures { OnOk result ((t : Standing) (c : Commands) → IsJudged empty_header t c outcome self.old → t.lines < 2 ^ 62
-            → (piece : List ℕ) × TakesPieceOf empty_header t c self.new piece × (out.new.items ≡ out.old.items ++ piece)) }
+    /// Reads the next line, and appends what is printed for it.
+    pub fn read_line(&mut self, line: &[u8], out: &mut Vec<u8>) -> Result<(), AllocError>
+        requires { length line.now ≤ 4096 }
+        ensures { OnOk result ((h : Headers) (t : Standing) → ScriptRefines h t self.old → t.lines < 2 ^ 61
+            → (text : List ℕ) × LineRead h t (Content line.now) self.new text × (out.new.items ≡ out.old.items ++ text)) }
     {
-        match outcome {
-            Outcome::Kept => {
+        self.line = self.line.saturating_add(1);
+        let verdict = self.verdict_on(line)?;
+        self.follow(verdict, out)
+    }
+
+    // The verdict on a line.
+    fn verdict_on(&self, line: &[u8]) -> Result<Verdict, AllocError>
+        requires { length line.now ≤ 4096 }
+        ensures { IfOk result (λ v. (h : Headers) (t : Standing) → HasCounted h t self.now → t.lines ≤ 2 ^ 61
+            → Judges h t.book (Content line.now) v) }
+    {
+        let mut table: [&[u8]; Words::MOST] = [b""; Words::MOST];
+        match read_line(line, &mut table) {
+            Ok(read) => match read {
+                Some(command) => self.table.judge(&command),
+                None => Ok(Verdict::Skipped),
+            },
+            Err(cause) => Ok(Verdict::Refused(cause)),
+        }
+    }
+
+    /// Reads a line that is too long.
+    pub fn read_long(&mut self, out: &mut Vec<u8>) -> Result<(), AllocError>
+        ensures { OnOk result ((h : Headers) (t : Standing) → ScriptRefines h t self.old → t.lines < 2 ^ 61
+            → (text : List ℕ) × LineRead h t Long self.new text × (out.new.items ≡ out.old.items ++ text)) }
+    {
+        self.line = self.line.saturating_add(1);
+        self.follow(Verdict::Refused(Cause::TooLong), out)
+    }
+
+    // Does what a verdict on a line asks for, and appends what is printed.
+    fn follow(&mut self, verdict: Verdict, out: &mut Vec<u8>) -> Result<(), AllocError>
+        ensures { OnOk result ((h : Headers) (t : Standing) (line : Lines) → HasCounted h t self.old → Judges h t.book line verdict
+            → t.lines ≤ 2 ^ 61
+            → (text : List ℕ) × VerdictFollowed h t verdict self.new text × (out.new.items ≡ out.old.items ++ text)) }
+    {
+        match verdict {
+            Verdict::Skipped => Ok(()),
+            Verdict::Refused(cause) => push_refusal(out, self.line, cause),
+            Verdict::Accepted(entry) => {
+                self.table.accept(entry)?;
                 self.accepted = self.accepted.saturating_add(1);
                 if self.accepted == MOST_LINES {
                     return self.end_round(out);
                 }
                 Ok(())
             }
-            Outcome::Refused => push_refusal(out, self.line, b"command"),
+            Verdict::Synced => self.end_round(out),
         }
-    }
-
-    /// Takes a line that is too long.
-    pub fn take_long(&mut self, out: &mut Vec<u8>) -> Result<(), AllocError>
-        ensures { OnOk result ((t : Standing) → ScriptStands empty_header t self.old → t.lines < 2 ^ 61
-            → (piece : List ℕ) × TakesPiece empty_header t Long self.new piece × (out.new.items ≡ out.old.items ++ piece)) }
-    {
-        self.line = self.line.saturating_add(1);
-        push_refusal(out, self.line, b"long")
     }
 
     // Ends the open round, whose text is appended.
     fn end_round(&mut self, out: &mut Vec<u8>) -> Result<(), AllocError>
-        ensures { OnOk result ((t : Standing) → IsReady empty_header t self.old → t.lines < 2 ^ 62
-            → (piece : List ℕ) × EndsOpenRound empty_header t self.new piece × (out.new.items ≡ out.old.items ++ piece)) }
+        ensures { OnOk result ((h : Headers) (t : Standing) → IsReady h t self.old → t.rounds < 2 ^ 62
+            → (text : List ℕ) × RoundEnds h t self.new text × (out.new.items ≡ out.old.items ++ text)) }
     {
         self.round = self.round.saturating_add(1);
-        push_round(self.alloc, out, self.round, &self.table)?;
+        push_round(out, self.round, &self.table)?;
         self.table.start_round();
         self.accepted = 0;
         Ok(())
@@ -115,8 +109,8 @@ impl Script {
 
     /// Ends the input, and appends the text of a last round, if there is one.
     pub fn finish(&mut self, out: &mut Vec<u8>) -> Result<(), AllocError>
-        ensures { OnOk result ((t : Standing) → ScriptStands empty_header t self.old → t.lines < 2 ^ 61
-            → (piece : List ℕ) × EndsInput empty_header t piece × (out.new.items ≡ out.old.items ++ piece)) }
+        ensures { OnOk result ((h : Headers) (t : Standing) → ScriptRefines h t self.old → t.lines < 2 ^ 61
+            → (text : List ℕ) × InputEnded h t text × (out.new.items ≡ out.old.items ++ text)) }
     {
         if self.accepted == 0 {
             return Ok(());

@@ -1,17 +1,22 @@
 // The flat table: one plain table of entities, without cells. It keeps what was accepted, and executes each call as it is
 // accepted.
-ghost use Rattle.std.specs.Prelude.{◌≡◌, ◌≢◌, ◌<◌, ◌≤◌, ◌^◌, ◌+◌, ◌++◌, ◌∷◌, [], ◌↔◌, ℕ, IsTrue, List, Some, None, length, OnOk, IfOk, MatchOption, slice_index};
+ghost use Rattle.std.specs.Prelude.{◌≡◌, ◌≢◌, ◌<◌, ◌≤◌, ◌^◌, ◌+◌, ◌-◌, ◌++◌, ◌∷◌, [], ◌↔◌, ℕ, IsTrue, List, Some, None, length, min, OnOk, IfOk, MatchOption, slice_index};
 ghost use Rattle.seam_defs.specs.Groups.{held_by};
-ghost use Rattle.seam_transcript.specs.Language.{Create, Call};
-ghost use Rattle.seam_transcript.specs.Book.{Header, Book, Created, created_as, empty_book, closed, MayCreate};
-ghost use Rattle.seam_transcript.specs.Orders.{Orders, no_orders, of_sender};
-ghost use Rattle.seam_transcript.specs.Said.{texts_of};
-ghost use Rattle.seam_transcript.specs.Sequence.{sequence};
-ghost use Rattle.seam_world.specs.Table.{TableStands, Judged, HasRoom, IsNew, start_of, Executes, ExecutesOn, Counts, StartsRound};
+ghost use Rattle.seam_call.specs.BaseNodes.{most_base_nodes};
+ghost use Rattle.seam_call.specs.declared.call.Call.{Call as Calls};
+ghost use Rattle.seam_call.specs.declared.create.Create.{Create as Creates};
+ghost use Rattle.seam_transcript.specs.declared.header.Header.{Header as Headers};
+ghost use Rattle.seam_transcript.specs.Language.{Command as Commands, Create as CreateCommand, Call as CallCommand};
+ghost use Rattle.seam_transcript.specs.Book.{Book, empty_book, with_entry, with_round_ended, created_as, MayCreate, NamesCall, Means};
+ghost use Rattle.seam_transcript.specs.FlatTable.{first_state};
+ghost use Rattle.seam_accept.specs.Commands.{texts_of, JudgesCommand};
+ghost use Rattle.seam_world.specs.Table.{TableRefines, IsShort, IsNew, with_last, Executes, EntityExecutes, TableExecutes, ForgetsDone, StartsRound};
 
-use seam_defs::{Deed, Defs, Part, Settings, State};
-use seam_geo::Pos;
-use seam_transcript::{Executed, MOST_ENTITIES, Sender, base_named, deed_named, type_named};
+use seam_accept::{CallWords, Command, CreateWords, Form, base_named, create_named, deed_named};
+use seam_call::{BaseNode, Call, Create, MOST_BASE_NODES, Sender};
+use seam_defs::{Deed, Defs, Part, State};
+use seam_transcript::{Cause, Entry, Header, MOST_ENTITIES, Verdict};
+use seam_value::positive_number;
 use std::alloc::{AllocError, Global};
 use std::collections::BTreeMap;
 
@@ -21,8 +26,8 @@ use std::collections::BTreeMap;
 pub struct PartState {
     pub state: State,
     pub version: u64,
-    pub done: Vec<Executed>,
-    last: [u64; 8],
+    pub done: Vec<Call>,
+    last: [u64; MOST_BASE_NODES],
 }
 
 /// An entity of this type.
@@ -33,19 +38,11 @@ pub struct Entity {
     pub base: PartState,
 }
 
-/// What became of a command.
-#[derive(Clone, Copy, Debug, PartialEq, Eq)]
-pub enum Outcome {
-    Kept,
-    Refused,
-}
-
 /// The entities of a world, by their numbers.
 #[derive(Drop)]
 pub struct Table {
     alloc: Global,
-    defs: Defs,
-    settings: Settings,
+    header: Header,
     entities: BTreeMap<u32, Entity>,
 }
 
@@ -54,81 +51,109 @@ impl PartState {
         ensures state { result.state ≡ state }
         ensures version { result.version ≡ 0 }
         ensures done { result.done.items ≡ [] }
-        ensures last { (n : ℕ) → n < 8 → slice_index result.last n ≡ 0 }
-        ensures senders { length result.last ≡ 8 }
+        ensures last { (n : ℕ) → n < most_base_nodes → slice_index result.last n ≡ 0 }
+        ensures senders { length result.last ≡ most_base_nodes }
     {
         PartState {
             state,
             version: 0,
             done: Vec::new(alloc),
-            last: [0; 8],
+            last: [0; MOST_BASE_NODES],
         }
     }
 
-    // Executes a call, which gets its sender's next number.
-    fn execute(
-        &mut self,
-        defs: &Defs,
-        ty: u16,
-        sender: Sender,
-        deed: Deed,
-    ) -> Result<(), AllocError>
-        ensures { OnOk result (Executes defs.now ty sender deed self.old self.new) }
+    // The number of a base node's next call.
+    fn next_number(&self, node: BaseNode) -> u64
+        ensures { result ≡ min (slice_index self.now.last (node - 1) + 1) (2 ^ 64 - 1) }
     {
-        let number = self.next_number(sender);
-        let _changed = defs.apply(ty, &mut self.state, &deed)?;
-        self.done.push(Executed {
-            sender,
-            number,
-            deed,
-        })?;
+        self.last[node.place()].saturating_add(1)
+    }
+
+    // Executes a call, which has its sender's next number.
+    fn execute(&mut self, defs: &Defs, ty: u16, call: Call) -> Result<(), AllocError>
+        ensures { OnOk result (Executes defs.now ty call self.old self.new) }
+    {
+        let _changed = defs.type_at(ty).apply(&mut self.state, &call.deed)?;
+        self.keep_last(&call);
+        self.done.push(call)?;
         self.version = self.version.saturating_add(1);
         Ok(())
     }
 
-    // Counts one more call of a sender.
-    fn next_number(&mut self, sender: Sender) -> u64
-        ensures { Counts sender self.old self.new result }
+    // Keeps the number of a sender's last call.
+    fn keep_last(&mut self, call: &Call)
+        ensures { self.new ≡ record self.old { last = with_last call.now.sender call.now.number self.old.last } }
     {
-        match sender {
-            Sender::Base(node) => {
-                let place = (node as usize).saturating_sub(1).min(7);
-                let number = self.last[place].saturating_add(1);
-                self.last[place] = number;
-                number
-            }
+        match call.sender {
+            Sender::Base(node) => self.last[node.place()] = call.number,
+            Sender::Client(_) => {}
         }
+    }
+
+    // Forgets the calls that it executed in the round that ended.
+    fn start_round(&mut self)
+        ensures { ForgetsDone self.old self.new }
+    {
+        self.done.clear();
     }
 }
 
 impl Entity {
-    // Forgets the calls that it executed in the round that ended.
+    // A base node's next call for the cell part of the entity, which has this number.
+    fn next_call(&self, entity: u32, node: BaseNode, deed: Deed) -> Call
+        ensures { result ≡ record {
+          entity = entity;
+          part = Part.Cell;
+          sender = Sender.Base node;
+          number = min (slice_index self.now.cell.last (node - 1) + 1) (2 ^ 64 - 1);
+          deed = deed;
+        } }
+    {
+        let number = self.cell.next_number(node);
+        Call {
+            entity,
+            part: Part::Cell,
+            sender: Sender::Base(node),
+            number,
+            deed,
+        }
+    }
+
+    // Executes a call on the part that it is for.
+    fn execute(&mut self, defs: &Defs, call: Call) -> Result<(), AllocError>
+        ensures { OnOk result (EntityExecutes defs.now call self.old self.new) }
+    {
+        match call.part {
+            Part::Cell => self.cell.execute(defs, self.ty, call),
+            Part::Base => self.base.execute(defs, self.ty, call),
+        }
+    }
+
     fn start_round(&mut self)
         ensures { StartsRound self.old self.new }
     {
-        self.cell.done.clear();
-        self.base.done.clear();
+        self.cell.start_round();
+        self.base.start_round();
     }
 }
 
 impl Table {
     /// A world without entities.
-    pub fn new(alloc: Global, defs: Defs, settings: Settings) -> Self
-        ensures { TableStands (record { settings = settings; defs = defs }) empty_book no_orders result }
+    pub fn new(alloc: Global, header: Header) -> Self
+        ensures { TableRefines header empty_book result }
     {
         Table {
             alloc,
-            defs,
-            settings,
+            header,
             entities: BTreeMap::new(alloc),
         }
     }
 
     /// The definitions of its types.
     pub fn defs(&self) -> &Defs
-        ensures { result.now ≡ self.now.defs }
+        ensures { result.now ≡ self.now.header.defs }
     {
-        &self.defs
+        &self.header.defs
     }
 
     /// The entities, in rising number.
@@ -138,115 +163,141 @@ impl Table {
         &self.entities
     }
 
-    /// Makes an entity, unless its number was used, its type is none, it stands outside the space, or there are too many.
-    pub fn create(&mut self, entity: u32, type_name: &[u8], pos: Pos) -> Result<Outcome, AllocError>
-        ensures { IfOk result (λ v. (h : Header) (b : Book) (before : Orders) → TableStands h b before self.old
-            → Judged h b (Create entity type_name.now pos.x pos.z) before self.new v) }
+    /// The verdict on a command.
+    pub fn judge(&self, command: &Command) -> Result<Verdict, AllocError>
+        ensures { IfOk result (λ v. (h : Headers) (b : Book) → TableRefines h b self.now → IsShort b → JudgesCommand h b command.now v) }
     {
-        match self.type_for(entity, type_name, pos) {
-            Some(ty) => {
-                let made = self.new_entity(ty, pos)?;
-                self.entities.insert(entity, made)?;
-                Ok(Outcome::Kept)
+        match command.form() {
+            Form::Create(words) => Ok(self.judge_create(words)),
+            Form::Call(words) => self.judge_call(words),
+            Form::Sync => Ok(Verdict::Synced),
+        }
+    }
+
+    // An entity is made, unless its number was used, its words name none, or there are too many.
+    fn judge_create(&self, words: &CreateWords) -> Verdict
+        ensures { (h : Headers) (b : Book) → TableRefines h b self.now
+            → JudgesCommand h b (CreateCommand words.now.entity.now words.now.type_name.now words.now.x.now words.now.z.now) result }
+    {
+        match create_named(&self.header, words) {
+            Some(create) => {
+                if self.has_room(create) {
+                    Verdict::Accepted(Entry::Created(create))
+                } else {
+                    Verdict::Refused(Cause::NoCommand)
+                }
             }
-            None => Ok(Outcome::Refused),
+            None => Verdict::Refused(Cause::NoCommand),
         }
     }
 
-    // The type of the entity, where it may be made.
-    fn type_for(&self, entity: u32, type_name: &[u8], pos: Pos) -> Option<u16>
-        ensures { (h : Header) (b : Book) (before : Orders) → TableStands h b before self.now → MatchOption result
-            ((ty : ℕ) → ¬ (MayCreate h b entity type_name.now pos ty)) (MayCreate h b entity type_name.now pos) }
+    // Whether an entity may be made.
+    fn has_room(&self, create: Create) -> bool
+        ensures { (h : Headers) (b : Book) → TableRefines h b self.now → IsTrue result ↔ MayCreate b create }
     {
-        if !self.has_room(entity, pos) {
-            return None;
+        !self.entities.contains_key(&create.entity) && self.entities.len() < MOST_ENTITIES
+    }
+
+    // A call is executed, unless there is no such sender, entity or method, or the arguments are no spellings of what the method
+    // takes.
+    fn judge_call(&self, words: &CallWords) -> Result<Verdict, AllocError>
+        ensures { IfOk result (λ v. (h : Headers) (b : Book) → TableRefines h b self.now → IsShort b
+            → JudgesCommand h b (CallCommand words.now.sender_name.now words.now.entity.now words.now.method_name.now (texts_of words.now.arguments.now)) v) }
+    {
+        match self.call_named(words)? {
+            Some(call) => Ok(Verdict::Accepted(Entry::Called(call))),
+            None => Ok(Verdict::Refused(Cause::NoCommand)),
         }
-        type_named(&self.defs, type_name)
     }
 
-    // Whether an entity of this number may be made at the position.
-    fn has_room(&self, entity: u32, pos: Pos) -> bool
-        ensures { IsTrue result ↔ HasRoom self.now entity pos }
+    // The call that words name.
+    fn call_named(&self, words: &CallWords) -> Result<Option<Call>, AllocError>
+        ensures { IfOk result (λ named. (h : Headers) (b : Book) → TableRefines h b self.now → IsShort b → MatchOption named
+            ((c : Calls) → ¬ (NamesCall h b words.now.sender_name.now words.now.entity.now words.now.method_name.now (texts_of words.now.arguments.now) c))
+            (NamesCall h b words.now.sender_name.now words.now.entity.now words.now.method_name.now (texts_of words.now.arguments.now))) }
     {
-        let size = self.settings.size;
-        !self.entities.contains_key(&entity)
-            && self.entities.len() < MOST_ENTITIES
-            && pos.x < size
-            && pos.z < size
+        let bases = self.header.settings.bases;
+        let Some(node) = base_named(words.sender_name, bases) else {
+            return Ok(None);
+        };
+        let Some(entity) = positive_number(words.entity) else {
+            return Ok(None);
+        };
+        let Some(called) = self.entities.get(&entity) else {
+            return Ok(None);
+        };
+        let defs = &self.header.defs;
+        match deed_named(
+            self.alloc,
+            defs.type_at(called.ty),
+            words.method_name,
+            words.arguments,
+        )? {
+            Some(deed) => Ok(Some(called.next_call(entity, node, deed))),
+            None => Ok(None),
+        }
     }
 
-    fn new_entity(&self, ty: u16, pos: Pos) -> Result<Entity, AllocError>
-        ensures { IfOk result (IsNew self.now.defs ty pos) }
+    /// Adds what an accepted command brings.
+    pub fn accept(&mut self, entry: Entry) -> Result<(), AllocError>
+        ensures { OnOk result ((h : Headers) (b : Book) (c : Commands) → TableRefines h b self.old → IsShort b → Means h b c entry
+            → TableRefines h (with_entry b entry) self.new) }
     {
-        let cell = self.start_state(ty, Part::Cell, pos)?;
-        let base = self.start_state(ty, Part::Base, pos)?;
+        match entry {
+            Entry::Created(create) => self.make(create),
+            Entry::Called(call) => self.execute(call),
+        }
+    }
+
+    // Makes an entity.
+    fn make(&mut self, create: Create) -> Result<(), AllocError>
+        ensures { OnOk result ((h : Headers) (b : Book) → TableRefines h b self.old → MayCreate b create
+            → TableRefines h (with_entry b (Entry.Created create)) self.new) }
+    {
+        let made = self.new_entity(create)?;
+        self.entities.insert(create.entity, made)?;
+        Ok(())
+    }
+
+    fn new_entity(&self, create: Create) -> Result<Entity, AllocError>
+        ensures { IfOk result (IsNew self.now.header create) }
+    {
+        let cell = self.start_state(create, Part::Cell)?;
+        let base = self.start_state(create, Part::Base)?;
         Ok(Entity {
-            ty,
+            ty: create.ty,
             cell: PartState::new(self.alloc, cell),
             base: PartState::new(self.alloc, base),
         })
     }
 
-    fn start_state(&self, ty: u16, part: Part, pos: Pos) -> Result<State, AllocError>
-        ensures { IfOk result (λ s. s ≡ start_of self.now.defs ty part pos) }
+    fn start_state(&self, create: Create, part: Part) -> Result<State, AllocError>
+        ensures { IfOk result (λ s. s ≡ first_state self.now.header part create) }
     {
-        let props = self.defs.start_props(ty, part.held())?;
-        Ok(State { pos, props })
+        let props = self
+            .header
+            .defs
+            .type_at(create.ty)
+            .start_props(part.held())?;
+        Ok(State {
+            pos: create.pos,
+            props,
+        })
     }
 
-    /// Executes a call, unless there is no such sender, entity or method, or the arguments are no spellings of what the method
-    /// takes.
-    pub fn call(
-        &mut self,
-        sender_name: &[u8],
-        entity: u32,
-        method_name: &[u8],
-        arguments: &[&[u8]],
-    ) -> Result<Outcome, AllocError>
-        ensures { IfOk result (λ v. (h : Header) (b : Book) (before : Orders) → TableStands h b before self.old
-            → length b.calls < 2 ^ 61 → h.settings.bases ≤ 8
-            → Judged h b (Call sender_name.now entity method_name.now (texts_of arguments.now)) before self.new v) }
+    // Executes a call of an entity that is there.
+    fn execute(&mut self, call: Call) -> Result<(), AllocError>
+        ensures { OnOk result (TableExecutes call self.old self.new) }
     {
-        let Some(sender) = base_named(self.alloc, sender_name, self.settings.bases) else {
-            return Ok(Outcome::Refused);
-        };
-        let Some(ty) = self.type_of(entity) else {
-            return Ok(Outcome::Refused);
-        };
-        match deed_named(self.alloc, &self.defs, ty, method_name, arguments)? {
-            Some(deed) => {
-                self.execute(entity, sender, deed)?;
-                Ok(Outcome::Kept)
-            }
-            None => Ok(Outcome::Refused),
-        }
-    }
-
-    // The type of an entity, where it is there.
-    fn type_of(&self, entity: u32) -> Option<u16>
-        ensures { (h : Header) (b : Book) (before : Orders) → TableStands h b before self.now → MatchOption result
-            (created_as b entity ≡ None) (λ ty. (c : Created) × (created_as b entity ≡ Some c) × (ty ≡ c.ty)) }
-    {
-        match self.entities.get(&entity) {
-            Some(e) => Some(e.ty),
-            None => None,
-        }
-    }
-
-    // Executes a call on the cell part of an entity, which is there.
-    fn execute(&mut self, entity: u32, sender: Sender, deed: Deed) -> Result<(), AllocError>
-        ensures { OnOk result (ExecutesOn self.old self.new entity sender deed) }
-    {
-        if let Some(e) = self.entities.get_mut(&entity) {
-            e.cell.execute(&self.defs, e.ty, sender, deed)?;
+        if let Some(entity) = self.entities.get_mut(&call.entity) {
+            entity.execute(&self.header.defs, call)?;
         }
         Ok(())
     }
 
     /// Begins a new round: no call was executed in it.
     pub fn start_round(&mut self)
-        ensures { (h : Header) (b : Book) (before : Orders) → TableStands h b before self.old
-            → TableStands h (closed b) (sequence b.calls) self.new }
+        ensures { (h : Headers) (b : Book) → TableRefines h b self.old → TableRefines h (with_round_ended b) self.new }
     {
         // Each stays: of the walks over a map's values this one tells its contract what was written.
         self.entities.retain(|_, entity| {

@@ -1,41 +1,72 @@
-// The text of a round of the table. After want of memory a text is of no use, and is not printed.
-ghost use Rattle.std.specs.Prelude.{◌≡◌, ◌++◌, ℕ, List, OnOk, length, codes};
+// The text of a round of the table. If allocation fails, a text has no use, and is not printed.
+ghost use Rattle.std.specs.Prelude.{◌≡◌, ◌++◌, ℕ, List, OnOk, map, codes};
 ghost use Rattle.std.specs.List.{flat_map};
-ghost use Rattle.seam_transcript.specs.Round.{executed_line, home_line, base_line, number_line};
-ghost use Rattle.seam_world.specs.Text.{done_text, home_text, base_text, table_text};
+ghost use Rattle.seam_transcript.specs.Texts.{done_text, home_text, base_text, round_text};
+ghost use Rattle.seam_world.specs.Text.{done_of, home_of, base_of, round_of};
 
 use crate::table::{Entity, Table};
+use seam_call::Call;
 use seam_defs::Defs;
-use seam_transcript::{push_base, push_executed, push_home, push_line};
-use std::alloc::{AllocError, Global};
+use seam_report::{
+    BaseLine, DoneLine, HomeLine, push_base, push_done, push_home, push_number_line,
+};
+use std::alloc::AllocError;
 use std::collections::BTreeMap;
 
 /// Appends the text of a round: the executed calls, the homes and the base parts, each in rising entity number.
-pub fn push_round(
-    alloc: Global,
-    out: &mut Vec<u8>,
-    round: u64,
-    table: &Table,
-) -> Result<(), AllocError>
-    ensures { OnOk result (out.new.items ≡ out.old.items ++ table_text round table.now.defs table.now.entities.entries) }
+pub fn push_round(out: &mut Vec<u8>, round: u64, table: &Table) -> Result<(), AllocError>
+    ensures { OnOk result (out.new.items ≡ out.old.items ++ round_text table.now.header.defs (round_of round table.now.entities.entries)) }
 {
-    push_line(out, b"round ", round)?;
-    push_all_done(alloc, out, table.defs(), table.entities())?;
-    push_homes(out, table.defs(), table.entities())?;
-    push_bases(out, table.defs(), table.entities())?;
-    push_line(out, b"end ", round)
+    let defs = table.defs();
+    let entities = table.entities();
+    push_number_line(out, b"round ", round)?;
+    push_all_did(out, defs, entities)?;
+    push_all_dob(out, defs, entities)?;
+    push_homes(out, defs, entities)?;
+    push_bases(out, defs, entities)?;
+    push_number_line(out, b"end ", round)
 }
 
-fn push_all_done(
-    alloc: Global,
+fn push_all_did(
     out: &mut Vec<u8>,
     defs: &Defs,
     entities: &BTreeMap<u32, Entity>,
 ) -> Result<(), AllocError>
-    ensures { OnOk result (out.new.items ≡ out.old.items ++ flat_map (done_text defs.now) entities.now.entries) }
+    ensures { OnOk result (out.new.items ≡ out.old.items
+        ++ flat_map (λ e. flat_map (done_text (codes "did ") defs.now) (done_of (λ v. v.cell) e)) entities.now.entries) }
 {
-    for (number, entity) in entities {
-        push_done(alloc, out, defs, *number, entity)?;
+    for (_, entity) in entities {
+        push_calls(out, b"did ", defs, entity.ty, &entity.cell.done)?;
+    }
+    Ok(())
+}
+
+fn push_all_dob(
+    out: &mut Vec<u8>,
+    defs: &Defs,
+    entities: &BTreeMap<u32, Entity>,
+) -> Result<(), AllocError>
+    ensures { OnOk result (out.new.items ≡ out.old.items
+        ++ flat_map (λ e. flat_map (done_text (codes "dob ") defs.now) (done_of (λ v. v.base) e)) entities.now.entries) }
+{
+    for (_, entity) in entities {
+        push_calls(out, b"dob ", defs, entity.ty, &entity.base.done)?;
+    }
+    Ok(())
+}
+
+// The calls that a part of an entity of this type executed in the round.
+fn push_calls(
+    out: &mut Vec<u8>,
+    word: &[u8],
+    defs: &Defs,
+    ty: u16,
+    calls: &[Call],
+) -> Result<(), AllocError>
+    ensures { OnOk result (out.new.items ≡ out.old.items ++ flat_map (done_text word.now defs.now) (map (λ c. record { ty = ty; call = c }) calls.now)) }
+{
+    for call in calls {
+        push_done(out, word, defs, &DoneLine { ty, call })?;
     }
     Ok(())
 }
@@ -45,18 +76,17 @@ fn push_homes(
     defs: &Defs,
     entities: &BTreeMap<u32, Entity>,
 ) -> Result<(), AllocError>
-    ensures { OnOk result (out.new.items ≡ out.old.items ++ flat_map (home_text defs.now) entities.now.entries) }
+    ensures { OnOk result (out.new.items ≡ out.old.items ++ flat_map (λ e. home_text defs.now (home_of e)) entities.now.entries) }
 {
     for (number, entity) in entities {
-        push_home(
-            out,
-            defs,
-            *number,
-            entity.ty,
-            0,
-            entity.cell.version,
-            &entity.cell.state,
-        )?;
+        let line = HomeLine {
+            entity: *number,
+            ty: entity.ty,
+            cell: 0,
+            version: entity.cell.version,
+            state: &entity.cell.state,
+        };
+        push_home(out, defs, &line)?;
     }
     Ok(())
 }
@@ -66,43 +96,16 @@ fn push_bases(
     defs: &Defs,
     entities: &BTreeMap<u32, Entity>,
 ) -> Result<(), AllocError>
-    ensures { OnOk result (out.new.items ≡ out.old.items ++ flat_map (base_text defs.now) entities.now.entries) }
+    ensures { OnOk result (out.new.items ≡ out.old.items ++ flat_map (λ e. base_text defs.now (base_of e)) entities.now.entries) }
 {
     for (number, entity) in entities {
-        push_base(
-            out,
-            defs,
-            *number,
-            entity.ty,
-            entity.base.version,
-            &entity.base.state,
-        )?;
-    }
-    Ok(())
-}
-
-// The calls that an entity executed in the round.
-fn push_done(
-    alloc: Global,
-    out: &mut Vec<u8>,
-    defs: &Defs,
-    number: u32,
-    entity: &Entity,
-) -> Result<(), AllocError>
-    ensures { OnOk result (out.new.items ≡ out.old.items ++ done_text defs.now (number, entity.now)) }
-{
-    for done in &entity.cell.done {
-        push_executed(
-            alloc,
-            out,
-            b"did ",
-            defs,
-            number,
-            entity.ty,
-            done.sender,
-            done.number,
-            &done.deed,
-        )?;
+        let line = BaseLine {
+            entity: *number,
+            ty: entity.ty,
+            version: entity.base.version,
+            props: &entity.base.state.props,
+        };
+        push_base(out, defs, &line)?;
     }
     Ok(())
 }

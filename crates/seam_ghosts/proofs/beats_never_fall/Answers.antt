@@ -1,4 +1,4 @@
-use Rattle.seam_ghosts.proofs.BookLemmas.{beats_never_fall, greatest_beat, newest_copy, others_stay}
+use Rattle.seam_ghosts.proofs.BookLemmas.{beats_never_fall, greatest_beat, newest_copy, others_stay, entry_after}
 use Rattle.seam_ghosts.proofs.beats_never_fall.Goals as goal
 
 pub returns-clause-never_fall : goal.returns-clause-never_fall
@@ -12,3 +12,6 @@ returns-clause-newest g c = λ w e x. newest_copy w e x
 
 pub returns-clause-others : goal.returns-clause-others
 returns-clause-others g c = λ w e x q n. others_stay w e x q n
+
+pub returns-clause-entry : goal.returns-clause-entry
+returns-clause-entry g c = λ w e x. entry_after w e x

@@ -5,7 +5,7 @@ use Rattle.seam_defs.proofs.groups.push_group.Given as goal
 abbrev pub invariant-loop-property : goal.invariant-loop-property
 invariant-loop-property l = record {
   place : l.place ≡ length (properties_of (take l.property-index l.properties) l.group);
-  behind : l.place ≤ l.property-index;
+  not_after : l.place ≤ l.property-index;
   text : l.out.items ≡ l.initial.out.items ++ values_text (take l.property-index l.properties) l.group l.values;
   kept : take (length l.initial.out.items) l.out.items ≡ l.initial.out.items;
 }

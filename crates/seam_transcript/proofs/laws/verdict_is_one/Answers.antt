@@ -1,5 +1,5 @@
-use Rattle.seam_transcript.proofs.Verdicts.{one-verdict}
+use Rattle.seam_transcript.proofs.Verdicts.{verdict_is_one_of}
 use Rattle.seam_transcript.proofs.laws.verdict_is_one.Goals as goal
 
 pub returns : goal.returns
-returns c = one-verdict
+returns c = verdict_is_one_of

@@ -1,12 +1,13 @@
-use Rattle.std.proofs.Common.{rules, ◌≡◌, ◌∙◌, ap, ℕ}
+use Rattle.std.proofs.Common.{rules, ◌≡◌, ◌∙◌, ap, ℕ, Err}
 use Rattle.std.proofs.lemmas.Int.{to_z-of_z}
 use mir.Syntax.{w128}
 use mir.Val.{to_z, of_z}
 use Rattle.std.specs.Str.Parse.{digits_value}
 use Rattle.seam_value.specs.Numerals.{IsSignedNumeral, signed}
 use Rattle.seam_value.specs.Values.{number_text}
+use Rattle.seam_value.specs.declared.values.ValueError.TheVariants.{NotNumber, OutOfRange}
 use Rattle.seam_value.proofs.Signs.{number_text-signed, no_number_text, too_big}
-use Rattle.seam_value.proofs.Answers.{number_value, number_cause}
+use Rattle.seam_value.proofs.Answers.{number_value, number_cause, number_read}
 use Rattle.seam_value.proofs.reading.read_number.Goals as goal
 
 -- the number read is the one that the bytes spell
@@ -32,3 +33,15 @@ returns-in-None-clause-cause c =
     let numeral : IsSignedNumeral c.split_sign-is_negative.result.0 c.split_sign-is_negative.result.1.now = search rules in
     let size = digits_value 10 c.split_sign-is_negative.result.1.now in
     (c.requires, signed c.split_sign-is_negative.result.0 size, number_text-signed c.args.bytes.now c.split_sign-is_negative.result.0 c.split_sign-is_negative.result.1.now c.split_sign-is_negative.ensures numeral, too_big c.args.t c.split_sign-is_negative.result.0 size c.in-None.ensures)
+
+pub returns-then-not-is_signed_numeral-clause-spelled : goal.returns-then-not-is_signed_numeral-clause-spelled
+returns-then-not-is_signed_numeral-clause-spelled c =
+    number_read (Err NotNumber) c.args.bytes.now c.args.t c.requires tt (returns-then-not-is_signed_numeral-clause-cause c)
+
+pub returns-in-Some-clause-spelled : goal.returns-in-Some-clause-spelled
+returns-in-Some-clause-spelled c =
+    number_read c.in_range.result c.args.bytes.now c.args.t c.requires (returns-in-Some-clause-value c) (returns-in-Some-clause-cause c)
+
+pub returns-in-None-clause-spelled : goal.returns-in-None-clause-spelled
+returns-in-None-clause-spelled c =
+    number_read (Err OutOfRange) c.args.bytes.now c.args.t c.requires tt (returns-in-None-clause-cause c)

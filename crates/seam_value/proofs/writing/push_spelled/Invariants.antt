@@ -3,5 +3,5 @@ use Rattle.std.specs.List.{flat_map}
 use Rattle.seam_value.specs.Texts.{spelled_byte}
 use Rattle.seam_value.proofs.writing.push_spelled.Given as goal
 
-abbrev pub invariant-loop-b : goal.invariant-loop-b
-invariant-loop-b l = l.out.items ≡ l.initial.out.items ++ flat_map spelled_byte (take l.b-index l.bytes)
+abbrev pub invariant-loop-byte : goal.invariant-loop-byte
+invariant-loop-byte l = l.out.items ≡ l.initial.out.items ++ flat_map spelled_byte (take l.byte-index l.bytes)

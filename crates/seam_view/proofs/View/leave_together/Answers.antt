@@ -1,6 +1,4 @@
 use Rattle.std.proofs.Common.{◌∙◌, ap, rules}
-use Rattle.std.specs.FinMap as versions
-use Rattle.seam_view.specs.Slots.{kept}
 use Rattle.seam_view.specs.Replica.{after_looks}
 use Rattle.seam_view.specs.contracts.fn.View.leave_together.retain as closure
 use Rattle.seam_view.proofs.Together.{retained-walked, same-together}
@@ -10,6 +8,6 @@ pub returns-clause-same_after : goal.returns-clause-same_after
 returns-clause-same_after c = λ known.
     let es = c.self.inside.view.entries in
     let walk = retained-walked _ (λ f. (closure.captures f).next.now) (λ f k v b w g call. search rules) es c.retain.new.self.entries _ c.retain.ensures.filtered in
-    ap (λ xs. after_looks known (record { radius = c.self.inside.radius; hysteresis = c.self.inside.hysteresis; entries = xs; shown = versions.from_entries (kept c.self.inside.shown.entries) }) c.args.looks.now) walk
-    ∙ (same-together known (record { radius = c.self.inside.radius; hysteresis = c.self.inside.hysteresis; entries = es; shown = versions.from_entries (kept c.self.inside.shown.entries) }) es c.args.looks.now c.len.ensures.unique
+    ap (λ xs. after_looks known (record { radius = c.self.inside.radius; hysteresis = c.self.inside.hysteresis; entries = xs; shown = c.self.inside.shown.items }) c.args.looks.now) walk
+    ∙ (same-together known (record { radius = c.self.inside.radius; hysteresis = c.self.inside.hysteresis; entries = es; shown = c.self.inside.shown.items }) es c.args.looks.now c.len.ensures.unique
     ∙ ap (λ w. after_looks known w.core c.args.looks.now) c.self.view_is)

@@ -8,7 +8,7 @@ use Rattle.seam_words.specs.Words.{is_blank, HasFirstWords, AreWords, IsInside}
 use Rattle.seam_words.specs.Faults.{BeginsWord, Refuses}
 use Rattle.seam_words.specs.Parts.{IsFirstWord}
 use Rattle.seam_words.proofs.Runs.{HasRun, has_run}
-use Rattle.seam_words.proofs.Fronts.{behind_gap, word_first, fault_of_word, has_fault, shorter, refused, are_words}
+use Rattle.seam_words.proofs.Prefixes.{after_gap, word_first, fault_of_word, has_fault, shorter, refused, are_words}
 use Rattle.seam_words.proofs.Scan.{same_words, no_words, same_refusal}
 use Rattle.seam_words.proofs.splitting.split_line.Goals as goal
 
@@ -21,14 +21,14 @@ loop-rest-init c =
       inside = rw c.new-words.ensures (λ k d less. absurd (omega arith));
       most = rw c.new-words.ensures (omega arith);
       stripped = run.stops;
-      front = λ more tail h. rw c.new-words.ensures (behind_gap 0 (length c.args.line.now - length c.after_gap-rest.result.now) c.args.line.now more tail c.after_gap-rest.result.now run (omega arith) h);
+      prefix = λ more tail h. rw c.new-words.ensures (after_gap 0 (length c.args.line.now - length c.after_gap-rest.result.now) c.args.line.now more tail c.after_gap-rest.result.now run (omega arith) h);
     }
 
 pub returns-then-len-eq-MOST-clause-cause : goal.returns-then-len-eq-MOST-clause-cause
 returns-then-len-eq-MOST-clause-cause c =
     let utf8 : IsUtf8 c.args.line.now = search rules in
     let begins : BeginsWord c.loop-rest.rest.now = search rules in
-    (utf8, has_fault c.args.line.now c.loop-rest.words c.loop-rest.rest.now TooManyWords (c.loop-rest.invariant.front [] c.loop-rest.rest.now ([], refl, refl)) (sym c.len.ensures.count ∙ c.if-len-eq-MOST.true, begins))
+    (utf8, has_fault c.args.line.now c.loop-rest.words c.loop-rest.rest.now TooManyWords (c.loop-rest.invariant.prefix [] c.loop-rest.rest.now ([], refl, refl)) (sym c.len.ensures.count ∙ c.if-len-eq-MOST.true, begins))
 
 pub returns-then-len-eq-MOST-clause-found : goal.returns-then-len-eq-MOST-clause-found
 returns-then-len-eq-MOST-clause-found c = λ spans utf8 words most. absurd (no_words c.args.line.now TooManyWords (returns-then-len-eq-MOST-clause-cause c) spans utf8 words most)
@@ -41,7 +41,7 @@ bad_word : (c : goal.After-from_residual) → Refuses c.args.line.now c.in_err-a
 bad_word c =
     let utf8 : IsUtf8 c.args.line.now = search rules in
     let few : length c.loop-rest.words < 16 = search rules in
-    (refused c.args.line.now c.in_err-after.field-0.0 utf8 (has_fault c.args.line.now c.loop-rest.words c.loop-rest.rest.now c.in_err-after.field-0.0 (c.loop-rest.invariant.front [] c.loop-rest.rest.now ([], refl, refl)) (fault_of_word (length c.loop-rest.words) c.loop-rest.rest.now c.in_err-after.field-0.0 few c.in_err-after.ensures.fault)))
+    (refused c.args.line.now c.in_err-after.field-0.0 utf8 (has_fault c.args.line.now c.loop-rest.words c.loop-rest.rest.now c.in_err-after.field-0.0 (c.loop-rest.invariant.prefix [] c.loop-rest.rest.now ([], refl, refl)) (fault_of_word (length c.loop-rest.words) c.loop-rest.rest.now c.in_err-after.field-0.0 few c.in_err-after.ensures.fault)))
 
 pub returns-in_err-after-clause-cause : goal.returns-in_err-after-clause-cause
 returns-in_err-after-clause-cause c =
@@ -70,17 +70,17 @@ loop-rest-preserved c =
       inside = rw c.push.ensures (All-push (IsInside line) c.loop-rest.words span c.loop-rest.invariant.inside here);
       most = rw c.push.ensures (omega (arith, length-append c.loop-rest.words (span ∷ [])));
       stripped = run.stops;
-      front = λ more tail h.
-          let later : HasFirstWords span.end c.in_ok-after.after.now more tail = behind_gap span.end (line - length c.after_gap-rest-in-loop-rest.result.now) c.in_ok-after.after.now more tail c.after_gap-rest-in-loop-rest.result.now run (omega (arith, c.after_gap-rest-in-loop-rest.ensures.within)) h in
-          let all : HasFirstWords 0 c.args.line.now (c.loop-rest.words ++ span ∷ more) tail = c.loop-rest.invariant.front (span ∷ more) tail (word_first (line - length c.loop-rest.rest.now) c.loop-rest.rest.now c.in_ok-after.after.now span more tail word (omega arith) (omega arith) later) in
+      prefix = λ more tail h.
+          let later : HasFirstWords span.end c.in_ok-after.after.now more tail = after_gap span.end (line - length c.after_gap-rest-in-loop-rest.result.now) c.in_ok-after.after.now more tail c.after_gap-rest-in-loop-rest.result.now run (omega (arith, c.after_gap-rest-in-loop-rest.ensures.within)) h in
+          let all : HasFirstWords 0 c.args.line.now (c.loop-rest.words ++ span ∷ more) tail = c.loop-rest.invariant.prefix (span ∷ more) tail (word_first (line - length c.loop-rest.rest.now) c.loop-rest.rest.now c.in_ok-after.after.now span more tail word (omega arith) (omega arith) later) in
           rw (c.push.ensures, append_assoc) all;
     }
 
--- what stands so far at the line's end are its words
+-- what is there so far at the line's end are its words
 found : (c : goal.After-loop-rest) → AreWords c.args.line.now c.loop-rest.words
 found c =
     let none : length c.loop-rest.rest.now ≡ 0 = search rules in
-    are_words c.args.line.now c.loop-rest.rest.now c.loop-rest.words none (c.loop-rest.invariant.front [] c.loop-rest.rest.now ([], refl, refl))
+    are_words c.args.line.now c.loop-rest.rest.now c.loop-rest.words none (c.loop-rest.invariant.prefix [] c.loop-rest.rest.now ([], refl, refl))
 
 pub returns-clause-words : goal.returns-clause-words
 returns-clause-words c =

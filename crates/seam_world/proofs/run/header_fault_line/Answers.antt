@@ -3,7 +3,7 @@ use Rattle.std.specs.Prelude.{codes}
 use Rattle.std.specs.Fmt.{digits, decimal}
 use Rattle.seam_world.specs.Ends.{fault_line}
 use Rattle.seam_world.specs.declared.status.Status.TheVariants as status
-use Rattle.seam_transcript.proofs.NumberWords.{decimal_is}
+use Rattle.seam_value.proofs.NumberWords.{decimal_is}
 use Rattle.seam_world.proofs.run.header_fault_line.Goals as goal
 
 ten : decimal 10 ≡ 49 ∷ 48 ∷ []

@@ -1,12 +1,12 @@
 use Rattle.std.proofs.Common.{◌≡◌, ◌++◌, List, ℕ, subst, sym, ◌∙◌, ap}
 use Rattle.seam_io.specs.Lines.{Content}
-use Rattle.seam_transcript.specs.Book.{empty_header}
-use Rattle.seam_world.specs.Script.{TakesPiece}
+use Rattle.seam_world.specs.Script.{LineRead}
 use Rattle.seam_world.proofs.RunLemmas.{gathered_prints}
 use Rattle.seam_world.proofs.run.print_line.Goals as goal
 
 pub returns-in-Ok-clause-prints : goal.returns-in-Ok-clause-prints
-returns-in-Ok-clause-prints g c = λ t stands few.
-    let took = c.in-Ok.ensures t stands few in
-    let text : c.deref.result.now ≡ took.0 = c.deref.ensures.value ∙ took.2 ∙ ap (λ (xs : List ℕ). xs ++ took.0) c.clear.ensures.items in
-    gathered_prints (TakesPiece empty_header t (Content c.args.line.now) c.take_line.new.self) c.deref.result.now _ _ _ _ c.print.result (subst (TakesPiece empty_header t (Content c.args.line.now) c.take_line.new.self) (sym text) took.1) c.print.ensures.prints
+returns-in-Ok-clause-prints g c = λ h t refines few.
+    let read = c.in-Ok.ensures h t refines few in
+    let text : c.deref.result.now ≡ read.0 = c.deref.ensures.value ∙ read.2 ∙ ap (λ (xs : List ℕ). xs ++ read.0) c.clear.ensures.items in
+    gathered_prints (LineRead h t (Content c.args.line.now) c.read_line.new.self) c.deref.result.now (g.K.Sink.state c.args.out.now) (g.K.Sink.state c.print.new.out) c.print.result
+    (subst (LineRead h t (Content c.args.line.now) c.read_line.new.self) (sym text) read.1) c.print.ensures.prints

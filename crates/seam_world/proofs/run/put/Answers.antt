@@ -4,13 +4,13 @@ use Rattle.std.specs.Prelude.{OnOk, IfErr, Option, length, ◌<◌}
 use Rattle.std.specs.Io.KnownBytes.{Appends}
 use Rattle.seam_io.specs.Causes.{Rose, HasCause}
 use Rattle.seam_io.specs.declared.sink.WriteFault.{WriteFault}
-use Rattle.seam_world.specs.Ends.{IsFront}
+use Rattle.seam_world.specs.Ends.{IsPrefix}
 use Rattle.seam_world.proofs.run.put.Goals as goal
 
--- the line went out whole, or a front of it where the sink failed
+-- the line went out whole, or a prefix of it where the sink failed
 put_either : (old new : Option (List ℕ)) (before now : ℕ) (line : List ℕ) (r : Result (Unit {0}) WriteFault) → OnOk r (Appends old new line)
     → IfErr r (λ e. (e.wrote < length line) × Appends old new (take e.wrote line)) → HasCause before now r
-    → (tail : List ℕ) × Appends old new tail × ((tail ≡ line) ⊎ (IsFront tail line × Rose before now))
+    → (tail : List ℕ) × Appends old new tail × ((tail ≡ line) ⊎ (IsPrefix tail line × Rose before now))
 put_either old new before now line (Ok x) ok err cause = (line, ok, inl refl)
 put_either old new before now line (Err e) ok err cause = (take e.wrote line, err.1, inr ((drop e.wrote line, sym (take-append-drop e.wrote line)), cause.failed))
 

@@ -2,7 +2,7 @@ use Rattle.std.proofs.Common.{◌∙◌, sym}
 use Rattle.std.proofs.lemmas.Result.{err_from_is_err_and}
 use Rattle.seam_value.specs.declared.values.Value.TheVariants.{Text}
 use Rattle.seam_value.specs.Causes.{Refuses}
-use Rattle.seam_value.proofs.Answers.{text_of-injective, refuses_none, reads_back}
+use Rattle.seam_value.proofs.Answers.{text_of-injective, refuses_none}
 use Rattle.seam_value.proofs.values.Value.parse.Goals as goal
 
 pub returns-in_err-read_text-in-Text-clause-spelled : goal.returns-in_err-read_text-in-Text-clause-spelled
@@ -14,6 +14,3 @@ returns-in_err-read_text-in-Text-clause-spelled c = λ v fits spelled.
 pub returns-in_ok-read_text-in-Text-clause-spelled : goal.returns-in_ok-read_text-in-Text-clause-spelled
 returns-in_ok-read_text-in-Text-clause-spelled c = λ v fits spelled.
     text_of-injective (Text c.in_ok-read_text-in-Text.field-0) v (c.in_ok-read_text-in-Text.ensures.value.1 ∙ sym spelled)
-
-pub returns-in_default-clause-spelled : goal.returns-in_default-clause-spelled
-returns-in_default-clause-spelled c = reads_back c.read_number.result c.args.bytes.now c.args.t c.read_number.ensures.value c.read_number.ensures.cause

@@ -1,0 +1,177 @@
+// The command that a line spells.
+ghost use Rattle.std.specs.Prelude.{◌≡◌, ◌≢◌, ◌≤◌, ◌↔◌, ◌∷◌, ℕ, IsTrue, IfErr, IfOk, List, length, codes, MatchOption};
+ghost use Rattle.seam_io.specs.Lines.{Content};
+ghost use Rattle.seam_transcript.specs.Language.{IsSkipped, words_of, SpellsCommand, Command as Commands};
+ghost use Rattle.seam_transcript.specs.Book.{Book, Judges};
+ghost use Rattle.seam_transcript.specs.declared.header.Header.{Header};
+ghost use Rattle.seam_transcript.specs.declared.verdict.Verdict.TheVariants.{Refused};
+ghost use Rattle.seam_accept.specs.Commands.{texts_of, command_of};
+
+use seam_transcript::Cause;
+use seam_words::{Words, words_of_line};
+use std::marker::Model;
+
+/// The words of a `create`: make an entity of a type at a position.
+#[derive(Clone, Copy)]
+pub struct CreateWords<'a> {
+    pub entity: &'a [u8],
+    pub type_name: &'a [u8],
+    pub x: &'a [u8],
+    pub z: &'a [u8],
+}
+
+/// The words of a `call`: a sender calls a method of an entity with arguments.
+#[derive(Clone, Copy)]
+pub struct CallWords<'a, 'b> {
+    pub sender_name: &'a [u8],
+    pub entity: &'a [u8],
+    pub method_name: &'a [u8],
+    pub arguments: &'b [&'a [u8]],
+}
+
+/// What kind of command it is, and its words.
+#[derive(Clone, Copy)]
+pub enum Form<'a, 'b> {
+    Create(CreateWords<'a>),
+    Call(CallWords<'a, 'b>),
+    /// It ends the round.
+    Sync,
+}
+
+/// A command, by its words. What they name is looked up when it is judged. Contracts see the command of the language.
+#[derive(Drop)]
+pub struct Command<'a, 'b> {
+    form: Form<'a, 'b>,
+}
+
+impl<'a, 'b> Model for Command<'a, 'b> {
+    ghost use Rattle.seam_transcript.specs.Language.{Command};
+    ghost use Rattle.seam_accept.specs.Commands.{command_of};
+
+    ghost Value = { Command };
+
+    ghost view = { λ c. command_of c.form };
+}
+
+impl<'a, 'b> Command<'a, 'b> {
+    fn of(form: Form<'a, 'b>) -> Self
+        ensures { result ≡ command_of form.entry }
+    {
+        Command { form }
+    }
+
+    /// Its kind and its words.
+    pub fn form(&self) -> &Form<'a, 'b>
+        ensures { command_of result.now ≡ self.now }
+    {
+        &self.form
+    }
+}
+
+/// Reads a line, with a table for its words: None where it has none, and else its command, or why each book refuses it.
+pub fn read_line<'a, 'b>(
+    line: &'a [u8],
+    table: &'b mut [&'a [u8]; Words::MOST],
+) -> Result<Option<Command<'a, 'b>>, Cause>
+    requires { length line.now ≤ 4096 }
+    ensures command { IfOk result (λ read. MatchOption read (IsSkipped line.now) (λ c. ¬ (IsSkipped line.now) × SpellsCommand line.now c)) }
+    ensures cause { IfErr result (λ cause. (h : Header) (b : Book) → Judges h b (Content line.now) (Refused cause)) }
+{
+    if is_skipped(line) {
+        return Ok(None);
+    }
+    match words_of_line(line, table) {
+        Ok(words) => match read_words(words) {
+            Some(command) => Ok(Some(command)),
+            None => Err(Cause::NoCommand),
+        },
+        Err(error) => Err(Cause::BadWords(error)),
+    }
+}
+
+// Whether the line has no other bytes than spaces and tabs, or begins with `#` after them.
+fn is_skipped(line: &[u8]) -> bool
+    ensures { IsTrue result ↔ IsSkipped line.now }
+{
+    for byte in line {
+        if *byte != b' ' && *byte != b'\t' {
+            return *byte == b'#';
+        }
+    }
+    true
+}
+
+// The command that words spell.
+fn read_words<'a, 'b>(words: &'b [&'a [u8]]) -> Option<Command<'a, 'b>>
+    ensures { MatchOption result ((c : Commands) → texts_of words.now ≢ words_of c) (λ c. texts_of words.now ≡ words_of c) }
+{
+    match words {
+        [first, rest @ ..] => read_command(first, rest),
+        [] => None,
+    }
+}
+
+// The command that a first word and those after it spell.
+fn read_command<'a, 'b>(first: &[u8], rest: &'b [&'a [u8]]) -> Option<Command<'a, 'b>>
+    ensures { MatchOption result
+        ((c : Commands) → first.now ∷ texts_of rest.now ≢ words_of c)
+        (λ c. first.now ∷ texts_of rest.now ≡ words_of c) }
+{
+    if first == b"sync".as_slice() {
+        read_sync(rest)
+    } else if first == b"create".as_slice() {
+        read_create(rest)
+    } else if first == b"call".as_slice() {
+        read_call(rest)
+    } else {
+        None
+    }
+}
+
+// The words after `sync`.
+fn read_sync<'a, 'b>(words: &'b [&'a [u8]]) -> Option<Command<'a, 'b>>
+    ensures { MatchOption result
+        ((c : Commands) → codes "sync" ∷ texts_of words.now ≢ words_of c)
+        (λ c. codes "sync" ∷ texts_of words.now ≡ words_of c) }
+{
+    match words {
+        [] => Some(Command::of(Form::Sync)),
+        _ => None,
+    }
+}
+
+// The words after `create`.
+fn read_create<'a, 'b>(words: &'b [&'a [u8]]) -> Option<Command<'a, 'b>>
+    ensures { MatchOption result
+        ((c : Commands) → codes "create" ∷ texts_of words.now ≢ words_of c)
+        (λ c. codes "create" ∷ texts_of words.now ≡ words_of c) }
+{
+    match words {
+        [entity, type_name, x, z] => Some(Command::of(Form::Create(CreateWords {
+            entity,
+            type_name,
+            x,
+            z,
+        }))),
+        _ => None,
+    }
+}
+
+// The words after `call`.
+fn read_call<'a, 'b>(words: &'b [&'a [u8]]) -> Option<Command<'a, 'b>>
+    ensures { MatchOption result
+        ((c : Commands) → codes "call" ∷ texts_of words.now ≢ words_of c)
+        (λ c. codes "call" ∷ texts_of words.now ≡ words_of c) }
+{
+    match words {
+        [sender_name, entity, method_name, arguments @ ..] => {
+            Some(Command::of(Form::Call(CallWords {
+                sender_name,
+                entity,
+                method_name,
+                arguments,
+            })))
+        }
+        _ => None,
+    }
+}

@@ -1,0 +1,3 @@
+pub mod BaseNodes
+pub mod Senders
+pub mod Calls

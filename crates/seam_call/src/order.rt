@@ -1,0 +1,30 @@
+//! What a round gives to the base nodes.
+
+use crate::{Call, Create};
+use seam_defs::Listed;
+use seam_tree::Tree;
+
+/// What a base node is told to do.
+#[derive(Debug, Drop)]
+pub enum Order {
+    /// It passes the call to the entity's cell part.
+    Cell(Call),
+    /// It passes the call to the entity's base part.
+    Base(Call),
+    /// It tells every cell of the tree that its witnesses look.
+    Tick,
+    /// It takes the entity out of the world.
+    Reap(u32),
+}
+
+/// What a round brings: the tree that applies from its start, the entities to be created and those that get a client, each
+/// order with the number of its base node, the entities that die at its end, and whether the boundaries are balanced then.
+#[derive(Drop)]
+pub struct Batch {
+    pub tree: Tree,
+    pub creates: Listed<Create>,
+    pub clients: Listed<u32>,
+    pub orders: Listed<(u8, Order)>,
+    pub destroys: Listed<u32>,
+    pub balance: bool,
+}

@@ -1,0 +1,4 @@
+pub mod Delivering
+pub mod Lasting
+pub mod Lives
+pub mod Numbers

@@ -1,0 +1,5 @@
+pub mod Flows
+pub mod Narrow
+pub mod Newest
+pub mod Sent
+pub mod Tokens

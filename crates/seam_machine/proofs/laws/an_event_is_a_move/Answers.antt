@@ -1,5 +1,0 @@
-use Rattle.seam_machine.proofs.Bridge.{event-goes}
-use Rattle.seam_machine.proofs.laws.an_event_is_a_move.Goals as goal
-
-pub returns : goal.returns
-returns g c = λ steps w e o q b m. event-goes g.E.Watch.mine g.E.Watch.slot g.E.Watch.no_slot g.E.Watch.moves steps w e o q b m

@@ -1,0 +1,81 @@
+// Numbers, senders and deeds.
+ghost use Rattle.std.specs.Prelude.{◌≡◌, ◌++◌, ◌∷◌, OnOk};
+ghost use Rattle.std.specs.List.{flat_map};
+ghost use Rattle.seam_value.specs.Values.{decimal_of, text_of};
+ghost use Rattle.seam_defs.specs.Types.{method_of};
+ghost use Rattle.seam_transcript.specs.Language.{sender_text};
+ghost use Rattle.seam_transcript.specs.Texts.{field, deed_text};
+
+use itoa::Buffer;
+use seam_call::Sender;
+use seam_defs::{Deed, TypeDef};
+use seam_value::Value;
+use std::alloc::AllocError;
+
+pub(crate) fn push_number(out: &mut Vec<u8>, number: u64) -> Result<(), AllocError>
+    ensures { OnOk result (out.new.items ≡ out.old.items ++ decimal_of number) }
+{
+    let mut buffer = Buffer::new();
+    out.extend_from_slice(buffer.format(number).as_bytes())
+}
+
+// A space and a number.
+pub(crate) fn push_field(out: &mut Vec<u8>, number: u64) -> Result<(), AllocError>
+    ensures { OnOk result (out.new.items ≡ out.old.items ++ field number) }
+{
+    out.extend_from_slice(b" ")?;
+    push_number(out, number)
+}
+
+// A space and a sender.
+pub(crate) fn push_sender(out: &mut Vec<u8>, sender: Sender) -> Result<(), AllocError>
+    ensures { OnOk result (out.new.items ≡ out.old.items ++ 32 ∷ sender_text sender) }
+{
+    match sender {
+        Sender::Base(node) => {
+            out.extend_from_slice(b" b")?;
+            push_number(out, u64::from(node.number()))
+        }
+        Sender::Client(entity) => {
+            out.extend_from_slice(b" c")?;
+            push_number(out, u64::from(entity))
+        }
+    }
+}
+
+// A space and what a call of a type's entity does.
+pub(crate) fn push_deed(out: &mut Vec<u8>, t: &TypeDef, deed: &Deed) -> Result<(), AllocError>
+    ensures { OnOk result (out.new.items ≡ out.old.items ++ deed_text t.now deed.now) }
+{
+    match deed {
+        Deed::Move(to) => {
+            out.extend_from_slice(b" move")?;
+            push_field(out, u64::from(to.x))?;
+            push_field(out, u64::from(to.z))
+        }
+        Deed::Method(method, args) => {
+            out.extend_from_slice(b" ")?;
+            out.extend_from_slice(method_name(t, *method))?;
+            push_args(out, args.values())
+        }
+    }
+}
+
+fn method_name(t: &TypeDef, number: u16) -> &[u8]
+    ensures { result.now ≡ (method_of t.now number).name }
+{
+    match t.method(number) {
+        Some(method) => method.name.bytes(),
+        None => b"",
+    }
+}
+
+fn push_args(out: &mut Vec<u8>, args: &[Value]) -> Result<(), AllocError>
+    ensures { OnOk result (out.new.items ≡ out.old.items ++ flat_map (λ v. 32 ∷ text_of v) args.now) }
+{
+    for arg in args {
+        out.extend_from_slice(b" ")?;
+        arg.write(out)?;
+    }
+    Ok(())
+}

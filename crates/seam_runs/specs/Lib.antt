@@ -1,0 +1,5 @@
+pub mod Kept
+pub mod Seen
+pub mod Sound
+pub mod Sums
+pub mod Weights

@@ -1,0 +1,17 @@
+//! Runs of a net of machines: what every enabled event keeps, lowers or leaves exactly, and so what every list of events does.
+//!
+//! An event is one step of one node (Lamport, "Time, Clocks, and the Ordering of Events in a Distributed System", 1978). A law over
+//! all runs is an induction over the list of events: what is proved here of one event holds after every run.
+//!
+//! Crates above cite these modules of `proofs`: `Runs` (join, part and extend runs; what they keep; how long they are), `Keeping`
+//! (each node, each link, each link exactly), `Weighing` (the weight of a net, by the node to which a message goes), `MapSums` (sums over finite maps), `Soundness` (a net of
+//! machines stays one), `Seeing` (a net through a function on its nodes).
+#![tactic(auto)]
+
+mod laws;
+
+pub use laws::{
+    LinkFact, NetFact, NetMeasure, NodeFact, a_map_weighs_its_values, chosen_sends_are_bounded,
+    each_link_is_kept, each_node_is_kept, links_are_exact, nets_are_seen, runs_end, runs_extend,
+    runs_join, runs_keep, soundness_is_kept, weights_move,
+};

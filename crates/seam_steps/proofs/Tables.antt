@@ -1,0 +1,92 @@
+-- For callers: how maps and sets of a few entries compute. std's do not unfold; these rules say what they are.
+use Rattle.std.proofs.Common.{◌≡◌, ℕ, Bool, true, false, cond, List, [], ◌∷◌, Option, None, Some, length, ◌&&◌, refl, sym, ◌∙◌, arith}
+use Rattle.std.specs.Ordering.{nat_cmp, eq_by_cmp}
+use Rattle.std.specs.Cmp.{nat_cmp_total}
+use Rattle.std.specs.Str.{is_utf8}
+use Rattle.std.proofs.lemmas.Str.{is_utf8-from_IsUtf8, IsUtf8-nil}
+use Rattle.std.specs.FinMap as table
+use Rattle.std.proofs.lemmas.Bool.Decides.{nat_tests}
+use Rattle.std.specs.FinSet as set
+
+no_length : {A : Type 0} (es : List A) → length es ≡ 0 → es ≡ []
+no_length [] e = refl
+no_length (x ∷ es) e = absurd (omega (arith, e))
+
+pub entries_empty : {X : Type 0} → table.entries (table.empty {K = ℕ} {X = X} {R = nat_cmp}) ≡ []
+entries_empty {X} = no_length _ (sym (table.len-entries (table.empty {K = ℕ} {X = X} {R = nat_cmp})) ∙ table.len-empty nat_cmp X)
+
+cond_same : {A : Type 0} (b : Bool) (x y z : A) → cond b x (cond b y z) ≡ cond b x z
+cond_same true x y z = refl
+cond_same false x y z = refl
+
+cond_one : {A : Type 0} (b : Bool) (x : A) → cond b x x ≡ x
+cond_one true x = refl
+cond_one false x = refl
+
+module _ {X : Type 0} where
+  pub insert_again : (m : table.FinMap nat_cmp X) (k : ℕ) (x y : X) → table.insert (table.insert m k x) k y ≡ table.insert m k y
+  insert_again m k x y = table.same_map nat_cmp_total table.nat_cmp-IsAntisymmetric _ _
+      (λ q. simp (table.get-insert, nat_cmp_total, cond_same))
+
+  pub remove_inserted : (m : table.FinMap nat_cmp X) (k : ℕ) (x : X) → table.remove (table.insert m k x) k ≡ table.remove m k
+  remove_inserted m k x = table.same_map nat_cmp_total table.nat_cmp-IsAntisymmetric _ _
+      (λ q. simp (table.get-insert, table.get-remove, nat_cmp_total, cond_same))
+
+  pub remove_empty : (k : ℕ) → table.remove (table.empty {K = ℕ} {X = X} {R = nat_cmp}) k ≡ table.empty
+  remove_empty k = table.same_map nat_cmp_total table.nat_cmp-IsAntisymmetric _ _
+      (λ q. simp (table.get-remove, table.get-empty, nat_cmp_total, cond_one))
+
+module _ {X : Type 0} where
+  -- entity 2 stands below entity 1
+  pub insert_two : (m : table.FinMap nat_cmp X) (x y : X) → table.insert (table.insert m 1 x) 2 y ≡ table.insert (table.insert m 2 y) 1 x
+  insert_two m x y = table.same_map nat_cmp_total table.nat_cmp-IsAntisymmetric _ _
+      (λ q. simp (table.get-insert, nat_cmp_total)
+      (apart (eq_by_cmp nat_cmp q 1) (eq_by_cmp nat_cmp q 2) x y (table.get m q) (one_or_two q)))
+    where
+      one_or_two : (q : ℕ) → (eq_by_cmp nat_cmp q 1 && eq_by_cmp nat_cmp q 2) ≡ false
+      one_or_two q = by (eq_by_cmp nat_cmp q 1) (eq_by_cmp nat_cmp q 2) refl refl
+        where
+          by : (a b : Bool) → eq_by_cmp nat_cmp q 1 ≡ a → eq_by_cmp nat_cmp q 2 ≡ b → (a && b) ≡ false
+          by true true h k = absurd (grind (arith, nat_tests, h, k))
+          by true false h k = refl
+          by false b h k = refl
+
+      apart : (a b : Bool) (x y : X) (o : Option X) → (a && b) ≡ false → cond b (Some y) (cond a (Some x) o)
+          ≡ cond a (Some x) (cond b (Some y) o)
+      apart true true x y o h = cc
+      apart true false x y o h = refl
+      apart false b x y o h = refl
+
+module _ {X : Type 0} where
+  -- to remove what is not there
+  pub remove_other : (x : X) → table.remove (table.insert (table.empty {K = ℕ} {X = X} {R = nat_cmp}) 2 x) 1 ≡ table.insert table.empty 2 x
+  remove_other x = table.same_map nat_cmp_total table.nat_cmp-IsAntisymmetric _ _
+      (λ q. simp (table.get-insert, table.get-remove, table.get-empty, nat_cmp_total)
+      (by q (eq_by_cmp nat_cmp q 1) (eq_by_cmp nat_cmp q 2) refl refl))
+    where
+      by : (q : ℕ) (a b : Bool) → eq_by_cmp nat_cmp q 1 ≡ a → eq_by_cmp nat_cmp q 2 ≡ b → cond a None (cond b (Some x) None)
+          ≡ cond b (Some x) None
+      by q true true h k = absurd (grind (arith, nat_tests, h, k))
+      by q true false h k = refl
+      by q false b h k = refl
+
+-- an empty text is one
+pub is_utf8-nil : is_utf8 [] ≡ true
+is_utf8-nil = is_utf8-from_IsUtf8 [] IsUtf8-nil
+
+-- what of a world that has few entities computes
+pub ruleset computing = (
+  table.get-insert,
+  table.get-empty,
+  set.contains-empty,
+  set.contains-insert,
+  nat_cmp_total,
+  table.entries-insert,
+  entries_empty,
+  insert_again,
+  insert_two,
+  remove_other,
+  remove_inserted,
+  remove_empty,
+  is_utf8-nil,
+)

@@ -1,0 +1,116 @@
+-- Looks: what a cell knows of others, and what a witness tells its client of them.
+use Rattle.std.specs.Prelude.{ℕ, ◌+◌, Bool, true, false, not, ◌==◌, nat_lt, List, [], ◌∷◌, ◌++◌, map, length, filter_map, find, Option, None, Some, option_map}
+use Rattle.seam_view.specs.declared.Seen.{Seen}
+use Rattle.seam_view.specs.declared.Look.{Look}
+use Rattle.seam_view.specs.declared.Look.TheVariants as look
+use Rattle.seam_view.specs.Looks.{one_look}
+use Rattle.seam_view.specs.Replica.{after_looks}
+use Rattle.seam_defs.specs.declared.flags.Group.TheVariants as group
+use Rattle.seam_defs.specs.Deeds.{other_of, own_of, projected}
+use Rattle.seam_call.specs.declared.shown.GhostCopy.{GhostCopy}
+use Rattle.seam_call.specs.declared.shown.Shown.{Shown}
+use Rattle.seam_call.specs.declared.shown.Shown.TheVariants.{Own, Enter, Set, Leave}
+use Rattle.seam_entity.specs.Reals.{RealView, WitnessView}
+use Rattle.seam_entity.specs.declared.message.Msg.{Msg}
+use Rattle.seam_entity.specs.declared.message.Msg.TheVariants.{Update}
+use Rattle.seam_steps.specs.Numbers.{is_small}
+use Rattle.seam_steps.specs.Here.{Here, base_of, properties}
+use Rattle.seam_steps.specs.Slots.{Slot, SlotStep, rests}
+
+-- what other clients are shown of a real, and of a copy
+abbrev pub other_of_real : Here → RealView → GhostCopy
+other_of_real h r = record { ty = r.ty; version = r.public; state = other_of (properties h r.ty) r.state }
+
+abbrev pub other_of_copy : Here → GhostCopy → GhostCopy
+other_of_copy h c = record {
+  ty = c.ty;
+  version = c.version;
+  state = record { pos = c.state.pos; props = projected (properties h c.ty) group.Ghost group.Other c.state.props };
+}
+
+-- an entity with what is known of it
+abbrev pub Known : Type 0
+Known = ℕ × GhostCopy
+
+abbrev pub seen_as : Known → Seen
+seen_as k = record { entity = k.0; version = k.1.version; pos = k.1.state.pos }
+
+abbrev pub is_of : ℕ → Known → Bool
+is_of e k = k.0 == e
+
+abbrev pub shown_of_known : Known → GhostCopy
+shown_of_known k = k.1
+
+-- what is known of an entity
+abbrev pub known_of : ℕ → List Known → Option GhostCopy
+known_of e known = option_map shown_of_known (find (is_of e) known)
+
+-- what the client is shown for a look
+abbrev pub shown_for : List Known → Look → Option Shown
+shown_for known (look.Leave e) = Some (Leave e)
+shown_for known (look.Set e) = option_map (Set e) (known_of e known)
+shown_for known (look.Enter e) = option_map (Enter e) (known_of e known)
+
+-- the witness's own state is to be shown: it never was, or its version is greater than that of the last one
+abbrev pub own_due : Option ℕ → ℕ → Bool
+own_due None version = true
+own_due (Some told) version = nat_lt told version
+
+abbrev own_if : Bool → Shown → List Shown
+own_if true s = s ∷ []
+own_if false s = []
+
+-- what the client is shown, in order: its own entity where that is due, then the looks
+abbrev pub all_shown : Here → RealView → WitnessView → List Known → List Look → List Shown
+all_shown h r w known looks = own_if (own_due w.told r.version) (Own r.version (own_of (properties h r.ty) r.state)) ++
+    filter_map (shown_for known) looks
+
+-- the updates number from n + 1 on, and go to node b
+abbrev pub numbered : ℕ → ℕ → ℕ → List Shown → List (ℕ × Msg)
+numbered b e n [] = []
+numbered b e n (s ∷ ss) = (b, Update (record { entity = e; number = n + 1; shown = s })) ∷ numbered b e (n + 1) ss
+
+abbrev told_after : Bool → ℕ → Option ℕ → Option ℕ
+told_after true version told = Some version
+told_after false version told = told
+
+-- the witness after it told these, for these looks
+abbrev pub after_looking : List Known → List Look → List Shown → RealView → WitnessView → WitnessView
+after_looking known looks shown r w =
+    record {
+      view = after_looks (map seen_as known) w.view looks;
+      told = told_after (own_due w.told r.version) r.version w.told;
+      sent = w.sent + length shown;
+    }
+
+-- how a witness looks at what is known
+abbrev pub looks_of : RealView → WitnessView → List Known → List Look
+looks_of r w known = one_look w.view r.state.pos (map seen_as known)
+
+abbrev pub shown_of : Here → RealView → WitnessView → List Known → List Shown
+shown_of h r w known = all_shown h r w known (looks_of r w known)
+
+abbrev pub looks_with : Here → Slot → RealView → WitnessView → List Known → List Shown → SlotStep
+looks_with h s r w known shown = record {
+  slot = Some (record s { real = Some (record r { witness = Some (after_looking known (looks_of r w known) shown r w) }) });
+  unlisted = false;
+  sent = numbered (base_of h r.entity) r.entity w.sent shown;
+}
+
+abbrev pub look_by : Here → Slot → RealView → Option WitnessView → List Known → SlotStep
+look_by h s r (Some w) known = looks_with h s r w known (shown_of h r w known)
+look_by h s r None known = rests
+
+-- look task: the real's witness looks at what the cell knows of others, and its updates go to the entity's base node
+abbrev pub look_task : Here → Slot → Option RealView → List Known → SlotStep
+look_task h s (Some r) known = look_by h s r r.witness known
+look_task h s None known = rests
+
+abbrev pub stray_look_by : Here → RealView → Option WitnessView → List Known → Bool
+stray_look_by h r (Some w) known = not (is_small (w.sent + length (shown_of h r w known)))
+stray_look_by h r None known = true
+
+-- the real is not here or has no witness, or its updates would reach the limit of numbers
+abbrev pub stray_look : Here → Option RealView → List Known → Bool
+stray_look h (Some r) known = stray_look_by h r r.witness known
+stray_look h None known = true

@@ -1,0 +1,14 @@
+//! What the steps of cells and base nodes mean: definitions alone, and laws about them.
+//!
+//! A cell (BigWorld's CellApp) has reals and ghosts, and hands reals over; a base node (BaseApp) has base parts and proxies,
+//! and passes calls on. `specs/` has what contracts see of both, each case of their steps as one function, and what loads
+//! make of a world. Nothing here runs. For callers, `proofs/Slots` says that a step of one entity's slot changes that slot
+//! alone, and `proofs/Tables` how worlds of a few entities compute.
+#![tactic(auto)]
+
+pub mod base_steps;
+pub mod cell_steps;
+pub mod laws;
+pub mod loads;
+pub mod look_steps;
+pub mod rows;

@@ -1,0 +1,239 @@
+//! A table by number: an item for some of the numbers, kept in rising number.
+//!
+//! Contracts see a table as a finite map, and beside it the numbers for which there is room. A call that is to change several tables, or
+//! all or none of them, makes room first and changes what cannot fail then.
+#![tactic(auto)]
+
+ghost use Rattle.std.specs.Prelude.{◌≡◌, ℕ, Bool, Some, find, true, false, OnOk, OnErr, IfOk, IfErr, IfSome, option_map, option_copied};
+ghost use Rattle.std.specs.FinMap as map;
+ghost use Rattle.std.specs.FinSet as set;
+ghost use Rattle.std.specs.Ordering.{nat_cmp};
+ghost use Rattle.std.specs.BTreeMap.{IsOrdered};
+ghost use Rattle.seam_table.specs.Tables.{with_item, without_item, without_room, is_after};
+ghost use Rattle.seam_table.specs.Entries.{table_of, low_bound};
+
+use seam_memory::NoMemoryFor;
+use std::alloc::{AllocError, Global};
+use std::collections::BTreeMap;
+use std::marker::Model;
+use std::ops::Bound;
+
+#[cfg(test)]
+mod tests;
+
+/// An item for some of the numbers.
+///
+/// Contracts see the item of each number, and beside them the numbers for which there is room: an item for one of those needs no memory.
+#[derive(Drop)]
+pub struct Table<T> {
+    // An entry without an item is room for one.
+    entries: BTreeMap<u32, Option<T>>,
+}
+
+impl<T> Model for Table<T> {
+    ghost use Rattle.seam_table.specs.Tables.{TableView, table_code};
+
+    ghost Value = { TableView T };
+
+    ghost coded = { table_code T.code };
+
+    ghost use Rattle.std.specs.Ordering.{nat_cmp};
+    ghost use Rattle.std.specs.BTreeMap.{IsOrdered};
+    ghost use Rattle.seam_table.specs.Entries.{table_of};
+
+    ghost view = { λ t. table_of t.entries.entries };
+
+    ghost invariant = { λ t. IsOrdered nat_cmp t.entries };
+}
+
+impl<T: Drop> Table<T> {
+    /// A table with no item and room for none.
+    pub fn new(alloc: Global) -> Self
+        ensures { result ≡ record { items = map.empty; room = set.empty } }
+    {
+        Table {
+            entries: BTreeMap::new(alloc),
+        }
+    }
+
+    /// The item of the number. There is room for what has an item.
+    pub fn get(&self, n: u32) -> Option<&T>
+        ensures item { option_copied result ≡ map.get self.now.items n }
+        ensures room { IfSome result (λ _. set.contains self.now.room n ≡ true) }
+    {
+        match self.entries.get(&n) {
+            Some(slot) => slot.as_ref(),
+            None => None,
+        }
+    }
+
+    /// Whether there is room for an item of the number.
+    pub fn has_room(&self, n: u32) -> bool
+        ensures { result ≡ set.contains self.now.room n }
+    {
+        self.entries.contains_key(&n)
+    }
+
+    /// Makes room for an item of the number.
+    pub fn reserve(&mut self, n: u32) -> Result<(), AllocError>
+        ensures same { self.new.items ≡ self.old.items }
+        ensures room { OnOk result (self.new.room ≡ set.insert self.old.room n) }
+        ensures there { OnOk result (set.contains self.new.room n ≡ true) }
+        ensures err { OnErr result (self.new.room ≡ self.old.room) }
+        ensures err_only_first { OnErr result (set.contains self.old.room n ≡ false) }
+    {
+        make_entry(&mut self.entries, n)
+    }
+
+    /// Puts the item in place of the one that the number had, if any, and gives that one.
+    pub fn put(&mut self, n: u32, item: T) -> Result<Option<T>, NoMemoryFor<T>>
+        ensures old { IfOk result (λ old. old ≡ map.get self.old.items n) }
+        ensures after { OnOk result (self.new ≡ with_item self.old n item) }
+
+        // If allocation fails, the item comes back and nothing has changed.
+        ensures err { OnErr result (self.new ≡ self.old) }
+        ensures err_item { IfErr result (λ r. r.item ≡ item) }
+        ensures err_only_first { OnErr result (set.contains self.old.room n ≡ false) }
+    {
+        write_entry(&mut self.entries, n, item)
+    }
+
+    /// Puts the item in place of the one that the number had, if any, and gives that one. There is room for it, so no memory is needed.
+    pub fn put_reserved(&mut self, n: u32, item: T) -> Option<T>
+        requires { set.contains self.old.room n ≡ true }
+        ensures old { result ≡ map.get self.old.items n }
+        ensures after { self.new ≡ with_item self.old n item }
+        ensures room { self.new.room ≡ self.old.room }
+    {
+        let Ok(old) = self.put(n, item) else {
+            unreachable!()
+        };
+        old
+    }
+
+    /// Gives the item of the number, which has none from then on. The room stays, so that the item, changed, can be put again.
+    pub fn take(&mut self, n: u32) -> Option<T>
+        ensures item { result ≡ map.get self.old.items n }
+        ensures after { self.new ≡ without_item self.old n }
+        ensures room { IfSome result (λ _. set.contains self.new.room n ≡ true) }
+    {
+        empty_entry(&mut self.entries, n)
+    }
+
+    /// Gives the item of the number, which has none from then on, and gives back the room.
+    pub fn remove(&mut self, n: u32) -> Option<T>
+        ensures item { result ≡ map.get self.old.items n }
+        ensures after { self.new ≡ without_room self.old n }
+    {
+        remove_entry(&mut self.entries, n)
+    }
+
+    /// The first item, in rising number, of those whose number is greater than the given one, or of all where none is given.
+    pub fn next_after(&self, after: Option<u32>) -> Option<(u32, &T)>
+        ensures { option_map (λ p. (p.0, p.1.now)) result ≡ find (λ p. is_after after p.0) (map.entries self.now.items) }
+    {
+        for (n, slot) in self.entries.range((bound_after(after), Bound::Unbounded)) {
+            if let Some(item) = slot {
+                return Some((*n, item));
+            }
+        }
+        None
+    }
+}
+
+// The bound below the numbers that come after the given one.
+fn bound_after(after: Option<u32>) -> Bound<u32>
+    ensures { result ≡ low_bound after }
+{
+    match after {
+        Some(n) => Bound::Excluded(n),
+        None => Bound::Unbounded,
+    }
+}
+
+// Makes an entry without an item, where there is none.
+fn make_entry<T: Drop>(entries: &mut BTreeMap<u32, Option<T>>, n: u32) -> Result<(), AllocError>
+    ensures same { (table_of entries.new.entries).items ≡ (table_of entries.old.entries).items }
+    ensures room { OnOk result ((table_of entries.new.entries).room ≡ set.insert (table_of entries.old.entries).room n) }
+    ensures there { OnOk result (set.contains (table_of entries.new.entries).room n ≡ true) }
+    ensures err { OnErr result ((table_of entries.new.entries).room ≡ (table_of entries.old.entries).room) }
+    ensures err_only_first { OnErr result (set.contains (table_of entries.old.entries).room n ≡ false) }
+    ensures ordered { IsOrdered nat_cmp entries.new }
+{
+    if entries.contains_key(&n) {
+        // `len` is called for its clause that the entries are in order.
+        let _ = entries.len();
+        return Ok(());
+    }
+    match entries.insert(n, None) {
+        Ok(_) => Ok(()),
+        Err(_) => Err(AllocError),
+    }
+}
+
+// Writes an item over what the number had.
+fn write_entry<T: Drop>(
+    entries: &mut BTreeMap<u32, Option<T>>,
+    n: u32,
+    item: T,
+) -> Result<Option<T>, NoMemoryFor<T>>
+    ensures old { IfOk result (λ old. old ≡ map.get (table_of entries.old.entries).items n) }
+    ensures after { OnOk result (table_of entries.new.entries ≡ with_item (table_of entries.old.entries) n item) }
+    ensures err { OnErr result (entries.new.entries ≡ entries.old.entries) }
+    ensures err_item { IfErr result (λ r. r.item ≡ item) }
+    ensures err_only_first { OnErr result (set.contains (table_of entries.old.entries).room n ≡ false) }
+    ensures ordered { IsOrdered nat_cmp entries.new }
+{
+    match entries.insert(n, Some(item)) {
+        Ok(old) => Ok(old.flatten()),
+        Err(refused) => {
+            let Some(item) = refused.value.1 else {
+                unreachable!()
+            };
+            Err(NoMemoryFor { item })
+        }
+    }
+}
+
+// Leaves the entry of the number without an item.
+fn empty_entry<T: Drop>(entries: &mut BTreeMap<u32, Option<T>>, n: u32) -> Option<T>
+    requires { IsOrdered nat_cmp entries.old }
+    ensures item { result ≡ map.get (table_of entries.old.entries).items n }
+    ensures after { table_of entries.new.entries ≡ without_item (table_of entries.old.entries) n }
+    ensures room { IfSome result (λ _. set.contains (table_of entries.new.entries).room n ≡ true) }
+    ensures ordered { IsOrdered nat_cmp entries.new }
+{
+    match entries.get_mut(&n) {
+        Some(slot) => std::mem::replace(slot, None),
+        None => None,
+    }
+}
+
+// Removes the entry of the number.
+fn remove_entry<T: Drop>(entries: &mut BTreeMap<u32, Option<T>>, n: u32) -> Option<T>
+    requires { IsOrdered nat_cmp entries.old }
+    ensures item { result ≡ map.get (table_of entries.old.entries).items n }
+    ensures after { table_of entries.new.entries ≡ without_room (table_of entries.old.entries) n }
+    ensures ordered { IsOrdered nat_cmp entries.new }
+{
+    entries.remove(&n).flatten()
+}
+
+fn sent<T: Send>(value: T) -> T
+    ensures { result ≡ value }
+{
+    value
+}
+
+/// Where the items may go to another thread, so may their table.
+pub fn send_table<T: Send>(table: Table<T>) -> Table<T>
+    ensures { result ≡ table }
+{
+    sent(table)
+}
+
+/// An item that a search of a table's entries finds is the table's item of that number, and passes the test.
+pub fn what_is_found_is_there<T>()
+    ensures { (test : ℕ × T → Bool) (m : map.FinMap nat_cmp T) (p : ℕ × T) → find test (map.entries m) ≡ Some p →
+        (map.get m p.0 ≡ Some p.1) × (test p ≡ true) }
+{}

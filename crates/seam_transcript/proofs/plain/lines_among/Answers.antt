@@ -1,8 +1,0 @@
-use Rattle.seam_transcript.proofs.PlainTurns.{empty-last, full-last}
-use Rattle.seam_transcript.proofs.plain.lines_among.Goals as goal
-
-pub returns-then-is_empty : goal.returns-then-is_empty
-returns-then-is_empty c = empty-last c.args.texts.now _ c.in-len1-up.len_at_least c.if-is_empty.ensures
-
-pub returns-else-is_empty : goal.returns-else-is_empty
-returns-else-is_empty c = full-last c.args.texts.now _ c.in-len1-up.len_at_least c.if-is_empty.ensures

@@ -1,5 +1,0 @@
-use Rattle.seam_transcript.proofs.PlainLemmas.{numbers-rise}
-use Rattle.seam_transcript.proofs.plain_round.numbers_of.Goals as goal
-
-pub returns : goal.returns
-returns c = numbers-rise _ c.in_ok-numbers.numbers.items c.sort.new.self.items c.dedup.new.self.items c.in_ok-numbers.ensures c.in_ok-sort.ensures.permutation c.in_ok-sort.ensures.sorted c.dedup.ensures.filtered

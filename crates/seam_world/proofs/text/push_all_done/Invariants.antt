@@ -1,7 +1,0 @@
-use Rattle.std.proofs.Common.{◌≡◌, ◌++◌}
-use Rattle.std.specs.List.{flat_map}
-use Rattle.seam_world.specs.Text.{done_text}
-use Rattle.seam_world.proofs.text.push_all_done.Given as goal
-
-abbrev pub invariant-loop-number : goal.invariant-loop-number
-invariant-loop-number l = l.out.items ++ flat_map (done_text l.defs) l.number-iterator ≡ l.initial.out.items ++ flat_map (done_text l.defs) l.entities.entries
