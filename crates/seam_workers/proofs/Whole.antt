@@ -272,6 +272,13 @@ module _ {N M H : Type 0} (has_work : N → Bool) (steps : N → Input M → Ste
     pub is_run : LeadsTo has_work steps w events v
     is_run = subst (λ es. LeadsTo has_work steps w es v) (sym rejoined.events_are) (logs_are_run has_work steps n w v start now (map (λ (v : LoggedView N M H). v.log) done) hand first taken_from put_to met rejoined.merged joined rejoined.is_merge rebuilt)
 
+    pub peers_kept : ArePeers peers v
+    peers_kept k e lt =
+        let count : length v.nodes ≡ n = rebuilt.count in
+        let h = known k (omega (arith, lt, count)) in
+        let is : get_or v.nodes k e ≡ h.node.node = ap (λ l. get_or l k e) rejoined.nodes ∙ map_read (λ (v : LoggedView N M H). v.node) done k h.node e h.at in
+        ap peers is ∙ (peers_are k h.node h.at ∙ sym count)
+
     -- a node that had a task has an event
     event_by_log : (k : ℕ) (h : Known k) (s : N) → s ≡ h.run.replay.root.start → has_work s ≡ true → (l : List (Stamped Event)) → h.node.log ≡ l → HasEventOf k events
     event_by_log k h s is work [] e = absurd (

@@ -426,6 +426,7 @@ where
     requires peers { ArePeers M.peer_count net }
     ensures run { IfOk result (λ r. LeadsTo M.has_work M.steps net r.1.items r.0) }
     ensures tasks { IfOk result (λ r. (k : ℕ) (s : M) → slice_get net.nodes k ≡ Some s → M.has_work s ≡ true → HasEventOf k r.1.items) }
+    ensures peers { IfOk result (λ r. ArePeers M.peer_count r.0) }
 {
     let n = net.node_count();
     if net.is_quiet() {
