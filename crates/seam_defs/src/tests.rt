@@ -1,5 +1,5 @@
-// The built-in types row by row, and what the calls that take memory give with ample memory.
-use crate::{Args, Deed, Defs, Group, Method, Property, Props, State};
+// What the calls that take memory give with ample memory.
+use crate::{Args, Deed, Defs, Group, Props, State};
 use seam_geo::Pos;
 use seam_value::Value;
 use std::alloc::Global;
@@ -9,105 +9,9 @@ const AVATAR: u16 = 0;
 
 const CHEST: u16 = 1;
 
-const AVATAR_PROPERTIES: [&str; 8] = [
-    "gold Uint32 Base Number(0)",
-    "hp Int32 AllClients Number(100)",
-    "mana Uint16 CellPublicAndOwn Number(50)",
-    "mood Int8 OtherClients Number(0)",
-    "note Text CellPrivate Text(ShortText { bytes: [] })",
-    "rank Uint8 BaseAndClient Number(1)",
-    "scent Uint16 CellPublic Number(0)",
-    "xp Uint64 OwnClient Number(0)",
-];
-
-const CHEST_PROPERTIES: [&str; 1] = ["lid Uint8 AllClients Number(0)"];
-
-const AVATAR_METHODS: [&str; 8] = [
-    "cast Cell true [Uint16] [Sub(2, Arg(1)), Add(7, Constant(Number(1)))]",
-    "feel Cell true [Int8] [Put(3, Arg(1))]",
-    "heal Cell true [Int32] [Add(1, Arg(1))]",
-    "hit Cell true [Int32] [Sub(1, Arg(1))]",
-    "mark Cell false [Uint16] [Put(6, Arg(1))]",
-    "pay Base false [Uint32] [Add(0, Arg(1))]",
-    "promote Base true [] [Add(5, Constant(Number(1)))]",
-    "write Cell false [Text] [Put(4, Arg(1))]",
-];
-
-const CHEST_METHODS: [&str; 2] = [
-    "lift Cell true [] [Put(0, Constant(Number(1)))]",
-    "shut Cell true [] [Put(0, Constant(Number(0)))]",
-];
-
-fn property_row(alloc: Global, p: &Property) -> Result<String, Fail> {
-    let name = std::str::from_utf8(p.name.bytes())?;
-    Ok(format!(in alloc; "{} {:?} {:?} {:?}", name, p.ty, p.flag, p.default)?)
-}
-
-fn method_row(alloc: Global, m: &Method) -> Result<String, Fail> {
-    let name = std::str::from_utf8(m.name.bytes())?;
-    let (args, body) = (m.args.as_slice(), m.body.as_slice());
-    Ok(format!(in alloc; "{} {:?} {} {:?} {:?}", name, m.part, m.exposed, args, body)?)
-}
-
-fn has_properties(alloc: Global, properties: &[Property], rows: &[&str]) -> Result<bool, Fail> {
-    for (property, row) in properties.iter().zip(rows) {
-        if property_row(alloc, property)?.as_str() != *row {
-            return Ok(false);
-        }
-    }
-    Ok(properties.len() == rows.len())
-}
-
-fn has_methods(alloc: Global, methods: &[Method], rows: &[&str]) -> Result<bool, Fail> {
-    for (method, row) in methods.iter().zip(rows) {
-        if method_row(alloc, method)?.as_str() != *row {
-            return Ok(false);
-        }
-    }
-    Ok(methods.len() == rows.len())
-}
-
-#[test]
-fn builtin_types_are_those_of_the_table(rt: HostRuntime) -> Result<(), Fail> {
-    let alloc = rt.alloc();
-    let defs = Defs::builtin(alloc)?.copy()?;
-    assert_eq!(rt; defs.type_at(AVATAR).name.bytes(), b"Avatar".as_slice());
-    assert_eq!(rt; defs.type_at(CHEST).name.bytes(), b"Chest".as_slice());
-    assert!(rt; !defs.has_type(2));
-    assert!(rt;
-        has_properties(
-            alloc,
-            defs.type_at(AVATAR).properties.as_slice(),
-            &AVATAR_PROPERTIES
-        )?
-    );
-    assert!(rt;
-        has_properties(
-            alloc,
-            defs.type_at(CHEST).properties.as_slice(),
-            &CHEST_PROPERTIES
-        )?
-    );
-    assert!(rt;
-        has_methods(
-            alloc,
-            defs.type_at(AVATAR).methods.as_slice(),
-            &AVATAR_METHODS
-        )?
-    );
-    assert!(rt;
-        has_methods(
-            alloc,
-            defs.type_at(CHEST).methods.as_slice(),
-            &CHEST_METHODS
-        )?
-    );
-    Ok(())
-}
-
 #[test]
 fn groups_of_a_new_avatar_are_written(rt: HostRuntime) -> Result<(), Fail> {
-    let defs = Defs::builtin(rt.alloc())?;
+    let defs = Defs::builtin(rt.alloc())?.copy()?;
     let avatar = defs.type_at(AVATAR);
     let own = avatar.start_props(Group::Own)?;
     let mut text = Vec::new(rt.alloc());
