@@ -26,6 +26,7 @@ use Rattle.seam_call.specs.declared.call.Call.{Call}
 use Rattle.seam_call.specs.declared.create.Create.{Create}
 use Rattle.seam_transcript.specs.Language as language
 use Rattle.seam_transcript.specs.Header.{separator}
+use Rattle.seam_defs.specs.Types.{type_of}
 use Rattle.seam_transcript.specs.Book.{Book, empty_book, created_as, with_entry, IsBuilt, NamesCreate, NamesCall, Means, Judges}
 use Rattle.seam_transcript.specs.InOrder.{in_order, round_in_order, after_round}
 use Rattle.seam_transcript.specs.Standing.{Standing, after_header, with_line, with_book}
@@ -127,10 +128,10 @@ with_hit = with_entry with_avatar (entry.Called (call (Base 1) 1 3 30))
 abbrev with_heal : Book
 with_heal = with_entry with_hit (entry.Called (call (Base 1) 2 2 5))
 
-is_hit : IsBuilt builtin 0 3
+is_hit : IsBuilt (type_of builtin 0) 3
 is_hit = record { has = lit≤ tt; on_cell = refl; args = refl }
 
-pub is_heal : IsBuilt builtin 0 2
+pub is_heal : IsBuilt (type_of builtin 0) 2
 is_heal = record { has = lit≤ tt; on_cell = refl; args = refl }
 
 pub spells_1 : SpellsPositive (codes "1") 1
