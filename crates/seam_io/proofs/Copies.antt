@@ -3,17 +3,17 @@ use Rattle.std.proofs.Common.{◌≡◌, ℕ, ◌+◌, ◌-◌, ◌<◌, ◌≤�
 use Rattle.std.proofs.Math.Seq.{take-add}
 use Rattle.std.proofs.lemmas.List.{take-append-drop, take_at, drop-drop, length-take, length-drop, take_all}
 
--- a part was copied to the front of a buffer: the rest of the list comes behind it
-pub copied_front : (items buffer part : List ℕ) (at n : ℕ) → part ≡ take (at + n - at) (drop at items) → at + n ≤ length items
+-- a part was copied to the start of a buffer: the rest of the list comes after it
+pub copied_prefix : (items buffer part : List ℕ) (at n : ℕ) → part ≡ take (at + n - at) (drop at items) → at + n ≤ length items
     → drop at items ≡ take n (part ++ drop n buffer) ++ drop (at + n) items
-copied_front items buffer part at n same fits =
+copied_prefix items buffer part at n same fits =
     let count : at + n - at ≡ n = omega arith in
     let is_part : part ≡ take n (drop at items) = same ∙ ap (λ k. take k (drop at items)) count in
     let size : length part ≡ n = ap length is_part ∙ simp (length-take, length-drop) (omega arith) in
-    let front : take n (part ++ drop n buffer) ≡ take n (drop at items) = take_at part (drop n buffer) n size ∙ is_part in
-    sym (take-append-drop n (drop at items)) ∙ ap (λ x. take n (drop at items) ++ x) (drop-drop n at items) ∙ ap (λ x. x ++ drop (at + n) items) (sym front)
+    let prefix : take n (part ++ drop n buffer) ≡ take n (drop at items) = take_at part (drop n buffer) n size ∙ is_part in
+    sym (take-append-drop n (drop at items)) ∙ ap (λ x. take n (drop at items) ++ x) (drop-drop n at items) ∙ ap (λ x. x ++ drop (at + n) items) (sym prefix)
 
--- a front and the next n elements are the front that is n longer
+-- a prefix and the next n elements are the prefix that is n longer
 pub take_further : (xs : List ℕ) (i n : ℕ) → i + n ≤ length xs → take i xs ++ take n (take (length xs - i) (drop i xs)) ≡ take (i + n) xs
 take_further xs i n fits =
     let whole : take (length xs - i) (drop i xs) ≡ drop i xs = take_all (length xs - i) (drop i xs) (simp length-drop (omega arith)) in

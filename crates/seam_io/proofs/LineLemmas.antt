@@ -20,8 +20,8 @@ line_of-short text short = grind (arith, common_steps)
 
 -- ---- no line feed
 
-pub no_feed_append : (front more : List ℕ) → HasNoFeed front → HasNoFeed more → HasNoFeed (front ++ more)
-no_feed_append front more a b = All-append (λ byte. is_feed byte ≡ false) front more a b
+pub no_feed_append : (prefix more : List ℕ) → HasNoFeed prefix → HasNoFeed more → HasNoFeed (prefix ++ more)
+no_feed_append prefix more a b = All-append (λ byte. is_feed byte ≡ false) prefix more a b
 
 pub no_feed_head : (b : ℕ) (bs : List ℕ) → HasNoFeed (b ∷ bs) → is_feed b ≡ false
 no_feed_head b bs h = All-head (λ byte. is_feed byte ≡ false) b bs h
@@ -35,7 +35,7 @@ no_feed_none = All-nil (λ byte. is_feed byte ≡ false)
 pub no_feed_one : (b : ℕ) → is_feed b ≡ false → HasNoFeed (b ∷ [])
 no_feed_one b h = All-cons (λ byte. is_feed byte ≡ false) b [] h no_feed_none
 
--- ---- what stands after the first line feed
+-- ---- what comes after the first line feed
 
 after_first-at : (t : Bool) (b : ℕ) (bs : List ℕ) → is_feed b ≡ t → t ≡ false → after_first is_feed (b ∷ bs) ≡ after_first is_feed bs
 after_first-at true b bs e other = cc
@@ -44,16 +44,16 @@ after_first-at false b bs e other = rw e (ap (λ n. drop n (b ∷ bs)) (let one 
 pub after_first-cons : (b : ℕ) (bs : List ℕ) → is_feed b ≡ false → after_first is_feed (b ∷ bs) ≡ after_first is_feed bs
 after_first-cons b bs other = after_first-at (is_feed b) b bs refl other
 
-pub after_first-append : (front more : List ℕ) → HasNoFeed front → after_first is_feed (front ++ more) ≡ after_first is_feed more
+pub after_first-append : (prefix more : List ℕ) → HasNoFeed prefix → after_first is_feed (prefix ++ more) ≡ after_first is_feed more
 after_first-append [] more h = refl
-after_first-append (b ∷ front) more h = after_first-cons b (front ++ more) (no_feed_head b front h) ∙ after_first-append front more (no_feed_tail b front h)
+after_first-append (b ∷ prefix) more h = after_first-cons b (prefix ++ more) (no_feed_head b prefix h) ∙ after_first-append prefix more (no_feed_tail b prefix h)
 
 pub after_first-none : (bs : List ℕ) → HasNoFeed bs → after_first is_feed bs ≡ []
 after_first-none [] h = refl
 after_first-none (b ∷ bs) h = after_first-cons b bs (no_feed_head b bs h) ∙ after_first-none bs (no_feed_tail b bs h)
 
-pub after_first-fed : (front more : List ℕ) → HasNoFeed front → after_first is_feed (front ++ 10 ∷ more) ≡ more
-after_first-fed front more h = after_first-append front (10 ∷ more) h
+pub after_first-fed : (prefix more : List ℕ) → HasNoFeed prefix → after_first is_feed (prefix ++ 10 ∷ more) ≡ more
+after_first-fed prefix more h = after_first-append prefix (10 ∷ more) h
 
 -- ---- the lines
 
@@ -66,10 +66,10 @@ unfolding lines_of
 lines_of-none = refl
 
 -- a text and a line feed are one line
-pub lines_of-fed : (front more : List ℕ) → HasNoFeed front → lines_of (front ++ 10 ∷ more) ≡ line_of front ∷ lines_of more
+pub lines_of-fed : (prefix more : List ℕ) → HasNoFeed prefix → lines_of (prefix ++ 10 ∷ more) ≡ line_of prefix ∷ lines_of more
 unfolding lines_of
-lines_of-fed front more h =
-    ap lines_between (slice_split_at is_feed front 10 more h refl) ∙ between_more front (slice_split is_feed more) (omega (arith, length-slice_split is_feed more))
+lines_of-fed prefix more h =
+    ap lines_between (slice_split_at is_feed prefix 10 more h refl) ∙ between_more prefix (slice_split is_feed more) (omega (arith, length-slice_split is_feed more))
 
 -- a text without a line feed is one line too, where it has a byte
 pub lines_of-last : (rest : List ℕ) → HasNoFeed rest → 0 < length rest → lines_of rest ≡ line_of rest ∷ []
@@ -77,21 +77,21 @@ unfolding lines_of
 lines_of-last [] h some = absurd (omega arith)
 lines_of-last (b ∷ bs) h some = ap lines_between (slice_split_none is_feed (b ∷ bs) h) ∙ grind (arith, common_steps)
 
-let_go_at : (t : Bool) (front : List ℕ) (b : ℕ) (bs : List ℕ) → is_feed b ≡ t → HasNoFeed front → 4096 < length front
-    → (is_feed b ≡ false → lines_of ((front ++ b ∷ []) ++ bs) ≡ Long ∷ lines_of (after_first is_feed bs))
-    → lines_of (front ++ b ∷ bs) ≡ Long ∷ lines_of (after_first is_feed (b ∷ bs))
-let_go_at true front b bs e h long later =
+let_go_at : (t : Bool) (prefix : List ℕ) (b : ℕ) (bs : List ℕ) → is_feed b ≡ t → HasNoFeed prefix → 4096 < length prefix
+    → (is_feed b ≡ false → lines_of ((prefix ++ b ∷ []) ++ bs) ≡ Long ∷ lines_of (after_first is_feed bs))
+    → lines_of (prefix ++ b ∷ bs) ≡ Long ∷ lines_of (after_first is_feed (b ∷ bs))
+let_go_at true prefix b bs e h long later =
     let feed : b ≡ 10 = eqb-true b 10 e in
-    rw feed (lines_of-fed front bs h ∙ ap (λ l. l ∷ lines_of bs) (line_of-long front long))
-let_go_at false front b bs e h long later =
-    ap lines_of (sym (append_assoc front (b ∷ []) bs)) ∙ later e ∙ ap (λ rest. Long ∷ lines_of rest) (sym (after_first-cons b bs e))
+    rw feed (lines_of-fed prefix bs h ∙ ap (λ l. l ∷ lines_of bs) (line_of-long prefix long))
+let_go_at false prefix b bs e h long later =
+    ap lines_of (sym (append_assoc prefix (b ∷ []) bs)) ∙ later e ∙ ap (λ rest. Long ∷ lines_of rest) (sym (after_first-cons b bs e))
 
--- the front of a line that is too long may be let go
-pub lines_of-let_go : (front more : List ℕ) → HasNoFeed front → 4096 < length front → lines_of (front ++ more) ≡ Long ∷ lines_of (after_first is_feed more)
-lines_of-let_go front [] h long =
-    ap lines_of (append-nil front) ∙ lines_of-last front h (omega arith) ∙ ap (λ l. l ∷ []) (line_of-long front long) ∙ ap (λ ls. Long ∷ ls) (sym lines_of-none)
-lines_of-let_go front (b ∷ bs) h long = let_go_at (is_feed b) front b bs refl h long (λ other.
-    lines_of-let_go (front ++ b ∷ []) bs (no_feed_append front (b ∷ []) h (no_feed_one b other)) (omega (arith, length-append front (b ∷ []))))
+-- the prefix of a line that is too long may be let go
+pub lines_of-let_go : (prefix more : List ℕ) → HasNoFeed prefix → 4096 < length prefix → lines_of (prefix ++ more) ≡ Long ∷ lines_of (after_first is_feed more)
+lines_of-let_go prefix [] h long =
+    ap lines_of (append-nil prefix) ∙ lines_of-last prefix h (omega arith) ∙ ap (λ l. l ∷ []) (line_of-long prefix long) ∙ ap (λ ls. Long ∷ ls) (sym lines_of-none)
+lines_of-let_go prefix (b ∷ bs) h long = let_go_at (is_feed b) prefix b bs refl h long (λ other.
+    lines_of-let_go (prefix ++ b ∷ []) bs (no_feed_append prefix (b ∷ []) h (no_feed_one b other)) (omega (arith, length-append prefix (b ∷ []))))
 
 -- ---- the lines that a line feed ended
 
@@ -195,7 +195,7 @@ pub left_one : (passing : Bool) (held : List ℕ) → HasNoFeed held → (last :
 left_one true held h = (Long, ap (λ rest. Long ∷ lines_of rest) (after_first-fed held [] h) ∙ ap (λ ls. Long ∷ ls) lines_of-none)
 left_one false held h = (line_of held, lines_of-fed held [] h ∙ ap (λ ls. line_of held ∷ ls) lines_of-none)
 
--- the front of a line that is too long may be let go, and more of it
+-- the prefix of a line that is too long may be let go, and more of it
 pub left_let_go : (passing : Bool) (held more : List ℕ) → HasNoFeed held → (passing ≡ true) ⊎ (4096 < length held)
     → lines_left passing (held ++ more) ≡ lines_left true more
 left_let_go true held more h long = ap (λ rest. Long ∷ lines_of rest) (after_first-append held more h)

@@ -29,8 +29,8 @@ range_rest xs a b n within =
     let parts : b - a ≡ n + (b - (a + n)) = omega arith in
     ap (take (b - (a + n))) (sym (drop-drop n a xs)) ∙ sym (drop-take n (b - (a + n)) (drop a xs)) ∙ ap (λ m. drop n (take m (drop a xs))) (sym parts)
 
-pub range_front : (xs : List ℕ) (a b n : ℕ) → a + n ≤ b → slice_range xs a (a + n) ≡ take n (slice_range xs a b)
-range_front xs a b n within =
+pub range_prefix : (xs : List ℕ) (a b n : ℕ) → a + n ≤ b → slice_range xs a (a + n) ≡ take n (slice_range xs a b)
+range_prefix xs a b n within =
     let same : a + n - a ≡ n = omega arith in
     let low : n ≤ b - a = omega arith in
     grind (arith, common_steps)
@@ -47,22 +47,22 @@ none_passes bytes n fits none = All-from_get_or (λ byte. is_feed byte ≡ false
     let same : get_or (take n bytes) i 0 ≡ get_or bytes i 0 = grind (arith, common_steps) in
     ap is_feed same ∙ false_of (is_feed (get_or bytes i 0)) (none i (omega arith) below))
 
--- behind a part without a line feed none was found
-pub not_found : (front rest : List ℕ) → HasNoFeed front → Nowhere (Passes (is_byte 10) rest) 0 (length rest) → HasNoFeed (front ++ rest)
-not_found front rest whole none =
-    no_feed_append front rest whole (subst HasNoFeed (take_all (length rest) rest (omega arith)) (none_passes rest (length rest) (omega arith) none))
+-- after a part without a line feed none was found
+pub not_found : (prefix rest : List ℕ) → HasNoFeed prefix → Nowhere (Passes (is_byte 10) rest) 0 (length rest) → HasNoFeed (prefix ++ rest)
+not_found prefix rest whole none =
+    no_feed_append prefix rest whole (subst HasNoFeed (take_all (length rest) rest (omega arith)) (none_passes rest (length rest) (omega arith) none))
 
--- behind a part without a line feed one was found
-found_behind : (front rest : List ℕ) (place : ℕ) → HasNoFeed front → NoneBefore (Passes (is_byte 10) rest) 0 (length rest) place → Passes (is_byte 10) rest place
-    → IsFeedAt (front ++ rest) (length front + place)
-found_behind front rest place whole none feed = record {
-  within = let high = none.high in omega (arith, length-append front rest);
-  feed = get_or-append-add front rest place 0 ∙ eqb-true _ _ feed;
-  before = subst HasNoFeed (sym (take-append-add front rest place))
-      (no_feed_append front (take place rest) whole (none_passes rest place (let high = none.high in omega arith) none.before));
+-- after a part without a line feed one was found
+found_after : (prefix rest : List ℕ) (place : ℕ) → HasNoFeed prefix → NoneBefore (Passes (is_byte 10) rest) 0 (length rest) place → Passes (is_byte 10) rest place
+    → IsFeedAt (prefix ++ rest) (length prefix + place)
+found_after prefix rest place whole none feed = record {
+  within = let high = none.high in omega (arith, length-append prefix rest);
+  feed = get_or-append-add prefix rest place 0 ∙ eqb-true _ _ feed;
+  before = subst HasNoFeed (sym (take-append-add prefix rest place))
+      (no_feed_append prefix (take place rest) whole (none_passes rest place (let high = none.high in omega arith) none.before));
 }
 
-pub found : (held front rest : List ℕ) (size place : ℕ) → held ≡ front ++ rest → length front ≡ size → HasNoFeed front
+pub found : (held prefix rest : List ℕ) (size place : ℕ) → held ≡ prefix ++ rest → length prefix ≡ size → HasNoFeed prefix
     → NoneBefore (Passes (is_byte 10) rest) 0 (length rest) place → Passes (is_byte 10) rest place → IsFeedAt held (size + place)
-found held front rest size place parts same whole none feed =
-    subst (λ bytes. IsFeedAt bytes (size + place)) (sym parts) (subst (λ n. IsFeedAt (front ++ rest) (n + place)) same (found_behind front rest place whole none feed))
+found held prefix rest size place parts same whole none feed =
+    subst (λ bytes. IsFeedAt bytes (size + place)) (sym parts) (subst (λ n. IsFeedAt (prefix ++ rest) (n + place)) same (found_after prefix rest place whole none feed))

@@ -50,13 +50,13 @@ filled start now later old new given got read r f took faults ends going more_ro
       ∙ ap (λ p. read ++ lines_left p (new.held ++ more)) (sym f.passing);
 }
 
--- a reader that moved what it holds to the front of its buffer, and read behind it
+-- a reader that moved what it holds to the start of its buffer, and read after it
 pub fills : (old_items new_items : List ℕ) (start end count : ℕ) (p e e' : Bool) (taken limit : ℕ) (line line' : List ℕ)
     → take (end - start) new_items ≡ slice_range old_items start end → end - start + count ≤ length new_items → taken + count ≤ limit
     → Fills (reader_of (slice_range old_items start end) p e taken limit line)
     (reader_of (slice_range new_items 0 (end - start + count)) p e' (taken + count) limit line') (take count (drop (end - start) new_items))
-fills old_items new_items start end count p e e' taken limit line line' front fits within = record {
-  held = ap (λ n. take n new_items) (sub-zero (end - start + count)) ∙ take-add (end - start) count new_items ∙ ap (λ bytes. bytes ++ take count (drop (end - start) new_items)) front;
+fills old_items new_items start end count p e e' taken limit line line' prefix fits within = record {
+  held = ap (λ n. take n new_items) (sub-zero (end - start + count)) ∙ take-add (end - start) count new_items ∙ ap (λ bytes. bytes ++ take count (drop (end - start) new_items)) prefix;
   passing = refl;
   limit = refl;
   taken = omega (arith, length-take count (drop (end - start) new_items), length-drop (end - start) new_items);
@@ -66,8 +66,8 @@ fills old_items new_items start end count p e e' taken limit line line' front fi
 -- a reader that only moved what it holds
 pub same_view : (old_items new_items : List ℕ) (start end : ℕ) (p e : Bool) (taken limit : ℕ) (line : List ℕ) → take (end - start) new_items ≡ slice_range old_items start end → line ≡ []
     → reader_of (slice_range new_items 0 (end - start)) p e taken limit [] ≡ reader_of (slice_range old_items start end) p e taken limit line
-same_view old_items new_items start end p e taken limit line front none =
-    same_but_held _ _ p e taken limit [] (ap (λ n. take n new_items) (sub-zero (end - start)) ∙ front)
+same_view old_items new_items start end p e taken limit line prefix none =
+    same_but_held _ _ p e taken limit [] (ap (λ n. take n new_items) (sub-zero (end - start)) ∙ prefix)
     ∙ ap (λ (given : List ℕ). reader_of (slice_range old_items start end) p e taken limit given) (sym none)
 
 -- a read that failed took nothing
@@ -121,7 +121,7 @@ moved start now old new given read gave r m = record {
       r.lines more allowed' ∙ ap (λ ls. read ++ ls) (m.lines more allowed') ∙ sym (append_assoc read gave _);
 }
 
--- the same reader, after the front of a long line was let go
+-- the same reader, after the prefix of a long line was let go
 pub kept : (start now : SourceState) (old new : Reader) (given : List ℕ) (read : List Line) → Reading start now old given read → Moves old new [] → Reading start now new given read
 kept start now old new given read r m = subst (λ ls. Reading start now new given ls) (append-nil read) (moved start now old new given read [] r m)
 
@@ -175,16 +175,16 @@ exact_by_answer next.Long start now old new given read a h = exact_line next.Lon
 exact_by_answer next.End start now old new given read a h =
     let same = rw append-nil at h in
     record {
-      ended = (λ _. (a.stands.ended, all_given start now new given read same a.stands.none a.stands.passing), λ _. refl);
-      full = (λ e. cc, λ all. absurd (let below = (h.ended a.stands.ended).2 in let full = all.0 in omega arith));
+      ended = (λ _. (a.at.ended, all_given start now new given read same a.at.none a.at.passing), λ _. refl);
+      full = (λ e. cc, λ all. absurd (let below = (h.ended a.at.ended).2 in let full = all.0 in omega arith));
       fault = λ e. cc;
     }
-exact_by_answer next.ReadFault start now old new given read a h = absurd a.stands
+exact_by_answer next.ReadFault start now old new given read a h = absurd a.at
 exact_by_answer next.Limit start now old new given read a h =
     let same = rw append-nil at h in
     record {
-      ended = (λ e. cc, λ all. absurd (false≢true (sym a.stands.1 ∙ all.0)));
-      full = (λ _. (a.stands.2, whole_given start now new given read same a.stands.1 a.stands.0), λ _. refl);
+      ended = (λ e. cc, λ all. absurd (false≢true (sym a.at.1 ∙ all.0)));
+      full = (λ _. (a.at.2, whole_given start now new given read same a.at.1 a.at.0), λ _. refl);
       fault = λ e. cc;
     }
 
@@ -212,8 +212,8 @@ faulted start now r given read h needs = (
 pub done_by_answer : (n : Next) (old new : Reader) → Answers n old new → n ≡ next.End → IsDone new
 done_by_answer next.Line old new a e = cc
 done_by_answer next.Long old new a e = cc
-done_by_answer next.End old new a e = a.stands
-done_by_answer next.ReadFault old new a e = absurd a.stands
+done_by_answer next.End old new a e = a.at
+done_by_answer next.ReadFault old new a e = absurd a.at
 done_by_answer next.Limit old new a e = cc
 
 left_done : (old : Reader) → IsDone old → lines_left old.passing (old.held ++ []) ≡ []
@@ -230,14 +230,14 @@ pub again_by_answer : (n : Next) (old new : Reader) → Answers n old new → Is
 again_by_answer next.Line old new a done = absurd (no_line_done old new (Content new.line) done a.moves)
 again_by_answer next.Long old new a done = absurd (no_line_done old new Long done a.moves)
 again_by_answer next.End old new a done = refl
-again_by_answer next.ReadFault old new a done = absurd a.stands
-again_by_answer next.Limit old new a done = absurd (false≢true (sym a.stands.1 ∙ a.moves.ended ∙ done.ended))
+again_by_answer next.ReadFault old new a done = absurd a.at
+again_by_answer next.Limit old new a done = absurd (false≢true (sym a.at.1 ∙ a.moves.ended ∙ done.ended))
 
 pub no_fault : (n : Next) (old new : Reader) → Answers n old new → n ≡ next.ReadFault → ⊥
 no_fault next.Line old new a e = cc
 no_fault next.Long old new a e = cc
 no_fault next.End old new a e = cc
-no_fault next.ReadFault old new a e = absurd a.stands
+no_fault next.ReadFault old new a e = absurd a.at
 no_fault next.Limit old new a e = cc
 
 -- ---- the turns of a call
@@ -266,12 +266,12 @@ sparing_more got more whole small =
 pub sparing_same : (got : List ℕ) → IsSparing got → IsSparing (got ++ [])
 sparing_same got sparing = subst IsSparing (sym (append-nil got)) sparing
 
-pub no_feed_behind : (front rest : List ℕ) → HasNoFeed (front ++ rest) → HasNoFeed rest
-no_feed_behind [] rest h = h
-no_feed_behind (b ∷ front) rest h = no_feed_behind front rest (no_feed_tail b (front ++ rest) h)
+pub no_feed_after : (prefix rest : List ℕ) → HasNoFeed (prefix ++ rest) → HasNoFeed rest
+no_feed_after [] rest h = h
+no_feed_after (b ∷ prefix) rest h = no_feed_after prefix rest (no_feed_tail b (prefix ++ rest) h)
 
 pub no_feed_more : (held got more now : List ℕ) → now ≡ held ++ more → HasNoFeed got → HasNoFeed now → HasNoFeed (got ++ more)
-no_feed_more held got more now same whole h = no_feed_append got more whole (no_feed_behind held more (subst HasNoFeed same h))
+no_feed_more held got more now same whole h = no_feed_append got more whole (no_feed_after held more (subst HasNoFeed same h))
 
 pub not_needed : (r : Reader) → IsDone r → ¬ (NeedsMore r)
 not_needed r done needs = false≢true (sym needs.going ∙ done.ended)

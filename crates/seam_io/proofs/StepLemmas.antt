@@ -4,7 +4,7 @@ use Rattle.std.specs.Prelude.{if◌then◌else◌}
 use Rattle.std.proofs.lemmas.List.{length-drop, take_all, drop_all}
 use Rattle.seam_io.specs.Lines.{Line, Long, line_of, lines_of, lines_left, HasNoFeed}
 use Rattle.seam_io.specs.Reading.{Reader, budget, lines_given}
-use Rattle.seam_io.specs.Steps.{IsFeedAt, LetsGo, StandsAt, Answers, Waits}
+use Rattle.seam_io.specs.Steps.{IsFeedAt, LetsGo, IsAt, Answers, Waits}
 use Rattle.seam_io.specs.declared.lines.Next.{Next}
 use Rattle.seam_io.specs.declared.lines.Next.TheVariants as next
 use Rattle.seam_io.proofs.LineLemmas.{no_feed_none, lines_of-none, left_let_go, left_fed, left_last}
@@ -24,19 +24,19 @@ flag_bound : (p : Bool) → cond {A = ℕ} p 1 0 ≤ 1
 flag_bound true = omega arith
 flag_bound false = omega arith
 
-spent_front : (a held rest : ℕ) (p : Bool) → rest ≡ 0 → (p ≡ true) ⊎ (4096 < held) → a + rest + 1 ≤ a + held + cond {A = ℕ} p 1 0
-spent_front a held rest p none (inl passing) = let e = flag_at true p passing in omega arith
-spent_front a held rest p none (inr long) = let e = flag_bound p in omega arith
+spent_prefix : (a held rest : ℕ) (p : Bool) → rest ≡ 0 → (p ≡ true) ⊎ (4096 < held) → a + rest + 1 ≤ a + held + cond {A = ℕ} p 1 0
+spent_prefix a held rest p none (inl passing) = let e = flag_at true p passing in omega arith
+spent_prefix a held rest p none (inr long) = let e = flag_bound p in omega arith
 
--- the front of a line that is too long is let go
-pub front_let_go : (old : Reader) (rest line : List ℕ) → HasNoFeed old.held → (old.passing ≡ true) ⊎ (4096 < length old.held) → rest ≡ [] → line ≡ []
+-- the prefix of a line that is too long is let go
+pub prefix_let_go : (old : Reader) (rest line : List ℕ) → HasNoFeed old.held → (old.passing ≡ true) ⊎ (4096 < length old.held) → rest ≡ [] → line ≡ []
     → LetsGo old (record old { held = rest; passing = true; line = line })
-front_let_go old rest line whole long none empty = record {
+prefix_let_go old rest line whole long none empty = record {
   moves = record {
     ended = refl;
     taken = refl;
     limit = refl;
-    spent = omega (arith, spent_front (old.limit - old.taken) (length old.held) (length rest) old.passing (ap length none) long);
+    spent = omega (arith, spent_prefix (old.limit - old.taken) (length old.held) (length rest) old.passing (ap length none) long);
     lines = λ more allowed. left_let_go old.passing old.held more whole long ∙ ap (λ bs. lines_left true (bs ++ more)) (sym none);
   };
   whole = subst HasNoFeed (sym none) no_feed_none;
@@ -55,12 +55,12 @@ nothing_let_go old line whole short empty = record {
 
 -- ---- a line is given
 
-stands_line : (n : Next) (r : Reader) (text : Line) → lines_given n r.line ≡ text ∷ [] → StandsAt n r
-stands_line next.Line r text gave = tt
-stands_line next.Long r text gave = tt
-stands_line next.End r text gave = cc
-stands_line next.ReadFault r text gave = cc
-stands_line next.Limit r text gave = cc
+at_line : (n : Next) (r : Reader) (text : Line) → lines_given n r.line ≡ text ∷ [] → IsAt n r
+at_line next.Line r text gave = tt
+at_line next.Long r text gave = tt
+at_line next.End r text gave = cc
+at_line next.ReadFault r text gave = cc
+at_line next.Limit r text gave = cc
 
 -- the first bytes of what is held are a line
 pub line_given : (n : Next) (old new : Reader) (text : Line) (gone : ℕ) → new ≡ record old { held = drop gone old.held; passing = false; line = new.line }
@@ -77,7 +77,7 @@ line_given n old new text gone same gave empty within some law = record {
     lines = λ more allowed. law more allowed ∙ ap (λ ls. ls ++ lines_of (drop gone old.held ++ more)) (sym gave)
         ∙ ap (λ (r : Reader). lines_given n new.line ++ lines_left r.passing (r.held ++ more)) (sym same);
   };
-  stands = stands_line n new text gave;
+  at = at_line n new text gave;
   line = empty;
 }
   where
@@ -115,11 +115,11 @@ last_given n old new len size whole ended some same gave empty =
 pub end_found : (old : Reader) → old.ended ≡ true → old.held ≡ [] → old.passing ≡ false → old.line ≡ [] → Answers next.End old old
 end_found old ended none passing empty = record {
   moves = record { ended = refl; taken = refl; limit = refl; spent = omega arith; lines = λ more allowed. refl };
-  stands = record { ended = ended; none = none; passing = passing };
+  at = record { ended = ended; none = none; passing = passing };
   line = λ _. empty;
 }
 
--- an answer after the front of a long line was let go
+-- an answer after the prefix of a long line was let go
 pub answers_after : (n : Next) (old mid new : Reader) → LetsGo old mid → Answers n mid new → Answers n old new
 answers_after n old mid new lets answers = record {
   moves = record {
@@ -130,13 +130,13 @@ answers_after n old mid new lets answers = record {
     lines = λ more allowed.
         lets.moves.lines more allowed ∙ answers.moves.lines more (λ ended. allowed (sym lets.moves.ended ∙ ended));
   };
-  stands = answers.stands;
+  at = answers.at;
   line = answers.line;
 }
 
 -- as many bytes as may be were taken
 pub limit_reached : (old mid : Reader) → LetsGo old mid → mid.ended ≡ false → mid.taken ≡ mid.limit → Answers next.Limit old mid
-limit_reached old mid lets going full = record { moves = lets.moves; stands = (lets.whole, going, full); line = λ _. lets.line }
+limit_reached old mid lets going full = record { moves = lets.moves; at = (lets.whole, going, full); line = λ _. lets.line }
 
 -- more bytes are wanted
 pub more_wanted : (old mid : Reader) → HasNoFeed old.held → LetsGo old mid → mid.ended ≡ false → mid.taken < mid.limit → Waits old mid

@@ -16,13 +16,13 @@ is_feed byte = byte == 10
 abbrev pub line_of : List ℕ → Line
 line_of text = if nat_lt 4096 (length text) then Long else Content (strip_carriage_return text)
 
--- the lines of the texts round the line feeds: the last one has no line feed behind it, and is no line where it is empty
+-- the lines of the texts round the line feeds: the last one has no line feed after it, and is no line where it is empty
 abbrev pub lines_between : List (List ℕ) → List Line
 lines_between [] = []
 lines_between (text ∷ []) = if length text == 0 then [] else line_of text ∷ []
 lines_between (text ∷ next ∷ more) = line_of text ∷ lines_between (next ∷ more)
 
--- the lines of the texts round the line feeds that have a line feed behind them
+-- the lines of the texts round the line feeds that have a line feed after them
 abbrev pub whole_between : List (List ℕ) → List Line
 whole_between [] = []
 whole_between (text ∷ []) = []
@@ -40,6 +40,6 @@ whole_lines_of bytes = whole_between (slice_split is_feed bytes)
 abbrev pub HasNoFeed : List ℕ → Type 0
 HasNoFeed bytes = All (λ byte. is_feed byte ≡ false) bytes
 
--- the lines of what is left of an input, of which the front of a line that is too long may be gone
+-- the lines of what is left of an input, of which the prefix of a line that is too long may be gone
 abbrev pub lines_left : Bool → List ℕ → List Line
 lines_left passing bytes = if passing then Long ∷ lines_of (after_first is_feed bytes) else lines_of bytes

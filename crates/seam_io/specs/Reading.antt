@@ -7,7 +7,7 @@ use Rattle.seam_io.specs.Lines.{Line, Content, Long, lines_of, whole_lines_of, l
 use Rattle.seam_io.specs.declared.lines.Next.{Next}
 use Rattle.seam_io.specs.declared.lines.Next.TheVariants as next
 
--- A reader of lines: the bytes that it took and did not give, whether the front of a line that is too long is gone
+-- A reader of lines: the bytes that it took and did not give, whether the prefix of a line that is too long is gone
 -- from them, whether the source said that it is at its end, how many bytes it took and may take, and the line that it
 -- gave last.
 pub record Reader : Type 0 where

@@ -20,28 +20,28 @@ pub record Moves (old new : Reader) (gave : List Line) : Type 0 where
   pub lines : (more : List ℕ) → (old.ended ≡ true → more ≡ []) →
       lines_left old.passing (old.held ++ more) ≡ gave ++ lines_left new.passing (new.held ++ more)
 
--- a reader that holds no line feed let go the front of a line that is too long, or nothing
+-- a reader that holds no line feed let go the prefix of a line that is too long, or nothing
 pub record LetsGo (old new : Reader) : Type 0 where
   pub moves : Moves old new []
   pub whole : HasNoFeed new.held
   pub short : length new.held ≤ 4096
   pub line : new.line ≡ []
 
--- how a reader stands at an answer that no read is needed for
-abbrev pub StandsAt : Next → Reader → Type 0
-StandsAt next.Line r = Unit {0}
-StandsAt next.Long r = Unit {0}
-StandsAt next.End r = IsDone r
-StandsAt next.ReadFault r = ⊥
-StandsAt next.Limit r = HasNoFeed r.held × (r.ended ≡ false) × (r.taken ≡ r.limit)
+-- how a reader is at an answer that no read is needed for
+abbrev pub IsAt : Next → Reader → Type 0
+IsAt next.Line r = Unit {0}
+IsAt next.Long r = Unit {0}
+IsAt next.End r = IsDone r
+IsAt next.ReadFault r = ⊥
+IsAt next.Limit r = HasNoFeed r.held × (r.ended ≡ false) × (r.taken ≡ r.limit)
 
 -- an answer that no read is needed for
 pub record Answers (answer : Next) (old new : Reader) : Type 0 where
   pub moves : Moves old new (lines_given answer new.line)
-  pub stands : StandsAt answer new
+  pub at : IsAt answer new
   pub line : answer ≢ next.Line → new.line ≡ []
 
--- a reader that needs a read, before and after it let the front of a long line go
+-- a reader that needs a read, before and after it let the prefix of a long line go
 pub record Waits (old new : Reader) : Type 0 where
   pub before : NeedsMore old
   pub after : NeedsMore new

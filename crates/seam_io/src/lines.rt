@@ -41,10 +41,10 @@ pub struct Lines {
     start: usize,
     seen: usize,
     end: usize,
-    // Where the content of the line that was given stands.
+    // Where the content of the line that was given is.
     line_start: usize,
     line_end: usize,
-    // The front of a line that is too long was let go.
+    // The prefix of a line that is too long was let go.
     passing: bool,
     ended: bool,
     taken: u64,
@@ -94,7 +94,7 @@ fn read_at<S: Source>(
     source.read(&mut buffer[at..at + want])
 }
 
-// Moves the part of the buffer between two places to its front, and reads at most `want` bytes behind it.
+// Moves the part of the buffer between two places to its start, and reads at most `want` bytes after it.
 fn refill<S: Source>(
     buffer: &mut Vec<u8>,
     start: usize,
@@ -213,7 +213,7 @@ impl Lines {
         None
     }
 
-    // How many bytes stand before the first line feed that is held.
+    // How many bytes come before the first line feed that is held.
     fn find_feed(&self) -> Option<usize>
         ensures { MatchOption result (HasNoFeed self.now.held) (IsFeedAt self.now.held) }
     {
@@ -223,7 +223,7 @@ impl Lines {
         }
     }
 
-    // Gives the line of the first `len` bytes that are held, and lets `skip` bytes behind them go.
+    // Gives the line of the first `len` bytes that are held, and lets `skip` bytes after them go.
     fn give(&mut self, len: usize, skip: usize) -> Next
         requires { len + skip ≤ length self.old.held }
         ensures rest { self.new ≡ record self.old { held = drop (len + skip) self.old.held; passing = false; line = self.new.line } }
@@ -245,7 +245,7 @@ impl Lines {
         Next::Line
     }
 
-    // Lets what is held go where it is the front of a line that is too long.
+    // Lets what is held go where it is the prefix of a line that is too long.
     fn let_go(&mut self)
         requires { HasNoFeed self.old.held }
         ensures { LetsGo self.old self.new }

@@ -44,7 +44,7 @@ impl MemSource {
     /// A source that gives `bytes`.
     ///
     /// Its k-th read gives at most `cuts[k - 1]` bytes, where a cut of 0 counts as 1, and without such an entry as many
-    /// as fit. The reads whose numbers stand in `fails`, counted from 1, fail.
+    /// as fit. The reads whose numbers are in `fails`, counted from 1, fail.
     pub fn new(bytes: Vec<u8>, cuts: Vec<u32>, fails: Vec<u64>) -> Self
         ensures { result ≡ record { left = bytes.items; cuts = cuts.items; fails = fails.items; reads = 0; faults = 0; ends = 0 } }
     {
@@ -136,7 +136,7 @@ impl Model for MemSink {
 impl MemSink {
     /// A sink with room for `limit` bytes, which is taken here.
     ///
-    /// A write takes what still fits. It fails where nothing fits, or where its number, counted from 1, stands in
+    /// A write takes what still fits. It fails where nothing fits, or where its number, counted from 1, is in
     /// `fails`. The error is want of memory.
     pub fn new(alloc: Global, limit: u32, fails: Vec<u64>) -> Result<Self, AllocError>
         ensures { IfOk result (λ s. s ≡ record { bytes = []; limit = limit; fails = fails.items; writes = 0; faults = 0 }) }

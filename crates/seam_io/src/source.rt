@@ -22,7 +22,7 @@ pub trait Source {
     /// The bytes that are left to read, where the source tells them, and how often a read has failed and has found the end.
     ghost state: { Self → SourceState };
 
-    /// Takes the next bytes, at least one and at most as many as `buf` has room for, to the front of `buf`.
+    /// Takes the next bytes, at least one and at most as many as `buf` has room for, to the start of `buf`.
     ///
     /// `Ok(0)` is the end of the input: no byte is left, and the count of ends rose. `Failed` takes nothing, and comes
     /// only where the count of faults rose.

@@ -4,7 +4,7 @@ use std::io;
 use std::io::{ErrorKind, Read, Write};
 use std::test::Fail;
 
-// The answers of a reader of lines up to the end or the limit, and the one after it, each with a bar behind it.
+// The answers of a reader of lines up to the end or the limit, and the one after it, each with a bar after it.
 fn told<S: Source>(alloc: Global, limit: u64, source: &mut S) -> Result<Vec<u8>, AllocError> {
     let mut lines = Lines::new(alloc, limit)?;
     let mut text = Vec::new(alloc);

@@ -71,7 +71,8 @@ pub fn push_home(out: &mut Vec<u8>, defs: &Defs, line: &HomeLine) -> Result<(), 
     push_field(out, line.version)?;
     push_field(out, u64::from(line.state.pos.x))?;
     push_field(out, u64::from(line.state.pos.z))?;
-    defs.type_at(line.ty).write_props(Group::Real, &line.state.props, out)?;
+    defs.type_at(line.ty)
+        .write_props(Group::Real, &line.state.props, out)?;
     out.extend_from_slice(b"\n")
 }
 
@@ -83,6 +84,7 @@ pub fn push_base(out: &mut Vec<u8>, defs: &Defs, line: &BaseLine) -> Result<(), 
     out.extend_from_slice(b"base ")?;
     push_number(out, u64::from(line.entity))?;
     push_field(out, line.version)?;
-    defs.type_at(line.ty).write_props(Group::Base, line.props, out)?;
+    defs.type_at(line.ty)
+        .write_props(Group::Base, line.props, out)?;
     out.extend_from_slice(b"\n")
 }

@@ -102,11 +102,11 @@ impl Entity {
     // A base node's next call for the cell part of the entity, which has this number.
     fn next_call(&self, entity: u32, node: BaseNode, deed: Deed) -> Call
         ensures { result ≡ record {
-            entity = entity;
-            part = Part.Cell;
-            sender = Sender.Base node;
-            number = min (slice_index self.now.cell.last (node - 1) + 1) (2 ^ 64 - 1);
-            deed = deed;
+          entity = entity;
+          part = Part.Cell;
+          sender = Sender.Base node;
+          number = min (slice_index self.now.cell.last (node - 1) + 1) (2 ^ 64 - 1);
+          deed = deed;
         } }
     {
         let number = self.cell.next_number(node);
@@ -227,7 +227,12 @@ impl Table {
             return Ok(None);
         };
         let defs = &self.header.defs;
-        match deed_named(self.alloc, defs.type_at(called.ty), words.method_name, words.arguments)? {
+        match deed_named(
+            self.alloc,
+            defs.type_at(called.ty),
+            words.method_name,
+            words.arguments,
+        )? {
             Some(deed) => Ok(Some(called.next_call(entity, node, deed))),
             None => Ok(None),
         }
@@ -269,7 +274,11 @@ impl Table {
     fn start_state(&self, create: Create, part: Part) -> Result<State, AllocError>
         ensures { IfOk result (λ s. s ≡ first_state self.now.header part create) }
     {
-        let props = self.header.defs.type_at(create.ty).start_props(part.held())?;
+        let props = self
+            .header
+            .defs
+            .type_at(create.ty)
+            .start_props(part.held())?;
         Ok(State {
             pos: create.pos,
             props,

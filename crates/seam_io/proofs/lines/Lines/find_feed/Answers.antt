@@ -10,20 +10,20 @@ returns-in-Some c =
     let is = c.self.invariant in
     let fits = c.self.inside.buffer.ok.0 in
     let bytes = c.self.inside.buffer.items in
-    let front = slice_range bytes c.self.inside.start c.self.inside.seen in
+    let prefix = slice_range bytes c.self.inside.start c.self.inside.seen in
     let rest = slice_range bytes c.self.inside.seen c.self.inside.end in
-    let size : length front ≡ c.self.inside.seen - c.self.inside.start = range_size bytes _ _ is.start (omega arith) in
-    let held : slice_range bytes c.self.inside.start c.self.inside.end ≡ front ++ rest = range_split bytes _ _ _ is.start is.seen in
+    let size : length prefix ≡ c.self.inside.seen - c.self.inside.start = range_size bytes _ _ is.start (omega arith) in
+    let held : slice_range bytes c.self.inside.start c.self.inside.end ≡ prefix ++ rest = range_split bytes _ _ _ is.start is.seen in
     let answer = rw c.deref.ensures.value at c.in-Some.ensures in
-    rw (← c.self.view_is) (found _ front rest _ c.in-Some.place held size is.feedless answer.0 answer.1)
+    rw (← c.self.view_is) (found _ prefix rest _ c.in-Some.place held size is.feedless answer.0 answer.1)
 
 pub returns-in-None : goal.returns-in-None
 returns-in-None c =
     let is = c.self.invariant in
     let fits = c.self.inside.buffer.ok.0 in
     let bytes = c.self.inside.buffer.items in
-    let front = slice_range bytes c.self.inside.start c.self.inside.seen in
+    let prefix = slice_range bytes c.self.inside.start c.self.inside.seen in
     let rest = slice_range bytes c.self.inside.seen c.self.inside.end in
-    let held : slice_range bytes c.self.inside.start c.self.inside.end ≡ front ++ rest = range_split bytes _ _ _ is.start is.seen in
+    let held : slice_range bytes c.self.inside.start c.self.inside.end ≡ prefix ++ rest = range_split bytes _ _ _ is.start is.seen in
     let answer = rw c.deref.ensures.value at c.in-None.ensures in
-    subst (λ (r : Reader). HasNoFeed r.held) c.self.view_is (subst HasNoFeed (sym held) (not_found front rest is.feedless answer))
+    subst (λ (r : Reader). HasNoFeed r.held) c.self.view_is (subst HasNoFeed (sym held) (not_found prefix rest is.feedless answer))

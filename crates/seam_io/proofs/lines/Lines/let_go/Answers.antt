@@ -3,7 +3,7 @@ use Rattle.std.specs.Prelude.{slice_range}
 use Rattle.seam_io.specs.Lines.{HasNoFeed}
 use Rattle.seam_io.specs.Reading.{Reader}
 use Rattle.seam_io.proofs.RangeLemmas.{range_size, range_empty}
-use Rattle.seam_io.proofs.StepLemmas.{front_let_go, nothing_let_go}
+use Rattle.seam_io.proofs.StepLemmas.{prefix_let_go, nothing_let_go}
 use Rattle.seam_io.proofs.lines.Lines.let_go.Goals as goal
 use Rattle.seam_io.proofs.lines.Lines.let_go.Goals.{then-self-via-then-self, then-self-via-else-self+then-self-gt-LONGEST}
 
@@ -15,7 +15,7 @@ returns-then-self c =
     range_size _ _ _ (omega arith) (omega arith) in
     let long : (c.self.inside.passing ≡ true) ⊎ (4096 < length (slice_range c.self.inside.buffer.items c.self.inside.start c.self.inside.end)) =
     elim c.then-self.branch [ then-self-via-then-self w ↦ inl w.if-self.true | then-self-via-else-self+then-self-gt-LONGEST w ↦ inr (let longer = w.if-self-gt-LONGEST.true in omega arith) ] in
-    rw (← c.self.view_is) (front_let_go _ _ _ (subst (λ (r : Reader). HasNoFeed r.held) (sym c.self.view_is) c.requires) long (range_empty c.self.inside.buffer.items c.self.inside.end) refl)
+    rw (← c.self.view_is) (prefix_let_go _ _ _ (subst (λ (r : Reader). HasNoFeed r.held) (sym c.self.view_is) c.requires) long (range_empty c.self.inside.buffer.items c.self.inside.end) refl)
 
 pub returns-else-self-gt-LONGEST : goal.returns-else-self-gt-LONGEST
 returns-else-self-gt-LONGEST c =

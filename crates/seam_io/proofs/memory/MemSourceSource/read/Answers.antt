@@ -1,7 +1,7 @@
 use Rattle.std.proofs.Common.{◌≡◌, ◌≤◌, length, arith, rules, ap, sym}
 use Rattle.std.proofs.lemmas.List.{drop_all}
 use Rattle.seam_io.specs.MemSource.{Supply, cut_of}
-use Rattle.seam_io.proofs.Copies.{copied_front, share_of_parts}
+use Rattle.seam_io.proofs.Copies.{copied_prefix, share_of_parts}
 use Rattle.seam_io.proofs.memory.MemSourceSource.read.Goals as goal
 
 pub returns-then-count-eq0-clause-bytes : goal.returns-then-count-eq0-clause-bytes
@@ -24,7 +24,7 @@ returns-clause-bytes c =
     let within = c.self.invariant in
     let size = c.self.inside.bytes.ok.0 in
     rw (← c.self.view_is) (
-      copied_front c.self.inside.bytes.items c.args.buf.now c.copy_from_slice.new.self c.self.inside.at c.min-count.result (search rules) (omega arith),
+      copied_prefix c.self.inside.bytes.items c.args.buf.now c.copy_from_slice.new.self c.self.inside.at c.min-count.result (search rules) (omega arith),
       λ none. absurd (omega arith),
     )
 
