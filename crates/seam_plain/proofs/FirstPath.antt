@@ -1,5 +1,5 @@
 -- A small input with calls: an avatar is made, hit and healed.
-use Rattle.std.proofs.Common.{◌≡◌, ◌≢◌, ◌↔◌, ap, ◌∙◌, ◌+◌, ◌<◌, ℕ, pos, Bool, true, false, List, [], ◌∷◌, ◌++◌, length, get_or, refl, sym, subst, arith, rules, lit≤, append-nil, Some, None, cond, zero, suc}
+use Rattle.std.proofs.Common.{◌≡◌, ◌↔◌, ap, ◌∙◌, ◌+◌, ◌<◌, ℕ, pos, Bool, true, false, List, [], ◌∷◌, ◌++◌, length, get_or, refl, sym, subst, arith, rules, lit≤, Some, None, cond, zero, suc}
 use Rattle.std.specs.Prelude.{codes, Contains, ◌==◌, nat_lt}
 use Rattle.std.specs.Str.{IsUtf8}
 use Rattle.std.specs.List.{list_all}
@@ -27,13 +27,12 @@ use Rattle.seam_call.specs.declared.create.Create.{Create}
 use Rattle.seam_transcript.specs.Language as language
 use Rattle.seam_transcript.specs.Header.{separator}
 use Rattle.seam_defs.specs.Types.{type_of}
-use Rattle.seam_transcript.specs.Book.{Book, empty_book, created_as, with_entry, IsBuilt, NamesCreate, NamesCall, Means, Judges}
-use Rattle.seam_transcript.specs.InOrder.{in_order, round_in_order, after_round}
-use Rattle.seam_transcript.specs.Standing.{Standing, after_header, with_line, with_book}
+use Rattle.seam_transcript.specs.Book.{Book, empty_book, created_as, with_entry, IsBuilt, Means}
+use Rattle.seam_transcript.specs.InOrder.{round_in_order, after_round}
+use Rattle.seam_transcript.specs.Standing.{Standing, after_header}
 use Rattle.seam_transcript.specs.Round.{Lists, RoundData, IsRound}
-use Rattle.seam_transcript.specs.Transcript.{Piece, Ended, text_of, Step, Run, IsEnded}
+use Rattle.seam_transcript.specs.Transcript.{Piece, Ended, text_of, Step, IsEnded}
 use Rattle.seam_transcript.specs.Senders.{CallIsFrom, CallsAreFrom}
-use Rattle.seam_transcript.specs.declared.verdict.Entry.{Entry}
 use Rattle.seam_transcript.specs.declared.verdict.Entry.TheVariants as entry
 use Rattle.seam_transcript.specs.declared.verdict.Verdict.TheVariants as verdict
 use Rattle.seam_transcript.proofs.SkipLemmas.{has_words_after_gap}

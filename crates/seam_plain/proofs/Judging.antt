@@ -1,5 +1,5 @@
 -- What the plain program answers of commands.
-use Rattle.std.proofs.Common.{◌≡◌, ◌≢◌, ◌+◌, ℕ, List, length, refl, sym, ◌∙◌, ap, subst, Option, Some, None}
+use Rattle.std.proofs.Common.{◌≡◌, ◌≢◌, ◌+◌, ℕ, List, length, refl, sym, ◌∙◌, ap, subst, Some, None}
 use Rattle.std.proofs.lemmas.Option.{none-some, same_Some}
 use Rattle.seam_value.specs.NumberWords.{SpellsPositive}
 use Rattle.seam_value.proofs.NumberWords.{spells_one_number}

@@ -1,5 +1,5 @@
 -- The pieces of a round's text, one after another.
-use Rattle.std.proofs.Common.{◌≡◌, ℕ, List, ◌++◌, refl, sym, ap, ◌∙◌, append_assoc}
+use Rattle.std.proofs.Common.{◌≡◌, ℕ, List, ◌++◌, ap, ◌∙◌, append_assoc}
 use Rattle.std.specs.Prelude.{codes, map, filter}
 use Rattle.std.specs.List.{flat_map}
 use Rattle.seam_defs.specs.declared.flags.Part.TheVariants as part

@@ -1,5 +1,5 @@
 -- What the plain program's turns do.
-use Rattle.std.proofs.Common.{◌≡◌, ◌≢◌, ◌+◌, ◌<◌, ◌≤◌, ◌^◌, ℕ, Bool, true, false, List, [], ◌∷◌, ◌++◌, length, map, refl, sym, ap, ◌∙◌, subst, arith, append-nil, append_assoc, length-append}
+use Rattle.std.proofs.Common.{◌≡◌, ◌≢◌, ◌+◌, ◌<◌, ◌≤◌, ◌^◌, ℕ, Bool, true, false, List, [], ◌∷◌, ◌++◌, length, refl, sym, ap, ◌∙◌, subst, arith, append-nil, length-append}
 use Rattle.std.specs.Prelude.{MatchBool, ◌==◌}
 use Rattle.std.proofs.lemmas.Grind.{common_steps}
 use Rattle.std.proofs.lemmas.Bool.{false≢true}
@@ -14,13 +14,12 @@ use Rattle.seam_transcript.specs.declared.verdict.Entry.{Entry}
 use Rattle.seam_transcript.specs.declared.verdict.Cause.{Cause}
 use Rattle.seam_transcript.specs.declared.verdict.Verdict.{Verdict}
 use Rattle.seam_transcript.specs.declared.verdict.Verdict.TheVariants as verdict
-use Rattle.seam_transcript.specs.Book.{Book, entries, created_as, open_lines, with_entry, with_round_ended, Judges}
-use Rattle.seam_transcript.specs.Standing.{Standing, with_line, with_book}
+use Rattle.seam_transcript.specs.Book.{created_as, open_lines, with_entry, Judges}
+use Rattle.seam_transcript.specs.Standing.{Standing, with_book}
 use Rattle.seam_transcript.specs.InOrder.{in_order, round_in_order, after_round}
-use Rattle.seam_transcript.specs.Orders.{Orders}
 use Rattle.seam_transcript.specs.Round.{Lists, RoundData, IsRound}
 use Rattle.seam_transcript.specs.Texts.{refusal, round_text}
-use Rattle.seam_transcript.specs.Transcript.{Piece, Refusal, Ended, text_of, EndsRound, most_lines, Follows, EndsInput}
+use Rattle.seam_transcript.specs.Transcript.{Piece, Refusal, Ended, text_of, EndsRound, most_lines, EndsInput}
 use Rattle.seam_transcript.proofs.InOrderLemmas.{round_in_order_is_legal}
 use Rattle.seam_plain.specs.Plain.{book_of, standing_of, IsBetween, HasCounted, RoundEnds, VerdictFollowed, LineRead}
 use Rattle.seam_plain.specs.declared.plain.Plain.{Plain}
@@ -155,9 +154,11 @@ pub last_round : (h : Header) (old new : Plain) (text : List ℕ) → old.curren
     → (last : List Piece) × EndsInput h (standing_of old) last × (text ≡ text_of h.defs last)
 last_round h old new text some ends =
     let pieces : List Piece = Ended (standing_of old) ends.round ∷ [] in
-    let test : (length old.current.items == 0) ≡ false = grind (arith, common_steps, not_zero old.current.items some) in
-    (pieces, subst (λ (b : Bool). MatchBool b (pieces ≡ []) ((next : Standing) × EndsRound h (standing_of old) pieces next)) (sym test) (standing_of new, (ends.round, refl, ends.legal)),
-    ends.whole ∙ sym (one_piece h (standing_of old) ends.round))
+    let test : (length old.current.items == 0) ≡ false = grind (arith, common_steps, not_zero old.current.items some) in (
+      pieces,
+      subst (λ (b : Bool). MatchBool b (pieces ≡ []) ((next : Standing) × EndsRound h (standing_of old) pieces next)) (sym test) (standing_of new, (ends.round, refl, ends.legal)),
+      ends.whole ∙ sym (one_piece h (standing_of old) ends.round),
+    )
   where
     not_zero : (xs : List Entry) → xs ≢ [] → length xs ≢ 0
     not_zero [] some is = some refl

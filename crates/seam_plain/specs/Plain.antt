@@ -1,10 +1,9 @@
 -- What the plain program holds and prints, by what was accepted.
-use Rattle.std.specs.Prelude.{◌≡◌, ℕ, ◌+◌, ◌<◌, ◌≤◌, ◌^◌, List, ◌++◌, length, map, filter, find, codes, ◌==◌}
-use Rattle.std.specs.List.{flat_map, filter_map}
+use Rattle.std.specs.Prelude.{◌≡◌, ℕ, ◌+◌, ◌<◌, ◌≤◌, ◌^◌, List, length, map, find, codes, ◌==◌}
+use Rattle.std.specs.List.{filter_map}
 use Rattle.seam_io.specs.Lines.{Line}
 use Rattle.seam_defs.specs.declared.flags.Part.{Part}
 use Rattle.seam_defs.specs.declared.flags.Part.TheVariants as part
-use Rattle.seam_call.specs.Calls.{is_for}
 use Rattle.seam_call.specs.declared.call.Call.{Call}
 use Rattle.seam_call.specs.declared.create.Create.{Create}
 use Rattle.seam_transcript.specs.declared.header.Header.{Header}
@@ -12,7 +11,7 @@ use Rattle.seam_transcript.specs.declared.verdict.Verdict.{Verdict}
 use Rattle.seam_transcript.specs.Book.{Book}
 use Rattle.seam_transcript.specs.Standing.{Standing}
 use Rattle.seam_transcript.specs.InOrder.{in_order}
-use Rattle.seam_transcript.specs.Round.{DoneLine, HomeLine, BaseLine, RoundData, IsRound, home_line, base_line}
+use Rattle.seam_transcript.specs.Round.{DoneLine, RoundData, IsRound}
 use Rattle.seam_transcript.specs.Texts.{round_text}
 use Rattle.seam_transcript.specs.Transcript.{Piece, text_of, most_lines, Follows, Step}
 use Rattle.seam_plain.specs.declared.plain.Plain.{Plain}

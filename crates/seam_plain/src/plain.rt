@@ -99,12 +99,7 @@ impl Plain {
     }
 
     // Reads the text of the next line, and appends what is printed for it.
-    fn read(
-        &mut self,
-        header: &Header,
-        text: &[u8],
-        out: &mut Vec<u8>,
-    ) -> Result<(), AllocError>
+    fn read(&mut self, header: &Header, text: &[u8], out: &mut Vec<u8>) -> Result<(), AllocError>
         requires { IsBetween self.now × (self.now.lines < 2 ^ 61) }
         ensures { OnOk result ((printed : List ℕ) × (out.new.items ≡ out.old.items ++ printed)
             × LineRead header.now (line_of text.now) self.old self.new printed) }
@@ -226,7 +221,12 @@ impl Plain {
         let Some(called) = created_as(&creates, entity) else {
             return Ok(None);
         };
-        match deed_named(self.alloc, header.defs.type_at(called.ty), words.method_name, words.arguments)? {
+        match deed_named(
+            self.alloc,
+            header.defs.type_at(called.ty),
+            words.method_name,
+            words.arguments,
+        )? {
             Some(deed) => {
                 let number = self.next_number(entity, node)?;
                 Ok(Some(Call {

@@ -145,7 +145,10 @@ fn state_of(
         props,
     };
     for call in calls {
-        let _changed = header.defs.type_at(create.ty).apply(&mut state, &call.deed)?;
+        let _changed = header
+            .defs
+            .type_at(create.ty)
+            .apply(&mut state, &call.deed)?;
     }
     Ok(state)
 }

@@ -1,4 +1,4 @@
-use Rattle.std.proofs.Common.{◌≡◌, take, map}
+use Rattle.std.proofs.Common.{◌≡◌, map}
 use Rattle.seam_transcript.specs.FlatTable.{flat}
 use Rattle.seam_plain.proofs.round.state_of.Given as goal
 
