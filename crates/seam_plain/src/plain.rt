@@ -1,5 +1,6 @@
 // The plain program beside the definitions: it keeps what was accepted in plain lists, and computes each round anew.
-ghost use Rattle.std.specs.Prelude.{◌≡◌, ◌≢◌, ◌<◌, ◌≤◌, ◌^◌, ◌+◌, ◌++◌, ◌↔◌, ℕ, IsTrue, List, length, map, OnOk, IfOk, MatchOption, MatchBool};
+ghost use Rattle.std.specs.Prelude.{◌≡◌, ◌≢◌, ◌<◌, ◌≤◌, ◌^◌, ◌+◌, ◌++◌, ◌↔◌, ℕ, IsTrue, List, length, map};
+ghost use Rattle.std.specs.Prelude.{OnOk, IfOk, MatchOption, MatchBool};
 ghost use Rattle.std.specs.List.{slice_split};
 ghost use Rattle.std.specs.Str.Lines.{strip_carriage_return};
 ghost use Rattle.seam_io.specs.Lines.{Line, Content, is_feed, line_of, lines_of, lines_between};
@@ -7,7 +8,8 @@ ghost use Rattle.seam_call.specs.declared.call.Call.{Call as Calls};
 ghost use Rattle.seam_transcript.specs.declared.header.Header.{Header as Headers};
 ghost use Rattle.seam_transcript.specs.Header.{separator, BeginWithHeader};
 ghost use Rattle.seam_transcript.specs.Language.{Create as CreateCommand, Call as CallCommand};
-ghost use Rattle.seam_transcript.specs.Book.{entries, creates_of, calls_of, created_as as created_as_of, accepted, MayCreate, NamesCall, Judges};
+ghost use Rattle.seam_transcript.specs.Book.{entries, creates_of, calls_of, created_as as created_as_of, accepted};
+ghost use Rattle.seam_transcript.specs.Book.{MayCreate, NamesCall, Judges};
 ghost use Rattle.seam_transcript.specs.InOrder.{round_in_order};
 ghost use Rattle.seam_transcript.specs.Round.{Lists};
 ghost use Rattle.seam_transcript.specs.Texts.{round_text};
@@ -197,7 +199,8 @@ impl Plain {
     // method takes.
     fn judge_call(&self, header: &Header, words: &CallWords) -> Result<Verdict, AllocError>
         ensures { IfOk result (λ v. JudgesCommand header.now (book_of self.now)
-            (CallCommand words.now.sender_name.now words.now.entity.now words.now.method_name.now (texts_of_words words.now.arguments.now)) v) }
+            (CallCommand words.now.sender_name.now words.now.entity.now words.now.method_name.now
+            (texts_of_words words.now.arguments.now)) v) }
     {
         match self.call_named(header, words)? {
             Some(call) => Ok(Verdict::Accepted(Entry::Called(call))),
@@ -208,8 +211,10 @@ impl Plain {
     // The call that words name.
     fn call_named(&self, header: &Header, words: &CallWords) -> Result<Option<Call>, AllocError>
         ensures { IfOk result (λ named. MatchOption named
-            ((c : Calls) → ¬ (NamesCall header.now (book_of self.now) words.now.sender_name.now words.now.entity.now words.now.method_name.now (texts_of_words words.now.arguments.now) c))
-            (NamesCall header.now (book_of self.now) words.now.sender_name.now words.now.entity.now words.now.method_name.now (texts_of_words words.now.arguments.now))) }
+            ((c : Calls) → ¬ (NamesCall header.now (book_of self.now) words.now.sender_name.now words.now.entity.now
+            words.now.method_name.now (texts_of_words words.now.arguments.now) c))
+            (NamesCall header.now (book_of self.now) words.now.sender_name.now words.now.entity.now
+            words.now.method_name.now (texts_of_words words.now.arguments.now))) }
     {
         let Some(node) = base_named(words.sender_name, header.settings.bases) else {
             return Ok(None);
@@ -278,7 +283,8 @@ impl Plain {
     // Ends the open round, whose text is appended.
     fn end_round(&mut self, header: &Header, out: &mut Vec<u8>) -> Result<(), AllocError>
         requires { self.now.rounds < 2 ^ 62 }
-        ensures { OnOk result ((printed : List ℕ) × (out.new.items ≡ out.old.items ++ printed) × RoundEnds header.now self.old self.new printed) }
+        ensures { OnOk result ((printed : List ℕ) × (out.new.items ≡ out.old.items ++ printed)
+            × RoundEnds header.now self.old self.new printed) }
     {
         self.rounds += 1;
         self.push_round(header, out)?;
@@ -289,7 +295,8 @@ impl Plain {
     // Appends the text of the open round.
     fn push_round(&self, header: &Header, out: &mut Vec<u8>) -> Result<(), AllocError>
         ensures { OnOk result ((live : List Creates) × Lists (created_as_of (book_of self.now)) live
-            × (out.new.items ≡ out.old.items ++ round_text header.now.defs (round_in_order header.now self.now.rounds (book_of self.now) live))) }
+            × (out.new.items ≡ out.old.items
+            ++ round_text header.now.defs (round_in_order header.now self.now.rounds (book_of self.now) live))) }
     {
         let creates = self.creates()?;
         let live = live_of(self.alloc, &creates)?;

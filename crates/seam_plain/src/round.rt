@@ -1,5 +1,6 @@
 // The plain program's text of a round, which it computes anew from all that was accepted.
-ghost use Rattle.std.specs.Prelude.{◌≡◌, ◌==◌, ◌≤◌, ◌<◌, ◌^◌, ◌++◌, ◌∷◌, [], ℕ, List, find, filter, length, map, option_copied, codes, OnOk, IfOk, Contains};
+ghost use Rattle.std.specs.Prelude.{◌≡◌, ◌==◌, ◌≤◌, ◌<◌, ◌^◌, ◌++◌, ◌∷◌, [], ℕ, List, find, filter, length, map, option_copied, codes};
+ghost use Rattle.std.specs.Prelude.{OnOk, IfOk, Contains};
 ghost use Rattle.std.specs.List.{flat_map, cons_option};
 ghost use Rattle.std.specs.List.Sorted.{IsStrictlyIncreasing};
 ghost use Rattle.seam_call.specs.Calls.{is_for, is_from};
@@ -107,7 +108,8 @@ pub(crate) fn calls_from<'a>(
     entity: u32,
     sender: &Sender,
 ) -> Result<Vec<&'a Call>, AllocError>
-    ensures { IfOk result (λ sent. map (λ c. c.now) sent.items ≡ filter (is_from Part.Cell entity sender.now) (map (λ c. c.now) calls.now)) }
+    ensures { IfOk result (λ sent. map (λ c. c.now) sent.items
+        ≡ filter (is_from Part.Cell entity sender.now) (map (λ c. c.now) calls.now)) }
 {
     let mut sent = Vec::new(alloc);
     for call in calls {
@@ -122,7 +124,8 @@ fn add_sent<'a>(
     entity: u32,
     sender: &Sender,
 ) -> Result<(), AllocError>
-    ensures { OnOk result (map (λ c. c.now) sent.new.items ≡ map (λ c. c.now) sent.old.items ++ filter (is_from Part.Cell entity sender.now) (call.now ∷ [])) }
+    ensures { OnOk result (map (λ c. c.now) sent.new.items
+        ≡ map (λ c. c.now) sent.old.items ++ filter (is_from Part.Cell entity sender.now) (call.now ∷ [])) }
 {
     if call.is_from(Part::Cell, entity, *sender) {
         sent.push(call)?;
@@ -171,7 +174,8 @@ fn push_calls(
     ty: u16,
     calls: &[&Call],
 ) -> Result<(), AllocError>
-    ensures { OnOk result (out.new.items ≡ out.old.items ++ flat_map (done_text (word_of_part part) header.now.defs) (done_of ty (map (λ c. c.now) calls.now))) }
+    ensures { OnOk result (out.new.items ≡ out.old.items
+        ++ flat_map (done_text (word_of_part part) header.now.defs) (done_of ty (map (λ c. c.now) calls.now))) }
 {
     for call in calls {
         push_done(out, word_of(part), &header.defs, &DoneLine { ty, call })?;
@@ -188,7 +192,8 @@ pub(crate) fn push_all_calls(
     calls: &[&Call],
 ) -> Result<(), AllocError>
     ensures { OnOk result (out.new.items ≡ out.old.items
-        ++ flat_map (done_text (word_of_part part) header.now.defs) (done_lines (λ e. filter (is_for part e) (map (λ c. c.now) calls.now)) live.now)) }
+        ++ flat_map (done_text (word_of_part part) header.now.defs)
+        (done_lines (λ e. filter (is_for part e) (map (λ c. c.now) calls.now)) live.now)) }
 {
     for create in live {
         push_own_calls(out, header, part, *create, calls)?;
@@ -204,7 +209,8 @@ fn push_own_calls(
     calls: &[&Call],
 ) -> Result<(), AllocError>
     ensures { OnOk result (out.new.items ≡ out.old.items
-        ++ flat_map (done_text (word_of_part part) header.now.defs) (done_of create.ty (filter (is_for part create.entity) (map (λ c. c.now) calls.now)))) }
+        ++ flat_map (done_text (word_of_part part) header.now.defs)
+        (done_of create.ty (filter (is_for part create.entity) (map (λ c. c.now) calls.now)))) }
 {
     let own = own_calls(*out.allocator(), calls, part, create.entity)?;
     push_calls(out, header, part, create.ty, &own)
@@ -218,7 +224,8 @@ pub(crate) fn push_homes(
     calls: &[&Call],
 ) -> Result<(), AllocError>
     ensures { OnOk result (out.new.items ≡ out.old.items
-        ++ flat_map (home_text header.now.defs) (map (λ c. home_line header.now (filter (is_for Part.Cell c.entity) (map (λ x. x.now) calls.now)) c) live.now)) }
+        ++ flat_map (home_text header.now.defs)
+        (map (λ c. home_line header.now (filter (is_for Part.Cell c.entity) (map (λ x. x.now) calls.now)) c) live.now)) }
 {
     for create in live {
         push_home_of(out, header, *create, calls)?;
@@ -255,7 +262,8 @@ pub(crate) fn push_bases(
     calls: &[&Call],
 ) -> Result<(), AllocError>
     ensures { OnOk result (out.new.items ≡ out.old.items
-        ++ flat_map (base_text header.now.defs) (map (λ c. base_line header.now (filter (is_for Part.Base c.entity) (map (λ x. x.now) calls.now)) c) live.now)) }
+        ++ flat_map (base_text header.now.defs)
+        (map (λ c. base_line header.now (filter (is_for Part.Base c.entity) (map (λ x. x.now) calls.now)) c) live.now)) }
 {
     for create in live {
         push_base_of(out, header, *create, calls)?;
@@ -285,7 +293,8 @@ fn push_base_of(
 
 // The numbers of the entities, in rising order.
 fn numbers_of(alloc: Global, creates: &[Create]) -> Result<Vec<u32>, AllocError>
-    ensures { IfOk result (λ ns. IsStrictlyIncreasing ns.items × ((e : ℕ) → Contains (map (λ c. c.entity) creates.now) e → Contains ns.items e)) }
+    ensures { IfOk result (λ ns. IsStrictlyIncreasing ns.items
+        × ((e : ℕ) → Contains (map (λ c. c.entity) creates.now) e → Contains ns.items e)) }
 {
     let mut numbers = entities_of(alloc, creates)?;
     numbers.sort()?;
