@@ -1,5 +1,5 @@
 -- A small input with calls: an avatar is made, hit and healed.
-use Rattle.std.proofs.Common.{◌≡◌, ◌≢◌, ◌↔◌, ap, ◌∙◌, ◌+◌, ◌<◌, ℕ, pos, Bool, true, false, List, [], ◌∷◌, ◌++◌, length, get_or, refl, sym, subst, arith, rules, lit≤, append-nil, Some, None, cond, zero, suc}
+use Rattle.std.proofs.Common.{◌≡◌, ◌↔◌, ap, ◌∙◌, ◌+◌, ◌<◌, ℕ, pos, Bool, true, false, List, [], ◌∷◌, ◌++◌, length, get_or, refl, sym, subst, arith, rules, lit≤, Some, None, cond, zero, suc}
 use Rattle.std.specs.Prelude.{codes, Contains, ◌==◌, nat_lt}
 use Rattle.std.specs.Str.{IsUtf8}
 use Rattle.std.specs.List.{list_all}
@@ -26,13 +26,13 @@ use Rattle.seam_call.specs.declared.call.Call.{Call}
 use Rattle.seam_call.specs.declared.create.Create.{Create}
 use Rattle.seam_transcript.specs.Language as language
 use Rattle.seam_transcript.specs.Header.{separator}
-use Rattle.seam_transcript.specs.Book.{Book, empty_book, created_as, with_entry, IsBuilt, NamesCreate, NamesCall, Means, Judges}
-use Rattle.seam_transcript.specs.InOrder.{in_order, round_in_order, after_round}
-use Rattle.seam_transcript.specs.Standing.{Standing, after_header, with_line, with_book}
+use Rattle.seam_defs.specs.Types.{type_of}
+use Rattle.seam_transcript.specs.Book.{Book, empty_book, created_as, with_entry, IsBuilt, Means}
+use Rattle.seam_transcript.specs.InOrder.{round_in_order, after_round}
+use Rattle.seam_transcript.specs.Standing.{Standing, after_header}
 use Rattle.seam_transcript.specs.Round.{Lists, RoundData, IsRound}
-use Rattle.seam_transcript.specs.Transcript.{Piece, Ended, text_of, Step, Run, IsEnded}
+use Rattle.seam_transcript.specs.Transcript.{Piece, Ended, text_of, Step, IsEnded}
 use Rattle.seam_transcript.specs.Senders.{CallIsFrom, CallsAreFrom}
-use Rattle.seam_transcript.specs.declared.verdict.Entry.{Entry}
 use Rattle.seam_transcript.specs.declared.verdict.Entry.TheVariants as entry
 use Rattle.seam_transcript.specs.declared.verdict.Verdict.TheVariants as verdict
 use Rattle.seam_transcript.proofs.SkipLemmas.{has_words_after_gap}
@@ -127,10 +127,10 @@ with_hit = with_entry with_avatar (entry.Called (call (Base 1) 1 3 30))
 abbrev with_heal : Book
 with_heal = with_entry with_hit (entry.Called (call (Base 1) 2 2 5))
 
-is_hit : IsBuilt builtin 0 3
+is_hit : IsBuilt (type_of builtin 0) 3
 is_hit = record { has = lit≤ tt; on_cell = refl; args = refl }
 
-pub is_heal : IsBuilt builtin 0 2
+pub is_heal : IsBuilt (type_of builtin 0) 2
 is_heal = record { has = lit≤ tt; on_cell = refl; args = refl }
 
 pub spells_1 : SpellsPositive (codes "1") 1

@@ -1,3 +1,10 @@
 mod Rows
 mod FirstPath
 mod TwoSenders
+mod LiveLemmas
+mod Walks
+mod Results
+mod Judging
+mod Turns
+mod RoundPieces
+mod InputLines

@@ -1,42 +1,35 @@
 -- Small inputs.
-use Rattle.std.proofs.Common.{◌≡◌, ◌↔◌, false, ℕ, ◌+◌, ◌-◌, ◌≤◌, List, [], ◌∷◌, ◌++◌, length, drop, get_or, refl, sym, ap, ◌∙◌, subst, arith, rules, lit≤, append-nil}
+use Rattle.std.proofs.Common.{◌≡◌, ◌↔◌, false, ℕ, ◌-◌, ◌≤◌, List, [], ◌∷◌, ◌++◌, length, get_or, refl, sym, ap, ◌∙◌, subst, arith, rules, lit≤, append-nil}
 use Rattle.std.specs.Prelude.{codes, MatchBool, ◌==◌}
 use Rattle.std.specs.Str.{IsUtf8}
 use Rattle.std.proofs.lemmas.List.{take_all}
 use Rattle.std.proofs.lemmas.List.Elements.{All-cons, All-nil}
-use Rattle.std.proofs.lemmas.Option.{none-some}
 use Rattle.std.proofs.lemmas.Str.{IsUtf8-from_ascii}
 use Rattle.seam_value.specs.Values.{decimal_of}
 use Rattle.seam_words.specs.Words.{IsPlainWord}
 use Rattle.seam_words.specs.Texts.{HasWords}
 use Rattle.seam_words.proofs.WordTexts.{words_are_one_list}
-use Rattle.seam_io.specs.Lines.{Line, Content, Long, lines_of}
-use Rattle.seam_defs.specs.declared.types.TypeDef.{TypeDef}
+use Rattle.seam_io.specs.Lines.{Line, Content, lines_of}
 use Rattle.seam_defs.specs.Settings.{standard}
 use Rattle.seam_defs.specs.Builtin.{builtin}
-use Rattle.seam_defs.specs.Types.{AreDefs}
-use Rattle.seam_call.specs.declared.create.Create.{Create}
 use Rattle.seam_call.specs.declared.sender.Sender.{Sender}
 use Rattle.seam_call.specs.declared.sender.Sender.TheVariants.{Base}
 use Rattle.seam_transcript.specs.Language as language
 use Rattle.seam_transcript.specs.declared.header.Header.{Header}
 use Rattle.seam_transcript.specs.Header.{Reads, BeginWithHeader, separator}
 use Rattle.seam_transcript.specs.Book.{Book, empty_book, created_as, open_lines, SpellsNone, Judges}
-use Rattle.seam_transcript.specs.Orders.{Orders, no_orders}
-use Rattle.seam_transcript.specs.InOrder.{in_order, round_in_order, after_round}
+use Rattle.seam_transcript.specs.InOrder.{round_in_order, after_round}
 use Rattle.seam_transcript.specs.Standing.{Standing, after_header, with_line}
 use Rattle.seam_transcript.specs.Round.{Lists, RoundData, IsRound}
-use Rattle.seam_transcript.specs.Texts.{refusal, round_text}
-use Rattle.seam_transcript.specs.Transcript.{Piece, Refusal, Ended, text_of, EndsRound, Follows, Step, Run, EndsInput, IsEnded}
+use Rattle.seam_transcript.specs.Transcript.{Piece, Refusal, Ended, text_of, EndsRound, Step, Run, EndsInput, IsEnded}
 use Rattle.seam_transcript.specs.declared.verdict.Cause.TheVariants as cause
-use Rattle.seam_transcript.specs.declared.verdict.Verdict.{Verdict}
 use Rattle.seam_transcript.specs.declared.verdict.Verdict.TheVariants as verdict
 use Rattle.seam_transcript.proofs.HeaderLemmas.{no_lines_yet}
 use Rattle.seam_transcript.proofs.InOrderLemmas.{round_in_order_is_legal}
-use Rattle.seam_transcript.proofs.LineLaws.{unknown_command, step_of_verdict}
+use Rattle.seam_transcript.proofs.LineLaws.{unknown_command}
 use Rattle.seam_transcript.proofs.SkipLemmas.{has_words_after_gap}
 use Rattle.seam_transcript.proofs.Verdicts.{line_spells_one}
-use Rattle.seam_transcript.proofs.OneSender.{header_is_one, header_has_defs, transcript_is_one}
+use Rattle.seam_transcript.proofs.OneSender.{header_is_one, transcript_is_one}
 use Rattle.seam_transcript.specs.Senders.{CallIsFrom, CallsAreFrom}
 
 -- ---- headers

@@ -1,5 +1,5 @@
 -- Two senders: each order of their calls has a transcript.
-use Rattle.std.proofs.Common.{◌≡◌, ap, ◌∙◌, ℕ, pos, Bool, true, false, List, [], ◌∷◌, ◌++◌, map, refl, sym, subst, arith, lit≤}
+use Rattle.std.proofs.Common.{◌≡◌, ℕ, pos, Bool, true, false, List, [], ◌∷◌, map, refl, sym, subst, arith, lit≤}
 use Rattle.std.specs.Prelude.{codes, MatchBool, ◌==◌, ◌&&◌, if◌then◌else◌}
 use Rattle.seam_value.specs.Values.{decimal_of}
 use Rattle.seam_value.specs.Texts.{quoted}
@@ -9,14 +9,14 @@ use Rattle.seam_defs.specs.Builtin.{builtin}
 use Rattle.seam_defs.specs.declared.flags.Part.{Part}
 use Rattle.seam_defs.specs.declared.flags.Part.TheVariants as part
 use Rattle.seam_call.specs.Senders.{same_sender}
-use Rattle.seam_call.specs.Calls.{is_for, is_from}
+use Rattle.seam_call.specs.Calls.{is_for}
 use Rattle.seam_call.specs.declared.sender.Sender.{Sender}
 use Rattle.seam_call.specs.declared.sender.Sender.TheVariants.{Base, Client}
 use Rattle.seam_call.specs.declared.call.Call.{Call}
 use Rattle.seam_transcript.specs.Language as language
 use Rattle.seam_transcript.specs.Header.{separator}
 use Rattle.seam_transcript.specs.Book.{Book, accepted, created_as, open_lines, with_entry, Means}
-use Rattle.seam_transcript.specs.Orders.{Orders, of_sender, IsFull}
+use Rattle.seam_transcript.specs.Orders.{of_sender, IsFull}
 use Rattle.seam_transcript.specs.InOrder.{in_order, round_in_order, after_round}
 use Rattle.seam_transcript.specs.Standing.{Standing}
 use Rattle.seam_transcript.specs.Round.{Lists, RoundData, done_lines, home_line, base_line, ExtendsOrders, IsRound}
@@ -24,7 +24,7 @@ use Rattle.seam_transcript.specs.Transcript.{Piece, Ended, text_of, EndsRound, S
 use Rattle.seam_transcript.specs.declared.verdict.Entry.{Entry}
 use Rattle.seam_transcript.specs.declared.verdict.Entry.TheVariants as entry
 use Rattle.seam_transcript.specs.declared.verdict.Verdict.TheVariants as verdict
-use Rattle.seam_transcript.proofs.InOrderLemmas.{in_order_is_full, round_in_order_is_legal}
+use Rattle.seam_transcript.proofs.InOrderLemmas.{round_in_order_is_legal}
 use Rattle.seam_plain.proofs.Rows.{plain_header, ended_after, sync_judged}
 use Rattle.seam_plain.proofs.FirstPath.{heal2_words, avatar, call, with_avatar, with_hit, is_heal, spells_1, fits_5, spelled_5, begins_with_c, after_lines, create_step, hit_step, avatar_alone}
 
