@@ -8,7 +8,7 @@ use std::test::Fail;
 fn words_name_an_entity(rt: HostRuntime) -> Result<(), Fail> {
     let header = standard_header(rt.alloc())?;
     let mut table: [&[u8]; 16] = [b""; 16];
-    match read_line(b"create 7 Chest 3 4", &mut table) {
+    match read_line(b"create 7 Avatar 3 4", &mut table) {
         Ok(Some(command)) => check_create(&rt, &header, command.form()),
         _ => panic!(rt; "no command"),
     }
@@ -17,7 +17,10 @@ fn words_name_an_entity(rt: HostRuntime) -> Result<(), Fail> {
 
 fn check_create(rt: &impl Abort, header: &seam_transcript::Header, form: &Form) {
     match form {
-        Form::Create(words) => assert!(rt; create_named(header, words).is_none()),
+        Form::Create(words) => match create_named(header, words) {
+            Some(create) => assert_eq!(rt; create.entity, 7),
+            None => panic!(rt; "no entity"),
+        },
         _ => panic!(rt; "another command"),
     }
 }
@@ -35,7 +38,12 @@ fn lines_are_refused(rt: HostRuntime) -> Result<(), Fail> {
 #[test]
 fn words_name_a_deed(rt: HostRuntime) -> Result<(), Fail> {
     let header = standard_header(rt.alloc())?;
-    let deed = deed_named(rt.alloc(), &header.defs, 0, b"hit", &[b"30".as_slice()])?;
+    let deed = deed_named(
+        rt.alloc(),
+        header.defs.type_at(0),
+        b"hit",
+        &[b"30".as_slice()],
+    )?;
     match deed {
         Some(Deed::Method(method, _)) => assert_eq!(rt; method, 3),
         _ => panic!(rt; "no method"),
