@@ -12,7 +12,8 @@ use Rattle.seam_transcript.proofs.Verdicts.{command_is_one, none_is_refused}
 use Rattle.seam_accept.specs.Commands.{JudgesCommand}
 
 -- words of no command are refused by each book
-pub no_command_is_refused : (line : List ℕ) (words : List (List ℕ)) → ¬ (IsSkipped line) → HasWords line words → ((c : Command) → ¬ (words ≡ words_of c))
+pub no_command_is_refused : (line : List ℕ) (words : List (List ℕ)) → ¬ (IsSkipped line) → HasWords line words →
+    ((c : Command) → ¬ (words ≡ words_of c))
     → (h : Header) (b : Book) → Judges h b (Content line) (verdict.Refused cause.NoCommand)
 no_command_is_refused line words not has none h b = none_is_refused h b line words not has (λ c is. absurd (none c is))
 
@@ -21,7 +22,8 @@ pub meaning_is_accepted : (h : Header) (b : Book) (c : Command) (x : Entry) → 
 meaning_is_accepted h b c x means line not spells = (not, c, spells, means)
 
 -- one that adds nothing is refused
-pub meaningless_is_refused : (h : Header) (b : Book) (c : Command) → ¬ (c ≡ Sync) → ((x : Entry) → ¬ (Means h b c x)) → JudgesCommand h b c (verdict.Refused cause.NoCommand)
+pub meaningless_is_refused : (h : Header) (b : Book) (c : Command) → ¬ (c ≡ Sync) → ((x : Entry) → ¬ (Means h b c x)) →
+    JudgesCommand h b c (verdict.Refused cause.NoCommand)
 meaningless_is_refused h b c other none line not spells = none_is_refused h b line (words_of c) not spells only
   where
     only : SpellsNone h b (words_of c)

@@ -1,5 +1,6 @@
 -- A test of well-formed definitions, which computes.
-use Rattle.std.proofs.Common.{◌≡◌, ◌≢◌, ℕ, ◌-◌, Bool, true, false, not, ◌&&◌, eqb, List, [], ◌∷◌, length, All, Option, Some, None, refl, ap, ◌∙◌, sym}
+use Rattle.std.proofs.Common.{◌≡◌, ◌≢◌, ℕ, ◌-◌, Bool, true, false, not, ◌&&◌, eqb, List, [], ◌∷◌, length, All, Option, Some, None, refl, ap}
+use Rattle.std.proofs.Common.{◌∙◌, sym}
 use Rattle.std.specs.Prelude.{nat_le, nat_lt, slice_get, slice_index_or, codes}
 use Rattle.std.specs.List.{list_all}
 use Rattle.std.specs.Str.{bytes_eq}
@@ -18,7 +19,8 @@ use Rattle.seam_defs.specs.declared.types.Method.{Method}
 use Rattle.seam_defs.specs.declared.types.TypeDef.{TypeDef}
 use Rattle.seam_defs.specs.Groups.{in_group, held_by}
 use Rattle.seam_defs.specs.Tests.{is_text, fits_value}
-use Rattle.seam_defs.specs.Types.{are_rising, names_of_properties, names_of_methods, names_of_types, OperandFits, WorksOn, IsNumeric, IsOperation, IsMethod, IsType, AreDefs}
+use Rattle.seam_defs.specs.Types.{are_rising, names_of_properties, names_of_methods, names_of_types, OperandFits, WorksOn, IsNumeric}
+use Rattle.seam_defs.specs.Types.{IsOperation, IsMethod, IsType, AreDefs}
 use Rattle.seam_defs.proofs.TestLemmas.{text-Decides, fits-Decides}
 
 -- ---- the test
@@ -56,7 +58,8 @@ is_operation ps m (Add k a) = works_on (slice_get ps k) m a && is_numeric (slice
 is_operation ps m (Sub k a) = works_on (slice_get ps k) m a && is_numeric (slice_get ps k)
 
 abbrev is_method : List Property → Method → Bool
-is_method ps m = not (bytes_eq m.name (codes "move")) && (nat_le (length m.args) 8 && (nat_le (length m.body) 32 && list_all (is_operation ps m) m.body))
+is_method ps m =
+    not (bytes_eq m.name (codes "move")) && (nat_le (length m.args) 8 && (nat_le (length m.body) 32 && list_all (is_operation ps m) m.body))
 
 abbrev has_default : Property → Bool
 has_default p = fits_value p.ty p.default
@@ -83,7 +86,8 @@ all_if p P each (x ∷ xs) h = let two = both (p x) (list_all p xs) h in All-con
 
 abbrev numbered : ℕ → ValueType
 numbered n =
-    slice_index_or (type.Int8 ∷ type.Int16 ∷ type.Int32 ∷ type.Int64 ∷ type.Uint8 ∷ type.Uint16 ∷ type.Uint32 ∷ type.Uint64 ∷ []) n type.Text
+    slice_index_or (type.Int8 ∷ type.Int16 ∷ type.Int32 ∷ type.Int64 ∷ type.Uint8 ∷ type.Uint16 ∷ type.Uint32 ∷ type.Uint64 ∷ []) n
+    type.Text
 
 back : (t : ValueType) → numbered (number_of t) ≡ t
 back type.Int8 = refl
@@ -101,11 +105,16 @@ typed (Some s) t h = ap Some (sym (back s) ∙ ap numbered (eqb-true (number_of 
 typed None t h = absurd cc
 
 operand : (args : List ValueType) (t : ValueType) (a : Operand) → is_operand args t a ≡ true → OperandFits args t a
-operand args t (Arg k) h = let two = both (nat_lt 0 k) (has_type (slice_get args (k - 1)) t) h in (ltb-true 0 k two.0, typed (slice_get args (k - 1)) t two.1)
+operand args t (Arg k) h =
+    let two = both (nat_lt 0 k) (has_type (slice_get args (k - 1)) t) h in
+    (ltb-true 0 k two.0, typed (slice_get args (k - 1)) t two.1)
 operand args t (Constant v) h = (fits-Decides t v).0 h
 
-works : (ps : List Property) (k : ℕ) (o : Option Property) (m : Method) (a : Operand) → slice_get ps k ≡ o → works_on o m a ≡ true → WorksOn ps m k a
-works ps k (Some p) m a e h = let two = both (in_group p.flag (held_by m.part)) (is_operand m.args p.ty a) h in (p, e, two.0, operand m.args p.ty a two.1)
+works : (ps : List Property) (k : ℕ) (o : Option Property) (m : Method) (a : Operand) → slice_get ps k ≡ o → works_on o m a ≡ true →
+    WorksOn ps m k a
+works ps k (Some p) m a e h =
+    let two = both (in_group p.flag (held_by m.part)) (is_operand m.args p.ty a) h in
+    (p, e, two.0, operand m.args p.ty a two.1)
 works ps k None m a e h = absurd cc
 
 not_text : (t : ValueType) → not (is_text t) ≡ true → t ≢ type.Text
@@ -119,8 +128,11 @@ numeric : (ps : List Property) (k : ℕ) (o : Option Property) → slice_get ps 
 numeric ps k (Some p) e h = (p, e, not_text p.ty h)
 numeric ps k None e h = absurd cc
 
-sum : (ps : List Property) (m : Method) (k : ℕ) (a : Operand) → (works_on (slice_get ps k) m a && is_numeric (slice_get ps k)) ≡ true → WorksOn ps m k a × IsNumeric ps k
-sum ps m k a h = let two = both (works_on (slice_get ps k) m a) (is_numeric (slice_get ps k)) h in (works ps k (slice_get ps k) m a refl two.0, numeric ps k (slice_get ps k) refl two.1)
+sum : (ps : List Property) (m : Method) (k : ℕ) (a : Operand) → (works_on (slice_get ps k) m a && is_numeric (slice_get ps k)) ≡ true →
+    WorksOn ps m k a × IsNumeric ps k
+sum ps m k a h =
+    let two = both (works_on (slice_get ps k) m a) (is_numeric (slice_get ps k)) h in
+    (works ps k (slice_get ps k) m a refl two.0, numeric ps k (slice_get ps k) refl two.1)
 
 operation : (ps : List Property) (m : Method) (op : Operation) → is_operation ps m op ≡ true → IsOperation ps m op
 operation ps m (Put k a) h = works ps k (slice_get ps k) m a refl h

@@ -1,5 +1,6 @@
 -- A deed that fits leaves the values of a group those of the group.
-use Rattle.std.proofs.Common.{◌≡◌, ◌≢◌, ℕ, ℤ, pos, zero, suc, ◌-◌, ◌<◌, ◌≤ℤ◌, refl, sym, ap, ◌∙◌, List, [], ◌∷◌, length, get_or, set, slice_get, Some, All, true, inl, inr, rules, arith}
+use Rattle.std.proofs.Common.{◌≡◌, ◌≢◌, ℕ, ℤ, pos, zero, suc, ◌-◌, ◌<◌, ◌≤ℤ◌, refl, sym, ap, ◌∙◌, List, [], ◌∷◌, length, get_or, set}
+use Rattle.std.proofs.Common.{slice_get, Some, All, true, inl, inr, rules, arith}
 use Rattle.std.specs.Int.{int_max, int_min}
 use Rattle.std.proofs.lemmas.Int.{ints, clamps}
 use Rattle.std.proofs.lemmas.Bool.{cases_eq}
@@ -21,7 +22,8 @@ use Rattle.seam_defs.specs.declared.types.Operation.{Operation}
 use Rattle.seam_defs.specs.declared.types.Operation.TheVariants.{Put, Add, Sub}
 use Rattle.seam_defs.specs.Groups.{in_group, held_by}
 use Rattle.seam_defs.specs.Types.{IsMethod, IsOperation, OperandFits}
-use Rattle.seam_defs.specs.Deeds.{nearest, place_of, type_at, value_at, number_of, operated, target, operand, operand_value, after_operation, after_body, IsOfGroup, TakesArgs}
+use Rattle.seam_defs.specs.Deeds.{nearest, place_of, type_at, value_at, number_of, operated, target, operand, operand_value}
+use Rattle.seam_defs.specs.Deeds.{after_operation, after_body, IsOfGroup, TakesArgs}
 use Rattle.seam_defs.specs.Running.{is_in, FitsAt, FitBelow}
 use Rattle.seam_defs.proofs.Fitting.{of-to, of-from, takes-from}
 use Rattle.seam_defs.proofs.Places.{one-place}
@@ -48,7 +50,8 @@ fits-value t [] j d fits = absurd fits
 fits-value t (v ∷ values) zero d fits = fits
 fits-value t (v ∷ values) (suc j) d fits = fits-value t values j d fits
 
-operand-fits : (types : List ValueType) (args : List Value) (t : ValueType) (a : Operand) → TakesArgs types args → OperandFits types t a → Fits (operand_value args a) t
+operand-fits : (types : List ValueType) (args : List Value) (t : ValueType) (a : Operand) → TakesArgs types args → OperandFits types t a →
+    Fits (operand_value args a) t
 operand-fits types args t (Constant v) takes fits = fits
 operand-fits types args t (Arg k) takes (counted, at) =
     let within = slice_get_within types (k - 1) t at in
@@ -77,19 +80,26 @@ type-at [] k p at = absurd cc
 type-at (q ∷ ps) zero p at = let one : q ≡ p = cc in ap (λ r. r.ty) one
 type-at (q ∷ ps) (suc k) p at = type-at ps k p at
 
-is-in-at : (ps : List Property) (g : Group) (k : ℕ) (d : Property) → k < length ps → in_group (get_or ps k d).flag g ≡ true → is_in ps g k ≡ true
+is-in-at : (ps : List Property) (g : Group) (k : ℕ) (d : Property) → k < length ps → in_group (get_or ps k d).flag g ≡ true →
+    is_in ps g k ≡ true
 is-in-at [] g k d within at = absurd (omega arith)
 is-in-at (p ∷ ps) g zero d within at = at
 is-in-at (p ∷ ps) g (suc k) d within at = is-in-at ps g k d (omega arith) at
 
 module _ (ps : List Property) (m : Method) (args : List Value) (takes : TakesArgs m.args args) where
   -- the property that an operation is on, and that what the operation gives fits it
-  given : (op : Operation) → IsOperation ps m op → (p : Property) × (slice_get ps (target op) ≡ Some p) × (in_group p.flag (held_by m.part) ≡ true) × ((z : ℤ) → Fits (operated op p.ty z (operand_value args (operand op))) p.ty)
+  given : (op : Operation) → IsOperation ps m op → (p : Property) × (slice_get ps (target op) ≡ Some p)
+      × (in_group p.flag (held_by m.part) ≡ true) × ((z : ℤ) → Fits (operated op p.ty z (operand_value args (operand op))) p.ty)
   given (Put k a) (p, at, held, fits) = (p, at, held, λ z. operand-fits m.args args p.ty a takes fits)
-  given (Add k a) ((p, at, held, fits), (q, at_q, numeric)) = let one : p ≡ q = cc in (p, at, held, λ z. nearest-fits p.ty _ (rw one numeric))
-  given (Sub k a) ((p, at, held, fits), (q, at_q, numeric)) = let one : p ≡ q = cc in (p, at, held, λ z. nearest-fits p.ty _ (rw one numeric))
+  given (Add k a) ((p, at, held, fits), (q, at_q, numeric)) =
+      let one : p ≡ q = cc in
+      (p, at, held, λ z. nearest-fits p.ty _ (rw one numeric))
+  given (Sub k a) ((p, at, held, fits), (q, at_q, numeric)) =
+      let one : p ≡ q = cc in
+      (p, at, held, λ z. nearest-fits p.ty _ (rw one numeric))
 
-  operation-keeps : (op : Operation) → IsOperation ps m op → (values : List Value) → FitBelow ps (held_by m.part) values (length ps) → FitBelow ps (held_by m.part) (after_operation ps (held_by m.part) args values op) (length ps)
+  operation-keeps : (op : Operation) → IsOperation ps m op → (values : List Value) → FitBelow ps (held_by m.part) values (length ps) →
+      FitBelow ps (held_by m.part) (after_operation ps (held_by m.part) args values op) (length ps)
   operation-keeps op is values fit k d below at =
       let g = held_by m.part in
       let (p, found, held, fits) = given op is in
@@ -99,22 +109,29 @@ module _ (ps : List Property) (m : Method) (args : List Value) (takes : TakesArg
             let there : get_or ps k d ≡ p = ap (λ q. get_or ps q d) same ∙ get_or_from_slice_get ps (target op) p d found in
             let before : FitsAt p.ty values place = rw (there, same) at (fit k d below at) in
             let z = number_of (value_at values place) in
-            let now : FitsAt p.ty (set values place (operated op p.ty z (operand_value args (operand op)))) place = set-same p.ty values place _ (fits-within p.ty values place before) (fits z) in
+            let now : FitsAt p.ty (set values place (operated op p.ty z (operand_value args (operand op)))) place =
+            set-same p.ty values place _ (fits-within p.ty values place before) (fits z) in
             rw (there, same, type-at ps (target op) p found) now
-        | inr other ↦ set-other (get_or ps k d).ty values place (place_of ps g k) _ (λ e. other (one-place ps g k (target op) (is-in-at ps g k d below at) (rw found held) e)) (fit k d below at)
+        | inr other ↦ set-other (get_or ps k d).ty values place (place_of ps g k) _
+            (λ e. other (one-place ps g k (target op) (is-in-at ps g k d below at) (rw found held) e)) (fit k d below at)
       ]
 
-  body-keeps : (body : List Operation) → All (IsOperation ps m) body → (values : List Value) → FitBelow ps (held_by m.part) values (length ps) →
+  body-keeps : (body : List Operation) → All (IsOperation ps m) body → (values : List Value) →
+      FitBelow ps (held_by m.part) values (length ps) →
       FitBelow ps (held_by m.part) (after_body ps (held_by m.part) args body values) (length ps)
   body-keeps [] is values fit = fit
   body-keeps (op ∷ body) is values fit =
-      body-keeps body (All-tail (IsOperation ps m) op body is) (after_operation ps (held_by m.part) args values op) (operation-keeps op (All-head (IsOperation ps m) op body is) values fit)
+      body-keeps body (All-tail (IsOperation ps m) op body is) (after_operation ps (held_by m.part) args values op)
+      (operation-keeps op (All-head (IsOperation ps m) op body is) values fit)
 
   body-length : (body : List Operation) (values : List Value) → length (after_body ps (held_by m.part) args body values) ≡ length values
   body-length [] values = refl
-  body-length (op ∷ body) values = body-length body (after_operation ps (held_by m.part) args values op) ∙ length-set values (place_of ps (held_by m.part) (target op)) _
+  body-length (op ∷ body) values =
+      body-length body (after_operation ps (held_by m.part) args values op) ∙ length-set values (place_of ps (held_by m.part) (target op)) _
 
-  pub method-keeps : IsMethod ps m → (values : List Value) → IsOfGroup ps (held_by m.part) values → IsOfGroup ps (held_by m.part) (after_body ps (held_by m.part) args m.body values)
+  pub method-keeps : IsMethod ps m → (values : List Value) → IsOfGroup ps (held_by m.part) values →
+      IsOfGroup ps (held_by m.part) (after_body ps (held_by m.part) args m.body values)
   method-keeps is values of =
       let are = of-from ps (held_by m.part) values of in
-      of-to ps (held_by m.part) (after_body ps (held_by m.part) args m.body values) (are.0 ∙ sym (body-length m.body values)) (body-keeps m.body is.body values are.1)
+      of-to ps (held_by m.part) (after_body ps (held_by m.part) args m.body values) (are.0 ∙ sym (body-length m.body values))
+      (body-keeps m.body is.body values are.1)

@@ -1,5 +1,6 @@
 -- A binary search by name, among names in strictly rising order, finds exactly the place of the name.
-use Rattle.std.proofs.Common.{◌≡◌, ℕ, ◌+◌, ◌<◌, refl, ap, List, [], ◌∷◌, length, map, get_or, Bool, true, false, ◌&&◌, zero, suc, Some, Result, Ok, Err, IfOk, inl, inr, arith}
+use Rattle.std.proofs.Common.{◌≡◌, ℕ, ◌+◌, ◌<◌, refl, ap, List, [], ◌∷◌, length, map, get_or, Bool, true, false, ◌&&◌, zero, suc, Some}
+use Rattle.std.proofs.Common.{Result, Ok, Err, IfOk, inl, inr, arith}
 use Rattle.std.specs.List.{list_all, slice_get}
 use Rattle.std.specs.List.Sorted.{IsSearchInRange, IsBinarySearchResult, IsSortedBy}
 use Rattle.std.specs.Ordering.{nat_cmp, is_lt, ordering_reverse}
@@ -39,28 +40,36 @@ item [] k within = absurd (omega arith)
 item (x ∷ xs) k within = x
 
 module _ {X : Type 0} (key : X → List ℕ) where
-  named : (xs : List X) (k : ℕ) (name : List ℕ) → slice_get (map key xs) k ≡ Some name → (k < length xs) × ((d : X) → key (get_or xs k d) ≡ name)
+  named : (xs : List X) (k : ℕ) (name : List ℕ) → slice_get (map key xs) k ≡ Some name →
+      (k < length xs) × ((d : X) → key (get_or xs k d) ≡ name)
   named [] k name e = absurd cc
   named (x ∷ xs) zero name e = (omega arith, λ d. cc)
   named (x ∷ xs) (suc k) name e = let rest = named xs k name e in (omega arith, rest.1)
 
-  named-back : (xs : List X) (k : ℕ) (name : List ℕ) → k < length xs → ((d : X) → key (get_or xs k d) ≡ name) → slice_get (map key xs) k ≡ Some name
+  named-back : (xs : List X) (k : ℕ) (name : List ℕ) → k < length xs → ((d : X) → key (get_or xs k d) ≡ name) →
+      slice_get (map key xs) k ≡ Some name
   named-back [] k name within e = absurd (omega arith)
   named-back (x ∷ xs) zero name within e = ap Some (e x)
   named-back (x ∷ xs) (suc k) name within e = named-back xs k name (omega arith) e
 
-  before_all : (n : List ℕ) (xs : List X) → list_all (is_before n) (map key xs) ≡ true → (j : ℕ) (d : X) → j < length xs → is_before n (key (get_or xs j d)) ≡ true
+  before_all : (n : List ℕ) (xs : List X) → list_all (is_before n) (map key xs) ≡ true → (j : ℕ) (d : X) → j < length xs →
+      is_before n (key (get_or xs j d)) ≡ true
   before_all n [] h j d within = absurd (omega arith)
   before_all n (x ∷ xs) h zero d within = and-left (is_before n (key x)) (list_all (is_before n) (map key xs)) h
-  before_all n (x ∷ xs) h (suc j) d within = before_all n xs (and-right (is_before n (key x)) (list_all (is_before n) (map key xs)) h) j d (omega arith)
+  before_all n (x ∷ xs) h (suc j) d within =
+      before_all n xs (and-right (is_before n (key x)) (list_all (is_before n) (map key xs)) h) j d (omega arith)
 
   -- of two places the earlier one has the lesser name
-  rising : (xs : List X) → are_rising (map key xs) ≡ true → (i j : ℕ) (d : X) → i < j → j < length xs → is_before (key (get_or xs i d)) (key (get_or xs j d)) ≡ true
+  rising : (xs : List X) → are_rising (map key xs) ≡ true → (i j : ℕ) (d : X) → i < j → j < length xs →
+      is_before (key (get_or xs i d)) (key (get_or xs j d)) ≡ true
   rising [] up i j d below within = absurd (omega arith)
   rising (x ∷ xs) up i zero d below within = absurd (omega arith)
   rising (x ∷ xs) up zero (suc j) d below within =
-      before_all (key x) xs (and-right (is_name (key x)) (list_all (is_before (key x)) (map key xs)) (and-left (is_name (key x) && list_all (is_before (key x)) (map key xs)) (are_rising (map key xs)) up)) j d (omega arith)
-  rising (x ∷ xs) up (suc i) (suc j) d below within = rising xs (and-right (is_name (key x) && list_all (is_before (key x)) (map key xs)) (are_rising (map key xs)) up) i j d (omega arith) (omega arith)
+      before_all (key x) xs (and-right (is_name (key x)) (list_all (is_before (key x)) (map key xs))
+      (and-left (is_name (key x) && list_all (is_before (key x)) (map key xs)) (are_rising (map key xs)) up)) j d (omega arith)
+  rising (x ∷ xs) up (suc i) (suc j) d below within =
+      rising xs (and-right (is_name (key x) && list_all (is_before (key x)) (map key xs)) (are_rising (map key xs)) up) i j d (omega arith)
+      (omega arith)
 
   module _ (xs : List X) (up : are_rising (map key xs) ≡ true) (name : List ℕ) where
     not_two : (i j : ℕ) → i < j → slice_get (map key xs) i ≡ Some name → slice_get (map key xs) j ≡ Some name → ⊥
@@ -85,7 +94,8 @@ module _ {X : Type 0} (key : X → List ℕ) where
         let here : slice_get (map key xs) at ≡ Some name = named-back xs at name within (λ d. exact_bytes _ _ (equal d)) in
         (here, λ k there. ap Ok (one_place at k here there))
     found_exactly (Err at) within parted =
-        let sorted : IsSortedBy (λ a b. is_lt (slice_cmp nat_cmp (key a) (key b))) xs = λ k d low high. not-less-back (key (get_or xs k d)) (key (get_or xs (k + 1) d)) (rising xs up k (k + 1) d (omega arith) high) in
+        let sorted : IsSortedBy (λ a b. is_lt (slice_cmp nat_cmp (key a) (key b))) xs =
+        λ k d low high. not-less-back (key (get_or xs k d)) (key (get_or xs (k + 1) d)) (rising xs up k (k + 1) d (omega arith) high) in
         let split = parted (searchable_from_sorted nat_list_cmp_total key xs name sorted) in (
           tt,
           λ k there.

@@ -15,11 +15,16 @@ use Rattle.seam_defs.specs.Running.{is_in, OnGroup}
 use Rattle.seam_defs.specs.Types.{no_type, type_of, names_of_methods, are_rising, AreDefs, IsType, IsMethod, IsOperation, WorksOn}
 
 no_type-is : IsType no_type
-no_type-is = record { properties = lit≤ tt; property_names = refl; defaults = All-nil _; methods = lit≤ tt; method_names = refl; bodies = All-nil _ }
+no_type-is =
+    record { properties = lit≤ tt; property_names = refl; defaults = All-nil _; methods = lit≤ tt; method_names = refl; bodies = All-nil _ }
 
 -- every number means a well-formed type
 pub type_of-is : (defs : List TypeDef) → AreDefs defs → (ty : ℕ) → IsType (type_of defs ty)
-type_of-is defs are ty = elim (cases_lt ty (length defs)) [ inl within ↦ are.types ty no_type within | inr past ↦ rw (get_or_past defs ty no_type past) no_type-is ]
+type_of-is defs are ty =
+    elim (cases_lt ty (length defs)) [
+      | inl within ↦ are.types ty no_type within
+      | inr past ↦ rw (get_or_past defs ty no_type past) no_type-is
+    ]
 
 pub rising-methods : (defs : List TypeDef) → AreDefs defs → (ty : ℕ) → are_rising (names_of_methods (type_of defs ty).methods) ≡ true
 rising-methods defs are ty = let is = type_of-is defs are ty in is.method_names

@@ -16,7 +16,8 @@ module _ (p : Property) (ps : List Property) (g : Group) (k : ℕ) where
   pub place-out : in_group p.flag g ≡ false → place_of (p ∷ ps) g (suc k) ≡ place_of ps g k
   place-out h = rw h refl
 
-pub one-place : (ps : List Property) (g : Group) (k j : ℕ) → is_in ps g k ≡ true → is_in ps g j ≡ true → place_of ps g k ≡ place_of ps g j → k ≡ j
+pub one-place : (ps : List Property) (g : Group) (k j : ℕ) → is_in ps g k ≡ true → is_in ps g j ≡ true → place_of ps g k ≡ place_of ps g j →
+    k ≡ j
 one-place [] g k j at_k at_j same = absurd cc
 one-place (p ∷ ps) g zero zero at_k at_j same = refl
 one-place (p ∷ ps) g zero (suc j) at_k at_j same = let later = place-in p ps g j at_k in absurd (omega arith)
@@ -35,10 +36,12 @@ module _ (p : Property) (ps : List Property) (held g : Group) where
   pub projected-out : (vs : List Value) → in_group p.flag held ≡ false → projected (p ∷ ps) held g vs ≡ projected ps held g vs
   projected-out vs h = rw h refl
 
-  pub projected-shown : (v : Value) (vs : List Value) → in_group p.flag held ≡ true → in_group p.flag g ≡ true → projected (p ∷ ps) held g (v ∷ vs) ≡ v ∷ projected ps held g vs
+  pub projected-shown : (v : Value) (vs : List Value) → in_group p.flag held ≡ true → in_group p.flag g ≡ true →
+      projected (p ∷ ps) held g (v ∷ vs) ≡ v ∷ projected ps held g vs
   projected-shown v vs h s = rw (h, s) refl
 
-  pub projected-hidden : (v : Value) (vs : List Value) → in_group p.flag held ≡ true → in_group p.flag g ≡ false → projected (p ∷ ps) held g (v ∷ vs) ≡ projected ps held g vs
+  pub projected-hidden : (v : Value) (vs : List Value) → in_group p.flag held ≡ true → in_group p.flag g ≡ false →
+      projected (p ∷ ps) held g (v ∷ vs) ≡ projected ps held g vs
   projected-hidden v vs h s = rw (h, s) refl
 
 pub projected-nil : (ps : List Property) (held g : Group) → projected ps held g [] ≡ []
@@ -52,24 +55,29 @@ module _ (held shown : Group) (sub : IsWithin shown held) where
   hidden : (p : Property) → in_group p.flag held ≡ false → in_group p.flag shown ≡ true → ⊥
   hidden p out h = let inside = sub p.flag h in cc
 
-  agree-out : (p : Property) (ps : List Property) (vs ws : List Value) → in_group p.flag held ≡ false → Agree ps held shown vs ws → Agree (p ∷ ps) held shown vs ws
+  agree-out : (p : Property) (ps : List Property) (vs ws : List Value) → in_group p.flag held ≡ false → Agree ps held shown vs ws →
+      Agree (p ∷ ps) held shown vs ws
   agree-out p ps vs ws out agree zero at = absurd (hidden p out at)
   agree-out p ps vs ws out agree (suc k) at = rw (place-out p ps held k out) (agree k at)
 
-  agree-out-back : (p : Property) (ps : List Property) (vs ws : List Value) → in_group p.flag held ≡ false → Agree (p ∷ ps) held shown vs ws → Agree ps held shown vs ws
+  agree-out-back : (p : Property) (ps : List Property) (vs ws : List Value) → in_group p.flag held ≡ false →
+      Agree (p ∷ ps) held shown vs ws → Agree ps held shown vs ws
   agree-out-back p ps vs ws out agree k at = rw (place-out p ps held k out) at (agree (suc k) at)
 
-  agree-in : (p : Property) (ps : List Property) (v w : Value) (vs ws : List Value) → in_group p.flag held ≡ true → (in_group p.flag shown ≡ true → v ≡ w) → Agree ps held shown vs ws → Agree (p ∷ ps) held shown (v ∷ vs) (w ∷ ws)
+  agree-in : (p : Property) (ps : List Property) (v w : Value) (vs ws : List Value) → in_group p.flag held ≡ true →
+      (in_group p.flag shown ≡ true → v ≡ w) → Agree ps held shown vs ws → Agree (p ∷ ps) held shown (v ∷ vs) (w ∷ ws)
   agree-in p ps v w vs ws inside first agree zero at = first at
   agree-in p ps v w vs ws inside first agree (suc k) at = rw (place-in p ps held k inside) (agree k at)
 
-  agree-in-back : (p : Property) (ps : List Property) (v w : Value) (vs ws : List Value) → in_group p.flag held ≡ true → Agree (p ∷ ps) held shown (v ∷ vs) (w ∷ ws) → Agree ps held shown vs ws
+  agree-in-back : (p : Property) (ps : List Property) (v w : Value) (vs ws : List Value) → in_group p.flag held ≡ true →
+      Agree (p ∷ ps) held shown (v ∷ vs) (w ∷ ws) → Agree ps held shown vs ws
   agree-in-back p ps v w vs ws inside agree k at = rw (place-in p ps held k inside) at (agree (suc k) at)
 
   agree-same : (ps : List Property) (vs : List Value) → Agree ps held shown vs vs
   agree-same ps vs k at = refl
 
-  pub agree-from : (ps : List Property) (vs ws : List Value) → length vs ≡ length ws → projected ps held shown vs ≡ projected ps held shown ws → Agree ps held shown vs ws
+  pub agree-from : (ps : List Property) (vs ws : List Value) → length vs ≡ length ws →
+      projected ps held shown vs ≡ projected ps held shown ws → Agree ps held shown vs ws
   agree-from [] vs ws long same = λ k at. absurd cc
   agree-from (p ∷ ps) [] [] long same = agree-same (p ∷ ps) []
   agree-from (p ∷ ps) [] (w ∷ ws) long same = absurd (omega arith)
@@ -78,14 +86,20 @@ module _ (held shown : Group) (sub : IsWithin shown held) where
       elim (cases_Bool (in_group p.flag held)) [
         | inl inside ↦ elim (cases_Bool (in_group p.flag shown)) [
           | inl seen ↦
-              let both : v ∷ projected ps held shown vs ≡ w ∷ projected ps held shown ws = sym (projected-shown p ps held shown v vs inside seen) ∙ same ∙ projected-shown p ps held shown w ws inside seen in
+              let both : v ∷ projected ps held shown vs ≡ w ∷ projected ps held shown ws =
+              sym (projected-shown p ps held shown v vs inside seen) ∙ same ∙ projected-shown p ps held shown w ws inside seen in
               agree-in p ps v w vs ws inside (λ _. cc) (agree-from ps vs ws (omega arith) cc)
-          | inr unseen ↦ agree-in p ps v w vs ws inside (λ seen. absurd cc) (agree-from ps vs ws (omega arith) (sym (projected-hidden p ps held shown v vs inside unseen) ∙ same ∙ projected-hidden p ps held shown w ws inside unseen))
+          | inr unseen ↦ agree-in p ps v w vs ws inside (λ seen. absurd cc)
+              (agree-from ps vs ws (omega arith) (sym (projected-hidden p ps held shown v vs inside unseen) ∙ same
+              ∙ projected-hidden p ps held shown w ws inside unseen))
         ]
-        | inr out ↦ agree-out p ps (v ∷ vs) (w ∷ ws) out (agree-from ps (v ∷ vs) (w ∷ ws) long (sym (projected-out p ps held shown (v ∷ vs) out) ∙ same ∙ projected-out p ps held shown (w ∷ ws) out))
+        | inr out ↦ agree-out p ps (v ∷ vs) (w ∷ ws) out
+            (agree-from ps (v ∷ vs) (w ∷ ws) long (sym (projected-out p ps held shown (v ∷ vs) out) ∙ same
+            ∙ projected-out p ps held shown (w ∷ ws) out))
       ]
 
-  pub agree-to : (ps : List Property) (vs ws : List Value) → length vs ≡ length ws → Agree ps held shown vs ws → projected ps held shown vs ≡ projected ps held shown ws
+  pub agree-to : (ps : List Property) (vs ws : List Value) → length vs ≡ length ws → Agree ps held shown vs ws →
+      projected ps held shown vs ≡ projected ps held shown ws
   agree-to [] vs ws long agree = refl
   agree-to (p ∷ ps) [] [] long agree = refl
   agree-to (p ∷ ps) [] (w ∷ ws) long agree = absurd (omega arith)
@@ -93,12 +107,17 @@ module _ (held shown : Group) (sub : IsWithin shown held) where
   agree-to (p ∷ ps) (v ∷ vs) (w ∷ ws) long agree =
       elim (cases_Bool (in_group p.flag held)) [
         | inl inside ↦
-            let rest : projected ps held shown vs ≡ projected ps held shown ws = agree-to ps vs ws (omega arith) (agree-in-back p ps v w vs ws inside agree) in
+            let rest : projected ps held shown vs ≡ projected ps held shown ws =
+            agree-to ps vs ws (omega arith) (agree-in-back p ps v w vs ws inside agree) in
             elim (cases_Bool (in_group p.flag shown)) [
               | inl seen ↦
                   let first : v ≡ w = agree zero seen in
-                  projected-shown p ps held shown v vs inside seen ∙ cc (first, rest) ∙ sym (projected-shown p ps held shown w ws inside seen)
-              | inr unseen ↦ projected-hidden p ps held shown v vs inside unseen ∙ rest ∙ sym (projected-hidden p ps held shown w ws inside unseen)
+                  projected-shown p ps held shown v vs inside seen ∙ cc (first, rest)
+                  ∙ sym (projected-shown p ps held shown w ws inside seen)
+              | inr unseen ↦ projected-hidden p ps held shown v vs inside unseen ∙ rest
+                  ∙ sym (projected-hidden p ps held shown w ws inside unseen)
             ]
-        | inr out ↦ projected-out p ps held shown (v ∷ vs) out ∙ agree-to ps (v ∷ vs) (w ∷ ws) long (agree-out-back p ps (v ∷ vs) (w ∷ ws) out agree) ∙ sym (projected-out p ps held shown (w ∷ ws) out)
+        | inr out ↦ projected-out p ps held shown (v ∷ vs) out
+            ∙ agree-to ps (v ∷ vs) (w ∷ ws) long (agree-out-back p ps (v ∷ vs) (w ∷ ws) out agree)
+            ∙ sym (projected-out p ps held shown (w ∷ ws) out)
       ]

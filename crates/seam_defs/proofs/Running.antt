@@ -1,11 +1,13 @@
 -- Steps of running a body, and whether what others may see has changed.
-use Rattle.std.proofs.Common.{◌≡◌, ◌≢◌, ◌↔◌, ℕ, zero, suc, ◌+◌, ◌<◌, refl, sym, ap, subst, pos, ◌∙◌, List, [], ◌∷◌, length, take, get_or, true, false, ◌==◌, not, inl, inr, arith}
+use Rattle.std.proofs.Common.{◌≡◌, ◌≢◌, ◌↔◌, ℕ, zero, suc, ◌+◌, ◌<◌, refl, sym, ap, subst, pos, ◌∙◌, List, [], ◌∷◌, length, take, get_or}
+use Rattle.std.proofs.Common.{true, false, ◌==◌, not, inl, inr, arith}
 use Rattle.std.proofs.lemmas.Bool.{cases_Bool, cases_lt, cases_eq}
 use Rattle.std.proofs.lemmas.Bool.Decides.{nat_tests}
 use Rattle.std.proofs.lemmas.List.{get_or_past, get_or_default, get_or-take, length-take}
 use Rattle.seam_value.specs.declared.values.Value.{Value}
 use Rattle.seam_value.specs.declared.values.Value.TheVariants.{Number}
-use Rattle.seam_defs.specs.declared.flags.Flag.TheVariants.{Base, BaseAndClient, CellPrivate, CellPublic, CellPublicAndOwn, OwnClient, OtherClients, AllClients}
+use Rattle.seam_defs.specs.declared.flags.Flag.TheVariants.{Base, BaseAndClient, CellPrivate, CellPublic, CellPublicAndOwn, OwnClient}
+use Rattle.seam_defs.specs.declared.flags.Flag.TheVariants.{OtherClients, AllClients}
 use Rattle.seam_defs.specs.declared.flags.Flag.{Flag}
 use Rattle.seam_defs.specs.declared.flags.Group.{Group}
 use Rattle.seam_defs.specs.declared.flags.Part.{Part}
@@ -41,7 +43,8 @@ pub shown-within : (p : Part) → IsWithin (shown_by p) (held_by p)
 shown-within p f h = shown-held f p h
 
 -- where a property is not free, an operation is on it
-not-free : (k : ℕ) (body : List Operation) → is_free k body ≡ false → (j : ℕ) × (j < length body) × ((d : Operation) → target (get_or body j d) ≡ k)
+not-free : (k : ℕ) (body : List Operation) → is_free k body ≡ false →
+    (j : ℕ) × (j < length body) × ((d : Operation) → target (get_or body j d) ≡ k)
 not-free k [] h = absurd cc
 not-free k (op ∷ body) h =
     elim (cases_eq (target op) k) [
@@ -57,14 +60,18 @@ is-in-part held shown sub [] k h = absurd cc
 is-in-part held shown sub (p ∷ ps) zero h = sub p.flag h
 is-in-part held shown sub (p ∷ ps) (suc k) h = is-in-part held shown sub ps k h
 
-module _ (ps : List Property) (part : Part) (body : List Operation) (old new replaced : List Value) (long : length old ≡ length new) (were : WereReplaced ps (held_by part) body old replaced)
+module _ (ps : List Property) (part : Part) (body : List Operation) (old new replaced : List Value) (long : length old ≡ length new)
+    (were : WereReplaced ps (held_by part) body old replaced)
     (i : ℕ) (within : i < length body) (r : Value) (r_is : r ≡ get_or replaced i r) where
   here : (d : Operation) → get_or body i d ≡ get_or body i (get_or body i d)
   here d = get_or_default body i d (get_or body i d) within
 
   module _ (before : SameBelow ps (held_by part) (shown_by part) body old new i)
-      (no : (op : Operation) → op ≡ get_or body i op → IsFirstShown ps (shown_by part) body i op → place_of ps (held_by part) (target op) < length new → value_at new (place_of ps (held_by part) (target op)) ≡ r) where
-    same-at : (d : Operation) → is_in ps (shown_by part) (target (get_or body i d)) ≡ true → value_at old (place_of ps (held_by part) (target (get_or body i d))) ≡ value_at new (place_of ps (held_by part) (target (get_or body i d)))
+      (no : (op : Operation) → op ≡ get_or body i op → IsFirstShown ps (shown_by part) body i op →
+      place_of ps (held_by part) (target op) < length new → value_at new (place_of ps (held_by part) (target op)) ≡ r) where
+    same-at : (d : Operation) → is_in ps (shown_by part) (target (get_or body i d)) ≡ true →
+        value_at old (place_of ps (held_by part) (target (get_or body i d)))
+        ≡ value_at new (place_of ps (held_by part) (target (get_or body i d)))
     same-at d at =
         let op = get_or body i d in
         let place = place_of ps (held_by part) (target op) in
@@ -77,7 +84,8 @@ module _ (ps : List Property) (part : Part) (body : List Operation) (old new rep
               let on = not-free (target op) (take i body) busy in
               let below : on.0 < i = omega (arith, length-take i body) in
               let same : target (get_or body on.0 d) ≡ target op = sym (ap target (get_or-take i body on.0 d below)) ∙ on.2 d in
-              subst (λ q. value_at old (place_of ps (held_by part) q) ≡ value_at new (place_of ps (held_by part) q)) same (before on.0 d below (rw same at))
+              subst (λ q. value_at old (place_of ps (held_by part) q) ≡ value_at new (place_of ps (held_by part) q)) same
+              (before on.0 d below (rw same at))
         ]
 
     pub same-more : SameBelow ps (held_by part) (shown_by part) body old new (i + 1)
@@ -87,7 +95,9 @@ module _ (ps : List Property) (part : Part) (body : List Operation) (old new rep
           | inr earlier ↦ before j d (omega arith) at
         ]
 
-  pub differs : ((op : Operation) → op ≡ get_or body i op → IsFirstShown ps (shown_by part) body i op × (place_of ps (held_by part) (target op) < length new) × (value_at new (place_of ps (held_by part) (target op)) ≢ r)) →
+  pub differs : ((op : Operation) → op ≡ get_or body i op →
+      IsFirstShown ps (shown_by part) body i op × (place_of ps (held_by part) (target op) < length new)
+      × (value_at new (place_of ps (held_by part) (target op)) ≢ r)) →
       SameOn ps (held_by part) (shown_by part) body old new → ⊥
   differs changes same =
       let d = item body i within in
@@ -95,7 +105,8 @@ module _ (ps : List Property) (part : Part) (body : List Operation) (old new rep
       let all = changes op (here d) in
       all.2 (sym (same i d within all.0.1) ∙ sym (were i d r within all.0.0 (omega arith)) ∙ sym r_is)
 
-module _ (ps : List Property) (part : Part) (body : List Operation) (old new : List Value) (long : length new ≡ length old) (others : OthersStay ps (held_by part) body old new) where
+module _ (ps : List Property) (part : Part) (body : List Operation) (old new : List Value) (long : length new ≡ length old)
+    (others : OthersStay ps (held_by part) body old new) where
   agree : SameOn ps (held_by part) (shown_by part) body old new → Agree ps (held_by part) (shown_by part) old new
   agree same k at =
       elim (cases_Bool (is_free k body)) [
@@ -103,11 +114,13 @@ module _ (ps : List Property) (part : Part) (body : List Operation) (old new : L
         | inr busy ↦
             let on = not-free k body busy in
             let d = item body on.0 on.1 in
-            subst (λ q. value_at old (place_of ps (held_by part) q) ≡ value_at new (place_of ps (held_by part) q)) (on.2 d) (same on.0 d on.1 (rw (on.2 d) at))
+            subst (λ q. value_at old (place_of ps (held_by part) q) ≡ value_at new (place_of ps (held_by part) q)) (on.2 d)
+            (same on.0 d on.1 (rw (on.2 d) at))
       ]
 
   -- the body has left what others may see exactly where it has left it on the properties that it is on
-  pub same-shown : SameOn ps (held_by part) (shown_by part) body old new ↔ (projected ps (held_by part) (shown_by part) old ≡ projected ps (held_by part) (shown_by part) new)
+  pub same-shown : SameOn ps (held_by part) (shown_by part) body old new
+      ↔ (projected ps (held_by part) (shown_by part) old ≡ projected ps (held_by part) (shown_by part) new)
   same-shown = (
     (λ same. agree-to (held_by part) (shown_by part) (shown-within part) ps old new (sym long) (agree same)),
     (λ same j d within at. agree-from (held_by part) (shown_by part) (shown-within part) ps old new (sym long) same _ at),

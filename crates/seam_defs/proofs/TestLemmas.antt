@@ -1,5 +1,6 @@
 -- The tests decide their relations.
-use Rattle.std.proofs.Common.{◌≡◌, ℕ, ◌≤◌, ℤ, ◌≤ℤ◌, Bool, true, false, not, ◌&&◌, T, eqb, ◌↔◌, List, [], ◌∷◌, length, map, refl, ap, ◌∙◌, IsTrue, Result, Ok, Err}
+use Rattle.std.proofs.Common.{◌≡◌, ℕ, ◌≤◌, ℤ, ◌≤ℤ◌, Bool, true, false, not, ◌&&◌, T, eqb, ◌↔◌, List, [], ◌∷◌, length, map, refl, ap, ◌∙◌}
+use Rattle.std.proofs.Common.{IsTrue, Result, Ok, Err}
 use Rattle.std.specs.Prelude.{IfOk, OnOk}
 use Rattle.std.specs.Bool.{Decides}
 use Rattle.std.specs.Prelude.{int_le, nat_le}
@@ -63,10 +64,14 @@ utf8-Decides bytes = (IsUtf8-from_is_utf8 bytes, is_utf8-from_IsUtf8 bytes)
 pub fits-Decides : (t : ValueType) (v : Value) → Decides (fits_value t v) (Fits v t)
 fits-Decides t (Number z) =
     let number = Decides-not (is_text t) (text-Decides t) in
-    let both = Decides-and (not (is_text t) && int_le (least t) z) (int_le z (greatest t)) (Decides-and (not (is_text t)) (int_le (least t) z) number (int_le-Decides (least t) z)) (int_le-Decides z (greatest t)) in
+    let both =
+    Decides-and (not (is_text t) && int_le (least t) z) (int_le z (greatest t))
+    (Decides-and (not (is_text t)) (int_le (least t) z) number (int_le-Decides (least t) z)) (int_le-Decides z (greatest t)) in
     ((λ e. let h = both.0 e in (h.0.0, h.0.1, h.1)), (λ h. both.1 ((h.0, h.1), h.2)))
 fits-Decides t (Text bytes) =
-    let both = Decides-and (is_text t && is_utf8 bytes) (nat_le (length bytes) 255) (Decides-and (is_text t) (is_utf8 bytes) (text-Decides t) (utf8-Decides bytes)) (nat_le-Decides (length bytes) 255) in
+    let both =
+    Decides-and (is_text t && is_utf8 bytes) (nat_le (length bytes) 255)
+    (Decides-and (is_text t) (is_utf8 bytes) (text-Decides t) (utf8-Decides bytes)) (nat_le-Decides (length bytes) 255) in
     ((λ e. let h = both.0 e in (h.0.0, record { utf8 = h.0.1; short = h.1 })), (λ h. both.1 ((h.0, h.1.utf8), h.1.short)))
 
 -- values of types, place by place
@@ -103,15 +108,19 @@ same_states a b x z p = λ i. record { pos = record { x = x i; z = z i }; props 
 state-Decides : (a b : State) → Decides (same_state a b) (a ≡ b)
 state-Decides a b =
     let place = Decides-and (eqb a.pos.x b.pos.x) (eqb a.pos.z b.pos.z) (Decides-eqb a.pos.x b.pos.x) (Decides-eqb a.pos.z b.pos.z) in
-    let both = Decides-and (eqb a.pos.x b.pos.x && eqb a.pos.z b.pos.z) (same_values a.props b.props) place (values-Decides a.props b.props) in
-    ((λ e. let h = both.0 e in same_states a b h.0.0 h.0.1 h.1), (λ e. both.1 ((ap (λ s. s.pos.x) e, ap (λ s. s.pos.z) e), ap (λ s. s.props) e)))
+    let both =
+    Decides-and (eqb a.pos.x b.pos.x && eqb a.pos.z b.pos.z) (same_values a.props b.props) place (values-Decides a.props b.props) in (
+      (λ e. let h = both.0 e in same_states a b h.0.0 h.0.1 h.1),
+      (λ e. both.1 ((ap (λ s. s.pos.x) e, ap (λ s. s.pos.z) e), ap (λ s. s.props) e)),
+    )
 
 shown-Decides : (ps : List Property) (q : Part) (old new : State) → Decides (same_shown ps q old new) (SameShown ps q old new)
 shown-Decides ps part.Cell old new = state-Decides (ghost_of ps old) (ghost_of ps new)
 shown-Decides ps part.Base old new = values-Decides (client_of ps old) (client_of ps new)
 
 -- the answer of a deed is the test
-pub changed_is : (t : TypeDef) (s new : State) (d : Deed) (c : Bool) → (c ≡ false) ↔ SameShown t.properties (part_of_deed t d) s new → new ≡ after t s d → c ≡ changes t s d
+pub changed_is : (t : TypeDef) (s new : State) (d : Deed) (c : Bool) → (c ≡ false) ↔ SameShown t.properties (part_of_deed t d) s new →
+    new ≡ after t s d → c ≡ changes t s d
 changed_is t s new d c h e =
     not_by c (same_shown t.properties (part_of_deed t d) s new) h (shown-Decides t.properties (part_of_deed t d) s new)
     ∙ ap (λ x. not (same_shown t.properties (part_of_deed t d) s x)) e
@@ -122,6 +131,8 @@ changed_is t s new d c h e =
     not_by false true h d = refl
     not_by false false h d = let f : false ≡ true = d.1 (h.0 refl) in cc
 
-pub changed_if_ok : {E : Type 0} (t : TypeDef) (s new : State) (d : Deed) (r : Result Bool E) → IfOk r (λ c. (c ≡ false) ↔ SameShown t.properties (part_of_deed t d) s new) → OnOk r (new ≡ after t s d) → IfOk r (λ c. c ≡ changes t s d)
+pub changed_if_ok : {E : Type 0} (t : TypeDef) (s new : State) (d : Deed) (r : Result Bool E) →
+    IfOk r (λ c. (c ≡ false) ↔ SameShown t.properties (part_of_deed t d) s new) → OnOk r (new ≡ after t s d) →
+    IfOk r (λ c. c ≡ changes t s d)
 changed_if_ok t s new d (Ok c) h e = changed_is t s new d c h e
 changed_if_ok t s new d (Err x) h e = tt

@@ -26,34 +26,52 @@ module _ (ps : List Property) (g : Group) (i : ℕ) (p : Property) (within : i <
   properties-same other = rw (filter_more (λ q. in_group q.flag g) ps i p within, ← here, other) (append-nil (properties_of (take i ps) g))
 
   pub text-more : (vs : List Value) → in_group p.flag g ≡ true →
-      values_text (take (i + 1) ps) g vs ≡ values_text (take i ps) g vs ++ flat_map property_text (zip (p ∷ []) (drop (length (properties_of (take i ps) g)) vs))
-  text-more vs held = rw (properties-more held, zip-append (properties_of (take i ps) g) (p ∷ []) vs) (flat_map-append property_text (zip (properties_of (take i ps) g) vs) (zip (p ∷ []) (drop (length (properties_of (take i ps) g)) vs)))
+      values_text (take (i + 1) ps) g vs ≡ values_text (take i ps) g vs
+      ++ flat_map property_text (zip (p ∷ []) (drop (length (properties_of (take i ps) g)) vs))
+  text-more vs held =
+      rw (properties-more held, zip-append (properties_of (take i ps) g) (p ∷ []) vs)
+      (flat_map-append property_text (zip (properties_of (take i ps) g) vs) (zip (p ∷ []) (drop (length (properties_of (take i ps) g)) vs)))
 
   pub text-same : (vs : List Value) → in_group p.flag g ≡ false → values_text (take (i + 1) ps) g vs ≡ values_text (take i ps) g vs
   text-same vs other = ap (λ qs. flat_map property_text (zip qs vs)) (properties-same other)
 
-one-projected : (p : Property) (g : Group) (ws : List Value) → in_group p.flag g ≡ true → map (λ e. e.1) (filter (λ e. in_group e.0.flag g) (zip (p ∷ []) ws)) ≡ take 1 ws
+one-projected : (p : Property) (g : Group) (ws : List Value) → in_group p.flag g ≡ true →
+    map (λ e. e.1) (filter (λ e. in_group e.0.flag g) (zip (p ∷ []) ws)) ≡ take 1 ws
 one-projected p g [] seen = refl
 one-projected p g (w ∷ ws) seen = rw seen refl
 
-none-projected : (p : Property) (g : Group) (ws : List Value) → in_group p.flag g ≡ false → map (λ e. e.1) (filter (λ e. in_group e.0.flag g) (zip (p ∷ []) ws)) ≡ []
+none-projected : (p : Property) (g : Group) (ws : List Value) → in_group p.flag g ≡ false →
+    map (λ e. e.1) (filter (λ e. in_group e.0.flag g) (zip (p ∷ []) ws)) ≡ []
 none-projected p g [] unseen = refl
 none-projected p g (w ∷ ws) unseen = rw unseen refl
 
-module _ (ps : List Property) (held g : Group) (i : ℕ) (p : Property) (within : i < length ps) (here : p ≡ get_or ps i p) (vs : List Value) where
-  pub projected-other : in_group p.flag held ≡ false → projected (take (i + 1) ps) held g vs ≡ projected (take i ps) held g vs
-  projected-other other = ap (λ qs. map (λ e. e.1) (filter (λ e. in_group e.0.flag g) (zip qs vs))) (properties-same ps held i p within here other)
+module _ (ps : List Property) (held g : Group) (i : ℕ) (p : Property) (within : i < length ps) (here : p ≡ get_or ps i p) (vs : List Value)
+  where
+    pub projected-other : in_group p.flag held ≡ false → projected (take (i + 1) ps) held g vs ≡ projected (take i ps) held g vs
+    projected-other other =
+        ap (λ qs. map (λ e. e.1) (filter (λ e. in_group e.0.flag g) (zip qs vs))) (properties-same ps held i p within here other)
 
-  projected-split : in_group p.flag held ≡ true →
-      projected (take (i + 1) ps) held g vs ≡ projected (take i ps) held g vs ++ map (λ e. e.1) (filter (λ e. in_group e.0.flag g) (zip (p ∷ []) (drop (length (properties_of (take i ps) held)) vs)))
-  projected-split inside =
-      let rest = drop (length (properties_of (take i ps) held)) vs in
-      let before = zip (properties_of (take i ps) held) vs in
-      rw (properties-more ps held i p within here inside, zip-append (properties_of (take i ps) held) (p ∷ []) vs, filter-append (λ e. in_group e.0.flag g) before (zip (p ∷ []) rest))
-      (map-append (λ e. e.1) (filter (λ e. in_group e.0.flag g) before) (filter (λ e. in_group e.0.flag g) (zip (p ∷ []) rest)))
+    projected-split : in_group p.flag held ≡ true →
+        projected (take (i + 1) ps) held g vs ≡ projected (take i ps) held g vs
+        ++ map (λ e. e.1) (filter (λ e. in_group e.0.flag g) (zip (p ∷ []) (drop (length (properties_of (take i ps) held)) vs)))
+    projected-split inside =
+        let rest = drop (length (properties_of (take i ps) held)) vs in
+        let before = zip (properties_of (take i ps) held) vs in
+        rw (
+          properties-more ps held i p within here inside,
+          zip-append (properties_of (take i ps) held) (p ∷ []) vs,
+          filter-append (λ e. in_group e.0.flag g) before (zip (p ∷ []) rest),
+        )
+        (map-append (λ e. e.1) (filter (λ e. in_group e.0.flag g) before) (filter (λ e. in_group e.0.flag g) (zip (p ∷ []) rest)))
 
-  pub projected-more : in_group p.flag held ≡ true → in_group p.flag g ≡ true → projected (take (i + 1) ps) held g vs ≡ projected (take i ps) held g vs ++ take 1 (drop (length (properties_of (take i ps) held)) vs)
-  projected-more inside seen = projected-split inside ∙ ap (λ l. projected (take i ps) held g vs ++ l) (one-projected p g (drop (length (properties_of (take i ps) held)) vs) seen)
+    pub projected-more : in_group p.flag held ≡ true → in_group p.flag g ≡ true →
+        projected (take (i + 1) ps) held g vs ≡ projected (take i ps) held g vs ++ take 1 (drop (length (properties_of (take i ps) held)) vs)
+    projected-more inside seen =
+        projected-split inside ∙ ap (λ l. projected (take i ps) held g vs ++ l)
+        (one-projected p g (drop (length (properties_of (take i ps) held)) vs) seen)
 
-  pub projected-unseen : in_group p.flag held ≡ true → in_group p.flag g ≡ false → projected (take (i + 1) ps) held g vs ≡ projected (take i ps) held g vs
-  projected-unseen inside unseen = projected-split inside ∙ ap (λ l. projected (take i ps) held g vs ++ l) (none-projected p g (drop (length (properties_of (take i ps) held)) vs) unseen) ∙ append-nil (projected (take i ps) held g vs)
+    pub projected-unseen : in_group p.flag held ≡ true → in_group p.flag g ≡ false →
+        projected (take (i + 1) ps) held g vs ≡ projected (take i ps) held g vs
+    projected-unseen inside unseen =
+        projected-split inside ∙ ap (λ l. projected (take i ps) held g vs ++ l)
+        (none-projected p g (drop (length (properties_of (take i ps) held)) vs) unseen) ∙ append-nil (projected (take i ps) held g vs)

@@ -1,5 +1,6 @@
 -- Groups of values, and what a deed does to a state.
-use Rattle.std.specs.Prelude.{◌≡◌, ⊤, ℕ, ℤ, pos, ◌-◌, ◌<◌, ◌+ℤ◌, ◌-ℤ◌, List, ◌∷◌, ◌++◌, length, map, filter, fold, slice_index_or, slice_set, take}
+use Rattle.std.specs.Prelude.{◌≡◌, ⊤, ℕ, ℤ, pos, ◌-◌, ◌<◌, ◌+ℤ◌, ◌-ℤ◌, List, ◌∷◌, ◌++◌, length, map, filter, fold, slice_index_or}
+use Rattle.std.specs.Prelude.{slice_set, take}
 use Rattle.std.specs.List.{AllZip, zip, flat_map}
 use Rattle.std.specs.Int.{int_min, int_max}
 use Rattle.seam_value.specs.Types.{least, greatest}

@@ -1,5 +1,6 @@
 -- Types of entities: how they are numbered, and which are well formed.
-use Rattle.std.specs.Prelude.{◌≡◌, ◌≢◌, ℕ, ◌-◌, ◌<◌, ◌≤◌, Bool, true, false, IsTrue, ◌&&◌, ◌||◌, nat_le, nat_lt, ◌==◌, List, [], ◌∷◌, length, map, All, Some, slice_get, slice_index_or, codes}
+use Rattle.std.specs.Prelude.{◌≡◌, ◌≢◌, ℕ, ◌-◌, ◌<◌, ◌≤◌, Bool, true, false, IsTrue, ◌&&◌, ◌||◌, nat_le, nat_lt, ◌==◌, List, [], ◌∷◌}
+use Rattle.std.specs.Prelude.{length, map, All, Some, slice_get, slice_index_or, codes}
 use Rattle.std.specs.List.{list_all}
 use Rattle.std.specs.Ordering.{nat_cmp, is_lt}
 use Rattle.std.specs.Cmp.Lexicographic.{slice_cmp}
@@ -15,7 +16,8 @@ use Rattle.seam_defs.specs.declared.types.Operation.TheVariants.{Put, Add, Sub}
 use Rattle.seam_defs.specs.declared.types.Method.{Method}
 use Rattle.seam_defs.specs.declared.types.TypeDef.{TypeDef}
 use Rattle.seam_defs.specs.Groups.{in_group, held_by}
-use Rattle.seam_defs.specs.declared.limits.TheConstants.{MOST_TYPES, MOST_PROPERTIES, MOST_METHODS, MOST_ARGUMENTS, MOST_OPERATIONS, LONGEST_NAME}
+use Rattle.seam_defs.specs.declared.limits.TheConstants.{MOST_TYPES, MOST_PROPERTIES, MOST_METHODS, MOST_ARGUMENTS, MOST_OPERATIONS}
+use Rattle.seam_defs.specs.declared.limits.TheConstants.{LONGEST_NAME}
 
 -- ---- numbers: a type, a method and a property is numbered by its place
 

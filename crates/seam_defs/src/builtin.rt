@@ -1,7 +1,8 @@
 // The types of a world whose header defines none, as a table.
 ghost use Rattle.std.specs.Prelude.{◌≡◌, ◌≤◌, List, IfOk, IsTrue, length, map};
 ghost use Rattle.std.specs.List.{list_all};
-ghost use Rattle.seam_defs.specs.Rows.{operand_of, operation_of, method_of as method_of_row, property_of as property_of_row, type_of as type_of_row, is_short_row, is_short_property, is_short_method, is_short_type};
+ghost use Rattle.seam_defs.specs.Rows.{operand_of, operation_of, method_of as method_of_row, property_of as property_of_row};
+ghost use Rattle.seam_defs.specs.Rows.{type_of as type_of_row, is_short_row, is_short_property, is_short_method, is_short_type};
 ghost use Rattle.seam_defs.specs.Builtin.{builtin as builtin_types};
 
 use crate::{Defs, Flag, Listed, Method, Operand, Operation, Part, Property, TypeDef};

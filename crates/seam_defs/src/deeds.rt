@@ -5,7 +5,9 @@ ghost use Rattle.seam_defs.specs.declared.types.Operation.{Operation as AnyOpera
 ghost use Rattle.seam_defs.specs.Groups.{held_by, shown_by};
 ghost use Rattle.seam_defs.specs.Types.{IsType, IsMethod};
 ghost use Rattle.seam_defs.specs.Tests.{changes};
-ghost use Rattle.seam_defs.specs.Deeds.{nearest as nearest_number, number_of, operand_value, operated, target, operand, place_of, type_at, value_at, after_with, after_body, after, part_of_deed, projected, SameShown, IsOfGroup, TakesArgs, FitsDeed};
+ghost use Rattle.seam_defs.specs.Deeds.{nearest as nearest_number, number_of, operand_value, operated, target, operand, place_of, type_at};
+ghost use Rattle.seam_defs.specs.Deeds.{value_at, after_with, after_body, after, part_of_deed, projected, SameShown, IsOfGroup, TakesArgs};
+ghost use Rattle.seam_defs.specs.Deeds.{FitsDeed};
 ghost use Rattle.seam_defs.specs.Running.{is_in, is_free, OnGroup, WereReplaced, OthersStay, SameOn, IsFirstShown};
 
 use crate::{Deed, Group, Method, Operand, Operation, Part, Property, Props, State, TypeDef};
@@ -66,7 +68,8 @@ impl TypeDef {
         ensures changed { IfOk result (λ c. (c ≡ false) ↔ SameShown self.now.properties (part_of_deed self.now deed.now) state.old state.new) }
         ensures test { IfOk result (λ c. c ≡ changes self.now state.old deed.now) }
         ensures err { OnErr result (state.new ≡ state.old) }
-        ensures kept { FitsDeed self.now deed.now → let group = held_by (part_of_deed self.now deed.now) in IsOfGroup self.now.properties group state.old.props → IsOfGroup self.now.properties group state.new.props }
+        ensures kept { FitsDeed self.now deed.now → let group = held_by (part_of_deed self.now deed.now) in
+            IsOfGroup self.now.properties group state.old.props → IsOfGroup self.now.properties group state.new.props }
     {
         self.perform(state, deed)
     }
@@ -88,7 +91,8 @@ impl TypeDef {
         ensures ok { OnOk result (state.new ≡ after self.now state.old deed.now) }
         ensures changed { IfOk result (λ c. (c ≡ false) ↔ SameShown self.now.properties (part_of_deed self.now deed.now) state.old state.new) }
         ensures err { OnErr result (state.new ≡ state.old) }
-        ensures kept { FitsDeed self.now deed.now → let group = held_by (part_of_deed self.now deed.now) in IsOfGroup self.now.properties group state.old.props → IsOfGroup self.now.properties group state.new.props }
+        ensures kept { FitsDeed self.now deed.now → let group = held_by (part_of_deed self.now deed.now) in
+            IsOfGroup self.now.properties group state.old.props → IsOfGroup self.now.properties group state.new.props }
     {
         match deed {
             Deed::Move(to) => {
@@ -119,9 +123,11 @@ fn run(
     props: &mut Props,
 ) -> Result<bool, AllocError>
     requires { IsMethod properties.now method.now }
-    ensures kept { TakesArgs method.now.args args.now → IsOfGroup properties.now (held_by method.now.part) props.old → IsOfGroup properties.now (held_by method.now.part) props.new }
+    ensures kept { TakesArgs method.now.args args.now → IsOfGroup properties.now (held_by method.now.part) props.old →
+        IsOfGroup properties.now (held_by method.now.part) props.new }
     ensures ok { OnOk result (props.new ≡ after_body properties.now (held_by method.now.part) args.now method.now.body props.old) }
-    ensures changed { IfOk result (λ c. (c ≡ false) ↔ (projected properties.now (held_by method.now.part) (shown_by method.now.part) props.old ≡ projected properties.now (held_by method.now.part) (shown_by method.now.part) props.new)) }
+    ensures changed { IfOk result (λ c. (c ≡ false) ↔ (projected properties.now (held_by method.now.part) (shown_by method.now.part) props.old
+        ≡ projected properties.now (held_by method.now.part) (shown_by method.now.part) props.new)) }
     ensures err { OnErr result (props.new ≡ props.old) }
 {
     let body = method.body.as_slice();
@@ -139,8 +145,10 @@ fn execute(
 ) -> bool
     requires long { length values.old ≡ length body.now }
     requires group { OnGroup properties.now (held_by part) body.now }
-    ensures after { (args : List AnyValue) → values.old ≡ map (λ op. operand_value args (operand op)) body.now → props.new ≡ after_body properties.now (held_by part) args body.now props.old }
-    ensures changed { (result ≡ false) ↔ (projected properties.now (held_by part) (shown_by part) props.old ≡ projected properties.now (held_by part) (shown_by part) props.new) }
+    ensures after { (args : List AnyValue) → values.old ≡ map (λ op. operand_value args (operand op)) body.now →
+        props.new ≡ after_body properties.now (held_by part) args body.now props.old }
+    ensures changed { (result ≡ false) ↔ (projected properties.now (held_by part) (shown_by part) props.old
+        ≡ projected properties.now (held_by part) (shown_by part) props.new) }
 {
     replace_values(properties, part.held(), body, props, values);
     any_changed(properties, part, body, props, values)
@@ -157,7 +165,8 @@ fn replace_values(
 )
     requires long { length values.old ≡ length body.now }
     requires group { OnGroup properties.now group body.now }
-    ensures after { (args : List AnyValue) → values.old ≡ map (λ op. operand_value args (operand op)) body.now → props.new ≡ after_body properties.now group args body.now props.old }
+    ensures after { (args : List AnyValue) → values.old ≡ map (λ op. operand_value args (operand op)) body.now →
+        props.new ≡ after_body properties.now group args body.now props.old }
     ensures replaced { WereReplaced properties.now group body.now props.old values.new }
     ensures others { OthersStay properties.now group body.now props.old props.new }
     ensures as_long { length props.new ≡ length props.old }
@@ -176,7 +185,8 @@ fn operate(
     props: &mut Props,
 )
     ensures after { props.new ≡ after_with properties.now group props.old operation.now value.old }
-    ensures replaced { let place = place_of properties.now group (target operation.now) in place < length props.old → value.new ≡ value_at props.old place }
+    ensures replaced { let place = place_of properties.now group (target operation.now) in
+        place < length props.old → value.new ≡ value_at props.old place }
 {
     let by = std::mem::replace(value, Value::Number(0));
     let place = place_of(properties, group, operation.target());
@@ -194,7 +204,8 @@ fn any_changed(
     replaced: &[Value],
 ) -> bool
     requires { length replaced.now ≡ length body.now }
-    ensures { (old : List AnyValue) → length old ≡ length props.now → WereReplaced properties.now (held_by part) body.now old replaced.now → ((result ≡ false) ↔ SameOn properties.now (held_by part) (shown_by part) body.now old props.now) }
+    ensures { (old : List AnyValue) → length old ≡ length props.now → WereReplaced properties.now (held_by part) body.now old replaced.now →
+        ((result ≡ false) ↔ SameOn properties.now (held_by part) (shown_by part) body.now old props.now) }
 {
     for (i, old) in replaced.iter().enumerate() {
         if is_changed_at(properties, part, body, i, props, old) {
@@ -214,8 +225,13 @@ fn is_changed_at(
     old: &Value,
 ) -> bool
     requires { i < length body.now }
-    ensures yes { (op : AnyOperation) → op ≡ slice_index_or body.now i op → let place = place_of properties.now (held_by part) (target op) in result ≡ true → IsFirstShown properties.now (shown_by part) body.now i op × (place < length props.now) × (value_at props.now place ≢ old.now) }
-    ensures no { (op : AnyOperation) → op ≡ slice_index_or body.now i op → let place = place_of properties.now (held_by part) (target op) in result ≡ false → IsFirstShown properties.now (shown_by part) body.now i op → place < length props.now → value_at props.now place ≡ old.now }
+    ensures yes { (op : AnyOperation) → op ≡ slice_index_or body.now i op →
+        let place = place_of properties.now (held_by part) (target op) in
+        result ≡ true → IsFirstShown properties.now (shown_by part) body.now i op × (place < length props.now)
+        × (value_at props.now place ≢ old.now) }
+    ensures no { (op : AnyOperation) → op ≡ slice_index_or body.now i op → let place = place_of properties.now (held_by part) (target op) in
+        result ≡ false → IsFirstShown properties.now (shown_by part) body.now i op → place < length props.now →
+        value_at props.now place ≡ old.now }
 {
     let property = body[i].target();
     let place = place_of(properties, part.held(), property);

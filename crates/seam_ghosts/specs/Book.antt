@@ -15,10 +15,13 @@ pub record BookView (P : Type 0) : Type 0 where
   pub room : set.FinSet nat_cmp
 
 abbrev pub ghost_code : {P : Type 0} → Coded P → Coded (Ghost P)
-ghost_code p = code_by (ℕ × Option _) (coded× coded_ℕ (coded_option p)) (λ g. (g.beat, g.copy)) (λ q. record { beat = q.0; copy = q.1 }) (λ _. refl)
+ghost_code p =
+    code_by (ℕ × Option _) (coded× coded_ℕ (coded_option p)) (λ g. (g.beat, g.copy)) (λ q. record { beat = q.0; copy = q.1 }) (λ _. refl)
 
 abbrev pub book_code : {P : Type 0} → Coded P → Coded (BookView P)
-book_code p = code_by (map.FinMap nat_cmp (Ghost _) × set.FinSet nat_cmp) (coded× (map.code coded_ℕ (ghost_code p)) (set.code coded_ℕ)) (λ w. (w.ghosts, w.room)) (λ q. record { ghosts = q.0; room = q.1 }) (λ _. refl)
+book_code p =
+    code_by (map.FinMap nat_cmp (Ghost _) × set.FinSet nat_cmp) (coded× (map.code coded_ℕ (ghost_code p)) (set.code coded_ℕ))
+    (λ w. (w.ghosts, w.room)) (λ q. record { ghosts = q.0; room = q.1 }) (λ _. refl)
 
 abbrev pub beat_in : {P : Type 0} → Option (Ghost P) → ℕ
 beat_in None = 0

@@ -5,14 +5,16 @@
 //! ghosts of the BigWorld Server Overview; the beats are of the kind of Lamport's clocks, 1978.)
 #![tactic(auto)]
 
-ghost use Rattle.std.specs.Prelude.{max, nat_lt, if◌then◌else◌, ◌≡◌, ◌<◌, ◌≤◌, ◌≢◌, ◌+◌, ℕ, length, find, IfOk, IfErr, OnOk, OnErr, option_map, option_copied, unwrap_or, slice_get, false, Some, None};
+ghost use Rattle.std.specs.Prelude.{max, nat_lt, if◌then◌else◌, ◌≡◌, ◌<◌, ◌≤◌, ◌≢◌, ◌+◌, ℕ, length, find, IfOk, IfErr, OnOk, OnErr};
+ghost use Rattle.std.specs.Prelude.{option_map, option_copied, unwrap_or, slice_get, false, Some, None};
 ghost use Rattle.std.specs.FinMap as map;
 ghost use Rattle.std.specs.FinSet as set;
 ghost use Rattle.seam_ghosts.specs.declared.Ghost.{Ghost};
 ghost use Rattle.seam_ghosts.specs.Slots.{low_bound, book_of, count_of_slot, count_of_copies};
 ghost use Rattle.std.specs.Ordering.{nat_cmp};
 ghost use Rattle.std.specs.BTreeMap.{IsOrdered};
-ghost use Rattle.seam_ghosts.specs.Book.{BookView, beat_of, copy_in, copy_of, copies, is_after, answer, with_ghost, after_message, ghost_after};
+ghost use Rattle.seam_ghosts.specs.Book.{BookView, beat_of, copy_in, copy_of, copies, is_after, answer, with_ghost, after_message};
+ghost use Rattle.seam_ghosts.specs.Book.{ghost_after};
 
 pub use seam_memory::NoMemoryFor;
 use std::alloc::{AllocError, Global};
@@ -267,7 +269,8 @@ fn write_entry<P: Drop>(
     news: Ghost<P>,
 ) -> Result<usize, NoMemoryFor<Option<P>>>
     ensures after { OnOk result (book_of entries.new.entries ≡ with_ghost (book_of entries.old.entries) e news) }
-    ensures count { IfOk result (λ less. count_of_copies entries.new.entries + less ≡ count_of_copies entries.old.entries + count_of_slot (Some news)) }
+    ensures count { IfOk result (λ less. count_of_copies entries.new.entries + less
+        ≡ count_of_copies entries.old.entries + count_of_slot (Some news)) }
     ensures err { OnErr result (entries.new.entries ≡ entries.old.entries) }
     ensures err_item { IfErr result (λ r. r.item ≡ news.copy) }
     ensures err_only_first { OnErr result (set.contains (book_of entries.old.entries).room e ≡ false) }
@@ -312,7 +315,8 @@ pub fn send_book<P: Send>(book: GhostBook<P>) -> GhostBook<P>
 pub fn beats_never_fall<P>()
     ensures never_fall { (w : BookView P) (e : ℕ) (g : Ghost P) (q : ℕ) → beat_of w q ≤ beat_of (after_message w e g) q }
     ensures greatest { (w : BookView P) (e : ℕ) (g : Ghost P) → beat_of (after_message w e g) e ≡ max (beat_of w e) g.beat }
-    ensures newest { (w : BookView P) (e : ℕ) (g : Ghost P) → copy_of (after_message w e g) e ≡ (if nat_lt (beat_of w e) g.beat then g.copy else copy_of w e) }
+    ensures newest { (w : BookView P) (e : ℕ) (g : Ghost P) →
+        copy_of (after_message w e g) e ≡ (if nat_lt (beat_of w e) g.beat then g.copy else copy_of w e) }
     ensures others { (w : BookView P) (e : ℕ) (g : Ghost P) (q : ℕ) → q ≢ e → map.get (after_message w e g).ghosts q ≡ map.get w.ghosts q }
     ensures entry { (w : BookView P) (e : ℕ) (g : Ghost P) → map.get (after_message w e g).ghosts e ≡ ghost_after (map.get w.ghosts e) g }
 {}

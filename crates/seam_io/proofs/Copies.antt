@@ -1,5 +1,6 @@
 -- What is copied out of a list, and what is left of it.
-use Rattle.std.proofs.Common.{◌≡◌, ℕ, ◌+◌, ◌-◌, ◌<◌, ◌≤◌, List, ◌++◌, length, take, drop, min, true, eqb, eqb-true, get_or, Contains, arith, sym, ap, ◌∙◌}
+use Rattle.std.proofs.Common.{◌≡◌, ℕ, ◌+◌, ◌-◌, ◌<◌, ◌≤◌, List, ◌++◌, length, take, drop, min, true, eqb, eqb-true, get_or, Contains, arith}
+use Rattle.std.proofs.Common.{sym, ap, ◌∙◌}
 use Rattle.std.proofs.Math.Seq.{take-add}
 use Rattle.std.proofs.lemmas.List.{take-append-drop, take_at, drop-drop, length-take, length-drop, take_all}
 
@@ -11,7 +12,8 @@ copied_prefix items buffer part at n same fits =
     let is_part : part ≡ take n (drop at items) = same ∙ ap (λ k. take k (drop at items)) count in
     let size : length part ≡ n = ap length is_part ∙ simp (length-take, length-drop) (omega arith) in
     let prefix : take n (part ++ drop n buffer) ≡ take n (drop at items) = take_at part (drop n buffer) n size ∙ is_part in
-    sym (take-append-drop n (drop at items)) ∙ ap (λ x. take n (drop at items) ++ x) (drop-drop n at items) ∙ ap (λ x. x ++ drop (at + n) items) (sym prefix)
+    sym (take-append-drop n (drop at items)) ∙ ap (λ x. take n (drop at items) ++ x) (drop-drop n at items)
+    ∙ ap (λ x. x ++ drop (at + n) items) (sym prefix)
 
 -- a prefix and the next n elements are the prefix that is n longer
 pub take_further : (xs : List ℕ) (i n : ℕ) → i + n ≤ length xs → take i xs ++ take n (take (length xs - i) (drop i xs)) ≡ take (i + n) xs

@@ -1,5 +1,6 @@
 -- The part of a list between two places.
-use Rattle.std.proofs.Common.{◌≡◌, ℕ, ◌+◌, ◌-◌, ◌<◌, ◌≤◌, Bool, true, false, List, [], ◌++◌, length, take, drop, get_or, refl, sym, ap, ◌∙◌, subst, arith, length-append, eqb-true}
+use Rattle.std.proofs.Common.{◌≡◌, ℕ, ◌+◌, ◌-◌, ◌<◌, ◌≤◌, Bool, true, false, List, [], ◌++◌, length, take, drop, get_or, refl, sym, ap, ◌∙◌}
+use Rattle.std.proofs.Common.{subst, arith, length-append, eqb-true}
 use Rattle.std.specs.Prelude.{slice_range}
 use Rattle.std.proofs.Math.Nat.{sub_self}
 use Rattle.std.proofs.Math.Seq.{take-add, take-append-add}
@@ -27,7 +28,8 @@ range_split xs a m b first second =
 pub range_rest : (xs : List ℕ) (a b n : ℕ) → a + n ≤ b → slice_range xs (a + n) b ≡ drop n (slice_range xs a b)
 range_rest xs a b n within =
     let parts : b - a ≡ n + (b - (a + n)) = omega arith in
-    ap (take (b - (a + n))) (sym (drop-drop n a xs)) ∙ sym (drop-take n (b - (a + n)) (drop a xs)) ∙ ap (λ m. drop n (take m (drop a xs))) (sym parts)
+    ap (take (b - (a + n))) (sym (drop-drop n a xs)) ∙ sym (drop-take n (b - (a + n)) (drop a xs))
+    ∙ ap (λ m. drop n (take m (drop a xs))) (sym parts)
 
 pub range_prefix : (xs : List ℕ) (a b n : ℕ) → a + n ≤ b → slice_range xs a (a + n) ≡ take n (slice_range xs a b)
 range_prefix xs a b n within =
@@ -50,10 +52,12 @@ none_passes bytes n fits none = All-from_get_or (λ byte. is_feed byte ≡ false
 -- after a part without a line feed none was found
 pub not_found : (prefix rest : List ℕ) → HasNoFeed prefix → Nowhere (Passes (is_byte 10) rest) 0 (length rest) → HasNoFeed (prefix ++ rest)
 not_found prefix rest whole none =
-    no_feed_append prefix rest whole (subst HasNoFeed (take_all (length rest) rest (omega arith)) (none_passes rest (length rest) (omega arith) none))
+    no_feed_append prefix rest whole (subst HasNoFeed (take_all (length rest) rest (omega arith))
+    (none_passes rest (length rest) (omega arith) none))
 
 -- after a part without a line feed one was found
-found_after : (prefix rest : List ℕ) (place : ℕ) → HasNoFeed prefix → NoneBefore (Passes (is_byte 10) rest) 0 (length rest) place → Passes (is_byte 10) rest place
+found_after : (prefix rest : List ℕ) (place : ℕ) → HasNoFeed prefix → NoneBefore (Passes (is_byte 10) rest) 0 (length rest) place →
+    Passes (is_byte 10) rest place
     → IsFeedAt (prefix ++ rest) (length prefix + place)
 found_after prefix rest place whole none feed = record {
   within = let high = none.high in omega (arith, length-append prefix rest);
@@ -65,4 +69,5 @@ found_after prefix rest place whole none feed = record {
 pub found : (held prefix rest : List ℕ) (size place : ℕ) → held ≡ prefix ++ rest → length prefix ≡ size → HasNoFeed prefix
     → NoneBefore (Passes (is_byte 10) rest) 0 (length rest) place → Passes (is_byte 10) rest place → IsFeedAt held (size + place)
 found held prefix rest size place parts same whole none feed =
-    subst (λ bytes. IsFeedAt bytes (size + place)) (sym parts) (subst (λ n. IsFeedAt (prefix ++ rest) (n + place)) same (found_after prefix rest place whole none feed))
+    subst (λ bytes. IsFeedAt bytes (size + place)) (sym parts)
+    (subst (λ n. IsFeedAt (prefix ++ rest) (n + place)) same (found_after prefix rest place whole none feed))

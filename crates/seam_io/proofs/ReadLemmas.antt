@@ -1,5 +1,6 @@
 -- What a read, and an answer, do to what has happened between a source and a reader.
-use Rattle.std.proofs.Common.{◌≡◌, ◌≢◌, ℕ, ◌+◌, ◌-◌, ◌<◌, ◌≤◌, Bool, true, false, cond, ◌⊎◌, inl, inr, List, [], ◌∷◌, ◌++◌, length, take, drop, refl, sym, ap, ◌∙◌, subst, arith, eqb, eqb-true, append_assoc, append-nil, length-append}
+use Rattle.std.proofs.Common.{◌≡◌, ◌≢◌, ℕ, ◌+◌, ◌-◌, ◌<◌, ◌≤◌, Bool, true, false, cond, ◌⊎◌, inl, inr, List, [], ◌∷◌, ◌++◌, length, take}
+use Rattle.std.proofs.Common.{drop, refl, sym, ap, ◌∙◌, subst, arith, eqb, eqb-true, append_assoc, append-nil, length-append}
 use Rattle.std.specs.Prelude.{slice_range}
 use Rattle.std.specs.Io.KnownBytes.{Consumes, IsAtEnd, Keeps}
 use Rattle.std.proofs.KnownBytes.{Consumes-trans, Consumes-kept}
@@ -27,7 +28,8 @@ false_unless false h = refl
 
 -- ---- a read
 
-pub filled : (start now later : SourceState) (old new : Reader) (given got : List ℕ) (read : List Line) → Reading start now old given read → Fills old new got
+pub filled : (start now later : SourceState) (old new : Reader) (given got : List ℕ) (read : List Line) → Reading start now old given read →
+    Fills old new got
     → Consumes now.left later.left got → now.faults ≤ later.faults → now.ends ≤ later.ends → old.ended ≡ false → old.taken < old.limit
     → (new.ended ≡ false → later.ends ≡ now.ends) → (new.ended ≡ true → (got ≡ []) × IsAtEnd later.left × Rose now.ends later.ends)
     → Reading start later new (given ++ got) read
@@ -56,7 +58,9 @@ pub fills : (old_items new_items : List ℕ) (start end count : ℕ) (p e e' : B
     → Fills (reader_of (slice_range old_items start end) p e taken limit line)
     (reader_of (slice_range new_items 0 (end - start + count)) p e' (taken + count) limit line') (take count (drop (end - start) new_items))
 fills old_items new_items start end count p e e' taken limit line line' prefix fits within = record {
-  held = ap (λ n. take n new_items) (sub-zero (end - start + count)) ∙ take-add (end - start) count new_items ∙ ap (λ bytes. bytes ++ take count (drop (end - start) new_items)) prefix;
+  held =
+      ap (λ n. take n new_items) (sub-zero (end - start + count)) ∙ take-add (end - start) count new_items
+      ∙ ap (λ bytes. bytes ++ take count (drop (end - start) new_items)) prefix;
   passing = refl;
   limit = refl;
   taken = omega (arith, length-take count (drop (end - start) new_items), length-drop (end - start) new_items);
@@ -64,14 +68,17 @@ fills old_items new_items start end count p e e' taken limit line line' prefix f
 }
 
 -- a reader that only moved what it holds
-pub same_view : (old_items new_items : List ℕ) (start end : ℕ) (p e : Bool) (taken limit : ℕ) (line : List ℕ) → take (end - start) new_items ≡ slice_range old_items start end → line ≡ []
-    → reader_of (slice_range new_items 0 (end - start)) p e taken limit [] ≡ reader_of (slice_range old_items start end) p e taken limit line
+pub same_view : (old_items new_items : List ℕ) (start end : ℕ) (p e : Bool) (taken limit : ℕ) (line : List ℕ) →
+    take (end - start) new_items ≡ slice_range old_items start end → line ≡ []
+    → reader_of (slice_range new_items 0 (end - start)) p e taken limit []
+    ≡ reader_of (slice_range old_items start end) p e taken limit line
 same_view old_items new_items start end p e taken limit line prefix none =
     same_but_held _ _ p e taken limit [] (ap (λ n. take n new_items) (sub-zero (end - start)) ∙ prefix)
     ∙ ap (λ (given : List ℕ). reader_of (slice_range old_items start end) p e taken limit given) (sym none)
 
 -- a read that failed took nothing
-pub unread : (start now later : SourceState) (old new : Reader) (given : List ℕ) (read : List Line) → Reading start now old given read → new ≡ old → old.ended ≡ false
+pub unread : (start now later : SourceState) (old new : Reader) (given : List ℕ) (read : List Line) → Reading start now old given read →
+    new ≡ old → old.ended ≡ false
     → Keeps now.left later.left → now.faults ≤ later.faults → later.ends ≡ now.ends
     → (got : List ℕ) × Reading start later new (given ++ got) read × (new.held ≡ old.held ++ got) × (length got ≤ 4096)
 unread start now later old new given read r same going kept faults ends =
@@ -94,18 +101,22 @@ no_bytes : (n : ℕ) (bytes : List ℕ) → eqb n 0 ≡ true → take n bytes �
 no_bytes n bytes e = ap (λ k. take k bytes) (eqb-true n 0 e)
 
 -- the bytes that a read took
-pub refilled : (start now later : SourceState) (old new : Reader) (given : List ℕ) (read : List Line) (count : ℕ) (bytes : List ℕ) → Reading start now old given read
-    → Fills old new (take count bytes) → Consumes now.left later.left (take count bytes) × (count ≡ 0 → 0 < length bytes → IsAtEnd later.left) → 0 < length bytes
+pub refilled : (start now later : SourceState) (old new : Reader) (given : List ℕ) (read : List Line) (count : ℕ) (bytes : List ℕ) →
+    Reading start now old given read
+    → Fills old new (take count bytes) → Consumes now.left later.left (take count bytes)
+    × (count ≡ 0 → 0 < length bytes → IsAtEnd later.left) → 0 < length bytes
     → now.faults ≤ later.faults → now.ends ≤ later.ends → (count ≡ 0 → Rose now.ends later.ends) → (count ≢ 0 → later.ends ≡ now.ends)
     → NeedsMore old → new.ended ≡ eqb count 0 → Reading start later new (given ++ take count bytes) read
 refilled start now later old new given read count bytes r f took some faults ends rose same needs ended =
     filled start now later old new given (take count bytes) read r f took.0 faults ends needs.going needs.room
     (λ e. same (λ zero. false≢true (sym e ∙ ended ∙ ap (λ n. eqb n 0) zero)))
-    (λ e. let zero : eqb count 0 ≡ true = sym ended ∙ e in (no_bytes count bytes zero, took.1 (eqb-true count 0 zero) some, rose (eqb-true count 0 zero)))
+    (λ e. let zero : eqb count 0 ≡ true = sym ended ∙ e in
+    (no_bytes count bytes zero, took.1 (eqb-true count 0 zero) some, rose (eqb-true count 0 zero)))
 
 -- ---- what an answer says
 
-pub moved : (start now : SourceState) (old new : Reader) (given : List ℕ) (read gave : List Line) → Reading start now old given read → Moves old new gave
+pub moved : (start now : SourceState) (old new : Reader) (given : List ℕ) (read gave : List Line) → Reading start now old given read →
+    Moves old new gave
     → Reading start now new given (read ++ gave)
 moved start now old new given read gave r m = record {
   took = r.took;
@@ -114,7 +125,8 @@ moved start now old new given read gave r m = record {
   faults = r.faults;
   ends = r.ends;
   going = λ e. r.going (sym m.ended ∙ e);
-  ended = λ e. let old_end = r.ended (sym m.ended ∙ e) in let a = m.taken in let b = m.limit in (old_end.0, old_end.1, omega (arith, old_end.2));
+  ended = λ e. let old_end = r.ended (sym m.ended ∙ e) in let a = m.taken in let b = m.limit in
+      (old_end.0, old_end.1, omega (arith, old_end.2));
   room = let a = r.room in let b = m.limit in let d = m.spent in omega (arith, length-append read gave);
   lines = λ more allowed.
       let allowed' : old.ended ≡ true → more ≡ [] = λ e. allowed (m.ended ∙ e) in
@@ -122,11 +134,14 @@ moved start now old new given read gave r m = record {
 }
 
 -- the same reader, after the prefix of a long line was let go
-pub kept : (start now : SourceState) (old new : Reader) (given : List ℕ) (read : List Line) → Reading start now old given read → Moves old new [] → Reading start now new given read
-kept start now old new given read r m = subst (λ ls. Reading start now new given ls) (append-nil read) (moved start now old new given read [] r m)
+pub kept : (start now : SourceState) (old new : Reader) (given : List ℕ) (read : List Line) → Reading start now old given read →
+    Moves old new [] → Reading start now new given read
+kept start now old new given read r m =
+    subst (λ ls. Reading start now new given ls) (append-nil read) (moved start now old new given read [] r m)
 
 -- where no line feed is held, the lines that a line feed ended were given
-whole_given : (start now : SourceState) (r : Reader) (given : List ℕ) (read : List Line) → Reading start now r given read → r.ended ≡ false → HasNoFeed r.held
+whole_given : (start now : SourceState) (r : Reader) (given : List ℕ) (read : List Line) → Reading start now r given read →
+    r.ended ≡ false → HasNoFeed r.held
     → whole_lines_of given ≡ read
 whole_given start now r given read h going whole =
     let one = left_one r.passing r.held whole in
@@ -136,26 +151,37 @@ whole_given start now r given read h going whole =
     (same_from_push _ _ _ _ both).0
 
 -- where nothing is held at the end, all lines were given
-all_given : (start now : SourceState) (r : Reader) (given : List ℕ) (read : List Line) → Reading start now r given read → r.held ≡ [] → r.passing ≡ false → lines_of given ≡ read
+all_given : (start now : SourceState) (r : Reader) (given : List ℕ) (read : List Line) → Reading start now r given read → r.held ≡ [] →
+    r.passing ≡ false → lines_of given ≡ read
 all_given start now r given read h none passing =
     ap lines_of (sym (append-nil given)) ∙ h.lines [] (λ e. refl) ∙ ap (λ p. read ++ lines_left p (r.held ++ [])) passing
     ∙ ap (λ bytes. read ++ lines_of (bytes ++ [])) none ∙ ap (λ ls. read ++ ls) lines_of-none ∙ append-nil read
 
 -- a line that was given was not given before
-not_all : (start now : SourceState) (r : Reader) (given : List ℕ) (read : List Line) (line : Line) → Reading start now r given (read ++ line ∷ []) → lines_of given ≡ read → ⊥
+not_all : (start now : SourceState) (r : Reader) (given : List ℕ) (read : List Line) (line : Line) →
+    Reading start now r given (read ++ line ∷ []) → lines_of given ≡ read → ⊥
 not_all start now r given read line h all =
     let whole = ap length (sym all ∙ ap lines_of (sym (append-nil given)) ∙ h.lines [] (λ e. refl)) in
     omega (arith, whole, length-append (read ++ line ∷ []) (lines_left r.passing (r.held ++ [])), length-append read (line ∷ []))
 
-not_whole : (start now : SourceState) (r : Reader) (given : List ℕ) (read : List Line) (line : Line) → Reading start now r given (read ++ line ∷ []) → r.ended ≡ false
+not_whole : (start now : SourceState) (r : Reader) (given : List ℕ) (read : List Line) (line : Line) →
+    Reading start now r given (read ++ line ∷ []) → r.ended ≡ false
     → whole_lines_of given ≡ read → ⊥
 not_whole start now r given read line h going all =
     let fed = lines_of-whole given in
-    let whole = ap length (ap (λ ls. ls ++ fed.0 ∷ []) (sym all) ∙ sym fed.1 ∙ h.lines (10 ∷ []) (λ e. absurd (false≢true (sym going ∙ e)))) in
+    let whole =
+    ap length (ap (λ ls. ls ++ fed.0 ∷ []) (sym all) ∙ sym fed.1 ∙ h.lines (10 ∷ []) (λ e. absurd (false≢true (sym going ∙ e)))) in
     let some = some_line r.passing r.held in
-    omega (arith, whole, length-append read (fed.0 ∷ []), length-append (read ++ line ∷ []) (lines_left r.passing (r.held ++ 10 ∷ [])), length-append read (line ∷ []))
+    omega (
+      arith,
+      whole,
+      length-append read (fed.0 ∷ []),
+      length-append (read ++ line ∷ []) (lines_left r.passing (r.held ++ 10 ∷ [])),
+      length-append read (line ∷ []),
+    )
 
-exact_line : (n : Next) (start now : SourceState) (r : Reader) (given : List ℕ) (read : List Line) (line : Line) → (n ≡ next.End → ⊥) → (n ≡ next.Limit → ⊥)
+exact_line : (n : Next) (start now : SourceState) (r : Reader) (given : List ℕ) (read : List Line) (line : Line) → (n ≡ next.End → ⊥) →
+    (n ≡ next.Limit → ⊥)
     → (n ≡ next.ReadFault → ⊥) → Reading start now r given (read ++ line ∷ []) → IsExact n r given read
 exact_line n start now r given read line no_end no_limit no_fault h = record {
   ended = (λ e. absurd (no_end e), λ all. absurd (not_all start now r given read line h all.1));
@@ -170,8 +196,10 @@ exact_line n start now r given read line no_end no_limit no_fault h = record {
 
 exact_by_answer : (n : Next) (start now : SourceState) (old new : Reader) (given : List ℕ) (read : List Line) → Answers n old new
     → Reading start now new given (read ++ lines_given n new.line) → IsExact n new given read
-exact_by_answer next.Line start now old new given read a h = exact_line next.Line start now new given read (Content new.line) (λ e. cc) (λ e. cc) (λ e. cc) h
-exact_by_answer next.Long start now old new given read a h = exact_line next.Long start now new given read Long (λ e. cc) (λ e. cc) (λ e. cc) h
+exact_by_answer next.Line start now old new given read a h =
+    exact_line next.Line start now new given read (Content new.line) (λ e. cc) (λ e. cc) (λ e. cc) h
+exact_by_answer next.Long start now old new given read a h =
+    exact_line next.Long start now new given read Long (λ e. cc) (λ e. cc) (λ e. cc) h
 exact_by_answer next.End start now old new given read a h =
     let same = rw append-nil at h in
     record {
@@ -189,7 +217,8 @@ exact_by_answer next.Limit start now old new given read a h =
     }
 
 -- an answer without a read
-pub answered : (n : Next) (start now : SourceState) (old new : Reader) (given : List ℕ) (read : List Line) → Reading start now old given read → Answers n old new
+pub answered : (n : Next) (start now : SourceState) (old new : Reader) (given : List ℕ) (read : List Line) →
+    Reading start now old given read → Answers n old new
     → Reading start now new given (read ++ lines_given n new.line) × IsExact n new given read
 answered n start now old new given read r a =
     let h = moved start now old new given read (lines_given n new.line) r a.moves in
@@ -253,7 +282,11 @@ one_bound false = omega arith
 pub turn_falls : (limit taken later : ℕ) (old new : Bool) → old ≡ false → taken < limit → (taken < later) ⊎ ((later ≡ taken) × (new ≡ true))
     → limit - later + cond {A = ℕ} new 0 1 < limit - taken + cond {A = ℕ} old 0 1
 turn_falls limit taken later old new going room (inl more) = let a = one_bound new in let b = one_at false old going in omega arith
-turn_falls limit taken later old new going room (inr end) = let a = one_at true new end.1 in let b = one_at false old going in let same = end.0 in omega arith
+turn_falls limit taken later old new going room (inr end) =
+    let a = one_at true new end.1 in
+    let b = one_at false old going in
+    let same = end.0 in
+    omega arith
 
 -- ---- what a call takes
 
@@ -261,7 +294,8 @@ turn_falls limit taken later old new going room (inr end) = let a = one_at true 
 pub sparing_more : (got more : List ℕ) → HasNoFeed got → length more ≤ 4096 → IsSparing (got ++ more)
 sparing_more got more whole small =
     let size : length (got ++ more) - 4096 ≤ length got = omega (arith, length-append got more) in
-    subst HasNoFeed (sym (take-append-le (length (got ++ more) - 4096) got more size)) (All-take (λ byte. is_feed byte ≡ false) (length (got ++ more) - 4096) got whole)
+    subst HasNoFeed (sym (take-append-le (length (got ++ more) - 4096) got more size))
+    (All-take (λ byte. is_feed byte ≡ false) (length (got ++ more) - 4096) got whole)
 
 pub sparing_same : (got : List ℕ) → IsSparing got → IsSparing (got ++ [])
 sparing_same got sparing = subst IsSparing (sym (append-nil got)) sparing

@@ -1,5 +1,6 @@
 -- What a reader of lines does between its reads.
-use Rattle.std.proofs.Common.{◌≡◌, ◌≢◌, ℕ, ◌+◌, ◌-◌, ◌<◌, ◌≤◌, Bool, true, false, cond, ◌⊎◌, inl, inr, List, [], ◌∷◌, ◌++◌, length, take, drop, refl, sym, ap, ◌∙◌, subst, arith, append-nil}
+use Rattle.std.proofs.Common.{◌≡◌, ◌≢◌, ℕ, ◌+◌, ◌-◌, ◌<◌, ◌≤◌, Bool, true, false, cond, ◌⊎◌, inl, inr, List, [], ◌∷◌, ◌++◌, length, take}
+use Rattle.std.proofs.Common.{drop, refl, sym, ap, ◌∙◌, subst, arith, append-nil}
 use Rattle.std.specs.Prelude.{if◌then◌else◌}
 use Rattle.std.proofs.lemmas.List.{length-drop, take_all, drop_all}
 use Rattle.seam_io.specs.Lines.{Line, Long, line_of, lines_of, lines_left, HasNoFeed}
@@ -10,7 +11,8 @@ use Rattle.seam_io.specs.declared.lines.Next.TheVariants as next
 use Rattle.seam_io.proofs.LineLemmas.{no_feed_none, lines_of-none, left_let_go, left_fed, left_last}
 
 abbrev pub reader_of : List ℕ → Bool → Bool → ℕ → ℕ → List ℕ → Reader
-reader_of held passing ended taken limit line = record { held = held; passing = passing; ended = ended; taken = taken; limit = limit; line = line }
+reader_of held passing ended taken limit line =
+    record { held = held; passing = passing; ended = ended; taken = taken; limit = limit; line = line }
 
 -- readers that differ in what they hold alone
 pub same_but_held : (a b : List ℕ) (passing ended : Bool) (taken limit : ℕ) (line : List ℕ) → a ≡ b
@@ -29,7 +31,8 @@ spent_prefix a held rest p none (inl passing) = let e = flag_at true p passing i
 spent_prefix a held rest p none (inr long) = let e = flag_bound p in omega arith
 
 -- the prefix of a line that is too long is let go
-pub prefix_let_go : (old : Reader) (rest line : List ℕ) → HasNoFeed old.held → (old.passing ≡ true) ⊎ (4096 < length old.held) → rest ≡ [] → line ≡ []
+pub prefix_let_go : (old : Reader) (rest line : List ℕ) → HasNoFeed old.held → (old.passing ≡ true) ⊎ (4096 < length old.held) → rest ≡ [] →
+    line ≡ []
     → LetsGo old (record old { held = rest; passing = true; line = line })
 prefix_let_go old rest line whole long none empty = record {
   moves = record {
@@ -45,7 +48,8 @@ prefix_let_go old rest line whole long none empty = record {
 }
 
 -- nothing is let go
-pub nothing_let_go : (old : Reader) (line : List ℕ) → HasNoFeed old.held → length old.held ≤ 4096 → line ≡ [] → LetsGo old (record old { line = line })
+pub nothing_let_go : (old : Reader) (line : List ℕ) → HasNoFeed old.held → length old.held ≤ 4096 → line ≡ [] →
+    LetsGo old (record old { line = line })
 nothing_let_go old line whole short empty = record {
   moves = record { ended = refl; taken = refl; limit = refl; spent = omega arith; lines = λ more allowed. refl };
   whole = whole;
@@ -63,9 +67,11 @@ at_line next.ReadFault r text gave = cc
 at_line next.Limit r text gave = cc
 
 -- the first bytes of what is held are a line
-pub line_given : (n : Next) (old new : Reader) (text : Line) (gone : ℕ) → new ≡ record old { held = drop gone old.held; passing = false; line = new.line }
+pub line_given : (n : Next) (old new : Reader) (text : Line) (gone : ℕ) →
+    new ≡ record old { held = drop gone old.held; passing = false; line = new.line }
     → lines_given n new.line ≡ text ∷ [] → (n ≢ next.Line → new.line ≡ []) → gone ≤ length old.held → (old.passing ≡ true) ⊎ (0 < gone)
-    → ((more : List ℕ) → (old.ended ≡ true → more ≡ []) → lines_left old.passing (old.held ++ more) ≡ text ∷ lines_of (drop gone old.held ++ more))
+    → ((more : List ℕ) → (old.ended ≡ true → more ≡ []) →
+    lines_left old.passing (old.held ++ more) ≡ text ∷ lines_of (drop gone old.held ++ more))
     → Answers n old new
 line_given n old new text gone same gave empty within some law = record {
   moves = record {
@@ -81,19 +87,24 @@ line_given n old new text gone same gave empty within some law = record {
   line = empty;
 }
   where
-    spent_line : (a : ℕ) (held : List ℕ) (gone : ℕ) (p : Bool) → gone ≤ length held → (p ≡ true) ⊎ (0 < gone) → 1 + (a + length (drop gone held) + 0) ≤ a + length held + cond {A = ℕ} p 1 0
+    spent_line : (a : ℕ) (held : List ℕ) (gone : ℕ) (p : Bool) → gone ≤ length held → (p ≡ true) ⊎ (0 < gone) →
+        1 + (a + length (drop gone held) + 0) ≤ a + length held + cond {A = ℕ} p 1 0
     spent_line a held gone p within (inl passing) = let e = flag_at true p passing in simp length-drop (omega arith)
     spent_line a held gone p within (inr some) = simp length-drop (omega arith)
 
 pub feed_given : (n : Next) (old new : Reader) (len : ℕ) → IsFeedAt old.held len
     → new ≡ record old { held = drop (len + 1) old.held; passing = false; line = new.line }
-    → lines_given n new.line ≡ (if old.passing then Long else line_of (take len old.held)) ∷ [] → (n ≢ next.Line → new.line ≡ []) → Answers n old new
+    → lines_given n new.line ≡ (if old.passing then Long else line_of (take len old.held)) ∷ [] → (n ≢ next.Line → new.line ≡ []) →
+    Answers n old new
 feed_given n old new len feed same gave empty =
-    line_given n old new _ (len + 1) same gave empty (let w = feed.within in omega arith) (inr (omega arith)) (λ more allowed. left_fed old.passing old.held more len feed)
+    line_given n old new _ (len + 1) same gave empty (let w = feed.within in
+    omega arith) (inr (omega arith)) (λ more allowed. left_fed old.passing old.held more len feed)
 
-pub last_given : (n : Next) (old new : Reader) (len : ℕ) → len ≡ length old.held → HasNoFeed old.held → old.ended ≡ true → (old.passing ≡ true) ⊎ (0 < len)
+pub last_given : (n : Next) (old new : Reader) (len : ℕ) → len ≡ length old.held → HasNoFeed old.held → old.ended ≡ true →
+    (old.passing ≡ true) ⊎ (0 < len)
     → new ≡ record old { held = drop (len + 0) old.held; passing = false; line = new.line }
-    → lines_given n new.line ≡ (if old.passing then Long else line_of (take len old.held)) ∷ [] → (n ≢ next.Line → new.line ≡ []) → Answers n old new
+    → lines_given n new.line ≡ (if old.passing then Long else line_of (take len old.held)) ∷ [] → (n ≢ next.Line → new.line ≡ []) →
+    Answers n old new
 last_given n old new len size whole ended some same gave empty =
     line_given n old new _ (len + 0) same gave empty (omega arith) (some_gone some) (λ more allowed. law more (allowed ended))
   where
@@ -105,11 +116,13 @@ last_given n old new len size whole ended some same gave empty =
     some_held (inl passing) = inl passing
     some_held (inr more) = inr (omega arith)
 
-    law : (more : List ℕ) → more ≡ [] → lines_left old.passing (old.held ++ more) ≡ (if old.passing then Long else line_of (take len old.held)) ∷ lines_of (drop (len + 0) old.held ++ more)
+    law : (more : List ℕ) → more ≡ [] → lines_left old.passing (old.held ++ more)
+        ≡ (if old.passing then Long else line_of (take len old.held)) ∷ lines_of (drop (len + 0) old.held ++ more)
     law more none =
         let text : take len old.held ≡ old.held = take_all len old.held (omega arith) in
         let rest : drop (len + 0) old.held ≡ [] = drop_all (len + 0) old.held (omega arith) in
-        rw (none, text, rest, append-nil) (left_last old.passing old.held whole (some_held some) ∙ ap (λ ls. (if old.passing then Long else line_of old.held) ∷ ls) (sym lines_of-none))
+        rw (none, text, rest, append-nil) (left_last old.passing old.held whole (some_held some)
+        ∙ ap (λ ls. (if old.passing then Long else line_of old.held) ∷ ls) (sym lines_of-none))
 
 -- the end of the input, with nothing left
 pub end_found : (old : Reader) → old.ended ≡ true → old.held ≡ [] → old.passing ≡ false → old.line ≡ [] → Answers next.End old old

@@ -1,5 +1,6 @@
 // The lines of a source.
-ghost use Rattle.std.specs.Prelude.{◌≡◌, ◌≢◌, ◌<◌, ◌≤◌, ◌⊎◌, ◌+◌, ◌-◌, ◌++◌, [], ◌∷◌, List, ℕ, true, false, length, take, drop, slice_range, vec_len, IfOk, IfSome, IfNone, OnOk, OnErr, MatchOption, if◌then◌else◌};
+ghost use Rattle.std.specs.Prelude.{◌≡◌, ◌≢◌, ◌<◌, ◌≤◌, ◌⊎◌, ◌+◌, ◌-◌, ◌++◌, [], ◌∷◌, List, ℕ, true, false, length, take, drop};
+ghost use Rattle.std.specs.Prelude.{slice_range, vec_len, IfOk, IfSome, IfNone, OnOk, OnErr, MatchOption, if◌then◌else◌};
 ghost use Rattle.std.specs.Io.KnownBytes.{ReadConsumes};
 ghost use Rattle.std.specs.Str.Lines.{strip_carriage_return};
 ghost use Rattle.seam_io.specs.Causes.{Rose, HasCause, CountsEnds};

@@ -1,5 +1,6 @@
 -- A small input with calls: an avatar is made, hit and healed.
-use Rattle.std.proofs.Common.{◌≡◌, ◌↔◌, ap, ◌∙◌, ◌+◌, ◌<◌, ℕ, pos, Bool, true, false, List, [], ◌∷◌, ◌++◌, length, get_or, refl, sym, subst, arith, rules, lit≤, Some, None, cond, zero, suc}
+use Rattle.std.proofs.Common.{◌≡◌, ◌↔◌, ap, ◌∙◌, ◌+◌, ◌<◌, ℕ, pos, Bool, true, false, List, [], ◌∷◌, ◌++◌, length, get_or, refl, sym, subst}
+use Rattle.std.proofs.Common.{arith, rules, lit≤, Some, None, cond, zero, suc}
 use Rattle.std.specs.Prelude.{codes, Contains, ◌==◌, nat_lt}
 use Rattle.std.specs.Str.{IsUtf8}
 use Rattle.std.specs.List.{list_all}
@@ -45,7 +46,10 @@ use Rattle.seam_plain.proofs.Rows.{plain_header, ended_after, from_one, header_f
 
 -- a text of bytes below 128
 ascii : (bytes : List ℕ) → list_all (λ b. nat_lt b 128) bytes ≡ true → IsUtf8 bytes
-ascii bytes low = IsUtf8-from_ascii bytes (IsAscii-from_all bytes (λ k d within. ltb-true (get_or bytes k d) 128 (AllPass-from_list_all (λ b. nat_lt b 128) bytes low k d within)))
+ascii bytes low =
+    IsUtf8-from_ascii bytes
+    (IsAscii-from_all bytes (λ k d within. ltb-true (get_or bytes k d) 128
+    (AllPass-from_list_all (λ b. nat_lt b 128) bytes low k d within)))
 
 -- a plain word comes first after a gap
 word_at : (at : ℕ) (gap word rest : List ℕ) → IsGap gap → 0 < length word → list_all is_plain word ≡ true → EndsWord rest
@@ -63,27 +67,84 @@ word_at at gap word rest blank some plain ends = record {
 
 create_words : HasWords (codes "create 1 Avatar 100 100") (codes "create" ∷ codes "1" ∷ codes "Avatar" ∷ codes "100" ∷ codes "100" ∷ [])
 create_words = record {
-  spans = record { start = 0; end = 6; quoted = false } ∷ record { start = 7; end = 8; quoted = false } ∷ record { start = 9; end = 15; quoted = false } ∷ record { start = 16; end = 19; quoted = false } ∷ record { start = 20; end = 23; quoted = false } ∷ [];
+  spans =
+      record { start = 0; end = 6; quoted = false } ∷ record { start = 7; end = 8; quoted = false }
+      ∷ record { start = 9; end = 15; quoted = false } ∷ record { start = 16; end = 19; quoted = false }
+      ∷ record { start = 20; end = 23; quoted = false } ∷ [];
   text = ascii (codes "create 1 Avatar 100 100") refl;
-  are = (codes " 1 Avatar 100 100", word_at 0 [] (codes "create") (codes " 1 Avatar 100 100") refl (omega arith) refl refl, (codes " Avatar 100 100", word_at 6 (codes " ") (codes "1") (codes " Avatar 100 100") refl (omega arith) refl refl, (codes " 100 100", word_at 8 (codes " ") (codes "Avatar") (codes " 100 100") refl (omega arith) refl refl, (codes " 100", word_at 15 (codes " ") (codes "100") (codes " 100") refl (omega arith) refl refl, ([], word_at 19 (codes " ") (codes "100") [] refl (omega arith) refl tt, ([], refl, refl))))));
+  are = (
+    codes " 1 Avatar 100 100",
+    word_at 0 [] (codes "create") (codes " 1 Avatar 100 100") refl (omega arith) refl refl,
+    (
+      codes " Avatar 100 100",
+      word_at 6 (codes " ") (codes "1") (codes " Avatar 100 100") refl (omega arith) refl refl,
+      (
+        codes " 100 100",
+        word_at 8 (codes " ") (codes "Avatar") (codes " 100 100") refl (omega arith) refl refl,
+        (
+          codes " 100",
+          word_at 15 (codes " ") (codes "100") (codes " 100") refl (omega arith) refl refl,
+          ([], word_at 19 (codes " ") (codes "100") [] refl (omega arith) refl tt, ([], refl, refl)),
+        ),
+      ),
+    ),
+  );
   most = lit≤ tt;
   texts = refl;
 }
 
 hit_words : HasWords (codes "call b1 1 hit 30") (codes "call" ∷ codes "b1" ∷ codes "1" ∷ codes "hit" ∷ codes "30" ∷ [])
 hit_words = record {
-  spans = record { start = 0; end = 4; quoted = false } ∷ record { start = 5; end = 7; quoted = false } ∷ record { start = 8; end = 9; quoted = false } ∷ record { start = 10; end = 13; quoted = false } ∷ record { start = 14; end = 16; quoted = false } ∷ [];
+  spans =
+      record { start = 0; end = 4; quoted = false } ∷ record { start = 5; end = 7; quoted = false }
+      ∷ record { start = 8; end = 9; quoted = false } ∷ record { start = 10; end = 13; quoted = false }
+      ∷ record { start = 14; end = 16; quoted = false } ∷ [];
   text = ascii (codes "call b1 1 hit 30") refl;
-  are = (codes " b1 1 hit 30", word_at 0 [] (codes "call") (codes " b1 1 hit 30") refl (omega arith) refl refl, (codes " 1 hit 30", word_at 4 (codes " ") (codes "b1") (codes " 1 hit 30") refl (omega arith) refl refl, (codes " hit 30", word_at 7 (codes " ") (codes "1") (codes " hit 30") refl (omega arith) refl refl, (codes " 30", word_at 9 (codes " ") (codes "hit") (codes " 30") refl (omega arith) refl refl, ([], word_at 13 (codes " ") (codes "30") [] refl (omega arith) refl tt, ([], refl, refl))))));
+  are = (
+    codes " b1 1 hit 30",
+    word_at 0 [] (codes "call") (codes " b1 1 hit 30") refl (omega arith) refl refl,
+    (
+      codes " 1 hit 30",
+      word_at 4 (codes " ") (codes "b1") (codes " 1 hit 30") refl (omega arith) refl refl,
+      (
+        codes " hit 30",
+        word_at 7 (codes " ") (codes "1") (codes " hit 30") refl (omega arith) refl refl,
+        (
+          codes " 30",
+          word_at 9 (codes " ") (codes "hit") (codes " 30") refl (omega arith) refl refl,
+          ([], word_at 13 (codes " ") (codes "30") [] refl (omega arith) refl tt, ([], refl, refl)),
+        ),
+      ),
+    ),
+  );
   most = lit≤ tt;
   texts = refl;
 }
 
 heal_words : HasWords (codes "call b1 1 heal 5") (codes "call" ∷ codes "b1" ∷ codes "1" ∷ codes "heal" ∷ codes "5" ∷ [])
 heal_words = record {
-  spans = record { start = 0; end = 4; quoted = false } ∷ record { start = 5; end = 7; quoted = false } ∷ record { start = 8; end = 9; quoted = false } ∷ record { start = 10; end = 14; quoted = false } ∷ record { start = 15; end = 16; quoted = false } ∷ [];
+  spans =
+      record { start = 0; end = 4; quoted = false } ∷ record { start = 5; end = 7; quoted = false }
+      ∷ record { start = 8; end = 9; quoted = false } ∷ record { start = 10; end = 14; quoted = false }
+      ∷ record { start = 15; end = 16; quoted = false } ∷ [];
   text = ascii (codes "call b1 1 heal 5") refl;
-  are = (codes " b1 1 heal 5", word_at 0 [] (codes "call") (codes " b1 1 heal 5") refl (omega arith) refl refl, (codes " 1 heal 5", word_at 4 (codes " ") (codes "b1") (codes " 1 heal 5") refl (omega arith) refl refl, (codes " heal 5", word_at 7 (codes " ") (codes "1") (codes " heal 5") refl (omega arith) refl refl, (codes " 5", word_at 9 (codes " ") (codes "heal") (codes " 5") refl (omega arith) refl refl, ([], word_at 14 (codes " ") (codes "5") [] refl (omega arith) refl tt, ([], refl, refl))))));
+  are = (
+    codes " b1 1 heal 5",
+    word_at 0 [] (codes "call") (codes " b1 1 heal 5") refl (omega arith) refl refl,
+    (
+      codes " 1 heal 5",
+      word_at 4 (codes " ") (codes "b1") (codes " 1 heal 5") refl (omega arith) refl refl,
+      (
+        codes " heal 5",
+        word_at 7 (codes " ") (codes "1") (codes " heal 5") refl (omega arith) refl refl,
+        (
+          codes " 5",
+          word_at 9 (codes " ") (codes "heal") (codes " 5") refl (omega arith) refl refl,
+          ([], word_at 14 (codes " ") (codes "5") [] refl (omega arith) refl tt, ([], refl, refl)),
+        ),
+      ),
+    ),
+  );
   most = lit≤ tt;
   texts = refl;
 }
@@ -91,9 +152,28 @@ heal_words = record {
 -- a call of base node 2
 pub heal2_words : HasWords (codes "call b2 1 heal 5") (codes "call" ∷ codes "b2" ∷ codes "1" ∷ codes "heal" ∷ codes "5" ∷ [])
 heal2_words = record {
-  spans = record { start = 0; end = 4; quoted = false } ∷ record { start = 5; end = 7; quoted = false } ∷ record { start = 8; end = 9; quoted = false } ∷ record { start = 10; end = 14; quoted = false } ∷ record { start = 15; end = 16; quoted = false } ∷ [];
+  spans =
+      record { start = 0; end = 4; quoted = false } ∷ record { start = 5; end = 7; quoted = false }
+      ∷ record { start = 8; end = 9; quoted = false } ∷ record { start = 10; end = 14; quoted = false }
+      ∷ record { start = 15; end = 16; quoted = false } ∷ [];
   text = ascii (codes "call b2 1 heal 5") refl;
-  are = (codes " b2 1 heal 5", word_at 0 [] (codes "call") (codes " b2 1 heal 5") refl (omega arith) refl refl, (codes " 1 heal 5", word_at 4 (codes " ") (codes "b2") (codes " 1 heal 5") refl (omega arith) refl refl, (codes " heal 5", word_at 7 (codes " ") (codes "1") (codes " heal 5") refl (omega arith) refl refl, (codes " 5", word_at 9 (codes " ") (codes "heal") (codes " 5") refl (omega arith) refl refl, ([], word_at 14 (codes " ") (codes "5") [] refl (omega arith) refl tt, ([], refl, refl))))));
+  are = (
+    codes " b2 1 heal 5",
+    word_at 0 [] (codes "call") (codes " b2 1 heal 5") refl (omega arith) refl refl,
+    (
+      codes " 1 heal 5",
+      word_at 4 (codes " ") (codes "b2") (codes " 1 heal 5") refl (omega arith) refl refl,
+      (
+        codes " heal 5",
+        word_at 7 (codes " ") (codes "1") (codes " heal 5") refl (omega arith) refl refl,
+        (
+          codes " 5",
+          word_at 9 (codes " ") (codes "heal") (codes " 5") refl (omega arith) refl refl,
+          ([], word_at 14 (codes " ") (codes "5") [] refl (omega arith) refl tt, ([], refl, refl)),
+        ),
+      ),
+    ),
+  );
   most = lit≤ tt;
   texts = refl;
 }
@@ -214,13 +294,25 @@ abbrev pub after_lines : ℕ → Book → Standing
 after_lines lines b = record (after_header 1) { lines = lines; book = b }
 
 pub create_step : Step plain_header (after_header 1) (Content (codes "create 1 Avatar 100 100")) [] (after_lines 2 with_avatar)
-create_step = (verdict.Accepted (entry.Created avatar), (begins_with_c (codes "reate 1 Avatar 100 100"), create, create_words, means_create), (refl, refl))
+create_step = (
+  verdict.Accepted (entry.Created avatar),
+  (begins_with_c (codes "reate 1 Avatar 100 100"), create, create_words, means_create),
+  (refl, refl),
+)
 
 pub hit_step : Step plain_header (after_lines 2 with_avatar) (Content (codes "call b1 1 hit 30")) [] (after_lines 3 with_hit)
-hit_step = (verdict.Accepted (entry.Called (call (Base 1) 1 3 30)), (begins_with_c (codes "all b1 1 hit 30"), hit, hit_words, means_hit), (refl, refl))
+hit_step = (
+  verdict.Accepted (entry.Called (call (Base 1) 1 3 30)),
+  (begins_with_c (codes "all b1 1 hit 30"), hit, hit_words, means_hit),
+  (refl, refl),
+)
 
 heal_step : Step plain_header (after_lines 3 with_hit) (Content (codes "call b1 1 heal 5")) [] (after_lines 4 with_heal)
-heal_step = (verdict.Accepted (entry.Called (call (Base 1) 2 2 5)), (begins_with_c (codes "all b1 1 heal 5"), heal, heal_words, means_heal), (refl, refl))
+heal_step = (
+  verdict.Accepted (entry.Called (call (Base 1) 2 2 5)),
+  (begins_with_c (codes "all b1 1 heal 5"), heal, heal_words, means_heal),
+  (refl, refl),
+)
 
 -- ---- the round
 
@@ -252,7 +344,9 @@ first_round : IsRound plain_header first_end first_data (after_round first_end)
 first_round = round_in_order_is_legal plain_header first_end (avatar ∷ []) (avatar_alone with_heal (λ e. refl)) refl
 
 abbrev first_text : List ℕ
-first_text = codes "round 1\ndid 1 b1 1 hit 30\ndid 1 b1 2 heal 5\nhome 1 0 2 100 100 hp=75 mana=50 mood=0 note=\"\" scent=0 xp=0\nbase 1 0 gold=0 rank=1\nend 1\n"
+first_text =
+    codes
+    "round 1\ndid 1 b1 1 hit 30\ndid 1 b1 2 heal 5\nhome 1 0 2 100 100 hp=75 mana=50 mood=0 note=\"\" scent=0 xp=0\nbase 1 0 gold=0 rank=1\nend 1\n"
 
 first_form : first_text ≡ text_of builtin (Ended first_end first_data ∷ [])
 unfolding decimal_of quoted
@@ -264,14 +358,16 @@ abbrev first_input : List Line
 first_input = lines_of (codes "%%\ncreate 1 Avatar 100 100\ncall b1 1 hit 30\ncall b1 1 heal 5\nsync\n")
 
 first_lines : lines_of (codes "%%\ncreate 1 Avatar 100 100\ncall b1 1 hit 30\ncall b1 1 heal 5\nsync\n")
-    ≡ separator ∷ Content (codes "create 1 Avatar 100 100") ∷ Content (codes "call b1 1 hit 30") ∷ Content (codes "call b1 1 heal 5") ∷ Content (codes "sync") ∷ []
+    ≡ separator ∷ Content (codes "create 1 Avatar 100 100") ∷ Content (codes "call b1 1 hit 30") ∷ Content (codes "call b1 1 heal 5")
+    ∷ Content (codes "sync") ∷ []
 unfolding lines_of
 first_lines = refl
 
 first_ended : IsEnded first_input first_text
 first_ended =
     let pieces : List Piece = Ended first_end first_data ∷ [] in
-    ended_after first_input (Content (codes "create 1 Avatar 100 100") ∷ Content (codes "call b1 1 hit 30") ∷ Content (codes "call b1 1 heal 5") ∷ Content (codes "sync") ∷ [])
+    ended_after first_input (Content (codes "create 1 Avatar 100 100") ∷ Content (codes "call b1 1 hit 30")
+    ∷ Content (codes "call b1 1 heal 5") ∷ Content (codes "sync") ∷ [])
     pieces [] (after_round first_end) first_text first_lines (
       [],
       pieces,
@@ -290,7 +386,14 @@ first_ended =
           after_lines 4 with_heal,
           refl,
           heal_step,
-          (pieces, [], after_round first_end, refl, (verdict.Synced, sync_judged plain_header with_heal, (first_data, refl, first_round)), (refl, refl)),
+          (
+            pieces,
+            [],
+            after_round first_end,
+            refl,
+            (verdict.Synced, sync_judged plain_header with_heal, (first_data, refl, first_round)),
+            (refl, refl),
+          ),
         ),
       ),
     )
@@ -311,10 +414,12 @@ create_from = other_command (codes "create 1 Avatar 100 100") create create_word
     not_call s e n a is = cc
 
 hit_from : CallIsFrom from_one (Content (codes "call b1 1 hit 30"))
-hit_from s e n a k spells number = sym (ap sender_of (line_spells_one (codes "call b1 1 hit 30") hit (language.Call s e n a) hit_words spells)) ∙ sym base_one
+hit_from s e n a k spells number =
+    sym (ap sender_of (line_spells_one (codes "call b1 1 hit 30") hit (language.Call s e n a) hit_words spells)) ∙ sym base_one
 
 heal_from : CallIsFrom from_one (Content (codes "call b1 1 heal 5"))
-heal_from s e n a k spells number = sym (ap sender_of (line_spells_one (codes "call b1 1 heal 5") heal (language.Call s e n a) heal_words spells)) ∙ sym base_one
+heal_from s e n a k spells number =
+    sym (ap sender_of (line_spells_one (codes "call b1 1 heal 5") heal (language.Call s e n a) heal_words spells)) ∙ sym base_one
 
 first_sender : CallsAreFrom from_one first_input
 first_sender =
@@ -330,8 +435,11 @@ first_sender =
     (All-cons P (Content (codes "call b1 1 heal 5")) sync_on heal_from
     (All-cons P (Content (codes "sync")) [] sync_from (All-nil P))))))
 
-pub first_path_only : (text : List ℕ) → IsEnded (lines_of (codes "%%\ncreate 1 Avatar 100 100\ncall b1 1 hit 30\ncall b1 1 heal 5\nsync\n")) text
-    ↔ (text ≡ codes "round 1\ndid 1 b1 1 hit 30\ndid 1 b1 2 heal 5\nhome 1 0 2 100 100 hp=75 mana=50 mood=0 note=\"\" scent=0 xp=0\nbase 1 0 gold=0 rank=1\nend 1\n")
+pub first_path_only : (text : List ℕ) →
+    IsEnded (lines_of (codes "%%\ncreate 1 Avatar 100 100\ncall b1 1 hit 30\ncall b1 1 heal 5\nsync\n")) text
+    ↔ (text
+    ≡ codes
+    "round 1\ndid 1 b1 1 hit 30\ndid 1 b1 2 heal 5\nhome 1 0 2 100 100 hp=75 mana=50 mood=0 note=\"\" scent=0 xp=0\nbase 1 0 gold=0 rank=1\nend 1\n")
 first_path_only text = (
   (λ ended. transcript_is_one first_input from_one text first_text first_sender ended first_ended),
   (λ is. subst (IsEnded first_input) (sym is) first_ended),

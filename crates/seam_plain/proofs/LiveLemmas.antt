@@ -1,5 +1,6 @@
 -- What the plain program's walks over its lists find.
-use Rattle.std.proofs.Common.{◌≡◌, ◌+◌, ◌<◌, ℕ, Bool, true, false, List, [], ◌∷◌, ◌++◌, length, map, take, get_or, refl, sym, ◌∙◌, ap, subst, arith, inl, inr, Option, Some, None}
+use Rattle.std.proofs.Common.{◌≡◌, ◌+◌, ◌<◌, ℕ, Bool, true, false, List, [], ◌∷◌, ◌++◌, length, map, take, get_or, refl, sym, ◌∙◌, ap}
+use Rattle.std.proofs.Common.{subst, arith, inl, inr, Option, Some, None}
 use Rattle.std.specs.Prelude.{filter, find, ◌==◌, Contains, is_some, cond, All}
 use Rattle.std.specs.List.{cons_option}
 use Rattle.std.specs.Ordering.{nat_cmp}
@@ -20,13 +21,15 @@ use Rattle.seam_plain.specs.Plain.{live_among}
 -- ---- the live entities
 
 -- numbers that were sorted, of which each was kept once
-pub numbers_rise : (all numbers sorted kept : List ℕ) → numbers ≡ all → IsPermutation numbers sorted → IsSorted nat_cmp sorted → IsFiltered (DiffersFromLast (λ (a b : ℕ). a == b)) [] sorted kept
+pub numbers_rise : (all numbers sorted kept : List ℕ) → numbers ≡ all → IsPermutation numbers sorted → IsSorted nat_cmp sorted →
+    IsFiltered (DiffersFromLast (λ (a b : ℕ). a == b)) [] sorted kept
     → IsStrictlyIncreasing kept × ((e : ℕ) → Contains all e → Contains kept e)
 numbers_rise all numbers sorted kept is permutation in_order filtered =
     let kept_is = dedup_is (λ (a b : ℕ). a == b) sorted kept filtered in (
       subst IsStrictlyIncreasing (sym kept_is) (IsStrictlyIncreasing-dedup sorted in_order),
       (λ e has. subst (λ (xs : List ℕ). Contains xs e) (sym kept_is)
-          (Contains-dedup_nat sorted e (Contains-permutation numbers sorted e permutation (subst (λ (xs : List ℕ). Contains xs e) (sym is) has)))),
+          (Contains-dedup_nat sorted e (Contains-permutation numbers sorted e permutation
+          (subst (λ (xs : List ℕ). Contains xs e) (sym is) has)))),
     )
 
 contains_after_option : {X : Type 0} (o : Option X) (x : X) (xs : List X) → Contains xs x → Contains (cons_option o xs) x
@@ -34,28 +37,34 @@ contains_after_option None x xs has = has
 contains_after_option (Some y) x xs has = contains_later y x xs has
 
 -- what made an entity is among what was created
-found_among : (creates : List Create) (e : ℕ) (c : Create) → find (λ d. d.entity == e) creates ≡ Some c → Contains (map (λ d. d.entity) creates) e
+found_among : (creates : List Create) (e : ℕ) (c : Create) → find (λ d. d.entity == e) creates ≡ Some c →
+    Contains (map (λ d. d.entity) creates) e
 found_among [] e c is = cc
 found_among (x ∷ xs) e c is = cases (x.entity == e) refl (found_among xs e c) is
   where
-    cases : (b : Bool) → (x.entity == e) ≡ b → (find (λ d. d.entity == e) xs ≡ Some c → Contains (map (λ d. d.entity) xs) e) → cond b (Some x) (find (λ d. d.entity == e) xs) ≡ Some c → Contains (x.entity ∷ map (λ d. d.entity) xs) e
+    cases : (b : Bool) → (x.entity == e) ≡ b → (find (λ d. d.entity == e) xs ≡ Some c → Contains (map (λ d. d.entity) xs) e) →
+        cond b (Some x) (find (λ d. d.entity == e) xs) ≡ Some c → Contains (x.entity ∷ map (λ d. d.entity) xs) e
     cases true same again h =
         let here : x.entity ≡ e = grind (arith, same) in
         subst (λ (k : ℕ). Contains (x.entity ∷ map (λ d. d.entity) xs) k) here (contains_first x.entity (map (λ d. d.entity) xs))
     cases false other again h = contains_later x.entity e (map (λ d. d.entity) xs) (again h)
 
 -- each live entity was created
-live_made : (creates : List Create) (numbers : List ℕ) → All (λ (c : Create). find (λ d. d.entity == c.entity) creates ≡ Some c) (live_among creates numbers)
+live_made : (creates : List Create) (numbers : List ℕ) →
+    All (λ (c : Create). find (λ d. d.entity == c.entity) creates ≡ Some c) (live_among creates numbers)
 live_made creates [] = All-nil (λ (c : Create). find (λ d. d.entity == c.entity) creates ≡ Some c)
 live_made creates (e ∷ es) = cases (find (λ d. d.entity == e) creates) refl (live_made creates es)
   where
-    cases : (o : Option Create) → find (λ d. d.entity == e) creates ≡ o → All (λ (c : Create). find (λ d. d.entity == c.entity) creates ≡ Some c) (live_among creates es) → All (λ (c : Create). find (λ d. d.entity == c.entity) creates ≡ Some c) (cons_option o (live_among creates es))
+    cases : (o : Option Create) → find (λ d. d.entity == e) creates ≡ o →
+        All (λ (c : Create). find (λ d. d.entity == c.entity) creates ≡ Some c) (live_among creates es) →
+        All (λ (c : Create). find (λ d. d.entity == c.entity) creates ≡ Some c) (cons_option o (live_among creates es))
     cases None is again = again
     cases (Some c) is again =
         All-cons (λ (c : Create). find (λ d. d.entity == c.entity) creates ≡ Some c) c (live_among creates es)
         (subst (λ (k : ℕ). find (λ d. d.entity == k) creates ≡ Some c) (sym (found_entity creates e c is)) is) again
 
-live_has : (creates : List Create) (numbers : List ℕ) (e : ℕ) (c : Create) → Contains numbers e → find (λ d. d.entity == e) creates ≡ Some c → Contains (live_among creates numbers) c
+live_has : (creates : List Create) (numbers : List ℕ) (e : ℕ) (c : Create) → Contains numbers e →
+    find (λ d. d.entity == e) creates ≡ Some c → Contains (live_among creates numbers) c
 live_has creates [] e c (k, within, same) is = absurd (omega arith)
 live_has creates (x ∷ xs) e c has is = elim (contains_cases x e xs has) [
   | inl same ↦ subst (λ (o : Option Create). Contains (cons_option o (live_among creates xs)) c)
@@ -63,31 +72,39 @@ live_has creates (x ∷ xs) e c has is = elim (contains_cases x e xs has) [
   | inr there ↦ contains_after_option (find (λ d. d.entity == x) creates) c (live_among creates xs) (live_has creates xs e c there is)
 ]
 
-live_numbers : (creates : List Create) (numbers : List ℕ) → map (λ c. c.entity) (live_among creates numbers) ≡ filter (λ e. is_some (find (λ d. d.entity == e) creates)) numbers
+live_numbers : (creates : List Create) (numbers : List ℕ) →
+    map (λ c. c.entity) (live_among creates numbers) ≡ filter (λ e. is_some (find (λ d. d.entity == e) creates)) numbers
 live_numbers creates [] = refl
 live_numbers creates (e ∷ es) = cases (find (λ d. d.entity == e) creates) refl (live_numbers creates es)
   where
     rest : List ℕ
     rest = filter (λ k. is_some (find (λ d. d.entity == k) creates)) es
 
-    cases : (o : Option Create) → find (λ d. d.entity == e) creates ≡ o → map (λ c. c.entity) (live_among creates es) ≡ rest → map (λ c. c.entity) (cons_option o (live_among creates es)) ≡ cond (is_some o) (e ∷ rest) rest
+    cases : (o : Option Create) → find (λ d. d.entity == e) creates ≡ o → map (λ c. c.entity) (live_among creates es) ≡ rest →
+        map (λ c. c.entity) (cons_option o (live_among creates es)) ≡ cond (is_some o) (e ∷ rest) rest
     cases None is again = again
-    cases (Some c) is again = ap (λ (k : ℕ). k ∷ map (λ c. c.entity) (live_among creates es)) (found_entity creates e c is) ∙ ap (λ (ks : List ℕ). e ∷ ks) again
+    cases (Some c) is again =
+        ap (λ (k : ℕ). k ∷ map (λ c. c.entity) (live_among creates es)) (found_entity creates e c is) ∙ ap (λ (ks : List ℕ). e ∷ ks) again
 
 -- the live entities of numbers that rise, among which are those of all that were created
-pub lists_live : (creates : List Create) (numbers : List ℕ) → IsStrictlyIncreasing numbers × ((e : ℕ) → Contains (map (λ c. c.entity) creates) e → Contains numbers e)
+pub lists_live : (creates : List Create) (numbers : List ℕ) →
+    IsStrictlyIncreasing numbers × ((e : ℕ) → Contains (map (λ c. c.entity) creates) e → Contains numbers e)
     → Lists (λ e. find (λ c. c.entity == e) creates) (live_among creates numbers)
 lists_live creates numbers rise = record {
-  rising = subst IsStrictlyIncreasing (sym (live_numbers creates numbers)) (IsStrictlyIncreasing-filter (λ e. is_some (find (λ d. d.entity == e) creates)) numbers rise.0);
+  rising =
+      subst IsStrictlyIncreasing (sym (live_numbers creates numbers))
+      (IsStrictlyIncreasing-filter (λ e. is_some (find (λ d. d.entity == e) creates)) numbers rise.0);
   exact = λ c. (
-    (λ (k, within, is). subst (λ (x : Create). find (λ d. d.entity == x.entity) creates ≡ Some x) is (live_made creates numbers k c within)),
+    (λ (k, within, is). subst (λ (x : Create). find (λ d. d.entity == x.entity) creates ≡ Some x) is
+        (live_made creates numbers k c within)),
     (λ is. live_has creates numbers c.entity c (rise.1 c.entity (found_among creates c.entity c is)) is),
   );
 }
 
 -- one more number
 pub live_more : (creates : List Create) (numbers : List ℕ) (i d : ℕ) → i < length numbers
-    → live_among creates (take (i + 1) numbers) ≡ live_among creates (take i numbers) ++ cons_option (find (λ c. c.entity == get_or numbers i d) creates) []
+    → live_among creates (take (i + 1) numbers) ≡ live_among creates (take i numbers)
+    ++ cons_option (find (λ c. c.entity == get_or numbers i d) creates) []
 live_more creates numbers i d within =
     ap (live_among creates) (take_more numbers i d within)
     ∙ filter_map-append (λ e. find (λ c. c.entity == e) creates) (take i numbers) (get_or numbers i d ∷ [])

@@ -18,7 +18,8 @@ regroup : (first a b c d e f : List ℕ) → first ++ a ++ b ++ c ++ d ++ e ++ f
 regroup first a b c d e f = simp append_assoc
 
 -- six texts appended one after another
-six : (first a b c d e f w1 w2 w3 w4 w5 w6 : List ℕ) → w1 ≡ first ++ a → w2 ≡ w1 ++ b → w3 ≡ w2 ++ c → w4 ≡ w3 ++ d → w5 ≡ w4 ++ e → w6 ≡ w5 ++ f
+six : (first a b c d e f w1 w2 w3 w4 w5 w6 : List ℕ) → w1 ≡ first ++ a → w2 ≡ w1 ++ b → w3 ≡ w2 ++ c → w4 ≡ w3 ++ d → w5 ≡ w4 ++ e →
+    w6 ≡ w5 ++ f
     → w6 ≡ first ++ (a ++ b ++ c ++ d ++ e ++ f)
 six first a b c d e f w1 w2 w3 w4 w5 w6 h1 h2 h3 h4 h5 h6 =
     let two : w2 ≡ first ++ a ++ b = h2 ∙ ap (λ (w : List ℕ). w ++ b) h1 in
@@ -37,7 +38,8 @@ round_of h number live done calls = record {
   bases = map (λ c. base_line h (filter (is_for part.Base c.entity) calls) c) live;
 }
 
-pub round_pushed : (h : Header) (number : ℕ) (b : Book) (live : List Create) (done calls : List Call) (first w1 w2 w3 w4 w5 w6 : List ℕ) → done ≡ calls_of b.current → calls ≡ calls_of (entries b)
+pub round_pushed : (h : Header) (number : ℕ) (b : Book) (live : List Create) (done calls : List Call) (first w1 w2 w3 w4 w5 w6 : List ℕ) →
+    done ≡ calls_of b.current → calls ≡ calls_of (entries b)
     → w1 ≡ first ++ number_text (codes "round ") number
     → w2 ≡ w1 ++ flat_map (done_text (word_of part.Cell) h.defs) (done_lines (λ e. filter (is_for part.Cell e) done) live)
     → w3 ≡ w2 ++ flat_map (done_text (word_of part.Base) h.defs) (done_lines (λ e. filter (is_for part.Base e) done) live)

@@ -1,5 +1,6 @@
 -- Small inputs.
-use Rattle.std.proofs.Common.{◌≡◌, ◌↔◌, false, ℕ, ◌-◌, ◌≤◌, List, [], ◌∷◌, ◌++◌, length, get_or, refl, sym, ap, ◌∙◌, subst, arith, rules, lit≤, append-nil}
+use Rattle.std.proofs.Common.{◌≡◌, ◌↔◌, false, ℕ, ◌-◌, ◌≤◌, List, [], ◌∷◌, ◌++◌, length, get_or, refl, sym, ap, ◌∙◌, subst, arith, rules}
+use Rattle.std.proofs.Common.{lit≤, append-nil}
 use Rattle.std.specs.Prelude.{codes, MatchBool, ◌==◌}
 use Rattle.std.specs.Str.{IsUtf8}
 use Rattle.std.proofs.lemmas.List.{take_all}
@@ -48,7 +49,8 @@ begins_at_once lines rest is =
 
 -- the lines after the header are those after its end
 pub after_separator : (lines rest : List Line) (text : List ℕ) → lines ≡ separator ∷ rest → IsEnded lines text
-    → (pieces last : List Piece) × (t : Standing) × Run (Step plain_header) (after_header 1) rest pieces t × EndsInput plain_header t last × (text ≡ text_of builtin (pieces ++ last))
+    → (pieces last : List Piece) × (t : Standing) × Run (Step plain_header) (after_header 1) rest pieces t × EndsInput plain_header t last
+    × (text ≡ text_of builtin (pieces ++ last))
 after_separator lines rest text is (h, pieces, last, t, prints, ends, whole) =
     let same = header_is_one lines h plain_header prints.count 1 prints.rest rest prints.header (begins_at_once lines rest is) in (
       pieces,
@@ -62,7 +64,8 @@ after_separator lines rest text is (h, pieces, last, t, prints, ends, whole) =
     )
 
 -- and the other way round
-pub ended_after : (lines rest : List Line) (pieces last : List Piece) (t : Standing) (text : List ℕ) → lines ≡ separator ∷ rest → Run (Step plain_header) (after_header 1) rest pieces t
+pub ended_after : (lines rest : List Line) (pieces last : List Piece) (t : Standing) (text : List ℕ) → lines ≡ separator ∷ rest →
+    Run (Step plain_header) (after_header 1) rest pieces t
     → EndsInput plain_header t last → text ≡ text_of builtin (pieces ++ last) → IsEnded lines text
 ended_after lines rest pieces last t text is run ends whole =
     (plain_header, pieces, last, t, record { count = 1; rest = rest; header = begins_at_once lines rest is; run = run }, ends, whole)
@@ -70,7 +73,8 @@ ended_after lines rest pieces last t text is run ends whole =
 -- nothing is left where no line of a round was accepted
 pub nothing_left : (h : Header) (s t : Standing) (last : List Piece) → t ≡ s → open_lines s.book ≡ 0 → EndsInput h t last → last ≡ []
 nothing_left h s t last same none ends =
-    subst (λ (n : ℕ). MatchBool (n == 0) (last ≡ []) ((u : Standing) × EndsRound h s last u)) none (subst (λ (x : Standing). EndsInput h x last) same ends)
+    subst (λ (n : ℕ). MatchBool (n == 0) (last ≡ []) ((u : Standing) × EndsRound h s last u)) none
+    (subst (λ (x : Standing). EndsInput h x last) same ends)
 
 -- ---- the empty world
 
@@ -82,7 +86,8 @@ pub empty_world : (text : List ℕ) → IsEnded (lines_of (codes "%%\n")) text �
 empty_world text = (
   (λ ended.
       let b = after_separator (lines_of (codes "%%\n")) [] text separator_alone ended in
-      b.5 ∙ ap (λ (xs : List Piece). text_of builtin (xs ++ b.1)) b.3.0 ∙ ap (text_of builtin) (nothing_left plain_header (after_header 1) b.2 b.1 b.3.1 refl b.4)),
+      b.5 ∙ ap (λ (xs : List Piece). text_of builtin (xs ++ b.1)) b.3.0
+      ∙ ap (text_of builtin) (nothing_left plain_header (after_header 1) b.2 b.1 b.3.1 refl b.4)),
   (λ none. ended_after (lines_of (codes "%%\n")) [] [] [] (after_header 1) text separator_alone (refl, refl) refl none),
 )
 
@@ -118,9 +123,13 @@ spells_none h b (language.Create e n x z) is = let long = ap (λ (ws : List (Lis
 spells_none h b (language.Call s e n a) is = let long = ap (λ (ws : List (List ℕ)). length ws) is in absurd (omega (arith, long))
 spells_none h b language.Sync is = let first = ap (λ (ws : List (List ℕ)). get_or (get_or ws 0 []) 0 0) is in absurd (omega (arith, first))
 
-tick_refused : (pieces : List Piece) (t : Standing) → Step plain_header (after_header 1) (Content (codes "tick")) pieces t ↔ ((pieces ≡ Refusal 2 cause.NoCommand ∷ []) × (t ≡ with_line (after_header 1)))
+tick_refused : (pieces : List Piece) (t : Standing) →
+    Step plain_header (after_header 1) (Content (codes "tick")) pieces t
+    ↔ ((pieces ≡ Refusal 2 cause.NoCommand ∷ []) × (t ≡ with_line (after_header 1)))
 tick_refused pieces t =
-    unknown_command plain_header (after_header 1) t (codes "tick") (codes "tick" ∷ []) pieces (has_words_after_gap [] 116 (codes "ick") refl refl (λ e. absurd (omega (arith, e)))) tick_word (spells_none plain_header empty_book)
+    unknown_command plain_header (after_header 1) t (codes "tick") (codes "tick" ∷ []) pieces
+    (has_words_after_gap [] 116 (codes "ick") refl refl (λ e. absurd (omega (arith, e)))) tick_word
+    (spells_none plain_header empty_book)
 
 pub one_unknown : (text : List ℕ) → IsEnded (lines_of (codes "%%\ntick\n")) text ↔ (text ≡ codes "line 2 command\n")
 one_unknown text = (
@@ -130,10 +139,18 @@ one_unknown text = (
       let step = (tick_refused r.0 r.2).0 r.4 in
       let last : b.1 ≡ [] = nothing_left plain_header (with_line (after_header 1)) b.2 b.1 (r.5.1 ∙ step.1) refl b.4 in
       let pieces : b.0 ++ b.1 ≡ Refusal 2 cause.NoCommand ∷ [] =
-      ap (λ (xs : List Piece). b.0 ++ xs) last ∙ append-nil b.0 ∙ r.3 ∙ ap (λ (xs : List Piece). r.0 ++ xs) r.5.0 ∙ append-nil r.0 ∙ step.0 in
+      ap (λ (xs : List Piece). b.0 ++ xs) last ∙ append-nil b.0 ∙ r.3 ∙ ap (λ (xs : List Piece). r.0 ++ xs) r.5.0 ∙ append-nil r.0
+      ∙ step.0 in
       b.5 ∙ ap (text_of builtin) pieces ∙ second_line),
-  (λ is. ended_after (lines_of (codes "%%\ntick\n")) (Content (codes "tick") ∷ []) (Refusal 2 cause.NoCommand ∷ []) [] (with_line (after_header 1)) text two_lines
-      (Refusal 2 cause.NoCommand ∷ [], [], with_line (after_header 1), refl, (tick_refused (Refusal 2 cause.NoCommand ∷ []) (with_line (after_header 1))).1 (refl, refl), (refl, refl))
+  (λ is. ended_after (lines_of (codes "%%\ntick\n")) (Content (codes "tick") ∷ []) (Refusal 2 cause.NoCommand ∷ []) []
+      (with_line (after_header 1)) text two_lines (
+        Refusal 2 cause.NoCommand ∷ [],
+        [],
+        with_line (after_header 1),
+        refl,
+        (tick_refused (Refusal 2 cause.NoCommand ∷ []) (with_line (after_header 1))).1 (refl, refl),
+        (refl, refl),
+      )
       refl (is ∙ sym second_line)),
 )
 
@@ -182,12 +199,15 @@ from_one e = Base 1
 -- a line of few words spells no call
 pub no_call : (line : List ℕ) (words : List (List ℕ)) → HasWords line words → length words ≤ 3 → CallIsFrom from_one (Content line)
 no_call line words has few s e n a k spells number =
-    let long = ap (λ (ws : List (List ℕ)). length ws) (words_are_one_list line words (language.words_of (language.Call s e n a)) has spells) in
+    let long =
+    ap (λ (ws : List (List ℕ)). length ws) (words_are_one_list line words (language.words_of (language.Call s e n a)) has spells) in
     absurd (omega (arith, few, long))
 
 -- nor does one that spells another command
-pub other_command : (line : List ℕ) (c : language.Command) → language.SpellsCommand line c → ((s e n : List ℕ) (a : List (List ℕ)) → c ≡ language.Call s e n a → ⊥) → CallIsFrom from_one (Content line)
-other_command line c spells other s e n a k says number = absurd (other s e n a (line_spells_one line c (language.Call s e n a) spells says))
+pub other_command : (line : List ℕ) (c : language.Command) → language.SpellsCommand line c →
+    ((s e n : List ℕ) (a : List (List ℕ)) → c ≡ language.Call s e n a → ⊥) → CallIsFrom from_one (Content line)
+other_command line c spells other s e n a k says number =
+    absurd (other s e n a (line_spells_one line c (language.Call s e n a) spells says))
 
 header_word : HasWords (codes "%%") (codes "%%" ∷ [])
 header_word = one_word (codes "%%") (IsUtf8-from_ascii (codes "%%") (search rules)) (record { some = omega arith; plain = refl })
@@ -199,8 +219,16 @@ pub sync_from : CallIsFrom from_one (Content (codes "sync"))
 sync_from = no_call (codes "sync") (codes "sync" ∷ []) sync_word (omega arith)
 
 empty_round_ended : IsEnded (lines_of (codes "%%\nsync\n")) (codes "round 1\nend 1\n")
-empty_round_ended = ended_after (lines_of (codes "%%\nsync\n")) (Content (codes "sync") ∷ []) (Ended synced bare ∷ []) [] (after_round synced) (codes "round 1\nend 1\n") sync_lines
-    (Ended synced bare ∷ [], [], after_round synced, refl, (verdict.Synced, sync_judged plain_header empty_book, (bare, refl, bare_is_round)), (refl, refl))
+empty_round_ended =
+    ended_after (lines_of (codes "%%\nsync\n")) (Content (codes "sync") ∷ []) (Ended synced bare ∷ []) [] (after_round synced)
+    (codes "round 1\nend 1\n") sync_lines (
+      Ended synced bare ∷ [],
+      [],
+      after_round synced,
+      refl,
+      (verdict.Synced, sync_judged plain_header empty_book, (bare, refl, bare_is_round)),
+      (refl, refl),
+    )
     refl (sym bare_text)
 
 pub empty_round : (text : List ℕ) → IsEnded (lines_of (codes "%%\nsync\n")) text ↔ (text ≡ codes "round 1\nend 1\n")

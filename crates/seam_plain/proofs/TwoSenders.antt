@@ -26,7 +26,8 @@ use Rattle.seam_transcript.specs.declared.verdict.Entry.TheVariants as entry
 use Rattle.seam_transcript.specs.declared.verdict.Verdict.TheVariants as verdict
 use Rattle.seam_transcript.proofs.InOrderLemmas.{round_in_order_is_legal}
 use Rattle.seam_plain.proofs.Rows.{plain_header, ended_after, sync_judged}
-use Rattle.seam_plain.proofs.FirstPath.{heal2_words, avatar, call, with_avatar, with_hit, is_heal, spells_1, fits_5, spelled_5, begins_with_c, after_lines, create_step, hit_step, avatar_alone}
+use Rattle.seam_plain.proofs.FirstPath.{heal2_words, avatar, call, with_avatar, with_hit, is_heal, spells_1, fits_5, spelled_5}
+use Rattle.seam_plain.proofs.FirstPath.{begins_with_c, after_lines, create_step, hit_step, avatar_alone}
 
 abbrev heal2 : language.Command
 heal2 = language.Call (codes "b2") (codes "1") (codes "heal") (codes "5" ∷ [])
@@ -61,7 +62,8 @@ means_heal2 = (
 )
 
 heal2_step : Step plain_header (after_lines 3 with_hit) (Content (codes "call b2 1 heal 5")) [] (after_lines 4 with_both)
-heal2_step = (verdict.Accepted (entry.Called heal_call), (begins_with_c (codes "all b2 1 heal 5"), heal2, heal2_words, means_heal2), (refl, refl))
+heal2_step =
+    (verdict.Accepted (entry.Called heal_call), (begins_with_c (codes "all b2 1 heal 5"), heal2, heal2_words, means_heal2), (refl, refl))
 
 -- ---- the two orders
 
@@ -73,7 +75,9 @@ abbrev swapped : List Entry
 swapped = entry.Created avatar ∷ entry.Called heal_call ∷ entry.Called hit_call ∷ []
 
 -- a sender's calls are one list in both orders, since the two calls have two senders
-one_of_two : (a b : Call) (x y : Bool) → (x ≡ true → y ≡ true → ⊥) → (if x then a ∷ (if y then b ∷ [] else []) else (if y then b ∷ [] else [])) ≡ (if y then b ∷ (if x then a ∷ [] else []) else (if x then a ∷ [] else []))
+one_of_two : (a b : Call) (x y : Bool) → (x ≡ true → y ≡ true → ⊥) →
+    (if x then a ∷ (if y then b ∷ [] else []) else (if y then b ∷ [] else []))
+    ≡ (if y then b ∷ (if x then a ∷ [] else []) else (if x then a ∷ [] else []))
 one_of_two a b true true differ = absurd (differ refl refl)
 one_of_two a b true false differ = refl
 one_of_two a b false true differ = refl
@@ -87,7 +91,8 @@ swapped_full : (p : Part) (e : ℕ) → IsFull (accepted with_both p e) (in_orde
 swapped_full p e s = of_part (is_for p e hit_call) (is_for p e heal_call)
   where
     of_part : (x y : Bool) → of_sender s (if y then heal_call ∷ (if x then hit_call ∷ [] else []) else (if x then hit_call ∷ [] else []))
-        ≡ (if x && same_sender (Base 1) s then hit_call ∷ (if y && same_sender (Base 2) s then heal_call ∷ [] else []) else (if y && same_sender (Base 2) s then heal_call ∷ [] else []))
+        ≡ (if x && same_sender (Base 1) s then hit_call ∷ (if y && same_sender (Base 2) s then heal_call ∷ [] else []) else
+        (if y && same_sender (Base 2) s then heal_call ∷ [] else []))
     of_part true true = one_of_two heal_call hit_call (same_sender (Base 2) s) (same_sender (Base 1) s) (λ two one. not_both s one two)
     of_part true false = refl
     of_part false true = refl
@@ -115,7 +120,8 @@ round_as_accepted : IsRound plain_header ending data_as_accepted (after_round en
 round_as_accepted = round_in_order_is_legal plain_header ending (avatar ∷ []) alone refl
 
 extends_swapped : (p : Part) → ExtendsOrders with_both p (λ e. []) (in_order swapped p) (done_lines (in_order swapped p) (avatar ∷ []))
-extends_swapped p = record { made = avatar ∷ []; listed = alone; done = in_order swapped p; are = refl; further = λ e. refl; full = swapped_full p }
+extends_swapped p =
+    record { made = avatar ∷ []; listed = alone; done = in_order swapped p; are = refl; further = λ e. refl; full = swapped_full p }
 
 round_swapped : IsRound plain_header ending data_swapped end_swapped
 round_swapped = record {
@@ -130,10 +136,14 @@ round_swapped = record {
 }
 
 abbrev pub as_accepted : List ℕ
-as_accepted = codes "round 1\ndid 1 b1 1 hit 30\ndid 1 b2 1 heal 5\nhome 1 0 2 100 100 hp=75 mana=50 mood=0 note=\"\" scent=0 xp=0\nbase 1 0 gold=0 rank=1\nend 1\n"
+as_accepted =
+    codes
+    "round 1\ndid 1 b1 1 hit 30\ndid 1 b2 1 heal 5\nhome 1 0 2 100 100 hp=75 mana=50 mood=0 note=\"\" scent=0 xp=0\nbase 1 0 gold=0 rank=1\nend 1\n"
 
 abbrev pub the_other_way : List ℕ
-the_other_way = codes "round 1\ndid 1 b2 1 heal 5\ndid 1 b1 1 hit 30\nhome 1 0 2 100 100 hp=75 mana=50 mood=0 note=\"\" scent=0 xp=0\nbase 1 0 gold=0 rank=1\nend 1\n"
+the_other_way =
+    codes
+    "round 1\ndid 1 b2 1 heal 5\ndid 1 b1 1 hit 30\nhome 1 0 2 100 100 hp=75 mana=50 mood=0 note=\"\" scent=0 xp=0\nbase 1 0 gold=0 rank=1\nend 1\n"
 
 form_as_accepted : as_accepted ≡ text_of builtin (Ended ending data_as_accepted ∷ [])
 unfolding decimal_of quoted
@@ -149,14 +159,17 @@ abbrev pub two_input : List Line
 two_input = lines_of (codes "%%\ncreate 1 Avatar 100 100\ncall b1 1 hit 30\ncall b2 1 heal 5\nsync\n")
 
 two_lines : lines_of (codes "%%\ncreate 1 Avatar 100 100\ncall b1 1 hit 30\ncall b2 1 heal 5\nsync\n")
-    ≡ separator ∷ Content (codes "create 1 Avatar 100 100") ∷ Content (codes "call b1 1 hit 30") ∷ Content (codes "call b2 1 heal 5") ∷ Content (codes "sync") ∷ []
+    ≡ separator ∷ Content (codes "create 1 Avatar 100 100") ∷ Content (codes "call b1 1 hit 30") ∷ Content (codes "call b2 1 heal 5")
+    ∷ Content (codes "sync") ∷ []
 unfolding lines_of
 two_lines = refl
 
-two_ended : (text : List ℕ) (r : RoundData) (t : Standing) → IsRound plain_header ending r t → open_lines t.book ≡ 0 → text ≡ text_of builtin (Ended ending r ∷ []) → IsEnded two_input text
+two_ended : (text : List ℕ) (r : RoundData) (t : Standing) → IsRound plain_header ending r t → open_lines t.book ≡ 0 →
+    text ≡ text_of builtin (Ended ending r ∷ []) → IsEnded two_input text
 two_ended text r t round none form =
     let pieces : List Piece = Ended ending r ∷ [] in
-    ended_after two_input (Content (codes "create 1 Avatar 100 100") ∷ Content (codes "call b1 1 hit 30") ∷ Content (codes "call b2 1 heal 5") ∷ Content (codes "sync") ∷ [])
+    ended_after two_input (Content (codes "create 1 Avatar 100 100") ∷ Content (codes "call b1 1 hit 30")
+    ∷ Content (codes "call b2 1 heal 5") ∷ Content (codes "sync") ∷ [])
     pieces [] t text two_lines (
       [],
       pieces,
@@ -179,7 +192,8 @@ two_ended text r t round none form =
         ),
       ),
     )
-    (subst (λ (n : ℕ). MatchBool (n == 0) (◌≡◌ {A = List Piece} [] []) ((u : Standing) × EndsRound plain_header t [] u)) (sym none) refl) form
+    (subst (λ (n : ℕ). MatchBool (n == 0) (◌≡◌ {A = List Piece} [] []) ((u : Standing) × EndsRound plain_header t [] u)) (sym none) refl)
+    form
 
 pub first_order : IsEnded two_input as_accepted
 first_order = two_ended as_accepted data_as_accepted (after_round ending) round_as_accepted refl form_as_accepted

@@ -1,5 +1,6 @@
 -- Walks that append what each item gives.
-use Rattle.std.proofs.Common.{◌≡◌, ◌+◌, ◌<◌, ℕ, Bool, List, [], ◌∷◌, ◌++◌, length, map, take, get_or, sym, ◌∙◌, ap, append_assoc, append-nil, refl, subst, zero, suc, Bor}
+use Rattle.std.proofs.Common.{◌≡◌, ◌+◌, ◌<◌, ℕ, Bool, List, [], ◌∷◌, ◌++◌, length, map, take, get_or, sym, ◌∙◌, ap, append_assoc}
+use Rattle.std.proofs.Common.{append-nil, refl, subst, zero, suc, Bor}
 use Rattle.std.specs.Prelude.{filter}
 use Rattle.std.specs.List.{flat_map}
 use Rattle.std.proofs.lemmas.List.{take_more, map-append, length-map}
@@ -18,29 +19,36 @@ use Rattle.seam_transcript.specs.FlatTable.{flat, first_state}
 use Rattle.seam_transcript.specs.Round.{DoneLine, done_lines}
 
 -- what an item gives comes after what those before it gave
-pub appended : {A B : Type 0} (F : List A → List B) → ((xs ys : List A) → F (xs ++ ys) ≡ F xs ++ F ys) → (xs : List A) (i : ℕ) (d : A) → i < length xs
+pub appended : {A B : Type 0} (F : List A → List B) → ((xs ys : List A) → F (xs ++ ys) ≡ F xs ++ F ys) → (xs : List A) (i : ℕ) (d : A) →
+    i < length xs
     → (first out new : List B) → out ≡ first ++ F (take i xs) → new ≡ out ++ F (get_or xs i d ∷ []) → new ≡ first ++ F (take (i + 1) xs)
 appended {A} {B} F splits xs i d within first out new before step =
     step ∙ ap (λ (bs : List B). bs ++ F (get_or xs i d ∷ [])) before ∙ append_assoc first (F (take i xs)) (F (get_or xs i d ∷ []))
     ∙ ap (λ (bs : List B). first ++ bs) (sym (splits (take i xs) (get_or xs i d ∷ [])) ∙ ap F (sym (take_more xs i d within)))
 
 -- lists that are mapped and then joined split
-pub joined_splits : {A B C : Type 0} (f : B → List C) (g : A → B) (xs ys : List A) → flat_map f (map g (xs ++ ys)) ≡ flat_map f (map g xs) ++ flat_map f (map g ys)
+pub joined_splits : {A B C : Type 0} (f : B → List C) (g : A → B) (xs ys : List A) →
+    flat_map f (map g (xs ++ ys)) ≡ flat_map f (map g xs) ++ flat_map f (map g ys)
 joined_splits f g xs ys = ap (flat_map f) (map-append g xs ys) ∙ flat_map-append f (map g xs) (map g ys)
 
-pub nested_splits : {A B C : Type 0} (f : B → List C) (g : A → List B) (xs ys : List A) → flat_map f (flat_map g (xs ++ ys)) ≡ flat_map f (flat_map g xs) ++ flat_map f (flat_map g ys)
+pub nested_splits : {A B C : Type 0} (f : B → List C) (g : A → List B) (xs ys : List A) →
+    flat_map f (flat_map g (xs ++ ys)) ≡ flat_map f (flat_map g xs) ++ flat_map f (flat_map g ys)
 nested_splits f g xs ys = ap (flat_map f) (flat_map-append g xs ys) ∙ flat_map-append f (flat_map g xs) (flat_map g ys)
 
-pub kept_splits : {A B : Type 0} (g : A → B) (p : B → Bool) (xs ys : List A) → filter p (map g (xs ++ ys)) ≡ filter p (map g xs) ++ filter p (map g ys)
+pub kept_splits : {A B : Type 0} (g : A → B) (p : B → Bool) (xs ys : List A) →
+    filter p (map g (xs ++ ys)) ≡ filter p (map g xs) ++ filter p (map g ys)
 kept_splits g p xs ys = ap (filter p) (map-append g xs ys) ∙ filter-append p (map g xs) (map g ys)
 
 -- one more entity's calls
-pub own_pushed : (text : DoneLine → List ℕ) (own : ℕ → List Call) (xs : List Create) (i : ℕ) (d : Create) → i < length xs → (first out new : List ℕ)
+pub own_pushed : (text : DoneLine → List ℕ) (own : ℕ → List Call) (xs : List Create) (i : ℕ) (d : Create) → i < length xs →
+    (first out new : List ℕ)
     → new ≡ out ++ flat_map text (map (λ x. record { ty = (get_or xs i d).ty; call = x }) (own (get_or xs i d).entity))
     → out ≡ first ++ flat_map text (done_lines own (take i xs)) → new ≡ first ++ flat_map text (done_lines own (take (i + 1) xs))
 own_pushed text own xs i d within first out new step before =
-    appended (λ live. flat_map text (done_lines own live)) (nested_splits text (λ k. map (λ x. record { ty = k.ty; call = x }) (own k.entity))) xs i d
-    within first out new before (step ∙ ap (λ (ls : List DoneLine). out ++ flat_map text ls) (sym (append-nil (map (λ x. record { ty = (get_or xs i d).ty; call = x }) (own (get_or xs i d).entity)))))
+    appended (λ live. flat_map text (done_lines own live))
+    (nested_splits text (λ k. map (λ x. record { ty = k.ty; call = x }) (own k.entity))) xs i d
+    within first out new before (step ∙ ap (λ (ls : List DoneLine). out ++ flat_map text ls)
+    (sym (append-nil (map (λ x. record { ty = (get_or xs i d).ty; call = x }) (own (get_or xs i d).entity)))))
 
 item_at : (calls : List (Bor Call)) (i : ℕ) (d : Bor Call) → (get_or calls i d).now ≡ get_or (map (λ c. c.now) calls) i d.now
 item_at [] i d = refl
@@ -48,8 +56,10 @@ item_at (x ∷ xs) zero d = refl
 item_at (x ∷ xs) (suc i) d = item_at xs i d
 
 -- one more call
-pub flat_more : (h : Header) (p : Part) (create : Create) (calls : List (Bor Call)) (i : ℕ) (d : Bor Call) (t : TypeDef) (state new : State) → i < length calls
-    → new ≡ after t state (get_or calls i d).now.deed → t ≡ type_of h.defs create.ty → state ≡ flat h p create (map (λ c. c.now) calls) i → new ≡ flat h p create (map (λ c. c.now) calls) (i + 1)
+pub flat_more : (h : Header) (p : Part) (create : Create) (calls : List (Bor Call)) (i : ℕ) (d : Bor Call) (t : TypeDef)
+    (state new : State) → i < length calls
+    → new ≡ after t state (get_or calls i d).now.deed → t ≡ type_of h.defs create.ty → state ≡ flat h p create (map (λ c. c.now) calls) i →
+    new ≡ flat h p create (map (λ c. c.now) calls) (i + 1)
 flat_more h p create calls i d t state new within new_is t_is was =
     let of : TypeDef = type_of h.defs create.ty in
     let known : List Call = map (λ c. c.now) calls in

@@ -63,7 +63,13 @@ pub fn push_done(
 /// Appends the line of an entity's home.
 pub fn push_home(out: &mut Vec<u8>, defs: &Defs, line: &HomeLine) -> Result<(), AllocError>
     ensures { OnOk result (out.new.items ≡ out.old.items
-        ++ home_text defs.now (record { entity = line.now.entity; ty = line.now.ty; cell = line.now.cell; version = line.now.version; state = line.now.state.now })) }
+        ++ home_text defs.now (record {
+          entity = line.now.entity;
+          ty = line.now.ty;
+          cell = line.now.cell;
+          version = line.now.version;
+          state = line.now.state.now;
+        })) }
 {
     out.extend_from_slice(b"home ")?;
     push_number(out, u64::from(line.entity))?;
@@ -79,7 +85,12 @@ pub fn push_home(out: &mut Vec<u8>, defs: &Defs, line: &HomeLine) -> Result<(), 
 /// Appends the line of an entity's base part.
 pub fn push_base(out: &mut Vec<u8>, defs: &Defs, line: &BaseLine) -> Result<(), AllocError>
     ensures { OnOk result (out.new.items ≡ out.old.items
-        ++ base_text defs.now (record { entity = line.now.entity; ty = line.now.ty; version = line.now.version; props = line.now.props.now })) }
+        ++ base_text defs.now (record {
+          entity = line.now.entity;
+          ty = line.now.ty;
+          version = line.now.version;
+          props = line.now.props.now;
+        })) }
 {
     out.extend_from_slice(b"base ")?;
     push_number(out, u64::from(line.entity))?;

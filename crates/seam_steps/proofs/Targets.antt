@@ -1,5 +1,6 @@
 -- A step sends to nodes of the net, and leaves next places that are cells.
-use Rattle.std.proofs.Common.{◌≡◌, ℕ, zero, suc, ◌+◌, ◌<◌, ◌≤◌, Bool, true, false, List, [], ◌∷◌, ◌++◌, Option, None, Some, map, not, ap, refl, arith}
+use Rattle.std.proofs.Common.{◌≡◌, ℕ, zero, suc, ◌+◌, ◌<◌, ◌≤◌, Bool, true, false, List, [], ◌∷◌, ◌++◌, Option, None, Some, map, not, ap}
+use Rattle.std.proofs.Common.{refl, arith}
 use Rattle.std.specs.Prelude.{filter_map, ◌==◌, ◌||◌}
 use Rattle.std.specs.List.{range_with_len, cons_option}
 use Rattle.std.specs.FinMap as table
@@ -31,7 +32,8 @@ use Rattle.seam_steps.specs.Here.{Here, cell_count, base_of, peers_of}
 use Rattle.seam_steps.specs.Calls.{ready_order}
 use Rattle.seam_steps.specs.Reals.{copy_of_real, executed, executed_ready, with_offer, shows}
 use Rattle.seam_steps.specs.Slots.{Slot, NextPlace, SlotStep, rests, unless_stray, becomes}
-use Rattle.seam_steps.specs.Settle.{told, told_unless, ghost_message, ghost_messages, home_by, home_after, stays, goes, gone_to, settled_by, settled}
+use Rattle.seam_steps.specs.Settle.{told, told_unless, ghost_message, ghost_messages, home_by, home_after, stays, goes, gone_to, settled_by}
+use Rattle.seam_steps.specs.Settle.{settled}
 use Rattle.seam_steps.specs.CellCases
 use Rattle.seam_steps.specs.CellCases.{about, slot_steps, survey_task, ready_call_task}
 use Rattle.seam_steps.specs.Looks.{Known, numbered, look_by, look_task}

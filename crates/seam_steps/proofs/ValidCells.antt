@@ -11,7 +11,8 @@ use Rattle.seam_steps.specs.Maps.{Map, set_at}
 use Rattle.seam_steps.specs.Here.{cell_count}
 use Rattle.seam_steps.specs.Slots.{Slot, NextPlace, SlotStep}
 use Rattle.seam_steps.specs.CellCases.{about, slot_steps}
-use Rattle.seam_steps.specs.Cells.{CellView, after_slot, unlisted_by, stepped, cell_steps, cell_task, ready_next, look_next, cell_hears, ready_entity, surveys, calls_ready, looks_around, known_to, slot_of, witnesses}
+use Rattle.seam_steps.specs.Cells.{CellView, after_slot, unlisted_by, stepped, cell_steps, cell_task, ready_next, look_next, cell_hears}
+use Rattle.seam_steps.specs.Cells.{ready_entity, surveys, calls_ready, looks_around, known_to, slot_of, witnesses}
 use Rattle.seam_steps.specs.Valid.{NextsAreCells, AreUnderTheirEntities, IsCell}
 use Rattle.seam_steps.proofs.Slots.{get-set_at}
 use Rattle.seam_steps.proofs.Keys.{IsOf, StepIsOf, surveys_of, calls_ready_of, looks_of, slot_is_of}

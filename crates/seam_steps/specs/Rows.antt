@@ -1,5 +1,6 @@
 -- Worked rows: a world, events, and the world after each.
-use Rattle.std.specs.Prelude.{◌≡◌, ℕ, ◌-◌, pos, true, List, [], ◌∷◌, ◌++◌, length, map, fold, replicate, slice_get, slice_set, slice_index_or, Option, None, Some, option_map}
+use Rattle.std.specs.Prelude.{◌≡◌, ℕ, ◌-◌, pos, true, List, [], ◌∷◌, ◌++◌, length, map, fold, replicate, slice_get, slice_set}
+use Rattle.std.specs.Prelude.{slice_index_or, Option, None, Some, option_map}
 use Rattle.std.specs.List.{range_with_len}
 use Rattle.std.specs.FinMap as table
 use Rattle.seam_geo.specs.declared.pos.Pos.{Pos}

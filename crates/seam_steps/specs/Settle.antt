@@ -1,5 +1,6 @@
 -- Settling: a real's home is found anew, its haunts are told, and it may be handed over.
-use Rattle.std.specs.Prelude.{ℕ, ◌+◌, Bool, true, false, ◌||◌, ◌==◌, nat_le, List, [], ◌∷◌, ◌++◌, filter_map, Option, None, Some, option_map}
+use Rattle.std.specs.Prelude.{ℕ, ◌+◌, Bool, true, false, ◌||◌, ◌==◌, nat_le, List, [], ◌∷◌, ◌++◌, filter_map, Option, None, Some}
+use Rattle.std.specs.Prelude.{option_map}
 use Rattle.std.specs.FinSet as set
 use Rattle.seam_geo.specs.declared.pos.Pos.{Pos}
 use Rattle.seam_tree.specs.Division.{Division, leaf_at}

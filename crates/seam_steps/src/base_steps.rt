@@ -9,7 +9,8 @@ ghost use Rattle.seam_call.specs.declared.shown.ClientText.TheVariants as text;
 ghost use Rattle.seam_steps.specs.BaseCases.{base_steps, sends_none};
 ghost use Rattle.seam_steps.specs.Rows.{call, hit, no, one, orders};
 ghost use Rattle.seam_steps.specs.Rows.{order as in_order};
-ghost use Rattle.seam_steps.specs.OneStep.{base_of, base_ordered, base_with, new_client, without_client, both, of_first, has_first, promote, pay, part_of, proxy, line, ranked, update};
+ghost use Rattle.seam_steps.specs.OneStep.{base_of, base_ordered, base_with, new_client, without_client, both, of_first, has_first};
+ghost use Rattle.seam_steps.specs.OneStep.{promote, pay, part_of, proxy, line, ranked, update};
 
 /// Cell order, base order, tick order and reap order: the first order is executed. A call goes to the route's cell, or to the entity's
 /// base node; a tick goes to every cell of the tree, in rising number; a reap goes to the route's cell, and the base part goes. A stray

@@ -30,17 +30,24 @@ module _ {X : Type 0} (t : ℕ × X → Bool) where
       by true rest e = let same : x ≡ p = cc in ap (λ y. nat_cmp q y.0) (sym same) ∙ less _ (first _ _ h)
       by false rest e = rest e
 
-  found_in : (es : List (ℕ × X)) (p : ℕ × X) → T (is_sorted nat_cmp es) → find t es ≡ Some p → (key_find nat_cmp p.0 es ≡ Some p.1) × (t p ≡ true)
+  found_in : (es : List (ℕ × X)) (p : ℕ × X) → T (is_sorted nat_cmp es) → find t es ≡ Some p →
+      (key_find nat_cmp p.0 es ≡ Some p.1) × (t p ≡ true)
   found_in [] p h e = cc
   found_in (x ∷ es) p h e = by (t x) refl (found_in es p (second _ _ h)) e
     where
       turned : (q r : ℕ) → nat_cmp q r ≡ Less → is_eq (nat_cmp r q) ≡ false
       turned q r l = ap is_eq (nat_cmp_total.antisymm r q ∙ ap ordering_reverse l)
 
-      by : (b : Bool) → t x ≡ b → (find t es ≡ Some p → (key_find nat_cmp p.0 es ≡ Some p.1) × (t p ≡ true)) → cond b (Some x) (find t es) ≡ Some p → (cond (is_eq (nat_cmp p.0 x.0)) (Some x.1) (key_find nat_cmp p.0 es) ≡ Some p.1) × (t p ≡ true)
+      by : (b : Bool) → t x ≡ b → (find t es ≡ Some p → (key_find nat_cmp p.0 es ≡ Some p.1) × (t p ≡ true)) →
+          cond b (Some x) (find t es) ≡ Some p → (cond (is_eq (nat_cmp p.0 x.0)) (Some x.1) (key_find nat_cmp p.0 es) ≡ Some p.1)
+          × (t p ≡ true)
       by true is rest e =
-          let same : x ≡ p = cc in
-          (ap (λ y. cond (is_eq (nat_cmp y.0 x.0)) (Some x.1) (key_find nat_cmp y.0 es)) (sym same) ∙ ap (λ r. cond (is_eq r) (Some x.1) (key_find nat_cmp x.0 es)) (tied_itself nat_cmp_total x.0) ∙ ap (λ y. Some y.1) same, ap t (sym same) ∙ is)
+          let same : x ≡ p = cc in (
+            ap (λ y. cond (is_eq (nat_cmp y.0 x.0)) (Some x.1) (key_find nat_cmp y.0 es)) (sym same)
+                ∙ ap (λ r. cond (is_eq r) (Some x.1) (key_find nat_cmp x.0 es)) (tied_itself nat_cmp_total x.0)
+                ∙ ap (λ y. Some y.1) same,
+            ap t (sym same) ∙ is,
+          )
       by false is rest e =
           let k = rest e in
           (ap (λ b. cond b (Some x.1) (key_find nat_cmp p.0 es)) (turned x.0 p.0 (found_below x.0 es p (first _ _ h) e)) ∙ k.0, k.1)

@@ -13,7 +13,9 @@ pub record TableView (T : Type 0) : Type 0 where
   pub room : set.FinSet nat_cmp
 
 abbrev pub table_code : {T : Type 0} → Coded T → Coded (TableView T)
-table_code t = code_by (map.FinMap nat_cmp _ × set.FinSet nat_cmp) (coded× (map.code coded_ℕ t) (set.code coded_ℕ)) (λ w. (w.items, w.room)) (λ q. record { items = q.0; room = q.1 }) (λ _. refl)
+table_code t =
+    code_by (map.FinMap nat_cmp _ × set.FinSet nat_cmp) (coded× (map.code coded_ℕ t) (set.code coded_ℕ)) (λ w. (w.items, w.room))
+    (λ q. record { items = q.0; room = q.1 }) (λ _. refl)
 
 -- the table with this item in place of the one that the number had, if any
 abbrev pub with_item : {T : Type 0} → TableView T → ℕ → T → TableView T

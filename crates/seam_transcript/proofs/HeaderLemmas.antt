@@ -1,5 +1,6 @@
 -- Headers of which so far the end alone was read.
-use Rattle.std.proofs.Common.{◌≡◌, ◌≢◌, ◌+◌, ◌≤◌, ℕ, List, [], ◌∷◌, ◌++◌, length, map, refl, sym, ◌∙◌, ap, subst, arith, length-append, append_assoc}
+use Rattle.std.proofs.Common.{◌≡◌, ◌≢◌, ◌+◌, ◌≤◌, ℕ, List, [], ◌∷◌, ◌++◌, length, map, refl, sym, ◌∙◌, ap, subst, arith, length-append}
+use Rattle.std.proofs.Common.{append_assoc}
 use Rattle.std.proofs.lemmas.List.Elements.{All-nil}
 use Rattle.seam_io.specs.Lines.{Line, Content}
 use Rattle.seam_transcript.specs.declared.header.Header.{Header}
@@ -38,14 +39,16 @@ no_line_awaits line (text, are) = cons_is_empty (no_header_lines (line ∷ []) t
     cons_is_empty is = cc
 
 -- as many lines as were counted
-pub lines_of_header : (lines : List Line) (h : Header) (count : ℕ) (rest : List Line) → BeginWithHeader lines h count rest → length lines ≡ count + length rest
+pub lines_of_header : (lines : List Line) (h : Header) (count : ℕ) (rest : List Line) → BeginWithHeader lines h count rest →
+    length lines ≡ count + length rest
 lines_of_header lines h count rest begins =
     let number = begins.number in
     let parts = length-append begins.head (separator ∷ rest) in
     ap length begins.whole ∙ omega (arith, number, parts)
 
 -- a header stays one when lines are appended
-pub header_of_append : (lines : List Line) (h : Header) (count : ℕ) (rest more : List Line) → BeginWithHeader lines h count rest → BeginWithHeader (lines ++ more) h count (rest ++ more)
+pub header_of_append : (lines : List Line) (h : Header) (count : ℕ) (rest more : List Line) → BeginWithHeader lines h count rest →
+    BeginWithHeader (lines ++ more) h count (rest ++ more)
 header_of_append lines h count rest more begins = record {
   head = begins.head;
   text = begins.text;

@@ -1,5 +1,6 @@
 -- The order in which calls are executed as they were accepted: it is full, and its rounds are legal.
-use Rattle.std.proofs.Common.{◌≡◌, ◌+◌, ◌≤◌, ℕ, Bool, true, false, List, [], ◌∷◌, ◌++◌, length, refl, sym, ◌∙◌, ap, arith, append-nil, append_assoc, Some}
+use Rattle.std.proofs.Common.{◌≡◌, ◌+◌, ◌≤◌, ℕ, Bool, true, false, List, [], ◌∷◌, ◌++◌, length, refl, sym, ◌∙◌, ap, arith, append-nil}
+use Rattle.std.proofs.Common.{append_assoc, Some}
 use Rattle.std.specs.Prelude.{find, ◌==◌, filter, fold, ◌&&◌, cond}
 use Rattle.std.proofs.lemmas.List.{take_all}
 use Rattle.std.proofs.lemmas.Option.{same_Some}
@@ -36,9 +37,11 @@ own_among p e s (c ∷ calls) = cases (is_for p e c) (same_sender c.sender s) re
     all : List Call
     all = filter (is_for p e) calls
 
-    cases : (x y : Bool) → same_sender c.sender s ≡ y → of_sender s all ≡ own → of_sender s (cond x (c ∷ all) all) ≡ cond (x && y) (c ∷ own) own
+    cases : (x y : Bool) → same_sender c.sender s ≡ y → of_sender s all ≡ own →
+        of_sender s (cond x (c ∷ all) all) ≡ cond (x && y) (c ∷ own) own
     cases false y same again = again
-    cases true true same again = ap (λ (b : Bool). cond b (c ∷ of_sender s all) (of_sender s all)) same ∙ ap (λ (xs : List Call). c ∷ xs) again
+    cases true true same again =
+        ap (λ (b : Bool). cond b (c ∷ of_sender s all) (of_sender s all)) same ∙ ap (λ (xs : List Call). c ∷ xs) again
     cases true false same again = ap (λ (b : Bool). cond b (c ∷ of_sender s all) (of_sender s all)) same ∙ again
 
 -- the order is full
@@ -54,7 +57,8 @@ pub in_order_of_append : (xs ys : List Entry) (p : Part) (e : ℕ) → in_order 
 in_order_of_append xs ys p e =
     ap (filter (is_for p e)) (filter_map-append called xs ys) ∙ filter-append (is_for p e) (calls_of xs) (calls_of ys)
 
-extends : (b : Book) (p : Part) (live : List Create) (before : ℕ → List Call) → Lists (created_as b) live → ((e : ℕ) → before e ≡ in_order b.past p e)
+extends : (b : Book) (p : Part) (live : List Create) (before : ℕ → List Call) → Lists (created_as b) live →
+    ((e : ℕ) → before e ≡ in_order b.past p e)
     → ExtendsOrders b p before (in_order (entries b) p) (done_lines (in_order b.current p) live)
 extends b p live before listed same = record {
   made = live;
@@ -66,7 +70,8 @@ extends b p live before listed same = record {
 }
 
 -- The round of a book is legal, where the rounds before it executed all calls as they were accepted.
-pub round_in_order_is_legal : (h : Header) (s : Standing) (live : List Create) → Lists (created_as s.book) live → s.orders ≡ in_order s.book.past
+pub round_in_order_is_legal : (h : Header) (s : Standing) (live : List Create) → Lists (created_as s.book) live →
+    s.orders ≡ in_order s.book.past
     → IsRound h s (round_in_order h (s.rounds + 1) s.book live) (after_round s)
 round_in_order_is_legal h s live listed same = record {
   number = refl;
@@ -80,7 +85,8 @@ round_in_order_is_legal h s live listed same = record {
 }
 
 -- one more entry
-pub in_order_with_entry : (b : Book) (x : Entry) (p : Part) (e : ℕ) → in_order (entries (with_entry b x)) p e ≡ in_order (entries b) p e ++ in_order (x ∷ []) p e
+pub in_order_with_entry : (b : Book) (x : Entry) (p : Part) (e : ℕ) →
+    in_order (entries (with_entry b x)) p e ≡ in_order (entries b) p e ++ in_order (x ∷ []) p e
 in_order_with_entry b x p e =
     ap (λ (xs : List Entry). in_order xs p e) (sym (append_assoc b.past b.current (x ∷ []))) ∙ in_order_of_append (entries b) (x ∷ []) p e
 
@@ -122,6 +128,7 @@ pub found_entity : (creates : List Create) (e : ℕ) (c : Create) → find (λ d
 found_entity [] e c is = cc
 found_entity (x ∷ xs) e c is = cases (x.entity == e) refl (found_entity xs e c) is
   where
-    cases : (b : Bool) → (x.entity == e) ≡ b → (find (λ d. d.entity == e) xs ≡ Some c → c.entity ≡ e) → cond b (Some x) (find (λ d. d.entity == e) xs) ≡ Some c → c.entity ≡ e
+    cases : (b : Bool) → (x.entity == e) ≡ b → (find (λ d. d.entity == e) xs ≡ Some c → c.entity ≡ e) →
+        cond b (Some x) (find (λ d. d.entity == e) xs) ≡ Some c → c.entity ≡ e
     cases true same again h = ap (λ (d : Create). d.entity) (sym (same_Some x c h)) ∙ grind (arith, same)
     cases false other again h = again h

@@ -46,16 +46,20 @@ later x c xs (inl same) above = let number = ap (λ (d : Create). d.entity) same
 later x c xs (inr has) above = has
 
 -- rising lists with the same elements are one
-list_is_one : (xs ys : List Create) → Rises xs → Rises ys → ((c : Create) → Contains xs c → Contains ys c) → ((c : Create) → Contains ys c → Contains xs c) → xs ≡ ys
+list_is_one : (xs ys : List Create) → Rises xs → Rises ys → ((c : Create) → Contains xs c → Contains ys c) →
+    ((c : Create) → Contains ys c → Contains xs c) → xs ≡ ys
 list_is_one [] [] rise rise' there back = refl
 list_is_one [] (y ∷ ys) rise rise' there back = absurd (none_in_empty y (back y (contains_first y ys)))
 list_is_one (x ∷ xs) [] rise rise' there back = absurd (none_in_empty x (there x (contains_first x xs)))
 list_is_one (x ∷ xs) (y ∷ ys) rise rise' there back =
-    let same : x ≡ y = heads (contains_cases y x ys (there x (contains_first x xs))) (contains_cases x y xs (back y (contains_first y ys))) in
+    let same : x ≡ y =
+    heads (contains_cases y x ys (there x (contains_first x xs))) (contains_cases x y xs (back y (contains_first y ys))) in
     ap (λ (c : Create). c ∷ xs) same
     ∙ ap (λ (cs : List Create). y ∷ cs) (list_is_one xs ys (rises_after_first x xs rise) (rises_after_first y ys rise')
-    (λ c has. later y c ys (contains_cases y c ys (there c (contains_later x c xs has))) (subst (λ (d : Create). d.entity < c.entity) same (first_is_below x c xs rise has)))
-    (λ c has. later x c xs (contains_cases x c xs (back c (contains_later y c ys has))) (subst (λ (d : Create). d.entity < c.entity) (sym same) (first_is_below y c ys rise' has))))
+    (λ c has. later y c ys (contains_cases y c ys (there c (contains_later x c xs has)))
+    (subst (λ (d : Create). d.entity < c.entity) same (first_is_below x c xs rise has)))
+    (λ c has. later x c xs (contains_cases x c xs (back c (contains_later y c ys has)))
+    (subst (λ (d : Create). d.entity < c.entity) (sym same) (first_is_below y c ys rise' has))))
   where
     heads : (y ≡ x) ⊎ Contains ys x → (x ≡ y) ⊎ Contains xs y → x ≡ y
     heads (inl same) other = sym same

@@ -21,10 +21,12 @@ use Rattle.seam_call.specs.declared.create.Create.{Create}
 use Rattle.seam_transcript.specs.Language as language
 use Rattle.seam_transcript.specs.declared.header.Header.{Header}
 use Rattle.seam_transcript.specs.Header.{Reads, AreHeaderLines, BeginWithHeader, separator}
-use Rattle.seam_transcript.specs.Book.{Book, entries, called, calls_of, created_as, live_as, accepted, open_lines, with_entry, Means, Spells, Judges}
+use Rattle.seam_transcript.specs.Book.{Book, entries, called, calls_of, created_as, live_as, accepted, open_lines, with_entry, Means}
+use Rattle.seam_transcript.specs.Book.{Spells, Judges}
 use Rattle.seam_transcript.specs.Orders.{Orders, of_sender, IsFull}
 use Rattle.seam_transcript.specs.Standing.{Standing, after_header, with_line, with_book}
-use Rattle.seam_transcript.specs.Round.{RoundData, DoneLine, HomeLine, BaseLine, done_lines, home_line, base_line, ExtendsOrders, HasHomes, HasBases, IsRound}
+use Rattle.seam_transcript.specs.Round.{RoundData, DoneLine, HomeLine, BaseLine, done_lines, home_line, base_line, ExtendsOrders, HasHomes}
+use Rattle.seam_transcript.specs.Round.{HasBases, IsRound}
 use Rattle.seam_transcript.specs.Transcript.{Piece, Ended, text_of, EndsRound, most_lines, Follows, Step, Run, EndsInput, IsEnded}
 use Rattle.seam_transcript.specs.Senders.{CallIsFrom, CallsAreFrom}
 use Rattle.seam_transcript.specs.declared.verdict.Entry.{Entry}
@@ -55,7 +57,8 @@ same_sender_is (sender.Base m) (sender.Client e) same = cc
 same_sender_is (sender.Client d) (sender.Base n) same = cc
 
 -- a call of another sender is not for the entity
-other_is_not_for : (one : ℕ → Sender) (p : Part) (e : ℕ) (t : Sender) (c : Call) → same_sender (one e) t ≡ false → IsOwn one c → is_from p e t c ≡ false
+other_is_not_for : (one : ℕ → Sender) (p : Part) (e : ℕ) (t : Sender) (c : Call) → same_sender (one e) t ≡ false → IsOwn one c →
+    is_from p e t c ≡ false
 other_is_not_for one p e t c other own = cases (c.entity == e) refl
   where
     cases : (b : Bool) → (c.entity == e) ≡ b → ((b && same_part c.part p) && same_sender c.sender t) ≡ false
@@ -66,10 +69,12 @@ other_is_not_for one p e t c other own = cases (c.entity == e) refl
         ap (λ (x : Bool). same_part c.part p && x) not ∙ and-false (same_part c.part p)
 
 -- no accepted call for the entity is from another sender
-none_of_others : (one : ℕ → Sender) (p : Part) (e : ℕ) (t : Sender) (calls : List Call) → same_sender (one e) t ≡ false → AreOwn one calls → filter (is_from p e t) calls ≡ []
+none_of_others : (one : ℕ → Sender) (p : Part) (e : ℕ) (t : Sender) (calls : List Call) → same_sender (one e) t ≡ false → AreOwn one calls →
+    filter (is_from p e t) calls ≡ []
 none_of_others one p e t [] other own = refl
 none_of_others one p e t (c ∷ calls) other own =
-    ap (λ (b : Bool). cond b (c ∷ filter (is_from p e t) calls) (filter (is_from p e t) calls)) (other_is_not_for one p e t c other (All-head (IsOwn one) c calls own))
+    ap (λ (b : Bool). cond b (c ∷ filter (is_from p e t) calls) (filter (is_from p e t) calls))
+    (other_is_not_for one p e t c other (All-head (IsOwn one) c calls own))
     ∙ none_of_others one p e t calls other (All-tail (IsOwn one) c calls own)
 
 -- an order without calls of other senders
@@ -93,18 +98,23 @@ all_of_sender s (x ∷ order) none = cases (same_sender s x.sender) refl (all_of
   where
     cases : (b : Bool) → same_sender s x.sender ≡ b → of_sender s order ≡ order → of_sender s (x ∷ order) ≡ x ∷ order
     cases true is rest =
-        let own : same_sender x.sender s ≡ true = subst (λ (t : Sender). same_sender t s ≡ true) (same_sender_is s x.sender is) (same_sender_of_itself s) in
+        let own : same_sender x.sender s ≡ true =
+        subst (λ (t : Sender). same_sender t s ≡ true) (same_sender_is s x.sender is) (same_sender_of_itself s) in
         ap (λ (b : Bool). cond b (x ∷ of_sender s order) (of_sender s order)) own ∙ ap (λ (xs : List Call). x ∷ xs) rest
     cases false is rest =
         let here : x ∷ of_sender x.sender order ≡ [] =
-        ap (λ (b : Bool). cond b (x ∷ of_sender x.sender order) (of_sender x.sender order)) (sym (same_sender_of_itself x.sender)) ∙ none x.sender is in
+        ap (λ (b : Bool). cond b (x ∷ of_sender x.sender order) (of_sender x.sender order)) (sym (same_sender_of_itself x.sender))
+        ∙ none x.sender is in
         absurd (not_empty x (of_sender x.sender order) here)
 
 -- two full orders are one
-full_order_is_one : (one : ℕ → Sender) (b : Book) (p : Part) (e : ℕ) (order other : List Call) → AreOwn one (calls_of (entries b)) → IsFull (accepted b p e) order → IsFull (accepted b p e) other → order ≡ other
+full_order_is_one : (one : ℕ → Sender) (b : Book) (p : Part) (e : ℕ) (order other : List Call) → AreOwn one (calls_of (entries b)) →
+    IsFull (accepted b p e) order → IsFull (accepted b p e) other → order ≡ other
 full_order_is_one one b p e order other own full full' =
-    let none : (t : Sender) → same_sender (one e) t ≡ false → accepted b p e t ≡ [] = λ t not. none_of_others one p e t (calls_of (entries b)) not own in
-    sym (all_of_sender (one e) order (λ t not. full t ∙ none t not)) ∙ full (one e) ∙ sym (full' (one e)) ∙ all_of_sender (one e) other (λ t not. full' t ∙ none t not)
+    let none : (t : Sender) → same_sender (one e) t ≡ false → accepted b p e t ≡ [] =
+    λ t not. none_of_others one p e t (calls_of (entries b)) not own in
+    sym (all_of_sender (one e) order (λ t not. full t ∙ none t not)) ∙ full (one e) ∙ sym (full' (one e))
+    ∙ all_of_sender (one e) other (λ t not. full' t ∙ none t not)
 
 -- ---- rounds
 
@@ -115,25 +125,35 @@ same_data : (r u : RoundData) → r.number ≡ u.number → r.did ≡ u.did → 
 same_data r u number did dob homes bases = λ i. record { number = number i; did = did i; dob = dob i; homes = homes i; bases = bases i }
 
 -- the lines of executed calls are one list
-done_is_one : (b : Book) (p : Part) (before after after' : ℕ → List Call) (xs ys : List DoneLine) → after ≡ after' → ExtendsOrders b p before after xs → ExtendsOrders b p before after' ys → xs ≡ ys
+done_is_one : (b : Book) (p : Part) (before after after' : ℕ → List Call) (xs ys : List DoneLine) → after ≡ after' →
+    ExtendsOrders b p before after xs → ExtendsOrders b p before after' ys → xs ≡ ys
 done_is_one b p before after after' xs ys same x y =
-    let done : x.done ≡ y.done = fun_ext (λ e. append_cancel_left (before e) (x.done e) (y.done e) (sym (x.further e) ∙ ap (λ (o : ℕ → List Call). o e) same ∙ y.further e)) in
-    x.are ∙ ap (λ (d : ℕ → List Call). done_lines d x.made) done ∙ ap (done_lines y.done) (listed_is_one (created_as b) x.made y.made x.listed y.listed) ∙ sym y.are
+    let done : x.done ≡ y.done =
+    fun_ext (λ e. append_cancel_left (before e) (x.done e) (y.done e) (sym (x.further e) ∙ ap (λ (o : ℕ → List Call). o e) same
+    ∙ y.further e)) in
+    x.are ∙ ap (λ (d : ℕ → List Call). done_lines d x.made) done
+    ∙ ap (done_lines y.done) (listed_is_one (created_as b) x.made y.made x.listed y.listed) ∙ sym y.are
 
-homes_are_one : (h : Header) (b : Book) (orders other : Orders) (xs ys : List HomeLine) → orders ≡ other → HasHomes h b orders xs → HasHomes h b other ys → xs ≡ ys
+homes_are_one : (h : Header) (b : Book) (orders other : Orders) (xs ys : List HomeLine) → orders ≡ other → HasHomes h b orders xs →
+    HasHomes h b other ys → xs ≡ ys
 homes_are_one h b orders other xs ys same x y =
     x.are ∙ ap (λ (o : Orders). map (λ (c : Create). home_line h (o part.Cell c.entity) c) x.live) same
-    ∙ ap (map (λ (c : Create). home_line h (other part.Cell c.entity) c)) (listed_is_one (live_as b) x.live y.live x.listed y.listed) ∙ sym y.are
+    ∙ ap (map (λ (c : Create). home_line h (other part.Cell c.entity) c)) (listed_is_one (live_as b) x.live y.live x.listed y.listed)
+    ∙ sym y.are
 
-bases_are_one : (h : Header) (b : Book) (orders other : Orders) (xs ys : List BaseLine) → orders ≡ other → HasBases h b orders xs → HasBases h b other ys → xs ≡ ys
+bases_are_one : (h : Header) (b : Book) (orders other : Orders) (xs ys : List BaseLine) → orders ≡ other → HasBases h b orders xs →
+    HasBases h b other ys → xs ≡ ys
 bases_are_one h b orders other xs ys same x y =
     x.are ∙ ap (λ (o : Orders). map (λ (c : Create). base_line h (o part.Base c.entity) c) x.live) same
-    ∙ ap (map (λ (c : Create). base_line h (other part.Base c.entity) c)) (listed_is_one (live_as b) x.live y.live x.listed y.listed) ∙ sym y.are
+    ∙ ap (map (λ (c : Create). base_line h (other part.Base c.entity) c)) (listed_is_one (live_as b) x.live y.live x.listed y.listed)
+    ∙ sym y.are
 
 -- by their parts the orders after a round are one
-orders_by_part : (one : ℕ → Sender) (b : Book) (p : Part) (before after after' : ℕ → List Call) (xs ys : List DoneLine) → AreOwn one (calls_of (entries b))
+orders_by_part : (one : ℕ → Sender) (b : Book) (p : Part) (before after after' : ℕ → List Call) (xs ys : List DoneLine) →
+    AreOwn one (calls_of (entries b))
     → ExtendsOrders b p before after xs → ExtendsOrders b p before after' ys → after ≡ after'
-orders_by_part one b p before after after' xs ys own x y = fun_ext (λ e. full_order_is_one one b p e (after e) (after' e) own (x.full e) (y.full e))
+orders_by_part one b p before after after' xs ys own x y =
+    fun_ext (λ e. full_order_is_one one b p e (after e) (after' e) own (x.full e) (y.full e))
 
 same_orders : (o u : Orders) → o part.Cell ≡ u part.Cell → o part.Base ≡ u part.Base → o ≡ u
 same_orders o u cell base = fun_ext by_part
@@ -143,31 +163,41 @@ same_orders o u cell base = fun_ext by_part
     by_part part.Base = base
 
 -- a round is one, and leaves one standing
-round_is_one : (h : Header) (one : ℕ → Sender) (s : Standing) (r q : RoundData) (t u : Standing) → AreOwn one (calls_of (entries s.book)) → IsRound h s r t → IsRound h s q u → (r ≡ q) × (t ≡ u)
+round_is_one : (h : Header) (one : ℕ → Sender) (s : Standing) (r q : RoundData) (t u : Standing) → AreOwn one (calls_of (entries s.book)) →
+    IsRound h s r t → IsRound h s q u → (r ≡ q) × (t ≡ u)
 round_is_one h one s r q t u own x y =
-    let cell : t.orders part.Cell ≡ u.orders part.Cell = orders_by_part one s.book part.Cell (s.orders part.Cell) (t.orders part.Cell) (u.orders part.Cell) r.did q.did own x.did y.did in
-    let base : t.orders part.Base ≡ u.orders part.Base = orders_by_part one s.book part.Base (s.orders part.Base) (t.orders part.Base) (u.orders part.Base) r.dob q.dob own x.dob y.dob in
+    let cell : t.orders part.Cell ≡ u.orders part.Cell =
+    orders_by_part one s.book part.Cell (s.orders part.Cell) (t.orders part.Cell) (u.orders part.Cell) r.did q.did own x.did y.did in
+    let base : t.orders part.Base ≡ u.orders part.Base =
+    orders_by_part one s.book part.Base (s.orders part.Base) (t.orders part.Base) (u.orders part.Base) r.dob q.dob own x.dob y.dob in
     let orders : t.orders ≡ u.orders = same_orders t.orders u.orders cell base in (
-      same_data r q (x.number ∙ sym y.number) (done_is_one s.book part.Cell (s.orders part.Cell) (t.orders part.Cell) (u.orders part.Cell) r.did q.did cell x.did y.did)
+      same_data r q (x.number ∙ sym y.number)
+          (done_is_one s.book part.Cell (s.orders part.Cell) (t.orders part.Cell) (u.orders part.Cell) r.did q.did cell x.did y.did)
           (done_is_one s.book part.Base (s.orders part.Base) (t.orders part.Base) (u.orders part.Base) r.dob q.dob base x.dob y.dob)
-          (homes_are_one h s.book t.orders u.orders r.homes q.homes orders x.homes y.homes) (bases_are_one h s.book t.orders u.orders r.bases q.bases orders x.bases y.bases),
+          (homes_are_one h s.book t.orders u.orders r.homes q.homes orders x.homes y.homes)
+          (bases_are_one h s.book t.orders u.orders r.bases q.bases orders x.bases y.bases),
       same_standing t u (x.lines ∙ sym y.lines) (x.rounds ∙ sym y.rounds) (x.book ∙ sym y.book) orders,
     )
 
-end_is_one : (h : Header) (one : ℕ → Sender) (s : Standing) (xs ys : List Piece) (t u : Standing) → AreOwn one (calls_of (entries s.book)) → EndsRound h s xs t → EndsRound h s ys u → (xs ≡ ys) × (t ≡ u)
+end_is_one : (h : Header) (one : ℕ → Sender) (s : Standing) (xs ys : List Piece) (t u : Standing) → AreOwn one (calls_of (entries s.book)) →
+    EndsRound h s xs t → EndsRound h s ys u → (xs ≡ ys) × (t ≡ u)
 end_is_one h one s xs ys t u own (r, is, x) (q, is', y) =
     let same = round_is_one h one s r q t u own x y in (is ∙ ap (λ (d : RoundData). Ended s d ∷ []) same.0 ∙ sym is', same.1)
 
 -- after a round the book has the same calls
-calls_after_round : (h : Header) (one : ℕ → Sender) (s t : Standing) (r : RoundData) → AreOwn one (calls_of (entries s.book)) → IsRound h s r t → AreOwn one (calls_of (entries t.book))
+calls_after_round : (h : Header) (one : ℕ → Sender) (s t : Standing) (r : RoundData) → AreOwn one (calls_of (entries s.book)) →
+    IsRound h s r t → AreOwn one (calls_of (entries t.book))
 calls_after_round h one s t r own x =
-    subst (λ (b : Book). AreOwn one (calls_of (entries b))) (sym x.book) (subst (λ (xs : List Entry). AreOwn one (calls_of xs)) (sym (append-nil (entries s.book))) own)
+    subst (λ (b : Book). AreOwn one (calls_of (entries b))) (sym x.book)
+    (subst (λ (xs : List Entry). AreOwn one (calls_of xs)) (sym (append-nil (entries s.book))) own)
 
 -- ---- lines
 
 -- where a test tells whether the round ends
-kept_is_one : (h : Header) (one : ℕ → Sender) (s : Standing) (full : Bool) (xs ys : List Piece) (t u : Standing) → AreOwn one (calls_of (entries s.book))
-    → MatchBool full (EndsRound h s xs t) ((xs ≡ []) × (t ≡ s)) → MatchBool full (EndsRound h s ys u) ((ys ≡ []) × (u ≡ s)) → (xs ≡ ys) × (t ≡ u) × AreOwn one (calls_of (entries t.book))
+kept_is_one : (h : Header) (one : ℕ → Sender) (s : Standing) (full : Bool) (xs ys : List Piece) (t u : Standing) →
+    AreOwn one (calls_of (entries s.book))
+    → MatchBool full (EndsRound h s xs t) ((xs ≡ []) × (t ≡ s)) → MatchBool full (EndsRound h s ys u) ((ys ≡ []) × (u ≡ s)) →
+    (xs ≡ ys) × (t ≡ u) × AreOwn one (calls_of (entries t.book))
 kept_is_one h one s true xs ys t u own x y =
     let same = end_is_one h one s xs ys t u own x y in (same.0, same.1, calls_after_round h one s t x.0 own x.2)
 kept_is_one h one s false xs ys t u own x y =
@@ -177,22 +207,27 @@ calls_with_entry : (b : Book) (x : Entry) → calls_of (entries (with_entry b x)
 calls_with_entry b x = ap calls_of (sym (append_assoc b.past b.current (x ∷ []))) ∙ filter_map-append called (entries b) (x ∷ [])
 
 -- an accepted call is from the sender that its line names
-entry_is_own : (h : Header) (one : ℕ → Sender) (b : Book) (line : Line) (c : language.Command) (x : Entry) → CallIsFrom one line → Spells line c → Means h b c x → AreOwn one (calls_of (entries b))
+entry_is_own : (h : Header) (one : ℕ → Sender) (b : Book) (line : Line) (c : language.Command) (x : Entry) → CallIsFrom one line →
+    Spells line c → Means h b c x → AreOwn one (calls_of (entries b))
     → AreOwn one (calls_of (entries (with_entry b x)))
 entry_is_own h one b line language.Sync x names spells means own = absurd means
 entry_is_own h one b line (language.Create e n px pz) x names spells (c, _, _, is) own =
     subst (λ (y : Entry). AreOwn one (calls_of (entries (with_entry b y)))) (sym is)
     (subst (AreOwn one) (sym (calls_with_entry b (entry.Created c) ∙ append-nil (calls_of (entries b)))) own)
 entry_is_own h one b line (language.Call s e n a) x names spells (c, call, is) own =
-    let from : c.sender ≡ one c.entity = sender_is_one c.sender (one c.entity) (call.sender.spelled ∙ names s e n a c.entity spells call.number) in
+    let from : c.sender ≡ one c.entity =
+    sender_is_one c.sender (one c.entity) (call.sender.spelled ∙ names s e n a c.entity spells call.number) in
     subst (λ (y : Entry). AreOwn one (calls_of (entries (with_entry b y)))) (sym is)
     (subst (AreOwn one) (sym (calls_with_entry b (entry.Called c))) (All-push (IsOwn one) (calls_of (entries b)) c own from))
 
 -- a verdict has one text, and leaves one standing
-follows_one : (h : Header) (one : ℕ → Sender) (s : Standing) (line : Line) (v : Verdict) (xs ys : List Piece) (t u : Standing) → CallIsFrom one line → AreOwn one (calls_of (entries s.book)) → Judges h s.book line v
+follows_one : (h : Header) (one : ℕ → Sender) (s : Standing) (line : Line) (v : Verdict) (xs ys : List Piece) (t u : Standing) →
+    CallIsFrom one line → AreOwn one (calls_of (entries s.book)) → Judges h s.book line v
     → Follows h (with_line s) v xs t → Follows h (with_line s) v ys u → (xs ≡ ys) × (t ≡ u) × AreOwn one (calls_of (entries t.book))
-follows_one h one s line verdict.Skipped xs ys t u names own judged x y = (x.0 ∙ sym y.0, x.1 ∙ sym y.1, subst (λ (k : Standing). AreOwn one (calls_of (entries k.book))) (sym x.1) own)
-follows_one h one s line (verdict.Refused c) xs ys t u names own judged x y = (x.0 ∙ sym y.0, x.1 ∙ sym y.1, subst (λ (k : Standing). AreOwn one (calls_of (entries k.book))) (sym x.1) own)
+follows_one h one s line verdict.Skipped xs ys t u names own judged x y =
+    (x.0 ∙ sym y.0, x.1 ∙ sym y.1, subst (λ (k : Standing). AreOwn one (calls_of (entries k.book))) (sym x.1) own)
+follows_one h one s line (verdict.Refused c) xs ys t u names own judged x y =
+    (x.0 ∙ sym y.0, x.1 ∙ sym y.1, subst (λ (k : Standing). AreOwn one (calls_of (entries k.book))) (sym x.1) own)
 follows_one h one s line (verdict.Accepted added) xs ys t u names own (_, c, spells, means) x y =
     let at : Standing = with_book (with_line s) (with_entry s.book added) in
     kept_is_one h one at (open_lines at.book == most_lines) xs ys t u (entry_is_own h one s.book line c added names spells means own) x y
@@ -202,9 +237,11 @@ follows_one h one s line verdict.Synced xs ys t u names own judged x y =
 -- ---- inputs
 
 -- a run has one text, and leaves one standing
-run_is_one : (h : Header) (one : ℕ → Sender) (lines : List Line) (s t u : Standing) (xs ys : List Piece) → AreDefs h.defs → CallsAreFrom one lines → AreOwn one (calls_of (entries s.book))
+run_is_one : (h : Header) (one : ℕ → Sender) (lines : List Line) (s t u : Standing) (xs ys : List Piece) → AreDefs h.defs →
+    CallsAreFrom one lines → AreOwn one (calls_of (entries s.book))
     → Run (Step h) s lines xs t → Run (Step h) s lines ys u → (xs ≡ ys) × (t ≡ u) × AreOwn one (calls_of (entries t.book))
-run_is_one h one [] s t u xs ys are names own x y = (x.0 ∙ sym y.0, x.1 ∙ sym y.1, subst (λ (k : Standing). AreOwn one (calls_of (entries k.book))) (sym x.1) own)
+run_is_one h one [] s t u xs ys are names own x y =
+    (x.0 ∙ sym y.0, x.1 ∙ sym y.1, subst (λ (k : Standing). AreOwn one (calls_of (entries k.book))) (sym x.1) own)
 run_is_one h one (line ∷ lines) s t u xs ys are names own x y =
     let step = x.4 in
     let step' = y.4 in
@@ -217,7 +254,8 @@ run_is_one h one (line ∷ lines) s t u xs ys are names own x y =
 
 -- so has what is printed at the end
 last_is_one : (h : Header) (one : ℕ → Sender) (s : Standing) (none : Bool) (xs ys : List Piece) → AreOwn one (calls_of (entries s.book))
-    → MatchBool none (xs ≡ []) ((t : Standing) × EndsRound h s xs t) → MatchBool none (ys ≡ []) ((t : Standing) × EndsRound h s ys t) → xs ≡ ys
+    → MatchBool none (xs ≡ []) ((t : Standing) × EndsRound h s xs t) → MatchBool none (ys ≡ []) ((t : Standing) × EndsRound h s ys t) →
+    xs ≡ ys
 last_is_one h one s true xs ys own x y = x ∙ sym y
 last_is_one h one s false xs ys own x y = (end_is_one h one s xs ys x.0 y.0 own x.1 y.1).0
 
@@ -238,7 +276,8 @@ same_header : (h k : Header) → h.settings ≡ k.settings → h.defs ≡ k.defs
 same_header h k settings defs = λ i. record { settings = settings i; defs = defs i }
 
 -- what lines with a header begin with is one
-pub header_is_one : (lines : List Line) (h k : Header) (m n : ℕ) (rest more : List Line) → BeginWithHeader lines h m rest → BeginWithHeader lines k n more → (h ≡ k) × (m ≡ n) × (rest ≡ more)
+pub header_is_one : (lines : List Line) (h k : Header) (m n : ℕ) (rest more : List Line) → BeginWithHeader lines h m rest →
+    BeginWithHeader lines k n more → (h ≡ k) × (m ≡ n) × (rest ≡ more)
 header_is_one lines h k m n rest more x y =
     let none = no_header_lines x.head x.text x.are in
     let none' = no_header_lines y.head y.text y.are in
@@ -258,13 +297,16 @@ pub header_has_defs : (text : List ℕ) (h : Header) → Reads text h → AreDef
 header_has_defs text h reads = subst AreDefs (sym reads.defs) builtin-are-defs
 
 -- the lines after a header are calls of the same senders
-rest_is_from : (one : ℕ → Sender) (h : Header) (lines rest : List Line) (n : ℕ) → CallsAreFrom one lines → BeginWithHeader lines h n rest → CallsAreFrom one rest
+rest_is_from : (one : ℕ → Sender) (h : Header) (lines rest : List Line) (n : ℕ) → CallsAreFrom one lines → BeginWithHeader lines h n rest →
+    CallsAreFrom one rest
 rest_is_from one h lines rest n names begins =
-    let here : lines ≡ separator ∷ rest = begins.whole ∙ ap (λ (ls : List Line). ls ++ separator ∷ rest) (no_header_lines begins.head begins.text begins.are) in
+    let here : lines ≡ separator ∷ rest =
+    begins.whole ∙ ap (λ (ls : List Line). ls ++ separator ∷ rest) (no_header_lines begins.head begins.text begins.are) in
     All-tail (CallIsFrom one) separator rest (subst (CallsAreFrom one) here names)
 
 -- an input whose entities have one sender each has one ended transcript
-pub transcript_is_one : (lines : List Line) (one : ℕ → Sender) (x y : List ℕ) → CallsAreFrom one lines → IsEnded lines x → IsEnded lines y → x ≡ y
+pub transcript_is_one : (lines : List Line) (one : ℕ → Sender) (x y : List ℕ) → CallsAreFrom one lines → IsEnded lines x → IsEnded lines y →
+    x ≡ y
 transcript_is_one lines one x y names (h, xs, last, t, prints, ends, is) (k, ys, last', u, prints', ends', is') =
     let same = header_is_one lines h k prints.count prints'.count prints.rest prints'.rest prints.header prints'.header in
     let run' : Run (Step h) (after_header prints.count) prints.rest ys u =
@@ -273,7 +315,8 @@ transcript_is_one lines one x y names (h, xs, last, t, prints, ends, is) (k, ys,
     (subst (λ (j : Header). Run (Step j) (after_header prints'.count) prints'.rest ys u) (sym same.0) prints'.run)) in
     let run = run_is_one h one prints.rest (after_header prints.count) t u xs ys (header_has_defs prints.header.text h prints.header.reads)
     (rest_is_from one h lines prints.rest prints.count names prints.header) (All-nil (IsOwn one)) prints.run run' in
-    let ends_here : EndsInput h t last' = subst (λ (v : Standing). EndsInput h v last') (sym run.1) (subst (λ (j : Header). EndsInput j u last') (sym same.0) ends') in
+    let ends_here : EndsInput h t last' =
+    subst (λ (v : Standing). EndsInput h v last') (sym run.1) (subst (λ (j : Header). EndsInput j u last') (sym same.0) ends') in
     let last_same : last ≡ last' = last_is_one h one t (open_lines t.book == 0) last last' run.2 ends ends_here in
     is ∙ ap (λ (ps : List Piece). text_of h.defs (ps ++ last)) run.0 ∙ ap (λ (ps : List Piece). text_of h.defs (ys ++ ps)) last_same
     ∙ ap (λ (j : Header). text_of j.defs (ys ++ last')) same.0 ∙ sym is'

@@ -1,5 +1,6 @@
 -- Lines without words.
-use Rattle.std.proofs.Common.{◌≡◌, ◌≢◌, ◌+◌, ◌<◌, ℕ, Bool, true, false, List, [], ◌∷◌, ◌++◌, length, take, drop, get_or, refl, sym, ◌∙◌, ap, subst, inl, inr, arith, add-one, drop-cons}
+use Rattle.std.proofs.Common.{◌≡◌, ◌≢◌, ◌+◌, ◌<◌, ℕ, Bool, true, false, List, [], ◌∷◌, ◌++◌, length, take, drop, get_or, refl, sym, ◌∙◌, ap}
+use Rattle.std.proofs.Common.{subst, inl, inr, arith, add-one, drop-cons}
 use Rattle.std.specs.Prelude.{◌&&◌, if◌then◌else◌, IsTrue, ◌==◌}
 use Rattle.std.specs.List.{list_all}
 use Rattle.std.proofs.lemmas.List.{take-append-drop}
@@ -44,17 +45,23 @@ has_words_after_gap gap b rest h no_blank no_note skipped =
     let here : after_blanks (gap ++ b ∷ rest) ≡ b ∷ rest = after_gap_of gap (b ∷ rest) h ∙ after_blanks_of_byte b rest no_blank in
     elim skipped.2 [
       | inl e ↦ (let none : b ∷ rest ≡ [] = sym here ∙ ap after_blanks e ∙ after_blanks_of_gap skipped.0 skipped.1 in cc)
-      | inr n ↦ (let same : b ∷ rest ≡ 35 ∷ n.0 = sym here ∙ ap after_blanks n.1 ∙ after_gap_of skipped.0 (35 ∷ n.0) skipped.1 ∙ after_blanks_of_byte 35 n.0 refl in
+      | inr n ↦ (let same : b ∷ rest ≡ 35 ∷ n.0 = sym here ∙ ap after_blanks n.1 ∙ after_gap_of skipped.0 (35 ∷ n.0) skipped.1
+          ∙ after_blanks_of_byte 35 n.0 refl in
           no_note (cc))
     ]
 
 -- what the first byte that is no blank decides
-pub first_decides : (line : List ℕ) (i : ℕ) → i < length line → IsGap (take i line) → (is_blank (get_or line i 0) ≡ false) → (b : Bool) → (get_or line i 0 == 35) ≡ b → (IsTrue b → IsSkipped line) × (IsSkipped line → IsTrue b)
+pub first_decides : (line : List ℕ) (i : ℕ) → i < length line → IsGap (take i line) → (is_blank (get_or line i 0) ≡ false) → (b : Bool) →
+    (get_or line i 0 == 35) ≡ b → (IsTrue b → IsSkipped line) × (IsSkipped line → IsTrue b)
 first_decides line i within gap no_blank true is =
     let b : get_or line i 0 ≡ 35 = grind (arith, common_steps) in
-    let whole : line ≡ take i line ++ 35 ∷ drop (i + 1) line = sym (take-append-drop i line) ∙ ap (λ (xs : List ℕ). take i line ++ xs) (drop-cons line i 0 within ∙ rw (b, add-one) refl) in
+    let whole : line ≡ take i line ++ 35 ∷ drop (i + 1) line =
+    sym (take-append-drop i line) ∙ ap (λ (xs : List ℕ). take i line ++ xs) (drop-cons line i 0 within ∙ rw (b, add-one) refl) in
     (λ t. (take i line, gap, inr (drop (i + 1) line, whole)), λ s. refl)
 first_decides line i within gap no_blank false is =
     let b : get_or line i 0 ≢ 35 = λ e. grind (arith, common_steps) in
-    let whole : line ≡ take i line ++ get_or line i 0 ∷ drop (i + 1) line = sym (take-append-drop i line) ∙ ap (λ (xs : List ℕ). take i line ++ xs) (drop-cons line i 0 within ∙ rw add-one refl) in
-    (λ t. absurd (false≢true t), λ s. absurd (has_words_after_gap (take i line) (get_or line i 0) (drop (i + 1) line) gap no_blank b (subst IsSkipped whole s)))
+    let whole : line ≡ take i line ++ get_or line i 0 ∷ drop (i + 1) line =
+    sym (take-append-drop i line) ∙ ap (λ (xs : List ℕ). take i line ++ xs) (drop-cons line i 0 within ∙ rw add-one refl) in (
+      λ t. absurd (false≢true t),
+      λ s. absurd (has_words_after_gap (take i line) (get_or line i 0) (drop (i + 1) line) gap no_blank b (subst IsSkipped whole s)),
+    )

@@ -105,11 +105,12 @@ pub record NamesType (defs : List TypeDef) (type_name : language.Word) (ty : ℕ
   pub takes_calls : (m : ℕ) × IsBuilt (type_of defs ty) m
 
 -- the words name a method of a type, whose calls are built, and spell the arguments that it takes
-pub record NamesMethod (t : TypeDef) (method_name : language.Word) (arguments : List language.Word) (m : ℕ) (args : List Value) : Type 0 where
-  pub built : IsBuilt t m
-  pub named : (method_of t m).name ≡ method_name
-  pub takes : TakesArgs (method_of t m).args args
-  pub spelled : map text_of args ≡ arguments
+pub record NamesMethod (t : TypeDef) (method_name : language.Word) (arguments : List language.Word) (m : ℕ) (args : List Value) : Type 0
+  where
+    pub built : IsBuilt t m
+    pub named : (method_of t m).name ≡ method_name
+    pub takes : TakesArgs (method_of t m).args args
+    pub spelled : map text_of args ≡ arguments
 
 -- and this is what a call of it does
 abbrev pub NamesDeed : TypeDef → language.Word → List language.Word → Deed → Type 0
@@ -142,7 +143,8 @@ pub record MayCreate (b : Book) (c : Create) : Type 0 where
 
 -- The words name a call that may be accepted: its sender is one of the world, its entity lives and has the method, and it has
 -- the sender's next number.
-pub record NamesCall (h : Header) (b : Book) (sender_name entity method_name : language.Word) (arguments : List language.Word) (c : Call) : Type 0 where
+pub record NamesCall (h : Header) (b : Book) (sender_name entity method_name : language.Word) (arguments : List language.Word)
+    (c : Call) : Type 0 where
   pub sender : NamesSender h b sender_name c.sender
   pub number : SpellsPositive entity c.entity
   pub made : Create

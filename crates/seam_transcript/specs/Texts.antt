@@ -44,7 +44,8 @@ deed_text t (Method m args) = 32 ∷ (method_of t m).name ++ flat_map (λ v. 32 
 -- `did` or `dob`, with the space after it; the entity, the sender, the call's number, and what it did
 abbrev pub done_text : List ℕ → List TypeDef → DoneLine → List ℕ
 done_text word defs l =
-    word ++ decimal_of l.call.entity ++ 32 ∷ sender_text l.call.sender ++ field l.call.number ++ deed_text (type_of defs l.ty) l.call.deed ++ 10 ∷ []
+    word ++ decimal_of l.call.entity ++ 32 ∷ sender_text l.call.sender ++ field l.call.number ++ deed_text (type_of defs l.ty) l.call.deed
+    ++ 10 ∷ []
 
 -- the entity, its cell, its version, its position, and what its real holds
 abbrev pub home_text : List TypeDef → HomeLine → List ℕ

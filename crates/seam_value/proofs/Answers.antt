@@ -14,11 +14,13 @@ use Rattle.seam_value.specs.Causes.{RefusesText, Refuses}
 use Rattle.seam_value.proofs.Spellings.{quoted-injective}
 use Rattle.seam_value.proofs.Signs.{number_text-injective, no_quote}
 
-pub number_value : (r : Result ℤ ValueError) (t : ValueType) (z : ℤ) (bytes : List ℕ) → number_text z ≡ bytes → IfOk r (λ y. Fits (Number y) t × (y ≡ z)) → IfOk r (λ y. Fits (Number y) t × (number_text y ≡ bytes))
+pub number_value : (r : Result ℤ ValueError) (t : ValueType) (z : ℤ) (bytes : List ℕ) → number_text z ≡ bytes →
+    IfOk r (λ y. Fits (Number y) t × (y ≡ z)) → IfOk r (λ y. Fits (Number y) t × (number_text y ≡ bytes))
 number_value (Ok y) t z bytes e h = (h.0, ap number_text h.1 ∙ e)
 number_value (Err x) t z bytes e h = tt
 
-pub number_cause : (r : Result ℤ ValueError) (t : ValueType) (z : ℤ) (bytes : List ℕ) → t ≢ type.Text → number_text z ≡ bytes → IfErr r (λ e. (e ≡ OutOfRange) × ¬ (Fits (Number z) t)) → IfErr r (Refuses bytes t)
+pub number_cause : (r : Result ℤ ValueError) (t : ValueType) (z : ℤ) (bytes : List ℕ) → t ≢ type.Text → number_text z ≡ bytes →
+    IfErr r (λ e. (e ≡ OutOfRange) × ¬ (Fits (Number z) t)) → IfErr r (Refuses bytes t)
 number_cause (Ok y) t z bytes n e h = tt
 number_cause (Err OutOfRange) t z bytes n e h = (n, z, e, h.1)
 number_cause (Err NotNumber) t z bytes n e h = let wrong = h.0 in cc
@@ -26,11 +28,13 @@ number_cause (Err BadString) t z bytes n e h = let wrong = h.0 in cc
 number_cause (Err TooLong) t z bytes n e h = let wrong = h.0 in cc
 number_cause (Err NoMemory) t z bytes n e h = let wrong = h.0 in cc
 
-pub text_value : (r : Result (List ℕ) ValueError) (bytes content : List ℕ) → quoted content ≡ bytes → IfOk r (λ s. (s ≡ content) × IsShortText content) → IfOk r (λ s. IsShortText s × (quoted s ≡ bytes))
+pub text_value : (r : Result (List ℕ) ValueError) (bytes content : List ℕ) → quoted content ≡ bytes →
+    IfOk r (λ s. (s ≡ content) × IsShortText content) → IfOk r (λ s. IsShortText s × (quoted s ≡ bytes))
 text_value (Ok s) bytes content e h = rw h.0 (h.1, e)
 text_value (Err x) bytes content e h = tt
 
-pub text_cause : (r : Result (List ℕ) ValueError) (bytes content : List ℕ) → quoted content ≡ bytes → IfErr r (RefusesText content) → IfErr r (Refuses bytes type.Text)
+pub text_cause : (r : Result (List ℕ) ValueError) (bytes content : List ℕ) → quoted content ≡ bytes → IfErr r (RefusesText content) →
+    IfErr r (Refuses bytes type.Text)
 text_cause (Ok s) bytes content e h = tt
 text_cause (Err NotNumber) bytes content e h = absurd h
 text_cause (Err OutOfRange) bytes content e h = absurd h
@@ -53,10 +57,12 @@ text_of-injective (Text xs) (Number z) e = absurd (number_is_no_text z xs (sym e
 text_of-injective (Text xs) (Text ys) e = ap Text (quoted-injective xs ys e)
 
 -- the spelling of a value that fits is not refused
-pub refuses_none : (bytes : List ℕ) (t : ValueType) (v : Value) (e : ValueError) → Fits v t → text_of v ≡ bytes → Refuses bytes t e → e ≡ NoMemory
+pub refuses_none : (bytes : List ℕ) (t : ValueType) (v : Value) (e : ValueError) → Fits v t → text_of v ≡ bytes → Refuses bytes t e →
+    e ≡ NoMemory
 refuses_none bytes t (Number z) NotNumber f s h = absurd (h.1 z s)
 refuses_none bytes t (Text xs) NotNumber f s h = absurd (h.0 f.0)
-refuses_none bytes t (Number z) OutOfRange f s h = absurd (h.3 (subst (λ (y : ℤ). Fits (Number y) t) (number_text-injective z h.1 (s ∙ sym h.2)) f))
+refuses_none bytes t (Number z) OutOfRange f s h =
+    absurd (h.3 (subst (λ (y : ℤ). Fits (Number y) t) (number_text-injective z h.1 (s ∙ sym h.2)) f))
 refuses_none bytes t (Text xs) OutOfRange f s h = absurd (h.0 f.0)
 refuses_none bytes t (Number z) BadString f s h = absurd (f.0 h.0)
 refuses_none bytes t (Text xs) BadString f s h = absurd (h.1 xs f.1.utf8 s)
@@ -67,12 +73,15 @@ refuses_none bytes t (Text xs) TooLong f s h =
     absurd (omega (arith, h.4))
 refuses_none bytes t v NoMemory f s h = refl
 
-pub reads_back : (r : Result Value ValueError) (bytes : List ℕ) (t : ValueType) → IfOk r (λ v. Fits v t × (text_of v ≡ bytes)) → IfErr r (Refuses bytes t) → (v : Value) → Fits v t → text_of v ≡ bytes → MatchResult r (λ read. read ≡ v) (λ e. e ≡ NoMemory)
+pub reads_back : (r : Result Value ValueError) (bytes : List ℕ) (t : ValueType) → IfOk r (λ v. Fits v t × (text_of v ≡ bytes)) →
+    IfErr r (Refuses bytes t) → (v : Value) → Fits v t → text_of v ≡ bytes → MatchResult r (λ read. read ≡ v) (λ e. e ≡ NoMemory)
 reads_back (Ok read) bytes t h k v f s = text_of-injective read v (h.1 ∙ sym s)
 reads_back (Err e) bytes t h k v f s = refuses_none bytes t v e f s k
 
 -- a number that fits and is spelled so is read as itself
-pub number_read : (r : Result ℤ ValueError) (bytes : List ℕ) (t : ValueType) → t ≢ type.Text → IfOk r (λ z. Fits (Number z) t × (number_text z ≡ bytes)) → IfErr r (Refuses bytes t) → (z : ℤ) → Fits (Number z) t → number_text z ≡ bytes → r ≡ Ok z
+pub number_read : (r : Result ℤ ValueError) (bytes : List ℕ) (t : ValueType) → t ≢ type.Text →
+    IfOk r (λ z. Fits (Number z) t × (number_text z ≡ bytes)) → IfErr r (Refuses bytes t) → (z : ℤ) → Fits (Number z) t →
+    number_text z ≡ bytes → r ≡ Ok z
 number_read (Ok y) bytes t n h k z f s = ap Ok (number_text-injective y z (h.1 ∙ sym s))
 number_read (Err e) bytes t n h k z f s = absurd (n (memory_at_text (refuses_none bytes t (Number z) e f s k) k))
   where

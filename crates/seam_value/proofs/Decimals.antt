@@ -1,5 +1,6 @@
 -- Numbers in decimal: what their digits are, and that they give the number back.
-use Rattle.std.proofs.Common.{◌≡◌, ◌≢◌, ℕ, ◌+◌, ◌*◌, ◌/◌, ◌%◌, ◌<◌, ◌≤◌, ◌^◌, Bool, true, false, List, [], ◌∷◌, ◌++◌, length, refl, sym, ◌∙◌, ap, subst, arith, zero, suc, ℤ, pos, negsuc, ltb, ltb-true, ltb-false, zero-add, append_assoc}
+use Rattle.std.proofs.Common.{◌≡◌, ◌≢◌, ℕ, ◌+◌, ◌*◌, ◌/◌, ◌%◌, ◌<◌, ◌≤◌, ◌^◌, Bool, true, false, List, [], ◌∷◌, ◌++◌, length, refl, sym}
+use Rattle.std.proofs.Common.{◌∙◌, ap, subst, arith, zero, suc, ℤ, pos, negsuc, ltb, ltb-true, ltb-false, zero-add, append_assoc}
 use Rattle.std.specs.Prelude.{map, slice_index, ◌&&◌}
 use Rattle.std.specs.List.{list_all}
 use Rattle.std.specs.Char.{digit_value}
@@ -27,7 +28,8 @@ decimal_of_step n h =
     let above : 0 < n = omega arith in
     let higher : 0 < n / 10 = omega arith in
     let glyphs : List ℕ → List ℕ = map (λ d. 48 + d) in
-    decimal_of_pos n above ∙ ap glyphs (digits_of_step 10 n (omega arith) above) ∙ map-append (λ d. 48 + d) (digits_of 10 (n / 10)) (n % 10 ∷ [])
+    decimal_of_pos n above ∙ ap glyphs (digits_of_step 10 n (omega arith) above)
+    ∙ map-append (λ d. 48 + d) (digits_of 10 (n / 10)) (n % 10 ∷ [])
     ∙ ap (λ (xs : List ℕ). xs ++ (48 + n % 10) ∷ []) (sym (decimal_of_pos (n / 10) higher))
 
 decimal_of_digit : (n : ℕ) → n < 10 → decimal_of n ≡ (48 + n) ∷ []
@@ -42,7 +44,9 @@ decimal_of_digit (suc m) h =
 
 -- what `{}` prints of a number is its decimal
 decimal_of_is : (n : ℕ) → n < 10 ^ 64 → decimal_of n ≡ decimal n
-decimal_of_is n h = decimal_by_steps_wide (λ m ds. decimal_of m ≡ ds) decimal_of_digit (λ m ds big e. decimal_of_step m big ∙ ap (λ (xs : List ℕ). xs ++ (48 + m % 10) ∷ []) e) n h
+decimal_of_is n h =
+    decimal_by_steps_wide (λ m ds. decimal_of m ≡ ds) decimal_of_digit (λ m ds big e. decimal_of_step m big
+    ∙ ap (λ (xs : List ℕ). xs ++ (48 + m % 10) ∷ []) e) n h
 
 -- the same of a number with a sign
 pub number_text_is : (z : ℤ) → SFits w128 z → number_text z ≡ signed_decimal z
@@ -50,13 +54,19 @@ number_text_is (pos n) f = decimal_of_is n (omega (arith, f))
 number_text_is (negsuc n) f = ap (λ (xs : List ℕ). 45 ∷ xs) (decimal_of_is (suc n) (omega (arith, f)))
 
 -- a fact of a number and its digits, from the digits one after another
-from_step : (P : ℕ → List ℕ → Type 0) → ((n : ℕ) → n < 10 → P n ((48 + n) ∷ [])) → ((n : ℕ) (ds : List ℕ) → 10 ≤ n → P (n / 10) ds → P n (ds ++ (48 + n % 10) ∷ [])) → (n : ℕ) → (10 ≤ n → P (n / 10) (decimal_of (n / 10))) → (b : Bool) → ltb n 10 ≡ b → P n (decimal_of n)
+from_step : (P : ℕ → List ℕ → Type 0) → ((n : ℕ) → n < 10 → P n ((48 + n) ∷ [])) →
+    ((n : ℕ) (ds : List ℕ) → 10 ≤ n → P (n / 10) ds → P n (ds ++ (48 + n % 10) ∷ [])) → (n : ℕ) →
+    (10 ≤ n → P (n / 10) (decimal_of (n / 10))) → (b : Bool) → ltb n 10 ≡ b → P n (decimal_of n)
 from_step P one more n higher true e = let small : n < 10 = ltb-true n 10 e in subst (P n) (sym (decimal_of_digit n small)) (one n small)
-from_step P one more n higher false e = let big : 10 ≤ n = ltb-false n 10 e in subst (P n) (sym (decimal_of_step n big)) (more n (decimal_of (n / 10)) big (higher big))
+from_step P one more n higher false e =
+    let big : 10 ≤ n = ltb-false n 10 e in
+    subst (P n) (sym (decimal_of_step n big)) (more n (decimal_of (n / 10)) big (higher big))
 
-decimal_of_by_steps : (P : ℕ → List ℕ → Type 0) → ((n : ℕ) → n < 10 → P n ((48 + n) ∷ [])) → ((n : ℕ) (ds : List ℕ) → 10 ≤ n → P (n / 10) ds → P n (ds ++ (48 + n % 10) ∷ [])) → (fuel n : ℕ) → n ≤ fuel → P n (decimal_of n)
+decimal_of_by_steps : (P : ℕ → List ℕ → Type 0) → ((n : ℕ) → n < 10 → P n ((48 + n) ∷ [])) →
+    ((n : ℕ) (ds : List ℕ) → 10 ≤ n → P (n / 10) ds → P n (ds ++ (48 + n % 10) ∷ [])) → (fuel n : ℕ) → n ≤ fuel → P n (decimal_of n)
 decimal_of_by_steps P one more zero n h = from_step P one more n (λ big. absurd (omega arith)) (ltb n 10) refl
-decimal_of_by_steps P one more (suc fuel) n h = from_step P one more n (λ big. decimal_of_by_steps P one more fuel (n / 10) (omega arith)) (ltb n 10) refl
+decimal_of_by_steps P one more (suc fuel) n h =
+    from_step P one more n (λ big. decimal_of_by_steps P one more fuel (n / 10) (omega arith)) (ltb n 10) refl
 
 -- the digits of a number
 record IsDecimal (n : ℕ) (ds : List ℕ) : Type 0 where
@@ -151,11 +161,13 @@ first_digit c (x ∷ xs) zero e h =
 first_digit c cs (suc d) e h =
     let g = glyph_is c (and_left _ _ h.all) in
     let glyph : 48 + suc d ≡ c = omega arith in
-    onto_digits (suc d) cs (omega arith) (and_right _ _ h.all) ∙ ap (λ (xs : List ℕ). xs ++ cs) (decimal_of_digit (suc d) (omega arith) ∙ ap (λ (x : ℕ). x ∷ []) glyph)
+    onto_digits (suc d) cs (omega arith) (and_right _ _ h.all)
+    ∙ ap (λ (xs : List ℕ). xs ++ cs) (decimal_of_digit (suc d) (omega arith) ∙ ap (λ (x : ℕ). x ∷ []) glyph)
 
 pub decimal_of-digits_value : (ds : List ℕ) → IsNumeral ds → decimal_of (digits_value 10 ds) ≡ ds
 decimal_of-digits_value [] h = absurd (omega (arith, h.some))
-decimal_of-digits_value (c ∷ cs) h = ap (λ (n : ℕ). decimal_of (digits_value_after 10 n cs)) (zero-add (digit_value c)) ∙ first_digit c cs (digit_value c) refl h
+decimal_of-digits_value (c ∷ cs) h =
+    ap (λ (n : ℕ). decimal_of (digits_value_after 10 n cs)) (zero-add (digit_value c)) ∙ first_digit c cs (digit_value c) refl h
 
 pub decimal_of-injective : (m n : ℕ) → decimal_of m ≡ decimal_of n → m ≡ n
 decimal_of-injective m n e = sym (digits_value-decimal_of m) ∙ ap (digits_value 10) e ∙ digits_value-decimal_of n

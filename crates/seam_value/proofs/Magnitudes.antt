@@ -1,5 +1,6 @@
 -- What `parse` gives for a numeral.
-use Rattle.std.proofs.Common.{rules, ◌≡◌, ℕ, ◌<◌, ◌≤◌, ◌^◌, Bool, true, List, length, Result, Ok, Err, arith, refl, false, ltb, ltb-true, ltb-false}
+use Rattle.std.proofs.Common.{rules, ◌≡◌, ℕ, ◌<◌, ◌≤◌, ◌^◌, Bool, true, List, length, Result, Ok, Err, arith, refl, false, ltb, ltb-true}
+use Rattle.std.proofs.Common.{ltb-false}
 use Rattle.std.specs.Prelude.{MatchOption}
 use Rattle.std.specs.List.{list_all}
 use Rattle.std.specs.Result.{OkIff, result_ok}
@@ -16,7 +17,9 @@ tells = search rules
 own : IsNumeralModel (λ ds. list_all is_digit ds ≡ true) (digits_value 10)
 own = numerals_by_value _ tells
 
-by_result : {E : Type 0} (bs : List ℕ) (r : Result ℕ E) → 0 < length bs → OkIff r ((0 < length bs) × (digits_value 10 bs < 2 ^ 64)) (digits_value 10 bs) → MatchOption (result_ok r) (2 ^ 64 ≤ digits_value 10 bs) (λ n. n ≡ digits_value 10 bs)
+by_result : {E : Type 0} (bs : List ℕ) (r : Result ℕ E) → 0 < length bs →
+    OkIff r ((0 < length bs) × (digits_value 10 bs < 2 ^ 64)) (digits_value 10 bs) →
+    MatchOption (result_ok r) (2 ^ 64 ≤ digits_value 10 bs) (λ n. n ≡ digits_value 10 bs)
 by_result bs (Ok n) s h = h.1
 by_result bs (Err e) s h = at_least (ltb (digits_value 10 bs) (2 ^ 64)) refl
   where
@@ -24,7 +27,8 @@ by_result bs (Err e) s h = at_least (ltb (digits_value 10 bs) (2 ^ 64)) refl
     at_least true t = absurd (h (s, ltb-true _ _ t))
     at_least false t = ltb-false _ _ t
 
-pub parsed : {E : Type 0} (bs : List ℕ) (r : Result ℕ E) → IsNumeral bs → ParsesUnsigned 64 10 bs r → MatchOption (result_ok r) (2 ^ 64 ≤ digits_value 10 bs) (λ n. n ≡ digits_value 10 bs)
+pub parsed : {E : Type 0} (bs : List ℕ) (r : Result ℕ E) → IsNumeral bs → ParsesUnsigned 64 10 bs r →
+    MatchOption (result_ok r) (2 ^ 64 ≤ digits_value 10 bs) (λ n. n ≡ digits_value 10 bs)
 parsed bs r s h = by_result bs r s.some (parse_digits own 64 bs r h s.all)
 
 pub numeral_is_text : (bs : List ℕ) → IsNumeral bs → IsUtf8 bs

@@ -26,7 +26,8 @@ no_memory_at_numbers bytes NoMemory r = λ e. cc
 -- bytes that are refused as a number spell none that 32 bits hold
 pub no_whole_if_refused : (bytes : List ℕ) (e : ValueError) → Refuses bytes type.Uint32 e → (n : ℕ) → ¬ (SpellsNumber bytes n)
 no_whole_if_refused bytes e refused n spells =
-    no_memory_at_numbers bytes e refused (refuses_none bytes type.Uint32 (Number (pos n)) e (whole_fits n spells.whole) spells.spelled refused)
+    no_memory_at_numbers bytes e refused (refuses_none bytes type.Uint32 (Number (pos n)) e (whole_fits n spells.whole) spells.spelled
+    refused)
 
 -- what spells 0 spells no number from 1 on
 pub zero_is_not_positive : (bytes : List ℕ) → SpellsNumber bytes 0 → (n : ℕ) → ¬ (SpellsPositive bytes n)

@@ -1,5 +1,6 @@
 -- Numbers with a sign, and their ranges.
-use Rattle.std.proofs.Common.{◌≡◌, ◌≢◌, ℕ, ◌≤◌, ◌^◌, Bool, true, false, List, [], ◌∷◌, refl, sym, ◌∙◌, ap, subst, arith, zero, suc, ℤ, pos, negsuc}
+use Rattle.std.proofs.Common.{◌≡◌, ◌≢◌, ℕ, ◌≤◌, ◌^◌, Bool, true, false, List, [], ◌∷◌, refl, sym, ◌∙◌, ap, subst, arith, zero, suc, ℤ, pos}
+use Rattle.std.proofs.Common.{negsuc}
 use Rattle.std.specs.Prelude.{slice_index}
 use Rattle.std.specs.Str.Parse.{digits_value}
 use Rattle.std.proofs.lemmas.Int.{ints}
@@ -8,15 +9,18 @@ use Rattle.seam_value.specs.declared.types.ValueType.TheVariants.{Int8, Int16, I
 use Rattle.seam_value.specs.declared.values.Value.TheVariants.{Number}
 use Rattle.seam_value.specs.Numerals.{IsNumeral, SplitsSign, IsSignedNumeral, signed}
 use Rattle.seam_value.specs.Values.{Fits, decimal_of, number_text}
-use Rattle.seam_value.proofs.Decimals.{decimal_of_numeral, decimal_of-digits_value, decimal_of-injective, glyph_is, and_left, decimal_of_zero}
+use Rattle.seam_value.proofs.Decimals.{decimal_of_numeral, decimal_of-digits_value, decimal_of-injective, glyph_is, and_left}
+use Rattle.seam_value.proofs.Decimals.{decimal_of_zero}
 
 -- a numeral after its sign is the text of its number
 negative_text : (n : ℕ) (ds : List ℕ) → decimal_of n ≡ ds → ds ≢ 48 ∷ [] → number_text (signed true n) ≡ 45 ∷ ds
 negative_text zero ds e other = absurd (other (sym e ∙ decimal_of_zero))
 negative_text (suc n) ds e other = ap (λ (xs : List ℕ). 45 ∷ xs) e
 
-pub number_text-signed : (bytes : List ℕ) (is_negative : Bool) (digits : List ℕ) → SplitsSign bytes is_negative digits → IsSignedNumeral is_negative digits → number_text (signed is_negative (digits_value 10 digits)) ≡ bytes
-number_text-signed bytes true digits split h = negative_text (digits_value 10 digits) digits (decimal_of-digits_value digits h.numeral) (h.sign refl) ∙ sym split
+pub number_text-signed : (bytes : List ℕ) (is_negative : Bool) (digits : List ℕ) → SplitsSign bytes is_negative digits →
+    IsSignedNumeral is_negative digits → number_text (signed is_negative (digits_value 10 digits)) ≡ bytes
+number_text-signed bytes true digits split h =
+    negative_text (digits_value 10 digits) digits (decimal_of-digits_value digits h.numeral) (h.sign refl) ∙ sym split
 number_text-signed bytes false digits split h = decimal_of-digits_value digits h.numeral ∙ sym split.0
 
 -- and other bytes are the text of no number
@@ -24,8 +28,10 @@ no_minus : (ds : List ℕ) → IsNumeral ds → slice_index ds 0 ≢ 45
 no_minus [] h e = cc
 no_minus (c ∷ cs) h e = omega (arith, glyph_is c (and_left _ _ h.all))
 
-pub no_number_text : (bytes : List ℕ) (is_negative : Bool) (digits : List ℕ) → SplitsSign bytes is_negative digits → ¬ (IsSignedNumeral is_negative digits) → (z : ℤ) → number_text z ≢ bytes
-no_number_text bytes true digits split out (pos n) e = no_minus bytes (subst IsNumeral e (decimal_of_numeral n)) (ap (λ (xs : List ℕ). slice_index xs 0) split)
+pub no_number_text : (bytes : List ℕ) (is_negative : Bool) (digits : List ℕ) → SplitsSign bytes is_negative digits →
+    ¬ (IsSignedNumeral is_negative digits) → (z : ℤ) → number_text z ≢ bytes
+no_number_text bytes true digits split out (pos n) e =
+    no_minus bytes (subst IsNumeral e (decimal_of_numeral n)) (ap (λ (xs : List ℕ). slice_index xs 0) split)
 no_number_text bytes false digits split out (pos n) e =
     out (record { numeral = subst IsNumeral (e ∙ split.0) (decimal_of_numeral n); sign = λ f. cc })
 no_number_text bytes true digits split out (negsuc n) e =

@@ -30,24 +30,30 @@ quoted-injective xs ys e =
     content_is xs ys (append_cancel_right (flat_map spelled_byte xs) (flat_map spelled_byte ys) (34 ∷ []) same)
 
 -- the reading of the bytes between the quotes, byte after byte
-pub more_content : (content rest after whole : List ℕ) (b : ℕ) → flat_map spelled_byte content ++ rest ≡ whole → rest ≡ spelled_byte b ++ after → flat_map spelled_byte (content ++ b ∷ []) ++ after ≡ whole
+pub more_content : (content rest after whole : List ℕ) (b : ℕ) → flat_map spelled_byte content ++ rest ≡ whole →
+    rest ≡ spelled_byte b ++ after → flat_map spelled_byte (content ++ b ∷ []) ++ after ≡ whole
 more_content content rest after whole b e r =
-    ap (λ (xs : List ℕ). xs ++ after) (flat_map-append spelled_byte content (b ∷ [])) ∙ simp append_assoc (ap (λ (xs : List ℕ). flat_map spelled_byte content ++ xs) (sym r) ∙ e)
+    ap (λ (xs : List ℕ). xs ++ after) (flat_map-append spelled_byte content (b ∷ []))
+    ∙ simp append_assoc (ap (λ (xs : List ℕ). flat_map spelled_byte content ++ xs) (sym r) ∙ e)
 
-pub less_to_come : (rest after : List ℕ) (b : ℕ) → rest ≡ spelled_byte b ++ after → (more : List ℕ) → flat_map spelled_byte more ≡ rest → (others : List ℕ) × (flat_map spelled_byte others ≡ after)
+pub less_to_come : (rest after : List ℕ) (b : ℕ) → rest ≡ spelled_byte b ++ after → (more : List ℕ) → flat_map spelled_byte more ≡ rest →
+    (others : List ℕ) × (flat_map spelled_byte others ≡ after)
 less_to_come rest after b r [] e = absurd (some_bytes b after (e ∙ r))
 less_to_come rest after b r (c ∷ others) e = (others, (same_byte c b (flat_map spelled_byte others) after (e ∙ r)).1)
 
-pub none_to_come : (rest : List ℕ) → length rest ≢ 0 → ((b : ℕ) (after : List ℕ) → rest ≢ spelled_byte b ++ after) → (more : List ℕ) → flat_map spelled_byte more ≢ rest
+pub none_to_come : (rest : List ℕ) → length rest ≢ 0 → ((b : ℕ) (after : List ℕ) → rest ≢ spelled_byte b ++ after) → (more : List ℕ) →
+    flat_map spelled_byte more ≢ rest
 none_to_come rest some never [] e = some (ap length (sym e))
 none_to_come rest some never (b ∷ more) e = never b (flat_map spelled_byte more) (sym e)
 
 -- the quotes round it
-pub quoted_is : (bytes inner content : List ℕ) → bytes ≡ 34 ∷ inner ++ 34 ∷ [] → flat_map spelled_byte content ≡ inner → quoted content ≡ bytes
+pub quoted_is : (bytes inner content : List ℕ) → bytes ≡ 34 ∷ inner ++ 34 ∷ [] → flat_map spelled_byte content ≡ inner →
+    quoted content ≡ bytes
 unfolding quoted
 quoted_is bytes inner content b e = rw (e, b) refl
 
-pub no_quoted_inside : (bytes inner : List ℕ) → bytes ≡ 34 ∷ inner ++ 34 ∷ [] → ((content : List ℕ) → flat_map spelled_byte content ≢ inner) → (content : List ℕ) → quoted content ≢ bytes
+pub no_quoted_inside : (bytes inner : List ℕ) → bytes ≡ 34 ∷ inner ++ 34 ∷ [] →
+    ((content : List ℕ) → flat_map spelled_byte content ≢ inner) → (content : List ℕ) → quoted content ≢ bytes
 unfolding quoted
 no_quoted_inside bytes inner b never content e =
     let same : flat_map spelled_byte content ++ 34 ∷ [] ≡ inner ++ 34 ∷ [] = cc in

@@ -1,5 +1,6 @@
 // A value from its spelling.
-ghost use Rattle.std.specs.Prelude.{◌≡◌, ◌≢◌, ◌≤◌, ◌<◌, ◌^◌, ◌↔◌, ◌∷◌, [], ◌++◌, ℕ, ℤ, Ok, List, length, IsTrue, IfOk, IfErr, IfSome, MatchOption, MatchResult};
+ghost use Rattle.std.specs.Prelude.{◌≡◌, ◌≢◌, ◌≤◌, ◌<◌, ◌^◌, ◌↔◌, ◌∷◌, [], ◌++◌, ℕ, ℤ, Ok, List, length, IsTrue, IfOk, IfErr, IfSome};
+ghost use Rattle.std.specs.Prelude.{MatchOption, MatchResult};
 ghost use Rattle.seam_value.specs.declared.values.Value.{Value as Values};
 ghost use Rattle.std.specs.List.{list_all, flat_map};
 ghost use Rattle.std.specs.Str.Parse.{digits_value};
@@ -19,7 +20,8 @@ impl Value {
         ensures cause { IfErr result (Refuses bytes.now t) }
 
         // The spelling of a value that fits is read as that value, unless allocation fails.
-        ensures spelled { (v : Values) → Fits v t → text_of v ≡ bytes.now → MatchResult result (λ read. read ≡ v) (λ e. e ≡ ValueError.NoMemory) }
+        ensures spelled { (v : Values) → Fits v t → text_of v ≡ bytes.now →
+            MatchResult result (λ read. read ≡ v) (λ e. e ≡ ValueError.NoMemory) }
     {
         match t {
             ValueType::Text => Ok(Value::Text(read_text(alloc, bytes)?)),
@@ -160,7 +162,8 @@ fn content_of(alloc: Global, spelled: &[u8]) -> Result<Option<Vec<u8>>, AllocErr
 
 // The byte whose spelling comes first, and what follows.
 fn first_byte(spelled: &[u8]) -> Option<(u8, &[u8])>
-    ensures found { MatchOption result ((b : ℕ) (after : List ℕ) → spelled.now ≢ spelled_byte b ++ after) (λ p. spelled.now ≡ spelled_byte p.0 ++ p.1.now) }
+    ensures found { MatchOption result ((b : ℕ) (after : List ℕ) → spelled.now ≢ spelled_byte b ++ after)
+        (λ p. spelled.now ≡ spelled_byte p.0 ++ p.1.now) }
     ensures shorter { IfSome result (λ p. length p.1.now < length spelled.now) }
 {
     match spelled {

@@ -1,5 +1,6 @@
 -- How pieces make a quoted word.
-use Rattle.std.proofs.Common.{◌≡◌, ◌≢◌, ℕ, ◌-◌, ◌<◌, Bool, true, false, List, [], ◌∷◌, ◌++◌, length, take, drop, refl, sym, ◌∙◌, ap, arith, inl, inr, append_assoc, append-nil, Bor, Option, Some, None, eqb-true}
+use Rattle.std.proofs.Common.{◌≡◌, ◌≢◌, ℕ, ◌-◌, ◌<◌, Bool, true, false, List, [], ◌∷◌, ◌++◌, length, take, drop, refl, sym, ◌∙◌, ap, arith}
+use Rattle.std.proofs.Common.{inl, inr, append_assoc, append-nil, Bor, Option, Some, None, eqb-true}
 use Rattle.std.specs.Prelude.{slice_index, MatchOption, ◌==◌}
 use Rattle.std.specs.List.{concat, AllByRecursion}
 use Rattle.std.proofs.lemmas.List.Folds.{concat-append}
@@ -26,13 +27,16 @@ each_append : (xs ys : List (List ℕ)) → AllByRecursion IsPiece xs → AllByR
 each_append [] ys p q = q
 each_append (x ∷ xs) ys p q = (p.0, each_append xs ys p.1 q)
 
-pub one_more : (bytes prefix rest after : List ℕ) → ArePieces prefix → bytes ≡ prefix ++ rest → HasPiece rest after → (more : List ℕ) × ArePieces more × (bytes ≡ more ++ after)
+pub one_more : (bytes prefix rest after : List ℕ) → ArePieces prefix → bytes ≡ prefix ++ rest → HasPiece rest after →
+    (more : List ℕ) × ArePieces more × (bytes ≡ more ++ after)
 one_more bytes prefix rest after p e h = (
   prefix ++ h.piece,
   record {
     pieces = p.pieces ++ h.piece ∷ [];
     each = each_append p.pieces (h.piece ∷ []) p.each (h.good, tt);
-    joined = ap (λ (xs : List ℕ). xs ++ h.piece) p.joined ∙ ap (λ (xs : List ℕ). concat p.pieces ++ xs) (sym (append-nil h.piece)) ∙ sym (concat-append p.pieces (h.piece ∷ []));
+    joined =
+        ap (λ (xs : List ℕ). xs ++ h.piece) p.joined ∙ ap (λ (xs : List ℕ). concat p.pieces ++ xs) (sym (append-nil h.piece))
+        ∙ sym (concat-append p.pieces (h.piece ∷ []));
   },
   e ∙ ap (λ (xs : List ℕ). prefix ++ xs) h.whole ∙ sym (append_assoc prefix h.piece after),
 )
@@ -41,19 +45,24 @@ pub no_pieces : ArePieces []
 no_pieces = record { pieces = []; each = tt; joined = refl }
 
 -- a byte that is neither quote nor backslash is a piece, and so is an escape
-pub plain_piece : (bytes rest : List ℕ) → bytes ≡ slice_index bytes 0 ∷ rest → ¬ (EndsPieces bytes) → slice_index bytes 0 ≢ 92 → HasPiece bytes rest
+pub plain_piece : (bytes rest : List ℕ) → bytes ≡ slice_index bytes 0 ∷ rest → ¬ (EndsPieces bytes) → slice_index bytes 0 ≢ 92 →
+    HasPiece bytes rest
 plain_piece [] rest e h o = absurd (h tt)
 plain_piece (b ∷ bytes) rest e h o = record { piece = b ∷ []; good = (b, inl (refl, h, o)); whole = e }
 
 pub escape_piece : (bytes inner rest : List ℕ) (b : ℕ) → bytes ≡ 92 ∷ inner → is_escaped b ≡ true → inner ≡ b ∷ rest → HasPiece bytes rest
-escape_piece bytes inner rest b e h i = record { piece = 92 ∷ b ∷ []; good = (b, inr (refl, h)); whole = e ∙ ap (λ (xs : List ℕ). 92 ∷ xs) i }
+escape_piece bytes inner rest b e h i =
+    record { piece = 92 ∷ b ∷ []; good = (b, inr (refl, h)); whole = e ∙ ap (λ (xs : List ℕ). 92 ∷ xs) i }
 
-pub after_backslash : (bytes inner : List ℕ) → bytes ≡ 92 ∷ inner → (r : Option (Bor (List ℕ))) → MatchOption r (IsNoEscape inner) (λ rest. (is_escaped (slice_index inner 0) ≡ true) × (inner ≡ slice_index inner 0 ∷ rest.now)) → MatchOption r (HasBadPiece bytes) (λ rest. HasPiece bytes rest.now)
+pub after_backslash : (bytes inner : List ℕ) → bytes ≡ 92 ∷ inner → (r : Option (Bor (List ℕ))) →
+    MatchOption r (IsNoEscape inner) (λ rest. (is_escaped (slice_index inner 0) ≡ true) × (inner ≡ slice_index inner 0 ∷ rest.now)) →
+    MatchOption r (HasBadPiece bytes) (λ rest. HasPiece bytes rest.now)
 after_backslash bytes inner e None h = record { rest = inner; bad = h; whole = e }
 after_backslash bytes inner e (Some rest) h = escape_piece bytes inner rest.now (slice_index inner 0) e h.0 h.1
 
 -- a quoted word that ends, and one that does not
-pub quoted_word : (bytes inner rest : List ℕ) → bytes ≡ 34 ∷ inner → HasPieces inner rest → ClosesWord rest → IsFirstWord true bytes (drop 1 rest)
+pub quoted_word : (bytes inner rest : List ℕ) → bytes ≡ 34 ∷ inner → HasPieces inner rest → ClosesWord rest →
+    IsFirstWord true bytes (drop 1 rest)
 quoted_word bytes inner [] e p c = absurd c
 quoted_word bytes inner (b ∷ rest) e p c = record {
   word = 34 ∷ p.prefix ++ 34 ∷ [];
@@ -65,11 +74,14 @@ quoted_word bytes inner (b ∷ rest) e p c = record {
 pub open_quote : (bytes inner rest : List ℕ) → bytes ≡ 34 ∷ inner → HasPieces inner rest → ¬ (ClosesWord rest) → HasOpenQuote bytes
 open_quote bytes inner [] e p c = unended p.prefix p.pieces (e ∙ ap (λ (xs : List ℕ). 34 ∷ xs) (p.whole ∙ grind (arith, common_steps)))
 open_quote bytes inner (b ∷ []) e p c = absurd (c (p.ends, tt))
-open_quote bytes inner (b ∷ d ∷ rest) e p c = followed (34 ∷ p.prefix ++ 34 ∷ []) d rest (record { inside = p.prefix; pieces = p.pieces; quotes = refl }) (other (is_blank d) refl) (e ∙ ap (λ (xs : List ℕ). 34 ∷ xs) (p.whole ∙ rw p.ends (sym (append_assoc p.prefix (34 ∷ []) (d ∷ rest)))))
+open_quote bytes inner (b ∷ d ∷ rest) e p c =
+    followed (34 ∷ p.prefix ++ 34 ∷ []) d rest (record { inside = p.prefix; pieces = p.pieces; quotes = refl }) (other (is_blank d) refl) (e
+    ∙ ap (λ (xs : List ℕ). 34 ∷ xs) (p.whole ∙ rw p.ends (sym (append_assoc p.prefix (34 ∷ []) (d ∷ rest)))))
   where
     other : (t : Bool) → is_blank d ≡ t → is_blank d ≡ false
     other true f = absurd (c (p.ends, f))
     other false f = f
 
 pub bad_escape : (bytes inner : List ℕ) → bytes ≡ 34 ∷ inner → RefusesPieces inner → HasBadEscape bytes
-bad_escape bytes inner e p = record { prefix = p.prefix; rest = p.rest; pieces = p.pieces; bad = p.bad; whole = e ∙ ap (λ (xs : List ℕ). 34 ∷ xs) p.whole }
+bad_escape bytes inner e p =
+    record { prefix = p.prefix; rest = p.rest; pieces = p.pieces; bad = p.bad; whole = e ∙ ap (λ (xs : List ℕ). 34 ∷ xs) p.whole }

@@ -32,12 +32,16 @@ pub has_run : (p : ℕ → Bool) (bytes : List ℕ) → HasRun p bytes (drop (pr
 has_run p [] = record { run = []; passes = refl; stops = tt; whole = refl }
 has_run p (b ∷ bytes) = by_test (p b) refl (has_run p bytes)
   where
-    by_test : (t : Bool) → p b ≡ t → HasRun p bytes (drop (prefix_len p bytes) bytes) → HasRun p (b ∷ bytes) (drop (prefix_len p (b ∷ bytes)) (b ∷ bytes))
-    by_test true e h = let step : 1 + prefix_len p bytes ≡ suc (prefix_len p bytes) = omega arith in rw (e, step) (one_longer p b bytes (drop (prefix_len p bytes) bytes) e h)
+    by_test : (t : Bool) → p b ≡ t → HasRun p bytes (drop (prefix_len p bytes) bytes) →
+        HasRun p (b ∷ bytes) (drop (prefix_len p (b ∷ bytes)) (b ∷ bytes))
+    by_test true e h =
+        let step : 1 + prefix_len p bytes ≡ suc (prefix_len p bytes) = omega arith in
+        rw (e, step) (one_longer p b bytes (drop (prefix_len p bytes) bytes) e h)
     by_test false e h = rw e (record { run = []; passes = refl; stops = e; whole = refl })
 
 -- a plain word, and one with a quote inside
-some_plain : (bytes rest run : List ℕ) → BeginsWord bytes → (slice_index bytes 0 == 34) ≡ false → StopsAt is_plain rest → bytes ≡ run ++ rest → 0 < length run
+some_plain : (bytes rest run : List ℕ) → BeginsWord bytes → (slice_index bytes 0 == 34) ≡ false → StopsAt is_plain rest →
+    bytes ≡ run ++ rest → 0 < length run
 some_plain [] rest run s q p e = absurd s
 some_plain (b ∷ bytes) rest (r ∷ run) s q p e = omega arith
 some_plain (b ∷ bytes) [] [] s q p e = cc
@@ -49,15 +53,20 @@ quote_first : (bytes : List ℕ) → (slice_index bytes 0 == 34) ≡ true → by
 quote_first [] e = cc
 quote_first (b ∷ bytes) e = ap (λ (x : ℕ). x ∷ bytes) (eqb-true b 34 e)
 
-first_plain : (bytes rest : List ℕ) → BeginsWord bytes → (slice_index bytes 0 == 34) ≡ false → (h : HasRun is_plain bytes rest) → IsPlainWord h.run
+first_plain : (bytes rest : List ℕ) → BeginsWord bytes → (slice_index bytes 0 == 34) ≡ false → (h : HasRun is_plain bytes rest) →
+    IsPlainWord h.run
 first_plain bytes rest s q h = record { some = some_plain bytes rest h.run s q h.stops h.whole; plain = h.passes }
 
-pub plain_word : (bytes rest : List ℕ) → BeginsWord bytes → (slice_index bytes 0 == 34) ≡ false → HasRun is_plain bytes rest → (slice_index rest 0 == 34) ≡ false → IsFirstWord false bytes rest
-plain_word bytes rest s q h e = record { word = h.run; good = first_plain bytes rest s q h; ends = ends_word rest h.stops e; whole = h.whole }
+pub plain_word : (bytes rest : List ℕ) → BeginsWord bytes → (slice_index bytes 0 == 34) ≡ false → HasRun is_plain bytes rest →
+    (slice_index rest 0 == 34) ≡ false → IsFirstWord false bytes rest
+plain_word bytes rest s q h e =
+    record { word = h.run; good = first_plain bytes rest s q h; ends = ends_word rest h.stops e; whole = h.whole }
   where
     ends_word : (xs : List ℕ) → StopsAt is_plain xs → (slice_index xs 0 == 34) ≡ false → EndsWord xs
     ends_word [] p e = tt
     ends_word (x ∷ xs) p e = grind (arith, common_steps)
 
-pub quote_inside : (bytes rest : List ℕ) → BeginsWord bytes → (slice_index bytes 0 == 34) ≡ false → HasRun is_plain bytes rest → (slice_index rest 0 == 34) ≡ true → HasOpenQuote bytes
-quote_inside bytes rest s q h e = inside h.run (drop 1 rest) (first_plain bytes rest s q h) (h.whole ∙ ap (λ (xs : List ℕ). h.run ++ xs) (quote_first rest e))
+pub quote_inside : (bytes rest : List ℕ) → BeginsWord bytes → (slice_index bytes 0 == 34) ≡ false → HasRun is_plain bytes rest →
+    (slice_index rest 0 == 34) ≡ true → HasOpenQuote bytes
+quote_inside bytes rest s q h e =
+    inside h.run (drop 1 rest) (first_plain bytes rest s q h) (h.whole ∙ ap (λ (xs : List ℕ). h.run ++ xs) (quote_first rest e))

@@ -1,5 +1,6 @@
 -- A reading of a line byte after byte, which shows that a line has one list of words or one first fault.
-use Rattle.std.proofs.Common.{◌≡◌, ℕ, ◌+◌, ◌<◌, ◌≤◌, Bool, true, false, List, [], ◌∷◌, ◌++◌, length, refl, sym, ◌∙◌, ap, arith, Result, Ok, Err, append_assoc, append-nil, length-append, add-zero, inl, inr, ne_eqb}
+use Rattle.std.proofs.Common.{◌≡◌, ℕ, ◌+◌, ◌<◌, ◌≤◌, Bool, true, false, List, [], ◌∷◌, ◌++◌, length, refl, sym, ◌∙◌, ap, arith, Result, Ok}
+use Rattle.std.proofs.Common.{Err, append_assoc, append-nil, length-append, add-zero, inl, inr, ne_eqb}
 use Rattle.std.specs.Prelude.{◌==◌, ◌&&◌, if◌then◌else◌, nat_le}
 use Rattle.std.specs.List.{list_all, concat, AllByRecursion}
 use Rattle.std.specs.Str.{IsUtf8}
@@ -7,7 +8,8 @@ use Rattle.std.proofs.lemmas.Grind.{common_steps}
 use Rattle.seam_words.specs.declared.words.Span.{Span}
 use Rattle.seam_words.specs.declared.words.WordsError.{WordsError}
 use Rattle.seam_words.specs.declared.words.WordsError.TheVariants.{NotUtf8, OpenQuote, BadEscape, TooManyWords}
-use Rattle.seam_words.specs.Words.{is_blank, is_plain, is_escaped, IsGap, IsPlainWord, IsPiece, ArePieces, IsQuotedWord, IsWord, EndsWord, HasFirstWord, HasFirstWords, AreWords}
+use Rattle.seam_words.specs.Words.{is_blank, is_plain, is_escaped, IsGap, IsPlainWord, IsPiece, ArePieces, IsQuotedWord, IsWord, EndsWord}
+use Rattle.seam_words.specs.Words.{HasFirstWord, HasFirstWords, AreWords}
 use Rattle.seam_words.specs.Faults.{HasOpenQuote, IsNoEscape, HasFaultAt, HasFault, Refuses}
 use Rattle.seam_words.specs.Faults.HasOpenQuote.{inside, unended, followed}
 
@@ -29,9 +31,16 @@ scan most (plain start) at words [] = Ok (words ++ span_of false start at ∷ []
 scan most (quoted start) at words [] = Err OpenQuote
 scan most (escaped start) at words [] = Err BadEscape
 scan most closed at words [] = Ok words
-scan most between at words (b ∷ bytes) = if is_blank b then scan most between (at + 1) words bytes else (if nat_le most (length words) then Err TooManyWords else (if b == 34 then scan most (quoted at) (at + 1) words bytes else scan most (plain at) (at + 1) words bytes))
-scan most (plain start) at words (b ∷ bytes) = if is_blank b then scan most between (at + 1) (words ++ span_of false start at ∷ []) bytes else (if b == 34 then Err OpenQuote else scan most (plain start) (at + 1) words bytes)
-scan most (quoted start) at words (b ∷ bytes) = if b == 34 then scan most closed (at + 1) (words ++ span_of true start (at + 1) ∷ []) bytes else (if b == 92 then scan most (escaped start) (at + 1) words bytes else scan most (quoted start) (at + 1) words bytes)
+scan most between at words (b ∷ bytes) =
+    if is_blank b then scan most between (at + 1) words bytes else
+    (if nat_le most (length words) then Err TooManyWords else
+    (if b == 34 then scan most (quoted at) (at + 1) words bytes else scan most (plain at) (at + 1) words bytes))
+scan most (plain start) at words (b ∷ bytes) =
+    if is_blank b then scan most between (at + 1) (words ++ span_of false start at ∷ []) bytes else
+    (if b == 34 then Err OpenQuote else scan most (plain start) (at + 1) words bytes)
+scan most (quoted start) at words (b ∷ bytes) =
+    if b == 34 then scan most closed (at + 1) (words ++ span_of true start (at + 1) ∷ []) bytes else
+    (if b == 92 then scan most (escaped start) (at + 1) words bytes else scan most (quoted start) (at + 1) words bytes)
 scan most (escaped start) at words (b ∷ bytes) = if is_escaped b then scan most (quoted start) (at + 1) words bytes else Err BadEscape
 scan most closed at words (b ∷ bytes) = if is_blank b then scan most between (at + 1) words bytes else Err OpenQuote
 
@@ -50,23 +59,27 @@ not_quote : (b : ℕ) → is_plain b ≡ true → (b == 34) ≡ false
 not_quote b h = grind (arith, common_steps)
 
 -- runs of bytes
-gap_scan : (most at : ℕ) (words : List Span) (gap rest : List ℕ) → IsGap gap → scan most between at words (gap ++ rest) ≡ scan most between (at + length gap) words rest
+gap_scan : (most at : ℕ) (words : List Span) (gap rest : List ℕ) → IsGap gap →
+    scan most between at words (gap ++ rest) ≡ scan most between (at + length gap) words rest
 gap_scan most at words [] rest g = rw add-zero refl
 gap_scan most at words (b ∷ gap) rest g =
     let blank : is_blank b ≡ true = and_left _ _ g in
     let place : (at + 1) + length gap ≡ at + length (b ∷ gap) = omega arith in
     rw blank (gap_scan most (at + 1) words gap rest (and_right _ _ g) ∙ ap (λ (n : ℕ). scan most between n words rest) place)
 
-plain_scan : (most start at : ℕ) (words : List Span) (word rest : List ℕ) → list_all is_plain word ≡ true → scan most (plain start) at words (word ++ rest) ≡ scan most (plain start) (at + length word) words rest
+plain_scan : (most start at : ℕ) (words : List Span) (word rest : List ℕ) → list_all is_plain word ≡ true →
+    scan most (plain start) at words (word ++ rest) ≡ scan most (plain start) (at + length word) words rest
 plain_scan most start at words [] rest p = rw add-zero refl
 plain_scan most start at words (b ∷ word) rest p =
     let first : is_plain b ≡ true = and_left _ _ p in
     let blank : is_blank b ≡ false = not_blank b first in
     let quote : (b == 34) ≡ false = not_quote b first in
     let place : (at + 1) + length word ≡ at + length (b ∷ word) = omega arith in
-    rw (blank, quote) (plain_scan most start (at + 1) words word rest (and_right _ _ p) ∙ ap (λ (n : ℕ). scan most (plain start) n words rest) place)
+    rw (blank, quote) (plain_scan most start (at + 1) words word rest (and_right _ _ p)
+    ∙ ap (λ (n : ℕ). scan most (plain start) n words rest) place)
 
-piece_scan : (most start at : ℕ) (words : List Span) (piece rest : List ℕ) → IsPiece piece → scan most (quoted start) at words (piece ++ rest) ≡ scan most (quoted start) (at + length piece) words rest
+piece_scan : (most start at : ℕ) (words : List Span) (piece rest : List ℕ) → IsPiece piece →
+    scan most (quoted start) at words (piece ++ rest) ≡ scan most (quoted start) (at + length piece) words rest
 piece_scan most start at words piece rest (b, inl p) =
     let quote : (b == 34) ≡ false = ne_eqb b 34 p.1 in
     let backslash : (b == 92) ≡ false = ne_eqb b 92 p.2 in
@@ -75,30 +88,36 @@ piece_scan most start at words piece rest (b, inr p) =
     let place : (at + 1) + 1 ≡ at + 2 = omega arith in
     rw p.0 (rw p.1 (ap (λ (n : ℕ). scan most (quoted start) n words rest) place))
 
-pieces_scan : (most start at : ℕ) (words : List Span) (pieces : List (List ℕ)) (rest : List ℕ) → AllByRecursion IsPiece pieces → scan most (quoted start) at words (concat pieces ++ rest) ≡ scan most (quoted start) (at + length (concat pieces)) words rest
+pieces_scan : (most start at : ℕ) (words : List Span) (pieces : List (List ℕ)) (rest : List ℕ) → AllByRecursion IsPiece pieces →
+    scan most (quoted start) at words (concat pieces ++ rest) ≡ scan most (quoted start) (at + length (concat pieces)) words rest
 pieces_scan most start at words [] rest p = rw add-zero refl
 pieces_scan most start at words (piece ∷ pieces) rest p =
-    let place : (at + length piece) + length (concat pieces) ≡ at + length (concat (piece ∷ pieces)) = omega (arith, length-append piece (concat pieces)) in
+    let place : (at + length piece) + length (concat pieces) ≡ at + length (concat (piece ∷ pieces)) =
+    omega (arith, length-append piece (concat pieces)) in
     rw append_assoc (piece_scan most start at words piece (concat pieces ++ rest) p.0)
     ∙ pieces_scan most start (at + length piece) words pieces rest p.1
     ∙ ap (λ (n : ℕ). scan most (quoted start) n words rest) place
 
-inside_scan : (most start at : ℕ) (words : List Span) (bytes rest : List ℕ) → ArePieces bytes → scan most (quoted start) at words (bytes ++ rest) ≡ scan most (quoted start) (at + length bytes) words rest
+inside_scan : (most start at : ℕ) (words : List Span) (bytes rest : List ℕ) → ArePieces bytes →
+    scan most (quoted start) at words (bytes ++ rest) ≡ scan most (quoted start) (at + length bytes) words rest
 inside_scan most start at words bytes rest p = rw p.joined (pieces_scan most start at words p.pieces rest p.each)
 
 -- a word
 few : (most : ℕ) (words : List Span) → length words < most → nat_le most (length words) ≡ false
 few most words h = grind (arith, common_steps)
 
-plain_ends : (most start at : ℕ) (words : List Span) (rest : List ℕ) → EndsWord rest → scan most (plain start) at words rest ≡ scan most between at (words ++ span_of false start at ∷ []) rest
+plain_ends : (most start at : ℕ) (words : List Span) (rest : List ℕ) → EndsWord rest →
+    scan most (plain start) at words rest ≡ scan most between at (words ++ span_of false start at ∷ []) rest
 plain_ends most start at words [] e = refl
 plain_ends most start at words (b ∷ rest) e = rw e refl
 
-closed_ends : (most at : ℕ) (words : List Span) (rest : List ℕ) → EndsWord rest → scan most closed at words rest ≡ scan most between at words rest
+closed_ends : (most at : ℕ) (words : List Span) (rest : List ℕ) → EndsWord rest →
+    scan most closed at words rest ≡ scan most between at words rest
 closed_ends most at words [] e = refl
 closed_ends most at words (b ∷ rest) e = rw e refl
 
-begin_plain : (most at : ℕ) (words : List Span) (word rest : List ℕ) → length words < most → IsPlainWord word → scan most between at words (word ++ rest) ≡ scan most (plain at) (at + length word) words rest
+begin_plain : (most at : ℕ) (words : List Span) (word rest : List ℕ) → length words < most → IsPlainWord word →
+    scan most between at words (word ++ rest) ≡ scan most (plain at) (at + length word) words rest
 begin_plain most at words [] rest h p = absurd (omega (arith, p.some))
 begin_plain most at words (b ∷ word) rest h p =
     let first : is_plain b ≡ true = and_left _ _ p.plain in
@@ -106,23 +125,29 @@ begin_plain most at words (b ∷ word) rest h p =
     let quote : (b == 34) ≡ false = not_quote b first in
     let room : nat_le most (length words) ≡ false = few most words h in
     let place : (at + 1) + length word ≡ at + length (b ∷ word) = omega arith in
-    rw (blank, room, quote) (plain_scan most at (at + 1) words word rest (and_right _ _ p.plain) ∙ ap (λ (n : ℕ). scan most (plain at) n words rest) place)
+    rw (blank, room, quote) (plain_scan most at (at + 1) words word rest (and_right _ _ p.plain)
+    ∙ ap (λ (n : ℕ). scan most (plain at) n words rest) place)
 
-begin_quoted : (most at : ℕ) (words : List Span) (bytes : List ℕ) → length words < most → scan most between at words (34 ∷ bytes) ≡ scan most (quoted at) (at + 1) words bytes
+begin_quoted : (most at : ℕ) (words : List Span) (bytes : List ℕ) → length words < most →
+    scan most between at words (34 ∷ bytes) ≡ scan most (quoted at) (at + 1) words bytes
 begin_quoted most at words bytes h = rw (few most words h) refl
 
-quoted_scan : (most at : ℕ) (words : List Span) (word rest : List ℕ) → length words < most → IsQuotedWord word → scan most between at words (word ++ rest) ≡ scan most closed (at + length word) (words ++ span_of true at (at + length word) ∷ []) rest
+quoted_scan : (most at : ℕ) (words : List Span) (word rest : List ℕ) → length words < most → IsQuotedWord word →
+    scan most between at words (word ++ rest) ≡ scan most closed (at + length word) (words ++ span_of true at (at + length word) ∷ []) rest
 quoted_scan most at words word rest h q =
     let place : (at + 1) + length q.inside + 1 ≡ at + length word = omega (arith, ap length q.quotes, length-append q.inside (34 ∷ [])) in
     rw q.quotes (begin_quoted most at words ((q.inside ++ 34 ∷ []) ++ rest) h
     ∙ rw append_assoc (inside_scan most at (at + 1) words q.inside (34 ∷ rest) q.pieces))
     ∙ ap (λ (n : ℕ). scan most closed n (words ++ span_of true at n ∷ []) rest) place
 
-word_scan : (most at : ℕ) (words : List Span) (word rest : List ℕ) (q : Bool) → length words < most → IsWord q word → EndsWord rest → scan most between at words (word ++ rest) ≡ scan most between (at + length word) (words ++ span_of q at (at + length word) ∷ []) rest
-word_scan most at words word rest true h w e = quoted_scan most at words word rest h w ∙ closed_ends most (at + length word) (words ++ span_of true at (at + length word) ∷ []) rest e
+word_scan : (most at : ℕ) (words : List Span) (word rest : List ℕ) (q : Bool) → length words < most → IsWord q word → EndsWord rest →
+    scan most between at words (word ++ rest) ≡ scan most between (at + length word) (words ++ span_of q at (at + length word) ∷ []) rest
+word_scan most at words word rest true h w e =
+    quoted_scan most at words word rest h w ∙ closed_ends most (at + length word) (words ++ span_of true at (at + length word) ∷ []) rest e
 word_scan most at words word rest false h w e = begin_plain most at words word rest h w ∙ plain_ends most at (at + length word) words rest e
 
-first_scan : (most at : ℕ) (words : List Span) (bytes : List ℕ) (span : Span) (rest : List ℕ) → length words < most → HasFirstWord at bytes span rest → scan most between at words bytes ≡ scan most between span.end (words ++ span ∷ []) rest
+first_scan : (most at : ℕ) (words : List Span) (bytes : List ℕ) (span : Span) (rest : List ℕ) → length words < most →
+    HasFirstWord at bytes span rest → scan most between at words bytes ≡ scan most between span.end (words ++ span ∷ []) rest
 first_scan most at words bytes span rest h f =
     let start : at + length f.gap ≡ span.start = sym f.start in
     let end : span.start + length f.word ≡ span.end = sym f.end in
@@ -132,19 +157,25 @@ first_scan most at words bytes span rest h f =
     ∙ ap (λ (n : ℕ). scan most between n (words ++ span_of span.quoted span.start n ∷ []) rest) end
 
 -- the words, and what follows them
-words_scan : (most at : ℕ) (words : List Span) (bytes : List ℕ) (spans : List Span) (tail : List ℕ) → length words + length spans ≤ most → HasFirstWords at bytes spans tail → (end : ℕ) × (scan most between at words bytes ≡ scan most between end (words ++ spans) tail)
+words_scan : (most at : ℕ) (words : List Span) (bytes : List ℕ) (spans : List Span) (tail : List ℕ) → length words + length spans ≤ most →
+    HasFirstWords at bytes spans tail → (end : ℕ) × (scan most between at words bytes ≡ scan most between end (words ++ spans) tail)
 words_scan most at words bytes [] tail h f =
     (at + length f.0, rw (f.2, append-nil) (gap_scan most at words f.0 tail f.1))
 words_scan most at words bytes (span ∷ spans) tail h f =
     let room : length words < most = omega arith in
-    let others = words_scan most span.end (words ++ span ∷ []) f.0 spans tail (omega (arith, length-append words (span ∷ []))) f.2 in
-    (others.0, first_scan most at words bytes span f.0 room f.1 ∙ others.1 ∙ ap (λ (xs : List Span). scan most between others.0 xs tail) (append_assoc words (span ∷ []) spans))
+    let others = words_scan most span.end (words ++ span ∷ []) f.0 spans tail (omega (arith, length-append words (span ∷ []))) f.2 in (
+      others.0,
+      first_scan most at words bytes span f.0 room f.1 ∙ others.1
+          ∙ ap (λ (xs : List Span). scan most between others.0 xs tail) (append_assoc words (span ∷ []) spans),
+    )
 
 -- a fault
-open_scan : (at : ℕ) (words : List Span) (bytes : List ℕ) → length words < 16 → HasOpenQuote bytes → scan 16 between at words bytes ≡ Err OpenQuote
+open_scan : (at : ℕ) (words : List Span) (bytes : List ℕ) → length words < 16 → HasOpenQuote bytes →
+    scan 16 between at words bytes ≡ Err OpenQuote
 open_scan at words bytes h (inside word rest w e) = rw e (begin_plain 16 at words word (34 ∷ rest) h w)
 open_scan at words bytes h (unended pieces p e) =
-    rw e (begin_quoted 16 at words pieces h ∙ ap (λ (xs : List ℕ). scan 16 (quoted at) (at + 1) words xs) (sym (append-nil pieces)) ∙ inside_scan 16 at (at + 1) words pieces [] p)
+    rw e (begin_quoted 16 at words pieces h ∙ ap (λ (xs : List ℕ). scan 16 (quoted at) (at + 1) words xs) (sym (append-nil pieces))
+    ∙ inside_scan 16 at (at + 1) words pieces [] p)
 open_scan at words bytes h (followed word b rest w n e) =
     rw e (quoted_scan 16 at words word (b ∷ rest) h w ∙ rw n refl)
 
@@ -152,11 +183,13 @@ escape_scan : (start at : ℕ) (words : List Span) (rest : List ℕ) → IsNoEsc
 escape_scan start at words [] n = refl
 escape_scan start at words (b ∷ rest) n = rw n refl
 
-fault_scan : (at : ℕ) (words : List Span) (bytes : List ℕ) (e : WordsError) → HasFaultAt (length words) bytes e → scan 16 between at words bytes ≡ Err e
+fault_scan : (at : ℕ) (words : List Span) (bytes : List ℕ) (e : WordsError) → HasFaultAt (length words) bytes e →
+    scan 16 between at words bytes ≡ Err e
 fault_scan at words bytes NotUtf8 h = absurd h
 fault_scan at words bytes OpenQuote h = open_scan at words bytes h.0 h.1
 fault_scan at words bytes BadEscape h =
-    rw h.1.whole (begin_quoted 16 at words (h.1.prefix ++ 92 ∷ h.1.rest) h.0 ∙ inside_scan 16 at (at + 1) words h.1.prefix (92 ∷ h.1.rest) h.1.pieces)
+    rw h.1.whole (begin_quoted 16 at words (h.1.prefix ++ 92 ∷ h.1.rest) h.0
+    ∙ inside_scan 16 at (at + 1) words h.1.prefix (92 ∷ h.1.rest) h.1.pieces)
     ∙ escape_scan at (at + 1 + length h.1.prefix + 1) words h.1.rest h.1.bad
 fault_scan at words [] TooManyWords h = absurd h.1
 fault_scan at words (b ∷ bytes) TooManyWords h =
@@ -164,7 +197,8 @@ fault_scan at words (b ∷ bytes) TooManyWords h =
     rw (h.1, full) refl
 
 -- the words of a line, and its first fault, are what the reading gives
-words_read : (most : ℕ) (line : List ℕ) (spans : List Span) → AreWords line spans → length spans ≤ most → scan most between 0 [] line ≡ Ok spans
+words_read : (most : ℕ) (line : List ℕ) (spans : List Span) → AreWords line spans → length spans ≤ most →
+    scan most between 0 [] line ≡ Ok spans
 words_read most line spans w h = (words_scan most 0 [] line spans [] (omega arith) w).1
 
 at_most : (count : ℕ) (bytes : List ℕ) (e : WordsError) → HasFaultAt count bytes e → count ≤ 16
@@ -204,7 +238,8 @@ fault_of line OpenQuote h u = h.1
 fault_of line BadEscape h u = h.1
 fault_of line TooManyWords h u = h.1
 
-pub no_words : (line : List ℕ) (e : WordsError) → Refuses line e → (spans : List Span) → IsUtf8 line → AreWords line spans → length spans ≤ 16 → ⊥
+pub no_words : (line : List ℕ) (e : WordsError) → Refuses line e → (spans : List Span) → IsUtf8 line → AreWords line spans →
+    length spans ≤ 16 → ⊥
 no_words line e h spans u w few_words = no_fault line spans e w few_words (fault_of line e h u)
 
 pub same_refusal : (line : List ℕ) (e f : WordsError) → Refuses line e → Refuses line f → e ≡ f

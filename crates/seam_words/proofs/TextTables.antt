@@ -11,4 +11,5 @@ pub one_more_word : {R S : Type 0} (now : R → List ℕ) (text : S → List ℕ
 one_more_word now text table spans i r s in_table in_spans is same before =
     ap (map now) (take_more_set table i r in_table) ∙ map-append now (take i table) (r ∷ [])
     ∙ ap (λ (xs : List (List ℕ)). xs ++ now r ∷ []) before ∙ ap (λ (x : List ℕ). map text (take i spans) ++ x ∷ []) same
-    ∙ sym (map-append text (take i spans) (s ∷ [])) ∙ ap (map text) (ap (λ x. take i spans ++ x ∷ []) (sym (get_or_from_slice_get spans i s s is)) ∙ sym (take_more spans i s in_spans))
+    ∙ sym (map-append text (take i spans) (s ∷ []))
+    ∙ ap (map text) (ap (λ x. take i spans ++ x ∷ []) (sym (get_or_from_slice_get spans i s s is)) ∙ sym (take_more spans i s in_spans))

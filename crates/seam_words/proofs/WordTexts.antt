@@ -9,7 +9,8 @@ use Rattle.seam_words.proofs.Scan.{same_words, same_refusal, no_words}
 
 pub words_are_one_list : (line : List ℕ) (xs ys : List (List ℕ)) → HasWords line xs → HasWords line ys → xs ≡ ys
 words_are_one_list line xs ys one other =
-    one.texts ∙ ap (λ (spans : List Span). map (bytes_of line) spans) (same_words line one.spans other.spans one.are other.are) ∙ sym other.texts
+    one.texts ∙ ap (λ (spans : List Span). map (bytes_of line) spans) (same_words line one.spans other.spans one.are other.are)
+    ∙ sym other.texts
 
 pub no_words_at_fault : (line : List ℕ) (e : WordsError) (words : List (List ℕ)) → Refuses line e → HasWords line words → ⊥
 no_words_at_fault line e words bad has = no_words line e bad has.spans has.text has.are has.most

@@ -13,7 +13,8 @@ pub data HasOpenQuote (bytes : List ℕ) : Type 0 where
   -- a quoted word without an end
   unended : (pieces : List ℕ) → ArePieces pieces → bytes ≡ 34 ∷ pieces → HasOpenQuote bytes
   -- a closing quote that is followed by another byte than a space or a tab
-  followed : (word : List ℕ) (b : ℕ) (rest : List ℕ) → IsQuotedWord word → is_blank b ≡ false → bytes ≡ word ++ b ∷ rest → HasOpenQuote bytes
+  followed : (word : List ℕ) (b : ℕ) (rest : List ℕ) → IsQuotedWord word → is_blank b ≡ false → bytes ≡ word ++ b ∷ rest →
+      HasOpenQuote bytes
 
 -- the byte that makes an escape of a backslash does not come first
 abbrev pub IsNoEscape : List ℕ → Type 0

@@ -1,5 +1,6 @@
 // From a line to its words, or to its first fault.
-ghost use Rattle.std.specs.Prelude.{◌≡◌, ◌≢◌, ◌==◌, ◌+◌, ◌<◌, ◌≤◌, ◌↔◌, ◌∷◌, true, false, List, ℕ, length, drop, All, IsTrue, IfOk, IfErr, IfSome, MatchOption, slice_index};
+ghost use Rattle.std.specs.Prelude.{◌≡◌, ◌≢◌, ◌==◌, ◌+◌, ◌<◌, ◌≤◌, ◌↔◌, ◌∷◌, true, false, List, ℕ, length, drop, All, IsTrue, IfOk, IfErr};
+ghost use Rattle.std.specs.Prelude.{IfSome, MatchOption, slice_index};
 ghost use Rattle.std.specs.List.{prefix_len};
 ghost use Rattle.std.specs.Str.{IsUtf8};
 ghost use Rattle.seam_words.specs.declared.words.Span.{Span as Spans};
@@ -192,7 +193,8 @@ fn after_piece(bytes: &[u8]) -> Option<&[u8]>
 
 // What follows the byte after a backslash. `None` where it is none that may come there.
 fn after_escaped(bytes: &[u8]) -> Option<&[u8]>
-    ensures { MatchOption result (IsNoEscape bytes.now) (λ rest. (is_escaped (slice_index bytes.now 0) ≡ true) × (bytes.now ≡ slice_index bytes.now 0 ∷ rest.now)) }
+    ensures { MatchOption result (IsNoEscape bytes.now) (λ rest. (is_escaped (slice_index bytes.now 0) ≡ true)
+        × (bytes.now ≡ slice_index bytes.now 0 ∷ rest.now)) }
 {
     match bytes {
         [b'"' | b'\\' | b'n', rest @ ..] => Some(rest),

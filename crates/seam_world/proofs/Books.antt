@@ -1,5 +1,6 @@
 -- What a book holds with one more entry.
-use Rattle.std.proofs.Common.{◌≡◌, ◌≢◌, ◌+◌, ◌<◌, ℕ, Bool, true, false, List, [], ◌∷◌, ◌++◌, length, refl, sym, ◌∙◌, ap, subst, arith, Option, Some, None, cond, append_assoc, append-nil, length-append}
+use Rattle.std.proofs.Common.{◌≡◌, ◌≢◌, ◌+◌, ◌<◌, ℕ, Bool, true, false, List, [], ◌∷◌, ◌++◌, length, refl, sym, ◌∙◌, ap, subst, arith}
+use Rattle.std.proofs.Common.{Option, Some, None, cond, append_assoc, append-nil, length-append}
 use Rattle.std.specs.Prelude.{find, ◌==◌, ◌&&◌, filter}
 use Rattle.std.specs.Option.{option_or}
 use Rattle.std.proofs.lemmas.List.Folds.{find-append}
@@ -28,22 +29,28 @@ pub created_with_call : (b : Book) (call : Call) (e : ℕ) → created_as (with_
 created_with_call b call e = ap (find (λ (c : Create). c.entity == e)) (creates_with_call b call)
 
 -- the order of the part that it is for, and its calls of the open round
-pub order_with_own : (b : Book) (call : Call) (p : Part) (e : ℕ) → is_for p e call ≡ true → in_order (entries (with_entry b (entry.Called call))) p e ≡ in_order (entries b) p e ++ call ∷ []
+pub order_with_own : (b : Book) (call : Call) (p : Part) (e : ℕ) → is_for p e call ≡ true →
+    in_order (entries (with_entry b (entry.Called call))) p e ≡ in_order (entries b) p e ++ call ∷ []
 order_with_own b call p e is =
     in_order_with_entry b (entry.Called call) p e ∙ ap (λ (x : Bool). in_order (entries b) p e ++ cond x (call ∷ []) []) is
 
-pub current_with_own : (b : Book) (call : Call) (p : Part) (e : ℕ) → is_for p e call ≡ true → in_order (b.current ++ entry.Called call ∷ []) p e ≡ in_order b.current p e ++ call ∷ []
+pub current_with_own : (b : Book) (call : Call) (p : Part) (e : ℕ) → is_for p e call ≡ true →
+    in_order (b.current ++ entry.Called call ∷ []) p e ≡ in_order b.current p e ++ call ∷ []
 current_with_own b call p e is =
     in_order_of_append b.current (entry.Called call ∷ []) p e ∙ ap (λ (x : Bool). in_order b.current p e ++ cond x (call ∷ []) []) is
 
 -- and those of the others
-pub order_with_other : (b : Book) (call : Call) (p : Part) (e : ℕ) → is_for p e call ≡ false → in_order (entries (with_entry b (entry.Called call))) p e ≡ in_order (entries b) p e
+pub order_with_other : (b : Book) (call : Call) (p : Part) (e : ℕ) → is_for p e call ≡ false →
+    in_order (entries (with_entry b (entry.Called call))) p e ≡ in_order (entries b) p e
 order_with_other b call p e is =
-    in_order_with_entry b (entry.Called call) p e ∙ ap (λ (x : Bool). in_order (entries b) p e ++ cond x (call ∷ []) []) is ∙ append-nil (in_order (entries b) p e)
+    in_order_with_entry b (entry.Called call) p e ∙ ap (λ (x : Bool). in_order (entries b) p e ++ cond x (call ∷ []) []) is
+    ∙ append-nil (in_order (entries b) p e)
 
-pub current_with_other : (b : Book) (call : Call) (p : Part) (e : ℕ) → is_for p e call ≡ false → in_order (b.current ++ entry.Called call ∷ []) p e ≡ in_order b.current p e
+pub current_with_other : (b : Book) (call : Call) (p : Part) (e : ℕ) → is_for p e call ≡ false →
+    in_order (b.current ++ entry.Called call ∷ []) p e ≡ in_order b.current p e
 current_with_other b call p e is =
-    in_order_of_append b.current (entry.Called call ∷ []) p e ∙ ap (λ (x : Bool). in_order b.current p e ++ cond x (call ∷ []) []) is ∙ append-nil (in_order b.current p e)
+    in_order_of_append b.current (entry.Called call ∷ []) p e ∙ ap (λ (x : Bool). in_order b.current p e ++ cond x (call ∷ []) []) is
+    ∙ append-nil (in_order b.current p e)
 
 -- a call is for no other entity
 pub not_for_other : (call : Call) (p : Part) (e : ℕ) → call.entity ≢ e → is_for p e call ≡ false
@@ -51,18 +58,23 @@ not_for_other call p e ne = ap (λ (x : Bool). x && same_part call.part p) (diff
 
 -- ---- a create
 
-pub order_with_create : (b : Book) (c : Create) (p : Part) (e : ℕ) → in_order (entries (with_entry b (entry.Created c))) p e ≡ in_order (entries b) p e
+pub order_with_create : (b : Book) (c : Create) (p : Part) (e : ℕ) →
+    in_order (entries (with_entry b (entry.Created c))) p e ≡ in_order (entries b) p e
 order_with_create b c p e = in_order_with_entry b (entry.Created c) p e ∙ append-nil (in_order (entries b) p e)
 
-pub current_with_create : (b : Book) (c : Create) (p : Part) (e : ℕ) → in_order (b.current ++ entry.Created c ∷ []) p e ≡ in_order b.current p e
+pub current_with_create : (b : Book) (c : Create) (p : Part) (e : ℕ) →
+    in_order (b.current ++ entry.Created c ∷ []) p e ≡ in_order b.current p e
 current_with_create b c p e = in_order_of_append b.current (entry.Created c ∷ []) p e ∙ append-nil (in_order b.current p e)
 
-pub count_with_create : (b : Book) (c : Create) → length (creates_of (entries (with_entry b (entry.Created c)))) ≡ length (creates_of (entries b)) + 1
+pub count_with_create : (b : Book) (c : Create) →
+    length (creates_of (entries (with_entry b (entry.Created c)))) ≡ length (creates_of (entries b)) + 1
 count_with_create b c = ap length (creates_with_entry b (entry.Created c)) ∙ length-append (creates_of (entries b)) (c ∷ [])
 
-created_with_create : (b : Book) (c : Create) (e : ℕ) → created_as (with_entry b (entry.Created c)) e ≡ option_or (created_as b e) (cond (c.entity == e) (Some c) None)
+created_with_create : (b : Book) (c : Create) (e : ℕ) →
+    created_as (with_entry b (entry.Created c)) e ≡ option_or (created_as b e) (cond (c.entity == e) (Some c) None)
 created_with_create b c e =
-    ap (find (λ (x : Create). x.entity == e)) (creates_with_entry b (entry.Created c)) ∙ find-append (λ (x : Create). x.entity == e) (creates_of (entries b)) (c ∷ [])
+    ap (find (λ (x : Create). x.entity == e)) (creates_with_entry b (entry.Created c))
+    ∙ find-append (λ (x : Create). x.entity == e) (creates_of (entries b)) (c ∷ [])
 
 pub created_here : (b : Book) (c : Create) → created_as b c.entity ≡ None → created_as (with_entry b (entry.Created c)) c.entity ≡ Some c
 created_here b c none =
@@ -71,7 +83,8 @@ created_here b c none =
 
 pub created_other : (b : Book) (c : Create) (e : ℕ) → c.entity ≢ e → created_as (with_entry b (entry.Created c)) e ≡ created_as b e
 created_other b c e ne =
-    created_with_create b c e ∙ ap (λ (x : Bool). option_or (created_as b e) (cond x (Some c) None)) (differ c.entity e ne) ∙ or_none (created_as b e)
+    created_with_create b c e ∙ ap (λ (x : Bool). option_or (created_as b e) (cond x (Some c) None)) (differ c.entity e ne)
+    ∙ or_none (created_as b e)
   where
     or_none : (o : Option Create) → option_or o None ≡ o
     or_none None = refl
@@ -84,4 +97,5 @@ not_before b c e none = cases (created_as b e) refl
     cases : (o : Option Create) → created_as b e ≡ o → created_as b e ≡ None
     cases None is = is
     cases (Some d) is =
-        absurd (none-some d (sym none ∙ created_with_create b c e ∙ ap (λ (o : Option Create). option_or o (cond (c.entity == e) (Some c) None)) is))
+        absurd (none-some d (sym none ∙ created_with_create b c e
+        ∙ ap (λ (o : Option Create). option_or o (cond (c.entity == e) (Some c) None)) is))

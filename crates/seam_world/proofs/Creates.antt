@@ -29,7 +29,8 @@ not_found : (b : Book) (e : ℕ) (P : Entity → Type 0) (o : Option Entity) →
 not_found b e P None has here none = refl
 not_found b e P (Some v) has here none = let made = has v here in absurd (none-some made.0 (sym none ∙ made.1))
 
-pub new_in_table : (h : Header) (b : Book) (t : Table) (e : ℕ) → TableRefines h b t → created_as b e ≡ None → get nat_cmp t.entities e ≡ None
+pub new_in_table : (h : Header) (b : Book) (t : Table) (e : ℕ) → TableRefines h b t → created_as b e ≡ None →
+    get nat_cmp t.entities e ≡ None
 new_in_table h b t e was none =
     not_found b e (EntityRefines h b e) (get nat_cmp t.entities e) (λ v here. (here.made, here.is)) (was.each e) none
 
@@ -39,9 +40,11 @@ new_in_book h b t e was none =
     subst (λ (o : Option Entity). MatchOption o (created_as b e ≡ None) (EntityRefines h b e)) none (was.each e)
 
 -- a fresh part is after no call
-fresh_part : (h : Header) (p : Part) (c : Create) (order done : List Call) (s : PartState) → order ≡ [] → done ≡ [] → IsFresh (first_state h p c) s → PartRefines h p c order done s
+fresh_part : (h : Header) (p : Part) (c : Create) (order done : List Call) (s : PartState) → order ≡ [] → done ≡ [] →
+    IsFresh (first_state h p c) s → PartRefines h p c order done s
 fresh_part h p c order done s no_order none fresh =
-    subst (λ (xs : List Call). PartRefines h p c order xs s) (sym none) (subst (λ (xs : List Call). PartRefines h p c xs [] s) (sym no_order) (record {
+    subst (λ (xs : List Call). PartRefines h p c order xs s) (sym none)
+    (subst (λ (xs : List Call). PartRefines h p c xs [] s) (sym no_order) (record {
       state = fresh.state;
       version = fresh.version;
       done = fresh.done;
@@ -62,19 +65,25 @@ entity_made h k b c v header none uncalled no_current fresh = record {
   made = c;
   is = created_here b c none;
   ty = fresh.ty;
-  cell = fresh_part h part.Cell c (in_order (entries (with_entry b (entry.Created c))) part.Cell c.entity) (in_order (b.current ++ entry.Created c ∷ []) part.Cell c.entity) v.cell
+  cell =
+      fresh_part h part.Cell c (in_order (entries (with_entry b (entry.Created c))) part.Cell c.entity)
+      (in_order (b.current ++ entry.Created c ∷ []) part.Cell c.entity) v.cell
       (order_with_create b c part.Cell c.entity ∙ uncalled part.Cell) (current_with_create b c part.Cell c.entity ∙ no_current part.Cell)
       (subst (λ (x : Header). IsFresh (first_state x part.Cell c) v.cell) header fresh.cell);
-  base = fresh_part h part.Base c (in_order (entries (with_entry b (entry.Created c))) part.Base c.entity) (in_order (b.current ++ entry.Created c ∷ []) part.Base c.entity) v.base
+  base =
+      fresh_part h part.Base c (in_order (entries (with_entry b (entry.Created c))) part.Base c.entity)
+      (in_order (b.current ++ entry.Created c ∷ []) part.Base c.entity) v.base
       (order_with_create b c part.Base c.entity ∙ uncalled part.Base) (current_with_create b c part.Base c.entity ∙ no_current part.Base)
       (subst (λ (x : Header). IsFresh (first_state x part.Base c) v.base) header fresh.base);
 }
 
 -- another entity
-same_orders : (h : Header) (b : Book) (c : Create) (p : Part) (made : Create) (e : ℕ) (s : PartState) → PartRefines h p made (in_order (entries b) p e) (in_order b.current p e) s
+same_orders : (h : Header) (b : Book) (c : Create) (p : Part) (made : Create) (e : ℕ) (s : PartState) →
+    PartRefines h p made (in_order (entries b) p e) (in_order b.current p e) s
     → PartRefines h p made (in_order (entries (with_entry b (entry.Created c))) p e) (in_order (b.current ++ entry.Created c ∷ []) p e) s
 same_orders h b c p made e s was =
-    subst (λ (xs : List Call). PartRefines h p made (in_order (entries (with_entry b (entry.Created c))) p e) xs s) (sym (current_with_create b c p e))
+    subst (λ (xs : List Call). PartRefines h p made (in_order (entries (with_entry b (entry.Created c))) p e) xs s)
+    (sym (current_with_create b c p e))
     (subst (λ (xs : List Call). PartRefines h p made xs (in_order b.current p e) s) (sym (order_with_create b c p e)) was)
 
 entity_kept : (h : Header) (b : Book) (c : Create) (e : ℕ) (o : Option Entity) → c.entity ≢ e
@@ -90,9 +99,11 @@ entity_kept h b c e (Some v) ne was = record {
 }
 
 -- the table after an entity was made
-pub created_refines : (h : Header) (b : Book) (t : Table) (c : Create) (v : Entity) (m : BTreeMap ℕ Entity) → TableRefines h b t → created_as b c.entity ≡ None
+pub created_refines : (h : Header) (b : Book) (t : Table) (c : Create) (v : Entity) (m : BTreeMap ℕ Entity) → TableRefines h b t →
+    created_as b c.entity ≡ None
     → ((p : Part) (e : ℕ) → in_order (entries b) p e ≡ in_order b.past p e ++ in_order b.current p e)
-    → IsNew t.header c v → Updates nat_cmp t.entities m c.entity (Some v) → btree_map_len m ≡ btree_map_len t.entities + 1 → IsOrdered nat_cmp m
+    → IsNew t.header c v → Updates nat_cmp t.entities m c.entity (Some v) → btree_map_len m ≡ btree_map_len t.entities + 1 →
+    IsOrdered nat_cmp m
     → TableRefines h (with_entry b (entry.Created c)) (with_entities t m)
 created_refines h b t c v m was none split fresh updates len ordered =
     let next : Book = with_entry b (entry.Created c) in
@@ -103,8 +114,10 @@ created_refines h b t c v m was none split fresh updates len ordered =
         | inl is ↦ subst (λ (y : ℕ). MatchOption (get nat_cmp m y) (created_as next y ≡ None) (EntityRefines h next y)) is.1
             (subst (λ (o : Option Entity). MatchOption o (created_as next c.entity ≡ None) (EntityRefines h next c.entity)) (sym updates.1)
             (entity_made h t.header b c v was.header none (λ p. was.uncalled p c.entity none)
-            (λ p. none_current (in_order b.past p c.entity) (in_order b.current p c.entity) (sym (split p c.entity) ∙ was.uncalled p c.entity none)) fresh))
-        | inr other ↦ subst (λ (o : Option Entity). MatchOption o (created_as next e ≡ None) (EntityRefines h next e)) (sym (updates.2 e (apart c.entity e (λ s. other.1 (sym s)))))
+            (λ p. none_current (in_order b.past p c.entity) (in_order b.current p c.entity) (sym (split p c.entity)
+            ∙ was.uncalled p c.entity none)) fresh))
+        | inr other ↦ subst (λ (o : Option Entity). MatchOption o (created_as next e ≡ None) (EntityRefines h next e))
+            (sym (updates.2 e (apart c.entity e (λ s. other.1 (sym s)))))
             (entity_kept h b c e (get nat_cmp t.entities e) other.1 (was.each e))
       ];
       ordered = ordered;

@@ -1,5 +1,6 @@
 -- A part executes one more call.
-use Rattle.std.proofs.Common.{◌≡◌, ◌≢◌, ◌+◌, ◌-◌, ◌^◌, ◌<◌, ◌≤◌, ℕ, Bool, true, false, List, [], ◌∷◌, ◌++◌, length, get_or, refl, sym, ◌∙◌, ap, subst, inl, inr, arith, append-nil, length-append, min, set}
+use Rattle.std.proofs.Common.{◌≡◌, ◌≢◌, ◌+◌, ◌-◌, ◌^◌, ◌<◌, ◌≤◌, ℕ, Bool, true, false, List, [], ◌∷◌, ◌++◌, length, get_or, refl, sym, ◌∙◌}
+use Rattle.std.proofs.Common.{ap, subst, inl, inr, arith, append-nil, length-append, min, set}
 use Rattle.std.specs.Prelude.{◌==◌, slice_index, if◌then◌else◌, cond}
 use Rattle.std.proofs.lemmas.List.{get_or-set_same, get_or-set_other, length-set}
 use Rattle.std.proofs.lemmas.List.Elements.{filter-append}
@@ -27,30 +28,37 @@ count_with_call : (s : Sender) (order : List Call) (call : Call) (b : Bool) → 
 count_with_call s order call b is =
     ap length (filter-append (λ (c : Call). same_sender c.sender s) order (call ∷ []))
     ∙ length-append (of_sender s order) (of_sender s (call ∷ []))
-    ∙ ap (λ (x : Bool). length (of_sender s order) + length (cond x (call ∷ []) [])) is ∙ ap (λ (n : ℕ). length (of_sender s order) + n) (length_of b)
+    ∙ ap (λ (x : Bool). length (of_sender s order) + length (cond x (call ∷ []) [])) is
+    ∙ ap (λ (n : ℕ). length (of_sender s order) + n) (length_of b)
   where
     length_of : (b : Bool) → length (cond b (call ∷ []) []) ≡ (if b then 1 else 0)
     length_of true = refl
     length_of false = refl
 
 -- the counts of the base nodes after one more call
-last_with_call : (s : Sender) (number : ℕ) (last : List ℕ) (order : List Call) (call : Call) → call.sender ≡ s → IsSender s → number ≡ length (of_sender s order) + 1
+last_with_call : (s : Sender) (number : ℕ) (last : List ℕ) (order : List Call) (call : Call) → call.sender ≡ s → IsSender s →
+    number ≡ length (of_sender s order) + 1
     → length last ≡ most_base_nodes → ((k : ℕ) → k < most_base_nodes → slice_index last k ≡ length (of_sender (sender.Base (k + 1)) order))
-    → (k : ℕ) → k < most_base_nodes → slice_index (with_last s number last) k ≡ length (of_sender (sender.Base (k + 1)) (order ++ call ∷ []))
+    → (k : ℕ) → k < most_base_nodes → slice_index (with_last s number last) k
+    ≡ length (of_sender (sender.Base (k + 1)) (order ++ call ∷ []))
 last_with_call (sender.Client e) number last order call is proper next senders counts k within =
-    counts k within ∙ sym (count_with_call (sender.Base (k + 1)) order call false (ap (λ (x : Sender). same_sender x (sender.Base (k + 1))) is) ∙ omega arith)
+    counts k within
+    ∙ sym (count_with_call (sender.Base (k + 1)) order call false (ap (λ (x : Sender). same_sender x (sender.Base (k + 1))) is)
+    ∙ omega arith)
 last_with_call (sender.Base n) number last order call is proper next senders counts k within =
     let from_one = proper.from_one in
     let most = proper.most in
     elim (eqb_tells k (n - 1)) [
       | inl here ↦ (let node : n ≡ k + 1 = omega (arith, here.1, from_one) in
-          let sender_is : same_sender call.sender (sender.Base (k + 1)) ≡ true = ap (λ (x : Sender). same_sender x (sender.Base (k + 1))) is ∙ ap (λ (m : ℕ). m == k + 1) node ∙ same (k + 1) in
+          let sender_is : same_sender call.sender (sender.Base (k + 1)) ≡ true =
+          ap (λ (x : Sender). same_sender x (sender.Base (k + 1))) is ∙ ap (λ (m : ℕ). m == k + 1) node ∙ same (k + 1) in
           ap (λ (i : ℕ). get_or (set last (n - 1) number) i 0) here.1
           ∙ get_or-set_same last (n - 1) number 0 (omega (arith, senders, most, from_one))
           ∙ next ∙ ap (λ (m : ℕ). length (of_sender (sender.Base m) order) + 1) node
           ∙ sym (count_with_call (sender.Base (k + 1)) order call true sender_is))
       | inr other ↦ (let node : n ≢ k + 1 = λ e. other.1 (omega (arith, e)) in
-          let sender_is : same_sender call.sender (sender.Base (k + 1)) ≡ false = ap (λ (x : Sender). same_sender x (sender.Base (k + 1))) is ∙ differ n (k + 1) node in
+          let sender_is : same_sender call.sender (sender.Base (k + 1)) ≡ false =
+          ap (λ (x : Sender). same_sender x (sender.Base (k + 1))) is ∙ differ n (k + 1) node in
           get_or-set_other last (n - 1) k number 0 other.1
           ∙ counts k within ∙ sym (count_with_call (sender.Base (k + 1)) order call false sender_is ∙ omega arith))
     ]
@@ -61,7 +69,8 @@ length_with_last (sender.Client e) number last = refl
 
 -- a part that executed one more call refines the order with it
 pub part_with_call : (h : Header) (p : Part) (c : Create) (order done : List Call) (call : Call) (old new : PartState)
-    → PartRefines h p c order done old → IsSender call.sender → call.number ≡ length (of_sender call.sender order) + 1 → length order < 2 ^ 61
+    → PartRefines h p c order done old → IsSender call.sender → call.number ≡ length (of_sender call.sender order) + 1 →
+    length order < 2 ^ 61
     → Executes h.defs c.ty call old new → PartRefines h p c (order ++ call ∷ []) (done ++ call ∷ []) new
 part_with_call h p c order done call old new was proper number small step = record {
   state = step.state ∙ ap (λ (s : State). after (type_of h.defs c.ty) s call.deed) was.state ∙ sym (flat_with_call h p c order call);

@@ -1,5 +1,6 @@
 -- What a script does to its standing.
-use Rattle.std.proofs.Common.{◌≡◌, ◌≢◌, ℕ, ◌+◌, ◌-◌, ◌<◌, ◌≤◌, ◌^◌, min, Bool, true, false, List, [], ◌∷◌, ◌++◌, length, refl, sym, ap, ◌∙◌, subst, arith, length-append, append-nil}
+use Rattle.std.proofs.Common.{◌≡◌, ◌≢◌, ℕ, ◌+◌, ◌-◌, ◌<◌, ◌≤◌, ◌^◌, min, Bool, true, false, List, [], ◌∷◌, ◌++◌, length, refl, sym, ap, ◌∙◌}
+use Rattle.std.proofs.Common.{subst, arith, length-append, append-nil}
 use Rattle.std.specs.Prelude.{MatchBool, ◌==◌}
 use Rattle.std.specs.List.{flat_map}
 use Rattle.std.proofs.lemmas.Grind.{common_steps}
@@ -27,10 +28,17 @@ use Rattle.seam_world.proofs.Rounds.{table_round}
 
 -- ---- where a script begins
 
-pub script_begins : (h : Header) (count : ℕ) (s : Script) (t : Table) → 0 < count → s.line ≡ count → s.round ≡ 0 → s.accepted ≡ 0 → s.table ≡ t → TableRefines h (record { past = []; current = [] }) t
+pub script_begins : (h : Header) (count : ℕ) (s : Script) (t : Table) → 0 < count → s.line ≡ count → s.round ≡ 0 → s.accepted ≡ 0 →
+    s.table ≡ t → TableRefines h (record { past = []; current = [] }) t
     → ScriptRefines h (after_header count) s
 script_begins h count s t some line round accepted table was = record {
-  ready = record { table = subst (TableRefines h (record { past = []; current = [] })) (sym table) was; orders = refl; line = line; round = round };
+  ready =
+      record {
+        table = subst (TableRefines h (record { past = []; current = [] })) (sym table) was;
+        orders = refl;
+        line = line;
+        round = round;
+      };
   accepted = accepted;
   below_most = omega arith;
   fewer = record { accepted = omega arith; ended = omega arith };
@@ -39,15 +47,19 @@ script_begins h count s t some line round accepted table was = record {
 -- ---- rounds
 
 -- a round of the table ended
-pub round_ended : (h : Header) (t : Standing) (old new : Script) (defs : List TypeDef) → IsReady h t old → t.rounds < 2 ^ 62 → defs ≡ old.table.header.defs
-    → new.round ≡ min (old.round + 1) (2 ^ 64 - 1) → new.line ≡ old.line → new.accepted ≡ 0 → TableRefines h (with_round_ended t.book) new.table
+pub round_ended : (h : Header) (t : Standing) (old new : Script) (defs : List TypeDef) → IsReady h t old → t.rounds < 2 ^ 62 →
+    defs ≡ old.table.header.defs
+    → new.round ≡ min (old.round + 1) (2 ^ 64 - 1) → new.line ≡ old.line → new.accepted ≡ 0 →
+    TableRefines h (with_round_ended t.book) new.table
     → RoundEnds h t new (round_text defs (round_of new.round old.table.entities.entries))
 round_ended h t old new defs ready few defs_are round line accepted table =
     let number : new.round ≡ t.rounds + 1 = omega (arith, round, ready.round, few) in
     record {
       round = round_of (t.rounds + 1) old.table.entities.entries;
       legal = table_round h t old.table ready.table ready.orders;
-      whole = ap (λ (ds : List TypeDef). round_text ds (round_of new.round old.table.entities.entries)) (defs_are ∙ ap (λ (k : Header). k.defs) ready.table.header)
+      whole =
+          ap (λ (ds : List TypeDef). round_text ds (round_of new.round old.table.entities.entries)) (defs_are
+          ∙ ap (λ (k : Header). k.defs) ready.table.header)
           ∙ ap (λ (n : ℕ). round_text h.defs (round_of n old.table.entities.entries)) number;
       ready = record { table = table; orders = refl; line = line ∙ ready.line; round = number };
       accepted = accepted;
@@ -62,7 +74,8 @@ fewer_after_round t fewer =
     record { accepted = omega (arith, same, accepted); ended = omega arith }
 
 -- the script after the round that ended refines the standing after it
-after_end : (h : Header) (t : Standing) (new : Script) (text : List ℕ) → HasFewer 1 t → RoundEnds h t new text → ScriptRefines h (after_round t) new
+after_end : (h : Header) (t : Standing) (new : Script) (text : List ℕ) → HasFewer 1 t → RoundEnds h t new text →
+    ScriptRefines h (after_round t) new
 after_end h t new text fewer ends = record {
   ready = ends.ready;
   accepted = ends.accepted;
@@ -79,16 +92,19 @@ fewer_still : (t : Standing) → HasFewer 1 t → HasFewer 0 t
 fewer_still t fewer = let accepted = fewer.accepted in let ended = fewer.ended in record { accepted = omega arith; ended = omega arith }
 
 still_refines : (h : Header) (t : Standing) (s : Script) → HasCounted h t s → ScriptRefines h t s
-still_refines h t s was = record { ready = was.ready; accepted = was.accepted; below_most = was.below_most; fewer = fewer_still t was.fewer }
+still_refines h t s was =
+    record { ready = was.ready; accepted = was.accepted; below_most = was.below_most; fewer = fewer_still t was.fewer }
 
 -- the verdict under another name
-pub verdict_named : (h : Header) (t : Standing) (v w : Verdict) (new : Script) (text : List ℕ) → w ≡ v → VerdictFollowed h t v new text → VerdictFollowed h t w new text
+pub verdict_named : (h : Header) (t : Standing) (v w : Verdict) (new : Script) (text : List ℕ) → w ≡ v → VerdictFollowed h t v new text →
+    VerdictFollowed h t w new text
 verdict_named h t v w new text is followed = subst (λ (x : Verdict). VerdictFollowed h t x new text) (sym is) followed
 
 pub skipped : (h : Header) (t : Standing) (s : Script) → HasCounted h t s → VerdictFollowed h t verdict.Skipped s []
 skipped h t s was = record { pieces = []; next = t; follows = (refl, refl); whole = refl; lines = refl; refines = still_refines h t s was }
 
-pub refused : (h : Header) (t : Standing) (s : Script) (c : Cause) → HasCounted h t s → VerdictFollowed h t (verdict.Refused c) s (refusal s.line c)
+pub refused : (h : Header) (t : Standing) (s : Script) (c : Cause) → HasCounted h t s →
+    VerdictFollowed h t (verdict.Refused c) s (refusal s.line c)
 refused h t s c was = record {
   pieces = Refusal t.lines c ∷ [];
   next = t;
@@ -98,7 +114,8 @@ refused h t s c was = record {
   refines = still_refines h t s was;
 }
 
-pub synced : (h : Header) (t : Standing) (old new : Script) (text : List ℕ) → HasCounted h t old → RoundEnds h t new text → VerdictFollowed h t verdict.Synced new text
+pub synced : (h : Header) (t : Standing) (old new : Script) (text : List ℕ) → HasCounted h t old → RoundEnds h t new text →
+    VerdictFollowed h t verdict.Synced new text
 synced h t old new text was ends = record {
   pieces = Ended t ends.round ∷ [];
   next = after_round t;
@@ -120,9 +137,11 @@ count_of_lines : (b : Book) (x : Entry) → open_lines (with_entry b x) ≡ open
 count_of_lines b x = length-append b.current (x ∷ [])
 
 -- a script whose table has one more entry may end the round
-pub kept_ready : (h : Header) (t : Standing) (x : Entry) (old new : Script) → HasCounted h t old → TableRefines h (with_entry t.book x) new.table → new.line ≡ old.line → new.round ≡ old.round
+pub kept_ready : (h : Header) (t : Standing) (x : Entry) (old new : Script) → HasCounted h t old →
+    TableRefines h (with_entry t.book x) new.table → new.line ≡ old.line → new.round ≡ old.round
     → IsReady h (with_book t (with_entry t.book x)) new
-kept_ready h t x old new was table line round = record { table = table; orders = was.ready.orders; line = line ∙ was.ready.line; round = round ∙ was.ready.round }
+kept_ready h t x old new was table line round =
+    record { table = table; orders = was.ready.orders; line = line ∙ was.ready.line; round = round ∙ was.ready.round }
 
 fewer_kept : (t : Standing) (x : Entry) → HasFewer 1 t → HasFewer 0 (with_book t (with_entry t.book x))
 fewer_kept t x fewer =
@@ -132,7 +151,8 @@ fewer_kept t x fewer =
     record { accepted = omega (arith, count, accepted); ended = omega arith }
 
 -- the line filled the round, which ended
-pub kept_last : (h : Header) (t : Standing) (x : Entry) (old new : Script) (text : List ℕ) → HasCounted h t old → min (old.accepted + 1) (2 ^ 64 - 1) ≡ most_lines
+pub kept_last : (h : Header) (t : Standing) (x : Entry) (old new : Script) (text : List ℕ) → HasCounted h t old →
+    min (old.accepted + 1) (2 ^ 64 - 1) ≡ most_lines
     → RoundEnds h (with_book t (with_entry t.book x)) new text → VerdictFollowed h t (verdict.Accepted x) new text
 kept_last h t x old new text was full ends =
     let at : Standing = with_book t (with_entry t.book x) in
@@ -142,7 +162,9 @@ kept_last h t x old new text was full ends =
     record {
       pieces = pieces;
       next = after_round at;
-      follows = subst (λ (b : Bool). MatchBool b (EndsRound h at pieces (after_round at)) ((pieces ≡ []) × (after_round at ≡ at))) (sym test) (ends.round, refl, ends.legal);
+      follows =
+          subst (λ (b : Bool). MatchBool b (EndsRound h at pieces (after_round at)) ((pieces ≡ []) × (after_round at ≡ at))) (sym test)
+          (ends.round, refl, ends.legal);
       whole = ends.whole ∙ sym (one_piece h.defs at ends.round);
       lines = refl;
       refines = record {
@@ -159,8 +181,10 @@ kept_last h t x old new text was full ends =
     }
 
 -- it did not
-pub kept_open : (h : Header) (t : Standing) (x : Entry) (old new : Script) → HasCounted h t old → new.accepted ≡ min (old.accepted + 1) (2 ^ 64 - 1) → new.accepted ≢ most_lines
-    → TableRefines h (with_entry t.book x) new.table → new.line ≡ old.line → new.round ≡ old.round → VerdictFollowed h t (verdict.Accepted x) new []
+pub kept_open : (h : Header) (t : Standing) (x : Entry) (old new : Script) → HasCounted h t old →
+    new.accepted ≡ min (old.accepted + 1) (2 ^ 64 - 1) → new.accepted ≢ most_lines
+    → TableRefines h (with_entry t.book x) new.table → new.line ≡ old.line → new.round ≡ old.round →
+    VerdictFollowed h t (verdict.Accepted x) new []
 kept_open h t x old new was accepted_now less table line round =
     let at : Standing = with_book t (with_entry t.book x) in
     let below = was.below_most in
@@ -185,7 +209,8 @@ kept_open h t x old new was accepted_now less table line round =
 -- ---- lines
 
 -- the script after it counted a line
-pub has_counted : (h : Header) (t : Standing) (old new : Script) → ScriptRefines h t old → t.lines < 2 ^ 61 → new.line ≡ min (old.line + 1) (2 ^ 64 - 1)
+pub has_counted : (h : Header) (t : Standing) (old new : Script) → ScriptRefines h t old → t.lines < 2 ^ 61 →
+    new.line ≡ min (old.line + 1) (2 ^ 64 - 1)
     → new.table ≡ old.table → new.round ≡ old.round → new.accepted ≡ old.accepted → HasCounted h (with_line t) new
 has_counted h t old new was few line table round accepted =
     let fewer = was.fewer.accepted in
@@ -203,7 +228,8 @@ has_counted h t old new was few line table round accepted =
     }
 
 -- the verdict on it was followed
-pub line_read : (h : Header) (t : Standing) (line : Line) (v : Verdict) (new : Script) (text : List ℕ) → Judges h t.book line v → VerdictFollowed h (with_line t) v new text → LineRead h t line new text
+pub line_read : (h : Header) (t : Standing) (line : Line) (v : Verdict) (new : Script) (text : List ℕ) → Judges h t.book line v →
+    VerdictFollowed h (with_line t) v new text → LineRead h t line new text
 line_read h t line v new text judges followed = record {
   pieces = followed.pieces;
   next = followed.next;
@@ -215,13 +241,16 @@ line_read h t line v new text judges followed = record {
 
 -- ---- the end of the input
 
-pub last_round : (h : Header) (t : Standing) (s new : Script) (text : List ℕ) → ScriptRefines h t s → s.accepted ≢ 0 → RoundEnds h t new text → InputEnded h t text
+pub last_round : (h : Header) (t : Standing) (s new : Script) (text : List ℕ) → ScriptRefines h t s → s.accepted ≢ 0 →
+    RoundEnds h t new text → InputEnded h t text
 last_round h t s new text was some ends =
     let test : (open_lines t.book == 0) ≡ false = grind (arith, common_steps, some, was.accepted) in
     let pieces : List Piece = Ended t ends.round ∷ [] in
     record {
       pieces = pieces;
-      ends = subst (λ (b : Bool). MatchBool b (pieces ≡ []) ((next : Standing) × EndsRound h t pieces next)) (sym test) (after_round t, (ends.round, refl, ends.legal));
+      ends =
+          subst (λ (b : Bool). MatchBool b (pieces ≡ []) ((next : Standing) × EndsRound h t pieces next)) (sym test)
+          (after_round t, (ends.round, refl, ends.legal));
       whole = ends.whole ∙ sym (one_piece h.defs t ends.round);
     }
 

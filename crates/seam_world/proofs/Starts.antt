@@ -1,5 +1,6 @@
 -- What the table holds when a round begins.
-use Rattle.std.proofs.Common.{◌≡◌, ℕ, Bool, true, false, List, [], ◌∷◌, ◌++◌, length, refl, sym, ◌∙◌, ap, subst, suc, Option, Some, None, cond, append-nil}
+use Rattle.std.proofs.Common.{◌≡◌, ℕ, Bool, true, false, List, [], ◌∷◌, ◌++◌, length, refl, sym, ◌∙◌, ap, subst, suc, Option, Some, None}
+use Rattle.std.proofs.Common.{cond, append-nil}
 use Rattle.std.specs.Prelude.{MatchOption, slice_index, find, ◌==◌}
 use Rattle.std.specs.Ordering.{nat_cmp}
 use Rattle.std.specs.BTreeMap.{get, is_at, IsOrdered, BTreeMap}
@@ -22,19 +23,23 @@ use Rattle.seam_world.proofs.Writing.{with_entities}
 
 -- the value that a look-up found was replaced by one in a relation to it
 abbrev pub Replaced : {K X : Type 0} → (X → X → Type 0) → List (K × X) → List (K × X) → (K → Bool) → Type 0
-Replaced {X = X} P es kept test = MatchOption (lookup test es) (lookup test kept ≡ None) (λ v. (w : X) × (lookup test kept ≡ Some w) × P v w)
+Replaced {X = X} P es kept test =
+    MatchOption (lookup test es) (lookup test kept ≡ None) (λ v. (w : X) × (lookup test kept ≡ Some w) × P v w)
 
 -- every value was replaced, and every key stays
 pub record IsReplaced {K X : Type 0} (P : X → X → Type 0) (es kept : List (K × X)) : Type 0 where
   pub size : length kept ≡ length es
   pub at : (test : K → Bool) → Replaced P es kept test
 
-one_more : {K X : Type 0} (P : X → X → Type 0) (k : K) (v w : X) (es kept : List (K × X)) (test : K → Bool) (b : Bool) → test k ≡ b → P v w → Replaced P es kept test
-    → MatchOption (cond b (Some v) (lookup test es)) (cond b (Some w) (lookup test kept) ≡ None) (λ y. (x : X) × (cond b (Some w) (lookup test kept) ≡ Some x) × P y x)
+one_more : {K X : Type 0} (P : X → X → Type 0) (k : K) (v w : X) (es kept : List (K × X)) (test : K → Bool) (b : Bool) → test k ≡ b →
+    P v w → Replaced P es kept test
+    → MatchOption (cond b (Some v) (lookup test es)) (cond b (Some w) (lookup test kept) ≡ None)
+    (λ y. (x : X) × (cond b (Some w) (lookup test kept) ≡ Some x) × P y x)
 one_more P k v w es kept test true is here rest = (w, refl, here)
 one_more P k v w es kept test false is here rest = rest
 
-replaced_more : {K X : Type 0} (P : X → X → Type 0) (k : K) (v w : X) (es kept : List (K × X)) → P v w → IsReplaced P es kept → IsReplaced P ((k, v) ∷ es) ((k, w) ∷ kept)
+replaced_more : {K X : Type 0} (P : X → X → Type 0) (k : K) (v w : X) (es kept : List (K × X)) → P v w → IsReplaced P es kept →
+    IsReplaced P ((k, v) ∷ es) ((k, w) ∷ kept)
 replaced_more {K} {X} P k v w es kept here rest = record {
   size = ap (λ (n : ℕ). suc n) rest.size;
   at = λ test. one_more P k v w es kept test (test k) refl here (rest.at test);
@@ -48,10 +53,12 @@ replaced T P step f [] kept is = subst (λ (ks : List _). IsReplaced P [] ks) (s
 replaced {F} {K} {X} T P step f (e ∷ es) kept (b, w, g, rest, called, more, is) =
     let did = step f e.0 e.1 b w g called in
     let kept_is : kept ≡ (e.0, w) ∷ rest = is ∙ ap (λ (x : Bool). cond x ((e.0, w) ∷ rest) rest) did.0 in
-    subst (λ (ks : List (K × X)). IsReplaced P (e ∷ es) ks) (sym kept_is) (replaced_more P e.0 e.1 w es rest did.1 (replaced T P step g es rest more))
+    subst (λ (ks : List (K × X)). IsReplaced P (e ∷ es) ks) (sym kept_is)
+    (replaced_more P e.0 e.1 w es rest did.1 (replaced T P step g es rest more))
 
 -- a part that forgets what it executed in the round
-part_starts : (h : Header) (p : Part) (c : Create) (order done : List Call) (old new : PartState) → PartRefines h p c order done old → ForgetsDone old new → PartRefines h p c order [] new
+part_starts : (h : Header) (p : Part) (c : Create) (order done : List Call) (old new : PartState) → PartRefines h p c order done old →
+    ForgetsDone old new → PartRefines h p c order [] new
 part_starts h p c order done old new was forgets = record {
   state = forgets.state ∙ was.state;
   version = forgets.version ∙ was.version;
@@ -70,16 +77,25 @@ created_after_round b e = ap (λ (xs : List Entry). find (λ (c : Create). c.ent
 
 entity_starts : (h : Header) (b : Book) (e : ℕ) (old new : Option Entity)
     → MatchOption old (new ≡ None) (λ v. (w : Entity) × (new ≡ Some w) × StartsRound v w)
-    → MatchOption old (created_as b e ≡ None) (EntityRefines h b e) → MatchOption new (created_as (with_round_ended b) e ≡ None) (EntityRefines h (with_round_ended b) e)
+    → MatchOption old (created_as b e ≡ None) (EntityRefines h b e) →
+    MatchOption new (created_as (with_round_ended b) e ≡ None) (EntityRefines h (with_round_ended b) e)
 entity_starts h b e None new is none =
-    subst (λ (o : Option Entity). MatchOption o (created_as (with_round_ended b) e ≡ None) (EntityRefines h (with_round_ended b) e)) (sym is) (created_after_round b e ∙ none)
+    subst (λ (o : Option Entity). MatchOption o (created_as (with_round_ended b) e ≡ None) (EntityRefines h (with_round_ended b) e))
+    (sym is) (created_after_round b e ∙ none)
 entity_starts h b e (Some v) new (w, is, starts) was =
-    subst (λ (o : Option Entity). MatchOption o (created_as (with_round_ended b) e ≡ None) (EntityRefines h (with_round_ended b) e)) (sym is) (record {
+    subst (λ (o : Option Entity). MatchOption o (created_as (with_round_ended b) e ≡ None) (EntityRefines h (with_round_ended b) e))
+    (sym is) (record {
       made = was.made;
       is = created_after_round b e ∙ was.is;
       ty = starts.ty ∙ was.ty;
-      cell = same_order h b part.Cell was.made e w.cell (part_starts h part.Cell was.made (in_order (entries b) part.Cell e) (in_order b.current part.Cell e) v.cell w.cell was.cell starts.cell);
-      base = same_order h b part.Base was.made e w.base (part_starts h part.Base was.made (in_order (entries b) part.Base e) (in_order b.current part.Base e) v.base w.base was.base starts.base);
+      cell =
+          same_order h b part.Cell was.made e w.cell
+          (part_starts h part.Cell was.made (in_order (entries b) part.Cell e) (in_order b.current part.Cell e) v.cell w.cell was.cell
+          starts.cell);
+      base =
+          same_order h b part.Base was.made e w.base
+          (part_starts h part.Base was.made (in_order (entries b) part.Base e) (in_order b.current part.Base e) v.base w.base was.base
+          starts.base);
     })
 
 -- the table at the beginning of a round
@@ -90,5 +106,7 @@ round_starts h b t m was starts ordered = record {
   count = starts.size ∙ was.count ∙ ap (λ (xs : List Entry). length (creates_of xs)) (sym (entries_after_round b));
   each = λ e. entity_starts h b e (get nat_cmp t.entities e) (get nat_cmp m e) (starts.at (is_at (nat_cmp e))) (was.each e);
   ordered = ordered;
-  uncalled = λ p e none. ap (λ (xs : List Entry). in_order xs p e) (entries_after_round b) ∙ was.uncalled p e (sym (created_after_round b e) ∙ none);
+  uncalled =
+      λ p e none. ap (λ (xs : List Entry). in_order xs p e) (entries_after_round b)
+      ∙ was.uncalled p e (sym (created_after_round b e) ∙ none);
 }

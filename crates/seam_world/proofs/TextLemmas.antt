@@ -20,7 +20,8 @@ regroup f r d o h b e = simp append_assoc
 
 -- the pieces of a round's text, in their order
 pub pieces_of_round : (defs : List TypeDef) (number : ℕ) (xs : List (ℕ × Entity)) (first did dob homes bases out : List ℕ)
-    → did ≡ first ++ number_text (codes "round ") number → dob ≡ did ++ flat_map (λ e. flat_map (done_text (codes "did ") defs) (done_of (λ v. v.cell) e)) xs
+    → did ≡ first ++ number_text (codes "round ") number →
+    dob ≡ did ++ flat_map (λ e. flat_map (done_text (codes "did ") defs) (done_of (λ v. v.cell) e)) xs
     → homes ≡ dob ++ flat_map (λ e. flat_map (done_text (codes "dob ") defs) (done_of (λ v. v.base) e)) xs
     → bases ≡ homes ++ flat_map (λ e. home_text defs (home_of e)) xs → out ≡ bases ++ flat_map (λ e. base_text defs (base_of e)) xs
     → out ++ number_text (codes "end ") number ≡ first ++ round_text defs (round_of number xs)
@@ -29,5 +30,8 @@ pieces_of_round defs number xs first did dob homes bases out a b c d e =
     let dob_is = nested (done_text (codes "dob ") defs) (done_of (λ v. v.base)) xs in
     let homes_is = flat_map-map (home_text defs) home_of xs in
     let bases_is = flat_map-map (base_text defs) base_of xs in
-    rw (e, d, c, b, a, did_is, dob_is, homes_is, bases_is) (regroup first (number_text (codes "round ") number) (flat_map (λ e. flat_map (done_text (codes "did ") defs) (done_of (λ v. v.cell) e)) xs)
-    (flat_map (λ e. flat_map (done_text (codes "dob ") defs) (done_of (λ v. v.base) e)) xs) (flat_map (λ e. home_text defs (home_of e)) xs) (flat_map (λ e. base_text defs (base_of e)) xs) (number_text (codes "end ") number))
+    rw (e, d, c, b, a, did_is, dob_is, homes_is, bases_is)
+    (regroup first (number_text (codes "round ") number)
+    (flat_map (λ e. flat_map (done_text (codes "did ") defs) (done_of (λ v. v.cell) e)) xs)
+    (flat_map (λ e. flat_map (done_text (codes "dob ") defs) (done_of (λ v. v.base) e)) xs) (flat_map (λ e. home_text defs (home_of e)) xs)
+    (flat_map (λ e. base_text defs (base_of e)) xs) (number_text (codes "end ") number))

@@ -39,6 +39,8 @@ written old new call v w header writes found step =
       count = writes.2;
       ordered = λ o. writes.4;
       others = λ other ne. updates.2 other (apart call.entity other ne);
-      here = subst (λ (o : Option Entity). IfSome o (λ x. (y : Entity) × (get nat_cmp new.entities call.entity ≡ Some y) × EntityExecutes old.header.defs call x y))
+      here =
+          subst (λ (o : Option Entity). IfSome o (λ x. (y : Entity) × (get nat_cmp new.entities call.entity ≡ Some y)
+          × EntityExecutes old.header.defs call x y))
           found (w, updates.1, step);
     }

@@ -1,5 +1,6 @@
 // The run of a script, from the bytes of a source to what is written to a sink.
-ghost use Rattle.std.specs.Prelude.{◌≡◌, ◌≢◌, ◌↔◌, ◌∷◌, ◌<◌, ◌≤◌, ◌^◌, ◌⊎◌, ◌++◌, ◌+◌, [], List, ℕ, Option, MatchOption, MatchResult, MatchBool, IfNone, length, codes};
+ghost use Rattle.std.specs.Prelude.{◌≡◌, ◌≢◌, ◌↔◌, ◌∷◌, ◌<◌, ◌≤◌, ◌^◌, ◌⊎◌, ◌++◌, ◌+◌, [], List, ℕ, Option, MatchOption, MatchResult};
+ghost use Rattle.std.specs.Prelude.{MatchBool, IfNone, length, codes};
 ghost use Rattle.std.specs.Io.KnownBytes.{Appends};
 ghost use Rattle.seam_io.specs.Causes.{Rose};
 ghost use Rattle.seam_io.specs.States.{SourceState, SinkState};

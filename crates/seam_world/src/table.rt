@@ -1,6 +1,7 @@
 // The flat table: one plain table of entities, without cells. It keeps what was accepted, and executes each call as it is
 // accepted.
-ghost use Rattle.std.specs.Prelude.{◌≡◌, ◌≢◌, ◌<◌, ◌≤◌, ◌^◌, ◌+◌, ◌-◌, ◌++◌, ◌∷◌, [], ◌↔◌, ℕ, IsTrue, List, Some, None, length, min, OnOk, IfOk, MatchOption, slice_index};
+ghost use Rattle.std.specs.Prelude.{◌≡◌, ◌≢◌, ◌<◌, ◌≤◌, ◌^◌, ◌+◌, ◌-◌, ◌++◌, ◌∷◌, [], ◌↔◌, ℕ, IsTrue, List, Some, None, length, min, OnOk};
+ghost use Rattle.std.specs.Prelude.{IfOk, MatchOption, slice_index};
 ghost use Rattle.seam_defs.specs.Groups.{held_by};
 ghost use Rattle.seam_call.specs.BaseNodes.{most_base_nodes};
 ghost use Rattle.seam_call.specs.declared.call.Call.{Call as Calls};
@@ -10,7 +11,8 @@ ghost use Rattle.seam_transcript.specs.Language.{Command as Commands, Create as 
 ghost use Rattle.seam_transcript.specs.Book.{Book, empty_book, with_entry, with_round_ended, created_as, MayCreate, NamesCall, Means};
 ghost use Rattle.seam_transcript.specs.FlatTable.{first_state};
 ghost use Rattle.seam_accept.specs.Commands.{texts_of, JudgesCommand};
-ghost use Rattle.seam_world.specs.Table.{TableRefines, IsShort, IsNew, with_last, Executes, EntityExecutes, TableExecutes, ForgetsDone, StartsRound};
+ghost use Rattle.seam_world.specs.Table.{TableRefines, IsShort, IsNew, with_last, Executes, EntityExecutes, TableExecutes, ForgetsDone};
+ghost use Rattle.seam_world.specs.Table.{StartsRound};
 
 use seam_accept::{CallWords, Command, CreateWords, Form, base_named, create_named, deed_named};
 use seam_call::{BaseNode, Call, Create, MOST_BASE_NODES, Sender};
@@ -202,7 +204,8 @@ impl Table {
     // takes.
     fn judge_call(&self, words: &CallWords) -> Result<Verdict, AllocError>
         ensures { IfOk result (λ v. (h : Headers) (b : Book) → TableRefines h b self.now → IsShort b
-            → JudgesCommand h b (CallCommand words.now.sender_name.now words.now.entity.now words.now.method_name.now (texts_of words.now.arguments.now)) v) }
+            → JudgesCommand h b (CallCommand words.now.sender_name.now words.now.entity.now words.now.method_name.now
+            (texts_of words.now.arguments.now)) v) }
     {
         match self.call_named(words)? {
             Some(call) => Ok(Verdict::Accepted(Entry::Called(call))),
@@ -213,7 +216,9 @@ impl Table {
     // The call that words name.
     fn call_named(&self, words: &CallWords) -> Result<Option<Call>, AllocError>
         ensures { IfOk result (λ named. (h : Headers) (b : Book) → TableRefines h b self.now → IsShort b → MatchOption named
-            ((c : Calls) → ¬ (NamesCall h b words.now.sender_name.now words.now.entity.now words.now.method_name.now (texts_of words.now.arguments.now) c))
+            ((c : Calls) →
+            ¬ (NamesCall h b words.now.sender_name.now words.now.entity.now words.now.method_name.now (texts_of words.now.arguments.now)
+            c))
             (NamesCall h b words.now.sender_name.now words.now.entity.now words.now.method_name.now (texts_of words.now.arguments.now))) }
     {
         let bases = self.header.settings.bases;

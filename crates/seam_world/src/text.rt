@@ -63,7 +63,8 @@ fn push_calls(
     ty: u16,
     calls: &[Call],
 ) -> Result<(), AllocError>
-    ensures { OnOk result (out.new.items ≡ out.old.items ++ flat_map (done_text word.now defs.now) (map (λ c. record { ty = ty; call = c }) calls.now)) }
+    ensures { OnOk result (out.new.items ≡ out.old.items ++ flat_map (done_text word.now defs.now)
+        (map (λ c. record { ty = ty; call = c }) calls.now)) }
 {
     for call in calls {
         push_done(out, word, defs, &DoneLine { ty, call })?;

@@ -7,7 +7,8 @@ returns-then-contains_key-clause-room g c = room-there c.args.entries.now c.args
 
 pub returns-in-Ok-clause-same : goal.returns-in-Ok-clause-same
 returns-in-Ok-clause-same g c =
-    ghosts-reserved c.args.entries.now c.insert.new.self c.args.e c.insert.ensures.was_ordered c.insert.ensures.ordered (sym c.contains_key.ensures ∙ c.if-contains_key.false) c.in-Ok.ensures.updates.0
+    ghosts-reserved c.args.entries.now c.insert.new.self c.args.e c.insert.ensures.was_ordered c.insert.ensures.ordered
+    (sym c.contains_key.ensures ∙ c.if-contains_key.false) c.in-Ok.ensures.updates.0
 
 pub returns-in-Ok-clause-room : goal.returns-in-Ok-clause-room
 returns-in-Ok-clause-room g c = room-written c.args.entries.now c.insert.new.self c.args.e _ c.in-Ok.ensures.updates.0

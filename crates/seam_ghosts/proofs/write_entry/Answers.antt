@@ -7,12 +7,14 @@ use Rattle.seam_ghosts.proofs.write_entry.Goals as goal
 
 pub returns-in-Ok-clause-after : goal.returns-in-Ok-clause-after
 returns-in-Ok-clause-after g c =
-    book-written c.args.entries.now c.insert.new.self c.args.e c.args.news c.insert.ensures.was_ordered c.insert.ensures.ordered c.in-Ok.ensures.updates.0
+    book-written c.args.entries.now c.insert.new.self c.args.e c.args.news c.insert.ensures.was_ordered c.insert.ensures.ordered
+    c.in-Ok.ensures.updates.0
 
 pub returns-in-Ok-clause-count : goal.returns-in-Ok-clause-count
 returns-in-Ok-clause-count g c =
     ap (λ ss. count_of_copies ss + c.count_in_entry.result) c.in-Ok.ensures.entries
-    ∙ (ap (λ n. count_of_copies (insert_entry nat_cmp c.args.entries.now.entries c.args.e (Some c.args.news)) + n) (c.count_in_entry.ensures ∙ ap (λ o. unwrap_or (option_map count_of_slot o) 0) c.in-Ok.ensures.old)
+    ∙ (ap (λ n. count_of_copies (insert_entry nat_cmp c.args.entries.now.entries c.args.e (Some c.args.news)) + n) (c.count_in_entry.ensures
+    ∙ ap (λ o. unwrap_or (option_map count_of_slot o) 0) c.in-Ok.ensures.old)
     ∙ count-written c.args.entries.now.entries c.args.e (Some c.args.news) c.insert.ensures.was_ordered)
 
 pub returns-in-Some-clause-err_only_first : goal.returns-in-Some-clause-err_only_first

@@ -6,5 +6,6 @@ use Rattle.seam_accept.proofs.command.read_line.Goals as goal
 
 pub returns-in-None-clause-cause : goal.returns-in-None-clause-cause
 returns-in-None-clause-cause c = λ h b.
-    no_command_is_refused c.args.line.now (texts_of c.in-Ok.words.now) (λ s. absurd (false≢true (sym c.if-is_skipped.false ∙ c.is_skipped.ensures.1 s)))
+    no_command_is_refused c.args.line.now (texts_of c.in-Ok.words.now)
+    (λ s. absurd (false≢true (sym c.if-is_skipped.false ∙ c.is_skipped.ensures.1 s)))
     c.in-Ok.ensures.words c.in-None.ensures h b

@@ -11,5 +11,6 @@ execute-requires-clause-group c = rw c.as_slice-body.ensures (on-group _ _ c.req
 pub returns-clause-kept : goal.returns-clause-kept
 returns-clause-kept c takes of =
     let m = c.args.method.now in
-    let done : c.execute.new.props ≡ after_body c.args.properties.now (held_by m.part) c.args.args.now m.body c.args.props.now = search rules in
+    let done : c.execute.new.props ≡ after_body c.args.properties.now (held_by m.part) c.args.args.now m.body c.args.props.now =
+    search rules in
     rw done (method-keeps c.args.properties.now m c.args.args.now takes c.requires c.args.props.now of)

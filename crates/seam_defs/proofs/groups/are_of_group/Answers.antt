@@ -34,11 +34,21 @@ loop-property-preserved c =
       | then-in_group+else-not-fits_at w ↦
           let held : in_group p.flag g ≡ true = sym c.in_group.ensures ∙ w.if-in_group.true in
           let more = properties-more ps g i p within c.property-item.is held in
-          record { place = grind (arith, common_steps, more); not_after = omega arith; fitting = fit-more ps g c.args.values.now i p within c.property-item.is (λ _. rw (← old.place) (w.fits_at.ensures.0 w.if-not-fits_at.false)) old.fitting }
+          record {
+            place = grind (arith, common_steps, more);
+            not_after = omega arith;
+            fitting =
+                fit-more ps g c.args.values.now i p within c.property-item.is
+                (λ _. rw (← old.place) (w.fits_at.ensures.0 w.if-not-fits_at.false)) old.fitting;
+          }
       | else-in_group w ↦
           let other : in_group p.flag g ≡ false = sym c.in_group.ensures ∙ w.if-in_group.false in
           let same = properties-same ps g i p within c.property-item.is other in
-          record { place = cc; not_after = omega arith; fitting = fit-more ps g c.args.values.now i p within c.property-item.is (λ held. absurd cc) old.fitting }
+          record {
+            place = cc;
+            not_after = omega arith;
+            fitting = fit-more ps g c.args.values.now i p within c.property-item.is (λ held. absurd cc) old.fitting;
+          }
     ]
 
 pub returns : goal.returns

@@ -19,8 +19,16 @@ loop-property-preserved c =
           let held : in_group p.flag g ≡ true = sym c.in_group.ensures ∙ w.if-in_group.true in
           let more = properties-more ps g i p c.loop-property-test.true c.property-item.is held in
           let text = text-more ps g i p c.loop-property-test.true c.property-item.is c.args.values.now held in
-          let longer : c.if-in_group.out.items ≡ c.args.out.now.items ++ values_text (take (i + 1) ps) g c.args.values.now = grind (arith, common_steps, text, old.text, old.place, w.in_ok-push_at.ensures.ok, append_assoc) in
-          record { place = grind (arith, common_steps, more); not_after = omega arith; text = longer; kept = rw longer (take_at c.args.out.now.items (values_text (take (i + 1) ps) g c.args.values.now) (length c.args.out.now.items) refl) }
+          let longer : c.if-in_group.out.items ≡ c.args.out.now.items ++ values_text (take (i + 1) ps) g c.args.values.now =
+          grind (arith, common_steps, text, old.text, old.place, w.in_ok-push_at.ensures.ok, append_assoc) in
+          record {
+            place = grind (arith, common_steps, more);
+            not_after = omega arith;
+            text = longer;
+            kept =
+                rw longer (take_at c.args.out.now.items (values_text (take (i + 1) ps) g c.args.values.now) (length c.args.out.now.items)
+                refl);
+          }
       | else-in_group w ↦
           let other : in_group p.flag g ≡ false = sym c.in_group.ensures ∙ w.if-in_group.false in
           let same = properties-same ps g i p c.loop-property-test.true c.property-item.is other in

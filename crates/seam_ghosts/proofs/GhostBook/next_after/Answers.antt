@@ -12,9 +12,12 @@ pub loop-e-init : goal.loop-e-init
 loop-e-init g c = (
   tt,
   tt,
-  ap (λ ss. slice_get (copied (known ss)) 0) (c.into_iter-e-iterator.ensures.into_iter_gives ∙ c.range-e-items.ensures.between (search rules))
-      ∙ (ap (λ low. slice_get (copied (known (filter (λ s. range_contains nat_cmp low Unbounded s.0) c.self.inside.entries.entries))) 0) c.bound_after.ensures
-      ∙ (first-after (range_contains nat_cmp (low_bound c.args.after) Unbounded) (is_after c.args.after) (from_low c.args.after) c.self.inside.entries.entries
+  ap (λ ss. slice_get (copied (known ss)) 0) (c.into_iter-e-iterator.ensures.into_iter_gives
+      ∙ c.range-e-items.ensures.between (search rules))
+      ∙ (ap (λ low. slice_get (copied (known (filter (λ s. range_contains nat_cmp low Unbounded s.0) c.self.inside.entries.entries))) 0)
+      c.bound_after.ensures
+      ∙ (first-after (range_contains nat_cmp (low_bound c.args.after) Unbounded) (is_after c.args.after) (from_low c.args.after)
+      c.self.inside.entries.entries
       ∙ (ap (find (λ p. is_after c.args.after p.0)) (sym (copies-known c.self.inside.entries.entries c.self.invariant.0))
       ∙ ap (λ w. find (λ p. is_after c.args.after p.0) (copies w)) c.self.view_is))),
 )

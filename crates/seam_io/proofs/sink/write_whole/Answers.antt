@@ -13,7 +13,9 @@ loop-wrote-preserved g c =
     omega (arith, c.in-Ok.ensures.bound, length-take (length bytes - wrote) (drop wrote bytes), length-drop wrote bytes) in
     record {
       within = fits;
-      appends = subst (Appends (g.K.Sink.state c.args.sink.now).written (g.K.Sink.state c.write.new.self).written) (take_further bytes wrote c.in-Ok.count fits)
+      appends =
+          subst (Appends (g.K.Sink.state c.args.sink.now).written (g.K.Sink.state c.write.new.self).written)
+          (take_further bytes wrote c.in-Ok.count fits)
           (Appends-trans _ _ _ _ _ c.loop-wrote.invariant.appends c.in-Ok.ensures.bytes);
       later = omega (arith, c.write.ensures.cause.later);
     }

@@ -5,4 +5,5 @@ use Rattle.seam_call.specs.Calls.{is_from}
 use Rattle.seam_plain.proofs.round.calls_from.Given as goal
 
 abbrev pub invariant-loop-call : goal.invariant-loop-call
-invariant-loop-call l = map (λ c. c.now) l.sent.items ≡ filter (is_from part.Cell l.entity l.sender) (map (λ c. c.now) (take l.call-index l.calls))
+invariant-loop-call l =
+    map (λ c. c.now) l.sent.items ≡ filter (is_from part.Cell l.entity l.sender) (map (λ c. c.now) (take l.call-index l.calls))

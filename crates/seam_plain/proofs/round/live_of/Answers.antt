@@ -8,6 +8,7 @@ use Rattle.seam_plain.proofs.round.live_of.Goals as goal
 
 pub returns : goal.returns
 returns c = if_ok c.live_among_numbers.result
-    (λ live is. subst (Lists (λ (e : ℕ). find (λ x. x.entity == e) c.args.creates.now)) (sym (is ∙ ap (live_among c.args.creates.now) c.deref.ensures.value))
+    (λ live is. subst (Lists (λ (e : ℕ). find (λ x. x.entity == e) c.args.creates.now))
+    (sym (is ∙ ap (live_among c.args.creates.now) c.deref.ensures.value))
     (lists_live c.args.creates.now c.in_ok-numbers.numbers.items c.in_ok-numbers.ensures))
     c.live_among_numbers.ensures

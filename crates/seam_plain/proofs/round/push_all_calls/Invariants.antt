@@ -9,4 +9,5 @@ use Rattle.seam_plain.proofs.round.push_all_calls.Given as goal
 
 abbrev pub invariant-loop-create : goal.invariant-loop-create
 invariant-loop-create l = l.out.items ≡ l.initial.out.items
-    ++ flat_map (done_text (word_of l.part) l.header.defs) (done_lines (λ e. filter (is_for l.part e) (map (λ c. c.now) l.calls)) (take l.create-index l.live))
+    ++ flat_map (done_text (word_of l.part) l.header.defs)
+    (done_lines (λ e. filter (is_for l.part e) (map (λ c. c.now) l.calls)) (take l.create-index l.live))

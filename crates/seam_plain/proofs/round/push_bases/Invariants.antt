@@ -9,4 +9,5 @@ use Rattle.seam_plain.proofs.round.push_bases.Given as goal
 
 abbrev pub invariant-loop-create : goal.invariant-loop-create
 invariant-loop-create l = l.out.items ≡ l.initial.out.items
-    ++ flat_map (base_text l.header.defs) (map (λ c. base_line l.header (filter (is_for part.Base c.entity) (map (λ x. x.now) l.calls)) c) (take l.create-index l.live))
+    ++ flat_map (base_text l.header.defs)
+    (map (λ c. base_line l.header (filter (is_for part.Base c.entity) (map (λ x. x.now) l.calls)) c) (take l.create-index l.live))

@@ -14,8 +14,10 @@ loop-n-init g c = (
   tt,
   tt,
   ap (λ ss. slice_get (kept ss) 0) (c.into_iter-n-iterator.ensures.into_iter_gives ∙ c.range-n-items.ensures.between (search rules))
-      ∙ (ap (λ low. slice_get (kept (filter (λ s. range_contains nat_cmp low Unbounded s.0) c.self.inside.entries.entries)) 0) c.bound_after.ensures
-      ∙ (first-after (range_contains nat_cmp (low_bound c.args.after) Unbounded) (is_after c.args.after) (from_low c.args.after) c.self.inside.entries.entries
+      ∙ (ap (λ low. slice_get (kept (filter (λ s. range_contains nat_cmp low Unbounded s.0) c.self.inside.entries.entries)) 0)
+      c.bound_after.ensures
+      ∙ (first-after (range_contains nat_cmp (low_bound c.args.after) Unbounded) (is_after c.args.after) (from_low c.args.after)
+      c.self.inside.entries.entries
       ∙ (ap (find (λ p. is_after c.args.after p.0)) (sym (entries-kept c.self.inside.entries.entries c.self.invariant))
       ∙ ap (λ w. find (λ p. is_after c.args.after p.0) (map.entries w.items)) c.self.view_is))),
 )

@@ -13,26 +13,40 @@ use Rattle.seam_value.proofs.reading.read_number.Goals as goal
 -- the number read is the one that the bytes spell
 spelled : (c : goal.After-in_range) → number_text (to_z w128 (of_z w128 c.signed.result)) ≡ c.args.bytes.now
 spelled c =
-    let back : to_z w128 (of_z w128 c.signed.result) ≡ c.signed.result = to_z-of_z w128 c.signed.result (record { sfits = c.signed.type_inv }) in
+    let back : to_z w128 (of_z w128 c.signed.result) ≡ c.signed.result =
+    to_z-of_z w128 c.signed.result (record { sfits = c.signed.type_inv }) in
     let numeral : IsSignedNumeral c.split_sign-is_negative.result.0 c.split_sign-is_negative.result.1.now = search rules in
-    let text = number_text-signed c.args.bytes.now c.split_sign-is_negative.result.0 c.split_sign-is_negative.result.1.now c.split_sign-is_negative.ensures numeral in
+    let text =
+    number_text-signed c.args.bytes.now c.split_sign-is_negative.result.0 c.split_sign-is_negative.result.1.now
+    c.split_sign-is_negative.ensures numeral in
     ap number_text (back ∙ c.signed.ensures ∙ ap (λ (n : ℕ). signed c.split_sign-is_negative.result.0 n) c.in-Some.ensures) ∙ text
 
 pub returns-then-not-is_signed_numeral-clause-cause : goal.returns-then-not-is_signed_numeral-clause-cause
-returns-then-not-is_signed_numeral-clause-cause c =
-    (c.requires, no_number_text c.args.bytes.now c.split_sign-is_negative.result.0 c.split_sign-is_negative.result.1.now c.split_sign-is_negative.ensures (search rules))
+returns-then-not-is_signed_numeral-clause-cause c = (
+  c.requires,
+  no_number_text c.args.bytes.now c.split_sign-is_negative.result.0 c.split_sign-is_negative.result.1.now
+      c.split_sign-is_negative.ensures (search rules),
+)
 
 pub returns-in-Some-clause-value : goal.returns-in-Some-clause-value
-returns-in-Some-clause-value c = number_value c.in_range.result c.args.t (to_z w128 (of_z w128 c.signed.result)) c.args.bytes.now (spelled c) c.in_range.ensures.value
+returns-in-Some-clause-value c =
+    number_value c.in_range.result c.args.t (to_z w128 (of_z w128 c.signed.result)) c.args.bytes.now (spelled c) c.in_range.ensures.value
 
 pub returns-in-Some-clause-cause : goal.returns-in-Some-clause-cause
-returns-in-Some-clause-cause c = number_cause c.in_range.result c.args.t (to_z w128 (of_z w128 c.signed.result)) c.args.bytes.now c.requires (spelled c) c.in_range.ensures.cause
+returns-in-Some-clause-cause c =
+    number_cause c.in_range.result c.args.t (to_z w128 (of_z w128 c.signed.result)) c.args.bytes.now c.requires (spelled c)
+    c.in_range.ensures.cause
 
 pub returns-in-None-clause-cause : goal.returns-in-None-clause-cause
 returns-in-None-clause-cause c =
     let numeral : IsSignedNumeral c.split_sign-is_negative.result.0 c.split_sign-is_negative.result.1.now = search rules in
-    let size = digits_value 10 c.split_sign-is_negative.result.1.now in
-    (c.requires, signed c.split_sign-is_negative.result.0 size, number_text-signed c.args.bytes.now c.split_sign-is_negative.result.0 c.split_sign-is_negative.result.1.now c.split_sign-is_negative.ensures numeral, too_big c.args.t c.split_sign-is_negative.result.0 size c.in-None.ensures)
+    let size = digits_value 10 c.split_sign-is_negative.result.1.now in (
+      c.requires,
+      signed c.split_sign-is_negative.result.0 size,
+      number_text-signed c.args.bytes.now c.split_sign-is_negative.result.0 c.split_sign-is_negative.result.1.now
+          c.split_sign-is_negative.ensures numeral,
+      too_big c.args.t c.split_sign-is_negative.result.0 size c.in-None.ensures,
+    )
 
 pub returns-then-not-is_signed_numeral-clause-spelled : goal.returns-then-not-is_signed_numeral-clause-spelled
 returns-then-not-is_signed_numeral-clause-spelled c =

@@ -1,4 +1,5 @@
-use Rattle.std.proofs.Common.{rules, ◌≡◌, ◌∙◌, ◌-◌, ◌<◌, ◌≤◌, ◌++◌, ◌∷◌, [], ℕ, length, refl, sym, ap, arith, append_assoc, length-append, Ok, Err}
+use Rattle.std.proofs.Common.{rules, ◌≡◌, ◌∙◌, ◌-◌, ◌<◌, ◌≤◌, ◌++◌, ◌∷◌, [], ℕ, length, refl, sym, ap, arith, append_assoc, length-append}
+use Rattle.std.proofs.Common.{Ok, Err}
 use Rattle.std.specs.Str.{IsUtf8}
 use Rattle.std.proofs.lemmas.Result.{err_from_is_err_and}
 use Rattle.std.proofs.lemmas.List.Elements.{All-push}
@@ -14,34 +15,46 @@ use Rattle.seam_words.proofs.splitting.split_line.Goals as goal
 
 pub loop-rest-init : goal.loop-rest-init
 loop-rest-init c =
-    let run : HasRun is_blank c.args.line.now c.after_gap-rest.result.now = rw c.after_gap-rest.ensures.rest (has_run is_blank c.args.line.now) in
+    let run : HasRun is_blank c.args.line.now c.after_gap-rest.result.now =
+    rw c.after_gap-rest.ensures.rest (has_run is_blank c.args.line.now) in
     let within : length c.after_gap-rest.result.now ≤ length c.args.line.now = c.after_gap-rest.ensures.within in
     record {
       within = within;
       inside = rw c.new-words.ensures (λ k d less. absurd (omega arith));
       most = rw c.new-words.ensures (omega arith);
       stripped = run.stops;
-      prefix = λ more tail h. rw c.new-words.ensures (after_gap 0 (length c.args.line.now - length c.after_gap-rest.result.now) c.args.line.now more tail c.after_gap-rest.result.now run (omega arith) h);
+      prefix =
+          λ more tail h. rw c.new-words.ensures
+          (after_gap 0 (length c.args.line.now - length c.after_gap-rest.result.now) c.args.line.now more tail c.after_gap-rest.result.now
+          run (omega arith) h);
     }
 
 pub returns-then-len-eq-MOST-clause-cause : goal.returns-then-len-eq-MOST-clause-cause
 returns-then-len-eq-MOST-clause-cause c =
     let utf8 : IsUtf8 c.args.line.now = search rules in
-    let begins : BeginsWord c.loop-rest.rest.now = search rules in
-    (utf8, has_fault c.args.line.now c.loop-rest.words c.loop-rest.rest.now TooManyWords (c.loop-rest.invariant.prefix [] c.loop-rest.rest.now ([], refl, refl)) (sym c.len.ensures.count ∙ c.if-len-eq-MOST.true, begins))
+    let begins : BeginsWord c.loop-rest.rest.now = search rules in (
+      utf8,
+      has_fault c.args.line.now c.loop-rest.words c.loop-rest.rest.now TooManyWords
+          (c.loop-rest.invariant.prefix [] c.loop-rest.rest.now ([], refl, refl)) (sym c.len.ensures.count ∙ c.if-len-eq-MOST.true, begins),
+    )
 
 pub returns-then-len-eq-MOST-clause-found : goal.returns-then-len-eq-MOST-clause-found
-returns-then-len-eq-MOST-clause-found c = λ spans utf8 words most. absurd (no_words c.args.line.now TooManyWords (returns-then-len-eq-MOST-clause-cause c) spans utf8 words most)
+returns-then-len-eq-MOST-clause-found c =
+    λ spans utf8 words most. absurd (no_words c.args.line.now TooManyWords (returns-then-len-eq-MOST-clause-cause c) spans utf8 words most)
 
 pub returns-then-len-eq-MOST-clause-refused : goal.returns-then-len-eq-MOST-clause-refused
-returns-then-len-eq-MOST-clause-refused c = λ error refusal. ap Err (same_refusal c.args.line.now TooManyWords error (returns-then-len-eq-MOST-clause-cause c) refusal)
+returns-then-len-eq-MOST-clause-refused c =
+    λ error refusal. ap Err (same_refusal c.args.line.now TooManyWords error (returns-then-len-eq-MOST-clause-cause c) refusal)
 
 -- the line is refused for its bad word
 bad_word : (c : goal.After-from_residual) → Refuses c.args.line.now c.in_err-after.field-0.0
 bad_word c =
     let utf8 : IsUtf8 c.args.line.now = search rules in
     let few : length c.loop-rest.words < 16 = search rules in
-    (refused c.args.line.now c.in_err-after.field-0.0 utf8 (has_fault c.args.line.now c.loop-rest.words c.loop-rest.rest.now c.in_err-after.field-0.0 (c.loop-rest.invariant.prefix [] c.loop-rest.rest.now ([], refl, refl)) (fault_of_word (length c.loop-rest.words) c.loop-rest.rest.now c.in_err-after.field-0.0 few c.in_err-after.ensures.fault)))
+    (refused c.args.line.now c.in_err-after.field-0.0 utf8
+    (has_fault c.args.line.now c.loop-rest.words c.loop-rest.rest.now c.in_err-after.field-0.0
+    (c.loop-rest.invariant.prefix [] c.loop-rest.rest.now ([], refl, refl))
+    (fault_of_word (length c.loop-rest.words) c.loop-rest.rest.now c.in_err-after.field-0.0 few c.in_err-after.ensures.fault)))
 
 pub returns-in_err-after-clause-cause : goal.returns-in_err-after-clause-cause
 returns-in_err-after-clause-cause c =
@@ -49,7 +62,8 @@ returns-in_err-after-clause-cause c =
     rw (p.1, p.2) (bad_word c)
 
 pub returns-in_err-after-clause-found : goal.returns-in_err-after-clause-found
-returns-in_err-after-clause-found c = λ spans utf8 words most. absurd (no_words c.args.line.now c.in_err-after.field-0.0 (bad_word c) spans utf8 words most)
+returns-in_err-after-clause-found c =
+    λ spans utf8 words most. absurd (no_words c.args.line.now c.in_err-after.field-0.0 (bad_word c) spans utf8 words most)
 
 pub returns-in_err-after-clause-refused : goal.returns-in_err-after-clause-refused
 returns-in_err-after-clause-refused c = λ error refusal.
@@ -58,9 +72,11 @@ returns-in_err-after-clause-refused c = λ error refusal.
 
 pub loop-rest-preserved : goal.loop-rest-preserved
 loop-rest-preserved c =
-    let run : HasRun is_blank c.in_ok-after.after.now c.after_gap-rest-in-loop-rest.result.now = rw c.after_gap-rest-in-loop-rest.ensures.rest (has_run is_blank c.in_ok-after.after.now) in
+    let run : HasRun is_blank c.in_ok-after.after.now c.after_gap-rest-in-loop-rest.result.now =
+    rw c.after_gap-rest-in-loop-rest.ensures.rest (has_run is_blank c.in_ok-after.after.now) in
     let word : IsFirstWord c.begins_with_quote-quoted.result c.loop-rest.rest.now c.in_ok-after.after.now = c.in_ok-after.ensures.word in
-    let less : length c.in_ok-after.after.now < length c.loop-rest.rest.now = shorter c.begins_with_quote-quoted.result c.loop-rest.rest.now c.in_ok-after.after.now word in
+    let less : length c.in_ok-after.after.now < length c.loop-rest.rest.now =
+    shorter c.begins_with_quote-quoted.result c.loop-rest.rest.now c.in_ok-after.after.now word in
     let span : Span = record { start = c.place.result; end = c.place-in-loop-rest.result; quoted = c.begins_with_quote-quoted.result } in
     let line : ℕ = length c.args.line.now in
     let few : length c.loop-rest.words < 16 = search rules in
@@ -71,8 +87,13 @@ loop-rest-preserved c =
       most = rw c.push.ensures (omega (arith, length-append c.loop-rest.words (span ∷ [])));
       stripped = run.stops;
       prefix = λ more tail h.
-          let later : HasFirstWords span.end c.in_ok-after.after.now more tail = after_gap span.end (line - length c.after_gap-rest-in-loop-rest.result.now) c.in_ok-after.after.now more tail c.after_gap-rest-in-loop-rest.result.now run (omega (arith, c.after_gap-rest-in-loop-rest.ensures.within)) h in
-          let all : HasFirstWords 0 c.args.line.now (c.loop-rest.words ++ span ∷ more) tail = c.loop-rest.invariant.prefix (span ∷ more) tail (word_first (line - length c.loop-rest.rest.now) c.loop-rest.rest.now c.in_ok-after.after.now span more tail word (omega arith) (omega arith) later) in
+          let later : HasFirstWords span.end c.in_ok-after.after.now more tail =
+          after_gap span.end (line - length c.after_gap-rest-in-loop-rest.result.now) c.in_ok-after.after.now more tail
+          c.after_gap-rest-in-loop-rest.result.now run (omega (arith, c.after_gap-rest-in-loop-rest.ensures.within)) h in
+          let all : HasFirstWords 0 c.args.line.now (c.loop-rest.words ++ span ∷ more) tail =
+          c.loop-rest.invariant.prefix (span ∷ more) tail
+          (word_first (line - length c.loop-rest.rest.now) c.loop-rest.rest.now c.in_ok-after.after.now span more tail word
+          (omega arith) (omega arith) later) in
           rw (c.push.ensures, append_assoc) all;
     }
 
@@ -80,7 +101,8 @@ loop-rest-preserved c =
 found : (c : goal.After-loop-rest) → AreWords c.args.line.now c.loop-rest.words
 found c =
     let none : length c.loop-rest.rest.now ≡ 0 = search rules in
-    are_words c.args.line.now c.loop-rest.rest.now c.loop-rest.words none (c.loop-rest.invariant.prefix [] c.loop-rest.rest.now ([], refl, refl))
+    are_words c.args.line.now c.loop-rest.rest.now c.loop-rest.words none
+    (c.loop-rest.invariant.prefix [] c.loop-rest.rest.now ([], refl, refl))
 
 pub returns-clause-words : goal.returns-clause-words
 returns-clause-words c =

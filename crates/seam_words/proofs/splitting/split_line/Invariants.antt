@@ -12,7 +12,8 @@ invariant-loop-rest l = record {
   inside : All (IsInside (length l.line)) l.words;
   most : length l.words ≤ 16;
   stripped : StopsAt is_blank l.rest;
-  prefix : (more : List Span) (tail : List ℕ) → HasFirstWords (length l.line - length l.rest) l.rest more tail → HasFirstWords 0 l.line (l.words ++ more) tail;
+  prefix : (more : List Span) (tail : List ℕ) → HasFirstWords (length l.line - length l.rest) l.rest more tail →
+      HasFirstWords 0 l.line (l.words ++ more) tail;
 }
 
 abbrev pub decreases-loop-rest : goal.decreases-loop-rest

@@ -12,7 +12,9 @@ put_either : (old new : Option (List ℕ)) (before now : ℕ) (line : List ℕ) 
     → IfErr r (λ e. (e.wrote < length line) × Appends old new (take e.wrote line)) → HasCause before now r
     → (tail : List ℕ) × Appends old new tail × ((tail ≡ line) ⊎ (IsPrefix tail line × Rose before now))
 put_either old new before now line (Ok x) ok err cause = (line, ok, inl refl)
-put_either old new before now line (Err e) ok err cause = (take e.wrote line, err.1, inr ((drop e.wrote line, sym (take-append-drop e.wrote line)), cause.failed))
+put_either old new before now line (Err e) ok err cause =
+    (take e.wrote line, err.1, inr ((drop e.wrote line, sym (take-append-drop e.wrote line)), cause.failed))
 
 pub returns-clause-written : goal.returns-clause-written
-returns-clause-written g c = put_either _ _ _ _ c.args.line.now c.write_whole.result c.write_whole.ensures.ok c.write_whole.ensures.err c.write_whole.ensures.cause
+returns-clause-written g c =
+    put_either _ _ _ _ c.args.line.now c.write_whole.result c.write_whole.ensures.ok c.write_whole.ensures.err c.write_whole.ensures.cause

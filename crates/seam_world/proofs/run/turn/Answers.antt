@@ -8,14 +8,16 @@ pub returns-in-Line-clause-history : goal.returns-in-Line-clause-history
 returns-in-Line-clause-history g c = λ began sink h.
     let r = c.in-Line.ensures.reads began h.given h.read h.reading in
     let few = few_lines h in
-    line_printed began sink _ _ _ _ _ _ _ h c.next.ensures.limit c.print_line.ensures.later (Content c.next.new.self.line) r.0 c.print_line.new.script c.print_line.result r.1
+    line_printed began sink _ _ _ _ _ _ _ h c.next.ensures.limit c.print_line.ensures.later (Content c.next.new.self.line) r.0
+    c.print_line.new.script c.print_line.result r.1
     (rw c.line.ensures.content at (c.print_line.ensures.prints h.header h.standing h.refines (omega (arith, few))))
 
 pub returns-in-Long-clause-history : goal.returns-in-Long-clause-history
 returns-in-Long-clause-history g c = λ began sink h.
     let r = c.in-Long.ensures.reads began h.given h.read h.reading in
     let few = few_lines h in
-    line_printed began sink _ _ _ _ _ _ _ h c.next.ensures.limit c.print_long.ensures.later Long r.0 c.print_long.new.script c.print_long.result r.1
+    line_printed began sink _ _ _ _ _ _ _ h c.next.ensures.limit c.print_long.ensures.later Long r.0 c.print_long.new.script
+    c.print_long.result r.1
     (c.print_long.ensures.prints h.header h.standing h.refines (omega (arith, few)))
 
 pub returns-in-None-clause-history : goal.returns-in-None-clause-history
@@ -29,7 +31,8 @@ pub returns-in-Some-clause-history : goal.returns-in-Some-clause-history
 returns-in-Some-clause-history g c = λ began sink h.
     let r = c.in-End.ensures.reads began h.given h.read h.reading in
     let few = few_lines h in
-    last_printed began sink _ _ _ _ _ _ _ h c.next.ensures.limit c.print_last.ensures.later r.0 c.in-Some.status r.1 r.2 (c.in-Some.ensures.prints h.header h.standing h.refines (omega (arith, few)))
+    last_printed began sink _ _ _ _ _ _ _ h c.next.ensures.limit c.print_last.ensures.later r.0 c.in-Some.status r.1 r.2
+    (c.in-Some.ensures.prints h.header h.standing h.refines (omega (arith, few)))
 
 pub returns-in-ReadFault-clause-history : goal.returns-in-ReadFault-clause-history
 returns-in-ReadFault-clause-history g c = λ began sink h.

@@ -5,4 +5,6 @@ use Rattle.seam_world.specs.Text.{base_of}
 use Rattle.seam_world.proofs.text.push_bases.Given as goal
 
 abbrev pub invariant-loop-number : goal.invariant-loop-number
-invariant-loop-number l = l.out.items ++ flat_map (λ e. base_text l.defs (base_of e)) l.number-iterator ≡ l.initial.out.items ++ flat_map (λ e. base_text l.defs (base_of e)) l.entities.entries
+invariant-loop-number l =
+    l.out.items ++ flat_map (λ e. base_text l.defs (base_of e)) l.number-iterator
+    ≡ l.initial.out.items ++ flat_map (λ e. base_text l.defs (base_of e)) l.entities.entries

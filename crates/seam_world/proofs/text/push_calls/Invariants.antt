@@ -4,4 +4,6 @@ use Rattle.seam_transcript.specs.Texts.{done_text}
 use Rattle.seam_world.proofs.text.push_calls.Given as goal
 
 abbrev pub invariant-loop-call : goal.invariant-loop-call
-invariant-loop-call l = l.out.items ≡ l.initial.out.items ++ flat_map (done_text l.word l.defs) (map (λ c. record { ty = l.ty; call = c }) (take l.call-index l.calls))
+invariant-loop-call l =
+    l.out.items ≡ l.initial.out.items ++ flat_map (done_text l.word l.defs)
+    (map (λ c. record { ty = l.ty; call = c }) (take l.call-index l.calls))

@@ -5,4 +5,6 @@ use Rattle.seam_world.specs.Text.{home_of}
 use Rattle.seam_world.proofs.text.push_homes.Given as goal
 
 abbrev pub invariant-loop-number : goal.invariant-loop-number
-invariant-loop-number l = l.out.items ++ flat_map (λ e. home_text l.defs (home_of e)) l.number-iterator ≡ l.initial.out.items ++ flat_map (λ e. home_text l.defs (home_of e)) l.entities.entries
+invariant-loop-number l =
+    l.out.items ++ flat_map (λ e. home_text l.defs (home_of e)) l.number-iterator
+    ≡ l.initial.out.items ++ flat_map (λ e. home_text l.defs (home_of e)) l.entities.entries

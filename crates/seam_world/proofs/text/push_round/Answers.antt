@@ -15,9 +15,12 @@ returns c =
     let first = c.args.out.now.items in
     on_ok c.push_number_line-2.result
     (λ last. last
-    ∙ pieces_of_round defs c.args.round entities.entries first c.push_number_line.new.out.items c.push_all_did.new.out.items c.push_all_dob.new.out.items
-    c.push_homes.new.out.items c.push_bases.new.out.items c.in_ok-push_number_line.ensures c.in_ok-push_all_did.ensures c.in_ok-push_all_dob.ensures
+    ∙ pieces_of_round defs c.args.round entities.entries first c.push_number_line.new.out.items c.push_all_did.new.out.items
+    c.push_all_dob.new.out.items
+    c.push_homes.new.out.items c.push_bases.new.out.items c.in_ok-push_number_line.ensures c.in_ok-push_all_did.ensures
+    c.in_ok-push_all_dob.ensures
     c.in_ok-push_homes.ensures c.in_ok-push_bases.ensures
     ∙ ap (λ (ds : List TypeDef). first ++ round_text ds (round_of c.args.round entities.entries)) c.defs-defs.ensures
-    ∙ ap (λ (m : BTreeMap ℕ Entity). first ++ round_text c.args.table.now.header.defs (round_of c.args.round m.entries)) c.entities-entities.ensures)
+    ∙ ap (λ (m : BTreeMap ℕ Entity). first ++ round_text c.args.table.now.header.defs (round_of c.args.round m.entries))
+    c.entities-entities.ensures)
     c.push_number_line-2.ensures

@@ -4,4 +4,5 @@ use Rattle.seam_defs.proofs.types.Method.takes.Goals as goal
 
 pub returns-clause-test : goal.returns-clause-test
 returns-clause-test c =
-    test_is c.are_fitting.result (fit_values c.args.self.now.args c.args.args.now) (rw c.as_slice.ensures at c.are_fitting.ensures) (fit-Decides c.args.self.now.args c.args.args.now)
+    test_is c.are_fitting.result (fit_values c.args.self.now.args c.args.args.now) (rw c.as_slice.ensures at c.are_fitting.ensures)
+    (fit-Decides c.args.self.now.args c.args.args.now)

@@ -7,17 +7,29 @@ use Rattle.seam_defs.proofs.types.TypeDef.find_method.Goals as goal
 
 pub returns-in-Ok-clause-found : goal.returns-in-Ok-clause-found
 returns-in-Ok-clause-found c =
-    let sought = c.in-Ok.ensures.position (λ x. slice_cmp nat_cmp x.name c.args.name.now) (always_returns_same _ _ _ (λ a r f called. search rules)) in
-    rw (← c.as_slice-methods.ensures) ((found_exactly (λ x. x.name) c.as_slice-methods.result.now (rw c.as_slice-methods.ensures c.requires.method_names) c.args.name.now (Ok c.in-Ok.number) c.in-Ok.ensures.bound sought).0)
+    let sought =
+    c.in-Ok.ensures.position (λ x. slice_cmp nat_cmp x.name c.args.name.now)
+    (always_returns_same _ _ _ (λ a r f called. search rules)) in
+    rw (← c.as_slice-methods.ensures)
+    ((found_exactly (λ x. x.name) c.as_slice-methods.result.now (rw c.as_slice-methods.ensures c.requires.method_names) c.args.name.now
+    (Ok c.in-Ok.number) c.in-Ok.ensures.bound sought).0)
 
 pub returns-in-Ok-clause-all : goal.returns-in-Ok-clause-all
 returns-in-Ok-clause-all c k there =
-    let sought = c.in-Ok.ensures.position (λ x. slice_cmp nat_cmp x.name c.args.name.now) (always_returns_same _ _ _ (λ a r f called. search rules)) in
-    let same = (found_exactly (λ x. x.name) c.as_slice-methods.result.now (rw c.as_slice-methods.ensures c.requires.method_names) c.args.name.now (Ok c.in-Ok.number) c.in-Ok.ensures.bound sought).1 k (rw c.as_slice-methods.ensures there) in
+    let sought =
+    c.in-Ok.ensures.position (λ x. slice_cmp nat_cmp x.name c.args.name.now)
+    (always_returns_same _ _ _ (λ a r f called. search rules)) in
+    let same =
+    (found_exactly (λ x. x.name) c.as_slice-methods.result.now (rw c.as_slice-methods.ensures c.requires.method_names) c.args.name.now
+    (Ok c.in-Ok.number) c.in-Ok.ensures.bound sought).1 k (rw c.as_slice-methods.ensures there) in
     cc
 
 pub returns-in-Err-clause-all : goal.returns-in-Err-clause-all
 returns-in-Err-clause-all c k there =
-    let sought = c.in-Err.ensures.position (λ x. slice_cmp nat_cmp x.name c.args.name.now) (always_returns_same _ _ _ (λ a r f called. search rules)) in
-    let same = (found_exactly (λ x. x.name) c.as_slice-methods.result.now (rw c.as_slice-methods.ensures c.requires.method_names) c.args.name.now (Err c.in-Err.field-0) c.in-Err.ensures.bound sought).1 k (rw c.as_slice-methods.ensures there) in
+    let sought =
+    c.in-Err.ensures.position (λ x. slice_cmp nat_cmp x.name c.args.name.now)
+    (always_returns_same _ _ _ (λ a r f called. search rules)) in
+    let same =
+    (found_exactly (λ x. x.name) c.as_slice-methods.result.now (rw c.as_slice-methods.ensures c.requires.method_names) c.args.name.now
+    (Err c.in-Err.field-0) c.in-Err.ensures.bound sought).1 k (rw c.as_slice-methods.ensures there) in
     absurd cc

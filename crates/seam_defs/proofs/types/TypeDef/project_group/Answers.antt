@@ -24,7 +24,11 @@ loop-property-preserved c =
             | then-in_group-2+in_ok-copy_at w' ↦
                 let seen : in_group p.flag g ≡ true = sym w.in_group-then-in_group.ensures ∙ w'.if-in_group-2.true in
                 let values = projected-more ps held g i p within here vs inside seen in
-                record { place = grind (arith, common_steps, more); not_after = omega arith; values = grind (arith, common_steps, values, w'.in_ok-copy_at.ensures, old.values, old.place) }
+                record {
+                  place = grind (arith, common_steps, more);
+                  not_after = omega arith;
+                  values = grind (arith, common_steps, values, w'.in_ok-copy_at.ensures, old.values, old.place);
+                }
             | else-in_group-2 w' ↦
                 let unseen : in_group p.flag g ≡ false = sym w.in_group-then-in_group.ensures ∙ w'.if-in_group-2.false in
                 let values = projected-unseen ps held g i p within here vs inside unseen in

@@ -8,9 +8,13 @@ use Rattle.seam_io.proofs.lines.Lines.fill.Goals as goal
 
 pub returns-in_err-count-clause-reads : goal.returns-in_err-count-clause-reads
 returns-in_err-count-clause-reads g c = λ start given read r.
-    let line : slice_range c.self.inside.buffer.items c.self.inside.line_start c.self.inside.line_end ≡ [] = ap (λ (r : Reader). r.line) c.self.view_is ∙ c.requires.line in
-    let same = same_view c.self.inside.buffer.items c.refill-result.new.buffer.items c.self.inside.start c.self.inside.end c.self.inside.passing c.self.inside.ended c.self.inside.taken c.self.inside.limit _ c.refill-result.ensures.kept line in
-    unread start _ _ c.args.self.now _ given read r (same ∙ c.self.view_is) c.requires.needs.going c.in_err-count.ensures.bytes c.refill-result.ensures.cause.later c.in_err-count.ensures.end.failed
+    let line : slice_range c.self.inside.buffer.items c.self.inside.line_start c.self.inside.line_end ≡ [] =
+    ap (λ (r : Reader). r.line) c.self.view_is ∙ c.requires.line in
+    let same =
+    same_view c.self.inside.buffer.items c.refill-result.new.buffer.items c.self.inside.start c.self.inside.end c.self.inside.passing
+    c.self.inside.ended c.self.inside.taken c.self.inside.limit _ c.refill-result.ensures.kept line in
+    unread start _ _ c.args.self.now _ given read r (same ∙ c.self.view_is) c.requires.needs.going c.in_err-count.ensures.bytes
+    c.refill-result.ensures.cause.later c.in_err-count.ensures.end.failed
 
 pub returns-clause-reads : goal.returns-clause-reads
 returns-clause-reads g c = λ start given read r.
@@ -18,7 +22,8 @@ returns-clause-reads g c = λ start given read r.
     let before = c.self.inside.buffer.ok.0 in
     let after = c.refill-result.new.buffer.ok.0 in
     let len = c.refill-result.ensures.len in
-    let size : length (slice_range c.self.inside.buffer.items c.self.inside.start c.self.inside.end) ≡ c.self.inside.end - c.self.inside.start = range_size _ _ _ (omega arith) (omega arith) in
+    let size : length (slice_range c.self.inside.buffer.items c.self.inside.start c.self.inside.end)
+    ≡ c.self.inside.end - c.self.inside.start = range_size _ _ _ (omega arith) (omega arith) in
     let short : length (slice_range c.self.inside.buffer.items c.self.inside.start c.self.inside.end) ≤ 4096 =
     subst (λ (r : Reader). length r.held ≤ 4096) (sym c.self.view_is) c.requires.short in
     let held = c.self.inside.end - c.self.inside.start in
@@ -27,11 +32,14 @@ returns-clause-reads g c = λ start given read r.
     let fits : held + c.in_ok-count.count ≤ length c.refill-result.new.buffer.items = omega arith in
     let within : c.self.inside.taken + c.in_ok-count.count ≤ c.self.inside.limit = omega arith in
     let some : 0 < length bytes = omega (arith, length-drop held c.refill-result.new.buffer.items) in
-    let filled = fills c.self.inside.buffer.items c.refill-result.new.buffer.items c.self.inside.start c.self.inside.end c.in_ok-count.count c.self.inside.passing
+    let filled =
+    fills c.self.inside.buffer.items c.refill-result.new.buffer.items c.self.inside.start c.self.inside.end c.in_ok-count.count
+    c.self.inside.passing
     c.self.inside.ended (eqb c.in_ok-count.count 0) c.self.inside.taken c.self.inside.limit _ [] c.refill-result.ensures.kept fits within in (
       take c.in_ok-count.count bytes,
       refilled start _ _ c.args.self.now _ given read c.in_ok-count.count bytes r (rw (← c.self.view_is) filled)
-          c.in_ok-count.ensures.bytes some c.refill-result.ensures.cause.later c.refill-result.ensures.end.later c.in_ok-count.ensures.end.ended c.in_ok-count.ensures.end.others c.requires.needs refl,
+          c.in_ok-count.ensures.bytes some c.refill-result.ensures.cause.later c.refill-result.ensures.end.later
+          c.in_ok-count.ensures.end.ended c.in_ok-count.ensures.end.others c.requires.needs refl,
       rw (← c.self.view_is) filled.held,
       omega (arith, length-take c.in_ok-count.count bytes),
     )

@@ -11,16 +11,23 @@ pub returns-then-self : goal.returns-then-self
 returns-then-self c =
     let is = c.self.invariant in
     let fits = c.self.inside.buffer.ok.0 in
-    let size : length (slice_range c.self.inside.buffer.items c.self.inside.start c.self.inside.end) ≡ c.self.inside.end - c.self.inside.start =
+    let size : length (slice_range c.self.inside.buffer.items c.self.inside.start c.self.inside.end)
+    ≡ c.self.inside.end - c.self.inside.start =
     range_size _ _ _ (omega arith) (omega arith) in
-    let long : (c.self.inside.passing ≡ true) ⊎ (4096 < length (slice_range c.self.inside.buffer.items c.self.inside.start c.self.inside.end)) =
-    elim c.then-self.branch [ then-self-via-then-self w ↦ inl w.if-self.true | then-self-via-else-self+then-self-gt-LONGEST w ↦ inr (let longer = w.if-self-gt-LONGEST.true in omega arith) ] in
-    rw (← c.self.view_is) (prefix_let_go _ _ _ (subst (λ (r : Reader). HasNoFeed r.held) (sym c.self.view_is) c.requires) long (range_empty c.self.inside.buffer.items c.self.inside.end) refl)
+    let long : (c.self.inside.passing ≡ true)
+    ⊎ (4096 < length (slice_range c.self.inside.buffer.items c.self.inside.start c.self.inside.end)) =
+    elim c.then-self.branch [
+      | then-self-via-then-self w ↦ inl w.if-self.true
+      | then-self-via-else-self+then-self-gt-LONGEST w ↦ inr (let longer = w.if-self-gt-LONGEST.true in omega arith)
+    ] in
+    rw (← c.self.view_is) (prefix_let_go _ _ _ (subst (λ (r : Reader). HasNoFeed r.held) (sym c.self.view_is) c.requires) long
+    (range_empty c.self.inside.buffer.items c.self.inside.end) refl)
 
 pub returns-else-self-gt-LONGEST : goal.returns-else-self-gt-LONGEST
 returns-else-self-gt-LONGEST c =
     let is = c.self.invariant in
     let fits = c.self.inside.buffer.ok.0 in
-    let size : length (slice_range c.self.inside.buffer.items c.self.inside.start c.self.inside.end) ≡ c.self.inside.end - c.self.inside.start =
+    let size : length (slice_range c.self.inside.buffer.items c.self.inside.start c.self.inside.end)
+    ≡ c.self.inside.end - c.self.inside.start =
     range_size _ _ _ (omega arith) (omega arith) in
     rw (← c.self.view_is) (nothing_let_go _ _ (subst (λ (r : Reader). HasNoFeed r.held) (sym c.self.view_is) c.requires) (omega arith) refl)

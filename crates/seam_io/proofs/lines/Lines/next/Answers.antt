@@ -27,7 +27,8 @@ pub returns-in-Err-clause-reads : goal.returns-in-Err-clause-reads
 returns-in-Err-clause-reads g c = λ start given read r.
     let before = c.loop-next.invariant.reads start given read r in
     let waits = c.in-None.ensures.none in
-    let filled = c.fill.ensures.reads start (given ++ before.0) read (kept start _ _ _ (given ++ before.0) read before.1 waits.lets.moves) in
+    let filled =
+    c.fill.ensures.reads start (given ++ before.0) read (kept start _ _ _ (given ++ before.0) read before.1 waits.lets.moves) in
     let needs : NeedsMore c.fill.new.self = subst NeedsMore (sym c.in-Err.ensures.same) waits.after in
     let both = rw append_assoc at filled.1 in
     let answer = faulted start _ c.fill.new.self (given ++ (before.0 ++ filled.0)) read both needs in
@@ -48,7 +49,8 @@ loop-next-preserved g c =
     record {
       reads = λ start given read r.
           let before = c.loop-next.invariant.reads start given read r in
-          let filled = c.fill.ensures.reads start (given ++ before.0) read (kept start _ _ _ (given ++ before.0) read before.1 waits.lets.moves) in
+          let filled =
+          c.fill.ensures.reads start (given ++ before.0) read (kept start _ _ _ (given ++ before.0) read before.1 waits.lets.moves) in
           let whole = before.3 waits.before.whole in (
             before.0 ++ filled.0,
             rw append_assoc at filled.1,

@@ -9,7 +9,8 @@ abbrev pub invariant-loop-next : goal.invariant-loop-next
 invariant-loop-next g l = record {
   reads : (start : SourceState) (given : List ℕ) (read : List Line) →
       Reading start (g.S.Source.state l.initial.source) l.initial.self given read →
-      (got : List ℕ) × Reading start (g.S.Source.state l.source) l.self (given ++ got) read × IsSparing got × (HasNoFeed l.self.held → HasNoFeed got);
+      (got : List ℕ) × Reading start (g.S.Source.state l.source) l.self (given ++ got) read × IsSparing got
+      × (HasNoFeed l.self.held → HasNoFeed got);
   later : (g.S.Source.state l.initial.source).faults ≤ (g.S.Source.state l.source).faults;
   quiet : ¬ (NeedsMore l.initial.self) → (l.source ≡ l.initial.source) × (l.self ≡ l.initial.self);
   budget : budget l.self ≤ budget l.initial.self;

@@ -16,15 +16,18 @@ returns-then-count-eq0-clause-count c =
     let within = c.self.invariant in
     let size = c.self.inside.bytes.ok.0 in
     let room = length c.args.buf.now in
-    let cut : c.cut_at-cut.result ≡ cut_of c.self.inside.cuts.items c.self.inside.reads room = rw c.deref.ensures.value at c.cut_at-cut.ensures.cut in
-    rw (← c.self.view_is) (share_of_parts c.self.inside.bytes.items c.self.inside.at c.cut_at-cut.result _ room c.min.result 0 cut (search rules) (omega arith) (omega arith))
+    let cut : c.cut_at-cut.result ≡ cut_of c.self.inside.cuts.items c.self.inside.reads room =
+    rw c.deref.ensures.value at c.cut_at-cut.ensures.cut in
+    rw (← c.self.view_is) (share_of_parts c.self.inside.bytes.items c.self.inside.at c.cut_at-cut.result _ room c.min.result 0 cut
+    (search rules) (omega arith) (omega arith))
 
 pub returns-clause-bytes : goal.returns-clause-bytes
 returns-clause-bytes c =
     let within = c.self.invariant in
     let size = c.self.inside.bytes.ok.0 in
     rw (← c.self.view_is) (
-      copied_prefix c.self.inside.bytes.items c.args.buf.now c.copy_from_slice.new.self c.self.inside.at c.min-count.result (search rules) (omega arith),
+      copied_prefix c.self.inside.bytes.items c.args.buf.now c.copy_from_slice.new.self c.self.inside.at c.min-count.result (search rules)
+          (omega arith),
       λ none. absurd (omega arith),
     )
 
@@ -33,5 +36,7 @@ returns-clause-count c =
     let within = c.self.invariant in
     let size = c.self.inside.bytes.ok.0 in
     let room = length c.args.buf.now in
-    let cut : c.cut_at-cut.result ≡ cut_of c.self.inside.cuts.items c.self.inside.reads room = rw c.deref.ensures.value at c.cut_at-cut.ensures.cut in
-    rw (← c.self.view_is) (share_of_parts c.self.inside.bytes.items c.self.inside.at c.cut_at-cut.result _ room c.min.result c.min-count.result cut (search rules) (omega arith) (omega arith))
+    let cut : c.cut_at-cut.result ≡ cut_of c.self.inside.cuts.items c.self.inside.reads room =
+    rw c.deref.ensures.value at c.cut_at-cut.ensures.cut in
+    rw (← c.self.view_is) (share_of_parts c.self.inside.bytes.items c.self.inside.at c.cut_at-cut.result _ room c.min.result
+    c.min-count.result cut (search rules) (omega arith) (omega arith))

@@ -13,7 +13,8 @@ returns-then-len-eq-MOST_LINES c = on_ok c.end_round.result
       ends.0,
       ends.1,
       verdict_named c.args.header.now _ _ _ _ _ c.in-Accepted.is
-          (kept_last c.args.header.now was mid c.end_round.new.self c.in-Accepted.entry ends.0 c.requires refl c.in_ok-push-in-Accepted.ensures.items refl refl
+          (kept_last c.args.header.now was mid c.end_round.new.self c.in-Accepted.entry ends.0 c.requires refl
+          c.in_ok-push-in-Accepted.ensures.items refl refl
           (omega (arith, c.push.new.self.ok.0, c.len.ensures, c.if-len-eq-MOST_LINES.true)) ends.2),
     ))
     c.end_round.ensures
@@ -32,6 +33,7 @@ returns-in-Synced c = on_ok c.end_round-in-Synced.result
     (λ ends. (
       ends.0,
       ends.1,
-      verdict_named c.args.header.now _ _ _ _ _ c.in-Synced.is (synced c.args.header.now c.args.self.now c.end_round-in-Synced.new.self ends.0 c.requires ends.2),
+      verdict_named c.args.header.now _ _ _ _ _ c.in-Synced.is
+          (synced c.args.header.now c.args.self.now c.end_round-in-Synced.new.self ends.0 c.requires ends.2),
     ))
     c.end_round-in-Synced.ensures

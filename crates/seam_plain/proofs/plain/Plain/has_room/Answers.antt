@@ -9,5 +9,7 @@ pub returns-in-Some : goal.returns-in-Some
 returns-in-Some c = (
   (λ yes. absurd (false≢true yes)),
   (λ may. absurd (none-some c.in-Some.field-0.now
-      (sym may.is_new ∙ sym (ap (λ (cs : List Create). find (λ x. x.entity == c.args.create.entity) cs) (c.deref.ensures.value ∙ c.in_ok-creates.ensures)) ∙ sym c.in-Some.ensures))),
+      (sym may.is_new
+      ∙ sym (ap (λ (cs : List Create). find (λ x. x.entity == c.args.create.entity) cs) (c.deref.ensures.value
+      ∙ c.in_ok-creates.ensures)) ∙ sym c.in-Some.ensures))),
 )

@@ -6,10 +6,12 @@ use Rattle.seam_plain.proofs.plain.Plain.judge_call.Goals as goal
 
 pub returns-in-Some : goal.returns-in-Some
 returns-in-Some c =
-    call_judged c.args.header.now (book_of c.args.self.now) c.args.words.now.sender_name.now c.args.words.now.entity.now c.args.words.now.method_name.now (texts_of c.args.words.now.arguments.now) c.in-Some.call
+    call_judged c.args.header.now (book_of c.args.self.now) c.args.words.now.sender_name.now c.args.words.now.entity.now
+    c.args.words.now.method_name.now (texts_of c.args.words.now.arguments.now) c.in-Some.call
     (MatchOption-at_some _ _ c.in-Some.call c.in-Some.is c.in_ok-call.ensures)
 
 pub returns-in-None : goal.returns-in-None
 returns-in-None c =
-    call_refused c.args.header.now (book_of c.args.self.now) c.args.words.now.sender_name.now c.args.words.now.entity.now c.args.words.now.method_name.now (texts_of c.args.words.now.arguments.now)
+    call_refused c.args.header.now (book_of c.args.self.now) c.args.words.now.sender_name.now c.args.words.now.entity.now
+    c.args.words.now.method_name.now (texts_of c.args.words.now.arguments.now)
     (MatchOption-at_none _ _ c.in-None.is c.in_ok-call.ensures)

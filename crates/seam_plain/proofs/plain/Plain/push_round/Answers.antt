@@ -16,10 +16,14 @@ returns c =
     (λ last. (
       live,
       subst (λ (cs : List Create). Lists (λ (e : ℕ). find (λ x. x.entity == e) cs) live) (c.deref.ensures.value ∙ c.in_ok-creates.ensures)
-          (subst (Lists (λ (e : ℕ). find (λ x. x.entity == e) c.deref.result.now)) (sym c.as_slice-live.ensures.value) c.in_ok-live.ensures),
-      round_pushed c.args.header.now c.args.self.now.rounds (book_of c.args.self.now) live done calls c.args.out.now.items c.push_number_line.new.out.items c.push_all_calls.new.out.items
+          (subst (Lists (λ (e : ℕ). find (λ x. x.entity == e) c.deref.result.now)) (sym c.as_slice-live.ensures.value)
+          c.in_ok-live.ensures),
+      round_pushed c.args.header.now c.args.self.now.rounds (book_of c.args.self.now) live done calls c.args.out.now.items
+          c.push_number_line.new.out.items c.push_all_calls.new.out.items
           c.push_all_calls-2.new.out.items c.push_homes.new.out.items c.push_bases.new.out.items c.push_number_line-2.new.out.items
-          (ap (map (λ x. x.now)) c.as_slice-done.ensures.value ∙ c.in_ok-done.ensures) (ap (map (λ x. x.now)) c.as_slice-calls.ensures.value ∙ c.in_ok-calls.ensures)
-          c.in_ok-push_number_line.ensures c.in_ok-push_all_calls.ensures c.in_ok-push_all_calls-2.ensures c.in_ok-push_homes.ensures c.in_ok-push_bases.ensures last,
+          (ap (map (λ x. x.now)) c.as_slice-done.ensures.value ∙ c.in_ok-done.ensures) (ap (map (λ x. x.now)) c.as_slice-calls.ensures.value
+          ∙ c.in_ok-calls.ensures)
+          c.in_ok-push_number_line.ensures c.in_ok-push_all_calls.ensures c.in_ok-push_all_calls-2.ensures c.in_ok-push_homes.ensures
+          c.in_ok-push_bases.ensures last,
     ))
     c.push_number_line-2.ensures

@@ -8,7 +8,8 @@ use Rattle.seam_value.proofs.values.Value.parse.Goals as goal
 pub returns-in_err-read_text-in-Text-clause-spelled : goal.returns-in_err-read_text-in-Text-clause-spelled
 returns-in_err-read_text-in-Text-clause-spelled c = λ v fits spelled.
     let p = err_from_is_err_and c.from_residual.result c.from_residual.ensures.1 in
-    let at_text : Refuses c.args.bytes.now c.args.t c.in_err-read_text-in-Text.field-0.0 = rw c.in-Text.is c.in_err-read_text-in-Text.ensures.cause in
+    let at_text : Refuses c.args.bytes.now c.args.t c.in_err-read_text-in-Text.field-0.0 =
+    rw c.in-Text.is c.in_err-read_text-in-Text.ensures.cause in
     rw (p.1, p.2) (refuses_none c.args.bytes.now c.args.t v c.in_err-read_text-in-Text.field-0.0 fits spelled at_text)
 
 pub returns-in_ok-read_text-in-Text-clause-spelled : goal.returns-in_ok-read_text-in-Text-clause-spelled

@@ -8,6 +8,7 @@ pub returns : goal.returns
 returns c = λ h t ready few.
     let table = c.args.self.now.table in (
       round_text table.header.defs (round_of c.saturating_add-self.result table.entities.entries),
-      round_ended h t c.args.self.now _ table.header.defs ready few refl c.saturating_add-self.ensures refl refl (c.start_round.ensures h t.book ready.table),
+      round_ended h t c.args.self.now _ table.header.defs ready few refl c.saturating_add-self.ensures refl refl
+          (c.start_round.ensures h t.book ready.table),
       c.in_ok-push_round.ensures,
     )

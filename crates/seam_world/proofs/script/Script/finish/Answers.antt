@@ -4,7 +4,8 @@ use Rattle.seam_world.proofs.ScriptLemmas.{last_round, nothing_open}
 use Rattle.seam_world.proofs.script.Script.finish.Goals as goal
 
 pub returns-then-self-eq0 : goal.returns-then-self-eq0
-returns-then-self-eq0 c = λ h t was few. ([], nothing_open h t c.args.self.now was c.if-self-eq0.true, sym (append-nil c.args.out.now.items))
+returns-then-self-eq0 c =
+    λ h t was few. ([], nothing_open h t c.args.self.now was c.if-self-eq0.true, sym (append-nil c.args.out.now.items))
 
 pub returns : goal.returns
 returns c = on_ok c.end_round.result

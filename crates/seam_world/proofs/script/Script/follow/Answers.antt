@@ -30,7 +30,8 @@ returns-then-self-eq-MOST_LINES c = on_ok c.end_round.result
     let e = ends h (with_book t (with_entry t.book x)) (kept_ready h t x c.args.self.now _ was table refl refl) (omega arith) in (
       e.0,
       verdict_named h t _ _ _ _ c.in-Accepted.is
-          (kept_last h t x c.args.self.now c.end_round.new.self e.0 was (sym c.saturating_add-self.ensures ∙ c.if-self-eq-MOST_LINES.true) e.1),
+          (kept_last h t x c.args.self.now c.end_round.new.self e.0 was (sym c.saturating_add-self.ensures ∙ c.if-self-eq-MOST_LINES.true)
+          e.1),
       e.2,
     ))
     c.end_round.ensures

@@ -11,7 +11,8 @@ pub returns-in-Called : goal.returns-in-Called
 returns-in-Called c = on_ok c.execute.result
     (λ step h b command was short means.
     subst (λ (x : Entry). TableRefines h (with_entry b x) c.execute.new.self) (sym c.in-Called.is)
-    (accepted_call h b c.args.self.now c.execute.new.self c.in-Called.call command was short (subst (Means h b command) c.in-Called.is means) step))
+    (accepted_call h b c.args.self.now c.execute.new.self c.in-Called.call command was short
+    (subst (Means h b command) c.in-Called.is means) step))
     c.execute.ensures
 
 pub returns-in-Created : goal.returns-in-Created

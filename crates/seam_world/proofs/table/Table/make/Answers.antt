@@ -14,4 +14,5 @@ returns c = λ h b was may.
     let absent : get nat_cmp t.entities c.args.create.entity ≡ None = new_in_table h b t c.args.create.entity was may.is_new in
     let more : btree_map_len c.insert.new.self ≡ btree_map_len t.entities + 1 =
     put.len ∙ ap (λ (o : Option Entity). btree_map_len t.entities + (if is_some o then 0 else 1)) (put.old ∙ absent) in
-    created_refines h b t c.args.create _ c.insert.new.self was may.is_new (λ p e. in_order_of_append b.past b.current p e) c.in_ok-made.ensures put.updates more c.insert.ensures.ordered
+    created_refines h b t c.args.create _ c.insert.new.self was may.is_new (λ p e. in_order_of_append b.past b.current p e)
+    c.in_ok-made.ensures put.updates more c.insert.ensures.ordered

@@ -6,5 +6,6 @@ use Rattle.seam_world.proofs.table.Table.start_round.Goals as goal
 pub returns : goal.returns
 returns c = λ h b was.
     round_starts h b c.args.self.now c.retain.new.self was
-    (replaced _ StartsRound (λ f k v b w f' t. search rules) _ c.args.self.now.entities.entries c.retain.new.self.entries c.retain.ensures.filtered)
+    (replaced _ StartsRound (λ f k v b w f' t. search rules) _ c.args.self.now.entities.entries c.retain.new.self.entries
+    c.retain.ensures.filtered)
     c.retain.ensures.ordered
