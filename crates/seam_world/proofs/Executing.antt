@@ -22,8 +22,8 @@ use Rattle.seam_transcript.specs.Orders.{of_sender}
 use Rattle.seam_transcript.specs.InOrder.{in_order}
 use Rattle.seam_transcript.specs.declared.verdict.Entry.{Entry}
 use Rattle.seam_transcript.specs.declared.verdict.Entry.TheVariants as entry
-use Rattle.seam_transcript.proofs.InOrderLemmas.{in_order_is_full, order_within_entries}
-use Rattle.seam_world.specs.Table.{TableRefines, EntityRefines, PartRefines, IsShort, Executes, PartExecutes, EntityExecutes, TableExecutes}
+use Rattle.seam_transcript.proofs.InOrderLemmas.{in_order_is_full}
+use Rattle.seam_world.specs.Table.{TableRefines, EntityRefines, PartRefines, Executes, PartExecutes, EntityExecutes, TableExecutes}
 use Rattle.seam_world.specs.declared.table.PartState.{PartState}
 use Rattle.seam_world.specs.declared.table.Entity.{Entity}
 use Rattle.seam_world.specs.declared.table.Table.{Table}
@@ -41,18 +41,17 @@ same_part_refines h p c order order' done done' s orders dones was =
 -- what the book holds for a part that the call is for
 own_part : (h : Header) (b : Book) (p : Part) (c : Create) (call : Call) (old new : PartState) → is_for p call.entity call ≡ true
     → PartRefines h p c (in_order (entries b) p call.entity) (in_order b.current p call.entity) old → IsSender call.sender
-    → call.number ≡ length (accepted b p call.entity call.sender) + 1 → IsShort b → Executes h.defs c.ty call old new
+    → call.number ≡ length (accepted b p call.entity call.sender) + 1 → Executes h.defs c.ty call old new
     → PartRefines h p c (in_order (entries (with_entry b (entry.Called call))) p call.entity)
     (in_order (b.current ++ entry.Called call ∷ []) p call.entity) new
-own_part h b p c call old new mine was proper number short step =
+own_part h b p c call old new mine was proper number step =
     let e : ℕ = call.entity in
     let count : call.number ≡ length (of_sender call.sender (in_order (entries b) p e)) + 1 =
     number ∙ ap (λ (xs : List Call). length xs + 1) (sym (in_order_is_full b p e call.sender)) in
     same_part_refines h p c (in_order (entries b) p e ++ call ∷ []) (in_order (entries (with_entry b (entry.Called call))) p e)
     (in_order b.current p e ++ call ∷ []) (in_order (b.current ++ entry.Called call ∷ []) p e) new
     (sym (order_with_own b call p e mine)) (sym (current_with_own b call p e mine))
-    (part_with_call h p c (in_order (entries b) p e) (in_order b.current p e) call old new was proper count
-    (omega (arith, short, order_within_entries (entries b) p e)) step)
+    (part_with_call h p c (in_order (entries b) p e) (in_order b.current p e) call old new was proper count step)
 
 -- and for another one
 other_part : (h : Header) (b : Book) (p : Part) (c : Create) (e : ℕ) (call : Call) (s : PartState) → is_for p e call ≡ false
@@ -66,9 +65,9 @@ other_part h b p c e call s other was =
 -- the entity that the call is for
 entity_here : (h : Header) (b : Book) (call : Call) (v w : Entity) (p : Part) → call.part ≡ p → EntityRefines h b call.entity v →
     IsSender call.sender
-    → call.number ≡ length (accepted b p call.entity call.sender) + 1 → IsShort b → w.ty ≡ v.ty → PartExecutes p h.defs call v w
+    → call.number ≡ length (accepted b p call.entity call.sender) + 1 → w.ty ≡ v.ty → PartExecutes p h.defs call v w
     → EntityRefines h (with_entry b (entry.Called call)) call.entity w
-entity_here h b call v w part.Cell is was proper number short ty (step, stays) =
+entity_here h b call v w part.Cell is was proper number ty (step, stays) =
     let c : Create = was.made in
     let here : (call.entity == call.entity) ≡ true = same call.entity in
     let mine : is_for part.Cell call.entity call ≡ true =
@@ -80,13 +79,13 @@ entity_here h b call v w part.Cell is was proper number short ty (step, stays) =
       is = created_with_call b call call.entity ∙ was.is;
       ty = ty ∙ was.ty;
       cell =
-          own_part h b part.Cell c call v.cell w.cell mine was.cell proper number short
+          own_part h b part.Cell c call v.cell w.cell mine was.cell proper number
           (subst (λ (k : ℕ). Executes h.defs k call v.cell w.cell) was.ty step);
       base = other_part h b part.Base c call.entity call w.base other
           (subst (λ (s : PartState). PartRefines h part.Base c (in_order (entries b) part.Base call.entity)
           (in_order b.current part.Base call.entity) s) (sym stays) was.base);
     }
-entity_here h b call v w part.Base is was proper number short ty (step, stays) =
+entity_here h b call v w part.Base is was proper number ty (step, stays) =
     let c : Create = was.made in
     let here : (call.entity == call.entity) ≡ true = same call.entity in
     let mine : is_for part.Base call.entity call ≡ true =
@@ -101,7 +100,7 @@ entity_here h b call v w part.Base is was proper number short ty (step, stays) =
           (subst (λ (s : PartState). PartRefines h part.Cell c (in_order (entries b) part.Cell call.entity)
           (in_order b.current part.Cell call.entity) s) (sym stays) was.cell);
       base =
-          own_part h b part.Base c call v.base w.base mine was.base proper number short
+          own_part h b part.Base c call v.base w.base mine was.base proper number
           (subst (λ (k : ℕ). Executes h.defs k call v.base w.base) was.ty step);
     }
 
@@ -125,10 +124,10 @@ not_called b call e c is none same_as = none-some c (sym none ∙ ap (created_as
 -- the entity that the call is for, as the table has it after the call
 executed_here : (h : Header) (b : Book) (old new : Table) (call : Call) (c : Create) → TableRefines h b old →
     created_as b call.entity ≡ Some c → IsSender call.sender
-    → call.number ≡ length (accepted b call.part call.entity call.sender) + 1 → IsShort b → TableExecutes call old new
+    → call.number ≡ length (accepted b call.part call.entity call.sender) + 1 → TableExecutes call old new
     → MatchOption (get nat_cmp new.entities call.entity) (created_as (with_entry b (entry.Called call)) call.entity ≡ None)
     (EntityRefines h (with_entry b (entry.Called call)) call.entity)
-executed_here h b old new call c was is proper number short step =
+executed_here h b old new call c was is proper number step =
     cases (get nat_cmp old.entities call.entity) (was.each call.entity) step.here
   where
     next : Book
@@ -144,14 +143,14 @@ executed_here h b old new call c was is proper number short step =
         subst (λ (x : Header). PartExecutes call.part x.defs call v w) was.header did.parts in
         subst (λ (o : Option Entity). MatchOption o (created_as (with_entry b (entry.Called call)) call.entity ≡ None)
         (EntityRefines h (with_entry b (entry.Called call)) call.entity))
-        (sym found) (entity_here h b call v w call.part refl at proper number short did.ty parts)
+        (sym found) (entity_here h b call v w call.part refl at proper number did.ty parts)
 
 -- the table after an accepted call
 called_refines : (h : Header) (b : Book) (old new : Table) (call : Call) (c : Create) → TableRefines h b old →
     created_as b call.entity ≡ Some c → IsSender call.sender
-    → call.number ≡ length (accepted b call.part call.entity call.sender) + 1 → IsShort b → TableExecutes call old new →
+    → call.number ≡ length (accepted b call.part call.entity call.sender) + 1 → TableExecutes call old new →
     TableRefines h (with_entry b (entry.Called call)) new
-called_refines h b old new call c was is proper number short step =
+called_refines h b old new call c was is proper number step =
     let next : Book = with_entry b (entry.Called call) in
     record {
       header = step.header ∙ was.header;
@@ -159,7 +158,7 @@ called_refines h b old new call c was is proper number short step =
       each = λ e. elim (eqb_tells call.entity e) [
         | inl same_as ↦ subst (λ (y : ℕ). MatchOption (get nat_cmp new.entities y) (created_as next y ≡ None) (EntityRefines h next y))
             same_as.1
-            (executed_here h b old new call c was is proper number short step)
+            (executed_here h b old new call c was is proper number step)
         | inr other ↦ subst (λ (o : Option Entity). MatchOption o (created_as next e ≡ None) (EntityRefines h next e))
             (sym (step.others e (λ s. other.1 (sym s))))
             (entity_other h b e call (get nat_cmp old.entities e) other.1 (was.each e))
@@ -198,9 +197,9 @@ call_of_means h b call (language.Call s e n a) (d, names, is) =
 call_of_means h b call language.Sync means = absurd means
 
 -- the table after a call that a command means
-pub accepted_call : (h : Header) (b : Book) (old new : Table) (call : Call) (c : language.Command) → TableRefines h b old → IsShort b →
+pub accepted_call : (h : Header) (b : Book) (old new : Table) (call : Call) (c : language.Command) → TableRefines h b old →
     Means h b c (entry.Called call) → TableExecutes call old new
     → TableRefines h (with_entry b (entry.Called call)) new
-accepted_call h b old new call c was short means step =
+accepted_call h b old new call c was means step =
     let named = call_of_means h b call c means in
-    called_refines h b old new call named.0 was named.1 named.2 named.3 short step
+    called_refines h b old new call named.0 was named.1 named.2 named.3 step

@@ -28,10 +28,10 @@ use Rattle.seam_transcript.specs.declared.verdict.Entry.{Entry}
 use Rattle.seam_transcript.specs.declared.verdict.Entry.TheVariants as entry
 use Rattle.seam_transcript.specs.declared.verdict.Cause.TheVariants as cause
 use Rattle.seam_transcript.specs.declared.verdict.Verdict.TheVariants as verdict
-use Rattle.seam_transcript.proofs.InOrderLemmas.{in_order_is_full, order_within_entries, sender_within_order}
+use Rattle.seam_transcript.proofs.InOrderLemmas.{in_order_is_full}
 use Rattle.seam_accept.specs.Commands.{JudgesCommand}
 use Rattle.seam_accept.proofs.CommandLemmas.{meaning_is_accepted, meaningless_is_refused}
-use Rattle.seam_world.specs.Table.{TableRefines, EntityRefines, IsShort}
+use Rattle.seam_world.specs.Table.{TableRefines, EntityRefines}
 use Rattle.seam_world.specs.declared.table.Entity.{Entity}
 use Rattle.seam_world.specs.declared.table.Table.{Table}
 
@@ -126,12 +126,12 @@ deed_on_cell defs ty name arguments d (m, args, is, names) = sym names.built.on_
 
 -- the call that the table answers
 pub call_named : (h : Header) (b : Book) (t : Table) (who w name : List ℕ) (arguments : List (List ℕ)) (n e number : ℕ) (v : Entity)
-    (d : Deed) → TableRefines h b t → IsShort b
+    (d : Deed) → TableRefines h b t
     → IsBaseNodeOf t.header.settings.bases n → language.sender_text (sender.Base n) ≡ who → SpellsPositive w e →
     get nat_cmp t.entities e ≡ Some v
-    → NamesDeed (type_of t.header.defs v.ty) name arguments d → number ≡ min (slice_index v.cell.last (n - 1) + 1) (2 ^ 64 - 1)
+    → NamesDeed (type_of t.header.defs v.ty) name arguments d → number ≡ slice_index v.cell.last (n - 1) + 1
     → NamesCall h b who w name arguments (record { entity = e; part = part.Cell; sender = sender.Base n; number = number; deed = d })
-call_named h b t who w name arguments n e number v d was short node spelled spells found deed is =
+call_named h b t who w name arguments n e number v d was node spelled spells found deed is =
     let at : EntityRefines h b e v = entity_found h b t e v was found in
     let from_one = node.node.from_one in
     let most = node.node.most in
@@ -139,8 +139,6 @@ call_named h b t who w name arguments n e number v d was short node spelled spel
     let place : n - 1 + 1 ≡ n = omega (arith, from_one) in
     let count : slice_index v.cell.last (n - 1) ≡ length (of_sender (sender.Base n) order) =
     at.cell.last (n - 1) (omega (arith, from_one, most)) ∙ ap (λ (k : ℕ). length (of_sender (sender.Base k) order)) place in
-    let bound = sender_within_order (sender.Base n) order in
-    let within = order_within_entries (entries b) part.Cell e in
     let named : NamesDeed (type_of h.defs at.made.ty) name arguments d =
     subst (λ (ty : ℕ). NamesDeed (type_of h.defs ty) name arguments d) at.ty
     (subst (λ (k : Header). NamesDeed (type_of k.defs v.ty) name arguments d) was.header deed) in
@@ -152,6 +150,6 @@ call_named h b t who w name arguments n e number v d was short node spelled spel
       deed = named;
       part = deed_on_cell h.defs at.made.ty name arguments d named;
       next =
-          is ∙ omega (arith, count, bound, within, short)
+          is ∙ ap (λ (k : ℕ). k + 1) count
           ∙ ap (λ (xs : List Call). length xs + 1) (in_order_is_full b part.Cell e (sender.Base n));
     }

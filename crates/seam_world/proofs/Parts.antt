@@ -17,7 +17,7 @@ use Rattle.seam_call.specs.declared.call.Call.{Call}
 use Rattle.seam_call.specs.declared.create.Create.{Create}
 use Rattle.seam_transcript.specs.declared.header.Header.{Header}
 use Rattle.seam_transcript.specs.Orders.{of_sender}
-use Rattle.seam_transcript.proofs.InOrderLemmas.{flat_with_call, sender_within_order}
+use Rattle.seam_transcript.proofs.InOrderLemmas.{flat_with_call}
 use Rattle.seam_world.specs.Table.{PartRefines, Executes, with_last}
 use Rattle.seam_world.specs.declared.table.PartState.{PartState}
 use Rattle.seam_world.proofs.Writing.{same, differ}
@@ -70,11 +70,10 @@ length_with_last (sender.Client e) number last = refl
 -- a part that executed one more call refines the order with it
 pub part_with_call : (h : Header) (p : Part) (c : Create) (order done : List Call) (call : Call) (old new : PartState)
     → PartRefines h p c order done old → IsSender call.sender → call.number ≡ length (of_sender call.sender order) + 1 →
-    length order < 2 ^ 61
-    → Executes h.defs c.ty call old new → PartRefines h p c (order ++ call ∷ []) (done ++ call ∷ []) new
-part_with_call h p c order done call old new was proper number small step = record {
+    Executes h.defs c.ty call old new → PartRefines h p c (order ++ call ∷ []) (done ++ call ∷ []) new
+part_with_call h p c order done call old new was proper number step = record {
   state = step.state ∙ ap (λ (s : State). after (type_of h.defs c.ty) s call.deed) was.state ∙ sym (flat_with_call h p c order call);
-  version = step.version ∙ ap (λ (v : ℕ). min (v + 1) (2 ^ 64 - 1)) was.version ∙ omega (arith, small, length-append order (call ∷ []));
+  version = step.version ∙ ap (λ (v : ℕ). v + 1) was.version ∙ sym (length-append order (call ∷ []));
   done = step.done ∙ ap (λ (xs : List Call). xs ++ call ∷ []) was.done;
   last = λ k within. ap (λ (xs : List ℕ). slice_index xs k) step.last
       ∙ last_with_call call.sender call.number old.last order call refl proper number was.senders was.last k within;

@@ -58,7 +58,6 @@ module _ (began : SourceState) (sink : SinkState) (now later : SourceState) (rea
     later = now_later;
     run = run_with_line (Step g.header) (after_header g.count) g.rest g.pieces g.standing line taken.pieces taken.next g.run taken.step;
     refines = taken.refines;
-    lines = taken.lines ∙ ap (λ (n : ℕ). n + 1) g.lines ∙ sym (length-append g.read (line ∷ []));
   }
 
   so_far : PrintLines g.read g.header g.pieces g.standing
@@ -239,16 +238,6 @@ module _ (began : SourceState) (sink : SinkState) (now later : SourceState) (rea
         tells = (sym r.count ∙ here.0 ∙ limit ∙ g.limit, whole_open got here.1);
       }
 
--- the standing's lines are as few as the bytes
-pub few_lines : {began now : SourceState} {sink was : SinkState} {reader : Reader} {script : Script}
-    (g : Going began now reader sink was script) → g.standing.lines ≤ most_bytes
-few_lines g = let room = g.reading.room in let lines = g.lines in let most = g.limit in omega arith
-
--- a header has a line
-pub header_has_lines : {began now : SourceState} {reader : Reader} {h : Header} {count : ℕ} (has : HasHeader began now reader h count) →
-    0 < count
-header_has_lines has = let number = has.begins.number in omega arith
-
 -- the run goes on after the header
 pub after_a_header : (began now : SourceState) (reader : Reader) (sink : SinkState) (h : Header) (count : ℕ) (script : Script) →
     HasHeader began now reader h count
@@ -268,7 +257,6 @@ after_a_header began now reader sink h count script has refines = record {
   later = omega arith;
   run = (refl, refl);
   refines = refines;
-  lines = (let all = lines_of_header has.read h count [] has.begins in omega arith);
 }
 
 -- the fault line after what was written

@@ -21,17 +21,17 @@ use Rattle.seam_transcript.specs.declared.verdict.Verdict.TheVariants as verdict
 use Rattle.seam_transcript.proofs.InOrderLemmas.{entries_after_round}
 use Rattle.seam_world.specs.Table.{TableRefines}
 use Rattle.seam_world.specs.Text.{round_of}
-use Rattle.seam_world.specs.Script.{IsReady, HasFewer, Refines, ScriptRefines, HasCounted, RoundEnds, VerdictFollowed, LineRead, InputEnded}
+use Rattle.seam_world.specs.Script.{IsReady, ScriptRefines, RoundEnds, VerdictFollowed, LineRead, InputEnded}
 use Rattle.seam_world.specs.declared.script.Script.{Script}
 use Rattle.seam_world.specs.declared.table.Table.{Table}
 use Rattle.seam_world.proofs.Rounds.{table_round}
 
 -- ---- where a script begins
 
-pub script_begins : (h : Header) (count : ℕ) (s : Script) (t : Table) → 0 < count → s.line ≡ count → s.round ≡ 0 → s.accepted ≡ 0 →
+pub script_begins : (h : Header) (count : ℕ) (s : Script) (t : Table) → s.line ≡ count → s.round ≡ 0 → s.accepted ≡ 0 →
     s.table ≡ t → TableRefines h (record { past = []; current = [] }) t
     → ScriptRefines h (after_header count) s
-script_begins h count s t some line round accepted table was = record {
+script_begins h count s t line round accepted table was = record {
   ready =
       record {
         table = subst (TableRefines h (record { past = []; current = [] })) (sym table) was;
@@ -41,19 +41,18 @@ script_begins h count s t some line round accepted table was = record {
       };
   accepted = accepted;
   below_most = omega arith;
-  fewer = record { accepted = omega arith; ended = omega arith };
 }
 
 -- ---- rounds
 
 -- a round of the table ended
-pub round_ended : (h : Header) (t : Standing) (old new : Script) (defs : List TypeDef) → IsReady h t old → t.rounds < 2 ^ 62 →
+pub round_ended : (h : Header) (t : Standing) (old new : Script) (defs : List TypeDef) → IsReady h t old →
     defs ≡ old.table.header.defs
-    → new.round ≡ min (old.round + 1) (2 ^ 64 - 1) → new.line ≡ old.line → new.accepted ≡ 0 →
+    → new.round ≡ old.round + 1 → new.line ≡ old.line → new.accepted ≡ 0 →
     TableRefines h (with_round_ended t.book) new.table
     → RoundEnds h t new (round_text defs (round_of new.round old.table.entities.entries))
-round_ended h t old new defs ready few defs_are round line accepted table =
-    let number : new.round ≡ t.rounds + 1 = omega (arith, round, ready.round, few) in
+round_ended h t old new defs ready defs_are round line accepted table =
+    let number : new.round ≡ t.rounds + 1 = round ∙ ap (λ (n : ℕ). n + 1) ready.round in
     record {
       round = round_of (t.rounds + 1) old.table.entities.entries;
       legal = table_round h t old.table ready.table ready.orders;
@@ -65,22 +64,13 @@ round_ended h t old new defs ready few defs_are round line accepted table =
       accepted = accepted;
     }
 
--- of the entries after a round there are as many as before
-fewer_after_round : (t : Standing) → HasFewer 1 t → HasFewer 0 (after_round t)
-fewer_after_round t fewer =
-    let same = ap (λ (xs : List Entry). length xs) (entries_after_round t.book) in
-    let accepted = fewer.accepted in
-    let ended = fewer.ended in
-    record { accepted = omega (arith, same, accepted); ended = omega arith }
-
 -- the script after the round that ended refines the standing after it
-after_end : (h : Header) (t : Standing) (new : Script) (text : List ℕ) → HasFewer 1 t → RoundEnds h t new text →
+after_end : (h : Header) (t : Standing) (new : Script) (text : List ℕ) → RoundEnds h t new text →
     ScriptRefines h (after_round t) new
-after_end h t new text fewer ends = record {
+after_end h t new text ends = record {
   ready = ends.ready;
   accepted = ends.accepted;
   below_most = omega arith;
-  fewer = fewer_after_round t fewer;
 }
 
 one_piece : (defs : List TypeDef) (s : Standing) (r : RoundData) → text_of defs (Ended s r ∷ []) ≡ round_text defs r
@@ -88,41 +78,32 @@ one_piece defs s r = append-nil (round_text defs r)
 
 -- ---- verdicts
 
-fewer_still : (t : Standing) → HasFewer 1 t → HasFewer 0 t
-fewer_still t fewer = let accepted = fewer.accepted in let ended = fewer.ended in record { accepted = omega arith; ended = omega arith }
-
-still_refines : (h : Header) (t : Standing) (s : Script) → HasCounted h t s → ScriptRefines h t s
-still_refines h t s was =
-    record { ready = was.ready; accepted = was.accepted; below_most = was.below_most; fewer = fewer_still t was.fewer }
-
 -- the verdict under another name
 pub verdict_named : (h : Header) (t : Standing) (v w : Verdict) (new : Script) (text : List ℕ) → w ≡ v → VerdictFollowed h t v new text →
     VerdictFollowed h t w new text
 verdict_named h t v w new text is followed = subst (λ (x : Verdict). VerdictFollowed h t x new text) (sym is) followed
 
-pub skipped : (h : Header) (t : Standing) (s : Script) → HasCounted h t s → VerdictFollowed h t verdict.Skipped s []
-skipped h t s was = record { pieces = []; next = t; follows = (refl, refl); whole = refl; lines = refl; refines = still_refines h t s was }
+pub skipped : (h : Header) (t : Standing) (s : Script) → ScriptRefines h t s → VerdictFollowed h t verdict.Skipped s []
+skipped h t s was = record { pieces = []; next = t; follows = (refl, refl); whole = refl; refines = was }
 
-pub refused : (h : Header) (t : Standing) (s : Script) (c : Cause) → HasCounted h t s →
+pub refused : (h : Header) (t : Standing) (s : Script) (c : Cause) → ScriptRefines h t s →
     VerdictFollowed h t (verdict.Refused c) s (refusal s.line c)
 refused h t s c was = record {
   pieces = Refusal t.lines c ∷ [];
   next = t;
   follows = (refl, refl);
   whole = ap (λ (n : ℕ). refusal n c) was.ready.line ∙ sym (append-nil (refusal t.lines c));
-  lines = refl;
-  refines = still_refines h t s was;
+  refines = was;
 }
 
-pub synced : (h : Header) (t : Standing) (old new : Script) (text : List ℕ) → HasCounted h t old → RoundEnds h t new text →
+pub synced : (h : Header) (t : Standing) (old new : Script) (text : List ℕ) → ScriptRefines h t old → RoundEnds h t new text →
     VerdictFollowed h t verdict.Synced new text
 synced h t old new text was ends = record {
   pieces = Ended t ends.round ∷ [];
   next = after_round t;
   follows = (ends.round, refl, ends.legal);
   whole = ends.whole ∙ sym (one_piece h.defs t ends.round);
-  lines = refl;
-  refines = after_end h t new text was.fewer ends;
+  refines = after_end h t new text ends;
 }
 
 -- a book with one more entry
@@ -137,26 +118,19 @@ count_of_lines : (b : Book) (x : Entry) → open_lines (with_entry b x) ≡ open
 count_of_lines b x = length-append b.current (x ∷ [])
 
 -- a script whose table has one more entry may end the round
-pub kept_ready : (h : Header) (t : Standing) (x : Entry) (old new : Script) → HasCounted h t old →
+pub kept_ready : (h : Header) (t : Standing) (x : Entry) (old new : Script) → ScriptRefines h t old →
     TableRefines h (with_entry t.book x) new.table → new.line ≡ old.line → new.round ≡ old.round
     → IsReady h (with_book t (with_entry t.book x)) new
 kept_ready h t x old new was table line round =
     record { table = table; orders = was.ready.orders; line = line ∙ was.ready.line; round = round ∙ was.ready.round }
 
-fewer_kept : (t : Standing) (x : Entry) → HasFewer 1 t → HasFewer 0 (with_book t (with_entry t.book x))
-fewer_kept t x fewer =
-    let accepted = fewer.accepted in
-    let ended = fewer.ended in
-    let count = count_of_entries t.book x in
-    record { accepted = omega (arith, count, accepted); ended = omega arith }
-
 -- the line filled the round, which ended
-pub kept_last : (h : Header) (t : Standing) (x : Entry) (old new : Script) (text : List ℕ) → HasCounted h t old →
-    min (old.accepted + 1) (2 ^ 64 - 1) ≡ most_lines
+pub kept_last : (h : Header) (t : Standing) (x : Entry) (old new : Script) (text : List ℕ) → ScriptRefines h t old →
+    most_lines ≤ old.accepted + 1
     → RoundEnds h (with_book t (with_entry t.book x)) new text → VerdictFollowed h t (verdict.Accepted x) new text
 kept_last h t x old new text was full ends =
     let at : Standing = with_book t (with_entry t.book x) in
-    let count : open_lines at.book ≡ most_lines = count_of_lines t.book x ∙ omega (arith, full, was.accepted) in
+    let count : open_lines at.book ≡ most_lines = count_of_lines t.book x ∙ omega (arith, full, was.accepted, was.below_most) in
     let test : (open_lines at.book == most_lines) ≡ true = grind (arith, common_steps, count) in
     let pieces : List Piece = Ended at ends.round ∷ [] in
     record {
@@ -166,23 +140,16 @@ kept_last h t x old new text was full ends =
           subst (λ (b : Bool). MatchBool b (EndsRound h at pieces (after_round at)) ((pieces ≡ []) × (after_round at ≡ at))) (sym test)
           (ends.round, refl, ends.legal);
       whole = ends.whole ∙ sym (one_piece h.defs at ends.round);
-      lines = refl;
       refines = record {
         ready = ends.ready;
         accepted = ends.accepted;
         below_most = omega arith;
-        fewer = (
-            let same = ap (λ (xs : List Entry). length xs) (entries_after_round at.book) in
-            let more = count_of_entries t.book x in
-            let accepted = was.fewer.accepted in
-            let ended = was.fewer.ended in
-            record { accepted = omega (arith, same, more, accepted); ended = omega arith });
       };
     }
 
 -- it did not
-pub kept_open : (h : Header) (t : Standing) (x : Entry) (old new : Script) → HasCounted h t old →
-    new.accepted ≡ min (old.accepted + 1) (2 ^ 64 - 1) → new.accepted ≢ most_lines
+pub kept_open : (h : Header) (t : Standing) (x : Entry) (old new : Script) → ScriptRefines h t old →
+    new.accepted ≡ old.accepted + 1 → old.accepted + 1 < most_lines
     → TableRefines h (with_entry t.book x) new.table → new.line ≡ old.line → new.round ≡ old.round →
     VerdictFollowed h t (verdict.Accepted x) new []
 kept_open h t x old new was accepted_now less table line round =
@@ -197,34 +164,29 @@ kept_open h t x old new was accepted_now less table line round =
       next = at;
       follows = subst (λ (b : Bool). MatchBool b (EndsRound h at [] at) ((◌≡◌ {A = List Piece} [] []) × (at ≡ at))) (sym test) (refl, refl);
       whole = refl;
-      lines = refl;
       refines = record {
         ready = kept_ready h t x old new was table line round;
         accepted = count;
         below_most = omega (arith, count, less, below, lines);
-        fewer = fewer_kept t x was.fewer;
       };
     }
 
 -- ---- lines
 
 -- the script after it counted a line
-pub has_counted : (h : Header) (t : Standing) (old new : Script) → ScriptRefines h t old → t.lines < 2 ^ 61 →
-    new.line ≡ min (old.line + 1) (2 ^ 64 - 1)
-    → new.table ≡ old.table → new.round ≡ old.round → new.accepted ≡ old.accepted → HasCounted h (with_line t) new
-has_counted h t old new was few line table round accepted =
-    let fewer = was.fewer.accepted in
-    let ended = was.fewer.ended in
+pub has_counted : (h : Header) (t : Standing) (old new : Script) → ScriptRefines h t old →
+    new.line ≡ old.line + 1
+    → new.table ≡ old.table → new.round ≡ old.round → new.accepted ≡ old.accepted → ScriptRefines h (with_line t) new
+has_counted h t old new was line table round accepted =
     record {
       ready = record {
         table = subst (TableRefines h t.book) (sym table) was.ready.table;
         orders = was.ready.orders;
-        line = omega (arith, line, was.ready.line, few);
+        line = line ∙ ap (λ (n : ℕ). n + 1) was.ready.line;
         round = round ∙ was.ready.round;
       };
       accepted = accepted ∙ was.accepted;
       below_most = was.below_most;
-      fewer = record { accepted = omega arith; ended = omega arith };
     }
 
 -- the verdict on it was followed
@@ -235,7 +197,6 @@ line_read h t line v new text judges followed = record {
   next = followed.next;
   step = (v, judges, followed.follows);
   whole = followed.whole;
-  lines = followed.lines;
   refines = followed.refines;
 }
 

@@ -41,7 +41,6 @@ pub record Going (began now : SourceState) (reader : Reader) (sink now' : SinkSt
   pub later : sink.faults ≤ now'.faults
   pub run : Run (Step header) (after_header count) rest pieces standing
   pub refines : ScriptRefines header standing script
-  pub lines : standing.lines ≡ length read
 
 -- The run has ended with this status, but for the fault line.
 pub record Stopped (ended : Status) (began now : SourceState) (sink now' : SinkState) : Type 0 where

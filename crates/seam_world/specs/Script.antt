@@ -19,25 +19,11 @@ pub record IsReady (h : Header) (t : Standing) (s : Script) : Type 0 where
   pub line : s.line ≡ t.lines
   pub round : s.round ≡ t.rounds
 
--- fewer lines were accepted, and fewer rounds ended, than lines were read: even with so many more
-pub record HasFewer (more : ℕ) (t : Standing) : Type 0 where
-  pub accepted : length (entries t.book) + more < t.lines
-  pub ended : t.rounds + more < t.lines
-
--- the script refines the standing, where so many more lines may be accepted
-pub record Refines (more : ℕ) (h : Header) (t : Standing) (s : Script) : Type 0 where
+-- the script refines the standing
+pub record ScriptRefines (h : Header) (t : Standing) (s : Script) : Type 0 where
   pub ready : IsReady h t s
   pub accepted : s.accepted ≡ open_lines t.book
   pub below_most : open_lines t.book < most_lines
-  pub fewer : HasFewer more t
-
--- the script is between two lines
-abbrev pub ScriptRefines : Header → Standing → Script → Type 0
-ScriptRefines h t s = Refines 0 h t s
-
--- the script has counted a line, of which nothing has followed
-abbrev pub HasCounted : Header → Standing → Script → Type 0
-HasCounted h t s = Refines 1 h t s
 
 -- the open round ended with this text
 pub record RoundEnds (h : Header) (t : Standing) (new : Script) (text : List ℕ) : Type 0 where
@@ -53,7 +39,6 @@ pub record VerdictFollowed (h : Header) (t : Standing) (v : Verdict) (new : Scri
   pub next : Standing
   pub follows : Follows h t v pieces next
   pub whole : text ≡ text_of h.defs pieces
-  pub lines : next.lines ≡ t.lines
   pub refines : ScriptRefines h next new
 
 -- a line was read, with this text
@@ -62,7 +47,6 @@ pub record LineRead (h : Header) (t : Standing) (line : Line) (new : Script) (te
   pub next : Standing
   pub step : Step h t line pieces next
   pub whole : text ≡ text_of h.defs pieces
-  pub lines : next.lines ≡ t.lines + 1
   pub refines : ScriptRefines h next new
 
 -- the input ended, with this text

@@ -47,10 +47,6 @@ pub record TableRefines (h : Header) (b : Book) (t : Table) : Type 0 where
   pub ordered : IsOrdered nat_cmp t.entities
   pub uncalled : (p : Part) (e : ℕ) → created_as b e ≡ None → in_order (entries b) p e ≡ []
 
--- so few lines were accepted that no count of them comes to its end
-abbrev pub IsShort : Book → Type 0
-IsShort b = length (entries b) < 2 ^ 61
-
 -- ---- what the parts of the table do
 
 -- a part that executed nothing
@@ -75,7 +71,7 @@ with_last (sender.Client e) number last = last
 -- a part executed a call
 pub record Executes (defs : List TypeDef) (ty : ℕ) (call : Call) (old new : PartState) : Type 0 where
   pub state : new.state ≡ after (type_of defs ty) old.state call.deed
-  pub version : new.version ≡ min (old.version + 1) (2 ^ 64 - 1)
+  pub version : new.version ≡ old.version + 1
   pub done : new.done.items ≡ old.done.items ++ call ∷ []
   pub last : new.last ≡ with_last call.sender call.number old.last
 

@@ -162,7 +162,7 @@ fn print_line<K: Sink>(
     out: &mut K,
 ) -> Option<Status>
     requires { length line.now ≤ 4096 }
-    ensures prints { (h : Headers) (t : Standing) → ScriptRefines h t script.old → t.lines < 2 ^ 61 →
+    ensures prints { (h : Headers) (t : Standing) → ScriptRefines h t script.old →
         Prints (LineRead h t (Content line.now) script.new) (K.state out.old) (K.state out.new) result }
     ensures later { (K.state out.old).faults ≤ (K.state out.new).faults }
 {
@@ -174,7 +174,7 @@ fn print_line<K: Sink>(
 }
 
 fn print_long<K: Sink>(script: &mut Script, text: &mut Vec<u8>, out: &mut K) -> Option<Status>
-    ensures prints { (h : Headers) (t : Standing) → ScriptRefines h t script.old → t.lines < 2 ^ 61 →
+    ensures prints { (h : Headers) (t : Standing) → ScriptRefines h t script.old →
         Prints (LineRead h t Long script.new) (K.state out.old) (K.state out.new) result }
     ensures later { (K.state out.old).faults ≤ (K.state out.new).faults }
 {
@@ -186,7 +186,7 @@ fn print_long<K: Sink>(script: &mut Script, text: &mut Vec<u8>, out: &mut K) -> 
 }
 
 fn print_last<K: Sink>(script: &mut Script, text: &mut Vec<u8>, out: &mut K) -> Option<Status>
-    ensures prints { (h : Headers) (t : Standing) → ScriptRefines h t script.old → t.lines < 2 ^ 61 →
+    ensures prints { (h : Headers) (t : Standing) → ScriptRefines h t script.old →
         Prints (InputEnded h t) (K.state out.old) (K.state out.new) result }
     ensures later { (K.state out.old).faults ≤ (K.state out.new).faults }
 {

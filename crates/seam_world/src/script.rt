@@ -4,8 +4,9 @@ ghost use Rattle.seam_io.specs.Lines.{Line as Lines, Content, Long};
 ghost use Rattle.seam_transcript.specs.declared.header.Header.{Header as Headers};
 ghost use Rattle.seam_transcript.specs.Book.{Judges};
 ghost use Rattle.seam_transcript.specs.Standing.{Standing, after_header};
-ghost use Rattle.seam_world.specs.Script.{IsReady, ScriptRefines, HasCounted, RoundEnds, VerdictFollowed, LineRead, InputEnded};
+ghost use Rattle.seam_world.specs.Script.{IsReady, ScriptRefines, RoundEnds, VerdictFollowed, LineRead, InputEnded};
 
+use crate::count::next_count;
 use crate::table::Table;
 use crate::text::push_round;
 use seam_accept::read_line;
@@ -28,7 +29,7 @@ pub struct Script {
 impl Script {
     /// A script after a header of so many lines.
     pub fn new(alloc: Global, header: Header, lines: u64) -> Self
-        ensures { 0 < lines → ScriptRefines header (after_header lines) result }
+        ensures { ScriptRefines header (after_header lines) result }
     {
         Script {
             table: Table::new(alloc, header),
@@ -41,10 +42,10 @@ impl Script {
     /// Reads the next line, and appends what is printed for it.
     pub fn read_line(&mut self, line: &[u8], out: &mut Vec<u8>) -> Result<(), AllocError>
         requires { length line.now ≤ 4096 }
-        ensures { OnOk result ((h : Headers) (t : Standing) → ScriptRefines h t self.old → t.lines < 2 ^ 61
+        ensures { OnOk result ((h : Headers) (t : Standing) → ScriptRefines h t self.old
             → (text : List ℕ) × LineRead h t (Content line.now) self.new text × (out.new.items ≡ out.old.items ++ text)) }
     {
-        self.line = self.line.saturating_add(1);
+        self.line = next_count(self.line)?;
         let verdict = self.verdict_on(line)?;
         self.follow(verdict, out)
     }
@@ -52,7 +53,7 @@ impl Script {
     // The verdict on a line.
     fn verdict_on(&self, line: &[u8]) -> Result<Verdict, AllocError>
         requires { length line.now ≤ 4096 }
-        ensures { IfOk result (λ v. (h : Headers) (t : Standing) → HasCounted h t self.now → t.lines ≤ 2 ^ 61
+        ensures { IfOk result (λ v. (h : Headers) (t : Standing) → ScriptRefines h t self.now
             → Judges h t.book (Content line.now) v) }
     {
         let mut table: [&[u8]; Words::MOST] = [b""; Words::MOST];
@@ -67,17 +68,16 @@ impl Script {
 
     /// Reads a line that is too long.
     pub fn read_long(&mut self, out: &mut Vec<u8>) -> Result<(), AllocError>
-        ensures { OnOk result ((h : Headers) (t : Standing) → ScriptRefines h t self.old → t.lines < 2 ^ 61
+        ensures { OnOk result ((h : Headers) (t : Standing) → ScriptRefines h t self.old
             → (text : List ℕ) × LineRead h t Long self.new text × (out.new.items ≡ out.old.items ++ text)) }
     {
-        self.line = self.line.saturating_add(1);
+        self.line = next_count(self.line)?;
         self.follow(Verdict::Refused(Cause::TooLong), out)
     }
 
     // Does what a verdict on a line asks for, and appends what is printed.
     fn follow(&mut self, verdict: Verdict, out: &mut Vec<u8>) -> Result<(), AllocError>
-        ensures { OnOk result ((h : Headers) (t : Standing) (line : Lines) → HasCounted h t self.old → Judges h t.book line verdict
-            → t.lines ≤ 2 ^ 61
+        ensures { OnOk result ((h : Headers) (t : Standing) (line : Lines) → ScriptRefines h t self.old → Judges h t.book line verdict
             → (text : List ℕ) × VerdictFollowed h t verdict self.new text × (out.new.items ≡ out.old.items ++ text)) }
     {
         match verdict {
@@ -85,10 +85,10 @@ impl Script {
             Verdict::Refused(cause) => push_refusal(out, self.line, cause),
             Verdict::Accepted(entry) => {
                 self.table.accept(entry)?;
-                self.accepted = self.accepted.saturating_add(1);
-                if self.accepted == MOST_LINES {
+                if self.accepted >= MOST_LINES - 1 {
                     return self.end_round(out);
                 }
+                self.accepted += 1;
                 Ok(())
             }
             Verdict::Synced => self.end_round(out),
@@ -97,10 +97,10 @@ impl Script {
 
     // Ends the open round, whose text is appended.
     fn end_round(&mut self, out: &mut Vec<u8>) -> Result<(), AllocError>
-        ensures { OnOk result ((h : Headers) (t : Standing) → IsReady h t self.old → t.rounds < 2 ^ 62
+        ensures { OnOk result ((h : Headers) (t : Standing) → IsReady h t self.old
             → (text : List ℕ) × RoundEnds h t self.new text × (out.new.items ≡ out.old.items ++ text)) }
     {
-        self.round = self.round.saturating_add(1);
+        self.round = next_count(self.round)?;
         push_round(out, self.round, &self.table)?;
         self.table.start_round();
         self.accepted = 0;
@@ -109,7 +109,7 @@ impl Script {
 
     /// Ends the input, and appends the text of a last round, if there is one.
     pub fn finish(&mut self, out: &mut Vec<u8>) -> Result<(), AllocError>
-        ensures { OnOk result ((h : Headers) (t : Standing) → ScriptRefines h t self.old → t.lines < 2 ^ 61
+        ensures { OnOk result ((h : Headers) (t : Standing) → ScriptRefines h t self.old
             → (text : List ℕ) × InputEnded h t text × (out.new.items ≡ out.old.items ++ text)) }
     {
         if self.accepted == 0 {

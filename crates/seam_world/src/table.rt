@@ -11,9 +11,10 @@ ghost use Rattle.seam_transcript.specs.Language.{Command as Commands, Create as 
 ghost use Rattle.seam_transcript.specs.Book.{Book, empty_book, with_entry, with_round_ended, created_as, MayCreate, NamesCall, Means};
 ghost use Rattle.seam_transcript.specs.FlatTable.{first_state};
 ghost use Rattle.seam_accept.specs.Commands.{texts_of, JudgesCommand};
-ghost use Rattle.seam_world.specs.Table.{TableRefines, IsShort, IsNew, with_last, Executes, EntityExecutes, TableExecutes, ForgetsDone};
+ghost use Rattle.seam_world.specs.Table.{TableRefines, IsNew, with_last, Executes, EntityExecutes, TableExecutes, ForgetsDone};
 ghost use Rattle.seam_world.specs.Table.{StartsRound};
 
+use crate::count::next_count;
 use seam_accept::{CallWords, Command, CreateWords, Form, base_named, create_named, deed_named};
 use seam_call::{BaseNode, Call, Create, MOST_BASE_NODES, Sender};
 use seam_defs::{Deed, Defs, Part, State};
@@ -65,20 +66,21 @@ impl PartState {
     }
 
     // The number of a base node's next call.
-    fn next_number(&self, node: BaseNode) -> u64
-        ensures { result ≡ min (slice_index self.now.last (node - 1) + 1) (2 ^ 64 - 1) }
+    fn next_number(&self, node: BaseNode) -> Result<u64, AllocError>
+        ensures { IfOk result (λ n. n ≡ slice_index self.now.last (node - 1) + 1) }
     {
-        self.last[node.place()].saturating_add(1)
+        next_count(self.last[node.place()])
     }
 
     // Executes a call, which has its sender's next number.
     fn execute(&mut self, defs: &Defs, ty: u16, call: Call) -> Result<(), AllocError>
         ensures { OnOk result (Executes defs.now ty call self.old self.new) }
     {
+        let version = next_count(self.version)?;
         let _changed = defs.type_at(ty).apply(&mut self.state, &call.deed)?;
         self.keep_last(&call);
         self.done.push(call)?;
-        self.version = self.version.saturating_add(1);
+        self.version = version;
         Ok(())
     }
 
@@ -102,23 +104,23 @@ impl PartState {
 
 impl Entity {
     // A base node's next call for the cell part of the entity, which has this number.
-    fn next_call(&self, entity: u32, node: BaseNode, deed: Deed) -> Call
-        ensures { result ≡ record {
+    fn next_call(&self, entity: u32, node: BaseNode, deed: Deed) -> Result<Call, AllocError>
+        ensures { IfOk result (λ call. call ≡ record {
           entity = entity;
           part = Part.Cell;
           sender = Sender.Base node;
-          number = min (slice_index self.now.cell.last (node - 1) + 1) (2 ^ 64 - 1);
+          number = slice_index self.now.cell.last (node - 1) + 1;
           deed = deed;
-        } }
+        }) }
     {
-        let number = self.cell.next_number(node);
-        Call {
+        let number = self.cell.next_number(node)?;
+        Ok(Call {
             entity,
             part: Part::Cell,
             sender: Sender::Base(node),
             number,
             deed,
-        }
+        })
     }
 
     // Executes a call on the part that it is for.
@@ -167,7 +169,7 @@ impl Table {
 
     /// The verdict on a command.
     pub fn judge(&self, command: &Command) -> Result<Verdict, AllocError>
-        ensures { IfOk result (λ v. (h : Headers) (b : Book) → TableRefines h b self.now → IsShort b → JudgesCommand h b command.now v) }
+        ensures { IfOk result (λ v. (h : Headers) (b : Book) → TableRefines h b self.now → JudgesCommand h b command.now v) }
     {
         match command.form() {
             Form::Create(words) => Ok(self.judge_create(words)),
@@ -203,7 +205,7 @@ impl Table {
     // A call is executed, unless there is no such sender, entity or method, or the arguments are no spellings of what the method
     // takes.
     fn judge_call(&self, words: &CallWords) -> Result<Verdict, AllocError>
-        ensures { IfOk result (λ v. (h : Headers) (b : Book) → TableRefines h b self.now → IsShort b
+        ensures { IfOk result (λ v. (h : Headers) (b : Book) → TableRefines h b self.now
             → JudgesCommand h b (CallCommand words.now.sender_name.now words.now.entity.now words.now.method_name.now
             (texts_of words.now.arguments.now)) v) }
     {
@@ -215,7 +217,7 @@ impl Table {
 
     // The call that words name.
     fn call_named(&self, words: &CallWords) -> Result<Option<Call>, AllocError>
-        ensures { IfOk result (λ named. (h : Headers) (b : Book) → TableRefines h b self.now → IsShort b → MatchOption named
+        ensures { IfOk result (λ named. (h : Headers) (b : Book) → TableRefines h b self.now → MatchOption named
             ((c : Calls) →
             ¬ (NamesCall h b words.now.sender_name.now words.now.entity.now words.now.method_name.now (texts_of words.now.arguments.now)
             c))
@@ -238,14 +240,14 @@ impl Table {
             words.method_name,
             words.arguments,
         )? {
-            Some(deed) => Ok(Some(called.next_call(entity, node, deed))),
+            Some(deed) => Ok(Some(called.next_call(entity, node, deed)?)),
             None => Ok(None),
         }
     }
 
     /// Adds what an accepted command brings.
     pub fn accept(&mut self, entry: Entry) -> Result<(), AllocError>
-        ensures { OnOk result ((h : Headers) (b : Book) (c : Commands) → TableRefines h b self.old → IsShort b → Means h b c entry
+        ensures { OnOk result ((h : Headers) (b : Book) (c : Commands) → TableRefines h b self.old → Means h b c entry
             → TableRefines h (with_entry b entry) self.new) }
     {
         match entry {

@@ -1,6 +1,6 @@
 use Rattle.std.proofs.Common.{[], refl, arith, ◌∙◌}
 use Rattle.std.proofs.KnownBytes.{Consumes-nil}
-use Rattle.seam_world.proofs.RunLemmas.{nothing_judged, after_a_header, header_has_lines}
+use Rattle.seam_world.proofs.RunLemmas.{nothing_judged, after_a_header}
 use Rattle.seam_world.proofs.run.run_body.Goals as goal
 
 pub returns-in-Err-clause-stopped : goal.returns-in-Err-clause-stopped
@@ -14,4 +14,4 @@ pub returns-clause-stopped : goal.returns-clause-stopped
 returns-clause-stopped g c =
     let has =
     c.in-Ok-read_header.ensures.header _ (g.K.Sink.state c.args.out.now) (c.in-Ok.ensures.reads _) (rw c.in-Ok.ensures.fresh refl) in
-    c.run_lines.ensures.history _ _ (after_a_header _ _ _ _ _ _ _ has (c.new-script.ensures (header_has_lines has)))
+    c.run_lines.ensures.history _ _ (after_a_header _ _ _ _ _ _ _ has c.new-script.ensures)

@@ -7,9 +7,9 @@ use Rattle.seam_world.proofs.script.Script.read_line.Goals as goal
 
 pub returns : goal.returns
 returns c = on_ok c.follow.result
-    (λ followed h t was few.
-    let counted = has_counted h t c.args.self.now _ was few c.saturating_add-self.ensures refl refl refl in
-    let judges = c.in_ok-verdict.ensures h (with_line t) counted (omega arith) in
-    let f = followed h (with_line t) (Content c.args.line.now) counted judges (omega arith) in
+    (λ followed h t was.
+    let counted = has_counted h t c.args.self.now _ was c.in_ok-self.ensures refl refl refl in
+    let judges = c.in_ok-verdict.ensures h (with_line t) counted in
+    let f = followed h (with_line t) (Content c.args.line.now) counted judges in
     (f.0, line_read h t (Content c.args.line.now) c.in_ok-verdict.verdict c.follow.new.self f.0 judges f.1, f.2))
     c.follow.ensures

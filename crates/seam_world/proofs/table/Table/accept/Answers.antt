@@ -9,15 +9,15 @@ use Rattle.seam_world.proofs.table.Table.accept.Goals as goal
 
 pub returns-in-Called : goal.returns-in-Called
 returns-in-Called c = on_ok c.execute.result
-    (λ step h b command was short means.
+    (λ step h b command was means.
     subst (λ (x : Entry). TableRefines h (with_entry b x) c.execute.new.self) (sym c.in-Called.is)
-    (accepted_call h b c.args.self.now c.execute.new.self c.in-Called.call command was short
+    (accepted_call h b c.args.self.now c.execute.new.self c.in-Called.call command was
     (subst (Means h b command) c.in-Called.is means) step))
     c.execute.ensures
 
 pub returns-in-Created : goal.returns-in-Created
 returns-in-Created c = on_ok c.make.result
-    (λ made h b command was short means.
+    (λ made h b command was means.
     subst (λ (x : Entry). TableRefines h (with_entry b x) c.make.new.self) (sym c.in-Created.is)
     (made h b was (create_of_means h b c.in-Created.create command (subst (Means h b command) c.in-Created.is means))))
     c.make.ensures
