@@ -7,8 +7,9 @@ ghost use Rattle.seam_transcript.specs.declared.header.Header.{Header};
 ghost use Rattle.seam_transcript.specs.declared.verdict.Verdict.TheVariants.{Refused};
 ghost use Rattle.seam_accept.specs.Commands.{texts_of, command_of};
 
+use seam_io::LONGEST_LINE;
 use seam_transcript::Cause;
-use seam_words::{Words, words_of_line};
+use seam_words::{MOST_WORDS, words_of_line};
 use std::marker::Model;
 
 /// The words of a `create`: make an entity of a type at a position.
@@ -71,9 +72,9 @@ impl<'a, 'b> Command<'a, 'b> {
 /// Reads a line, with a table for its words: None where it has none, and else its command, or why each book refuses it.
 pub fn read_line<'a, 'b>(
     line: &'a [u8],
-    table: &'b mut [&'a [u8]; Words::MOST],
+    table: &'b mut [&'a [u8]; MOST_WORDS],
 ) -> Result<Option<Command<'a, 'b>>, Cause>
-    requires { length line.now ≤ 4096 }
+    requires { length line.now ≤ LONGEST_LINE }
     ensures command { IfOk result (λ read. MatchOption read (IsSkipped line.now) (λ c. ¬ (IsSkipped line.now) × SpellsCommand line.now c)) }
     ensures cause { IfErr result (λ cause. (h : Header) (b : Book) → Judges h b (Content line.now) (Refused cause)) }
 {

@@ -10,8 +10,8 @@ ghost use Rattle.seam_transcript.specs.Book.{IsBuilt, NamesType, NamesCreate, Na
 ghost use Rattle.seam_accept.specs.Commands.{texts_of};
 
 use crate::CreateWords;
-use seam_call::{BaseNode, Create, MOST_BASE_NODES, Sender};
-use seam_defs::{Args, Deed, Defs, Method, Part, TypeDef};
+use seam_call::{BaseNode, Create, Sender};
+use seam_defs::{Args, Deed, Defs, MOST_BASE_NODES, Method, Part, TypeDef};
 use seam_geo::Pos;
 use seam_transcript::Header;
 use seam_value::{Value, ValueError, ValueType, positive_number, whole_number};
@@ -42,7 +42,7 @@ pub fn base_named(name: &[u8], bases: u32) -> Option<BaseNode>
 fn is_base_node(number: u32, bases: u32) -> bool
     ensures { IsTrue result ↔ IsBaseNodeOf bases number }
 {
-    1 <= number && number <= MOST_BASE_NODES as u32 && number <= bases
+    1 <= number && number <= MOST_BASE_NODES && number <= bases
 }
 
 /// The entity that the words of a `create` name: None where its number is none from 1 on, no type of calls that are built has

@@ -1,6 +1,7 @@
 -- Who sends calls.
 use Rattle.std.specs.Prelude.{ℕ, ◌+◌, Bool, false, ◌==◌}
-use Rattle.seam_call.specs.BaseNodes.{most_base_nodes, IsBaseNode}
+use Rattle.seam_defs.specs.declared.limits.TheConstants.{MOST_BASE_NODES}
+use Rattle.seam_call.specs.BaseNodes.{IsBaseNode}
 use Rattle.seam_call.specs.declared.sender.Sender.{Sender}
 use Rattle.seam_call.specs.declared.sender.Sender.TheVariants.{Base, Client}
 
@@ -14,7 +15,7 @@ same_sender (Client d) (Base n) = false
 -- the place of a sender in the order of senders: base nodes first, then clients, each kind by its number
 abbrev pub rank_of : Sender → ℕ
 rank_of (Base n) = n
-rank_of (Client e) = most_base_nodes + 1 + e
+rank_of (Client e) = MOST_BASE_NODES + 1 + e
 
 -- a base node's number is that of a base node
 abbrev pub IsSender : Sender → Type 0

@@ -1,11 +1,9 @@
 // The base nodes of a world.
 ghost use Rattle.std.specs.Prelude.{◌≡◌, ◌↔◌, ◌+◌, ◌<◌, IsSome, IfSome};
-ghost use Rattle.seam_call.specs.BaseNodes.{most_base_nodes, IsBaseNode};
+ghost use Rattle.seam_call.specs.BaseNodes.{IsBaseNode};
 
+use seam_defs::MOST_BASE_NODES;
 use std::marker::Model;
-
-/// The most base nodes of a world.
-pub const MOST_BASE_NODES: usize = 8;
 
 /// A base node, by its number from 1 to 8: the node that keeps the base parts of entities, and takes the calls of the world
 /// outside. Contracts see the number.
@@ -33,7 +31,7 @@ impl BaseNode {
         ensures some { IsSome result ↔ IsBaseNode number }
         ensures number { IfSome result (λ b. b ≡ number) }
     {
-        if 1 <= number && number <= MOST_BASE_NODES as u32 {
+        if 1 <= number && number <= MOST_BASE_NODES {
             Some(BaseNode {
                 number: number as u8,
             })
@@ -61,7 +59,7 @@ impl BaseNode {
     /// Its place among the base nodes, from 0 on: an index of a list with one item for each of them.
     pub fn place(self) -> usize
         ensures place { result + 1 ≡ self }
-        ensures most { result < most_base_nodes }
+        ensures most { result < MOST_BASE_NODES }
     {
         self.number as usize - 1
     }

@@ -1,7 +1,8 @@
 ghost use Rattle.std.specs.Prelude.{◌≡◌};
 ghost use Rattle.seam_call.specs.Senders.{IsSender, rank_of};
 
-use crate::{BaseNode, MOST_BASE_NODES};
+use crate::BaseNode;
+use seam_defs::MOST_BASE_NODES;
 
 /// A sender of calls.
 #[derive(Clone, Copy, Debug, PartialEq, Eq)]

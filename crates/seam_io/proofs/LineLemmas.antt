@@ -11,13 +11,14 @@ use Rattle.std.proofs.lemmas.List.{take-append-drop}
 use Rattle.seam_io.specs.Steps.{IsFeedAt}
 use Rattle.seam_io.specs.Lines.{Line, Content, Long, is_feed, line_of, lines_between, whole_between, lines_of, whole_lines_of, lines_left}
 use Rattle.seam_io.specs.Lines.{HasNoFeed}
+use Rattle.seam_io.specs.declared.lines.TheConstants.{LONGEST_LINE}
 
 -- ---- one line
 
-pub line_of-long : (text : List ℕ) → 4096 < length text → line_of text ≡ Long
+pub line_of-long : (text : List ℕ) → LONGEST_LINE < length text → line_of text ≡ Long
 line_of-long text long = grind (arith, common_steps)
 
-pub line_of-short : (text : List ℕ) → length text ≤ 4096 → line_of text ≡ Content (strip_carriage_return text)
+pub line_of-short : (text : List ℕ) → length text ≤ LONGEST_LINE → line_of text ≡ Content (strip_carriage_return text)
 line_of-short text short = grind (arith, common_steps)
 
 -- ---- no line feed
@@ -84,7 +85,7 @@ unfolding lines_of
 lines_of-last [] h some = absurd (omega arith)
 lines_of-last (b ∷ bs) h some = ap lines_between (slice_split_none is_feed (b ∷ bs) h) ∙ grind (arith, common_steps)
 
-let_go_at : (t : Bool) (prefix : List ℕ) (b : ℕ) (bs : List ℕ) → is_feed b ≡ t → HasNoFeed prefix → 4096 < length prefix
+let_go_at : (t : Bool) (prefix : List ℕ) (b : ℕ) (bs : List ℕ) → is_feed b ≡ t → HasNoFeed prefix → LONGEST_LINE < length prefix
     → (is_feed b ≡ false → lines_of ((prefix ++ b ∷ []) ++ bs) ≡ Long ∷ lines_of (after_first is_feed bs))
     → lines_of (prefix ++ b ∷ bs) ≡ Long ∷ lines_of (after_first is_feed (b ∷ bs))
 let_go_at true prefix b bs e h long later =
@@ -94,7 +95,7 @@ let_go_at false prefix b bs e h long later =
     ap lines_of (sym (append_assoc prefix (b ∷ []) bs)) ∙ later e ∙ ap (λ rest. Long ∷ lines_of rest) (sym (after_first-cons b bs e))
 
 -- the prefix of a line that is too long may be let go
-pub lines_of-let_go : (prefix more : List ℕ) → HasNoFeed prefix → 4096 < length prefix →
+pub lines_of-let_go : (prefix more : List ℕ) → HasNoFeed prefix → LONGEST_LINE < length prefix →
     lines_of (prefix ++ more) ≡ Long ∷ lines_of (after_first is_feed more)
 lines_of-let_go prefix [] h long =
     ap lines_of (append-nil prefix) ∙ lines_of-last prefix h (omega arith) ∙ ap (λ l. l ∷ []) (line_of-long prefix long)
@@ -217,7 +218,7 @@ left_one true held h = (Long, ap (λ rest. Long ∷ lines_of rest) (after_first-
 left_one false held h = (line_of held, lines_of-fed held [] h ∙ ap (λ ls. line_of held ∷ ls) lines_of-none)
 
 -- the prefix of a line that is too long may be let go, and more of it
-pub left_let_go : (passing : Bool) (held more : List ℕ) → HasNoFeed held → (passing ≡ true) ⊎ (4096 < length held)
+pub left_let_go : (passing : Bool) (held more : List ℕ) → HasNoFeed held → (passing ≡ true) ⊎ (LONGEST_LINE < length held)
     → lines_left passing (held ++ more) ≡ lines_left true more
 left_let_go true held more h long = ap (λ rest. Long ∷ lines_of rest) (after_first-append held more h)
 left_let_go false held more h (inl passing) = cc

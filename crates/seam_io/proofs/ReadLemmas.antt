@@ -18,6 +18,7 @@ use Rattle.seam_io.specs.declared.lines.Next.{Next}
 use Rattle.seam_io.specs.declared.lines.Next.TheVariants as next
 use Rattle.seam_io.proofs.LineLemmas.{no_feed_append, no_feed_tail, lines_of-none, lines_of-whole, left_one, some_line}
 use Rattle.seam_io.proofs.StepLemmas.{reader_of, same_but_held}
+use Rattle.seam_io.specs.declared.lines.TheConstants.{CHUNK}
 
 pub rose_later : (a b n : ℕ) → a ≤ b → Rose b n → Rose a n
 rose_later a b n order rose = omega arith
@@ -80,7 +81,7 @@ same_view old_items new_items start end p e taken limit line prefix none =
 pub unread : (start now later : SourceState) (old new : Reader) (given : List ℕ) (read : List Line) → Reading start now old given read →
     new ≡ old → old.ended ≡ false
     → Keeps now.left later.left → now.faults ≤ later.faults → later.ends ≡ now.ends
-    → (got : List ℕ) × Reading start later new (given ++ got) read × (new.held ≡ old.held ++ got) × (length got ≤ 4096)
+    → (got : List ℕ) × Reading start later new (given ++ got) read × (new.held ≡ old.held ++ got) × (length got ≤ CHUNK)
 unread start now later old new given read r same going kept faults ends =
     ([], rw (append-nil, same) unchanged, ap (λ (r : Reader). r.held) same ∙ sym (append-nil old.held), omega arith)
   where
@@ -291,11 +292,11 @@ turn_falls limit taken later old new going room (inr end) =
 -- ---- what a call takes
 
 -- where all that was taken before has no line feed, one more read of 4,096 bytes at most is sparing
-pub sparing_more : (got more : List ℕ) → HasNoFeed got → length more ≤ 4096 → IsSparing (got ++ more)
+pub sparing_more : (got more : List ℕ) → HasNoFeed got → length more ≤ CHUNK → IsSparing (got ++ more)
 sparing_more got more whole small =
-    let size : length (got ++ more) - 4096 ≤ length got = omega (arith, length-append got more) in
-    subst HasNoFeed (sym (take-append-le (length (got ++ more) - 4096) got more size))
-    (All-take (λ byte. is_feed byte ≡ false) (length (got ++ more) - 4096) got whole)
+    let size : length (got ++ more) - CHUNK ≤ length got = omega (arith, length-append got more) in
+    subst HasNoFeed (sym (take-append-le (length (got ++ more) - CHUNK) got more size))
+    (All-take (λ byte. is_feed byte ≡ false) (length (got ++ more) - CHUNK) got whole)
 
 pub sparing_same : (got : List ℕ) → IsSparing got → IsSparing (got ++ [])
 sparing_same got sparing = subst IsSparing (sym (append-nil got)) sparing

@@ -9,6 +9,7 @@ use Rattle.seam_io.specs.Steps.{IsFeedAt, LetsGo, IsAt, Answers, Waits}
 use Rattle.seam_io.specs.declared.lines.Next.{Next}
 use Rattle.seam_io.specs.declared.lines.Next.TheVariants as next
 use Rattle.seam_io.proofs.LineLemmas.{no_feed_none, lines_of-none, left_let_go, left_fed, left_last}
+use Rattle.seam_io.specs.declared.lines.TheConstants.{LONGEST_LINE}
 
 abbrev pub reader_of : List ℕ → Bool → Bool → ℕ → ℕ → List ℕ → Reader
 reader_of held passing ended taken limit line =
@@ -26,12 +27,12 @@ flag_bound : (p : Bool) → cond {A = ℕ} p 1 0 ≤ 1
 flag_bound true = omega arith
 flag_bound false = omega arith
 
-spent_prefix : (a held rest : ℕ) (p : Bool) → rest ≡ 0 → (p ≡ true) ⊎ (4096 < held) → a + rest + 1 ≤ a + held + cond {A = ℕ} p 1 0
+spent_prefix : (a held rest : ℕ) (p : Bool) → rest ≡ 0 → (p ≡ true) ⊎ (LONGEST_LINE < held) → a + rest + 1 ≤ a + held + cond {A = ℕ} p 1 0
 spent_prefix a held rest p none (inl passing) = let e = flag_at true p passing in omega arith
 spent_prefix a held rest p none (inr long) = let e = flag_bound p in omega arith
 
 -- the prefix of a line that is too long is let go
-pub prefix_let_go : (old : Reader) (rest line : List ℕ) → HasNoFeed old.held → (old.passing ≡ true) ⊎ (4096 < length old.held) → rest ≡ [] →
+pub prefix_let_go : (old : Reader) (rest line : List ℕ) → HasNoFeed old.held → (old.passing ≡ true) ⊎ (LONGEST_LINE < length old.held) → rest ≡ [] →
     line ≡ []
     → LetsGo old (record old { held = rest; passing = true; line = line })
 prefix_let_go old rest line whole long none empty = record {
@@ -48,7 +49,7 @@ prefix_let_go old rest line whole long none empty = record {
 }
 
 -- nothing is let go
-pub nothing_let_go : (old : Reader) (line : List ℕ) → HasNoFeed old.held → length old.held ≤ 4096 → line ≡ [] →
+pub nothing_let_go : (old : Reader) (line : List ℕ) → HasNoFeed old.held → length old.held ≤ LONGEST_LINE → line ≡ [] →
     LetsGo old (record old { line = line })
 nothing_let_go old line whole short empty = record {
   moves = record { ended = refl; taken = refl; limit = refl; spent = omega arith; lines = λ more allowed. refl };

@@ -2,6 +2,7 @@
 use Rattle.std.specs.Prelude.{◌≡◌, ℕ, Bool, false, List, [], ◌∷◌, length, All, if◌then◌else◌, ◌==◌, nat_lt}
 use Rattle.std.specs.List.{slice_split, after_first}
 use Rattle.std.specs.Str.Lines.{strip_carriage_return}
+use Rattle.seam_io.specs.declared.lines.TheConstants.{LONGEST_LINE}
 
 -- a line of an input: its content, or that it is too long
 pub data Line : Type 0 where
@@ -14,7 +15,7 @@ is_feed byte = byte == 10
 -- the line of a text without line feeds: one of more than 4,096 bytes is too long, and from another the last carriage
 -- return is dropped
 abbrev pub line_of : List ℕ → Line
-line_of text = if nat_lt 4096 (length text) then Long else Content (strip_carriage_return text)
+line_of text = if nat_lt LONGEST_LINE (length text) then Long else Content (strip_carriage_return text)
 
 -- the lines of the texts round the line feeds: the last one has no line feed after it, and is no line where it is empty
 abbrev pub lines_between : List (List ℕ) → List Line

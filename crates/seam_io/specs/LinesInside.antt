@@ -3,6 +3,7 @@ use Rattle.std.specs.Prelude.{◌≡◌, ◌≤◌, ◌<◌, ◌+◌, true, slic
 use Rattle.seam_io.specs.Lines.{HasNoFeed}
 use Rattle.seam_io.specs.Reading.{Reader}
 use Rattle.seam_io.specs.declared.lines.Lines.TheInside.{Inside}
+use Rattle.seam_io.specs.declared.lines.TheConstants.{LONGEST_LINE}
 
 abbrev pub reader : Inside → Reader
 reader a = record {
@@ -21,7 +22,7 @@ pub record IsReader (a : Inside) : Type 0 where
   pub end : a.end ≤ 8192
   pub line_start : a.line_start ≤ a.line_end
   pub line_end : a.line_end ≤ 8192
-  pub line_len : a.line_end ≤ a.line_start + 4096
+  pub line_len : a.line_end ≤ a.line_start + LONGEST_LINE
   pub feedless : HasNoFeed (slice_range a.buffer.items a.start a.seen)
   pub within : a.taken ≤ a.limit
   pub ended : a.ended ≡ true → a.taken < a.limit

@@ -6,6 +6,7 @@ use Rattle.seam_io.specs.States.{SourceState}
 use Rattle.seam_io.specs.Lines.{Line, Content, Long, lines_of, whole_lines_of, lines_left, HasNoFeed}
 use Rattle.seam_io.specs.declared.lines.Next.{Next}
 use Rattle.seam_io.specs.declared.lines.Next.TheVariants as next
+use Rattle.seam_io.specs.declared.lines.TheConstants.{CHUNK}
 
 -- A reader of lines: the bytes that it took and did not give, whether the prefix of a line that is too long is gone
 -- from them, whether the source said that it is at its end, how many bytes it took and may take, and the line that it
@@ -68,4 +69,4 @@ pub record IsDone (reader : Reader) : Type 0 where
 
 -- a call took these bytes: all but the last 4,096 of them have no line feed
 abbrev pub IsSparing : List ℕ → Type 0
-IsSparing got = HasNoFeed (take (length got - 4096) got)
+IsSparing got = HasNoFeed (take (length got - CHUNK) got)

@@ -4,6 +4,7 @@ use Rattle.seam_io.specs.Lines.{Line, lines_left, HasNoFeed}
 use Rattle.seam_io.specs.Reading.{Reader, budget, lines_given, NeedsMore, IsDone}
 use Rattle.seam_io.specs.declared.lines.Next.{Next}
 use Rattle.seam_io.specs.declared.lines.Next.TheVariants as next
+use Rattle.seam_io.specs.declared.lines.TheConstants.{LONGEST_LINE}
 
 -- the first line feed has so many bytes before it
 pub record IsFeedAt (held : List ℕ) (len : ℕ) : Type 0 where
@@ -24,7 +25,7 @@ pub record Moves (old new : Reader) (gave : List Line) : Type 0 where
 pub record LetsGo (old new : Reader) : Type 0 where
   pub moves : Moves old new []
   pub whole : HasNoFeed new.held
-  pub short : length new.held ≤ 4096
+  pub short : length new.held ≤ LONGEST_LINE
   pub line : new.line ≡ []
 
 -- how a reader is at an answer that no read is needed for

@@ -10,7 +10,7 @@ mod source;
 mod tests;
 
 pub use laws::whole_lines_stay;
-pub use lines::{Lines, Next};
+pub use lines::{LONGEST_LINE, Lines, Next};
 pub use memory::{MemSink, MemSource};
 pub use sink::{RealSink, Sink, WriteFault, write_whole};
 pub use source::{Failed, RealSource, Source};

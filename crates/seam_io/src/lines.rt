@@ -29,10 +29,11 @@ pub enum Next {
     Limit,
 }
 
+/// The most bytes of a line's content. A longer line is `Next::Long`.
+pub const LONGEST_LINE: usize = 4096;
+
 // How many bytes are asked for at most at once.
 const CHUNK: usize = 4096;
-// How many bytes the content of a line has at most.
-const LONGEST: usize = 4096;
 
 /// A reader of lines that takes a bounded number of bytes. All its memory is taken when it is made.
 #[derive(Drop)]
@@ -129,7 +130,7 @@ impl Lines {
         ensures fresh { IfOk result (λ r. r ≡ record { held = []; passing = false; ended = false; taken = 0; limit = limit; line = [] }) }
     {
         Ok(Lines {
-            buffer: vec![in alloc; 0; LONGEST + CHUNK]?,
+            buffer: vec![in alloc; 0; LONGEST_LINE + CHUNK]?,
             start: 0,
             seen: 0,
             end: 0,
@@ -145,7 +146,7 @@ impl Lines {
     /// The content of the line that the last call of [`Lines::next`] gave, empty after another answer.
     pub fn line(&self) -> &[u8]
         ensures content { result.now ≡ self.now.line }
-        ensures short { length result.now ≤ 4096 }
+        ensures short { length result.now ≤ LONGEST_LINE }
     {
         &self.buffer[self.line_start..self.line_end]
     }
@@ -232,7 +233,7 @@ impl Lines {
         ensures line { result ≢ Next.Line → self.new.line ≡ [] }
     {
         let text = self.start;
-        let long = self.passing || len > LONGEST;
+        let long = self.passing || len > LONGEST_LINE;
         self.start += len + skip;
         self.seen = self.start;
         self.passing = false;
@@ -254,7 +255,7 @@ impl Lines {
         self.line_start = 0;
         self.line_end = 0;
         self.seen = self.end;
-        if self.passing || self.end - self.start > LONGEST {
+        if self.passing || self.end - self.start > LONGEST_LINE {
             self.start = self.end;
             self.passing = true;
         }
@@ -277,14 +278,14 @@ impl Lines {
     // Takes more of the input, or finds its end.
     fn fill<S: Source>(&mut self, source: &mut S) -> Result<(), Failed>
         requires needs { NeedsMore self.old }
-        requires short { length self.old.held ≤ 4096 }
+        requires short { length self.old.held ≤ LONGEST_LINE }
         requires line { self.old.line ≡ [] }
         ensures reads { (start : SourceState) (given : List ℕ) (read : List Line) →
             Reading start (S.state source.old) self.old given read →
             (got : List ℕ)
             × Reading start (S.state source.new) self.new (given ++ got) read
             × (self.new.held ≡ self.old.held ++ got)
-            × (length got ≤ 4096) }
+            × (length got ≤ CHUNK) }
         ensures cause { HasCause (S.state source.old).faults (S.state source.new).faults result }
         ensures budget { budget self.new ≤ budget self.old }
         ensures limit { self.new.limit ≡ self.old.limit }

@@ -20,10 +20,12 @@ use Rattle.seam_transcript.specs.Standing.{Standing, with_book}
 use Rattle.seam_transcript.specs.InOrder.{in_order, round_in_order, after_round}
 use Rattle.seam_transcript.specs.Round.{Lists, RoundData, IsRound}
 use Rattle.seam_transcript.specs.Texts.{refusal, round_text}
-use Rattle.seam_transcript.specs.Transcript.{Piece, Refusal, Ended, text_of, EndsRound, most_lines, EndsInput}
+use Rattle.seam_transcript.specs.Transcript.{Piece, Refusal, Ended, text_of, EndsRound, EndsInput}
 use Rattle.seam_transcript.proofs.InOrderLemmas.{round_in_order_is_legal}
 use Rattle.seam_plain.specs.Plain.{book_of, standing_of, IsBetween, HasCounted, RoundEnds, VerdictFollowed, LineRead}
 use Rattle.seam_plain.specs.declared.plain.Plain.{Plain}
+use Rattle.seam_transcript.specs.declared.limits.TheConstants.{MOST_LINES}
+use Rattle.seam_io.specs.declared.lines.TheConstants.{LONGEST_LINE}
 
 -- a line is counted
 pub has_counted : (p : Plain) → IsBetween p → p.lines < 2 ^ 61 → HasCounted (record p { lines = p.lines + 1 })
@@ -43,14 +45,14 @@ line_read h old new line v text judges followed = record {
 }
 
 -- a line that is too long, and one that is not
-pub long_line_read : (h : Header) (old new : Plain) (bytes text : List ℕ) → 4096 < length bytes →
+pub long_line_read : (h : Header) (old new : Plain) (bytes text : List ℕ) → LONGEST_LINE < length bytes →
     VerdictFollowed h (verdict.Refused cause.TooLong) (record old { lines = old.lines + 1 }) new text
     → LineRead h (line_of bytes) old new text
 long_line_read h old new bytes text long followed =
     subst (λ (l : Line). LineRead h l old new text) (sym (line_of-long bytes long))
     (line_read h old new Long (verdict.Refused cause.TooLong) text (long_is_refused h (book_of old)) followed)
 
-pub short_line_read : (h : Header) (old new : Plain) (bytes content : List ℕ) (v : Verdict) (text : List ℕ) → length bytes ≤ 4096 →
+pub short_line_read : (h : Header) (old new : Plain) (bytes content : List ℕ) (v : Verdict) (text : List ℕ) → length bytes ≤ LONGEST_LINE →
     content ≡ strip_carriage_return bytes
     → Judges h (book_of old) (Content content) v → VerdictFollowed h v (record old { lines = old.lines + 1 }) new text →
     LineRead h (line_of bytes) old new text
@@ -128,7 +130,7 @@ standing_with old mid x past current rounds lines =
 
 pub kept_last : (h : Header) (old mid new : Plain) (x : Entry) (text : List ℕ) → HasCounted old → mid.past.items ≡ old.past.items →
     mid.current.items ≡ old.current.items ++ x ∷ []
-    → mid.rounds ≡ old.rounds → mid.lines ≡ old.lines → length mid.current.items ≡ most_lines → RoundEnds h mid new text →
+    → mid.rounds ≡ old.rounds → mid.lines ≡ old.lines → length mid.current.items ≡ MOST_LINES → RoundEnds h mid new text →
     VerdictFollowed h (verdict.Accepted x) old new text
 kept_last h old mid new x text was past current rounds lines full ends =
     let at : Standing = with_book (standing_of old) (with_entry (book_of old) x) in
@@ -136,8 +138,8 @@ kept_last h old mid new x text was past current rounds lines full ends =
     let pieces : List Piece = Ended at ends.round ∷ [] in
     let legal : IsRound h at ends.round (standing_of new) =
     subst (λ (s : Standing). IsRound h s ends.round (standing_of new)) same ends.legal in
-    let count : open_lines at.book ≡ most_lines = ap length (sym current) ∙ full in
-    let test : (open_lines at.book == most_lines) ≡ true = grind (arith, common_steps, count) in
+    let count : open_lines at.book ≡ MOST_LINES = ap length (sym current) ∙ full in
+    let test : (open_lines at.book == MOST_LINES) ≡ true = grind (arith, common_steps, count) in
     let fewer = was.rounds in
     record {
       pieces = pieces;
@@ -151,13 +153,13 @@ kept_last h old mid new x text was past current rounds lines full ends =
 
 pub kept_open : (h : Header) (old new : Plain) (x : Entry) → HasCounted old → new.past.items ≡ old.past.items →
     new.current.items ≡ old.current.items ++ x ∷ []
-    → new.rounds ≡ old.rounds → new.lines ≡ old.lines → length new.current.items ≢ most_lines →
+    → new.rounds ≡ old.rounds → new.lines ≡ old.lines → length new.current.items ≢ MOST_LINES →
     VerdictFollowed h (verdict.Accepted x) old new []
 kept_open h old new x was past current rounds lines less =
     let at : Standing = with_book (standing_of old) (with_entry (book_of old) x) in
     let same : standing_of new ≡ at = standing_with old new x past current rounds lines in
     let count : open_lines at.book ≡ length new.current.items = ap length (sym current) in
-    let test : (open_lines at.book == most_lines) ≡ false = grind (arith, common_steps, less, count) in
+    let test : (open_lines at.book == MOST_LINES) ≡ false = grind (arith, common_steps, less, count) in
     let fewer = was.rounds in
     let below = was.unfilled in
     let more = ap length current ∙ length-append old.current.items (x ∷ []) in

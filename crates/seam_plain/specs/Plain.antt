@@ -13,8 +13,9 @@ use Rattle.seam_transcript.specs.Standing.{Standing}
 use Rattle.seam_transcript.specs.InOrder.{in_order}
 use Rattle.seam_transcript.specs.Round.{DoneLine, RoundData, IsRound}
 use Rattle.seam_transcript.specs.Texts.{round_text}
-use Rattle.seam_transcript.specs.Transcript.{Piece, text_of, most_lines, Follows, Step}
+use Rattle.seam_transcript.specs.Transcript.{Piece, text_of, Follows, Step}
 use Rattle.seam_plain.specs.declared.plain.Plain.{Plain}
+use Rattle.seam_transcript.specs.declared.limits.TheConstants.{MOST_LINES}
 
 -- ---- what it holds
 
@@ -27,12 +28,12 @@ standing_of p = record { lines = p.lines; rounds = p.rounds; book = book_of p; o
 
 -- it is between two lines: its round is not full, and no more rounds ended than lines were read
 pub record IsBetween (p : Plain) : Type 0 where
-  pub unfilled : length p.current.items < most_lines
+  pub unfilled : length p.current.items < MOST_LINES
   pub rounds : p.rounds ≤ p.lines
 
 -- it counted a line, of which nothing has followed
 pub record HasCounted (p : Plain) : Type 0 where
-  pub unfilled : length p.current.items < most_lines
+  pub unfilled : length p.current.items < MOST_LINES
   pub rounds : p.rounds < p.lines
   pub lines : p.lines ≤ 2 ^ 61
 

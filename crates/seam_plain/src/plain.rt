@@ -28,10 +28,11 @@ use seam_accept::{
 };
 use seam_call::{BaseNode, Call, Create, Sender};
 use seam_defs::Part;
+use seam_io::LONGEST_LINE;
 use seam_report::{push_number_line, push_refusal};
 use seam_transcript::{Cause, Entry, Header, MOST_ENTITIES, MOST_LINES, Verdict};
 use seam_value::positive_number;
-use seam_words::Words;
+use seam_words::MOST_WORDS;
 use std::alloc::{AllocError, Global};
 
 // The most bytes of a line.
@@ -116,10 +117,10 @@ impl Plain {
 
     // The verdict on the content of a line.
     fn verdict_on(&self, header: &Header, line: &[u8]) -> Result<Verdict, AllocError>
-        requires { length line.now ≤ 4096 }
+        requires { length line.now ≤ LONGEST_LINE }
         ensures { IfOk result (λ v. Judges header.now (book_of self.now) (Content line.now) v) }
     {
-        let mut table: [&[u8]; Words::MOST] = [b""; Words::MOST];
+        let mut table: [&[u8]; MOST_WORDS] = [b""; MOST_WORDS];
         match read_line(line, &mut table) {
             Ok(Some(command)) => self.judge(header, &command),
             Ok(None) => Ok(Verdict::Skipped),

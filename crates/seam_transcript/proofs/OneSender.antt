@@ -27,7 +27,7 @@ use Rattle.seam_transcript.specs.Orders.{Orders, of_sender, IsFull}
 use Rattle.seam_transcript.specs.Standing.{Standing, after_header, with_line, with_book}
 use Rattle.seam_transcript.specs.Round.{RoundData, DoneLine, HomeLine, BaseLine, done_lines, home_line, base_line, ExtendsOrders, HasHomes}
 use Rattle.seam_transcript.specs.Round.{HasBases, IsRound}
-use Rattle.seam_transcript.specs.Transcript.{Piece, Ended, text_of, EndsRound, most_lines, Follows, Step, Run, EndsInput, IsEnded}
+use Rattle.seam_transcript.specs.Transcript.{Piece, Ended, text_of, EndsRound, Follows, Step, Run, EndsInput, IsEnded}
 use Rattle.seam_transcript.specs.Senders.{CallIsFrom, CallsAreFrom}
 use Rattle.seam_transcript.specs.declared.verdict.Entry.{Entry}
 use Rattle.seam_transcript.specs.declared.verdict.Entry.TheVariants as entry
@@ -35,6 +35,7 @@ use Rattle.seam_transcript.specs.declared.verdict.Verdict.{Verdict}
 use Rattle.seam_transcript.specs.declared.verdict.Verdict.TheVariants as verdict
 use Rattle.seam_transcript.proofs.Lists.{listed_is_one}
 use Rattle.seam_transcript.proofs.Verdicts.{sender_is_one, verdict_is_one_of}
+use Rattle.seam_transcript.specs.declared.limits.TheConstants.{MOST_LINES}
 
 -- ---- orders
 
@@ -230,7 +231,7 @@ follows_one h one s line (verdict.Refused c) xs ys t u names own judged x y =
     (x.0 ∙ sym y.0, x.1 ∙ sym y.1, subst (λ (k : Standing). AreOwn one (calls_of (entries k.book))) (sym x.1) own)
 follows_one h one s line (verdict.Accepted added) xs ys t u names own (_, c, spells, means) x y =
     let at : Standing = with_book (with_line s) (with_entry s.book added) in
-    kept_is_one h one at (open_lines at.book == most_lines) xs ys t u (entry_is_own h one s.book line c added names spells means own) x y
+    kept_is_one h one at (open_lines at.book == MOST_LINES) xs ys t u (entry_is_own h one s.book line c added names spells means own) x y
 follows_one h one s line verdict.Synced xs ys t u names own judged x y =
     let same = end_is_one h one (with_line s) xs ys t u own x y in (same.0, same.1, calls_after_round h one (with_line s) t x.0 own x.2)
 

@@ -29,6 +29,7 @@ use Rattle.seam_transcript.specs.declared.verdict.Cause.{Cause}
 use Rattle.seam_transcript.specs.declared.verdict.Cause.TheVariants as cause
 use Rattle.seam_transcript.specs.declared.verdict.Verdict.{Verdict}
 use Rattle.seam_transcript.specs.declared.verdict.Verdict.TheVariants as verdict
+use Rattle.seam_transcript.specs.declared.limits.TheConstants.{MOST_ENTITIES}
 
 -- What was accepted, in the order of the lines: in the rounds that ended, and in the open one.
 pub record Book : Type 0 where
@@ -132,14 +133,10 @@ pub record NamesSender (h : Header) (b : Book) (sender_name : language.Word) (s 
 
 -- ---- what a command means
 
--- the most entities that may be created over a run
-abbrev pub most_entities : ℕ
-most_entities = 65536
-
 -- the entity may be made: its number is new, and there is room
 pub record MayCreate (b : Book) (c : Create) : Type 0 where
   pub is_new : created_as b c.entity ≡ None
-  pub room : length (creates_of (entries b)) < most_entities
+  pub room : length (creates_of (entries b)) < MOST_ENTITIES
 
 -- The words name a call that may be accepted: its sender is one of the world, its entity lives and has the method, and it has
 -- the sender's next number.

@@ -12,6 +12,7 @@ use Rattle.seam_transcript.specs.Texts.{refusal, round_text}
 use Rattle.seam_transcript.specs.declared.verdict.Cause.{Cause}
 use Rattle.seam_transcript.specs.declared.verdict.Verdict.{Verdict}
 use Rattle.seam_transcript.specs.declared.verdict.Verdict.TheVariants as verdict
+use Rattle.seam_transcript.specs.declared.limits.TheConstants.{MOST_LINES}
 
 -- what is printed at once: the refusal of a line, or a round that ended at a standing
 pub data Piece : Type 0 where
@@ -30,13 +31,9 @@ text_of defs pieces = flat_map (piece_text defs) pieces
 abbrev pub EndsRound : Header → Standing → List Piece → Standing → Type 0
 EndsRound h s pieces t = (r : RoundData) × (pieces ≡ Ended s r ∷ []) × IsRound h s r t
 
--- a round ends with so many accepted lines other than `sync`
-abbrev pub most_lines : ℕ
-most_lines = 65536
-
 -- a line was accepted, with which the standing is `s`: where the round is full, it ends
 abbrev pub Keeps : Header → Standing → List Piece → Standing → Type 0
-Keeps h s pieces t = MatchBool (open_lines s.book == most_lines) (EndsRound h s pieces t) ((pieces ≡ []) × (t ≡ s))
+Keeps h s pieces t = MatchBool (open_lines s.book == MOST_LINES) (EndsRound h s pieces t) ((pieces ≡ []) × (t ≡ s))
 
 -- What is printed for a line that the standing has counted, by the verdict on it, and the standing after it.
 abbrev pub Follows : Header → Standing → Verdict → List Piece → Standing → Type 0

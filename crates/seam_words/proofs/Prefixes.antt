@@ -2,6 +2,7 @@
 use Rattle.std.proofs.Common.{◌≡◌, ℕ, ◌+◌, ◌<◌, Bool, true, false, List, [], ◌∷◌, ◌++◌, length, refl, sym, ◌∙◌, ap, subst, arith}
 use Rattle.std.proofs.Common.{append_assoc, append-nil, length-append}
 use Rattle.std.proofs.lemmas.List.Folds.{list_all-append}
+use Rattle.seam_words.specs.declared.words.TheConstants.{MOST_WORDS}
 use Rattle.seam_words.specs.declared.words.Span.{Span}
 use Rattle.seam_words.specs.declared.words.WordsError.{WordsError}
 use Rattle.seam_words.specs.declared.words.WordsError.TheVariants.{NotUtf8, OpenQuote, BadEscape, TooManyWords}
@@ -60,7 +61,7 @@ word_first at bytes rest span spans tail w s e h = (
 )
 
 -- a fault after the words so far
-pub fault_of_word : (count : ℕ) (bytes : List ℕ) (e : WordsError) → count < 16 → RefusesWord bytes e → HasFaultAt count bytes e
+pub fault_of_word : (count : ℕ) (bytes : List ℕ) (e : WordsError) → count < MOST_WORDS → RefusesWord bytes e → HasFaultAt count bytes e
 fault_of_word count bytes NotUtf8 c h = h
 fault_of_word count bytes OpenQuote c h = (c, h)
 fault_of_word count bytes BadEscape c h = (c, h)

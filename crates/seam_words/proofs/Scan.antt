@@ -5,6 +5,7 @@ use Rattle.std.specs.Prelude.{◌==◌, ◌&&◌, if◌then◌else◌, nat_le}
 use Rattle.std.specs.List.{list_all, concat, AllByRecursion}
 use Rattle.std.specs.Str.{IsUtf8}
 use Rattle.std.proofs.lemmas.Grind.{common_steps}
+use Rattle.seam_words.specs.declared.words.TheConstants.{MOST_WORDS}
 use Rattle.seam_words.specs.declared.words.Span.{Span}
 use Rattle.seam_words.specs.declared.words.WordsError.{WordsError}
 use Rattle.seam_words.specs.declared.words.WordsError.TheVariants.{NotUtf8, OpenQuote, BadEscape, TooManyWords}
@@ -170,7 +171,7 @@ words_scan most at words bytes (span ∷ spans) tail h f =
     )
 
 -- a fault
-open_scan : (at : ℕ) (words : List Span) (bytes : List ℕ) → length words < 16 → HasOpenQuote bytes →
+open_scan : (at : ℕ) (words : List Span) (bytes : List ℕ) → length words < MOST_WORDS → HasOpenQuote bytes →
     scan 16 between at words bytes ≡ Err OpenQuote
 open_scan at words bytes h (inside word rest w e) = rw e (begin_plain 16 at words word (34 ∷ rest) h w)
 open_scan at words bytes h (unended pieces p e) =
@@ -201,7 +202,7 @@ words_read : (most : ℕ) (line : List ℕ) (spans : List Span) → AreWords lin
     scan most between 0 [] line ≡ Ok spans
 words_read most line spans w h = (words_scan most 0 [] line spans [] (omega arith) w).1
 
-at_most : (count : ℕ) (bytes : List ℕ) (e : WordsError) → HasFaultAt count bytes e → count ≤ 16
+at_most : (count : ℕ) (bytes : List ℕ) (e : WordsError) → HasFaultAt count bytes e → count ≤ MOST_WORDS
 at_most count bytes NotUtf8 h = absurd h
 at_most count bytes OpenQuote h = omega arith
 at_most count bytes BadEscape h = omega arith
@@ -209,7 +210,7 @@ at_most count bytes TooManyWords h = omega arith
 
 fault_read : (line : List ℕ) (e : WordsError) → HasFault line e → scan 16 between 0 [] line ≡ Err e
 fault_read line e f =
-    let few_words : length f.spans ≤ 16 = at_most (length f.spans) f.tail e f.fault in
+    let few_words : length f.spans ≤ MOST_WORDS = at_most (length f.spans) f.tail e f.fault in
     let read = words_scan 16 0 [] line f.spans f.tail (omega arith) f.before in
     read.1 ∙ fault_scan read.0 f.spans f.tail e f.fault
 
@@ -225,7 +226,7 @@ same_fault line e f p q =
     let other : scan 16 between 0 [] line ≡ Err f = fault_read line f q in
     cc
 
-pub no_fault : (line : List ℕ) (spans : List Span) (e : WordsError) → AreWords line spans → length spans ≤ 16 → HasFault line e → ⊥
+pub no_fault : (line : List ℕ) (spans : List Span) (e : WordsError) → AreWords line spans → length spans ≤ MOST_WORDS → HasFault line e → ⊥
 no_fault line spans e w h f =
     let one : scan 16 between 0 [] line ≡ Ok spans = words_read 16 line spans w h in
     let other : scan 16 between 0 [] line ≡ Err e = fault_read line e f in
@@ -239,7 +240,7 @@ fault_of line BadEscape h u = h.1
 fault_of line TooManyWords h u = h.1
 
 pub no_words : (line : List ℕ) (e : WordsError) → Refuses line e → (spans : List Span) → IsUtf8 line → AreWords line spans →
-    length spans ≤ 16 → ⊥
+    length spans ≤ MOST_WORDS → ⊥
 no_words line e h spans u w few_words = no_fault line spans e w few_words (fault_of line e h u)
 
 pub same_refusal : (line : List ℕ) (e f : WordsError) → Refuses line e → Refuses line f → e ≡ f

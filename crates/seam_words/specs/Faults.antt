@@ -1,6 +1,7 @@
 -- Why a line has no words, or too many.
 use Rattle.std.specs.Prelude.{◌≡◌, ℕ, ◌<◌, false, List, [], ◌∷◌, ◌++◌, length}
 use Rattle.std.specs.Str.{IsUtf8}
+use Rattle.seam_words.specs.declared.words.TheConstants.{MOST_WORDS}
 use Rattle.seam_words.specs.declared.words.Span.{Span}
 use Rattle.seam_words.specs.declared.words.WordsError.{WordsError}
 use Rattle.seam_words.specs.declared.words.WordsError.TheVariants.{NotUtf8, OpenQuote, BadEscape, TooManyWords}
@@ -37,9 +38,9 @@ BeginsWord (b ∷ bytes) = is_blank b ≡ false
 -- why the bytes where the next word should begin do not begin with a good one, after `count` good words
 abbrev pub HasFaultAt : ℕ → List ℕ → WordsError → Type 0
 HasFaultAt count bytes NotUtf8 = ⊥
-HasFaultAt count bytes OpenQuote = (count < 16) × HasOpenQuote bytes
-HasFaultAt count bytes BadEscape = (count < 16) × HasBadEscape bytes
-HasFaultAt count bytes TooManyWords = (count ≡ 16) × BeginsWord bytes
+HasFaultAt count bytes OpenQuote = (count < MOST_WORDS) × HasOpenQuote bytes
+HasFaultAt count bytes BadEscape = (count < MOST_WORDS) × HasBadEscape bytes
+HasFaultAt count bytes TooManyWords = (count ≡ MOST_WORDS) × BeginsWord bytes
 
 -- the first fault of a line from the left: all before it is good words
 pub record HasFault (line : List ℕ) (error : WordsError) : Type 0 where

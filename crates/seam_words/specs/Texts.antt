@@ -2,16 +2,13 @@
 use Rattle.std.specs.Prelude.{◌≡◌, ℕ, ◌≤◌, List, length, map}
 use Rattle.std.specs.Str.{IsUtf8}
 use Rattle.seam_words.specs.Words.{AreWords, bytes_of}
+use Rattle.seam_words.specs.declared.words.TheConstants.{MOST_WORDS}
 use Rattle.seam_words.specs.declared.words.Span.{Span}
-
--- the most words of a line
-abbrev pub most_words : ℕ
-most_words = 16
 
 -- these are the texts of the words of a line, of which there are not too many
 pub record HasWords (line : List ℕ) (words : List (List ℕ)) : Type 0 where
   pub spans : List Span
   pub text : IsUtf8 line
   pub are : AreWords line spans
-  pub most : length spans ≤ most_words
+  pub most : length spans ≤ MOST_WORDS
   pub texts : words ≡ map (bytes_of line) spans

@@ -11,4 +11,4 @@ mod words;
 pub use laws::{fault_is_one, words_are_one};
 pub use splitting::split_line;
 pub use texts::words_of_line;
-pub use words::{Span, Words, WordsError};
+pub use words::{MOST_WORDS, Span, Words, WordsError};

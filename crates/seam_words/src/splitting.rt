@@ -1,5 +1,5 @@
 // From a line to its words, or to its first fault.
-ghost use Rattle.std.specs.Prelude.{◌≡◌, ◌≢◌, ◌==◌, ◌+◌, ◌<◌, ◌≤◌, ◌↔◌, ◌∷◌, true, false, List, ℕ, length, drop, All, IsTrue, IfOk, IfErr};
+ghost use Rattle.std.specs.Prelude.{◌≡◌, ◌≢◌, ◌==◌, ◌+◌, ◌<◌, ◌≤◌, ◌^◌, ◌↔◌, ◌∷◌, true, false, List, ℕ, length, drop, All, IsTrue, IfOk, IfErr};
 ghost use Rattle.std.specs.Prelude.{IfSome, MatchOption, slice_index};
 ghost use Rattle.std.specs.List.{prefix_len};
 ghost use Rattle.std.specs.Str.{IsUtf8};
@@ -9,19 +9,19 @@ ghost use Rattle.seam_words.specs.Words.{is_blank, is_plain, is_escaped, AreWord
 ghost use Rattle.seam_words.specs.Faults.{BeginsWord, IsNoEscape, Refuses};
 ghost use Rattle.seam_words.specs.Parts.{IsFirstWord, RefusesWord, EndsPieces, ClosesWord, HasPiece, HasBadPiece, HasPieces, RefusesPieces};
 
-use crate::{Span, Words, WordsError};
+use crate::{MOST_WORDS, Span, Words, WordsError};
 
-/// The words of a line of at most 4,096 bytes. A word in quotes runs to its closing quote, with the escapes `\"`, `\\` and
+/// The words of a line, whose places are numbers of 32 bits. A word in quotes runs to its closing quote, with the escapes `\"`, `\\` and
 /// `\n`, and ends before a space, a tab or the line's end; any other word is a run of bytes other than space, tab and
 /// quote. Where the line has no words, the answer is `NotUtf8` if it is not UTF-8, and else the first fault from the left.
 pub fn split_line(line: &[u8]) -> Result<Words, WordsError>
-    requires { length line.now ≤ 4096 }
-    ensures words { IfOk result (λ words. IsUtf8 line.now × AreWords line.now words × (length words ≤ 16)) }
+    requires { length line.now < 2 ^ 32 }
+    ensures words { IfOk result (λ words. IsUtf8 line.now × AreWords line.now words × (length words ≤ MOST_WORDS)) }
     ensures inside { IfOk result (All (IsInside (length line.now))) }
     ensures cause { IfErr result (Refuses line.now) }
 
     // And the other way round: each line has one answer.
-    ensures found { (spans : List Spans) → IsUtf8 line.now → AreWords line.now spans → length spans ≤ 16 → result ≡ Ok spans }
+    ensures found { (spans : List Spans) → IsUtf8 line.now → AreWords line.now spans → length spans ≤ MOST_WORDS → result ≡ Ok spans }
     ensures refused { (error : Errors) → Refuses line.now error → result ≡ Err error }
 {
     if !is_utf8(line) {
@@ -30,7 +30,7 @@ pub fn split_line(line: &[u8]) -> Result<Words, WordsError>
     let mut words = Words::new();
     let mut rest = after_gap(line);
     while !rest.is_empty() {
-        if words.len() == Words::MOST {
+        if words.len() == MOST_WORDS {
             return Err(WordsError::TooManyWords);
         }
         let quoted = begins_with_quote(rest);
@@ -56,7 +56,7 @@ fn is_utf8(bytes: &[u8]) -> bool
 
 // The place in the line of the bytes with which it ends.
 fn place(line: &[u8], end: &[u8]) -> u32
-    requires short { length line.now ≤ 4096 }
+    requires short { length line.now < 2 ^ 32 }
     requires end { length end.now ≤ length line.now }
     ensures { result + length end.now ≡ length line.now }
 {

@@ -42,10 +42,13 @@ impl WordsError {
     }
 }
 
+/// The most words of a line.
+pub const MOST_WORDS: usize = 16;
+
 /// At most 16 words, in the order of the line. It takes no memory.
 #[derive(Drop, Debug)]
 pub struct Words {
-    spans: [Span; 16],
+    spans: [Span; MOST_WORDS],
     count: usize,
 }
 
@@ -79,14 +82,11 @@ impl Span {
 }
 
 impl Words {
-    /// The greatest number of words of a line.
-    pub const MOST: usize = 16;
-
     pub(crate) fn new() -> Self
         ensures { result ≡ [] }
     {
         Words {
-            spans: [Span::NONE; 16],
+            spans: [Span::NONE; MOST_WORDS],
             count: 0,
         }
     }
@@ -94,7 +94,7 @@ impl Words {
     /// The number of words.
     pub fn len(&self) -> usize
         ensures count { result ≡ length self.now }
-        ensures most { length self.now ≤ 16 }
+        ensures most { length self.now ≤ MOST_WORDS }
     {
         self.count
     }
@@ -118,7 +118,7 @@ impl Words {
     }
 
     pub(crate) fn push(&mut self, span: Span)
-        requires { length self.old < 16 }
+        requires { length self.old < MOST_WORDS }
         ensures { self.new ≡ self.old ++ span ∷ [] }
     {
         self.spans[self.count] = span;

@@ -9,7 +9,7 @@ use Rattle.seam_defs.specs.Types.{type_of}
 use Rattle.seam_defs.specs.Deeds.{after}
 use Rattle.seam_defs.specs.declared.flags.Part.{Part}
 use Rattle.seam_defs.specs.declared.states.State.{State}
-use Rattle.seam_call.specs.BaseNodes.{most_base_nodes}
+use Rattle.seam_defs.specs.declared.limits.TheConstants.{MOST_BASE_NODES}
 use Rattle.seam_call.specs.Senders.{same_sender, IsSender}
 use Rattle.seam_call.specs.declared.sender.Sender.{Sender}
 use Rattle.seam_call.specs.declared.sender.Sender.TheVariants as sender
@@ -38,8 +38,8 @@ count_with_call s order call b is =
 -- the counts of the base nodes after one more call
 last_with_call : (s : Sender) (number : ℕ) (last : List ℕ) (order : List Call) (call : Call) → call.sender ≡ s → IsSender s →
     number ≡ length (of_sender s order) + 1
-    → length last ≡ most_base_nodes → ((k : ℕ) → k < most_base_nodes → slice_index last k ≡ length (of_sender (sender.Base (k + 1)) order))
-    → (k : ℕ) → k < most_base_nodes → slice_index (with_last s number last) k
+    → length last ≡ MOST_BASE_NODES → ((k : ℕ) → k < MOST_BASE_NODES → slice_index last k ≡ length (of_sender (sender.Base (k + 1)) order))
+    → (k : ℕ) → k < MOST_BASE_NODES → slice_index (with_last s number last) k
     ≡ length (of_sender (sender.Base (k + 1)) (order ++ call ∷ []))
 last_with_call (sender.Client e) number last order call is proper next senders counts k within =
     counts k within

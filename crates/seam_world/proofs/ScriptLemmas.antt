@@ -13,7 +13,7 @@ use Rattle.seam_transcript.specs.InOrder.{in_order, after_round}
 use Rattle.seam_transcript.specs.Orders.{Orders}
 use Rattle.seam_transcript.specs.Round.{IsRound, RoundData}
 use Rattle.seam_transcript.specs.Texts.{refusal, round_text}
-use Rattle.seam_transcript.specs.Transcript.{Piece, Refusal, Ended, text_of, EndsRound, most_lines, Keeps, Follows, EndsInput}
+use Rattle.seam_transcript.specs.Transcript.{Piece, Refusal, Ended, text_of, EndsRound, Keeps, Follows, EndsInput}
 use Rattle.seam_transcript.specs.declared.verdict.Entry.{Entry}
 use Rattle.seam_transcript.specs.declared.verdict.Cause.{Cause}
 use Rattle.seam_transcript.specs.declared.verdict.Verdict.{Verdict}
@@ -25,6 +25,7 @@ use Rattle.seam_world.specs.Script.{IsReady, ScriptRefines, RoundEnds, VerdictFo
 use Rattle.seam_world.specs.declared.script.Script.{Script}
 use Rattle.seam_world.specs.declared.table.Table.{Table}
 use Rattle.seam_world.proofs.Rounds.{table_round}
+use Rattle.seam_transcript.specs.declared.limits.TheConstants.{MOST_LINES}
 
 -- ---- where a script begins
 
@@ -126,12 +127,12 @@ kept_ready h t x old new was table line round =
 
 -- the line filled the round, which ended
 pub kept_last : (h : Header) (t : Standing) (x : Entry) (old new : Script) (text : List ℕ) → ScriptRefines h t old →
-    most_lines ≤ old.accepted + 1
+    MOST_LINES ≤ old.accepted + 1
     → RoundEnds h (with_book t (with_entry t.book x)) new text → VerdictFollowed h t (verdict.Accepted x) new text
 kept_last h t x old new text was full ends =
     let at : Standing = with_book t (with_entry t.book x) in
-    let count : open_lines at.book ≡ most_lines = count_of_lines t.book x ∙ omega (arith, full, was.accepted, was.below_most) in
-    let test : (open_lines at.book == most_lines) ≡ true = grind (arith, common_steps, count) in
+    let count : open_lines at.book ≡ MOST_LINES = count_of_lines t.book x ∙ omega (arith, full, was.accepted, was.below_most) in
+    let test : (open_lines at.book == MOST_LINES) ≡ true = grind (arith, common_steps, count) in
     let pieces : List Piece = Ended at ends.round ∷ [] in
     record {
       pieces = pieces;
@@ -149,7 +150,7 @@ kept_last h t x old new text was full ends =
 
 -- it did not
 pub kept_open : (h : Header) (t : Standing) (x : Entry) (old new : Script) → ScriptRefines h t old →
-    new.accepted ≡ old.accepted + 1 → old.accepted + 1 < most_lines
+    new.accepted ≡ old.accepted + 1 → old.accepted + 1 < MOST_LINES
     → TableRefines h (with_entry t.book x) new.table → new.line ≡ old.line → new.round ≡ old.round →
     VerdictFollowed h t (verdict.Accepted x) new []
 kept_open h t x old new was accepted_now less table line round =
@@ -158,7 +159,7 @@ kept_open h t x old new was accepted_now less table line round =
     let before = was.accepted in
     let lines = count_of_lines t.book x in
     let count : new.accepted ≡ open_lines at.book = omega (arith, accepted_now, before, below, lines) in
-    let test : (open_lines at.book == most_lines) ≡ false = grind (arith, common_steps, less, count) in
+    let test : (open_lines at.book == MOST_LINES) ≡ false = grind (arith, common_steps, less, count) in
     record {
       pieces = [];
       next = at;

@@ -8,9 +8,10 @@ use Rattle.seam_transcript.specs.Standing.{Standing}
 use Rattle.seam_transcript.specs.InOrder.{in_order, after_round}
 use Rattle.seam_transcript.specs.Round.{IsRound, RoundData}
 use Rattle.seam_transcript.specs.Texts.{round_text}
-use Rattle.seam_transcript.specs.Transcript.{Piece, text_of, most_lines, Follows, Step, EndsInput}
+use Rattle.seam_transcript.specs.Transcript.{Piece, text_of, Follows, Step, EndsInput}
 use Rattle.seam_world.specs.Table.{TableRefines}
 use Rattle.seam_world.specs.declared.script.Script.{Script}
+use Rattle.seam_transcript.specs.declared.limits.TheConstants.{MOST_LINES}
 
 -- the script's table and counts are those of the standing, but for the accepted lines of the open round
 pub record IsReady (h : Header) (t : Standing) (s : Script) : Type 0 where
@@ -23,7 +24,7 @@ pub record IsReady (h : Header) (t : Standing) (s : Script) : Type 0 where
 pub record ScriptRefines (h : Header) (t : Standing) (s : Script) : Type 0 where
   pub ready : IsReady h t s
   pub accepted : s.accepted ≡ open_lines t.book
-  pub below_most : open_lines t.book < most_lines
+  pub below_most : open_lines t.book < MOST_LINES
 
 -- the open round ended with this text
 pub record RoundEnds (h : Header) (t : Standing) (new : Script) (text : List ℕ) : Type 0 where

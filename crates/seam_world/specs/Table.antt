@@ -9,7 +9,7 @@ use Rattle.seam_defs.specs.declared.types.TypeDef.{TypeDef}
 use Rattle.seam_defs.specs.declared.states.State.{State}
 use Rattle.seam_defs.specs.declared.flags.Part.{Part}
 use Rattle.seam_defs.specs.declared.flags.Part.TheVariants as part
-use Rattle.seam_call.specs.BaseNodes.{most_base_nodes}
+use Rattle.seam_defs.specs.declared.limits.TheConstants.{MOST_BASE_NODES}
 use Rattle.seam_call.specs.declared.sender.Sender.{Sender}
 use Rattle.seam_call.specs.declared.sender.Sender.TheVariants as sender
 use Rattle.seam_call.specs.declared.call.Call.{Call}
@@ -28,8 +28,8 @@ pub record PartRefines (h : Header) (p : Part) (c : Create) (order current : Lis
   pub state : s.state ≡ flat h p c order (length order)
   pub version : s.version ≡ length order
   pub done : s.done.items ≡ current
-  pub last : (n : ℕ) → n < most_base_nodes → slice_index s.last n ≡ length (of_sender (sender.Base (n + 1)) order)
-  pub senders : length s.last ≡ most_base_nodes
+  pub last : (n : ℕ) → n < MOST_BASE_NODES → slice_index s.last n ≡ length (of_sender (sender.Base (n + 1)) order)
+  pub senders : length s.last ≡ MOST_BASE_NODES
 
 -- an entity of the book: its parts are after all calls that the book accepted for them, and keep those of the open round
 pub record EntityRefines (h : Header) (b : Book) (e : ℕ) (v : Entity) : Type 0 where
@@ -54,8 +54,8 @@ pub record IsFresh (first : State) (s : PartState) : Type 0 where
   pub state : s.state ≡ first
   pub version : s.version ≡ 0
   pub done : s.done.items ≡ []
-  pub last : (n : ℕ) → n < most_base_nodes → slice_index s.last n ≡ 0
-  pub senders : length s.last ≡ most_base_nodes
+  pub last : (n : ℕ) → n < MOST_BASE_NODES → slice_index s.last n ≡ 0
+  pub senders : length s.last ≡ MOST_BASE_NODES
 
 -- a new entity
 pub record IsNew (h : Header) (c : Create) (v : Entity) : Type 0 where

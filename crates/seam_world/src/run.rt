@@ -18,7 +18,7 @@ ghost use Rattle.seam_world.specs.Histories.{HasHeader, Going, Stopped, Prints};
 use crate::Status;
 use crate::script::Script;
 use seam_accept::standard_header;
-use seam_io::{Lines, Next, Sink, Source, write_whole};
+use seam_io::{LONGEST_LINE, Lines, Next, Sink, Source, write_whole};
 use seam_transcript::Header;
 use std::alloc::Global;
 
@@ -161,7 +161,7 @@ fn print_line<K: Sink>(
     text: &mut Vec<u8>,
     out: &mut K,
 ) -> Option<Status>
-    requires { length line.now ≤ 4096 }
+    requires { length line.now ≤ LONGEST_LINE }
     ensures prints { (h : Headers) (t : Standing) → ScriptRefines h t script.old →
         Prints (LineRead h t (Content line.now) script.new) (K.state out.old) (K.state out.new) result }
     ensures later { (K.state out.old).faults ≤ (K.state out.new).faults }

@@ -10,9 +10,10 @@ use crate::count::next_count;
 use crate::table::Table;
 use crate::text::push_round;
 use seam_accept::read_line;
+use seam_io::LONGEST_LINE;
 use seam_report::push_refusal;
 use seam_transcript::{Cause, Header, MOST_LINES, Verdict};
-use seam_words::Words;
+use seam_words::MOST_WORDS;
 use std::alloc::{AllocError, Global};
 
 /// How far a script was read: the world, and the counts of its lines and rounds.
@@ -41,7 +42,7 @@ impl Script {
 
     /// Reads the next line, and appends what is printed for it.
     pub fn read_line(&mut self, line: &[u8], out: &mut Vec<u8>) -> Result<(), AllocError>
-        requires { length line.now ≤ 4096 }
+        requires { length line.now ≤ LONGEST_LINE }
         ensures { OnOk result ((h : Headers) (t : Standing) → ScriptRefines h t self.old
             → (text : List ℕ) × LineRead h t (Content line.now) self.new text × (out.new.items ≡ out.old.items ++ text)) }
     {
@@ -52,11 +53,11 @@ impl Script {
 
     // The verdict on a line.
     fn verdict_on(&self, line: &[u8]) -> Result<Verdict, AllocError>
-        requires { length line.now ≤ 4096 }
+        requires { length line.now ≤ LONGEST_LINE }
         ensures { IfOk result (λ v. (h : Headers) (t : Standing) → ScriptRefines h t self.now
             → Judges h t.book (Content line.now) v) }
     {
-        let mut table: [&[u8]; Words::MOST] = [b""; Words::MOST];
+        let mut table: [&[u8]; MOST_WORDS] = [b""; MOST_WORDS];
         match read_line(line, &mut table) {
             Ok(read) => match read {
                 Some(command) => self.table.judge(&command),

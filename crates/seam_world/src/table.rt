@@ -3,7 +3,6 @@
 ghost use Rattle.std.specs.Prelude.{◌≡◌, ◌≢◌, ◌<◌, ◌≤◌, ◌^◌, ◌+◌, ◌-◌, ◌++◌, ◌∷◌, [], ◌↔◌, ℕ, IsTrue, List, Some, None, length, min, OnOk};
 ghost use Rattle.std.specs.Prelude.{IfOk, MatchOption, slice_index};
 ghost use Rattle.seam_defs.specs.Groups.{held_by};
-ghost use Rattle.seam_call.specs.BaseNodes.{most_base_nodes};
 ghost use Rattle.seam_call.specs.declared.call.Call.{Call as Calls};
 ghost use Rattle.seam_call.specs.declared.create.Create.{Create as Creates};
 ghost use Rattle.seam_transcript.specs.declared.header.Header.{Header as Headers};
@@ -16,8 +15,8 @@ ghost use Rattle.seam_world.specs.Table.{StartsRound};
 
 use crate::count::next_count;
 use seam_accept::{CallWords, Command, CreateWords, Form, base_named, create_named, deed_named};
-use seam_call::{BaseNode, Call, Create, MOST_BASE_NODES, Sender};
-use seam_defs::{Deed, Defs, Part, State};
+use seam_call::{BaseNode, Call, Create, Sender};
+use seam_defs::{Deed, Defs, MOST_BASE_NODES, Part, State};
 use seam_transcript::{Cause, Entry, Header, MOST_ENTITIES, Verdict};
 use seam_value::positive_number;
 use std::alloc::{AllocError, Global};
@@ -30,7 +29,7 @@ pub struct PartState {
     pub state: State,
     pub version: u64,
     pub done: Vec<Call>,
-    last: [u64; MOST_BASE_NODES],
+    last: [u64; MOST_BASE_NODES as usize],
 }
 
 /// An entity of this type.
@@ -54,14 +53,14 @@ impl PartState {
         ensures state { result.state ≡ state }
         ensures version { result.version ≡ 0 }
         ensures done { result.done.items ≡ [] }
-        ensures last { (n : ℕ) → n < most_base_nodes → slice_index result.last n ≡ 0 }
-        ensures senders { length result.last ≡ most_base_nodes }
+        ensures last { (n : ℕ) → n < MOST_BASE_NODES → slice_index result.last n ≡ 0 }
+        ensures senders { length result.last ≡ MOST_BASE_NODES }
     {
         PartState {
             state,
             version: 0,
             done: Vec::new(alloc),
-            last: [0; MOST_BASE_NODES],
+            last: [0; MOST_BASE_NODES as usize],
         }
     }
 

@@ -3,6 +3,7 @@ use Rattle.std.proofs.Common.{Ok, Err}
 use Rattle.std.specs.Str.{IsUtf8}
 use Rattle.std.proofs.lemmas.Result.{err_from_is_err_and}
 use Rattle.std.proofs.lemmas.List.Elements.{All-push}
+use Rattle.seam_words.specs.declared.words.TheConstants.{MOST_WORDS}
 use Rattle.seam_words.specs.declared.words.Span.{Span}
 use Rattle.seam_words.specs.declared.words.WordsError.TheVariants.{TooManyWords}
 use Rattle.seam_words.specs.Words.{is_blank, HasFirstWords, AreWords, IsInside}
@@ -29,28 +30,28 @@ loop-rest-init c =
           run (omega arith) h);
     }
 
-pub returns-then-len-eq-MOST-clause-cause : goal.returns-then-len-eq-MOST-clause-cause
-returns-then-len-eq-MOST-clause-cause c =
+pub returns-then-len-eq-MOST_WORDS-clause-cause : goal.returns-then-len-eq-MOST_WORDS-clause-cause
+returns-then-len-eq-MOST_WORDS-clause-cause c =
     let utf8 : IsUtf8 c.args.line.now = search rules in
     let begins : BeginsWord c.loop-rest.rest.now = search rules in (
       utf8,
       has_fault c.args.line.now c.loop-rest.words c.loop-rest.rest.now TooManyWords
-          (c.loop-rest.invariant.prefix [] c.loop-rest.rest.now ([], refl, refl)) (sym c.len.ensures.count ∙ c.if-len-eq-MOST.true, begins),
+          (c.loop-rest.invariant.prefix [] c.loop-rest.rest.now ([], refl, refl)) (sym c.len.ensures.count ∙ c.if-len-eq-MOST_WORDS.true, begins),
     )
 
-pub returns-then-len-eq-MOST-clause-found : goal.returns-then-len-eq-MOST-clause-found
-returns-then-len-eq-MOST-clause-found c =
-    λ spans utf8 words most. absurd (no_words c.args.line.now TooManyWords (returns-then-len-eq-MOST-clause-cause c) spans utf8 words most)
+pub returns-then-len-eq-MOST_WORDS-clause-found : goal.returns-then-len-eq-MOST_WORDS-clause-found
+returns-then-len-eq-MOST_WORDS-clause-found c =
+    λ spans utf8 words most. absurd (no_words c.args.line.now TooManyWords (returns-then-len-eq-MOST_WORDS-clause-cause c) spans utf8 words most)
 
-pub returns-then-len-eq-MOST-clause-refused : goal.returns-then-len-eq-MOST-clause-refused
-returns-then-len-eq-MOST-clause-refused c =
-    λ error refusal. ap Err (same_refusal c.args.line.now TooManyWords error (returns-then-len-eq-MOST-clause-cause c) refusal)
+pub returns-then-len-eq-MOST_WORDS-clause-refused : goal.returns-then-len-eq-MOST_WORDS-clause-refused
+returns-then-len-eq-MOST_WORDS-clause-refused c =
+    λ error refusal. ap Err (same_refusal c.args.line.now TooManyWords error (returns-then-len-eq-MOST_WORDS-clause-cause c) refusal)
 
 -- the line is refused for its bad word
 bad_word : (c : goal.After-from_residual) → Refuses c.args.line.now c.in_err-after.field-0.0
 bad_word c =
     let utf8 : IsUtf8 c.args.line.now = search rules in
-    let few : length c.loop-rest.words < 16 = search rules in
+    let few : length c.loop-rest.words < MOST_WORDS = search rules in
     (refused c.args.line.now c.in_err-after.field-0.0 utf8
     (has_fault c.args.line.now c.loop-rest.words c.loop-rest.rest.now c.in_err-after.field-0.0
     (c.loop-rest.invariant.prefix [] c.loop-rest.rest.now ([], refl, refl))
@@ -79,7 +80,7 @@ loop-rest-preserved c =
     shorter c.begins_with_quote-quoted.result c.loop-rest.rest.now c.in_ok-after.after.now word in
     let span : Span = record { start = c.place.result; end = c.place-in-loop-rest.result; quoted = c.begins_with_quote-quoted.result } in
     let line : ℕ = length c.args.line.now in
-    let few : length c.loop-rest.words < 16 = search rules in
+    let few : length c.loop-rest.words < MOST_WORDS = search rules in
     let here : IsInside line span = record { ordered = omega arith; inside = omega arith } in
     record {
       within = omega (arith, c.after_gap-rest-in-loop-rest.ensures.within);

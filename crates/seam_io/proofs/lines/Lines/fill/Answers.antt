@@ -5,6 +5,7 @@ use Rattle.seam_io.specs.Reading.{Reader}
 use Rattle.seam_io.proofs.RangeLemmas.{range_size}
 use Rattle.seam_io.proofs.ReadLemmas.{fills, same_view, unread, refilled}
 use Rattle.seam_io.proofs.lines.Lines.fill.Goals as goal
+use Rattle.seam_io.specs.declared.lines.TheConstants.{LONGEST_LINE}
 
 pub returns-in_err-count-clause-reads : goal.returns-in_err-count-clause-reads
 returns-in_err-count-clause-reads g c = λ start given read r.
@@ -24,8 +25,8 @@ returns-clause-reads g c = λ start given read r.
     let len = c.refill-result.ensures.len in
     let size : length (slice_range c.self.inside.buffer.items c.self.inside.start c.self.inside.end)
     ≡ c.self.inside.end - c.self.inside.start = range_size _ _ _ (omega arith) (omega arith) in
-    let short : length (slice_range c.self.inside.buffer.items c.self.inside.start c.self.inside.end) ≤ 4096 =
-    subst (λ (r : Reader). length r.held ≤ 4096) (sym c.self.view_is) c.requires.short in
+    let short : length (slice_range c.self.inside.buffer.items c.self.inside.start c.self.inside.end) ≤ LONGEST_LINE =
+    subst (λ (r : Reader). length r.held ≤ LONGEST_LINE) (sym c.self.view_is) c.requires.short in
     let held = c.self.inside.end - c.self.inside.start in
     let bytes = drop held c.refill-result.new.buffer.items in
     let bound = c.in_ok-count.ensures.bound in
