@@ -9,7 +9,7 @@ mod header;
 mod naming;
 
 pub use command::{CallWords, Command, CreateWords, Form, read_line};
-pub use header::standard_header;
+pub use header::{is_separator, standard_header};
 pub use naming::{base_named, create_named, deed_named, type_named};
 
 #[cfg(test)]

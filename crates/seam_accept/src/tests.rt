@@ -1,4 +1,4 @@
-use crate::{Form, base_named, create_named, deed_named, read_line, standard_header};
+use crate::{Form, base_named, create_named, deed_named, is_separator, read_line, standard_header};
 use seam_defs::Deed;
 use seam_transcript::Cause;
 use std::process::Abort;
@@ -32,6 +32,14 @@ fn lines_are_refused(rt: HostRuntime) -> Result<(), Fail> {
         Err(cause) => assert_eq!(rt; cause, Cause::NoCommand),
         Ok(_) => panic!(rt; "a command"),
     }
+    Ok(())
+}
+
+#[test]
+fn two_percent_signs_end_a_header(rt: HostRuntime) -> Result<(), Fail> {
+    assert!(rt; is_separator(b"%%"));
+    assert!(rt; !is_separator(b"%% "));
+    assert!(rt; !is_separator(b"%"));
     Ok(())
 }
 

@@ -1,13 +1,13 @@
 // The run of a script, from the bytes of a source to what is written to a sink.
 ghost use Rattle.std.specs.Prelude.{◌≡◌, ◌≢◌, ◌↔◌, ◌∷◌, ◌<◌, ◌≤◌, ◌^◌, ◌⊎◌, ◌++◌, ◌+◌, [], List, ℕ, Option, MatchOption, MatchResult};
-ghost use Rattle.std.specs.Prelude.{MatchBool, IfNone, length, codes};
+ghost use Rattle.std.specs.Prelude.{IfNone, length, codes};
 ghost use Rattle.std.specs.Io.KnownBytes.{Appends};
 ghost use Rattle.seam_io.specs.Causes.{Rose};
 ghost use Rattle.seam_io.specs.States.{SourceState, SinkState};
 ghost use Rattle.seam_io.specs.Lines.{Content, Long};
 ghost use Rattle.seam_io.specs.Reading.{Reading, budget};
 ghost use Rattle.seam_transcript.specs.declared.header.Header.{Header as Headers};
-ghost use Rattle.seam_transcript.specs.Header.{separator, no_end, too_long};
+ghost use Rattle.seam_transcript.specs.Header.{no_end, too_long};
 ghost use Rattle.seam_transcript.specs.Standing.{Standing};
 ghost use Rattle.seam_transcript.specs.Transcript.{IsOpen, IsEnded};
 ghost use Rattle.seam_world.specs.Status.{IsRunEnd};
@@ -17,7 +17,7 @@ ghost use Rattle.seam_world.specs.Histories.{HasHeader, Going, Stopped, Prints};
 
 use crate::Status;
 use crate::script::Script;
-use seam_accept::standard_header;
+use seam_accept::{is_separator, standard_header};
 use seam_io::{LONGEST_LINE, Lines, Next, Sink, Source, write_whole};
 use seam_transcript::Header;
 use std::alloc::Global;
@@ -97,13 +97,6 @@ fn read_header<S: Source>(
         Next::ReadFault => Err(Status::ReadFault),
         Next::Limit => Err(Status::Limit),
     }
-}
-
-// Whether the line ends the header.
-fn is_separator(line: &[u8]) -> bool
-    ensures { MatchBool result (Content line.now ≡ separator) (Content line.now ≢ separator) }
-{
-    matches!(line, b"%%")
 }
 
 // Reads line by line, until the run ends.
