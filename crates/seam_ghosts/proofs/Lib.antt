@@ -1,1 +1,3 @@
-pub mod BookLemmas
+mod Messages
+mod Joins
+mod Copies

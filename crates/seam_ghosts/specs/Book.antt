@@ -1,5 +1,5 @@
 -- What a cell knows of ghosts: for each entity the greatest beat that it saw and, perhaps, a copy.
-use Rattle.std.specs.Prelude.{ℕ, Bool, true, nat_lt, List, [], ◌∷◌, Option, None, Some, if◌then◌else◌}
+use Rattle.std.specs.Prelude.{ℕ, nat_lt, List, [], ◌∷◌, Option, None, Some, if◌then◌else◌}
 use Rattle.std.specs.Ordering.{nat_cmp}
 use Rattle.std.specs.FinMap as map
 use Rattle.std.specs.FinSet as set
@@ -51,18 +51,18 @@ copied (g ∷ gs) = with_copy g.0 g.1.copy (copied gs)
 abbrev pub copies : {P : Type 0} → BookView P → List (ℕ × P)
 copies w = copied (map.entries w.ghosts)
 
--- the number comes after the given one, or is any where none is given
-abbrev pub is_after : Option ℕ → ℕ → Bool
-is_after None e = true
-is_after (Some low) e = nat_lt low e
-
 -- what a message of this beat meets, where the other one is known
 abbrev pub answer : ℕ → ℕ → Kept
 answer known beat = if nat_lt known beat then Taken else Ignored
 
+-- a copy has room, and a drop gives the room back
+abbrev pub with_room : {P : Type 0} → set.FinSet nat_cmp → ℕ → Option P → set.FinSet nat_cmp
+with_room room e None = set.remove room e
+with_room room e (Some p) = set.insert room e
+
 -- the book with this ghost in place of what was known of the entity
 abbrev pub with_ghost : {P : Type 0} → BookView P → ℕ → Ghost P → BookView P
-with_ghost w e g = record { ghosts = map.insert w.ghosts e g; room = set.insert w.room e }
+with_ghost w e g = record { ghosts = map.insert w.ghosts e g; room = with_room w.room e g.copy }
 
 -- after a message with a ghost of the entity: it is known from now on where its beat is greater, and else nothing changed
 abbrev pub after_message : {P : Type 0} → BookView P → ℕ → Ghost P → BookView P

@@ -1,2 +1,2 @@
 pub mod Book
-pub mod Slots
+pub mod Joined

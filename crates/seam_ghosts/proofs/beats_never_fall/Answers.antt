@@ -1,4 +1,4 @@
-use Rattle.seam_ghosts.proofs.BookLemmas.{beats_never_fall, greatest_beat, newest_copy, others_stay, entry_after}
+use Rattle.seam_ghosts.proofs.Messages.{beats_never_fall, greatest_beat, newest_copy, others_stay, entry_after}
 use Rattle.seam_ghosts.proofs.beats_never_fall.Goals as goal
 
 pub returns-clause-never_fall : goal.returns-clause-never_fall
