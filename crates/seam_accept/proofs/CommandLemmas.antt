@@ -2,7 +2,7 @@
 use Rattle.std.proofs.Common.{◌≡◌, ℕ, List, sym, ◌∙◌, subst}
 use Rattle.seam_io.specs.Lines.{Content}
 use Rattle.seam_words.specs.Texts.{HasWords}
-use Rattle.seam_transcript.specs.Language.{IsSkipped, Command, Sync, words_of, SpellsCommand}
+use Rattle.seam_transcript.specs.Language.{IsSkipped, Command, Sync, words_of}
 use Rattle.seam_transcript.specs.Book.{Book, Means, SpellsNone, Judges}
 use Rattle.seam_transcript.specs.declared.header.Header.{Header}
 use Rattle.seam_transcript.specs.declared.verdict.Entry.{Entry}

@@ -1,24 +1,22 @@
 -- What the words of a command name.
-use Rattle.std.proofs.Common.{◌≡◌, ◌≢◌, ◌-◌, ◌<◌, ◌≤◌, Bor, ℕ, Bool, true, false, List, [], ◌∷◌, length, map, take, drop, get_or, refl, sym}
-use Rattle.std.proofs.Common.{◌∙◌, ap, subst, arith, Some, ◌↔◌, not}
-use Rattle.std.specs.Prelude.{slice_get, option_map, is_some, IsTrue}
+use Rattle.std.proofs.Common.{◌≡◌, ◌≢◌, ◌-◌, ◌<◌, ◌≤◌, Bor, ℕ, List, [], ◌∷◌, length, map, take, drop, get_or, refl, sym}
+use Rattle.std.proofs.Common.{◌∙◌, ap, subst, arith, Some, not}
+use Rattle.std.specs.Prelude.{slice_get}
 use Rattle.std.proofs.lemmas.List.{take_all}
-use Rattle.std.proofs.lemmas.Option.{slice_get-map, slice_get-get_or, same_Some, none-some}
-use Rattle.std.proofs.lemmas.Bool.{false≢true}
+use Rattle.std.proofs.lemmas.Option.{same_Some}
 use Rattle.seam_value.specs.Values.{Fits, text_of, decimal_of}
 use Rattle.seam_value.specs.declared.types.ValueType.{ValueType}
 use Rattle.seam_value.specs.declared.types.ValueType.TheVariants as type
 use Rattle.seam_value.specs.declared.values.Value.{Value}
 use Rattle.seam_value.proofs.Decimals.{decimal_of-injective}
 use Rattle.seam_defs.specs.Deeds.{TakesArgs}
-use Rattle.seam_defs.specs.Types.{type_of, method_of, no_type, no_method, names_of_types, names_of_methods}
+use Rattle.seam_defs.specs.Types.{type_of, method_of, names_of_types, names_of_methods}
 use Rattle.seam_defs.specs.declared.types.TypeDef.{TypeDef}
-use Rattle.seam_defs.specs.declared.types.Method.{Method}
 use Rattle.seam_accept.specs.Commands.{texts_of}
 use Rattle.seam_call.specs.BaseNodes.{IsBaseNodeOf}
 use Rattle.seam_call.specs.declared.sender.Sender.TheVariants.{Base}
 use Rattle.seam_transcript.specs.Language.{sender_text}
-use Rattle.seam_transcript.specs.Book.{IsBuilt, NamesType, NamesMethod, NamesDeed}
+use Rattle.seam_transcript.specs.Book.{IsBuilt, NamesType, NamesMethod}
 use Rattle.seam_transcript.proofs.Names.{place_of_type, place_of_method}
 
 -- ---- senders

@@ -1,5 +1,5 @@
 -- Commands as code reads them, and the verdicts on them.
-use Rattle.std.specs.Prelude.{◌≡◌, ℕ, List, map}
+use Rattle.std.specs.Prelude.{ℕ, List, map}
 use Rattle.std.specs.Borrow.{Bor}
 use Rattle.seam_io.specs.Lines.{Content}
 use Rattle.seam_transcript.specs.Language.{IsSkipped, Command, Create, Call, Sync, SpellsCommand}

@@ -1,10 +1,9 @@
 -- Lines that change nothing, and headers.
-use Rattle.std.proofs.Common.{◌≡◌, ◌↔◌, ◌+◌, ℕ, List, [], ◌∷◌, ◌++◌, ap, ◌∙◌, subst, append_assoc}
+use Rattle.std.proofs.Common.{◌≡◌, ◌↔◌, ◌+◌, ℕ, List, [], ◌∷◌, subst}
 use Rattle.seam_io.specs.Lines.{Line, Content, Long}
 use Rattle.seam_words.specs.Texts.{HasWords}
 use Rattle.seam_transcript.specs.Language.{IsSkipped}
 use Rattle.seam_transcript.specs.declared.header.Header.{Header}
-use Rattle.seam_transcript.specs.Header.{BeginWithHeader, separator}
 use Rattle.seam_transcript.specs.Book.{SpellsNone, Judges}
 use Rattle.seam_transcript.specs.Standing.{Standing, with_line}
 use Rattle.seam_transcript.specs.Transcript.{Piece, Refusal, Follows, Step}

@@ -1,5 +1,5 @@
 -- What the table holds after it made an entity.
-use Rattle.std.proofs.Common.{◌≡◌, ◌≢◌, ◌+◌, ℕ, List, [], ◌∷◌, ◌++◌, length, refl, sym, ◌∙◌, ap, subst, inl, inr, Option, Some, None}
+use Rattle.std.proofs.Common.{◌≡◌, ◌≢◌, ◌+◌, ℕ, List, [], ◌∷◌, ◌++◌, refl, sym, ◌∙◌, ap, subst, inl, inr, Option, Some, None}
 use Rattle.std.specs.Prelude.{MatchOption}
 use Rattle.std.specs.Ordering.{nat_cmp}
 use Rattle.std.specs.BTreeMap.{get, btree_map_len, Updates, IsOrdered, BTreeMap}
@@ -11,7 +11,7 @@ use Rattle.seam_call.specs.declared.call.Call.{Call}
 use Rattle.seam_call.specs.declared.create.Create.{Create}
 use Rattle.seam_transcript.specs.declared.header.Header.{Header}
 use Rattle.seam_transcript.specs.Language as language
-use Rattle.seam_transcript.specs.Book.{Book, entries, creates_of, created_as, with_entry, MayCreate, Means}
+use Rattle.seam_transcript.specs.Book.{Book, entries, created_as, with_entry, MayCreate, Means}
 use Rattle.seam_transcript.specs.FlatTable.{first_state}
 use Rattle.seam_transcript.specs.InOrder.{in_order}
 use Rattle.seam_transcript.specs.declared.verdict.Entry.{Entry}

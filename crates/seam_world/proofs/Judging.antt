@@ -1,16 +1,14 @@
 -- What the table answers of commands.
-use Rattle.std.proofs.Common.{◌≡◌, ◌≢◌, ◌↔◌, ◌+◌, ◌-◌, ◌<◌, ◌^◌, min, ℕ, List, length, refl, sym, ◌∙◌, ap, subst, arith, Option, Some, None}
-use Rattle.std.specs.Prelude.{MatchOption, IsTrue, slice_index}
+use Rattle.std.proofs.Common.{◌≡◌, ◌≢◌, ◌+◌, ◌-◌, ℕ, List, length, refl, sym, ◌∙◌, ap, subst, arith, Option, Some, None}
+use Rattle.std.specs.Prelude.{MatchOption, slice_index}
 use Rattle.std.specs.Ordering.{nat_cmp}
 use Rattle.std.specs.BTreeMap.{get}
 use Rattle.std.proofs.lemmas.Option.{none-some, same_Some}
 use Rattle.seam_value.specs.NumberWords.{SpellsPositive}
-use Rattle.seam_value.specs.declared.values.Value.{Value}
 use Rattle.seam_value.proofs.NumberWords.{spells_one_number}
 use Rattle.seam_defs.specs.Types.{type_of}
 use Rattle.seam_defs.specs.Deeds.{part_of_deed}
 use Rattle.seam_defs.specs.declared.types.TypeDef.{TypeDef}
-use Rattle.seam_defs.specs.declared.flags.Part.{Part}
 use Rattle.seam_defs.specs.declared.flags.Part.TheVariants as part
 use Rattle.seam_defs.specs.declared.states.Deed.{Deed}
 use Rattle.seam_call.specs.BaseNodes.{IsBaseNodeOf}
@@ -20,11 +18,9 @@ use Rattle.seam_call.specs.declared.call.Call.{Call}
 use Rattle.seam_call.specs.declared.create.Create.{Create}
 use Rattle.seam_transcript.specs.declared.header.Header.{Header}
 use Rattle.seam_transcript.specs.Language as language
-use Rattle.seam_transcript.specs.Book.{Book, entries, created_as, accepted, NamesCreate, NamesDeed, NamesSender, NamesCall, MayCreate}
-use Rattle.seam_transcript.specs.Book.{Means}
+use Rattle.seam_transcript.specs.Book.{Book, entries, created_as, NamesCreate, NamesDeed, NamesSender, NamesCall, MayCreate}
 use Rattle.seam_transcript.specs.Orders.{of_sender}
 use Rattle.seam_transcript.specs.InOrder.{in_order}
-use Rattle.seam_transcript.specs.declared.verdict.Entry.{Entry}
 use Rattle.seam_transcript.specs.declared.verdict.Entry.TheVariants as entry
 use Rattle.seam_transcript.specs.declared.verdict.Cause.TheVariants as cause
 use Rattle.seam_transcript.specs.declared.verdict.Verdict.TheVariants as verdict

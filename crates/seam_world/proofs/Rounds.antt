@@ -12,7 +12,6 @@ use Rattle.std.proofs.Math.ListN.{get_or-map}
 use Rattle.std.proofs.lemmas.List.{length-map}
 use Rattle.std.proofs.lemmas.Map.Keys.{IsStrictlyIncreasing-from_sorted}
 use Rattle.std.proofs.lemmas.List.Elements.{All-head, All-tail, All-cons, All-nil}
-use Rattle.seam_defs.specs.declared.flags.Part.{Part}
 use Rattle.seam_defs.specs.declared.flags.Part.TheVariants as part
 use Rattle.seam_defs.specs.declared.states.State.{State}
 use Rattle.seam_call.specs.declared.call.Call.{Call}
@@ -21,9 +20,8 @@ use Rattle.seam_transcript.specs.declared.header.Header.{Header}
 use Rattle.seam_transcript.specs.Book.{Book, entries as entries_of, creates_of, created_as}
 use Rattle.seam_transcript.specs.FlatTable.{flat}
 use Rattle.seam_transcript.specs.InOrder.{in_order, round_in_order, after_round}
-use Rattle.seam_transcript.specs.Orders.{Orders}
 use Rattle.seam_transcript.specs.Standing.{Standing}
-use Rattle.seam_transcript.specs.Round.{DoneLine, HomeLine, BaseLine, RoundData, Lists, done_lines, home_line, base_line, only_cell}
+use Rattle.seam_transcript.specs.Round.{HomeLine, BaseLine, RoundData, Lists, home_line, base_line}
 use Rattle.seam_transcript.specs.Round.{IsRound}
 use Rattle.seam_transcript.proofs.InOrderLemmas.{found_entity, round_in_order_is_legal}
 use Rattle.seam_world.specs.Table.{EntityRefines, TableRefines}

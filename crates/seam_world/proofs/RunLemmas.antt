@@ -1,27 +1,24 @@
 -- How a run goes on, and how it stops.
-use Rattle.std.proofs.Common.{◌≡◌, ◌≢◌, inl, inr, ℕ, ◌+◌, ◌≤◌, ◌^◌, Bool, true, false, List, [], ◌∷◌, ◌++◌, Option, None, Some, refl, sym}
-use Rattle.std.proofs.Common.{ap, ◌∙◌, subst, arith, append_assoc, append-nil, length, length-append, take, drop, get_or, drop-cons}
-use Rattle.std.proofs.Common.{add-one, ◌<◌}
+use Rattle.std.proofs.Common.{◌≡◌, ◌≢◌, inl, inr, ℕ, ◌≤◌, List, [], ◌∷◌, ◌++◌, Option, None, Some, refl, sym}
+use Rattle.std.proofs.Common.{ap, ◌∙◌, subst, arith, append_assoc, append-nil, length}
 use Rattle.std.proofs.KnownBytes.{Appends-trans, Appends-nil}
-use Rattle.std.proofs.lemmas.List.{take-append-drop}
 use Rattle.std.proofs.lemmas.List.Concat.{flat_map-append}
-use Rattle.std.proofs.lemmas.Bool.{false≢true}
 use Rattle.std.specs.Prelude.{MatchOption}
 use Rattle.std.specs.Io.KnownBytes.{Consumes, Appends}
 use Rattle.seam_io.specs.Causes.{Rose}
 use Rattle.seam_io.specs.States.{SourceState, SinkState}
-use Rattle.seam_io.specs.Lines.{Line, Content, Long, lines_of, whole_lines_of, lines_left}
-use Rattle.seam_io.specs.Reading.{Reader, Reading, budget, IsExact}
+use Rattle.seam_io.specs.Lines.{Line, Long, whole_lines_of}
+use Rattle.seam_io.specs.Reading.{Reader, Reading, IsExact}
 use Rattle.seam_io.specs.declared.lines.Next.TheVariants as next
 use Rattle.seam_transcript.specs.declared.header.Header.{Header}
-use Rattle.seam_transcript.specs.Header.{Reads, separator, BeginWithHeader, AwaitHeader, no_end, too_long}
-use Rattle.seam_transcript.specs.Standing.{Standing, after_header}
-use Rattle.seam_transcript.specs.Transcript.{Piece, text_of, piece_text, Step, Run, PrintLines, IsOpen, IsEnded, EndsInput}
+use Rattle.seam_transcript.specs.Header.{Reads, separator, AwaitHeader}
+use Rattle.seam_transcript.specs.Standing.{after_header}
+use Rattle.seam_transcript.specs.Transcript.{Piece, text_of, piece_text, Step, PrintLines, IsOpen, IsEnded}
 use Rattle.seam_transcript.proofs.RunLemmas.{run_with_line}
-use Rattle.seam_transcript.proofs.HeaderLemmas.{header_of_append, await_at_first, no_line_awaits, header_of_first_line, lines_of_header}
+use Rattle.seam_transcript.proofs.HeaderLemmas.{header_of_append, await_at_first, no_line_awaits, header_of_first_line}
 use Rattle.seam_world.specs.Script.{ScriptRefines, LineRead, InputEnded}
 use Rattle.seam_world.specs.Status.{IsHeaderEnd, IsRunEnd}
-use Rattle.seam_world.specs.Ends.{IsPrefix, IsProperPrefix, AreFirst, AreAll, IsSoFar, Tells, HasFaultLine, RunEnds, most_bytes}
+use Rattle.seam_world.specs.Ends.{IsProperPrefix, IsSoFar, Tells, HasFaultLine, RunEnds, most_bytes}
 use Rattle.seam_world.specs.Histories.{HasHeader, Going, Stopped, Prints}
 use Rattle.seam_world.specs.declared.script.Script.{Script}
 use Rattle.seam_world.specs.declared.status.Status.{Status}

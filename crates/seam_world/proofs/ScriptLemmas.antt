@@ -1,24 +1,21 @@
 -- What a script does to its standing.
-use Rattle.std.proofs.Common.{◌≡◌, ◌≢◌, ℕ, ◌+◌, ◌-◌, ◌<◌, ◌≤◌, ◌^◌, min, Bool, true, false, List, [], ◌∷◌, ◌++◌, length, refl, sym, ap, ◌∙◌}
+use Rattle.std.proofs.Common.{◌≡◌, ◌≢◌, ℕ, ◌+◌, ◌<◌, ◌≤◌, Bool, true, false, List, [], ◌∷◌, ◌++◌, length, refl, sym, ap, ◌∙◌}
 use Rattle.std.proofs.Common.{subst, arith, length-append, append-nil}
 use Rattle.std.specs.Prelude.{MatchBool, ◌==◌}
-use Rattle.std.specs.List.{flat_map}
 use Rattle.std.proofs.lemmas.Grind.{common_steps}
 use Rattle.seam_io.specs.Lines.{Line}
 use Rattle.seam_defs.specs.declared.types.TypeDef.{TypeDef}
 use Rattle.seam_transcript.specs.declared.header.Header.{Header}
 use Rattle.seam_transcript.specs.Book.{Book, entries, open_lines, with_entry, with_round_ended, Judges}
 use Rattle.seam_transcript.specs.Standing.{Standing, after_header, with_line, with_book}
-use Rattle.seam_transcript.specs.InOrder.{in_order, after_round}
-use Rattle.seam_transcript.specs.Orders.{Orders}
-use Rattle.seam_transcript.specs.Round.{IsRound, RoundData}
+use Rattle.seam_transcript.specs.InOrder.{after_round}
+use Rattle.seam_transcript.specs.Round.{RoundData}
 use Rattle.seam_transcript.specs.Texts.{refusal, round_text}
-use Rattle.seam_transcript.specs.Transcript.{Piece, Refusal, Ended, text_of, EndsRound, Keeps, Follows, EndsInput}
+use Rattle.seam_transcript.specs.Transcript.{Piece, Refusal, Ended, text_of, EndsRound}
 use Rattle.seam_transcript.specs.declared.verdict.Entry.{Entry}
 use Rattle.seam_transcript.specs.declared.verdict.Cause.{Cause}
 use Rattle.seam_transcript.specs.declared.verdict.Verdict.{Verdict}
 use Rattle.seam_transcript.specs.declared.verdict.Verdict.TheVariants as verdict
-use Rattle.seam_transcript.proofs.InOrderLemmas.{entries_after_round}
 use Rattle.seam_world.specs.Table.{TableRefines}
 use Rattle.seam_world.specs.Text.{round_of}
 use Rattle.seam_world.specs.Script.{IsReady, ScriptRefines, RoundEnds, VerdictFollowed, LineRead, InputEnded}

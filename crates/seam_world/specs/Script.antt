@@ -1,9 +1,9 @@
 -- How far a script was read, beside the standing of a transcript.
-use Rattle.std.specs.Prelude.{◌≡◌, ℕ, ◌+◌, ◌<◌, List, length}
+use Rattle.std.specs.Prelude.{◌≡◌, ℕ, ◌<◌, List}
 use Rattle.seam_io.specs.Lines.{Line}
 use Rattle.seam_transcript.specs.declared.header.Header.{Header}
 use Rattle.seam_transcript.specs.declared.verdict.Verdict.{Verdict}
-use Rattle.seam_transcript.specs.Book.{entries, open_lines}
+use Rattle.seam_transcript.specs.Book.{open_lines}
 use Rattle.seam_transcript.specs.Standing.{Standing}
 use Rattle.seam_transcript.specs.InOrder.{in_order, after_round}
 use Rattle.seam_transcript.specs.Round.{IsRound, RoundData}

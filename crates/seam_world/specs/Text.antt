@@ -1,7 +1,6 @@
 -- The round of a table, by what the table holds.
 use Rattle.std.specs.Prelude.{ℕ, List, map}
 use Rattle.std.specs.List.{flat_map}
-use Rattle.seam_call.specs.declared.call.Call.{Call}
 use Rattle.seam_transcript.specs.Round.{DoneLine, HomeLine, BaseLine, RoundData, only_cell}
 use Rattle.seam_world.specs.declared.table.PartState.{PartState}
 use Rattle.seam_world.specs.declared.table.Entity.{Entity}

@@ -1,4 +1,4 @@
-use Rattle.std.proofs.Common.{subst, arith}
+use Rattle.std.proofs.Common.{arith}
 use Rattle.seam_value.proofs.NumberWords.{spells_one_number}
 use Rattle.seam_accept.proofs.naming.place_named.Goals as goal
 

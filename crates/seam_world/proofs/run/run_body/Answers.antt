@@ -1,4 +1,4 @@
-use Rattle.std.proofs.Common.{[], refl, arith, ◌∙◌}
+use Rattle.std.proofs.Common.{[], refl, arith}
 use Rattle.std.proofs.KnownBytes.{Consumes-nil}
 use Rattle.seam_world.proofs.RunLemmas.{nothing_judged, after_a_header}
 use Rattle.seam_world.proofs.run.run_body.Goals as goal

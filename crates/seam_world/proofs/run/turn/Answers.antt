@@ -1,4 +1,4 @@
-use Rattle.std.proofs.Common.{◌∷◌, refl, arith}
+use Rattle.std.proofs.Common.{refl, arith}
 use Rattle.std.proofs.KnownBytes.{Appends-nil}
 use Rattle.seam_io.specs.Lines.{Content, Long}
 use Rattle.seam_world.proofs.RunLemmas.{line_printed, done, last_printed, read_fault, limit_reached}

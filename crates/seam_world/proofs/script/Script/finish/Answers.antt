@@ -1,4 +1,4 @@
-use Rattle.std.proofs.Common.{[], sym, arith, append-nil}
+use Rattle.std.proofs.Common.{[], sym, append-nil}
 use Rattle.seam_world.proofs.Results.{on_ok}
 use Rattle.seam_world.proofs.ScriptLemmas.{last_round, nothing_open}
 use Rattle.seam_world.proofs.script.Script.finish.Goals as goal

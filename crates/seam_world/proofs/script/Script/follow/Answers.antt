@@ -1,4 +1,4 @@
-use Rattle.std.proofs.Common.{◌∙◌, [], refl, sym, subst, arith, append-nil}
+use Rattle.std.proofs.Common.{[], refl, sym, subst, arith, append-nil}
 use Rattle.seam_transcript.specs.Standing.{with_book}
 use Rattle.seam_transcript.specs.Book.{with_entry, Judges}
 use Rattle.seam_transcript.specs.Texts.{refusal}

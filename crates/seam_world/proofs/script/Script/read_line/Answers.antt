@@ -1,4 +1,4 @@
-use Rattle.std.proofs.Common.{refl, arith}
+use Rattle.std.proofs.Common.{refl}
 use Rattle.seam_io.specs.Lines.{Content}
 use Rattle.seam_transcript.specs.Standing.{with_line}
 use Rattle.seam_world.proofs.Results.{on_ok}

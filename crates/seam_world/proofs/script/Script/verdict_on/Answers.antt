@@ -1,4 +1,3 @@
-use Rattle.std.proofs.Common.{arith}
 use Rattle.std.proofs.lemmas.Option.{MatchOption-at_some}
 use Rattle.seam_world.proofs.Results.{if_ok}
 use Rattle.seam_world.proofs.script.Script.verdict_on.Goals as goal

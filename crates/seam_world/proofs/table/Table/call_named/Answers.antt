@@ -1,6 +1,5 @@
 use Rattle.std.proofs.Common.{sym, refl, subst}
 use Rattle.std.proofs.lemmas.Option.{MatchOption-at_some, MatchOption-at_none}
-use Rattle.seam_call.specs.declared.call.Call.{Call}
 use Rattle.seam_transcript.specs.Book.{NamesCall}
 use Rattle.seam_accept.specs.Commands.{texts_of}
 use Rattle.seam_world.proofs.Judging.{no_entity, no_deed, call_named}
