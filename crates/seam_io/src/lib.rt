@@ -1,4 +1,6 @@
 //! Sources and sinks of bytes that count their faults, the lines of a source, and whole writes to a sink.
+//!
+//! Of `proofs/`, `LineLemmas` (the lines of bytes to which more are appended) is for callers.
 #![tactic(auto)]
 
 mod laws;

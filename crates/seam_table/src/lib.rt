@@ -2,6 +2,8 @@
 //!
 //! Contracts see a table as a finite map, and beside it the numbers for which there is room. A call that is to change several tables, or
 //! all or none of them, makes room first and changes what cannot fail then.
+//!
+//! Of `proofs/`, `Found` (what a search of a table's entries finds) is for callers.
 #![tactic(auto)]
 
 ghost use Rattle.std.specs.Prelude.{◌≡◌, ℕ, Bool, Some, find, true, false, OnOk, OnErr, IfOk, IfErr, IfSome, option_map, option_copied};

@@ -2,7 +2,9 @@
 //! reader who believes `Language`, `Header`, `Book`, `Orders`, `FlatTable`, `Standing`, `Round`, `Texts` and `Transcript` of
 //! `specs/`, and the words of the crates below that they use, has to believe nothing else of the server.
 //!
-//! Of `proofs/`, `InOrderLemmas` and `RunLemmas` are for callers.
+//! Of `proofs/`, these are for callers: `Verdicts`, `SkipLemmas` and `LineLaws` (a line has one verdict; lines without words, and lines
+//! that change nothing), `Names` (places of names among types and methods), `HeaderLemmas`, `Lists` (entities in rising number),
+//! `InOrderLemmas` (calls executed as they were accepted), `RunLemmas`, and `OneSender` (where a transcript is the only one).
 #![tactic(auto)]
 
 mod header;

@@ -1,5 +1,8 @@
 //! The values that properties and arguments hold: whole numbers and short texts, their nine types,
 //! and the one way in which each value is spelled.
+//!
+//! Of `proofs/`, `Decimals` (digits and their numbers), `NumberWords` (words that are numbers) and `Answers` (a spelling is that of
+//! one value) are for callers.
 #![tactic(auto)]
 
 mod laws;
