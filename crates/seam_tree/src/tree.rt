@@ -58,7 +58,7 @@ impl Model for Tree {
     ghost use Rattle.std.specs.Prelude.{◌≡◌, ◌≤◌, take, length};
     ghost use Rattle.seam_tree.specs.Division.{Division, IsTree};
     ghost use Rattle.seam_tree.specs.Table.{padded};
-    ghost use Rattle.seam_tree.specs.Inverse.{take-padded};
+    ghost use Rattle.seam_tree.specs.Inverse.{take_padded};
     ghost use Rattle.std.proofs.Common.{sym};
 
     ghost Value = { Division };
@@ -71,7 +71,7 @@ impl Model for Tree {
 
     ghost inverse = { λ t. record { size = t.size; count = length t.cuts; cuts = padded t.cuts } };
 
-    ghost inverse_ok = { λ a h. λ i. record { size = a.size; count = take-padded a.count a.cuts h.0 h.1 i; cuts = sym h.1 i } };
+    ghost inverse_ok = { λ a h. λ i. record { size = a.size; count = take_padded a.count a.cuts h.0 h.1 i; cuts = sym h.1 i } };
 }
 
 impl Tree {

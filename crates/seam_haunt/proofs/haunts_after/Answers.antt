@@ -6,7 +6,7 @@ use Rattle.std.specs.FinSet as set
 use Rattle.seam_tree.specs.Cells.{Cells}
 use Rattle.seam_tree.specs.Division.{cells_of}
 use Rattle.seam_haunt.specs.Haunts.{is_haunt, IsHaunt}
-use Rattle.seam_haunt.proofs.Chosen.{contains-haunts_of, haunts_of-each, contains-haunts_more, contains-haunts_same}
+use Rattle.seam_haunt.proofs.Chosen.{contains_haunts_of, haunts_of_each, contains_haunts_more, contains_haunts_same}
 use Rattle.seam_haunt.proofs.haunts_after.Goals as goal
 use Rattle.seam_haunt.proofs.haunts_after.Goals.{then-haunts_cell, else-haunts_cell}
 
@@ -20,10 +20,10 @@ loop-cell-preserved c cell =
     elim c.if-haunts_cell.branch [
       | then-haunts_cell w ↦
           ap (λ (s : Cells). set.contains s cell) (w.haunts-is ∙ w.with-haunts.ensures)
-          ∙ contains-haunts_more test c.loop-cell.cell c.loop-cell.haunts c.loop-cell.invariant (sym c.haunts_cell.ensures ∙ w.if-haunts_cell.true) cell
+          ∙ contains_haunts_more test c.loop-cell.cell c.loop-cell.haunts c.loop-cell.invariant (sym c.haunts_cell.ensures ∙ w.if-haunts_cell.true) cell
       | else-haunts_cell w ↦
           ap (λ (s : Cells). set.contains s cell) w.haunts-is
-          ∙ contains-haunts_same test c.loop-cell.cell c.loop-cell.haunts c.loop-cell.invariant (sym c.haunts_cell.ensures ∙ w.if-haunts_cell.false) cell
+          ∙ contains_haunts_same test c.loop-cell.cell c.loop-cell.haunts c.loop-cell.invariant (sym c.haunts_cell.ensures ∙ w.if-haunts_cell.false) cell
     ]
 
 all_cells : (c : goal.After-loop-cell) → c.loop-cell.cell ≡ cells_of c.args.tree.now
@@ -34,8 +34,8 @@ returns-clause-value c =
     set.same_set nat_cmp_total set.nat_cmp-IsAntisymmetric _ _ (λ cell.
     c.loop-cell.invariant cell
     ∙ ap (λ (n : ℕ). nat_lt cell n && is_haunt c.args.pos c.args.home c.args.old c.args.tree.now c.args.near c.args.far cell) (all_cells c)
-    ∙ sym (contains-haunts_of c.args.pos c.args.home c.args.old c.args.tree.now c.args.near c.args.far cell))
+    ∙ sym (contains_haunts_of c.args.pos c.args.home c.args.old c.args.tree.now c.args.near c.args.far cell))
 
 pub returns-clause-each : goal.returns-clause-each
 returns-clause-each c cell =
-    subst (λ (s : Cells). IsTrue (set.contains s cell) ↔ IsHaunt c.args.pos c.args.home c.args.old c.args.tree.now c.args.near c.args.far cell) (sym (returns-clause-value c)) (haunts_of-each c.args.pos c.args.home c.args.old c.args.tree.now c.args.near c.args.far cell)
+    subst (λ (s : Cells). IsTrue (set.contains s cell) ↔ IsHaunt c.args.pos c.args.home c.args.old c.args.tree.now c.args.near c.args.far cell) (sym (returns-clause-value c)) (haunts_of_each c.args.pos c.args.home c.args.old c.args.tree.now c.args.near c.args.far cell)

@@ -1,0 +1,81 @@
+use crate::cost::Cost;
+use seam_balance::balance;
+use seam_geo::Pos;
+use seam_haunt::haunts_after;
+use seam_tree::{Axis, CellSet, Tree};
+use std::alloc::Global;
+use std::io;
+use std::time::{Clock, Instant};
+
+// A space of rows of up to four cells.
+fn grid(cells: u8) -> Tree {
+    let mut tree = Tree::one(10_000);
+    for k in 1..cells {
+        let row = u32::from(k % 4);
+        let column = u32::from(k / 4);
+        let _cut = if k < 4 {
+            tree.cut(row - 1, Axis::Z, row * 2_500)
+        } else {
+            tree.cut(u32::from(k - 4), Axis::X, column * 2_500)
+        };
+    }
+    tree
+}
+
+// A position of the space, of which each number gives another.
+fn place(i: u32) -> Pos {
+    Pos {
+        x: i.wrapping_mul(7_919) % 10_000,
+        z: i.wrapping_mul(104_729) % 10_000,
+    }
+}
+
+pub fn haunts(clock: &impl Clock, cells: u8, calls: u32) -> io::Result<Cost> {
+    let tree = grid(cells);
+    let start = Instant::now(clock)?;
+    let mut haunts = CellSet::none();
+    let mut sum = 0u64;
+    for i in 0..calls {
+        haunts = haunts_after(place(i), (i % 4) as u8, haunts, &tree, 500, 520);
+        sum = sum.wrapping_add(u64::from(haunts.holds((i % 16) as u8)));
+    }
+    Cost::since(clock, start, calls, sum)
+}
+
+pub fn shift(clock: &impl Clock, cells: u8, calls: u32) -> io::Result<Cost> {
+    let mut tree = grid(cells);
+    let start = Instant::now(clock)?;
+    let mut sum = 0u64;
+    for i in 0..calls {
+        let done = tree.shift(1 + i % 3, 2_500 * (1 + i % 3) + i % 100);
+        sum = sum.wrapping_add(u64::from(done.is_ok()));
+    }
+    Cost::since(clock, start, calls, sum)
+}
+
+pub fn area(clock: &impl Clock, cells: u8, calls: u32) -> io::Result<Cost> {
+    let tree = grid(cells);
+    let start = Instant::now(clock)?;
+    let mut sum = 0u64;
+    for i in 0..calls {
+        if let Some(area) = tree.area((i % 16) as u8) {
+            sum = sum.wrapping_add(u64::from(area.high().x));
+        }
+    }
+    Cost::since(clock, start, calls, sum)
+}
+
+pub fn balanced(rt: &(impl Clock + Alloc<A = Global>), cells: u8, calls: u32) -> io::Result<Cost> {
+    let alloc = rt.alloc();
+    let mut tree = grid(cells);
+    let mut positions = Vec::new(alloc);
+    for i in 0..1_000 {
+        positions.push(place(i))?;
+    }
+    let start = Instant::now(rt)?;
+    for _ in 0..calls {
+        tree = balance(alloc, &tree, &positions, 100)?;
+    }
+    let sum = tree.boundary(1).map_or(0, |b| u64::from(b.at));
+    Cost::since(rt, start, calls, sum)
+}
