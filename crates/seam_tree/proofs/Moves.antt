@@ -34,7 +34,7 @@ above_within_along X a at runs = record { low_x = omega (arith, runs.from_low); 
 above_within_along Z a at runs = record { low_x = omega arith; low_z = omega (arith, runs.from_low); high_x = omega arith; high_z = omega arith }
 
 -- a cell after one more cut
-area_of_new : (t : Division) (n : ℕ) → area_after t (suc n) (suc n) ≡ above (area_after t n (cut_after t n).cell) (cut_after t n).boundary
+pub area_of_new : (t : Division) (n : ℕ) → area_after t (suc n) (suc n) ≡ above (area_after t n (cut_after t n).cell) (cut_after t n).boundary
 area_of_new t n =
     elim (area_step t n (suc n) (omega arith)) [
       | is_new _ e ↦ e
@@ -42,7 +42,7 @@ area_of_new t n =
       | is_other w _ _ ↦ absurd (omega arith)
     ]
 
-area_of_cut : (t : Division) (n : ℕ) → (cut_after t n).cell ≤ n → area_after t (suc n) (cut_after t n).cell ≡ below (area_after t n (cut_after t n).cell) (cut_after t n).boundary
+pub area_of_cut : (t : Division) (n : ℕ) → (cut_after t n).cell ≤ n → area_after t (suc n) (cut_after t n).cell ≡ below (area_after t n (cut_after t n).cell) (cut_after t n).boundary
 area_of_cut t n there =
     elim (area_step t n (cut_after t n).cell (omega arith)) [
       | is_new e _ ↦ absurd (omega arith)
@@ -50,7 +50,7 @@ area_of_cut t n there =
       | is_other _ other _ ↦ absurd (other refl)
     ]
 
-area_of_other : (t : Division) (n c : ℕ) → c ≤ n → c ≢ (cut_after t n).cell → area_after t (suc n) c ≡ area_after t n c
+pub area_of_other : (t : Division) (n c : ℕ) → c ≤ n → c ≢ (cut_after t n).cell → area_after t (suc n) c ≡ area_after t n c
 area_of_other t n c within other =
     elim (area_step t n c (omega arith)) [
       | is_new e _ ↦ absurd (omega arith)

@@ -4,15 +4,16 @@
 //! `proofs/Leaves` says that a leaf is a cell.
 #![tactic(auto)]
 
+mod area_table;
 mod boundary;
 mod cell_set;
-mod corners;
 mod cut;
 mod laws;
 #[cfg(test)]
 mod tests;
 mod tree;
 
+pub use area_table::MOST_CELLS;
 pub use boundary::{Axis, Boundary};
 pub use cell_set::CellSet;
 pub use laws::{areas_partition_the_space, cells_stay};
