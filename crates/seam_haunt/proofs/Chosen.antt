@@ -6,10 +6,11 @@ use Rattle.std.proofs.lemmas.Bool.{cases_eq}
 use Rattle.std.proofs.lemmas.Bool.Decides.{nat_tests}
 use Rattle.std.specs.FinSet as set
 use Rattle.seam_geo.specs.declared.pos.Pos.{Pos}
-use Rattle.seam_tree.specs.Division.{Division, cells_of}
+use Rattle.seam_geo.specs.Rect.{Area, distance_to}
+use Rattle.seam_tree.specs.Division.{Division, area, cells_of}
 use Rattle.seam_tree.specs.Cells.{Cells}
 use Rattle.seam_tree.specs.Inverse.{contains_insert_nat}
-use Rattle.seam_haunt.specs.Haunts.{distance_to_cell, IsHaunt, is_haunt, haunts_of}
+use Rattle.seam_haunt.specs.Haunts.{IsHaunt, is_close, is_haunt, haunts_of}
 
 chosen_more : (p : ℕ → Bool) (a n q : ℕ) (rest : Cells) → p a ≡ true → set.contains rest q ≡ ((nat_le (a + 1) q && nat_lt q (a + 1 + n)) && p q)
     → (q ≡ a) ⊎ (q ≢ a) → set.contains (set.insert rest a) q ≡ ((nat_le a q && nat_lt q (a + suc n)) && p q)
@@ -50,26 +51,38 @@ or_true : (b c : Bool) → (b || c) ≡ true → (b ≡ true) ⊎ (c ≡ true)
 or_true true c e = inl refl
 or_true false c e = inr e
 
+close_or_far : (a : Area) (p : Pos) (was : Bool) (near far : ℕ) → is_close a p was near far ≡ true
+    → (distance_to a p ≤ near) ⊎ (IsTrue was × (distance_to a p ≤ far))
+close_or_far a p was near far close =
+    elim (or_true (nat_le (distance_to a p) near) (was && nat_le (distance_to a p) far) close) [
+      | inl n ↦ inl (grind (arith, nat_tests, n))
+      | inr both ↦
+          let two : (was ≡ true) × (nat_le (distance_to a p) far ≡ true) = and_true was (nat_le (distance_to a p) far) both in
+          inr (two.0, grind (arith, nat_tests, two.1))
+    ]
+
+close_by : (a : Area) (p : Pos) (was : Bool) (near far : ℕ) → (distance_to a p ≤ near) ⊎ (IsTrue was × (distance_to a p ≤ far))
+    → is_close a p was near far ≡ true
+close_by a p was near far (inl n) = grind (arith, nat_tests, n)
+close_by a p was near far (inr both) = grind (arith, nat_tests, both.0, both.1)
+
 -- the test and the fact are one
-pub passing_is_haunt : (p : Pos) (home : ℕ) (old : Cells) (t : Division) (near far cell : ℕ) → cell < cells_of t → is_haunt p home old t near far cell ≡ true → IsHaunt p home old t near far cell
+pub passing_is_haunt : (p : Pos) (home : ℕ) (old : Cells) (t : Division) (near far cell : ℕ) → cell < cells_of t
+    → is_haunt p home old t near far cell ≡ true → IsHaunt p home old t near far cell
 passing_is_haunt p home old t near far cell there passes =
-    let parts : (not (cell == home) ≡ true) × ((nat_le (distance_to_cell t cell p) near || (set.contains old cell && nat_le (distance_to_cell t cell p) far)) ≡ true) = and_true (not (cell == home)) (nat_le (distance_to_cell t cell p) near || (set.contains old cell && nat_le (distance_to_cell t cell p) far)) passes in
+    let parts : (not (cell == home) ≡ true) × (is_close (area t cell) p (set.contains old cell) near far ≡ true) =
+    and_true (not (cell == home)) (is_close (area t cell) p (set.contains old cell) near far) passes in
     record {
       there = there;
       away = λ e. grind (arith, nat_tests, parts.0);
-      close = elim (or_true (nat_le (distance_to_cell t cell p) near) (set.contains old cell && nat_le (distance_to_cell t cell p) far) parts.1) [
-        | inl n ↦ inl (grind (arith, nat_tests, n))
-        | inr both ↦ let two : (set.contains old cell ≡ true) × (nat_le (distance_to_cell t cell p) far ≡ true) = and_true (set.contains old cell) (nat_le (distance_to_cell t cell p) far) both in inr (two.0, grind (arith, nat_tests, two.1))
-      ];
+      close = close_or_far (area t cell) p (set.contains old cell) near far parts.1;
     }
 
-pub haunt_passes : (p : Pos) (home : ℕ) (old : Cells) (t : Division) (near far cell : ℕ) → IsHaunt p home old t near far cell → is_haunt p home old t near far cell ≡ true
+pub haunt_passes : (p : Pos) (home : ℕ) (old : Cells) (t : Division) (near far cell : ℕ) → IsHaunt p home old t near far cell
+    → is_haunt p home old t near far cell ≡ true
 haunt_passes p home old t near far cell h =
     let away : cell ≢ home = h.away in
-    elim h.close [
-      | inl n ↦ grind (arith, nat_tests, n)
-      | inr both ↦ let was : set.contains old cell ≡ true = both.0 in let close : distance_to_cell t cell p ≤ far = both.1 in grind (arith, nat_tests)
-    ]
+    ap (λ (b : Bool). not (cell == home) && b) (close_by (area t cell) p (set.contains old cell) near far h.close) ∙ grind (arith, nat_tests)
 
 -- what the set of all haunts holds
 pub contains_haunts_of : (p : Pos) (home : ℕ) (old : Cells) (t : Division) (near far cell : ℕ) → set.contains (haunts_of p home old t near far) cell ≡ (nat_lt cell (cells_of t) && is_haunt p home old t near far cell)
@@ -101,3 +114,16 @@ contains_haunts_same test n chosen before fails c =
       | inl e ↦ let failed : test c ≡ false = ap test e ∙ fails in grind (arith, nat_tests, before c, failed)
       | inr other ↦ grind (arith, nat_tests, before c)
     ]
+
+-- the test of one cell, by its parts
+pub close_is_haunt : (p : Pos) (home : ℕ) (old : Cells) (t : Division) (near far cell : ℕ) → cell ≢ home
+    → is_close (area t cell) p (set.contains old cell) near far ≡ true → is_haunt p home old t near far cell ≡ true
+close_is_haunt p home old t near far cell other close = ap (λ (b : Bool). not (cell == home) && b) close ∙ grind (arith, nat_tests)
+
+pub far_is_none : (p : Pos) (home : ℕ) (old : Cells) (t : Division) (near far cell : ℕ)
+    → is_close (area t cell) p (set.contains old cell) near far ≡ false → is_haunt p home old t near far cell ≡ false
+far_is_none p home old t near far cell not_close = ap (λ (b : Bool). not (cell == home) && b) not_close ∙ grind (arith, nat_tests)
+
+pub home_is_none : (p : Pos) (home : ℕ) (old : Cells) (t : Division) (near far cell : ℕ) → cell ≡ home → is_haunt p home old t near far cell ≡ false
+home_is_none p home old t near far cell is =
+    ap (λ (b : Bool). b && is_close (area t cell) p (set.contains old cell) near far) (let e : not (cell == home) ≡ false = grind (arith, nat_tests) in e)

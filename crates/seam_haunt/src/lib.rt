@@ -2,12 +2,11 @@
 //! Overview, ghost entities).
 #![tactic(auto)]
 
-ghost use Rattle.std.specs.Prelude.{◌≡◌, ℕ, ◌<◌, ◌↔◌, IsTrue};
+ghost use Rattle.std.specs.Prelude.{◌≡◌, ℕ, ◌↔◌, IsTrue};
 ghost use Rattle.std.specs.FinSet as set;
-ghost use Rattle.seam_tree.specs.Division.{cells_of};
-ghost use Rattle.seam_haunt.specs.Haunts.{haunts_of, is_haunt, IsHaunt};
+ghost use Rattle.seam_haunt.specs.Haunts.{haunts_of, is_close, IsHaunt};
 
-use seam_geo::Pos;
+use seam_geo::{Pos, Rect};
 use seam_tree::{CellSet, Tree};
 
 /// The haunts of a real at a position, of which `home` is the cell: the other cells at distance at most `near`, and those
@@ -16,33 +15,23 @@ pub fn haunts_after(pos: Pos, home: u8, old: CellSet, tree: &Tree, near: u32, fa
     ensures value { result ≡ haunts_of pos home old tree.now near far }
     ensures each { (c : ℕ) → IsTrue (set.contains result c) ↔ IsHaunt pos home old tree.now near far c }
 {
+    let areas = tree.areas();
     let mut haunts = CellSet::none();
     for cell in 0..tree.cells() {
-        if haunts_cell(pos, home, &old, tree, near, far, cell) {
+        let area = areas[usize::from(cell)];
+        if cell != home && is_close(area, pos, old.holds(cell), near, far) {
             haunts = haunts.with(cell);
         }
     }
     haunts
 }
 
-// Whether the cell is one of the haunts.
-fn haunts_cell(
-    pos: Pos,
-    home: u8,
-    old: &CellSet,
-    tree: &Tree,
-    near: u32,
-    far: u32,
-    cell: u8,
-) -> bool
-    requires { cell < cells_of tree.now }
-    ensures { result ≡ is_haunt pos home old.now tree.now near far cell }
+// Whether the area is near enough for a ghost, by whether there was one.
+fn is_close(area: Rect, pos: Pos, was_haunt: bool, near: u32, far: u32) -> bool
+    ensures { result ≡ is_close area pos was_haunt near far }
 {
-    let Some(area) = tree.area(cell) else {
-        return false;
-    };
-    let dist = area.dist(pos);
-    cell != home && (dist <= near || (old.holds(cell) && dist <= far))
+    let distance = area.dist(pos);
+    distance <= near || (was_haunt && distance <= far)
 }
 
 #[cfg(test)]
