@@ -47,7 +47,7 @@ and_true : (b c : Bool) → (b && c) ≡ true → (b ≡ true) × (c ≡ true)
 and_true true c e = (refl, e)
 and_true false c e = absurd (cc)
 
-or_true : (b c : Bool) → (b || c) ≡ true → (b ≡ true) ⊎ (c ≡ true)
+pub or_true : (b c : Bool) → (b || c) ≡ true → (b ≡ true) ⊎ (c ≡ true)
 or_true true c e = inl refl
 or_true false c e = inr e
 

@@ -2,9 +2,14 @@
 //! Overview, ghost entities).
 #![tactic(auto)]
 
-ghost use Rattle.std.specs.Prelude.{◌≡◌, ℕ, ◌↔◌, IsTrue};
+ghost use Rattle.std.specs.Prelude.{◌≡◌, ℕ, ◌↔◌, ◌⊎◌, IsTrue};
 ghost use Rattle.std.specs.FinSet as set;
+ghost use Rattle.seam_haunt.specs.Places.{Place, home_at, settled};
 ghost use Rattle.seam_haunt.specs.Haunts.{haunts_of, is_close, IsHaunt};
+
+mod laws;
+
+pub use laws::places_are_settled;
 
 use seam_geo::{Pos, Rect};
 use seam_tree::{CellSet, Tree};
@@ -14,6 +19,9 @@ use seam_tree::{CellSet, Tree};
 pub fn haunts_after(pos: Pos, home: u8, old: CellSet, tree: &Tree, near: u32, far: u32) -> CellSet
     ensures value { result ≡ haunts_of pos home old tree.now near far }
     ensures each { (c : ℕ) → IsTrue (set.contains result c) ↔ IsHaunt pos home old tree.now near far c }
+    ensures place { (kept : ℕ) (was : Place) → home ≡ home_at kept tree.now was.home pos
+        → (old ≡ set.insert was.ghosts was.home) ⊎ ((home ≡ was.home) × (old ≡ was.ghosts))
+        → result ≡ (settled (record { kept = kept; near = near; far = far }) tree.now was pos).ghosts }
 {
     let areas = tree.areas();
     let mut haunts = CellSet::none();

@@ -1,4 +1,4 @@
-use Rattle.std.proofs.Common.{◌≡◌, ◌<◌, ◌↔◌, ◌&&◌, ℕ, Bool, nat_lt, get_or, IsTrue, sym, ap, subst, ◌∙◌, arith}
+use Rattle.std.proofs.Common.{◌≡◌, ◌<◌, inl, inr, ◌↔◌, ◌&&◌, ℕ, Bool, nat_lt, get_or, IsTrue, sym, ap, subst, ◌∙◌, arith}
 use Rattle.std.specs.Cmp.{nat_cmp_total}
 use Rattle.std.specs.Ordering.{nat_cmp}
 use Rattle.std.proofs.lemmas.Bool.Decides.{nat_tests}
@@ -7,8 +7,9 @@ use Rattle.std.specs.FinSet as set
 use Rattle.seam_geo.specs.Rect.{Area}
 use Rattle.seam_tree.specs.Cells.{Cells}
 use Rattle.seam_tree.specs.Division.{area, cells_of}
-use Rattle.seam_haunt.specs.Haunts.{is_close, is_haunt, IsHaunt}
+use Rattle.seam_haunt.specs.Haunts.{is_close, is_haunt, haunts_of, IsHaunt}
 use Rattle.seam_haunt.proofs.Chosen.{contains_haunts_of, haunts_of_each, contains_haunts_more, contains_haunts_same, close_is_haunt, far_is_none, home_is_none}
+use Rattle.seam_haunt.proofs.Settling.{haunts_without_home}
 use Rattle.seam_haunt.proofs.haunts_after.Goals as goal
 use Rattle.seam_haunt.proofs.haunts_after.Goals.{then-cell-home+then-is_close, else-cell-home, else-cell-home-via-then-cell-home+else-is_close, else-cell-home-via-else-cell-home}
 
@@ -57,3 +58,11 @@ pub returns-clause-each : goal.returns-clause-each
 returns-clause-each c cell =
     subst (λ (s : Cells). IsTrue (set.contains s cell) ↔ IsHaunt c.args.pos c.args.home c.args.old c.args.tree.now c.args.near c.args.far cell)
     (sym (returns-clause-value c)) (haunts_of_each c.args.pos c.args.home c.args.old c.args.tree.now c.args.near c.args.far cell)
+
+pub returns-clause-place : goal.returns-clause-place
+returns-clause-place c kept was home_is (inl moved) =
+    returns-clause-value c ∙ (λ i. haunts_of c.args.pos (home_is i) (moved i) c.args.tree.now c.args.near c.args.far)
+returns-clause-place c kept was home_is (inr (stayed, same)) =
+    returns-clause-value c
+    ∙ sym (haunts_without_home c.args.pos c.args.home c.args.tree.now c.args.near c.args.far c.args.old)
+    ∙ (λ i. haunts_of c.args.pos (home_is i) (set.insert (same i) (stayed i)) c.args.tree.now c.args.near c.args.far)
