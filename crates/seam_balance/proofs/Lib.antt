@@ -4,3 +4,4 @@ pub mod Counts
 pub mod Within
 pub mod Best
 pub mod Turns
+pub mod One

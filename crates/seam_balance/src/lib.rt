@@ -9,10 +9,13 @@ ghost use Rattle.seam_balance.specs.Balance.{HasSameCuts, IsBalanced, IsBest};
 
 mod allowed;
 mod divided;
+mod laws;
 mod order;
 mod places;
 #[cfg(test)]
 mod tests;
+
+pub use laws::one_is_balanced;
 
 use crate::allowed::allowed_range;
 use crate::order::boundaries_from_root;
