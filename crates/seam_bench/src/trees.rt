@@ -1,6 +1,6 @@
 use crate::cost::Cost;
+use crate::places::{SIDE, place};
 use seam_balance::balance;
-use seam_geo::Pos;
 use seam_haunt::haunts_after;
 use seam_tree::{Axis, CellSet, Tree};
 use std::alloc::Global;
@@ -9,7 +9,7 @@ use std::time::{Clock, Instant};
 
 // A space of rows of up to four cells.
 fn grid(cells: u8) -> Tree {
-    let mut tree = Tree::one(10_000);
+    let mut tree = Tree::one(SIDE);
     for k in 1..cells {
         let row = u32::from(k % 4);
         let column = u32::from(k / 4);
@@ -22,26 +22,20 @@ fn grid(cells: u8) -> Tree {
     tree
 }
 
-// A position of the space, of which each number gives another.
-fn place(i: u32) -> Pos {
-    Pos {
-        x: i.wrapping_mul(7_919) % 10_000,
-        z: i.wrapping_mul(104_729) % 10_000,
-    }
-}
-
+/// `haunts_after` of an entity that is everywhere in turn.
 pub fn haunts(clock: &impl Clock, cells: u8, calls: u32) -> io::Result<Cost> {
     let tree = grid(cells);
     let start = Instant::now(clock)?;
     let mut haunts = CellSet::none();
     let mut sum = 0u64;
     for i in 0..calls {
-        haunts = haunts_after(place(i), (i % 4) as u8, haunts, &tree, 500, 520);
-        sum = sum.wrapping_add(u64::from(haunts.holds((i % 16) as u8)));
+        haunts = haunts_after(place(i), (i & 3) as u8, haunts, &tree, 500, 520);
+        sum = sum.wrapping_add(u64::from(haunts.holds((i >> 2 & 3) as u8)));
     }
     Cost::since(clock, start, calls, sum)
 }
 
+/// `Tree::shift` of three boundaries in turn.
 pub fn shift(clock: &impl Clock, cells: u8, calls: u32) -> io::Result<Cost> {
     let mut tree = grid(cells);
     let start = Instant::now(clock)?;
@@ -53,18 +47,7 @@ pub fn shift(clock: &impl Clock, cells: u8, calls: u32) -> io::Result<Cost> {
     Cost::since(clock, start, calls, sum)
 }
 
-pub fn area(clock: &impl Clock, cells: u8, calls: u32) -> io::Result<Cost> {
-    let tree = grid(cells);
-    let start = Instant::now(clock)?;
-    let mut sum = 0u64;
-    for i in 0..calls {
-        if let Some(area) = tree.area((i % 16) as u8) {
-            sum = sum.wrapping_add(u64::from(area.high().x));
-        }
-    }
-    Cost::since(clock, start, calls, sum)
-}
-
+/// `balance` for a thousand positions, again and again.
 pub fn balanced(rt: &(impl Clock + Alloc<A = Global>), cells: u8, calls: u32) -> io::Result<Cost> {
     let alloc = rt.alloc();
     let mut tree = grid(cells);
