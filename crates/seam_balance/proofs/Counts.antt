@@ -76,7 +76,7 @@ count_by_sides at (x ∷ xs) =
     let from : count_by (λ place. nat_le at place) (x ∷ xs) ≡ cond (is_from at x) 1 0 + count_by (λ place. nat_le at place) xs = sum_by-cons (λ y. cond (is_from at y) 1 0) x xs in
     omega (arith, below, from, one_side at x, count_by_sides at xs)
 
-abs_diff_gap : (a b : ℕ) → abs_diff a b ≡ gap a b
+pub abs_diff_gap : (a b : ℕ) → abs_diff a b ≡ gap a b
 abs_diff_gap a b = elim (cases_lt a b) [ inl l ↦ grind (arith, nat_tests) | inr g ↦ grind (arith, nat_tests) ]
 
 pub abs_diff_difference : (places : List ℕ) (at below rest : ℕ) → below ≡ count_by (λ place. nat_lt place at) places → rest ≡ length places - below → abs_diff below rest ≡ difference places at

@@ -5,3 +5,4 @@ pub mod Within
 pub mod Best
 pub mod Turns
 pub mod One
+pub mod Search

@@ -1,10 +1,10 @@
 -- There is at most one best place of a boundary, and at most one balanced tree.
-use Rattle.std.proofs.Common.{◌≡◌, ℕ, ◌<◌, ◌≤◌, List, [], ◌∷◌, sym, ◌∙◌, ap, subst, arith, inl, inr}
+use Rattle.std.proofs.Common.{◌≡◌, ℕ, ◌≤◌, List, [], ◌∷◌, sym, ◌∙◌, subst, arith, inl, inr}
 use Rattle.std.proofs.lemmas.Bool.{cases_lt}
 use Rattle.seam_geo.specs.declared.pos.Pos.{Pos}
 use Rattle.seam_tree.specs.Division.{Division}
 use Rattle.seam_tree.specs.Change.{with_place}
-use Rattle.seam_balance.specs.Balance.{IsBest, BalancedInTurn, difference, places_divided}
+use Rattle.seam_balance.specs.Balance.{IsBest, BalancedInTurn}
 
 -- no best place is below another
 not_below : (t : Division) (b shift : ℕ) (positions : List Pos) (at other : ℕ) → IsBest t b shift positions at → IsBest t b shift positions other → other ≤ at

@@ -1,5 +1,5 @@
 -- Where a tree's boundaries go when they are balanced.
-use Rattle.std.specs.Prelude.{◌≡◌, ℕ, ◌-◌, ◌<◌, ◌≤◌, Bool, nat_le, nat_lt, ◌&&◌, List, [], ◌∷◌, map, filter, count_by}
+use Rattle.std.specs.Prelude.{◌≡◌, ℕ, ◌+◌, ◌-◌, ◌<◌, ◌≤◌, Bool, nat_le, nat_lt, ◌&&◌, List, [], ◌∷◌, map, filter, count_by, if◌then◌else◌}
 use Rattle.std.specs.Option.{option_map}
 use Rattle.seam_geo.specs.declared.pos.Pos.{Pos}
 use Rattle.seam_geo.specs.Pos.{gap}
@@ -25,6 +25,10 @@ places_divided t b positions = map (place_along (boundary_at t b).axis) (filter 
 -- how much the number of places below `at` differs from the number of those at or above it
 abbrev pub difference : List ℕ → ℕ → ℕ
 difference places at = gap (count_by (λ place. nat_lt place at) places) (count_by (λ place. nat_le at place) places)
+
+-- the place some steps away from one on the way to another
+abbrev pub stepped : ℕ → ℕ → ℕ → ℕ
+stepped from end steps = if nat_lt end from then from - steps else from + steps
 
 -- the boundary may go there: the place is at most `shift` away, and no cell's area is empty then
 pub record IsAllowed (t : Division) (b shift at : ℕ) : Type 0 where
