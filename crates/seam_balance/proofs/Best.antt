@@ -15,14 +15,16 @@ pub record IsFirstAbove (places : List ℕ) (count low high at : ℕ) : Type 0 w
   pub first : (other : ℕ) → low ≤ other → other < at → count_below places other < count
 
 -- where so many lie below the end of the range, the last of them does
-pub last_below : (places : List ℕ) (count high : ℕ) → IsNonDecreasing places → count ≢ 0 → count ≤ count_below places high → get_or places (count - 1) 0 < high
+pub last_below : (places : List ℕ) (count high : ℕ) → IsNonDecreasing places → count ≢ 0 → count ≤ count_below places high →
+    get_or places (count - 1) 0 < high
 last_below places count high rising some enough = elim (cases_lt (get_or places (count - 1) 0) high) [
   | inl l ↦ l
   | inr g ↦ absurd (omega (arith, count_below_before places (count - 1) high rising g))
 ]
 
 -- the first place above the last of them is the first above so many
-pub first_above_last : (places : List ℕ) (count low high at : ℕ) → IsNonDecreasing places → count ≢ 0 → low ≤ high → count ≤ count_below places high
+pub first_above_last : (places : List ℕ) (count low high at : ℕ) → IsNonDecreasing places → count ≢ 0 → low ≤ high →
+    count ≤ count_below places high
     → at ≡ max low (get_or places (count - 1) 0 + 1) → IsFirstAbove places count low high at
 first_above_last places count low high at rising some range enough is =
     let within : count - 1 < length places = omega (arith, enough, count_by-le-length (λ place. nat_lt place high) places) in
@@ -62,7 +64,8 @@ from_half : (number below more : ℕ) → number / 2 ≤ below → below ≤ mor
 from_half number below more half le = omega arith
 
 -- nor does it from the lesser of half and the most that there may be
-from_count : (number most count below more : ℕ) → count ≡ min (number / 2) most → count ≤ below → below ≤ more → more ≤ most → unevenness number below ≤ unevenness number more
+from_count : (number most count below more : ℕ) → count ≡ min (number / 2) most → count ≤ below → below ≤ more → more ≤ most →
+    unevenness number below ≤ unevenness number more
 from_count number most count below more is enough le within = elim (cases_lt below (number / 2)) [
   | inl short ↦ let same : below ≡ more = omega arith in omega arith
   | inr past ↦ from_half number below more past le
@@ -79,14 +82,17 @@ pub record IsLower (places : List ℕ) (low upper lower : ℕ) : Type 0 where
   pub found : IsFirstAbove places (count_below places (upper - 1)) low (upper - 1) lower
 
 -- from the upper place on it is the best
-upper_least : (places : List ℕ) (low high count upper : ℕ) → IsUpper places count low high upper → (other : ℕ) → upper ≤ other → other ≤ high → difference places upper ≤ difference places other
+upper_least : (places : List ℕ) (low high count upper : ℕ) → IsUpper places count low high upper → (other : ℕ) → upper ≤ other →
+    other ≤ high → difference places upper ≤ difference places other
 upper_least places low high count upper u other from to =
     let least : unevenness (length places) (count_below places upper) ≤ unevenness (length places) (count_below places other) =
-    from_count (length places) (count_below places high) count _ _ u.count_is u.found.enough (count_below_rises places upper other from) (count_below_rises places other high to) in
+    from_count (length places) (count_below places high) count _ _ u.count_is u.found.enough (count_below_rises places upper other from)
+        (count_below_rises places other high to) in
     omega (arith, least, difference_is places upper, difference_is places other)
 
 -- fewer than half lie below the lower place
-lower_short : (places : List ℕ) (low high count upper lower : ℕ) → IsUpper places count low high upper → IsLower places low upper lower → count_below places lower ≤ length places / 2
+lower_short : (places : List ℕ) (low high count upper lower : ℕ) → IsUpper places count low high upper → IsLower places low upper lower →
+    count_below places lower ≤ length places / 2
 lower_short places low high count upper lower u l =
     let short : count_below places lower < count = u.found.first lower l.found.from (omega (arith, l.inside, l.found.to)) in
     omega (arith, short, u.count_is)
@@ -100,7 +106,8 @@ lower_least places low high count upper lower u l other from to =
     before_half (length places) _ _ (omega (arith, fewer, l.found.enough)) (lower_short places low high count upper lower u l) in
     omega (arith, least, difference_is places lower, difference_is places other)
 
-pub best_start : (places : List ℕ) (low high count upper : ℕ) → IsUpper places count low high upper → upper ≡ low → IsBestWithin places low high low
+pub best_start : (places : List ℕ) (low high count upper : ℕ) → IsUpper places count low high upper → upper ≡ low →
+    IsBestWithin places low high low
 best_start places low high count upper u start = subst (IsBestWithin places low high) start (record {
   from = u.found.from;
   to = u.found.to;
@@ -108,7 +115,8 @@ best_start places low high count upper u start = subst (IsBestWithin places low 
   lowest = λ other from to. absurd (omega arith);
 })
 
-pub best_lower : (places : List ℕ) (low high count upper lower : ℕ) → IsUpper places count low high upper → IsLower places low upper lower → difference places lower ≤ difference places upper → IsBestWithin places low high lower
+pub best_lower : (places : List ℕ) (low high count upper lower : ℕ) → IsUpper places count low high upper → IsLower places low upper lower →
+    difference places lower ≤ difference places upper → IsBestWithin places low high lower
 best_lower places low high count upper lower u l better = record {
   from = l.found.from;
   to = omega (arith, l.found.to, u.found.to);
@@ -118,11 +126,13 @@ best_lower places low high count upper lower u l better = record {
   ];
   lowest = λ other from to.
       let less : unevenness (length places) (count_below places lower) < unevenness (length places) (count_below places other) =
-      before_half_less (length places) _ _ (omega (arith, l.found.first other from to, l.found.enough)) (lower_short places low high count upper lower u l) in
+      before_half_less (length places) _ _ (omega (arith, l.found.first other from to, l.found.enough))
+          (lower_short places low high count upper lower u l) in
       omega (arith, less, difference_is places lower, difference_is places other);
 }
 
-pub best_upper : (places : List ℕ) (low high count upper lower : ℕ) → IsUpper places count low high upper → IsLower places low upper lower → difference places upper < difference places lower → IsBestWithin places low high upper
+pub best_upper : (places : List ℕ) (low high count upper lower : ℕ) → IsUpper places count low high upper → IsLower places low upper lower →
+    difference places upper < difference places lower → IsBestWithin places low high upper
 best_upper places low high count upper lower u l better = record {
   from = u.found.from;
   to = u.found.to;

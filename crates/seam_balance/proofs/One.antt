@@ -7,14 +7,16 @@ use Rattle.seam_tree.specs.Change.{with_place}
 use Rattle.seam_balance.specs.Balance.{IsBest, BalancedInTurn}
 
 -- no best place is below another
-not_below : (t : Division) (b shift : ℕ) (positions : List Pos) (at other : ℕ) → IsBest t b shift positions at → IsBest t b shift positions other → other ≤ at
+not_below : (t : Division) (b shift : ℕ) (positions : List Pos) (at other : ℕ) → IsBest t b shift positions at →
+    IsBest t b shift positions other → other ≤ at
 not_below t b shift positions at other best same =
     elim (cases_lt at other) [
       | inl l ↦ absurd (omega (arith, same.lowest at best.allowed l, best.least other same.allowed))
       | inr g ↦ g
     ]
 
-pub one_best : (t : Division) (b shift : ℕ) (positions : List Pos) (at other : ℕ) → IsBest t b shift positions at → IsBest t b shift positions other → at ≡ other
+pub one_best : (t : Division) (b shift : ℕ) (positions : List Pos) (at other : ℕ) → IsBest t b shift positions at →
+    IsBest t b shift positions other → at ≡ other
 one_best t b shift positions at other best same =
     omega (arith, not_below t b shift positions at other best same, not_below t b shift positions other at same best)
 
@@ -23,4 +25,5 @@ pub one_in_turn : (positions : List Pos) (shift : ℕ) (order : List ℕ) (t new
 one_in_turn positions shift [] t new other is same = is ∙ sym same
 one_in_turn positions shift (b ∷ later) t new other (at, best, rest) (to, too, more) =
     one_in_turn positions shift later (with_place t b at) new other rest
-    (subst (λ (place : ℕ). BalancedInTurn positions shift (with_place t b place) later other) (one_best t b shift positions to at too best) more)
+    (subst (λ (place : ℕ). BalancedInTurn positions shift (with_place t b place) later other) (one_best t b shift positions to at too best)
+        more)

@@ -53,7 +53,8 @@ pub record IsSearched (t : Division) (b from end farthest most : ℕ) : Type 0 w
   pub allowed : NoneEmpty (with_place t b (stepped from end farthest))
   pub refused : (n : ℕ) → most < n → n ≤ gap from end → ¬ NoneEmpty (with_place t b (stepped from end n))
 
-pub search_begins : (t : Division) (b from end most : ℕ) → NoneEmpty (with_place t b from) → most ≡ abs_diff from end → IsSearched t b from end 0 most
+pub search_begins : (t : Division) (b from end most : ℕ) → NoneEmpty (with_place t b from) → most ≡ abs_diff from end →
+    IsSearched t b from end 0 most
 search_begins t b from end most allowed is =
     let all : most ≡ gap from end = is ∙ abs_diff_gap from end in
     let none : stepped from end 0 ≡ from =
@@ -65,8 +66,10 @@ search_begins t b from end most allowed is =
       refused = λ n more within. absurd (omega arith);
     }
 
-pub search_refuses : (t : Division) (b from end farthest most middle : ℕ) → IsTree t → HasBoundary t b → IsSearched t b from end farthest most
-    → farthest < middle → middle ≤ most → SomeEmpty (with_place t b (stepped from end middle)) → IsSearched t b from end farthest (middle - 1)
+pub search_refuses : (t : Division) (b from end farthest most middle : ℕ) → IsTree t → HasBoundary t b →
+    IsSearched t b from end farthest most
+    → farthest < middle → middle ≤ most → SomeEmpty (with_place t b (stepped from end middle)) →
+        IsSearched t b from end farthest (middle - 1)
 search_refuses t b from end farthest most middle tree there s past within empty = record {
   range = omega arith;
   within = omega (arith, s.within);
@@ -85,7 +88,8 @@ most_stepped from end n within =
     elim (stepped_is from end n) [ inl (l, e) ↦ omega (arith, l, e) | inr (g, e) ↦ omega (arith, g, e) ]
 
 -- no place farther on the way is allowed
-pub none_above : (t : Division) (b from end n : ℕ) → IsSearched t b from end n n → (at : ℕ) → stepped from end n < at → at ≤ end → ¬ NoneEmpty (with_place t b at)
+pub none_above : (t : Division) (b from end n : ℕ) → IsSearched t b from end n n → (at : ℕ) → stepped from end n < at → at ≤ end →
+    ¬ NoneEmpty (with_place t b at)
 none_above t b from end n s at past to none =
     elim (stepped_is from end n) [
       | inl (l, e) ↦ absurd (omega (arith, l, e, s.within))
@@ -95,7 +99,8 @@ none_above t b from end n s at past to none =
           s.refused (at - from) (omega (arith, e)) (omega (arith, g)) (subst (AllowedAt t b) (sym back) none)
     ]
 
-pub none_below : (t : Division) (b from end n : ℕ) → IsSearched t b from end n n → (at : ℕ) → end ≤ at → at < stepped from end n → ¬ NoneEmpty (with_place t b at)
+pub none_below : (t : Division) (b from end n : ℕ) → IsSearched t b from end n n → (at : ℕ) → end ≤ at → at < stepped from end n →
+    ¬ NoneEmpty (with_place t b at)
 none_below t b from end n s at past to none =
     elim (stepped_is from end n) [
       | inr (g, e) ↦ absurd (omega (arith, g, e, s.within))

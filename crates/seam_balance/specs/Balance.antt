@@ -38,13 +38,16 @@ pub record IsAllowed (t : Division) (b shift at : ℕ) : Type 0 where
 -- the allowed place that divides the positions with the least difference, and the lowest of those
 pub record IsBest (t : Division) (b shift : ℕ) (positions : List Pos) (at : ℕ) : Type 0 where
   pub allowed : IsAllowed t b shift at
-  pub least : (other : ℕ) → IsAllowed t b shift other → difference (places_divided t b positions) at ≤ difference (places_divided t b positions) other
-  pub lowest : (other : ℕ) → IsAllowed t b shift other → other < at → difference (places_divided t b positions) at < difference (places_divided t b positions) other
+  pub least : (other : ℕ) → IsAllowed t b shift other →
+      difference (places_divided t b positions) at ≤ difference (places_divided t b positions) other
+  pub lowest : (other : ℕ) → IsAllowed t b shift other → other < at →
+      difference (places_divided t b positions) at < difference (places_divided t b positions) other
 
 -- the boundaries of the list go to their best places in turn, each in the tree that those before it left
 abbrev pub BalancedInTurn : List Pos → ℕ → Division → List ℕ → Division → Type 0
 BalancedInTurn positions shift t [] new = new ≡ t
-BalancedInTurn positions shift t (b ∷ later) new = (at : ℕ) × IsBest t b shift positions at × BalancedInTurn positions shift (with_place t b at) later new
+BalancedInTurn positions shift t (b ∷ later) new =
+    (at : ℕ) × IsBest t b shift positions at × BalancedInTurn positions shift (with_place t b at) later new
 
 -- all boundaries do so, from the root on
 abbrev pub IsBalanced : List Pos → ℕ → Division → Division → Type 0

@@ -21,7 +21,8 @@ all_below : (xs : List ℕ) (end : ℕ) → AllByRecursion (λ x. x < end) xs �
 all_below [] end all = tt
 all_below (x ∷ xs) end all = (omega (arith, all.0), all_below xs end all.1)
 
-sorted_push : (xs : List ℕ) (end : ℕ) → IsStrictlySortedBy nat_cmp xs → AllByRecursion (λ x. x < end) xs → IsStrictlySortedBy nat_cmp (xs ++ end ∷ [])
+sorted_push : (xs : List ℕ) (end : ℕ) → IsStrictlySortedBy nat_cmp xs → AllByRecursion (λ x. x < end) xs →
+    IsStrictlySortedBy nat_cmp (xs ++ end ∷ [])
 unfolding IsStrictlySortedBy
 sorted_push [] end sorted all = (tt, tt)
 sorted_push (x ∷ xs) end sorted all =
@@ -39,7 +40,8 @@ abbrev pub entities : List Seen → List ℕ
 entities known = map (λ s. s.entity) known
 
 -- a further entity of the number above all
-pub rising_push : (known : List Seen) (s : Seen) (end : ℕ) → s.entity ≡ end → IsRisingTo end (entities known) → IsRisingTo (end + 1) (entities (known ++ s ∷ []))
+pub rising_push : (known : List Seen) (s : Seen) (end : ℕ) → s.entity ≡ end → IsRisingTo end (entities known) →
+    IsRisingTo (end + 1) (entities (known ++ s ∷ []))
 rising_push known s end is r =
     let pushed : entities known ++ end ∷ [] ≡ entities (known ++ s ∷ []) =
     ap (λ (e : ℕ). entities known ++ e ∷ []) (sym is) ∙ sym (map-append (λ (x : Seen). x.entity) known (s ∷ [])) in

@@ -1,5 +1,6 @@
 -- A place that is settled at a position stays as it is when it is settled there again.
-use Rattle.std.proofs.Common.{◌≡◌, ◌⊎◌, ◌≤◌, ◌<◌, ℕ, Bool, true, false, not, nat_le, nat_lt, ◌==◌, ◌&&◌, ◌||◌, List, [], ◌∷◌, length, if◌then◌else◌, refl, sym, ap, ◌∙◌, arith, inl, inr, IsTrue, ◌↔◌}
+use Rattle.std.proofs.Common.{◌≡◌, ◌⊎◌, ◌≤◌, ◌<◌, ℕ, Bool, true, false, not, nat_le, nat_lt, ◌==◌, ◌&&◌, ◌||◌, List, [], ◌∷◌, length}
+use Rattle.std.proofs.Common.{if◌then◌else◌, refl, sym, ap, ◌∙◌, arith, inl, inr, IsTrue, ◌↔◌}
 use Rattle.std.specs.FinSet as set
 use Rattle.std.specs.Cmp.{nat_cmp_total}
 use Rattle.std.proofs.lemmas.Bool.Decides.{nat_tests}
@@ -25,7 +26,8 @@ same_home kept t home p =
     same_home_by (λ (c : ℕ). nat_le (distance_to_cell t c p) kept) home (leaf_at t p) (nat_le (distance_to_cell t home p) kept) refl
 
 -- a cell is in the tree (i), the home (s), near (n), not too far (f), and had a ghost (o)
-test_again : (i s n f o : Bool) → (i && (not s && (n || ((s || (i && (not s && (n || (o && f))))) && f)))) ≡ (i && (not s && (n || (o && f))))
+test_again : (i s n f o : Bool) → (i && (not s && (n || ((s || (i && (not s && (n || (o && f))))) && f))))
+    ≡ (i && (not s && (n || (o && f))))
 test_again false s n f o = refl
 test_again true true n f o = refl
 test_again true false true f o = refl
@@ -64,7 +66,8 @@ module _ (p : Pos) (home : ℕ) (t : Division) (near far : ℕ) where
   pub haunts_again : (old : Cells) → haunts (set.insert (haunts old) home) ≡ haunts old
   haunts_again old = set.same_set nat_cmp_total set.nat_cmp-IsAntisymmetric _ _ (λ c.
     contains_haunts_of p home (set.insert (haunts old) home) t near far c
-    ∙ ap (passes c) (contains_insert_nat (haunts old) home c ∙ ap (λ (b : Bool). (c == home) || b) (contains_haunts_of p home old t near far c))
+    ∙ ap (passes c) (contains_insert_nat (haunts old) home c
+        ∙ ap (λ (b : Bool). (c == home) || b) (contains_haunts_of p home old t near far c))
     ∙ test_again (nat_lt c (cells_of t)) (c == home) (is_near c) (is_not_far c) (set.contains old c)
     ∙ sym (contains_haunts_of p home old t near far c))
 
@@ -122,6 +125,7 @@ haunt_of d t was p c h = record {
 pub ghosts_settled : (d : Distances) (t : Division) (was : Place) (p : Pos) (c : ℕ)
     → IsTrue (set.contains (settled d t was p).ghosts c) ↔ HasGhost d t was p c
 ghosts_settled d t was p c =
-    let each : IsTrue (set.contains (settled d t was p).ghosts c) ↔ IsHaunt p (home_at d.kept t was.home p) (set.insert was.ghosts was.home) t d.near d.far c =
+    let each : IsTrue (set.contains (settled d t was p).ghosts c)
+        ↔ IsHaunt p (home_at d.kept t was.home p) (set.insert was.ghosts was.home) t d.near d.far c =
     haunts_of_each p (home_at d.kept t was.home p) (set.insert was.ghosts was.home) t d.near d.far c in
     (λ held. ghost_of d t was p c (each.0 held), λ h. each.1 (haunt_of d t was p c h))

@@ -1,5 +1,6 @@
 -- Writes into the table of a tree's cuts.
-use Rattle.std.proofs.Common.{◌≡◌, ◌<◌, ◌≤◌, ℕ, zero, suc, ◌+◌, ◌-◌, List, [], ◌∷◌, ◌++◌, length, take, set, get_or, replicate, refl, sym, ◌∙◌, ap, subst, arith, length-append, append_assoc, add-one}
+use Rattle.std.proofs.Common.{◌≡◌, ◌<◌, ◌≤◌, ℕ, zero, suc, ◌+◌, ◌-◌, List, [], ◌∷◌, ◌++◌, length, take, set, get_or, replicate, refl, sym}
+use Rattle.std.proofs.Common.{◌∙◌, ap, subst, arith, length-append, append_assoc, add-one}
 use Rattle.std.proofs.Math.Seq.{take-append_seam, set-append_seam}
 use Rattle.seam_tree.specs.declared.cut.Cut.{Cut}
 use Rattle.seam_tree.specs.Change.{cut_moved, cuts_moved, with_cut, with_place}
@@ -27,12 +28,14 @@ length_cuts_moved [] n at = refl
 length_cuts_moved (c ∷ cuts) zero at = refl
 length_cuts_moved (c ∷ cuts) (suc n) at = ap suc (length_cuts_moved cuts n at)
 
-set_moved : (cuts rest : List Cut) (n at : ℕ) → n < length cuts → set (cuts ++ rest) n (cut_moved (get_or (cuts ++ rest) n no_cut) at) ≡ cuts_moved cuts n at ++ rest
+set_moved : (cuts rest : List Cut) (n at : ℕ) → n < length cuts →
+    set (cuts ++ rest) n (cut_moved (get_or (cuts ++ rest) n no_cut) at) ≡ cuts_moved cuts n at ++ rest
 set_moved [] rest n at within = absurd (omega arith)
 set_moved (c ∷ cuts) rest zero at within = refl
 set_moved (c ∷ cuts) rest (suc n) at within = ap (λ (xs : List Cut). c ∷ xs) (set_moved cuts rest n at (omega arith))
 
-pub set_padded_moved : (cuts : List Cut) (n at : ℕ) → n < length cuts → set (padded cuts) n (cut_moved (get_or (padded cuts) n no_cut) at) ≡ padded (cuts_moved cuts n at)
+pub set_padded_moved : (cuts : List Cut) (n at : ℕ) → n < length cuts →
+    set (padded cuts) n (cut_moved (get_or (padded cuts) n no_cut) at) ≡ padded (cuts_moved cuts n at)
 set_padded_moved cuts n at within =
     set_moved cuts (replicate (15 - length cuts) no_cut) n at within
     ∙ ap (λ (k : ℕ). cuts_moved cuts n at ++ replicate (15 - k) no_cut) (sym (length_cuts_moved cuts n at))
@@ -52,7 +55,8 @@ cuts_length size count cuts t h = ap (λ (u : Division). length u.cuts) (sym h.v
 table_is : (size count : ℕ) (cuts : List Cut) (t : Division) → HoldsCuts size count cuts t → cuts ≡ padded t.cuts
 table_is size count cuts t h = h.table ∙ ap (λ (u : Division). padded u.cuts) h.view
 
-pub holds_push : (size count : ℕ) (cuts : List Cut) (t : Division) (n : ℕ) (c : Cut) → HoldsCuts size count cuts t → n ≡ count → cells_of t < 16 → HoldsCuts size (count + 1) (set cuts n c) (with_cut t c.cell c.boundary)
+pub holds_push : (size count : ℕ) (cuts : List Cut) (t : Division) (n : ℕ) (c : Cut) → HoldsCuts size count cuts t → n ≡ count →
+    cells_of t < 16 → HoldsCuts size (count + 1) (set cuts n c) (with_cut t c.cell c.boundary)
 holds_push size count cuts t n c h is room =
     let len : length t.cuts ≡ count = cuts_length size count cuts t h in
     let after : set cuts n c ≡ padded (t.cuts ++ c ∷ []) =
@@ -65,11 +69,13 @@ holds_push size count cuts t n c h is room =
       view = λ i. record { size = (h.view i).size; cuts = taken i };
     }
 
-pub holds_place : (size count : ℕ) (cuts : List Cut) (t : Division) (n at : ℕ) → HoldsCuts size count cuts t → n < length t.cuts → HoldsCuts size count (set cuts n (cut_moved (get_or cuts n no_cut) at)) (record { size = t.size; cuts = cuts_moved t.cuts n at })
+pub holds_place : (size count : ℕ) (cuts : List Cut) (t : Division) (n at : ℕ) → HoldsCuts size count cuts t → n < length t.cuts →
+    HoldsCuts size count (set cuts n (cut_moved (get_or cuts n no_cut) at)) (record { size = t.size; cuts = cuts_moved t.cuts n at })
 holds_place size count cuts t n at h within =
     let len : length t.cuts ≡ count = cuts_length size count cuts t h in
     let after : set cuts n (cut_moved (get_or cuts n no_cut) at) ≡ padded (cuts_moved t.cuts n at) =
-    ap (λ (xs : List Cut). set xs n (cut_moved (get_or xs n no_cut) at)) (table_is size count cuts t h) ∙ set_padded_moved t.cuts n at within in
+    ap (λ (xs : List Cut). set xs n (cut_moved (get_or xs n no_cut) at)) (table_is size count cuts t h)
+        ∙ set_padded_moved t.cuts n at within in
     let taken : take count (set cuts n (cut_moved (get_or cuts n no_cut) at)) ≡ cuts_moved t.cuts n at =
     ap (take count) after ∙ take_of_padded (cuts_moved t.cuts n at) count (omega (arith, length_cuts_moved t.cuts n at)) in
     record {
@@ -79,8 +85,10 @@ holds_place size count cuts t n at h within =
     }
 
 -- the table after a write to the place of boundary b, which is the cut after n others
-pub holds_with_place : (size count : ℕ) (cuts : List Cut) (t : Division) (n b at : ℕ) → HoldsCuts size count cuts t → n ≡ b - 1 → HasBoundary t b → HoldsCuts size count (set cuts n (cut_moved (get_or cuts n no_cut) at)) (with_place t b at)
+pub holds_with_place : (size count : ℕ) (cuts : List Cut) (t : Division) (n b at : ℕ) → HoldsCuts size count cuts t → n ≡ b - 1 →
+    HasBoundary t b → HoldsCuts size count (set cuts n (cut_moved (get_or cuts n no_cut) at)) (with_place t b at)
 holds_with_place size count cuts t n b at h is there =
     let to : b < cells_of t = there.to_last in
     let from : 1 ≤ b = there.from_one in
-    subst (λ (k : ℕ). HoldsCuts size count (set cuts n (cut_moved (get_or cuts n no_cut) at)) (record { size = t.size; cuts = cuts_moved t.cuts k at })) is (holds_place size count cuts t n at h (omega arith))
+    subst (λ (k : ℕ). HoldsCuts size count (set cuts n (cut_moved (get_or cuts n no_cut) at))
+        (record { size = t.size; cuts = cuts_moved t.cuts k at })) is (holds_place size count cuts t n at h (omega arith))

@@ -1,5 +1,6 @@
 -- Sets of cells and writes to their marks.
-use Rattle.std.proofs.Common.{◌≡◌, ◌<◌, ◌≤◌, ℕ, zero, suc, ◌+◌, ◌==◌, Bool, true, false, ◌||◌, ◌&&◌, not, cond, List, [], ◌∷◌, length, set, get_or, refl, sym, ap, ◌∙◌, arith, inl, inr, get_or-set_other}
+use Rattle.std.proofs.Common.{◌≡◌, ◌<◌, ◌≤◌, ℕ, zero, suc, ◌+◌, ◌==◌, Bool, true, false, ◌||◌, ◌&&◌, not, cond, List, [], ◌∷◌, length, set}
+use Rattle.std.proofs.Common.{get_or, refl, sym, ap, ◌∙◌, arith, inl, inr, get_or-set_other}
 use Rattle.std.specs.Cmp.{nat_cmp_total, unsigned_tied}
 use Rattle.std.proofs.lemmas.Bool.Decides.{nat_tests}
 use Rattle.std.proofs.lemmas.Grind.{common_steps}
@@ -16,11 +17,13 @@ get_or_past [] k past = refl
 get_or_past (m ∷ marks) zero past = absurd (omega arith)
 get_or_past (m ∷ marks) (suc k) past = get_or_past marks k (omega arith)
 
-get_or_set_mark : (marks : List Bool) (k : ℕ) (mark : Bool) (q : ℕ) → k < length marks → get_or (set marks k mark) q false ≡ cond (q == k) mark (get_or marks q false)
+get_or_set_mark : (marks : List Bool) (k : ℕ) (mark : Bool) (q : ℕ) → k < length marks →
+    get_or (set marks k mark) q false ≡ cond (q == k) mark (get_or marks q false)
 get_or_set_mark marks k mark q within =
     elim (same_or_not q k) [
       | inl e ↦ let same : get_or (set marks k mark) q false ≡ mark = grind (arith, common_steps) in grind (arith, nat_tests, same)
-      | inr other ↦ let same : get_or (set marks k mark) q false ≡ get_or marks q false = get_or-set_other marks k q mark false other in grind (arith, nat_tests, same)
+      | inr other ↦ let same : get_or (set marks k mark) q false ≡ get_or marks q false = get_or-set_other marks k q mark false other in
+          grind (arith, nat_tests, same)
     ]
 
 cond_or : (b c : Bool) → cond b true c ≡ (b || c)
@@ -32,7 +35,8 @@ cond_and true c = refl
 cond_and false c = refl
 
 -- a mark set puts the number into the set
-pub marked_set_true : (marks : List Bool) (k : ℕ) → k < length marks → marked_from 0 (set marks k true) ≡ cells.insert (marked_from 0 marks) k
+pub marked_set_true : (marks : List Bool) (k : ℕ) → k < length marks →
+    marked_from 0 (set marks k true) ≡ cells.insert (marked_from 0 marks) k
 marked_set_true marks k within =
     cells.same_set nat_cmp_total cells.nat_cmp-IsAntisymmetric _ _ (λ q.
     contains_marks (set marks k true) q
@@ -42,7 +46,8 @@ marked_set_true marks k within =
     ∙ sym (contains_insert_nat (marked_from 0 marks) k q))
 
 -- a mark cleared takes it out
-pub marked_set_false : (marks : List Bool) (k : ℕ) → k < length marks → marked_from 0 (set marks k false) ≡ cells.remove (marked_from 0 marks) k
+pub marked_set_false : (marks : List Bool) (k : ℕ) → k < length marks →
+    marked_from 0 (set marks k false) ≡ cells.remove (marked_from 0 marks) k
 marked_set_false marks k within =
     cells.same_set nat_cmp_total cells.nat_cmp-IsAntisymmetric _ _ (λ q.
     contains_marks (set marks k false) q

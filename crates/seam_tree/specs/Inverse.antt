@@ -1,5 +1,6 @@
 -- Lemmas and no definitions: the values of a tree and of a set give their fields back, which their models prove here.
-use Rattle.std.proofs.Common.{◌≡◌, ◌<◌, ◌≤◌, ℕ, zero, suc, ◌+◌, ◌==◌, Bool, true, false, ◌||◌, List, [], ◌∷◌, length, take, get_or, refl, sym, ap, ◌∙◌, arith, length-append}
+use Rattle.std.proofs.Common.{◌≡◌, ◌<◌, ◌≤◌, ℕ, zero, suc, ◌+◌, ◌==◌, Bool, true, false, ◌||◌, List, [], ◌∷◌, length, take, get_or, refl}
+use Rattle.std.proofs.Common.{sym, ap, ◌∙◌, arith, length-append}
 use Rattle.std.specs.Cmp.{nat_cmp_total, unsigned_tied}
 use Rattle.std.specs.Ordering.{nat_cmp}
 use Rattle.std.proofs.lemmas.Bool.Decides.{nat_tests}
@@ -31,7 +32,8 @@ contains_marked_below first (false ∷ marks) q l = contains_marked_below (suc f
 -- a number is in the set where its mark says so
 pub contains_marked : (first : ℕ) (marks : List Bool) (k : ℕ) → set.contains (marked_from first marks) (first + k) ≡ get_or marks k false
 contains_marked first [] k = set.contains-empty nat_cmp (first + k)
-contains_marked first (true ∷ marks) zero = contains_insert_nat (marked_from (suc first) marks) first (first + zero) ∙ grind (arith, nat_tests)
+contains_marked first (true ∷ marks) zero =
+    contains_insert_nat (marked_from (suc first) marks) first (first + zero) ∙ grind (arith, nat_tests)
 contains_marked first (true ∷ marks) (suc k) =
     let next : first + suc k ≡ suc first + k = omega arith in
     let ih : set.contains (marked_from (suc first) marks) (first + suc k) ≡ get_or marks k false =
@@ -44,7 +46,8 @@ contains_marked first (false ∷ marks) (suc k) =
     let next : first + suc k ≡ suc first + k = omega arith in
     ap (set.contains (marked_from (suc first) marks)) next ∙ contains_marked (suc first) marks k
 
-marks_contains : (s : Cells) (first : ℕ) (marks : List Bool) → ((k : ℕ) → set.contains s (first + k) ≡ get_or marks k false) → marks_from s first (length marks) ≡ marks
+marks_contains : (s : Cells) (first : ℕ) (marks : List Bool) → ((k : ℕ) → set.contains s (first + k) ≡ get_or marks k false) →
+    marks_from s first (length marks) ≡ marks
 marks_contains s first [] same = refl
 marks_contains s first (m ∷ marks) same =
     let here : first ≡ first + 0 = omega arith in

@@ -1,8 +1,10 @@
-ghost use Rattle.std.specs.Prelude.{◌≡◌, ℕ, ◌+◌, ◌-◌, ◌<◌, ◌≤◌, ◌↔◌, ◌⊎◌, [], length, slice_get, Some, IsTrue, IsSome, IfOk, IfSome, OnOk, OnErr, MatchBool};
+ghost use Rattle.std.specs.Prelude.{◌≡◌, ℕ, ◌+◌, ◌-◌, ◌<◌, ◌≤◌, ◌↔◌, ◌⊎◌, [], length, slice_get, Some, IsTrue, IsSome, IfOk, IfSome, OnOk};
+ghost use Rattle.std.specs.Prelude.{OnErr, MatchBool};
 ghost use Rattle.std.specs.Option.{SomeIff};
 ghost use Rattle.seam_geo.specs.Rect.{Holds};
 ghost use Rattle.seam_tree.specs.Boundary.{across, LeavesPartEmpty, RunsThrough};
-ghost use Rattle.seam_tree.specs.Division.{area, area_after, area_divided_by, boundary_of, cell_cut_by, cells_of, cut_after, cut_number, HasBoundary, HasEachArea, IsInSpace, IsTree, leaf_at, NoneEmpty, SomeEmpty};
+ghost use Rattle.seam_tree.specs.Division.{area, area_after, area_divided_by, boundary_of, cell_cut_by, cells_of, cut_after, cut_number};
+ghost use Rattle.seam_tree.specs.Division.{HasBoundary, HasEachArea, IsInSpace, IsTree, leaf_at, NoneEmpty, SomeEmpty};
 ghost use Rattle.seam_tree.specs.Change.{CanCut, CutsCell, MovesBoundary, with_cut, with_place};
 
 use crate::boundary::{Axis, Boundary};

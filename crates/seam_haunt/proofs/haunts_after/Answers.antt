@@ -8,10 +8,12 @@ use Rattle.seam_geo.specs.Rect.{Area}
 use Rattle.seam_tree.specs.Cells.{Cells}
 use Rattle.seam_tree.specs.Division.{area, cells_of}
 use Rattle.seam_haunt.specs.Haunts.{is_close, is_haunt, haunts_of, IsHaunt}
-use Rattle.seam_haunt.proofs.Chosen.{contains_haunts_of, haunts_of_each, contains_haunts_more, contains_haunts_same, close_is_haunt, far_is_none, home_is_none}
+use Rattle.seam_haunt.proofs.Chosen.{contains_haunts_of, haunts_of_each, contains_haunts_more, contains_haunts_same, close_is_haunt}
+use Rattle.seam_haunt.proofs.Chosen.{far_is_none, home_is_none}
 use Rattle.seam_haunt.proofs.Settling.{haunts_without_home}
 use Rattle.seam_haunt.proofs.haunts_after.Goals as goal
-use Rattle.seam_haunt.proofs.haunts_after.Goals.{then-cell-home+then-is_close, else-cell-home, else-cell-home-via-then-cell-home+else-is_close, else-cell-home-via-else-cell-home}
+use Rattle.seam_haunt.proofs.haunts_after.Goals.{then-cell-home+then-is_close, else-cell-home}
+use Rattle.seam_haunt.proofs.haunts_after.Goals.{else-cell-home-via-then-cell-home+else-is_close, else-cell-home-via-else-cell-home}
 
 pub loop-cell-init : goal.loop-cell-init
 loop-cell-init c cell =
@@ -30,17 +32,20 @@ loop-cell-preserved c cell =
           ap (λ (s : Cells). set.contains s cell) (w.haunts-is ∙ w.with-haunts.ensures)
           ∙ contains_haunts_more test c.loop-cell.cell c.loop-cell.haunts c.loop-cell.invariant
             (close_is_haunt c.args.pos c.args.home c.args.old c.args.tree.now c.args.near c.args.far c.loop-cell.cell w.if-cell-home.true
-            (sym (w.is_close.ensures ∙ (λ i. is_close (read i) c.args.pos (w.holds.ensures.value i) c.args.near c.args.far)) ∙ w.if-is_close.true)) cell
+            (sym (w.is_close.ensures ∙ (λ i. is_close (read i) c.args.pos (w.holds.ensures.value i) c.args.near c.args.far))
+                ∙ w.if-is_close.true)) cell
       | else-cell-home w ↦ elim w.else-cell-home.branch [
         | else-cell-home-via-then-cell-home+else-is_close v ↦
             ap (λ (s : Cells). set.contains s cell) w.haunts-is
             ∙ contains_haunts_same test c.loop-cell.cell c.loop-cell.haunts c.loop-cell.invariant
               (far_is_none c.args.pos c.args.home c.args.old c.args.tree.now c.args.near c.args.far c.loop-cell.cell
-              (sym (v.is_close.ensures ∙ (λ i. is_close (read i) c.args.pos (v.holds.ensures.value i) c.args.near c.args.far)) ∙ v.if-is_close.false)) cell
+              (sym (v.is_close.ensures ∙ (λ i. is_close (read i) c.args.pos (v.holds.ensures.value i) c.args.near c.args.far))
+                  ∙ v.if-is_close.false)) cell
         | else-cell-home-via-else-cell-home v ↦
             ap (λ (s : Cells). set.contains s cell) w.haunts-is
             ∙ contains_haunts_same test c.loop-cell.cell c.loop-cell.haunts c.loop-cell.invariant
-              (home_is_none c.args.pos c.args.home c.args.old c.args.tree.now c.args.near c.args.far c.loop-cell.cell v.if-cell-home.false) cell
+              (home_is_none c.args.pos c.args.home c.args.old c.args.tree.now c.args.near c.args.far c.loop-cell.cell v.if-cell-home.false)
+                  cell
       ]
     ]
 
@@ -56,7 +61,8 @@ returns-clause-value c =
 
 pub returns-clause-each : goal.returns-clause-each
 returns-clause-each c cell =
-    subst (λ (s : Cells). IsTrue (set.contains s cell) ↔ IsHaunt c.args.pos c.args.home c.args.old c.args.tree.now c.args.near c.args.far cell)
+    subst (λ (s : Cells). IsTrue (set.contains s cell)
+        ↔ IsHaunt c.args.pos c.args.home c.args.old c.args.tree.now c.args.near c.args.far cell)
     (sym (returns-clause-value c)) (haunts_of_each c.args.pos c.args.home c.args.old c.args.tree.now c.args.near c.args.far cell)
 
 pub returns-clause-place : goal.returns-clause-place

@@ -32,9 +32,11 @@ loop-farthest-preserved c =
 pub stepped-requires-2 : goal.stepped-requires-2
 stepped-requires-2 c = omega (arith, c.loop-farthest.invariant.range, c.loop-farthest.invariant.within)
 
-ended : (c : goal.After-stepped-2) → IsSearched c.args.tree.now c.args.b c.args.from c.args.end c.loop-farthest.farthest c.loop-farthest.farthest
+ended : (c : goal.After-stepped-2) → IsSearched c.args.tree.now c.args.b c.args.from c.args.end c.loop-farthest.farthest
+    c.loop-farthest.farthest
 ended c =
-    let all : c.loop-farthest.most ≡ c.loop-farthest.farthest = omega (arith, c.loop-farthest.invariant.range, c.loop-farthest-test.false) in
+    let all : c.loop-farthest.most ≡ c.loop-farthest.farthest =
+        omega (arith, c.loop-farthest.invariant.range, c.loop-farthest-test.false) in
     subst (IsSearched c.args.tree.now c.args.b c.args.from c.args.end c.loop-farthest.farthest) all c.loop-farthest.invariant
 
 pub returns-clause-least : goal.returns-clause-least
@@ -44,7 +46,8 @@ pub returns-clause-most : goal.returns-clause-most
 returns-clause-most c = rw c.stepped-2.ensures (most_stepped c.args.from c.args.end c.loop-farthest.farthest (ended c).within)
 
 pub returns-clause-allowed : goal.returns-clause-allowed
-returns-clause-allowed c = subst (λ (at : ℕ). NoneEmpty (with_place c.args.tree.now c.args.b at)) (sym c.stepped-2.ensures) (ended c).allowed
+returns-clause-allowed c =
+    subst (λ (at : ℕ). NoneEmpty (with_place c.args.tree.now c.args.b at)) (sym c.stepped-2.ensures) (ended c).allowed
 
 pub returns-clause-above : goal.returns-clause-above
 returns-clause-above c =

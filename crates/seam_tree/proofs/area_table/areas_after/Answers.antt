@@ -1,4 +1,5 @@
-use Rattle.std.proofs.Common.{◌≡◌, ◌≤◌, ◌<◌, ℕ, zero, suc, ◌+◌, Bool, true, false, refl, ap, subst, ◌∙◌, arith, inl, inr, get_or, slice_get, Some}
+use Rattle.std.proofs.Common.{◌≡◌, ◌≤◌, ◌<◌, ℕ, zero, suc, ◌+◌, Bool, true, false, refl, ap, subst, ◌∙◌, arith, inl, inr, get_or, slice_get}
+use Rattle.std.proofs.Common.{Some}
 use Rattle.std.proofs.lemmas.Bool.{cases_lt}
 use Rattle.seam_geo.specs.Rect.{Area, IsProper}
 use Rattle.seam_tree.specs.declared.cut.Cut.{Cut}
@@ -19,7 +20,8 @@ returns-in_err-lower-clause-empty c =
     let cut : Cut = cut_after t c.loop-n.n in
     let there : cut.cell ≤ c.loop-n.n = c.requires.there c.loop-n.n (omega arith) in
     let read : get_or c.loop-n.areas c.from.result c.index-areas-from.result ≡ area_after t c.loop-n.n cut.cell =
-    filled_at t c.loop-n.n c.loop-n.areas c.from.result cut.cell c.index-areas-from.result c.loop-n.invariant (omega arith) c.from.ensures there in
+    filled_at t c.loop-n.n c.loop-n.areas c.from.result cut.cell c.index-areas-from.result c.loop-n.invariant (omega arith) c.from.ensures
+        there in
     let empty : LeavesPartEmpty cut.boundary (area_after t c.loop-n.n cut.cell) =
     subst (LeavesPartEmpty cut.boundary) read c.in_err-lower.ensures.empty in
     rw c.from_residual-in_err-lower.ensures
@@ -31,7 +33,8 @@ loop-n-preserved c =
     let cut : Cut = cut_after t c.loop-n.n in
     let there : cut.cell ≤ c.loop-n.n = c.requires.there c.loop-n.n (omega arith) in
     let read : get_or c.loop-n.areas c.from.result c.index-areas-from.result ≡ area_after t c.loop-n.n cut.cell =
-    filled_at t c.loop-n.n c.loop-n.areas c.from.result cut.cell c.index-areas-from.result c.loop-n.invariant (omega arith) c.from.ensures there in
+    filled_at t c.loop-n.n c.loop-n.areas c.from.result cut.cell c.index-areas-from.result c.loop-n.invariant (omega arith) c.from.ensures
+        there in
     filled_step t c.loop-n.n c.loop-n.areas c.from-in-loop-n.result (c.loop-n.n + 1) c.in_ok-lower.lower c.in_ok-lower.upper
     c.loop-n.invariant (omega arith) there c.from-in-loop-n.ensures refl
     (subst (RunsThrough cut.boundary) read c.in_ok-lower.ensures.runs)

@@ -10,7 +10,9 @@ returns-clause-value c =
     c.leaf_among.ensures c.args.self.now.size ∙ ap leaf_of_cuts c.made.ensures.cuts
 
 is_leaf : (c : goal.After-leaf_among) → IsLeaf c.args.self.now c.args.p c.leaf_among.result
-is_leaf c = subst (IsLeaf c.args.self.now c.args.p) (sym (returns-clause-value c)) (leaf_at_is c.args.self.now c.args.p c.made.ensures.tree c.requires)
+is_leaf c =
+    subst (IsLeaf c.args.self.now c.args.p) (sym (returns-clause-value c))
+    (leaf_at_is c.args.self.now c.args.p c.made.ensures.tree c.requires)
 
 pub returns-clause-cell : goal.returns-clause-cell
 returns-clause-cell c = (is_leaf c).cell
