@@ -1,5 +1,5 @@
 //! Which cells have a ghost of a real: those near enough, and those that had one and are not yet far (BigWorld Server
-//! Overview, ghost entities).
+//! Overview, ghost entities). And the place of an entity: its home, and the cells with a ghost of it.
 #![tactic(auto)]
 
 ghost use Rattle.std.specs.Prelude.{◌≡◌, ℕ, ◌↔◌, ◌⊎◌, IsTrue};
@@ -19,6 +19,7 @@ use seam_tree::{CellSet, Tree};
 pub fn haunts_after(pos: Pos, home: u8, old: CellSet, tree: &Tree, near: u32, far: u32) -> CellSet
     ensures value { result ≡ haunts_of pos home old tree.now near far }
     ensures each { (c : ℕ) → IsTrue (set.contains result c) ↔ IsHaunt pos home old tree.now near far c }
+    // the cells with a ghost of the settled place, whether the real came from another cell or stays
     ensures place { (kept : ℕ) (was : Place) → home ≡ home_at kept tree.now was.home pos
         → (old ≡ set.insert was.ghosts was.home) ⊎ ((home ≡ was.home) × (old ≡ was.ghosts))
         → result ≡ (settled (record { kept = kept; near = near; far = far }) tree.now was pos).ghosts }
