@@ -14,7 +14,7 @@ pub area_agree : (t u : Division) (n : ℕ) → AgreeBelow t u n → (cell : ℕ
 area_agree t u zero same cell = λ i. record { low = record { x = 0; z = 0 }; high = record { x = same.size i; z = same.size i } }
 area_agree t u (suc n) same cell =
     let ih : (c : ℕ) → area_after t n c ≡ area_after u n c =
-        area_agree t u n (record { size = same.size; cuts = λ k l. same.cuts k (omega arith) }) in
+    area_agree t u n (record { size = same.size; cuts = λ k l. same.cuts k (omega arith) }) in
     let cut : cut_after t n ≡ cut_after u n = same.cuts n (omega arith) in
     let parent : area_after t n (cut_after t n).cell ≡ area_after u n (cut_after u n).cell =
     ih (cut_after t n).cell ∙ ap (λ (c : Cut). area_after u n c.cell) cut in

@@ -97,7 +97,7 @@ leaf_only t (suc n) c p there proper within h =
     elim (area_step t n c within) [
       | is_new e is ↦
           let parts : Holds (area_after t n cell) p × ((cut_after t n).boundary.at ≤ place_along (cut_after t n).boundary.axis p) =
-              above_holds _ _ p runs (subst (λ (a : Area). Holds a p) is h) in
+          above_holds _ _ p runs (subst (λ (a : Area). Holds a p) is h) in
           let leaf : cell ≡ leaf_after t n p = ih cell cell_there parts.0 in
           elim (leaf_step t n p) [
             | goes _ _ to ↦ e ∙ sym to
@@ -106,9 +106,9 @@ leaf_only t (suc n) c p there proper within h =
           ]
       | is_cut w e is ↦
           let held : Holds (below (area_after t n cell) (cut_after t n).boundary) p =
-              subst (λ (k : ℕ). Holds (below (area_after t n k) (cut_after t n).boundary) p) e (subst (λ (a : Area). Holds a p) is h) in
+          subst (λ (k : ℕ). Holds (below (area_after t n k) (cut_after t n).boundary) p) e (subst (λ (a : Area). Holds a p) is h) in
           let parts : Holds (area_after t n cell) p × (place_along (cut_after t n).boundary.axis p < (cut_after t n).boundary.at) =
-              below_holds _ _ p runs held in
+          below_holds _ _ p runs held in
           let leaf : cell ≡ leaf_after t n p = ih cell cell_there parts.0 in
           elim (leaf_step t n p) [
             | goes _ g _ ↦ absurd (omega (arith, g, parts.1))
@@ -183,5 +183,5 @@ leaf_at_is t p tree inside = record {
 pub tree_inside : (t : Division) (c : ℕ) (p : Pos) → IsTree t → c < cells_of t → Holds (area t c) p → IsInSpace t p
 tree_inside t c p tree within held =
     let inside : Holds (whole t) p =
-        area_inside t (length t.cuts) c p tree.cell_was_there (λ k w. tree.none_empty k (omega arith)) (omega arith) held in
+    area_inside t (length t.cuts) c p tree.cell_was_there (λ k w. tree.none_empty k (omega arith)) (omega arith) held in
     record { x_inside = inside.to_x; z_inside = inside.to_z }

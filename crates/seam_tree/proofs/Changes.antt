@@ -144,7 +144,7 @@ with_cut_tree t cell b tree there runs room = record {
     | inr other ↦
         let before : n < length t.cuts = omega (arith, cells_with_cut t cell b) in
         let is : (cut_after (with_cut t cell b) n).cell ≡ (cut_after t n).cell =
-            ap (λ (x : Cut). x.cell) (get_or_before t.cuts (record { cell = cell; boundary = b }) n before) in
+        ap (λ (x : Cut). x.cell) (get_or_before t.cuts (record { cell = cell; boundary = b }) n before) in
         omega (arith, is, tree.cell_was_there n before)
   ];
   none_empty = none_empty_with_cut t cell b tree.none_empty there runs;
@@ -224,13 +224,13 @@ get_or_moved_here (c ∷ cuts) (suc n) at within = get_or_moved_here cuts n at (
 leaf_moved_here : (t u : Division) (n at : ℕ) (p : Pos) → cut_after u n ≡ cut_moved (cut_after t n) at → CellsWereThere t n →
     Holds (whole t) p
     → (Holds (area_after t n (cut_after t n).cell) p →
-        IsBetween (cut_after t n).boundary.at at (place_along (cut_after t n).boundary.axis p) → ⊥)
+    IsBetween (cut_after t n).boundary.at at (place_along (cut_after t n).boundary.axis p) → ⊥)
     → leaf_after u n p ≡ leaf_after t n p → leaf_after u (suc n) p ≡ leaf_after t (suc n) p
 leaf_moved_here t u n at p moved there inside outside leaf =
     let cell : (cut_after u n).cell ≡ (cut_after t n).cell = ap (λ (c : Cut). c.cell) moved in
     let place : (cut_after u n).boundary.at ≡ at = ap (λ (c : Cut). c.boundary.at) moved in
     let along : place_along (cut_after u n).boundary.axis p ≡ place_along (cut_after t n).boundary.axis p =
-        ap (λ (c : Cut). place_along c.boundary.axis p) moved in
+    ap (λ (c : Cut). place_along c.boundary.axis p) moved in
     let held : (cut_after t n).cell ≡ leaf_after t n p → Holds (area_after t n (cut_after t n).cell) p =
     λ is. subst (λ (c : ℕ). Holds (area_after t n c) p) (sym is) (leaf_holds t n p there inside) in
     elim (leaf_step u n p) [
@@ -262,9 +262,9 @@ leaf_moved t b at p has there inside outside (suc n) within =
           let moved : cut_after (with_place t b at) n ≡ cut_moved (cut_after t n) at =
           ap (λ (k : ℕ). get_or (cuts_moved t.cuts k at) n no_cut) (sym e) ∙ get_or_moved_here t.cuts n at (omega arith) in
           let outside_here : Holds (area_after t n (cut_after t n).cell) p →
-              IsBetween (cut_after t n).boundary.at at (place_along (cut_after t n).boundary.axis p) → ⊥ =
+          IsBetween (cut_after t n).boundary.at at (place_along (cut_after t n).boundary.axis p) → ⊥ =
           subst (λ (k : ℕ). Holds (area_after t k (cut_after t k).cell) p →
-              IsBetween (cut_after t k).boundary.at at (place_along (cut_after t k).boundary.axis p) → ⊥) (sym e)
+          IsBetween (cut_after t k).boundary.at at (place_along (cut_after t k).boundary.axis p) → ⊥) (sym e)
           (λ held between. outside (record { divided = held; between = between })) in
           leaf_moved_here t (with_place t b at) n at p moved (λ k l. there k (omega arith)) inside outside_here before
       | inr other ↦ leaf_agree_step (with_place t b at) t n p (get_or_moved_other t.cuts (b - 1) at n other) before

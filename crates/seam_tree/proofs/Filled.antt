@@ -53,8 +53,8 @@ filled_step t n areas k m lower upper f small there cell next runs low high =
     let suc_n : suc n ≡ n + 1 = omega arith in
     subst (λ (j : ℕ). IsFilled t j (set (set areas k lower) m upper)) suc_n (record {
       places =
-        let again : length (set (set areas k lower) m upper) ≡ length (set areas k lower) = grind (arith, common_steps) in
-        again ∙ kept ∙ f.places;
+          let again : length (set (set areas k lower) m upper) ≡ length (set areas k lower) = grind (arith, common_steps) in
+          again ∙ kept ∙ f.places;
       each = λ c within.
           elim (area_step t n c within) [
             | is_new is e ↦ get_or-set_at (set areas k lower) m c upper (whole t) (omega arith) new_place ∙ high ∙ sym e
@@ -103,7 +103,7 @@ empty_part_along a Z at (inr high) = inr (inr high)
 
 parts_after : (t : Division) (n : ℕ) → (cut_after t n).cell ≤ n
     → IsEmptyArea (below (area_after t n (cut_after t n).cell) (cut_after t n).boundary)
-        ⊎ IsEmptyArea (above (area_after t n (cut_after t n).cell) (cut_after t n).boundary)
+    ⊎ IsEmptyArea (above (area_after t n (cut_after t n).cell) (cut_after t n).boundary)
     → EmptyAfter t (suc n)
 parts_after t n there (inl lower) = ((cut_after t n).cell, omega arith, subst IsEmptyArea (sym (area_of_cut t n there)) lower)
 parts_after t n there (inr upper) = (suc n, omega arith, subst IsEmptyArea (sym (area_of_new t n)) upper)
@@ -120,7 +120,7 @@ pub empty_by_cut : (t : Division) (n : ℕ) → (cut_after t n).cell ≤ n →
     LeavesPartEmpty (cut_after t n).boundary (area_after t n (cut_after t n).cell) → EmptyAfter t (suc n)
 empty_by_cut t n there empty =
     parts_after t n there (empty_part_along (area_after t n (cut_after t n).cell) (cut_after t n).boundary.axis (cut_after t n).boundary.at
-        empty)
+    empty)
 
 empty_stays_once : (t : Division) (n : ℕ) → (cut_after t n).cell ≤ n → EmptyAfter t n → EmptyAfter t (suc n)
 empty_stays_once t n there (c, within, empty) =
@@ -136,7 +136,7 @@ empty_stays_by t n zero there empty = subst (EmptyAfter t) (omega arith) empty
 empty_stays_by t n (suc k) there empty =
     let more : suc (n + k) ≡ n + suc k = omega arith in
     subst (EmptyAfter t) more (empty_stays_once t (n + k) (there (n + k) (omega arith))
-        (empty_stays_by t n k (λ j l. there j (omega arith)) empty))
+    (empty_stays_by t n k (λ j l. there j (omega arith)) empty))
 
 pub empty_stays : (t : Division) (n m : ℕ) → n ≤ m → CellsWereThere t m → EmptyAfter t n → EmptyAfter t m
 empty_stays t n m le there empty =
@@ -157,7 +157,7 @@ some_where_proper t n (Some areas) proper empty = refl
 -- whether the table is given says whether an area is empty
 pub given_unless_empty : (t : Division) (given : Option (List Area)) (none : Bool) → is_some given ≡ not none
     → IfSome given (λ areas. ProperAfter t (length t.cuts)) → IfNone given (EmptyAfter t (length t.cuts)) →
-        MatchBool none (SomeEmpty t) (NoneEmpty t)
+    MatchBool none (SomeEmpty t) (NoneEmpty t)
 given_unless_empty t None true is proper empty = (empty.0, omega (arith, empty.1), empty.2)
 given_unless_empty t (Some areas) false is proper empty = λ c within. proper c (omega arith)
 given_unless_empty t None false is proper empty = absurd (cc)

@@ -98,7 +98,7 @@ moved_here t b at n c is there runs same_cell within =
         | inr other ↦
             let c_there : c ≤ n = omega arith in
             inl (area_of_other (with_place t b at) n c c_there (λ e. other (e ∙ same_cell))
-                ∙ area_agree (with_place t b at) t n (agree_with_place t b at n (omega arith)) c ∙ sym (area_of_other t n c c_there other))
+            ∙ area_agree (with_place t b at) t n (agree_with_place t b at n (omega arith)) c ∙ sym (area_of_other t n c c_there other))
       ]
     ]
 
@@ -119,7 +119,7 @@ moved_later t b at n c same there runs before within =
           | inl kept ↦
               let cut : area_after u (suc n) parent ≡ below (area_after u n parent) (cut_after t n).boundary =
               subst (λ (x : Cut). area_after u (suc n) x.cell ≡ below (area_after u n x.cell) x.boundary) same
-                  (area_of_cut u n (subst (λ (x : Cut). x.cell ≤ n) (sym same) there)) in
+              (area_of_cut u n (subst (λ (x : Cut). x.cell ≤ n) (sym same) there)) in
               inl (cut ∙ ap (λ (a : Area). below a (cut_after t n).boundary) kept ∙ sym (area_of_cut t n there))
           | inr w ↦ inr (within_trans _ _ _ (cut_within t n there runs) w)
         ])
@@ -139,7 +139,7 @@ area_moved t b at tree there zero within c c_within = inl refl
 area_moved t b at tree there (suc n) within c c_within =
     let cut_there : (cut_after t n).cell ≤ n = tree.cell_was_there n (omega arith) in
     let runs : RunsThrough (cut_after t n).boundary (area_after t n (cut_after t n).cell) =
-        (proper_step t n cut_there (tree_proper t (suc n) tree within)).1 in
+    (proper_step t n cut_there (tree_proper t (suc n) tree within)).1 in
     elim (same_or_not n (b - 1)) [
       | inl e ↦ moved_here t b at n c e cut_there runs (get_or_moved_cell t.cuts (b - 1) at n) c_within
       | inr other ↦ moved_later t b at n c (cut_moved_other t b at n other) cut_there runs (area_moved t b at tree there n (omega arith))
@@ -165,8 +165,8 @@ with_place_moves t b at tree there = record {
   leaves = λ p inside outside.
       ap (λ (n : ℕ). leaf_after (with_place t b at) n p) (length_cuts_moved t.cuts (b - 1) at)
       ∙ leaf_moved t b at p there tree.cell_was_there
-          (record { from_x = omega arith; to_x = inside.x_inside; from_z = omega arith; to_z = inside.z_inside }) outside (length t.cuts)
-          (omega arith);
+      (record { from_x = omega arith; to_x = inside.x_inside; from_z = omega arith; to_z = inside.z_inside }) outside (length t.cuts)
+      (omega arith);
 }
 
 -- what came by cuts and shifts has the first tree's cells

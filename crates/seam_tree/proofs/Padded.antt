@@ -75,7 +75,7 @@ holds_place size count cuts t n at h within =
     let len : length t.cuts ≡ count = cuts_length size count cuts t h in
     let after : set cuts n (cut_moved (get_or cuts n no_cut) at) ≡ padded (cuts_moved t.cuts n at) =
     ap (λ (xs : List Cut). set xs n (cut_moved (get_or xs n no_cut) at)) (table_is size count cuts t h)
-        ∙ set_padded_moved t.cuts n at within in
+    ∙ set_padded_moved t.cuts n at within in
     let taken : take count (set cuts n (cut_moved (get_or cuts n no_cut) at)) ≡ cuts_moved t.cuts n at =
     ap (take count) after ∙ take_of_padded (cuts_moved t.cuts n at) count (omega (arith, length_cuts_moved t.cuts n at)) in
     record {
@@ -91,4 +91,4 @@ holds_with_place size count cuts t n b at h is there =
     let to : b < cells_of t = there.to_last in
     let from : 1 ≤ b = there.from_one in
     subst (λ (k : ℕ). HoldsCuts size count (set cuts n (cut_moved (get_or cuts n no_cut) at))
-        (record { size = t.size; cuts = cuts_moved t.cuts k at })) is (holds_place size count cuts t n at h (omega arith))
+    (record { size = t.size; cuts = cuts_moved t.cuts k at })) is (holds_place size count cuts t n at h (omega arith))

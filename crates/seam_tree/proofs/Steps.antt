@@ -34,8 +34,10 @@ pub ruleset leaf_steps = (leaf_new, leaf_other, leaf_below)
 
 pub same_or_not : (m n : ℕ) → (m ≡ n) ⊎ (m ≢ n)
 same_or_not m n =
-    elim (cases_lt m n) [ inl l ↦ inr (λ e. omega arith)
-    | inr g ↦ elim (cases_lt n m) [ inl l ↦ inr (λ e. omega arith) | inr h ↦ inl (omega arith) ] ]
+    elim (cases_lt m n) [
+      | inl l ↦ inr (λ e. omega arith)
+      | inr g ↦ elim (cases_lt n m) [ inl l ↦ inr (λ e. omega arith) | inr h ↦ inl (omega arith) ]
+    ]
 
 -- a cell after one more cut: the new one, the one that was cut, or another
 pub data AreaStep (t : Division) (n cell : ℕ) : Type 0 where

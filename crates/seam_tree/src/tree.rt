@@ -7,8 +7,8 @@ ghost use Rattle.seam_tree.specs.Division.{area, area_after, area_divided_by, bo
 ghost use Rattle.seam_tree.specs.Division.{HasBoundary, HasEachArea, IsInSpace, IsTree, leaf_at, NoneEmpty, SomeEmpty};
 ghost use Rattle.seam_tree.specs.Change.{CanCut, CutsCell, MovesBoundary, with_cut, with_place};
 
-use crate::boundary::{Axis, Boundary};
 use crate::area_table::{MOST_CELLS, areas_after, parts};
+use crate::boundary::{Axis, Boundary};
 use crate::cut::{Cut, leaf_among};
 use seam_geo::{Pos, Rect};
 use std::marker::Model;

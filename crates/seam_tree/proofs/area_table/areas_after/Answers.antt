@@ -21,7 +21,7 @@ returns-in_err-lower-clause-empty c =
     let there : cut.cell ≤ c.loop-n.n = c.requires.there c.loop-n.n (omega arith) in
     let read : get_or c.loop-n.areas c.from.result c.index-areas-from.result ≡ area_after t c.loop-n.n cut.cell =
     filled_at t c.loop-n.n c.loop-n.areas c.from.result cut.cell c.index-areas-from.result c.loop-n.invariant (omega arith) c.from.ensures
-        there in
+    there in
     let empty : LeavesPartEmpty cut.boundary (area_after t c.loop-n.n cut.cell) =
     subst (LeavesPartEmpty cut.boundary) read c.in_err-lower.ensures.empty in
     rw c.from_residual-in_err-lower.ensures
@@ -34,7 +34,7 @@ loop-n-preserved c =
     let there : cut.cell ≤ c.loop-n.n = c.requires.there c.loop-n.n (omega arith) in
     let read : get_or c.loop-n.areas c.from.result c.index-areas-from.result ≡ area_after t c.loop-n.n cut.cell =
     filled_at t c.loop-n.n c.loop-n.areas c.from.result cut.cell c.index-areas-from.result c.loop-n.invariant (omega arith) c.from.ensures
-        there in
+    there in
     filled_step t c.loop-n.n c.loop-n.areas c.from-in-loop-n.result (c.loop-n.n + 1) c.in_ok-lower.lower c.in_ok-lower.upper
     c.loop-n.invariant (omega arith) there c.from-in-loop-n.ensures refl
     (subst (RunsThrough cut.boundary) read c.in_ok-lower.ensures.runs)

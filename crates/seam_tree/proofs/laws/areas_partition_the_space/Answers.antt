@@ -9,8 +9,8 @@ returns-clause-inside c cell p within held = tree_inside c.args.tree.now cell p 
 pub returns-clause-apart : goal.returns-clause-apart
 returns-clause-apart c one other p one_there other_there held too =
     let leaf : IsLeaf c.args.tree.now p (leaf_at c.args.tree.now p) =
-        leaf_at_is c.args.tree.now p c.cells-cells.ensures.tree
-        (tree_inside c.args.tree.now one p c.cells-cells.ensures.tree one_there held) in
+    leaf_at_is c.args.tree.now p c.cells-cells.ensures.tree
+    (tree_inside c.args.tree.now one p c.cells-cells.ensures.tree one_there held) in
     leaf.only one one_there held ∙ sym (leaf.only other other_there too)
 
 pub returns-clause-covered : goal.returns-clause-covered

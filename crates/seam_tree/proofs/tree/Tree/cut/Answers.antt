@@ -10,7 +10,7 @@ pub push-requires-clause-tree : goal.push-requires-clause-tree
 push-requires-clause-tree c =
     let there : c.args.cell < cells_of c.args.self.now = grind (arith, common_steps) in
     let runs : RunsThrough (record { axis = c.args.axis; at = c.args.at }) (area c.args.self.now c.args.cell) =
-        grind (arith, common_steps) in
+    grind (arith, common_steps) in
     let room : cells_of c.args.self.now < 16 = grind (arith, common_steps) in
     with_cut_tree c.args.self.now c.args.cell _ c.is_split_by.ensures.tree there runs room
 
@@ -18,4 +18,4 @@ pub returns-clause-changed : goal.returns-clause-changed
 returns-clause-changed c =
     let there : c.args.cell < cells_of c.args.self.now = grind (arith, common_steps) in
     subst (λ (u : Division). CutsCell c.args.self.now u c.args.cell (record { axis = c.args.axis; at = c.args.at })) (sym c.push.ensures)
-        (with_cut_cuts c.args.self.now c.args.cell _ there)
+    (with_cut_cuts c.args.self.now c.args.cell _ there)

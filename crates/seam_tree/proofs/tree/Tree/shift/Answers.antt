@@ -13,9 +13,9 @@ place-requires-clause-tree c =
 pub returns-clause-changed : goal.returns-clause-changed
 returns-clause-changed c =
     let there : HasBoundary c.args.self.now c.args.b =
-        record { from_one = grind (arith, common_steps); to_last = grind (arith, common_steps) } in
+    record { from_one = grind (arith, common_steps); to_last = grind (arith, common_steps) } in
     subst (λ (u : Division). MovesBoundary c.args.self.now u c.args.b c.args.at) (sym c.place.ensures)
-        (with_place_moves c.args.self.now c.args.b c.args.at (subst IsTree c.self.view_is c.self.invariant.2) there)
+    (with_place_moves c.args.self.now c.args.b c.args.at (subst IsTree c.self.view_is c.self.invariant.2) there)
 
 pub returns-clause-tree : goal.returns-clause-tree
 returns-clause-tree c =
