@@ -16,6 +16,16 @@ impl Cost {
         Ok(Cost { nanos, calls, sum })
     }
 
+    /// The lesser of two costs of the same calls.
+    pub fn lesser(self, other: Cost) -> Cost {
+        if other.nanos < self.nanos {
+            other
+        } else {
+            self
+        }
+    }
+
+    /// The nanoseconds of one call, rounded down.
     pub fn nanos_a_call(&self) -> u128 {
         if self.calls == 0 {
             return 0;
