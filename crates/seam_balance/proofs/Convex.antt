@@ -7,7 +7,7 @@ use Rattle.seam_tree.specs.declared.boundary.Axis.{Axis}
 use Rattle.seam_tree.specs.declared.boundary.Axis.TheVariants.{X, Z}
 use Rattle.seam_tree.specs.declared.boundary.Boundary.{Boundary}
 use Rattle.seam_tree.specs.declared.cut.Cut.{Cut}
-use Rattle.seam_tree.specs.Boundary.{across, below, above, RunsThrough, IsEmptyArea, LiesWithin}
+use Rattle.seam_tree.specs.Boundary.{across, below, above, RunsThrough, LiesWithin}
 use Rattle.seam_tree.specs.Division.{Division, area, area_after, cut_after, cells_of, no_cut, NoneEmpty, SomeEmpty, HasBoundary, IsTree}
 use Rattle.seam_tree.specs.Division.{area_divided_by}
 use Rattle.seam_tree.specs.Change.{with_place, cut_moved, cuts_moved}
@@ -16,6 +16,7 @@ use Rattle.seam_tree.proofs.Padded.{length_cuts_moved}
 use Rattle.seam_tree.proofs.Agree.{area_agree}
 use Rattle.seam_tree.proofs.Changes.{get_or_moved_cell, cut_moved_other, cut_moved_here, agree_with_place}
 use Rattle.seam_tree.proofs.Moves.{within_refl}
+use Rattle.seam_tree.proofs.Filled.{not_empty_area}
 use Rattle.seam_tree.proofs.Areas.{tree_proper, proper_step}
 
 proper_within : (a b : Area) → LiesWithin a b → IsProper a → IsProper b
@@ -194,12 +195,8 @@ none_empty_between t b low middle high tree there le_low le_high at_low at_high 
     ] in
     subst (λ (n : ℕ). IsProper (area_after (with_place t b middle) n cell)) (sym length_middle) proper
 
-empty_not_proper : (a : Area) → IsEmptyArea a → IsProper a → ⊥
-empty_not_proper a (inl x) proper = omega (arith, proper.wide)
-empty_not_proper a (inr z) proper = omega (arith, proper.deep)
-
 pub some_not_none : (t : Division) → SomeEmpty t → NoneEmpty t → ⊥
-some_not_none t some none = empty_not_proper (area t some.0) some.2 (none some.0 some.1)
+some_not_none t some none = not_empty_area (area t some.0) (none some.0 some.1) some.2
 
 -- the boundary at its own place
 cuts_own_place : (cuts : List Cut) (n : ℕ) → cuts_moved cuts n (get_or cuts n no_cut).boundary.at ≡ cuts

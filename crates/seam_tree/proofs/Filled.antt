@@ -108,7 +108,7 @@ parts_after : (t : Division) (n : ℕ) → (cut_after t n).cell ≤ n
 parts_after t n there (inl lower) = ((cut_after t n).cell, omega arith, subst IsEmptyArea (sym (area_of_cut t n there)) lower)
 parts_after t n there (inr upper) = (suc n, omega arith, subst IsEmptyArea (sym (area_of_new t n)) upper)
 
-not_empty_area : (a : Area) → IsProper a → IsEmptyArea a → ⊥
+pub not_empty_area : (a : Area) → IsProper a → IsEmptyArea a → ⊥
 not_empty_area a proper (inl x) = omega (arith, proper.wide, x)
 not_empty_area a proper (inr z) = omega (arith, proper.deep, z)
 

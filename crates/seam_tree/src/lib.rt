@@ -1,8 +1,8 @@
 //! A space cut into at most sixteen cells by boundaries along its axes, and sets of such cells.
 //!
 //! The tree of boundaries is that of the cells of a BigWorld space (BigWorld Server Overview, load balancing). For callers,
-//! `proofs/Leaves` says that a leaf is a cell; `proofs/Steps`, `Areas`, `Agree`, `Padded`, `Changes` and `Moves` say what one
-//! more cut and another place make of areas.
+//! `proofs/Leaves` says that a leaf is a cell; `proofs/Steps`, `Areas`, `Agree`, `Padded`, `Changes`, `Moves` and `Filled`
+//! say what one more cut and another place make of areas.
 #![tactic(auto)]
 
 mod area_table;
