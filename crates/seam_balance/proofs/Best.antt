@@ -87,7 +87,7 @@ upper_least : (places : List ℕ) (low high count upper : ℕ) → IsUpper place
 upper_least places low high count upper u other from to =
     let least : unevenness (length places) (count_below places upper) ≤ unevenness (length places) (count_below places other) =
     from_count (length places) (count_below places high) count _ _ u.count_is u.found.enough (count_below_rises places upper other from)
-        (count_below_rises places other high to) in
+    (count_below_rises places other high to) in
     omega (arith, least, difference_is places upper, difference_is places other)
 
 -- fewer than half lie below the lower place
@@ -127,7 +127,7 @@ best_lower places low high count upper lower u l better = record {
   lowest = λ other from to.
       let less : unevenness (length places) (count_below places lower) < unevenness (length places) (count_below places other) =
       before_half_less (length places) _ _ (omega (arith, l.found.first other from to, l.found.enough))
-          (lower_short places low high count upper lower u l) in
+      (lower_short places low high count upper lower u l) in
       omega (arith, less, difference_is places lower, difference_is places other);
 }
 

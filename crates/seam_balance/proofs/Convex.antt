@@ -88,7 +88,7 @@ place_of t n at = record { axis = (cut_after t n).boundary.axis; at = at }
 boundary_here : (t : Division) (b at n : ℕ) → HasBoundary t b → n ≡ b - 1 → (cut_after (with_place t b at) n).boundary ≡ place_of t n at
 boundary_here t b at n there is =
     subst (λ (k : ℕ). (cut_after (with_place t b at) k).boundary ≡ place_of t k at) (sym is)
-        (ap (λ (c : Cut). c.boundary) (cut_moved_here t b at there))
+    (ap (λ (c : Cut). c.boundary) (cut_moved_here t b at there))
 
 boundary_other : (t : Division) (b at n : ℕ) → n ≢ b - 1 → (cut_after (with_place t b at) n).boundary ≡ (cut_after t n).boundary
 boundary_other t b at n other = ap (λ (c : Cut). c.boundary) (cut_moved_other t b at n other)
@@ -129,7 +129,7 @@ holds_here t b low middle high n cell there is le_low le_high cut_there within =
         | inr other ↦
             let cell_there : cell ≤ n = omega arith in
             inl (within_by (other_area t b low n cell cell_there other) (other_area t b middle n cell cell_there other)
-                (same_within t b low middle n cell before))
+            (same_within t b low middle n cell before))
       ]
     ]
 
@@ -173,7 +173,7 @@ holds_one : (t : Division) (b low middle high : ℕ) → HasBoundary t b → low
 holds_one t b low middle high there le_low le_high zero cuts cell within = inl (same_within t b low middle 0 cell (omega arith))
 holds_one t b low middle high there le_low le_high (suc n) cuts cell within =
     let before : (c : ℕ) → c ≤ n → HoldsOne t b low middle high n c =
-        holds_one t b low middle high there le_low le_high n (λ k l. cuts k (omega arith)) in
+    holds_one t b low middle high there le_low le_high n (λ k l. cuts k (omega arith)) in
     elim (cases_eq n (b - 1)) [
       | inl is ↦ holds_here t b low middle high n cell there is le_low le_high (cuts n (omega arith)) within
       | inr other ↦ holds_later t b low middle high n cell other (cuts n (omega arith)) within before
@@ -218,11 +218,11 @@ allowed_runs t b at tree there moved =
     let to : b < cells_of t = there.to_last in
     let same_length : length (with_place t b at).cuts ≡ length t.cuts = length_cuts_moved t.cuts (b - 1) at in
     let runs : RunsThrough (cut_after (with_place t b at) (b - 1)).boundary
-        (area_after (with_place t b at) (b - 1) (cut_after (with_place t b at) (b - 1)).cell) =
+    (area_after (with_place t b at) (b - 1) (cut_after (with_place t b at) (b - 1)).cell) =
     (proper_step (with_place t b at) (b - 1) (moved.cell_was_there (b - 1) (omega arith))
-        (tree_proper (with_place t b at) (suc (b - 1)) moved (omega arith))).1 in
+    (tree_proper (with_place t b at) (suc (b - 1)) moved (omega arith))).1 in
     let here : cut_after (with_place t b at) (b - 1) ≡ cut_moved (cut_after t (b - 1)) at = cut_moved_here t b at there in
     let before : (c : ℕ) → area_after (with_place t b at) (b - 1) c ≡ area_after t (b - 1) c =
-        area_agree (with_place t b at) t (b - 1) (agree_with_place t b at (b - 1) (omega arith)) in
+    area_agree (with_place t b at) t (b - 1) (agree_with_place t b at (b - 1) (omega arith)) in
     subst (λ (a : Area). RunsThrough (place_of t (b - 1) at) a) (before (cut_after t (b - 1)).cell)
     (subst (λ (c : Cut). RunsThrough c.boundary (area_after (with_place t b at) (b - 1) c.cell)) here runs)

@@ -26,4 +26,4 @@ one_in_turn positions shift [] t new other is same = is ∙ sym same
 one_in_turn positions shift (b ∷ later) t new other (at, best, rest) (to, too, more) =
     one_in_turn positions shift later (with_place t b at) new other rest
     (subst (λ (place : ℕ). BalancedInTurn positions shift (with_place t b place) later other) (one_best t b shift positions to at too best)
-        more)
+    more)

@@ -35,9 +35,10 @@ range_allowed t b shift low high tree there range at = (
   λ allowed.
       let near : gap at (boundary_at t b).at ≤ shift = allowed.near in (
         elim (cases_lt at low) [ inl l ↦ absurd (range.lowest at (omega arith) l allowed.none_empty) | inr g ↦ g ],
-        elim (cases_lt high at)
-            [ inl l ↦ absurd (range.highest at l (omega arith) (allowed_end t b at tree there allowed.none_empty) allowed.none_empty)
-            | inr g ↦ g ],
+        elim (cases_lt high at) [
+          | inl l ↦ absurd (range.highest at l (omega arith) (allowed_end t b at tree there allowed.none_empty) allowed.none_empty)
+          | inr g ↦ g
+        ],
       ),
   λ inside. record {
     near = omega (arith, inside.0, inside.1, range.low_from, range.high_to);

@@ -69,7 +69,7 @@ search_begins t b from end most allowed is =
 pub search_refuses : (t : Division) (b from end farthest most middle : ℕ) → IsTree t → HasBoundary t b →
     IsSearched t b from end farthest most
     → farthest < middle → middle ≤ most → SomeEmpty (with_place t b (stepped from end middle)) →
-        IsSearched t b from end farthest (middle - 1)
+    IsSearched t b from end farthest (middle - 1)
 search_refuses t b from end farthest most middle tree there s past within empty = record {
   range = omega arith;
   within = omega (arith, s.within);

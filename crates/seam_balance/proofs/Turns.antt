@@ -37,10 +37,10 @@ numbers_within (c ∷ cuts) number cell =
     let P : ℕ → Type 0 = IsFromTo number (number + suc (length cuts)) in
     let later : (next : ℕ) → All P (boundaries_within cuts (number + 1) next) =
     λ next. wider (number + 1) (number + 1 + length cuts) number (number + suc (length cuts)) (boundaries_within cuts (number + 1) next)
-        (omega arith) (omega arith) (numbers_within cuts (number + 1) next) in
+    (omega arith) (omega arith) (numbers_within cuts (number + 1) next) in
     elim (c.cell == cell)
-        as (λ b. All P (if b then number ∷ (boundaries_within cuts (number + 1) cell ++ boundaries_within cuts (number + 1) number) else
-        boundaries_within cuts (number + 1) cell)) [
+    as (λ b. All P (if b then number ∷ (boundaries_within cuts (number + 1) cell ++ boundaries_within cuts (number + 1) number) else
+    boundaries_within cuts (number + 1) cell)) [
       | true ↦ all_cons P number _ (omega arith, omega arith)
           (All-append P (boundaries_within cuts (number + 1) cell) (boundaries_within cuts (number + 1) number) (later cell) (later number))
       | false ↦ later cell
@@ -51,7 +51,7 @@ pub order_has : (t mid : Division) (order : List ℕ) (i : ℕ) → order ≡ bo
     i < length order → HasBoundary mid (get_or order i 0)
 order_has t mid order i is cells within =
     let all : All (IsFromTo 1 (1 + length t.cuts)) order =
-        subst (All (IsFromTo 1 (1 + length t.cuts))) (sym is) (numbers_within t.cuts 1 0) in
+    subst (All (IsFromTo 1 (1 + length t.cuts))) (sym is) (numbers_within t.cuts 1 0) in
     let inside : IsFromTo 1 (1 + length t.cuts) (get_or order i 0) = all i 0 within in
     record { from_one = inside.0; to_last = omega (arith, inside.1, cells) }
 
@@ -112,7 +112,7 @@ pub best_is_best : (t : Division) (b shift : ℕ) (positions : List Pos) (sorted
     → IsBest t b shift positions best
 best_is_best t b shift positions sorted low high best same range from to least lowest =
     let as_sorted : (at : ℕ) → difference sorted at ≡ difference (places_divided t b positions) at =
-        λ at. difference_permutation (places_divided t b positions) sorted at same in
+    λ at. difference_permutation (places_divided t b positions) sorted at same in
     record {
       allowed = (range best).1 (from, to);
       least = λ other allowed. let inside : (low ≤ other) × (other ≤ high) = (range other).0 allowed in

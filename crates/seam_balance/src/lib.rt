@@ -15,11 +15,10 @@ mod places;
 #[cfg(test)]
 mod tests;
 
-pub use laws::one_is_balanced;
-
 use crate::allowed::allowed_range;
 use crate::order::boundaries_from_root;
 use crate::places::{best_place, sorted_places};
+pub use laws::one_is_balanced;
 use seam_geo::Pos;
 use seam_tree::Tree;
 use std::alloc::{AllocError, Global};

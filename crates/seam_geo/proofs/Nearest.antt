@@ -27,8 +27,11 @@ distance_to_nearest a p proper = record {
         omega (arith, reached_along a.low.x a.high.x p.x proper.wide, reached_along a.low.z a.high.z p.z proper.deep),
       );
   least = λ q holds.
-      omega (arith, least_along a.low.x a.high.x p.x q.x holds.from_x holds.to_x,
-          least_along a.low.z a.high.z p.z q.z holds.from_z holds.to_z);
+      omega (
+        arith,
+        least_along a.low.x a.high.x p.x q.x holds.from_x holds.to_x,
+        least_along a.low.z a.high.z p.z q.z holds.from_z holds.to_z,
+      );
 }
 
 pub distance_along_over : (low high at way : ℕ) → distance_along low high at ≤ gap at way + distance_along low high way

@@ -38,7 +38,7 @@ listed numbers = set.from_list numbers
 split_on : (p : ℕ → Bool) (a n q : ℕ) (b : Bool) → p a ≡ b
     → set.contains (listed (filter p (range_with_len (a + 1) n))) q ≡ ((nat_le (a + 1) q && nat_lt q (a + 1 + n)) && p q)
     → set.contains (listed (cond b (a ∷ filter p (range_with_len (a + 1) n)) (filter p (range_with_len (a + 1) n)))) q
-        ≡ ((nat_le a q && nat_lt q (a + suc n)) && p q)
+    ≡ ((nat_le a q && nat_lt q (a + suc n)) && p q)
 split_on p a n q true e ih = chosen_more p a n q (listed (filter p (range_with_len (a + 1) n))) e ih (cases_eq q a)
 split_on p a n q false e ih = chosen_same p a n q (listed (filter p (range_with_len (a + 1) n))) e ih (cases_eq q a)
 
@@ -88,7 +88,7 @@ pub haunt_passes : (p : Pos) (home : ℕ) (old : Cells) (t : Division) (near far
 haunt_passes p home old t near far cell h =
     let away : cell ≢ home = h.away in
     ap (λ (b : Bool). not (cell == home) && b) (close_by (area t cell) p (set.contains old cell) near far h.close)
-        ∙ grind (arith, nat_tests)
+    ∙ grind (arith, nat_tests)
 
 -- what the set of all haunts holds
 pub contains_haunts_of : (p : Pos) (home : ℕ) (old : Cells) (t : Division) (near far cell : ℕ) →
@@ -102,13 +102,13 @@ pub haunts_of_each : (p : Pos) (home : ℕ) (old : Cells) (t : Division) (near f
 haunts_of_each p home old t near far cell = (
   λ held.
       let parts : (nat_lt cell (cells_of t) ≡ true) × (is_haunt p home old t near far cell ≡ true) =
-          and_true (nat_lt cell (cells_of t)) (is_haunt p home old t near far cell) (sym (contains_haunts_of p home old t near far cell)
-          ∙ held) in
+      and_true (nat_lt cell (cells_of t)) (is_haunt p home old t near far cell) (sym (contains_haunts_of p home old t near far cell)
+      ∙ held) in
       passing_is_haunt p home old t near far cell (grind (arith, nat_tests, parts.0)) parts.1,
   λ h.
       let there : nat_lt cell (cells_of t) ≡ true = grind (arith, nat_tests, h.there) in
       contains_haunts_of p home old t near far cell ∙ ap (λ (b : Bool). b && is_haunt p home old t near far cell) there
-          ∙ haunt_passes p home old t near far cell h,
+      ∙ haunt_passes p home old t near far cell h,
 )
 
 -- the cells below one number and then the next
@@ -141,4 +141,4 @@ pub home_is_none : (p : Pos) (home : ℕ) (old : Cells) (t : Division) (near far
     is_haunt p home old t near far cell ≡ false
 home_is_none p home old t near far cell is =
     ap (λ (b : Bool). b && is_close (area t cell) p (set.contains old cell) near far)
-        (let e : not (cell == home) ≡ false = grind (arith, nat_tests) in e)
+    (let e : not (cell == home) ≡ false = grind (arith, nat_tests) in e)

@@ -57,19 +57,19 @@ module _ (p : Pos) (home : ℕ) (t : Division) (near far : ℕ) where
   -- the home has no ghost, so whether it had one makes no difference
   pub haunts_without_home : (old : Cells) → haunts (set.insert old home) ≡ haunts old
   haunts_without_home old = set.same_set nat_cmp_total set.nat_cmp-IsAntisymmetric _ _ (λ c.
-    contains_haunts_of p home (set.insert old home) t near far c
-    ∙ ap (passes c) (contains_insert_nat old home c)
-    ∙ test_without_home (nat_lt c (cells_of t)) (c == home) (is_near c) (is_not_far c) (set.contains old c)
-    ∙ sym (contains_haunts_of p home old t near far c))
+      contains_haunts_of p home (set.insert old home) t near far c
+      ∙ ap (passes c) (contains_insert_nat old home c)
+      ∙ test_without_home (nat_lt c (cells_of t)) (c == home) (is_near c) (is_not_far c) (set.contains old c)
+      ∙ sym (contains_haunts_of p home old t near far c))
 
   -- the haunts of a position are those of what they were there
   pub haunts_again : (old : Cells) → haunts (set.insert (haunts old) home) ≡ haunts old
   haunts_again old = set.same_set nat_cmp_total set.nat_cmp-IsAntisymmetric _ _ (λ c.
-    contains_haunts_of p home (set.insert (haunts old) home) t near far c
-    ∙ ap (passes c) (contains_insert_nat (haunts old) home c
-        ∙ ap (λ (b : Bool). (c == home) || b) (contains_haunts_of p home old t near far c))
-    ∙ test_again (nat_lt c (cells_of t)) (c == home) (is_near c) (is_not_far c) (set.contains old c)
-    ∙ sym (contains_haunts_of p home old t near far c))
+      contains_haunts_of p home (set.insert (haunts old) home) t near far c
+      ∙ ap (passes c) (contains_insert_nat (haunts old) home c
+      ∙ ap (λ (b : Bool). (c == home) || b) (contains_haunts_of p home old t near far c))
+      ∙ test_again (nat_lt c (cells_of t)) (c == home) (is_near c) (is_not_far c) (set.contains old c)
+      ∙ sym (contains_haunts_of p home old t near far c))
 
 pub settled_again : (d : Distances) (t : Division) (was : Place) (p : Pos) → settled d t (settled d t was p) p ≡ settled d t was p
 settled_again d t was p =
@@ -126,6 +126,6 @@ pub ghosts_settled : (d : Distances) (t : Division) (was : Place) (p : Pos) (c :
     → IsTrue (set.contains (settled d t was p).ghosts c) ↔ HasGhost d t was p c
 ghosts_settled d t was p c =
     let each : IsTrue (set.contains (settled d t was p).ghosts c)
-        ↔ IsHaunt p (home_at d.kept t was.home p) (set.insert was.ghosts was.home) t d.near d.far c =
+    ↔ IsHaunt p (home_at d.kept t was.home p) (set.insert was.ghosts was.home) t d.near d.far c =
     haunts_of_each p (home_at d.kept t was.home p) (set.insert was.ghosts was.home) t d.near d.far c in
     (λ held. ghost_of d t was p c (each.0 held), λ h. each.1 (haunt_of d t was p c h))

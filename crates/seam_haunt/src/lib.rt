@@ -10,7 +10,6 @@ ghost use Rattle.seam_haunt.specs.Haunts.{haunts_of, is_close, IsHaunt};
 mod laws;
 
 pub use laws::places_are_settled;
-
 use seam_geo::{Pos, Rect};
 use seam_tree::{CellSet, Tree};
 

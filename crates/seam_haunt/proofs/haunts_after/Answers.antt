@@ -26,26 +26,26 @@ loop-cell-preserved c cell =
     let read : get_or c.areas-areas.result c.from.result c.index-areas-from.result ≡ area c.args.tree.now c.loop-cell.cell =
     ap (λ (k : ℕ). get_or c.areas-areas.result k c.index-areas-from.result) c.from.ensures
     ∙ get_or_from_slice_get c.areas-areas.result c.loop-cell.cell (area c.args.tree.now c.loop-cell.cell) c.index-areas-from.result
-      (c.areas-areas.ensures c.loop-cell.cell there) in
+    (c.areas-areas.ensures c.loop-cell.cell there) in
     elim c.if-cell-home.branch [
       | then-cell-home+then-is_close w ↦
           ap (λ (s : Cells). set.contains s cell) (w.haunts-is ∙ w.with-haunts.ensures)
           ∙ contains_haunts_more test c.loop-cell.cell c.loop-cell.haunts c.loop-cell.invariant
-            (close_is_haunt c.args.pos c.args.home c.args.old c.args.tree.now c.args.near c.args.far c.loop-cell.cell w.if-cell-home.true
-            (sym (w.is_close.ensures ∙ (λ i. is_close (read i) c.args.pos (w.holds.ensures.value i) c.args.near c.args.far))
-                ∙ w.if-is_close.true)) cell
+          (close_is_haunt c.args.pos c.args.home c.args.old c.args.tree.now c.args.near c.args.far c.loop-cell.cell w.if-cell-home.true
+          (sym (w.is_close.ensures ∙ (λ i. is_close (read i) c.args.pos (w.holds.ensures.value i) c.args.near c.args.far))
+          ∙ w.if-is_close.true)) cell
       | else-cell-home w ↦ elim w.else-cell-home.branch [
         | else-cell-home-via-then-cell-home+else-is_close v ↦
             ap (λ (s : Cells). set.contains s cell) w.haunts-is
             ∙ contains_haunts_same test c.loop-cell.cell c.loop-cell.haunts c.loop-cell.invariant
-              (far_is_none c.args.pos c.args.home c.args.old c.args.tree.now c.args.near c.args.far c.loop-cell.cell
-              (sym (v.is_close.ensures ∙ (λ i. is_close (read i) c.args.pos (v.holds.ensures.value i) c.args.near c.args.far))
-                  ∙ v.if-is_close.false)) cell
+            (far_is_none c.args.pos c.args.home c.args.old c.args.tree.now c.args.near c.args.far c.loop-cell.cell
+            (sym (v.is_close.ensures ∙ (λ i. is_close (read i) c.args.pos (v.holds.ensures.value i) c.args.near c.args.far))
+            ∙ v.if-is_close.false)) cell
         | else-cell-home-via-else-cell-home v ↦
             ap (λ (s : Cells). set.contains s cell) w.haunts-is
             ∙ contains_haunts_same test c.loop-cell.cell c.loop-cell.haunts c.loop-cell.invariant
-              (home_is_none c.args.pos c.args.home c.args.old c.args.tree.now c.args.near c.args.far c.loop-cell.cell v.if-cell-home.false)
-                  cell
+            (home_is_none c.args.pos c.args.home c.args.old c.args.tree.now c.args.near c.args.far c.loop-cell.cell v.if-cell-home.false)
+            cell
       ]
     ]
 
@@ -62,7 +62,7 @@ returns-clause-value c =
 pub returns-clause-each : goal.returns-clause-each
 returns-clause-each c cell =
     subst (λ (s : Cells). IsTrue (set.contains s cell)
-        ↔ IsHaunt c.args.pos c.args.home c.args.old c.args.tree.now c.args.near c.args.far cell)
+    ↔ IsHaunt c.args.pos c.args.home c.args.old c.args.tree.now c.args.near c.args.far cell)
     (sym (returns-clause-value c)) (haunts_of_each c.args.pos c.args.home c.args.old c.args.tree.now c.args.near c.args.far cell)
 
 pub returns-clause-place : goal.returns-clause-place

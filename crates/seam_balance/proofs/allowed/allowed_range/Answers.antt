@@ -18,26 +18,31 @@ farthest_allowed-highest-requires-clause-allowed c =
 from_own_place : (c : goal.After-farthest_allowed-highest) → c.boundary_of-boundary.result.at ≤ c.min-most.result
 from_own_place c =
     let end : c.place_of-end.result ≡ place_along (boundary_at c.args.tree.now c.args.b).axis
-        (area_divided_by c.args.tree.now c.args.b).high =
+    (area_divided_by c.args.tree.now c.args.b).high =
     end_is c.args.tree.now c.args.b c.boundary_of-boundary.result c.divided_area.result c.high.result c.place_of-end.result
     c.boundary_of-boundary.ensures c.divided_area.ensures c.high.ensures.corner c.place_of-end.ensures in
     let before_end : c.boundary_of-boundary.result.at
-        < place_along (boundary_at c.args.tree.now c.args.b).axis (area_divided_by c.args.tree.now c.args.b).high =
+    < place_along (boundary_at c.args.tree.now c.args.b).axis (area_divided_by c.args.tree.now c.args.b).high =
     allowed_end c.args.tree.now c.args.b c.boundary_of-boundary.result.at c.requires.tree c.requires.there
     (own_place c.args.tree.now c.args.b c.boundary_of-boundary.result c.requires.tree c.boundary_of-boundary.ensures) in
     omega (arith, c.min-most.ensures, c.saturating_add.ensures, end, before_end, c.place_of-end.type_inv)
 
 pub returns-clause-range : goal.returns-clause-range
 returns-clause-range c =
-    omega (arith, c.farthest_allowed-lowest.ensures.most, c.saturating_sub-least.ensures, c.farthest_allowed-highest.ensures.least,
-        from_own_place c)
+    omega (
+      arith,
+      c.farthest_allowed-lowest.ensures.most,
+      c.saturating_sub-least.ensures,
+      c.farthest_allowed-highest.ensures.least,
+      from_own_place c,
+    )
 
 pub returns-clause-allowed : goal.returns-clause-allowed
 returns-clause-allowed c =
     let at_is : c.boundary_of-boundary.result.at ≡ (boundary_at c.args.tree.now c.args.b).at =
-        ap (λ (x : Boundary). x.at) c.boundary_of-boundary.ensures in
+    ap (λ (x : Boundary). x.at) c.boundary_of-boundary.ensures in
     let end : c.place_of-end.result ≡ place_along (boundary_at c.args.tree.now c.args.b).axis
-        (area_divided_by c.args.tree.now c.args.b).high =
+    (area_divided_by c.args.tree.now c.args.b).high =
     end_is c.args.tree.now c.args.b c.boundary_of-boundary.result c.divided_area.result c.high.result c.place_of-end.result
     c.boundary_of-boundary.ensures c.divided_area.ensures c.high.ensures.corner c.place_of-end.ensures in
     range_allowed c.args.tree.now c.args.b c.args.shift c.farthest_allowed-lowest.result c.farthest_allowed-highest.result c.requires.tree

@@ -36,7 +36,7 @@ ended : (c : goal.After-stepped-2) → IsSearched c.args.tree.now c.args.b c.arg
     c.loop-farthest.farthest
 ended c =
     let all : c.loop-farthest.most ≡ c.loop-farthest.farthest =
-        omega (arith, c.loop-farthest.invariant.range, c.loop-farthest-test.false) in
+    omega (arith, c.loop-farthest.invariant.range, c.loop-farthest-test.false) in
     subst (IsSearched c.args.tree.now c.args.b c.args.from c.args.end c.loop-farthest.farthest) all c.loop-farthest.invariant
 
 pub returns-clause-least : goal.returns-clause-least

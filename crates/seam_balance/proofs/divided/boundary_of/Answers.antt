@@ -13,5 +13,5 @@ returns c =
     let to : c.args.b < cells_of c.args.tree.now = c.requires.to_last in
     let is : boundary_of c.args.tree.now c.args.b ≡ Some (boundary_at c.args.tree.now c.args.b) =
     ap (option_map (λ (x : Cut). x.boundary)) (cut_number_from_one c.args.tree.now c.args.b from
-        ∙ slice_get-get_or c.args.tree.now.cuts (c.args.b - 1) no_cut (omega arith)) in
+    ∙ slice_get-get_or c.args.tree.now.cuts (c.args.b - 1) no_cut (omega arith)) in
     same_Some _ _ (sym c.unwrap.ensures ∙ c.boundary.ensures.value ∙ is)

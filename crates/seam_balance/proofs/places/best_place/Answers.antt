@@ -15,7 +15,7 @@ returns-then-upper-lowest c =
       };
     } in
     let best : IsBestWithin c.args.places.now c.args.lowest c.args.highest c.args.lowest =
-        best_start _ _ _ _ _ upper c.if-upper-lowest.true in
+    best_start _ _ _ _ _ upper c.if-upper-lowest.true in
     record { from = best.from; to = best.to; least = best.least; lowest = best.lowest }
 
 pub returns-then-difference_at : goal.returns-then-difference_at
@@ -39,9 +39,9 @@ returns-then-difference_at c =
       };
     } in
     let better : difference c.args.places.now c.first_above-lower.result ≤ difference c.args.places.now c.first_above-upper.result =
-        omega (arith, c.if-difference_at.true, c.difference_at.ensures, c.difference_at-2.ensures) in
+    omega (arith, c.if-difference_at.true, c.difference_at.ensures, c.difference_at-2.ensures) in
     let best : IsBestWithin c.args.places.now c.args.lowest c.args.highest c.first_above-lower.result =
-        best_lower _ _ _ _ _ _ upper lower better in
+    best_lower _ _ _ _ _ _ upper lower better in
     record { from = best.from; to = best.to; least = best.least; lowest = best.lowest }
 
 pub returns-else-difference_at : goal.returns-else-difference_at
@@ -65,7 +65,7 @@ returns-else-difference_at c =
       };
     } in
     let better : difference c.args.places.now c.first_above-upper.result < difference c.args.places.now c.first_above-lower.result =
-        omega (arith, c.if-difference_at.false, c.difference_at.ensures, c.difference_at-2.ensures) in
+    omega (arith, c.if-difference_at.false, c.difference_at.ensures, c.difference_at-2.ensures) in
     let best : IsBestWithin c.args.places.now c.args.lowest c.args.highest c.first_above-upper.result =
-        best_upper _ _ _ _ _ _ upper lower better in
+    best_upper _ _ _ _ _ _ upper lower better in
     record { from = best.from; to = best.to; least = best.least; lowest = best.lowest }

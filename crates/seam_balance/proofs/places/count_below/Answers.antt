@@ -12,5 +12,5 @@ returns c =
     let parted : IsPartitionedBy test c.args.places.now = IsPartitionedBy-ltb key c.args.places.now c.args.at rising in
     let point : IsPartitionPoint (λ y. test y ≡ true) (λ y. test y ≡ false) c.args.places.now c.partition_point.result =
     IsPartitionPoint-from_clause test c.args.places.now c.partition_point.result c.partition_point.ensures.partitioned parted
-        (λ a r f' h. search rules) in
+    (λ a r f' h. search rules) in
     sym (count_by_point test c.args.places.now c.partition_point.result c.partition_point.ensures.bound point.0 point.1)

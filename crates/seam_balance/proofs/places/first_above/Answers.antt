@@ -8,7 +8,7 @@ pub overflow_add-places : goal.overflow_add-places
 overflow_add-places c =
     let rising : IsNonDecreasing c.args.places.now = IsNonDecreasingBy-from_sort (λ x. x) c.args.places.now c.requires.rising in
     let below : get_or c.args.places.now (c.args.count - 1) 0 < c.args.highest =
-        last_below c.args.places.now c.args.count c.args.highest rising c.if-count-eq0.false c.requires.enough in
+    last_below c.args.places.now c.args.count c.args.highest rising c.if-count-eq0.false c.requires.enough in
     omega (arith, below, c.ranges.highest.fits)
 
 pub returns : goal.returns
@@ -16,5 +16,5 @@ returns c =
     let rising : IsNonDecreasing c.args.places.now = IsNonDecreasingBy-from_sort (λ x. x) c.args.places.now c.requires.rising in
     let found : IsFirstAbove c.args.places.now c.args.count c.args.lowest c.args.highest c.max.result =
     first_above_last c.args.places.now c.args.count c.args.lowest c.args.highest c.max.result rising c.if-count-eq0.false c.requires.range
-        c.requires.enough c.max.ensures in
+    c.requires.enough c.max.ensures in
     record { from = found.from; to = found.to; enough = found.enough; first = found.first }
