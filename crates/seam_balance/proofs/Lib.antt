@@ -4,3 +4,5 @@ pub mod Counts
 pub mod Within
 pub mod Best
 pub mod Turns
+pub mod One
+pub mod Search

@@ -11,22 +11,25 @@ use Rattle.seam_balance.specs.Order.{boundaries_within}
 abbrev pub within_from : Division → ℕ → ℕ → List ℕ
 within_from t from cell = boundaries_within (drop (from - 1) t.cuts) from cell
 
-next_cut : (t : Division) (from : ℕ) → 1 ≤ from → from < cells_of t → drop (from - 1) t.cuts ≡ cut_after t (from - 1) ∷ drop (from + 1 - 1) t.cuts
+next_cut : (t : Division) (from : ℕ) → 1 ≤ from → from < cells_of t →
+    drop (from - 1) t.cuts ≡ cut_after t (from - 1) ∷ drop (from + 1 - 1) t.cuts
 next_cut t from one there =
     let here : from - 1 < length t.cuts = omega arith in
     let next : suc (from - 1) ≡ from + 1 - 1 = omega arith in
     drop-cons t.cuts (from - 1) no_cut here ∙ ap (λ (n : ℕ). cut_after t (from - 1) ∷ drop n t.cuts) next
 
-pub within-cut : (t : Division) (from cell : ℕ) → 1 ≤ from → from < cells_of t → (cut_after t (from - 1)).cell ≡ cell → within_from t from cell ≡ from ∷ (within_from t (from + 1) cell ++ within_from t (from + 1) from)
-within-cut t from cell one there is =
+pub within_cut : (t : Division) (from cell : ℕ) → 1 ≤ from → from < cells_of t → (cut_after t (from - 1)).cell ≡ cell →
+    within_from t from cell ≡ from ∷ (within_from t (from + 1) cell ++ within_from t (from + 1) from)
+within_cut t from cell one there is =
     ap (λ (cuts : List Cut). boundaries_within cuts from cell) (next_cut t from one there) ∙ grind (arith, nat_tests)
 
-pub within-other : (t : Division) (from cell : ℕ) → 1 ≤ from → from < cells_of t → (cut_after t (from - 1)).cell ≢ cell → within_from t from cell ≡ within_from t (from + 1) cell
-within-other t from cell one there other =
+pub within_other : (t : Division) (from cell : ℕ) → 1 ≤ from → from < cells_of t → (cut_after t (from - 1)).cell ≢ cell →
+    within_from t from cell ≡ within_from t (from + 1) cell
+within_other t from cell one there other =
     ap (λ (cuts : List Cut). boundaries_within cuts from cell) (next_cut t from one there) ∙ grind (arith, nat_tests)
 
 -- after the last cut there are none
-pub within-none : (t : Division) (from cell : ℕ) → cells_of t ≤ from → within_from t from cell ≡ []
-within-none t from cell past =
+pub within_none : (t : Division) (from cell : ℕ) → cells_of t ≤ from → within_from t from cell ≡ []
+within_none t from cell past =
     let all : length t.cuts ≤ from - 1 = omega arith in
     ap (λ (cuts : List Cut). boundaries_within cuts from cell) (drop_of_length-le t.cuts all)

@@ -1,5 +1,5 @@
 -- Where a tree's boundaries go when they are balanced.
-use Rattle.std.specs.Prelude.{◌≡◌, ℕ, ◌-◌, ◌<◌, ◌≤◌, Bool, nat_le, nat_lt, ◌&&◌, List, [], ◌∷◌, map, filter, count_by}
+use Rattle.std.specs.Prelude.{◌≡◌, ℕ, ◌+◌, ◌-◌, ◌<◌, ◌≤◌, Bool, nat_le, nat_lt, ◌&&◌, List, [], ◌∷◌, map, filter, count_by, if◌then◌else◌}
 use Rattle.std.specs.Option.{option_map}
 use Rattle.seam_geo.specs.declared.pos.Pos.{Pos}
 use Rattle.seam_geo.specs.Pos.{gap}
@@ -26,6 +26,10 @@ places_divided t b positions = map (place_along (boundary_at t b).axis) (filter 
 abbrev pub difference : List ℕ → ℕ → ℕ
 difference places at = gap (count_by (λ place. nat_lt place at) places) (count_by (λ place. nat_le at place) places)
 
+-- the place some steps away from one on the way to another
+abbrev pub stepped : ℕ → ℕ → ℕ → ℕ
+stepped from end steps = if nat_lt end from then from - steps else from + steps
+
 -- the boundary may go there: the place is at most `shift` away, and no cell's area is empty then
 pub record IsAllowed (t : Division) (b shift at : ℕ) : Type 0 where
   pub near : gap at (boundary_at t b).at ≤ shift
@@ -34,13 +38,16 @@ pub record IsAllowed (t : Division) (b shift at : ℕ) : Type 0 where
 -- the allowed place that divides the positions with the least difference, and the lowest of those
 pub record IsBest (t : Division) (b shift : ℕ) (positions : List Pos) (at : ℕ) : Type 0 where
   pub allowed : IsAllowed t b shift at
-  pub least : (other : ℕ) → IsAllowed t b shift other → difference (places_divided t b positions) at ≤ difference (places_divided t b positions) other
-  pub lowest : (other : ℕ) → IsAllowed t b shift other → other < at → difference (places_divided t b positions) at < difference (places_divided t b positions) other
+  pub least : (other : ℕ) → IsAllowed t b shift other →
+      difference (places_divided t b positions) at ≤ difference (places_divided t b positions) other
+  pub lowest : (other : ℕ) → IsAllowed t b shift other → other < at →
+      difference (places_divided t b positions) at < difference (places_divided t b positions) other
 
 -- the boundaries of the list go to their best places in turn, each in the tree that those before it left
 abbrev pub BalancedInTurn : List Pos → ℕ → Division → List ℕ → Division → Type 0
 BalancedInTurn positions shift t [] new = new ≡ t
-BalancedInTurn positions shift t (b ∷ later) new = (at : ℕ) × IsBest t b shift positions at × BalancedInTurn positions shift (with_place t b at) later new
+BalancedInTurn positions shift t (b ∷ later) new =
+    (at : ℕ) × IsBest t b shift positions at × BalancedInTurn positions shift (with_place t b at) later new
 
 -- all boundaries do so, from the root on
 abbrev pub IsBalanced : List Pos → ℕ → Division → Division → Type 0

@@ -1,7 +1,8 @@
-ghost use Rattle.std.specs.Prelude.{◌≡◌, ℕ, ◌-◌, ◌^◌, ◌<◌, ◌≤◌, ◌↔◌, MatchBool};
+ghost use Rattle.std.specs.Prelude.{◌≡◌, ℕ, ◌-◌, ◌^◌, ◌<◌, ◌≤◌, ◌↔◌, MatchBool, min, max};
 ghost use Rattle.seam_tree.specs.Division.{HasBoundary, IsTree, NoneEmpty, SomeEmpty};
 ghost use Rattle.seam_tree.specs.Change.{with_place};
-ghost use Rattle.seam_balance.specs.Balance.{IsAllowed};
+ghost use Rattle.seam_balance.specs.Balance.{IsAllowed, stepped};
+ghost use Rattle.seam_geo.specs.Pos.{gap};
 
 use crate::divided::{boundary_of, divided_area};
 use seam_tree::Tree;
@@ -17,8 +18,8 @@ pub(crate) fn allowed_range(tree: &Tree, b: u8, shift: u32) -> (u32, u32)
     let end = boundary.axis.place_of(divided_area(tree, b).high());
     let least = boundary.at.saturating_sub(shift);
     let most = boundary.at.saturating_add(shift).min(end - 1);
-    let lowest = lowest_allowed(tree, b, least, boundary.at);
-    let highest = highest_allowed(tree, b, boundary.at, most);
+    let lowest = farthest_allowed(tree, b, boundary.at, least);
+    let highest = farthest_allowed(tree, b, boundary.at, most);
     (lowest, highest)
 }
 
@@ -31,50 +32,38 @@ fn is_allowed(tree: &Tree, b: u8, at: u32) -> bool
     moved.shift(u32::from(b), at).is_ok()
 }
 
-// The least allowed place from `low` up to the allowed place `high`.
-fn lowest_allowed(tree: &Tree, b: u8, low: u32, high: u32) -> u32
-    requires there { HasBoundary tree.now b }
-    requires tree { IsTree tree.now }
-    requires range { low ≤ high }
-    requires allowed { NoneEmpty (with_place tree.now b high) }
-    ensures from { low ≤ result }
-    ensures to { result ≤ high }
-    ensures allowed { NoneEmpty (with_place tree.now b result) }
-    ensures lowest { (at : ℕ) → low ≤ at → at < result → ¬ NoneEmpty (with_place tree.now b at) }
+// The place some steps away from one on the way to another.
+fn stepped(from: u32, end: u32, steps: u32) -> u32
+    requires { steps ≤ gap from end }
+    ensures { result ≡ stepped from end steps }
 {
-    let mut refused = low;
-    let mut lowest = high;
-    while refused < lowest {
-        let middle = refused + (lowest - refused) / 2;
-        if is_allowed(tree, b, middle) {
-            lowest = middle;
-        } else {
-            refused = middle + 1;
-        }
+    if end < from {
+        from - steps
+    } else {
+        from + steps
     }
-    lowest
 }
 
-// The greatest allowed place from the allowed place `low` up to `high`.
-fn highest_allowed(tree: &Tree, b: u8, low: u32, high: u32) -> u32
+// The allowed place that is farthest from the allowed place `from` on the way to `end`.
+fn farthest_allowed(tree: &Tree, b: u8, from: u32, end: u32) -> u32
     requires there { HasBoundary tree.now b }
     requires tree { IsTree tree.now }
-    requires range { low ≤ high }
-    requires allowed { NoneEmpty (with_place tree.now b low) }
-    ensures from { low ≤ result }
-    ensures to { result ≤ high }
+    requires allowed { NoneEmpty (with_place tree.now b from) }
+    ensures least { min from end ≤ result }
+    ensures most { result ≤ max from end }
     ensures allowed { NoneEmpty (with_place tree.now b result) }
-    ensures highest { (at : ℕ) → result < at → at ≤ high → ¬ NoneEmpty (with_place tree.now b at) }
+    ensures above { (at : ℕ) → result < at → at ≤ end → ¬ NoneEmpty (with_place tree.now b at) }
+    ensures below { (at : ℕ) → end ≤ at → at < result → ¬ NoneEmpty (with_place tree.now b at) }
 {
-    let mut highest = low;
-    let mut refused = high;
-    while highest < refused {
-        let middle = refused - (refused - highest) / 2;
-        if is_allowed(tree, b, middle) {
-            highest = middle;
+    let mut farthest = 0;
+    let mut most = from.abs_diff(end);
+    while farthest < most {
+        let middle = most - (most - farthest) / 2;
+        if is_allowed(tree, b, stepped(from, end, middle)) {
+            farthest = middle;
         } else {
-            refused = middle - 1;
+            most = middle - 1;
         }
     }
-    highest
+    stepped(from, end, farthest)
 }

@@ -9,6 +9,7 @@ ghost use Rattle.seam_balance.specs.Balance.{HasSameCuts, IsBalanced, IsBest};
 
 mod allowed;
 mod divided;
+mod laws;
 mod order;
 mod places;
 #[cfg(test)]
@@ -17,6 +18,7 @@ mod tests;
 use crate::allowed::allowed_range;
 use crate::order::boundaries_from_root;
 use crate::places::{best_place, sorted_places};
+pub use laws::one_is_balanced;
 use seam_geo::Pos;
 use seam_tree::Tree;
 use std::alloc::{AllocError, Global};

@@ -1,8 +1,10 @@
 //! Positions of a space, rectangular areas of it, and how far they lie apart.
 #![tactic(auto)]
 
+mod laws;
 mod pos;
 mod rect;
 
+pub use laws::triangle_inequality;
 pub use pos::{Pos, dist};
 pub use rect::Rect;

@@ -1,1 +1,2 @@
 pub mod Haunts
+pub mod Places

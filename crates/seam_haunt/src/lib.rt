@@ -1,13 +1,16 @@
 //! Which cells have a ghost of a real: those near enough, and those that had one and are not yet far (BigWorld Server
-//! Overview, ghost entities).
+//! Overview, ghost entities). And the place of an entity: its home, and the cells with a ghost of it.
 #![tactic(auto)]
 
-ghost use Rattle.std.specs.Prelude.{◌≡◌, ℕ, ◌<◌, ◌↔◌, IsTrue};
+ghost use Rattle.std.specs.Prelude.{◌≡◌, ℕ, ◌↔◌, ◌⊎◌, IsTrue};
 ghost use Rattle.std.specs.FinSet as set;
-ghost use Rattle.seam_tree.specs.Division.{cells_of};
-ghost use Rattle.seam_haunt.specs.Haunts.{haunts_of, is_haunt, IsHaunt};
+ghost use Rattle.seam_haunt.specs.Places.{Place, home_at, settled};
+ghost use Rattle.seam_haunt.specs.Haunts.{haunts_of, is_close, IsHaunt};
 
-use seam_geo::Pos;
+mod laws;
+
+pub use laws::places_are_settled;
+use seam_geo::{Pos, Rect};
 use seam_tree::{CellSet, Tree};
 
 /// The haunts of a real at a position, of which `home` is the cell: the other cells at distance at most `near`, and those
@@ -15,34 +18,28 @@ use seam_tree::{CellSet, Tree};
 pub fn haunts_after(pos: Pos, home: u8, old: CellSet, tree: &Tree, near: u32, far: u32) -> CellSet
     ensures value { result ≡ haunts_of pos home old tree.now near far }
     ensures each { (c : ℕ) → IsTrue (set.contains result c) ↔ IsHaunt pos home old tree.now near far c }
+    // the cells with a ghost of the settled place, whether the real came from another cell or stays
+    ensures place { (kept : ℕ) (was : Place) → home ≡ home_at kept tree.now was.home pos
+        → (old ≡ set.insert was.ghosts was.home) ⊎ ((home ≡ was.home) × (old ≡ was.ghosts))
+        → result ≡ (settled (record { kept = kept; near = near; far = far }) tree.now was pos).ghosts }
 {
+    let areas = tree.areas();
     let mut haunts = CellSet::none();
     for cell in 0..tree.cells() {
-        if haunts_cell(pos, home, &old, tree, near, far, cell) {
+        let area = areas[usize::from(cell)];
+        if cell != home && is_close(area, pos, old.holds(cell), near, far) {
             haunts = haunts.with(cell);
         }
     }
     haunts
 }
 
-// Whether the cell is one of the haunts.
-fn haunts_cell(
-    pos: Pos,
-    home: u8,
-    old: &CellSet,
-    tree: &Tree,
-    near: u32,
-    far: u32,
-    cell: u8,
-) -> bool
-    requires { cell < cells_of tree.now }
-    ensures { result ≡ is_haunt pos home old.now tree.now near far cell }
+// Whether the area is near enough for a ghost, by whether there was one.
+fn is_close(area: Rect, pos: Pos, was_haunt: bool, near: u32, far: u32) -> bool
+    ensures { result ≡ is_close area pos was_haunt near far }
 {
-    let Some(area) = tree.area(cell) else {
-        return false;
-    };
-    let dist = area.dist(pos);
-    cell != home && (dist <= near || (old.holds(cell) && dist <= far))
+    let distance = area.dist(pos);
+    distance <= near || (was_haunt && distance <= far)
 }
 
 #[cfg(test)]

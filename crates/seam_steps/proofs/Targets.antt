@@ -1,7 +1,7 @@
 -- A step sends to nodes of the net, and leaves next places that are cells.
 use Rattle.std.proofs.Common.{◌≡◌, ℕ, zero, suc, ◌+◌, ◌<◌, ◌≤◌, Bool, true, false, List, [], ◌∷◌, ◌++◌, Option, None, Some, map, not, ap}
 use Rattle.std.proofs.Common.{refl, arith}
-use Rattle.std.specs.Prelude.{filter_map, ◌==◌, ◌||◌}
+use Rattle.std.specs.Prelude.{filter_map, if◌then◌else◌, ◌==◌, ◌||◌}
 use Rattle.std.specs.List.{range_with_len, cons_option}
 use Rattle.std.specs.FinMap as table
 use Rattle.std.specs.FinSet as set
@@ -32,8 +32,7 @@ use Rattle.seam_steps.specs.Here.{Here, cell_count, base_of, peers_of}
 use Rattle.seam_steps.specs.Calls.{ready_order}
 use Rattle.seam_steps.specs.Reals.{copy_of_real, executed, executed_ready, with_offer, shows}
 use Rattle.seam_steps.specs.Slots.{Slot, NextPlace, SlotStep, rests, unless_stray, becomes}
-use Rattle.seam_steps.specs.Settle.{told, told_unless, ghost_message, ghost_messages, home_by, home_after, stays, goes, gone_to, settled_by}
-use Rattle.seam_steps.specs.Settle.{settled}
+use Rattle.seam_steps.specs.Settle.{told, told_unless, ghost_message, ghost_messages, home_after, stays, goes, gone_to, settled_by, settled}
 use Rattle.seam_steps.specs.CellCases
 use Rattle.seam_steps.specs.CellCases.{about, slot_steps, survey_task, ready_call_task}
 use Rattle.seam_steps.specs.Looks.{Known, numbered, look_by, look_task}
@@ -136,7 +135,7 @@ module _ (h : Here) (me_in : h.me < cell_count) (some : 1 ≤ h.settings.bases) 
   good_goes : (s : Slot) (r : RealView) (changed : Bool) (j : ℕ) → j < cell_count → IsGood (goes h t s r changed j)
   good_goes s r changed j lt = good_gone s r j _ _ (ghosts_below r j _ changed) lt
 
-  home_in : (b : Bool) (leaf : ℕ) → leaf < cell_count → home_by b h.me leaf < cell_count
+  home_in : (b : Bool) (leaf : ℕ) → leaf < cell_count → (if b then h.me else leaf) < cell_count
   home_in true leaf lt = me_in
   home_in false leaf lt = lt
 

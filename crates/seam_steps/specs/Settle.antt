@@ -1,11 +1,11 @@
 -- Settling: a real's home is found anew, its haunts are told, and it may be handed over.
-use Rattle.std.specs.Prelude.{ℕ, ◌+◌, Bool, true, false, ◌||◌, ◌==◌, nat_le, List, [], ◌∷◌, ◌++◌, filter_map, Option, None, Some}
-use Rattle.std.specs.Prelude.{option_map}
+use Rattle.std.specs.Prelude.{ℕ, ◌+◌, Bool, true, false, ◌||◌, ◌==◌, List, [], ◌∷◌, ◌++◌, filter_map, Option, None, Some, option_map}
 use Rattle.std.specs.FinSet as set
 use Rattle.seam_geo.specs.declared.pos.Pos.{Pos}
-use Rattle.seam_tree.specs.Division.{Division, leaf_at}
+use Rattle.seam_tree.specs.Division.{Division}
 use Rattle.seam_tree.specs.Cells.{Cells}
-use Rattle.seam_haunt.specs.Haunts.{distance_to_cell, haunts_of}
+use Rattle.seam_haunt.specs.Haunts.{haunts_of}
+use Rattle.seam_haunt.specs.Places.{home_at}
 use Rattle.seam_call.specs.declared.shown.GhostCopy.{GhostCopy}
 use Rattle.seam_entity.specs.Reals.{RealView}
 use Rattle.seam_entity.specs.declared.message.Msg.{Msg}
@@ -16,13 +16,9 @@ use Rattle.seam_steps.specs.Slots.{Slot, SlotStep, heard}
 
 -- ---- point 1: the home
 
-abbrev pub home_by : Bool → ℕ → ℕ → ℕ
-home_by true me leaf = me
-home_by false me leaf = leaf
-
 -- this cell keeps a real that is near its area; any other belongs to the leaf of its position
 abbrev pub home_after : Here → Division → Pos → ℕ
-home_after h t p = home_by (nat_le (distance_to_cell t h.me p) h.settings.offload_hysteresis) h.me (leaf_at t p)
+home_after h t p = home_at h.settings.offload_hysteresis t h.me p
 
 -- ---- what haunts are told
 

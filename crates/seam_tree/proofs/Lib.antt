@@ -7,3 +7,4 @@ pub mod Changes
 pub mod Sets
 pub mod Leaves
 pub mod Moves
+pub mod Filled

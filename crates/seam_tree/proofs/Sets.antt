@@ -1,26 +1,29 @@
 -- Sets of cells and writes to their marks.
-use Rattle.std.proofs.Common.{◌≡◌, ◌<◌, ◌≤◌, ℕ, zero, suc, ◌+◌, ◌==◌, Bool, true, false, ◌||◌, ◌&&◌, not, cond, List, [], ◌∷◌, length, set, get_or, refl, sym, ap, ◌∙◌, arith, inl, inr, get_or-set_other}
+use Rattle.std.proofs.Common.{◌≡◌, ◌<◌, ◌≤◌, ℕ, zero, suc, ◌+◌, ◌==◌, Bool, true, false, ◌||◌, ◌&&◌, not, cond, List, [], ◌∷◌, length, set}
+use Rattle.std.proofs.Common.{get_or, refl, sym, ap, ◌∙◌, arith, inl, inr, get_or-set_other}
 use Rattle.std.specs.Cmp.{nat_cmp_total, unsigned_tied}
 use Rattle.std.proofs.lemmas.Bool.Decides.{nat_tests}
 use Rattle.std.proofs.lemmas.Grind.{common_steps}
 use Rattle.std.specs.FinSet as cells
 use Rattle.seam_tree.proofs.Steps.{same_or_not}
 use Rattle.seam_tree.specs.Marks.{marked_from}
-use Rattle.seam_tree.specs.Inverse.{contains-marked, contains-insert_nat}
+use Rattle.seam_tree.specs.Inverse.{contains_marked, contains_insert_nat}
 
-pub contains-marks : (marks : List Bool) (k : ℕ) → cells.contains (marked_from 0 marks) k ≡ get_or marks k false
-contains-marks marks k = let e : k ≡ 0 + k = omega arith in ap (cells.contains (marked_from 0 marks)) e ∙ contains-marked 0 marks k
+pub contains_marks : (marks : List Bool) (k : ℕ) → cells.contains (marked_from 0 marks) k ≡ get_or marks k false
+contains_marks marks k = let e : k ≡ 0 + k = omega arith in ap (cells.contains (marked_from 0 marks)) e ∙ contains_marked 0 marks k
 
 pub get_or_past : (marks : List Bool) (k : ℕ) → length marks ≤ k → get_or marks k false ≡ false
 get_or_past [] k past = refl
 get_or_past (m ∷ marks) zero past = absurd (omega arith)
 get_or_past (m ∷ marks) (suc k) past = get_or_past marks k (omega arith)
 
-get_or-set_mark : (marks : List Bool) (k : ℕ) (mark : Bool) (q : ℕ) → k < length marks → get_or (set marks k mark) q false ≡ cond (q == k) mark (get_or marks q false)
-get_or-set_mark marks k mark q within =
+get_or_set_mark : (marks : List Bool) (k : ℕ) (mark : Bool) (q : ℕ) → k < length marks →
+    get_or (set marks k mark) q false ≡ cond (q == k) mark (get_or marks q false)
+get_or_set_mark marks k mark q within =
     elim (same_or_not q k) [
       | inl e ↦ let same : get_or (set marks k mark) q false ≡ mark = grind (arith, common_steps) in grind (arith, nat_tests, same)
-      | inr other ↦ let same : get_or (set marks k mark) q false ≡ get_or marks q false = get_or-set_other marks k q mark false other in grind (arith, nat_tests, same)
+      | inr other ↦ let same : get_or (set marks k mark) q false ≡ get_or marks q false = get_or-set_other marks k q mark false other in
+          grind (arith, nat_tests, same)
     ]
 
 cond_or : (b c : Bool) → cond b true c ≡ (b || c)
@@ -32,22 +35,24 @@ cond_and true c = refl
 cond_and false c = refl
 
 -- a mark set puts the number into the set
-pub marked-set_true : (marks : List Bool) (k : ℕ) → k < length marks → marked_from 0 (set marks k true) ≡ cells.insert (marked_from 0 marks) k
-marked-set_true marks k within =
+pub marked_set_true : (marks : List Bool) (k : ℕ) → k < length marks →
+    marked_from 0 (set marks k true) ≡ cells.insert (marked_from 0 marks) k
+marked_set_true marks k within =
     cells.same_set nat_cmp_total cells.nat_cmp-IsAntisymmetric _ _ (λ q.
-    contains-marks (set marks k true) q
-    ∙ get_or-set_mark marks k true q within
+    contains_marks (set marks k true) q
+    ∙ get_or_set_mark marks k true q within
     ∙ cond_or (q == k) (get_or marks q false)
-    ∙ ap (λ (b : Bool). (q == k) || b) (sym (contains-marks marks q))
-    ∙ sym (contains-insert_nat (marked_from 0 marks) k q))
+    ∙ ap (λ (b : Bool). (q == k) || b) (sym (contains_marks marks q))
+    ∙ sym (contains_insert_nat (marked_from 0 marks) k q))
 
 -- a mark cleared takes it out
-pub marked-set_false : (marks : List Bool) (k : ℕ) → k < length marks → marked_from 0 (set marks k false) ≡ cells.remove (marked_from 0 marks) k
-marked-set_false marks k within =
+pub marked_set_false : (marks : List Bool) (k : ℕ) → k < length marks →
+    marked_from 0 (set marks k false) ≡ cells.remove (marked_from 0 marks) k
+marked_set_false marks k within =
     cells.same_set nat_cmp_total cells.nat_cmp-IsAntisymmetric _ _ (λ q.
-    contains-marks (set marks k false) q
-    ∙ get_or-set_mark marks k false q within
+    contains_marks (set marks k false) q
+    ∙ get_or_set_mark marks k false q within
     ∙ cond_and (q == k) (get_or marks q false)
-    ∙ ap (λ (b : Bool). not (q == k) && b) (sym (contains-marks marks q))
+    ∙ ap (λ (b : Bool). not (q == k) && b) (sym (contains_marks marks q))
     ∙ ap (λ (b : Bool). not b && cells.contains (marked_from 0 marks) q) (sym (unsigned_tied q k))
     ∙ sym (cells.contains-remove nat_cmp_total (marked_from 0 marks) k q))

@@ -1,5 +1,6 @@
 -- What a tree is: the cuts of a space in their order. The first cell is 0; the k-th cut makes boundary k and cell k.
-use Rattle.std.specs.Prelude.{ℕ, zero, suc, ◌+◌, ◌-◌, ◌<◌, ◌≤◌, ◌==◌, nat_le, ◌&&◌, List, length, slice_index_or, slice_get, if◌then◌else◌, Option, None}
+use Rattle.std.specs.Prelude.{◌≡◌, ℕ, zero, suc, ◌+◌, ◌-◌, ◌<◌, ◌≤◌, ◌==◌, nat_le, ◌&&◌, List, length, slice_index_or, slice_get}
+use Rattle.std.specs.Prelude.{if◌then◌else◌, Option, None, Some}
 use Rattle.std.specs.Option.{option_map}
 use Rattle.seam_geo.specs.declared.pos.Pos.{Pos}
 use Rattle.seam_geo.specs.Rect.{Area, IsProper}
@@ -44,6 +45,10 @@ area_after t (suc n) cell =
 -- a cell's area
 abbrev pub area : Division → ℕ → Area
 area t cell = area_after t (length t.cuts) cell
+
+-- the table has each cell's area at the cell's number
+abbrev pub HasEachArea : Division → List Area → Type 0
+HasEachArea t areas = (c : ℕ) → c < cells_of t → slice_get areas c ≡ Some (area t c)
 
 -- the cell of a position after the first n cuts: a cut takes to the new cell what the cut cell had from the place on
 abbrev pub leaf_after : Division → ℕ → Pos → ℕ

@@ -15,7 +15,7 @@ impl Model for CellSet {
     ghost use Rattle.std.specs.Coded.{coded_ℕ};
     ghost use Rattle.seam_tree.specs.Cells.{Cells};
     ghost use Rattle.seam_tree.specs.Marks.{marked_from, marks_from};
-    ghost use Rattle.seam_tree.specs.Inverse.{marks-marked};
+    ghost use Rattle.seam_tree.specs.Inverse.{marks_marked};
 
     ghost Value = { Cells };
 
@@ -27,7 +27,7 @@ impl Model for CellSet {
 
     ghost inverse = { λ s. record { marks = marks_from s 0 16 } };
 
-    ghost inverse_ok = { λ a h. λ i. record { marks = marks-marked a.marks h i } };
+    ghost inverse_ok = { λ a h. λ i. record { marks = marks_marked a.marks h i } };
 }
 
 impl CellSet {

@@ -1,18 +1,20 @@
 //! A space cut into at most sixteen cells by boundaries along its axes, and sets of such cells.
 //!
 //! The tree of boundaries is that of the cells of a BigWorld space (BigWorld Server Overview, load balancing). For callers,
-//! `proofs/Leaves` says that a leaf is a cell.
+//! `proofs/Leaves` says that a leaf is a cell; `proofs/Steps`, `Areas`, `Agree`, `Padded`, `Changes`, `Moves` and `Filled`
+//! say what one more cut and another place make of areas.
 #![tactic(auto)]
 
+mod area_table;
 mod boundary;
 mod cell_set;
-mod corners;
 mod cut;
 mod laws;
 #[cfg(test)]
 mod tests;
 mod tree;
 
+pub use area_table::MOST_CELLS;
 pub use boundary::{Axis, Boundary};
 pub use cell_set::CellSet;
 pub use laws::{areas_partition_the_space, cells_stay};

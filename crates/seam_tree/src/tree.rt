@@ -1,18 +1,20 @@
-ghost use Rattle.std.specs.Prelude.{◌≡◌, ℕ, ◌+◌, ◌-◌, ◌<◌, ◌≤◌, ◌↔◌, ◌⊎◌, [], length, IsSome, IfOk, IfSome, OnOk, OnErr, MatchBool};
+ghost use Rattle.std.specs.Prelude.{◌≡◌, ℕ, ◌+◌, ◌-◌, ◌<◌, ◌≤◌, ◌↔◌, ◌⊎◌, [], length, slice_get, Some, IsTrue, IsSome, IfOk, IfSome, OnOk};
+ghost use Rattle.std.specs.Prelude.{OnErr, MatchBool};
 ghost use Rattle.std.specs.Option.{SomeIff};
 ghost use Rattle.seam_geo.specs.Rect.{Holds};
 ghost use Rattle.seam_tree.specs.Boundary.{across, LeavesPartEmpty, RunsThrough};
-ghost use Rattle.seam_tree.specs.Division.{area, area_after, area_divided_by, boundary_of, cell_cut_by, cells_of, cut_after, cut_number, HasBoundary, IsInSpace, IsTree, leaf_at, NoneEmpty, SomeEmpty};
+ghost use Rattle.seam_tree.specs.Division.{area, area_after, area_divided_by, boundary_of, cell_cut_by, cells_of, cut_after, cut_number};
+ghost use Rattle.seam_tree.specs.Division.{HasBoundary, HasEachArea, IsInSpace, IsTree, leaf_at, NoneEmpty, SomeEmpty};
 ghost use Rattle.seam_tree.specs.Change.{CanCut, CutsCell, MovesBoundary, with_cut, with_place};
 
+use crate::area_table::{MOST_CELLS, areas_after, parts};
 use crate::boundary::{Axis, Boundary};
-use crate::corners::Corners;
-use crate::cut::{Cut, corners_after, has_empty_cell, leaf_among};
+use crate::cut::{Cut, leaf_among};
 use seam_geo::{Pos, Rect};
 use std::marker::Model;
 
 // The most cuts that a tree has.
-const MOST_CUTS: usize = 15;
+const MOST_CUTS: usize = MOST_CELLS - 1;
 
 // The entry of the table where there is no cut.
 const NO_CUT: Cut = Cut {
@@ -58,7 +60,7 @@ impl Model for Tree {
     ghost use Rattle.std.specs.Prelude.{◌≡◌, ◌≤◌, take, length};
     ghost use Rattle.seam_tree.specs.Division.{Division, IsTree};
     ghost use Rattle.seam_tree.specs.Table.{padded};
-    ghost use Rattle.seam_tree.specs.Inverse.{take-padded};
+    ghost use Rattle.seam_tree.specs.Inverse.{take_padded};
     ghost use Rattle.std.proofs.Common.{sym};
 
     ghost Value = { Division };
@@ -71,7 +73,7 @@ impl Model for Tree {
 
     ghost inverse = { λ t. record { size = t.size; count = length t.cuts; cuts = padded t.cuts } };
 
-    ghost inverse_ok = { λ a h. λ i. record { size = a.size; count = take-padded a.count a.cuts h.0 h.1 i; cuts = sym h.1 i } };
+    ghost inverse_ok = { λ a h. λ i. record { size = a.size; count = take_padded a.count a.cuts h.0 h.1 i; cuts = sym h.1 i } };
 }
 
 impl Tree {
@@ -87,6 +89,21 @@ impl Tree {
             count: 0,
             cuts: [NO_CUT; MOST_CUTS],
         }
+    }
+
+    /// The size of the space: its positions go from 0 up to, but without, this on both axes.
+    pub fn size(&self) -> u32
+        ensures size { result ≡ self.now.size }
+        ensures tree { IsTree self.now }
+    {
+        self.size
+    }
+
+    /// Whether the position lies in the space.
+    pub fn holds(&self, p: Pos) -> bool
+        ensures { IsTrue result ↔ IsInSpace self.now p }
+    {
+        p.x < self.size && p.z < self.size
     }
 
     /// How many cells there are: their numbers are those from 0 up to, but without, this one.
@@ -115,8 +132,14 @@ impl Tree {
         if cell > self.count {
             return None;
         }
-        let corners = self.corners(usize::from(self.count), cell);
-        Rect::new(corners.low, corners.high)
+        Some(self.areas()[usize::from(cell)])
+    }
+
+    /// The areas of all cells, by the cells' numbers. What the table has past the last cell means nothing.
+    pub fn areas(&self) -> [Rect; MOST_CELLS]
+        ensures { HasEachArea self.now result }
+    {
+        self.areas_after(usize::from(self.count))
     }
 
     /// The boundary of this number: None where there is no such boundary.
@@ -142,8 +165,7 @@ impl Tree {
         ensures { SomeIff result (HasBoundary self.now b) (area_divided_by self.now b) }
     {
         let cut = self.cut_number(b)?;
-        let corners = self.corners(usize::from(b) - 1, cut.cell);
-        Rect::new(corners.low, corners.high)
+        Some(self.areas_after(usize::from(b) - 1)[usize::from(cut.cell)])
     }
 
     /// Cuts a cell along an axis, and gives the number of the new cell and of the boundary.
@@ -169,10 +191,7 @@ impl Tree {
         }
         let cell = cell as u8;
         let boundary = Boundary { axis, at };
-        if !self
-            .corners(usize::from(self.count), cell)
-            .is_split_by(boundary)
-        {
+        if !self.is_split_by(cell, boundary) {
             return Err(CutError::OutsideCell);
         }
         if usize::from(self.count) == MOST_CUTS {
@@ -206,6 +225,16 @@ impl Tree {
         Ok(())
     }
 
+    // Whether neither part of the cell would be empty.
+    fn is_split_by(&self, cell: u8, boundary: Boundary) -> bool
+        requires { cell < cells_of self.now }
+        ensures split { MatchBool result (RunsThrough boundary (area self.now cell)) (LeavesPartEmpty boundary (area self.now cell)) }
+        ensures tree { IsTree self.now }
+    {
+        let area = self.areas_after(usize::from(self.count))[usize::from(cell)];
+        parts(area, boundary).is_some()
+    }
+
     // Adds a cut to the table.
     fn push(&mut self, cut: Cut)
         requires room { cells_of self.old < 16 }
@@ -224,7 +253,7 @@ impl Tree {
         let mut cuts = self.cuts;
         cuts[usize::from(b) - 1].boundary.at = at;
         let made = &cuts[..usize::from(self.count)];
-        has_empty_cell(self.size, made)
+        areas_after(self.size, made, made.len()).is_none()
     }
 
     // Puts the boundary at another place.
@@ -244,13 +273,13 @@ impl Tree {
         &self.cuts[..usize::from(self.count)]
     }
 
-    // A cell's area after the first `made` cuts.
-    fn corners(&self, made: usize, cell: u8) -> Corners
+    // The cells' areas after the first `made` cuts, by the cells' numbers.
+    fn areas_after(&self, made: usize) -> [Rect; MOST_CELLS]
         requires { made ≤ length self.now.cuts }
-        ensures value { result ≡ area_after self.now made cell }
+        ensures areas { (c : ℕ) → c ≤ made → slice_get result c ≡ Some (area_after self.now made c) }
         ensures tree { IsTree self.now }
     {
-        corners_after(self.size, self.made(), made, cell)
+        areas_after(self.size, self.made(), made).unwrap()
     }
 
     // The cut that made boundary `b`.

@@ -1,7 +1,7 @@
 use Rattle.std.proofs.Common.{List, length, sym, ap, subst, ◌∙◌}
 use Rattle.seam_tree.specs.declared.cut.Cut.{Cut}
 use Rattle.seam_tree.specs.Division.{leaf_after}
-use Rattle.seam_tree.proofs.Areas.{IsLeaf, leaf_at-is}
+use Rattle.seam_tree.proofs.Areas.{IsLeaf, leaf_at_is}
 use Rattle.seam_tree.proofs.tree.Tree.leaf_of.Goals as goal
 
 pub returns-clause-value : goal.returns-clause-value
@@ -10,7 +10,9 @@ returns-clause-value c =
     c.leaf_among.ensures c.args.self.now.size ∙ ap leaf_of_cuts c.made.ensures.cuts
 
 is_leaf : (c : goal.After-leaf_among) → IsLeaf c.args.self.now c.args.p c.leaf_among.result
-is_leaf c = subst (IsLeaf c.args.self.now c.args.p) (sym (returns-clause-value c)) (leaf_at-is c.args.self.now c.args.p c.made.ensures.tree c.requires)
+is_leaf c =
+    subst (IsLeaf c.args.self.now c.args.p) (sym (returns-clause-value c))
+    (leaf_at_is c.args.self.now c.args.p c.made.ensures.tree c.requires)
 
 pub returns-clause-cell : goal.returns-clause-cell
 returns-clause-cell c = (is_leaf c).cell
