@@ -29,16 +29,16 @@ module _ {M : Type 0} where
   nothing true = refl
   nothing false = refl
 
-  items_to-tagged : (n j : ℕ) (ms : List M) → items_to j (map (λ x. (n, x)) ms) ≡ cond (eqb n j) ms []
-  items_to-tagged n j [] = nothing (eqb n j)
-  items_to-tagged n j (m ∷ ms) = tagged_by n j m ms (eqb n j) refl (items_to-tagged n j ms)
+  items_to_tagged : (n j : ℕ) (ms : List M) → items_to j (map (λ x. (n, x)) ms) ≡ cond (eqb n j) ms []
+  items_to_tagged n j [] = nothing (eqb n j)
+  items_to_tagged n j (m ∷ ms) = tagged_by n j m ms (eqb n j) refl (items_to_tagged n j ms)
 
   pub spread_past : (n j : ℕ) (f : ℕ → List M) → n ≤ j → items_to j (spread n f) ≡ []
   spread_past zero j f h = refl
   spread_past (suc n) j f h =
       items_to-append j (spread n f) (map (λ x. (n, x)) (f n))
       ∙ (ap (λ x. x ++ items_to j (map (λ x. (n, x)) (f n))) (spread_past n j f (omega (arith, h)))
-      ∙ (items_to-tagged n j (f n) ∙ ap (λ t. cond t (f n) []) (ne_eqb n j (λ e. omega (arith, e, h)))))
+      ∙ (items_to_tagged n j (f n) ∙ ap (λ t. cond t (f n) []) (ne_eqb n j (λ e. omega (arith, e, h)))))
 
   spread_last : (n j : ℕ) (f : ℕ → List M) → j ≡ n → items_to j (spread n f) ++ cond (eqb n j) (f n) [] ≡ f j
   spread_last n j f e = rw (eq-eqb n j (sym e), spread_past n j f (omega (arith, e))) (ap f (sym e))
@@ -52,7 +52,7 @@ module _ {M : Type 0} where
   items_to-spread zero j f h = absurd (omega (arith, h))
   items_to-spread (suc n) j f h =
       items_to-append j (spread n f) (map (λ x. (n, x)) (f n))
-      ∙ (ap (λ x. items_to j (spread n f) ++ x) (items_to-tagged n j (f n)) ∙ elim (cases_eq j n) [
+      ∙ (ap (λ x. items_to j (spread n f) ++ x) (items_to_tagged n j (f n)) ∙ elim (cases_eq j n) [
         | inl e ↦ spread_last n j f e
         | inr ne ↦ spread_more n j f ne (items_to-spread n j f (let lt : j < n = grind (arith, h, ne) in lt))
       ])

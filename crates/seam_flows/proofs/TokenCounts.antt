@@ -59,10 +59,10 @@ module _ {X : Type 0} (f : X → ℕ) where
       omega (arith, h, rest)
 
   -- what is past the end of the list weighs nothing
-  at-get_or : (xs : List X) (k : ℕ) (d : X) → f d ≡ 0 → at xs k ≡ f (get_or xs k d)
-  at-get_or [] k d z = sym z
-  at-get_or (x ∷ xs) zero d z = refl
-  at-get_or (x ∷ xs) (suc k) d z = at-get_or xs k d z
+  at_get_or : (xs : List X) (k : ℕ) (d : X) → f d ≡ 0 → at xs k ≡ f (get_or xs k d)
+  at_get_or [] k d z = sym z
+  at_get_or (x ∷ xs) zero d z = refl
+  at_get_or (x ∷ xs) (suc k) d z = at_get_or xs k d z
 
 totals_all : {X : Type 0} (f : X → ℕ) (xs : List X) (i : ℕ) → totals (λ b. f) i xs ≡ total f xs
 totals_all f [] i = refl
@@ -142,10 +142,10 @@ module _ {N T S L R : Type 0} (slot : N → S) (none : S) (mine : T → Option L
     row_at a = get_or w.rows a []
 
     row_is : (a : ℕ) → at row_count w.rows a ≡ row_count (row_at a)
-    row_is a = at-get_or row_count w.rows a [] refl
+    row_is a = at_get_or row_count w.rows a [] refl
 
     link_is : (a b : ℕ) → at link_count (row_at a) b ≡ length (letters_of carried (F.mail a b))
-    link_is a b = at-get_or link_count (row_at a) b [] refl ∙ link_counts (link w.rows a b)
+    link_is a b = at_get_or link_count (row_at a) b [] refl ∙ link_counts (link w.rows a b)
 
     no_slots : total node_count w.nodes ≡ 0 → (k : ℕ) → held (F.slot k) ≡ None
     no_slots h k = none_if (held (F.slot k)) (sym (node_is k) ∙ zero_at node_count w.nodes h k)

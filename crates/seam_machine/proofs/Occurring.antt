@@ -56,9 +56,9 @@ rows_after_wide n rows k (Some a) h =
     All-set_kept (λ r. length r ≡ n) rows a (row_less (get_or rows a []) k) (λ lt. length-set (get_or rows a []) k (drop 1 (link rows a k))
     ∙ h a [] lt) h
 
-square-stepped : {N M : Type 0} (w : NetView N M) (k : ℕ) (from : Option ℕ) (t : Stepped N M) → IsSquare w →
+square_stepped : {N M : Type 0} (w : NetView N M) (k : ℕ) (from : Option ℕ) (t : Stepped N M) → IsSquare w →
     IsSquare (stepped_net w.nodes (rows_after_feeding w.rows k from) k t)
-square-stepped w k from t q =
+square_stepped w k from t q =
     let rows = rows_after_feeding w.rows k from in
     let n = length-set w.nodes k t.state in
     let h = rows_after_wide (length w.nodes) w.rows k from q.links in
@@ -71,7 +71,7 @@ square-stepped w k from t q =
 
 pub square-happens : {N M : Type 0} (steps : N → Input M → Stepped N M) (w : NetView N M) (e : Event) (o : Occurs w e) → IsSquare w →
     IsSquare (happens steps w e)
-square-happens steps w e o q = rw (happens-is steps w e o) (square-stepped w e.node e.from (steps o.node o.input) q)
+square-happens steps w e o q = rw (happens-is steps w e o) (square_stepped w e.node e.from (steps o.node o.input) q)
 
 pub nodes-happens : {N M : Type 0} (steps : N → Input M → Stepped N M) (w : NetView N M) (e : Event) (o : Occurs w e) →
     (happens steps w e).nodes ≡ set w.nodes e.node (steps o.node o.input).state

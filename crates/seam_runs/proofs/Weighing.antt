@@ -20,44 +20,44 @@ use Rattle.seam_machine.proofs.Totals.{total-push, total-set, total-drop, get_or
 use Rattle.seam_machine.proofs.Puts.{link_is_in}
 use Rattle.seam_machine.proofs.Occurring.{happens-is, length-rows_after_feeding, rows_after_wide}
 
-totals-set : {X : Type 0} (f : ℕ → X → ℕ) (xs : List X) (i k : ℕ) (y d : X) → k < length xs →
+totals_set : {X : Type 0} (f : ℕ → X → ℕ) (xs : List X) (i k : ℕ) (y d : X) → k < length xs →
     totals f i (set xs k y) + f (i + k) (get_or xs k d) ≡ totals f i xs + f (i + k) y
-totals-set f [] i k y d h = absurd (omega (arith, h))
-totals-set f (x ∷ xs) i zero y d h =
+totals_set f [] i k y d h = absurd (omega (arith, h))
+totals_set f (x ∷ xs) i zero y d h =
     let e : i + 0 ≡ i = omega arith in
     let one = ap (λ j. f j x) e in
     let two = ap (λ j. f j y) e in
     omega (arith, one, two)
-totals-set f (x ∷ xs) i (suc k) y d h =
+totals_set f (x ∷ xs) i (suc k) y d h =
     let e : (i + 1) + k ≡ i + suc k = omega arith in
-    let rest = totals-set f xs (i + 1) k y d (omega (arith, h)) in
+    let rest = totals_set f xs (i + 1) k y d (omega (arith, h)) in
     let one = ap (λ j. f j (get_or xs k d)) e in
     let two = ap (λ j. f j y) e in
     omega (arith, rest, one, two)
 
-totals-zero : {X : Type 0} (f : ℕ → X → ℕ) (k : ℕ) (x : X) → f (0 + k) x ≡ f k x
-totals-zero f k x = ap (λ j. f j x) plain
+totals_zero : {X : Type 0} (f : ℕ → X → ℕ) (k : ℕ) (x : X) → f (0 + k) x ≡ f k x
+totals_zero f k x = ap (λ j. f j x) plain
   where
     plain : 0 + k ≡ k
     plain = omega arith
 
-row_weight-set : {M : Type 0} (g : ℕ → M → ℕ) (row : List (List M)) (k : ℕ) (y : List M) → k < length row →
+row_weight_set : {M : Type 0} (g : ℕ → M → ℕ) (row : List (List M)) (k : ℕ) (y : List M) → k < length row →
     row_weight g (set row k y) + total (g k) (get_or row k []) ≡ row_weight g row + total (g k) y
-row_weight-set g row k y h =
-    let one = totals-set (λ b. total (g b)) row 0 k y [] h in
-    let two = totals-zero (λ b. total (g b)) k (get_or row k []) in
-    let three = totals-zero (λ b. total (g b)) k y in
+row_weight_set g row k y h =
+    let one = totals_set (λ b. total (g b)) row 0 k y [] h in
+    let two = totals_zero (λ b. total (g b)) k (get_or row k []) in
+    let three = totals_zero (λ b. total (g b)) k y in
     omega (arith, one, two, three)
 
 -- the weight of one node's links that items were put on
-row_weight-put_all : {M : Type 0} (g : ℕ → M → ℕ) (row : List (List M)) (ps : List (ℕ × M)) → AllBelow (length row) ps →
+row_weight_put_all : {M : Type 0} (g : ℕ → M → ℕ) (row : List (List M)) (ps : List (ℕ × M)) → AllBelow (length row) ps →
     row_weight g (put_all row ps) ≡ row_weight g row + sent_weight g ps
-row_weight-put_all g row [] b = omega arith
-row_weight-put_all g row (p ∷ ps) b =
+row_weight_put_all g row [] b = omega arith
+row_weight_put_all g row (p ∷ ps) b =
     let here = All-head (λ p. p.0 < length row) p ps b in
     let new = get_or row p.0 [] ++ p.1 ∷ [] in
-    let e = row_weight-put_all g (set row p.0 new) ps (rw length-set (All-tail (λ p. p.0 < length row) p ps b)) in
-    let one = row_weight-set g row p.0 new here in
+    let e = row_weight_put_all g (set row p.0 new) ps (rw length-set (All-tail (λ p. p.0 < length row) p ps b)) in
+    let one = row_weight_set g row p.0 new here in
     let two = total-push (g p.0) (get_or row p.0 []) p.1 in
     omega (arith, e, one, two)
 
@@ -66,7 +66,7 @@ pub links_weight-send_all : {M : Type 0} (g : ℕ → M → ℕ) (rows : List (L
     AllBelow (length (get_or rows a [])) ps → links_weight g (send_all rows a ps) ≡ links_weight g rows + sent_weight g ps
 links_weight-send_all g rows a ps h b =
     let one = total-set (row_weight g) rows a (put_all (get_or rows a []) ps) [] h in
-    let two = row_weight-put_all g (get_or rows a []) ps b in
+    let two = row_weight_put_all g (get_or rows a []) ps b in
     omega (arith, one, two)
 
 -- the weight of all links after a message was fed
@@ -75,7 +75,7 @@ pub links_weight-rows_less : {M : Type 0} (g : ℕ → M → ℕ) (rows : List (
     links_weight g (rows_less rows a b) + g b m ≡ links_weight g rows
 links_weight-rows_less g rows a b m ms e h k =
     let one = total-set (row_weight g) rows a (row_less (get_or rows a []) b) [] h in
-    let two = row_weight-set g (get_or rows a []) b (drop 1 (link rows a b)) k in
+    let two = row_weight_set g (get_or rows a []) b (drop 1 (link rows a b)) k in
     let three = total-drop (g b) m (link rows a b) ms e in
     omega (arith, one, two, three)
 
@@ -147,7 +147,7 @@ letter_bounds g rows a k (From b x) (m ∷ ms) e l =
     let lt = link_is_in rows a k m ms e in
     let one = get_or-le-total (row_weight g) rows a [] lt.0 in
     let two = totals_bounds (λ b. total (g b)) (get_or rows a []) 0 k [] lt.1 in
-    let at = totals-zero (λ b. total (g b)) k (link rows a k) in
+    let at = totals_zero (λ b. total (g b)) k (link rows a k) in
     let three = ap (total (g k)) e in
     omega (arith, one, two, at, three, ap (g k) same)
 
