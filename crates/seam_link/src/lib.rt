@@ -32,7 +32,12 @@ impl<T: Drop> Model for LinkOut<T> {
 
     ghost Value = { OutView T Global };
 
-    ghost view = { λ o. record { put = sent o.ring ++ o.spill.items; waiting = o.spill.items; fulls = o.fulls; ring = ring_of_out o.ring } };
+    ghost view = { λ o. record {
+      put = sent o.ring ++ o.spill.items;
+      waiting = o.spill.items;
+      fulls = o.fulls;
+      ring = ring_of_out o.ring;
+    } };
 }
 
 /// A count that only contracts see. It has no greatest value and takes no memory.

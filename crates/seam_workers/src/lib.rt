@@ -5,7 +5,9 @@
 //! the net is the run of the events that are returned (Lamport, "Time, Clocks, and the Ordering of Events in a Distributed
 //! System", 1978).
 //!
-//! No clause says that two workers run at once, how much they do, or that they end: tests show it.
+//! While one node alone has something to do, nothing can be done side by side, and events happen on the net itself (`alone`).
+//!
+//! No clause of `run_workers` says that two workers run at once, how much they do, or that they end: tests show it.
 #![tactic(auto)]
 
 ghost use Rattle.std.specs.Prelude.{◌≡◌, ◌≢◌, ℕ, ◌+◌, ◌%◌, ◌<◌, ◌≤◌, [], length, map, true, Some, IfOk, vec_len, slice_get};

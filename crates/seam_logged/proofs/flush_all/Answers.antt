@@ -2,7 +2,7 @@ use Rattle.std.proofs.Common.{rules, ◌≡◌, ◌∙◌, ◌<◌, ap, subst, a
 use Rattle.std.proofs.lemmas.List.{length-set}
 use Rattle.std.proofs.lemmas.Option.{slice_get_within}
 use Rattle.seam_logged.specs.Logs.{put, out_rings}
-use Rattle.seam_logged.proofs.Links.{FlushedBelow, flushed_none, flushed_more, put-same, out_rings-set}
+use Rattle.seam_logged.proofs.Links.{FlushedBelow, flushed_none, flushed_more, put_same, out_rings_set}
 use Rattle.seam_logged.proofs.flush_all.Goals as goal
 
 pub loop-k-init : goal.loop-k-init
@@ -27,9 +27,9 @@ loop-k-preserved g c =
     let x' = c.flush.new.self in
     let at = c.index_mut.ensures.value in (
       inv.0,
-      out_rings-set outs k x x' at c.flush.ensures.ring ∙ inv.1,
+      out_rings_set outs k x x' at c.flush.ensures.ring ∙ inv.1,
       length-set outs k x' ∙ inv.2,
-      (λ b. put-same outs k x x' b at c.flush.ensures.put ∙ inv.3 b),
+      (λ b. put_same outs k x x' b at c.flush.ensures.put ∙ inv.3 b),
       flushed_more c.args.ends.now.outs outs k x x' lt at c.flush.ensures.flushed inv.4,
     )
 

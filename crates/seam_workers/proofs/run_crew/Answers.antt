@@ -8,7 +8,8 @@ use Rattle.seam_workers.proofs.Whole.{ends_full, ends_paired, logs_are, is_run, 
 use Rattle.seam_workers.proofs.run_crew.Goals as goal
 
 pub returns-then-is_quiet-clause-tasks : goal.returns-then-is_quiet-clause-tasks
-returns-then-is_quiet-clause-tasks g c = λ k s at work. absurd (no_task g.M.Machine.has_work c.args.net k s (c.is_quiet.ensures.quiet c.if-is_quiet.true) at work)
+returns-then-is_quiet-clause-tasks g c =
+    λ k s at work. absurd (no_task g.M.Machine.has_work c.args.net k s (c.is_quiet.ensures.quiet c.if-is_quiet.true) at work)
 
 pub run_nodes-requires-clause-wide : goal.run_nodes-requires-clause-wide
 run_nodes-requires-clause-wide g c κs within =
@@ -90,7 +91,9 @@ returns-clause-run g c =
     let runs = c.in_ok-done.ensures.runs in
     let event = c.is_quiet.ensures.not_quiet c.if-is_quiet.false in
     let node = (occurs K.has_work w event.0 event.1).node in
-    if_ok_then (λ r. IsRejoined done r.0 r.1.items) (λ r. LeadsTo K.has_work K.steps w r.1.items r.0) c.rejoin.result (λ r h. is_run K.has_work K.steps K.peer_count n w p parts count ends full linked done many runs node r.0 r.1.items h) c.rejoin.ensures
+    if_ok_then (λ r. IsRejoined done r.0 r.1.items) (λ r. LeadsTo K.has_work K.steps w r.1.items r.0) c.rejoin.result
+    (λ r h. is_run K.has_work K.steps K.peer_count n w p parts count ends full linked done many runs node r.0 r.1.items h)
+    c.rejoin.ensures
 
 pub returns-clause-tasks : goal.returns-clause-tasks
 returns-clause-tasks g c =
@@ -109,7 +112,10 @@ returns-clause-tasks g c =
     let runs = c.in_ok-done.ensures.runs in
     let event = c.is_quiet.ensures.not_quiet c.if-is_quiet.false in
     let node = (occurs K.has_work w event.0 event.1).node in
-    if_ok_then (λ r. IsRejoined done r.0 r.1.items) (λ r. (k : ℕ) (s : _) → slice_get w.nodes k ≡ Some s → K.has_work s ≡ true → HasEventOf k r.1.items) c.rejoin.result (λ r h. has_event K.has_work K.steps K.peer_count n w p parts count ends full linked done many runs node r.0 r.1.items h) c.rejoin.ensures
+    if_ok_then (λ r. IsRejoined done r.0 r.1.items) (λ r. (k : ℕ) (s : _) → slice_get w.nodes k ≡ Some s → K.has_work s ≡ true →
+    HasEventOf k r.1.items) c.rejoin.result
+    (λ r h. has_event K.has_work K.steps K.peer_count n w p parts count ends full linked done many runs node r.0 r.1.items h)
+    c.rejoin.ensures
 
 pub returns-clause-peers : goal.returns-clause-peers
 returns-clause-peers g c =
@@ -128,4 +134,6 @@ returns-clause-peers g c =
     let runs = c.in_ok-done.ensures.runs in
     let event = c.is_quiet.ensures.not_quiet c.if-is_quiet.false in
     let node = (occurs K.has_work w event.0 event.1).node in
-    if_ok_then (λ r. IsRejoined done r.0 r.1.items) (λ r. ArePeers K.peer_count r.0) c.rejoin.result (λ r h. peers_kept K.has_work K.steps K.peer_count n w p parts count ends full linked done many runs node r.0 r.1.items h) c.rejoin.ensures
+    if_ok_then (λ r. IsRejoined done r.0 r.1.items) (λ r. ArePeers K.peer_count r.0) c.rejoin.result
+    (λ r h. peers_kept K.has_work K.steps K.peer_count n w p parts count ends full linked done many runs node r.0 r.1.items h)
+    c.rejoin.ensures

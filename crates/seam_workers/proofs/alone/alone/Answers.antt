@@ -12,7 +12,8 @@ loop-turn-preserved g c =
     let K = g.M.Machine in
     let inv = c.loop-turn.invariant in
     let e = c.in-Some.event in
-    let more = leads_extend K.has_work K.steps c.args.net.now c.loop-turn.net c.loop-turn.events.items e inv.0 c.in-Some.ensures.enabled in (
+    let events = c.loop-turn.events.items in
+    let more = leads_extend K.has_work K.steps c.args.net.now c.loop-turn.net events e inv.0 c.in-Some.ensures.enabled in (
       rw (c.in_ok-push.ensures.items, c.in_ok-step.ensures.happens) more,
       c.step.ensures.peers,
       search rules,
