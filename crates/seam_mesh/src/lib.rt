@@ -18,8 +18,9 @@ use seam_stamp::Letter;
 use std::alloc::{AllocError, Global};
 use std::collections::VecDeque;
 
-/// How many letters a link's ring has room for; more wait in its spill.
-pub const RING_CAPACITY: u32 = 64;
+/// How many letters a link's ring has room for; more wait in its spill. The rings of all pairs of nodes are made for each run, and
+/// fresh memory for larger ones would cost more than the way through the spill.
+pub const RING_CAPACITY: u32 = 8;
 
 /// The ends of the links of n nodes, into which the letters were put, each with the stamp 0.
 pub fn linked<T: Drop>(

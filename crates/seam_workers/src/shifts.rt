@@ -9,15 +9,27 @@ use crossbeam_utils::CachePadded;
 use seam_logged::{Naming, Try};
 use seam_machine::Machine;
 use std::alloc::Global;
+use std::marker::Model;
 use std::sync::{Mutex, Wait};
 use std::thread::Threads;
 
 /// How many tries a worker made, how many of the last ones found nothing to do, and whether memory was refused at the last one.
-#[derive(Clone, Copy, Drop)]
+#[derive(Drop)]
 pub struct Shift {
     tries: u32,
     idle: u32,
     refused: bool,
+}
+
+impl Model for Shift {
+    ghost use Rattle.std.specs.Prelude.{◌≤◌};
+    ghost use Rattle.seam_workers.specs.Shifts.{ShiftView};
+
+    ghost Value = { ShiftView };
+
+    ghost view = { λ s. record { tries = s.tries; idle = s.idle; refused = s.refused } };
+
+    ghost invariant = { λ s. s.idle ≤ s.tries };
 }
 
 impl Shift {
@@ -49,8 +61,7 @@ impl Shift {
 
     // Counts a try.
     fn count(&mut self, tried: Try)
-        requires room { self.old.tries + 1 < 2 ^ 32 }
-        requires few { self.old.idle ≤ self.old.tries }
+        requires { self.old.tries + 1 < 2 ^ 32 }
         ensures { self.new ≡ after_try self.old tried }
     {
         self.tries += 1;
@@ -70,8 +81,7 @@ pub fn visit<M: Machine, J: Naming<M, M::Msg> + Claims, G: Gate, R: Threads + Wa
     gate: &G,
     shift: &mut Shift,
 )
-    requires room { shift.old.tries + 1 < 2 ^ 32 }
-    requires few { shift.old.idle ≤ shift.old.tries }
+    requires { shift.old.tries + 1 < 2 ^ 32 }
     ensures { (tried : Try) × (shift.new ≡ after_try shift.old tried) }
 {
     let lock: &Mutex<Seat<M, J>> = place;
