@@ -45,7 +45,7 @@ pub struct Crew {
     pub turns: u32,
 }
 
-/// What a worker calls before each try, while it has the node's lock.
+/// What is called before each try, while nobody else can step the node.
 pub trait Gate {
     fn at_step<R: Threads + Wait + Sync>(&self, rt: &R, node: u8);
 }
@@ -459,8 +459,8 @@ where
 
 /// Runs the net by workers in threads. Each node that has a task makes a step.
 ///
-/// While one node alone has something to do, it is done at once: no thread is started and no link is made before two nodes have,
-/// and none at all where nothing has. If allocation fails, nothing is given back.
+/// While one node alone has something to do, at most `turns` events happen at once: no thread is started and no link is made before
+/// two nodes have something to do, and none at all where nothing has. If allocation fails, nothing is given back.
 pub fn run_workers<M: Machine + Send, G: Gate + Sync, R: Threads + Wait + Sync>(
     rt: &R,
     alloc: Global,
