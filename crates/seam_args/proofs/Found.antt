@@ -1,5 +1,6 @@
 -- What clap finds for the options with a number, in words that it does not refuse.
-use Rattle.std.proofs.Common.{◌≡◌, ◌⊎◌, ◌∙◌, ◌<◌, ◌≤◌, ap, sym, subst, refl, inl, inr, zero, suc, ℕ, Bool, true, false, List, [], ◌∷◌, length, is_some, Option, Some, None, arith, cond}
+use Rattle.std.proofs.Common.{◌≡◌, ◌⊎◌, ◌∙◌, ◌<◌, ◌≤◌, ap, sym, subst, refl, inl, inr, zero, suc, ℕ, Bool, true, false, List, [], ◌∷◌}
+use Rattle.std.proofs.Common.{length, is_some, Option, Some, None, arith, cond}
 use Rattle.std.specs.Prelude.{find, option_map, unwrap_or, slice_get, pos, codes}
 use Rattle.std.specs.Borrow.{Bor}
 use Rattle.std.specs.List.{All, list_all, position, slice_index_or}
@@ -7,8 +8,10 @@ use Rattle.std.specs.Str.{bytes_eq}
 use Rattle.std.proofs.lemmas.List.{get_or-map, length-map}
 use Rattle.std.proofs.lemmas.List.Elements.{All-get_or}
 use Rattle.std.proofs.lemmas.Slice.Eq.{bytes_eq-Decides}
-use Rattle.clap.specs.Words.{Accepts, App, IsParsedFrom, Rule, SameRules, Text, app_of, found_of, has_subcommand, matched_of, one_text, reading_of, rule_of, without_minus, IsSignedIn, items_of}
-use Rattle.clap.specs.Facts.{Entry, EntryPasses, HasIn, IsParsed, PassesArg, WantsDefault, args_of, groups_of, least_values, parser_of, parser_of_value, unwrap_or_range}
+use Rattle.clap.specs.Words.{Accepts, App, IsParsedFrom, Rule, SameRules, Text, app_of, found_of, has_subcommand, matched_of, one_text}
+use Rattle.clap.specs.Words.{reading_of, rule_of, without_minus, IsSignedIn, items_of}
+use Rattle.clap.specs.Facts.{Entry, EntryPasses, HasIn, IsParsed, PassesArg, WantsDefault, args_of, groups_of, least_values, parser_of}
+use Rattle.clap.specs.Facts.{parser_of_value, unwrap_or_range}
 use Rattle.clap.specs.Simple.{IsSimple, is_ready, is_ready_leaf}
 use Rattle.clap.specs.declared.builder.range.ValueRange.{ValueRange}
 use Rattle.clap.specs.declared.builder.action.ArgAction.TheVariants.{Count, Set}

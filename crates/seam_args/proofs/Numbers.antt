@@ -1,5 +1,6 @@
 -- What the getters of the matches read, by the rows.
-use Rattle.std.proofs.Common.{◌≡◌, ◌↔◌, Bool, true, false, ◌∙◌, ◌<◌, ap, sym, subst, refl, ℕ, List, Option, Some, None, option_map, option_and_then, ◌^◌}
+use Rattle.std.proofs.Common.{◌≡◌, ◌↔◌, Bool, true, false, ◌∙◌, ◌<◌, ap, sym, subst, refl, ℕ, List, Option, Some, None, option_map}
+use Rattle.std.proofs.Common.{option_and_then, ◌^◌}
 use Rattle.std.specs.Prelude.{Result, Ok, find}
 use Rattle.std.specs.Str.{bytes_eq}
 use Rattle.std.specs.Str.Parse.{ParsesUnsigned}

@@ -40,7 +40,7 @@ pub struct Options {
     pub workers: u32,
     /// How many turns each worker has in one phase of a round, from 1 to `MOST_TURNS`.
     pub turns: u32,
-    /// Whether the journal of calls is a part of each round's text.
+    /// Whether the journal of events is a part of each round's text.
     pub trace: bool,
     /// How many lines a generated input draws, from 1 to `LONGEST_STORM`. None: the input is read.
     pub storm: Option<u32>,
@@ -133,12 +133,13 @@ pub fn usage_text() -> &'static str {
 const USAGE_TEXT: &str = "\
 usage: seamless [--workers N] [--turns N] [--trace] [--storm N]
 
-Reads a header and a script from standard input, and writes what the clients see, round by round, to standard output.
+Reads a script from standard input: a header that a line %% ends, and then one command a line. For each round
+it writes to standard output which calls were executed, and where each entity is and what it holds.
 
   --workers N   how many workers run the cells and base nodes, 1 to 16 (4 if not given)
   --turns N     how many turns each worker has in a phase of a round, 1 to 1000000 (1000 if not given)
-  --trace       adds the journal of calls to each round
-  --storm N     runs a generated input of N lines in place of standard input, 1 to 1000000
+  --trace       adds the journal of events to each round (no journal if not given)
+  --storm N     runs a generated input of N lines in place of standard input, 1 to 1000000 (none if not given)
 
 status: 0 done, 1 usage, 2 bad header, 3 read fault, 4 write fault, 5 limit, 6 no memory
 formats: docs/FORMATS.md

@@ -10,7 +10,8 @@ use Rattle.seam_delivery.specs.Numbered.{number_from, numbered}
 
 -- of the items that were issued from number `first` on, node b has delivered the first ones, in order; each of the others is held there
 -- or on its way, once
-pub record Delivery {S L U : Type 0} (order : S → OrderView U) (delivered : S → List U) (brings : L → Option (ℕ × U)) (w : Flow S L) (b first : ℕ) (issued : List U) : Type 0 where
+pub record Delivery {S L U : Type 0} (order : S → OrderView U) (delivered : S → List U) (brings : L → Option (ℕ × U)) (w : Flow S L)
+    (b first : ℕ) (issued : List U) : Type 0 where
   pub rest : List U
   pub parts : issued ≡ delivered (w.slot b) ++ rest
   pub next : (order (w.slot b)).next ≡ first + length (delivered (w.slot b))
@@ -26,7 +27,8 @@ at_once next n u = if n == next then u ∷ [] else []
 -- what a step may do with the items, where the next one to be issued has that number: leave them, issue some to node b, offer one that
 -- comes,
 -- or deliver the next one, which was held
-pub data Passes {S L U : Type 0} (order : S → OrderView U) (delivered : S → List U) (brings : L → Option (ℕ × U)) (b number : ℕ) (s : S) (i : Option L) (t : S) (out : ℕ → List L) : Type 0 where
+pub data Passes {S L U : Type 0} (order : S → OrderView U) (delivered : S → List U) (brings : L → Option (ℕ × U)) (b number : ℕ) (s : S)
+    (i : Option L) (t : S) (out : ℕ → List L) : Type 0 where
   rests : order t ≡ order s → delivered t ≡ delivered s → carried_in brings i ≡ None → SendsNone brings out
       → Passes order delivered brings b number s i t out
   issues : (us : List U) → order t ≡ order s → delivered t ≡ delivered s → carried_in brings i ≡ None
@@ -38,7 +40,8 @@ pub data Passes {S L U : Type 0} (order : S → OrderView U) (delivered : S → 
       → carried_in brings i ≡ None → SendsNone brings out → Passes order delivered brings b number s i t out
 
 -- what the step issued
-abbrev pub more_issued : {S L U : Type 0} {order : S → OrderView U} {delivered : S → List U} {brings : L → Option (ℕ × U)} {b number : ℕ} {s t : S} {i : Option L} {out : ℕ → List L}
+abbrev pub more_issued : {S L U : Type 0} {order : S → OrderView U} {delivered : S → List U} {brings : L → Option (ℕ × U)} {b number : ℕ}
+    {s t : S} {i : Option L} {out : ℕ → List L}
     → Passes order delivered brings b number s i t out → List U
 more_issued (rests a c d e) = []
 more_issued (issues us a c d e f h) = us

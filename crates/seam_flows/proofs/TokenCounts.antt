@@ -1,5 +1,6 @@
 -- Tokens counted in a net, and the one token at one place: the two are one fact.
-use Rattle.std.proofs.Common.{◌≡◌, ℕ, zero, suc, ◌+◌, List, [], ◌∷◌, length, Option, None, Some, get_or, refl, sym, ap, ◌∙◌, arith, inl, inr}
+use Rattle.std.proofs.Common.{◌≡◌, ℕ, zero, suc, ◌+◌, List, [], ◌∷◌, length, Option, None, Some, get_or, refl, sym, ap, ◌∙◌, arith, inl}
+use Rattle.std.proofs.Common.{inr}
 use Rattle.std.specs.Prelude.{slice_get}
 use Rattle.std.proofs.lemmas.Bool.{cases_eq}
 use Rattle.seam_machine.specs.Totals.{total}
@@ -32,12 +33,15 @@ module _ {X : Type 0} (f : X → ℕ) where
   OneAt xs k = (at xs k ≡ 1) × ((j : ℕ) → (j ≡ k → ⊥) → at xs j ≡ 0)
 
   one_here : (x : X) (xs : List X) → f x ≡ 1 → total f xs ≡ 0 → OneAt (x ∷ xs) 0
-  one_here x xs e z = (e, λ j. elim j as (λ j. (j ≡ 0 → ⊥) → at (x ∷ xs) j ≡ 0) [ zero ↦ λ n. absurd (n refl) | suc j ↦ λ n. zero_at xs z j ])
+  one_here x xs e z =
+      (e, λ j. elim j as (λ j. (j ≡ 0 → ⊥) → at (x ∷ xs) j ≡ 0) [ zero ↦ λ n. absurd (n refl) | suc j ↦ λ n. zero_at xs z j ])
 
   one_later : (x : X) (xs : List X) (k : ℕ) → f x ≡ 0 → OneAt xs k → OneAt (x ∷ xs) (suc k)
-  one_later x xs k z o = (o.0, λ j. elim j as (λ j. (j ≡ suc k → ⊥) → at (x ∷ xs) j ≡ 0) [ zero ↦ λ n. z | suc j ↦ λ n. o.1 j (λ e. n (ap suc e)) ])
+  one_later x xs k z o =
+      (o.0, λ j. elim j as (λ j. (j ≡ suc k → ⊥) → at (x ∷ xs) j ≡ 0) [ zero ↦ λ n. z | suc j ↦ λ n. o.1 j (λ e. n (ap suc e)) ])
 
-  one_by : (x : X) (xs : List X) (n : ℕ) → f x ≡ n → n + total f xs ≡ 1 → (total f xs ≡ 1 → (k : ℕ) × OneAt xs k) → (k : ℕ) × OneAt (x ∷ xs) k
+  one_by : (x : X) (xs : List X) (n : ℕ) → f x ≡ n → n + total f xs ≡ 1 → (total f xs ≡ 1 → (k : ℕ) × OneAt xs k) →
+      (k : ℕ) × OneAt (x ∷ xs) k
   one_by x xs zero e h more = let r = more (omega (arith, h)) in (suc r.0, one_later x xs r.0 e r.1)
   one_by x xs (suc n) e h more = (0, one_here x xs (omega (arith, e, h)) (omega (arith, h)))
 
@@ -49,13 +53,16 @@ module _ {X : Type 0} (f : X → ℕ) where
   sum_one : (xs : List X) (k : ℕ) → OneAt xs k → total f xs ≡ 1
   sum_one [] k o = let h = o.0 in absurd (omega (arith, h))
   sum_one (x ∷ xs) zero o = let h = o.0 in let rest = all_zero xs (λ j. o.1 (suc j) (λ e. omega (arith, e))) in omega (arith, h, rest)
-  sum_one (x ∷ xs) (suc k) o = let h = o.1 0 (λ e. omega (arith, e)) in let rest = sum_one xs k (o.0, λ j n. o.1 (suc j) (λ e. n (omega (arith, e)))) in omega (arith, h, rest)
+  sum_one (x ∷ xs) (suc k) o =
+      let h = o.1 0 (λ e. omega (arith, e)) in
+      let rest = sum_one xs k (o.0, λ j n. o.1 (suc j) (λ e. n (omega (arith, e)))) in
+      omega (arith, h, rest)
 
   -- what is past the end of the list weighs nothing
-  at-get_or : (xs : List X) (k : ℕ) (d : X) → f d ≡ 0 → at xs k ≡ f (get_or xs k d)
-  at-get_or [] k d z = sym z
-  at-get_or (x ∷ xs) zero d z = refl
-  at-get_or (x ∷ xs) (suc k) d z = at-get_or xs k d z
+  at_get_or : (xs : List X) (k : ℕ) (d : X) → f d ≡ 0 → at xs k ≡ f (get_or xs k d)
+  at_get_or [] k d z = sym z
+  at_get_or (x ∷ xs) zero d z = refl
+  at_get_or (x ∷ xs) (suc k) d z = at_get_or xs k d z
 
 totals_all : {X : Type 0} (f : X → ℕ) (xs : List X) (i : ℕ) → totals (λ b. f) i xs ≡ total f xs
 totals_all f [] i = refl
@@ -99,7 +106,8 @@ module _ {N T S L R : Type 0} (slot : N → S) (none : S) (mine : T → Option L
   abbrev tokens_on : List T → List R
   tokens_on l = letters_of carried (letters_of mine l)
 
-  more_counts : (o : Option L) (ls : List L) → length (letters_of carried (more_letter o ls)) ≡ one_if (carried_in carried o) + length (letters_of carried ls)
+  more_counts : (o : Option L) (ls : List L) → length (letters_of carried (more_letter o ls))
+      ≡ one_if (carried_in carried o) + length (letters_of carried ls)
   more_counts None ls = omega arith
   more_counts (Some l) ls = by (carried l)
     where
@@ -123,7 +131,8 @@ module _ {N T S L R : Type 0} (slot : N → S) (none : S) (mine : T → Option L
     rows_count = total row_count w.rows
 
     counted : holders slot mine held carried w ≡ total node_count w.nodes + rows_count
-    counted = ap (λ n. total node_count w.nodes + n) (total_same (row_weight (λ k. item_count)) row_count (λ r. totals_all link_count r 0) w.rows)
+    counted =
+        ap (λ n. total node_count w.nodes + n) (total_same (row_weight (λ k. item_count)) row_count (λ r. totals_all link_count r 0) w.rows)
 
     node_is : (k : ℕ) → at node_count w.nodes k ≡ one_if (held (F.slot k))
     node_is k = slot_counts (slice_get w.nodes k) z
@@ -133,16 +142,17 @@ module _ {N T S L R : Type 0} (slot : N → S) (none : S) (mine : T → Option L
     row_at a = get_or w.rows a []
 
     row_is : (a : ℕ) → at row_count w.rows a ≡ row_count (row_at a)
-    row_is a = at-get_or row_count w.rows a [] refl
+    row_is a = at_get_or row_count w.rows a [] refl
 
     link_is : (a b : ℕ) → at link_count (row_at a) b ≡ length (letters_of carried (F.mail a b))
-    link_is a b = at-get_or link_count (row_at a) b [] refl ∙ link_counts (link w.rows a b)
+    link_is a b = at_get_or link_count (row_at a) b [] refl ∙ link_counts (link w.rows a b)
 
     no_slots : total node_count w.nodes ≡ 0 → (k : ℕ) → held (F.slot k) ≡ None
     no_slots h k = none_if (held (F.slot k)) (sym (node_is k) ∙ zero_at node_count w.nodes h k)
 
     row_empty : (a b : ℕ) → at row_count w.rows a ≡ 0 → letters_of carried (F.mail a b) ≡ []
-    row_empty a b h = length_zero (letters_of carried (F.mail a b)) (sym (link_is a b) ∙ zero_at link_count (row_at a) (sym (row_is a) ∙ h) b)
+    row_empty a b h =
+        length_zero (letters_of carried (F.mail a b)) (sym (link_is a b) ∙ zero_at link_count (row_at a) (sym (row_is a) ∙ h) b)
 
     no_mail : rows_count ≡ 0 → (a b : ℕ) → letters_of carried (F.mail a b) ≡ []
     no_mail h a b = row_empty a b (zero_at row_count w.rows h a)
@@ -205,6 +215,12 @@ module _ {N T S L R : Type 0} (slot : N → S) (none : S) (mine : T → Option L
     sole_counts (On a b) r s =
         let c = counted in
         let i = no_nodes s.slots in
-        let row = sum_one link_count (row_at a) b (link_is a b ∙ ap length s.here, λ y n. link_is a y ∙ ap length (s.others a y (λ _ e. n e))) in
-        let j = sum_one row_count w.rows a (row_is a ∙ row, λ x n. row_is x ∙ all_zero link_count (row_at x) (λ y. link_is x y ∙ ap length (s.others x y (λ e _. n e)))) in
+        let row =
+        sum_one link_count (row_at a) b (link_is a b ∙ ap length s.here, λ y n. link_is a y ∙ ap length (s.others a y (λ _ e. n e))) in
+        let j =
+        sum_one row_count w.rows a (
+          row_is a ∙ row,
+          λ x n. row_is x
+              ∙ all_zero link_count (row_at x) (λ y. link_is x y ∙ ap length (s.others x y (λ e _. n e))),
+        ) in
         omega (arith, c, i, j)

@@ -51,7 +51,8 @@ Turned Acts r q = (q ≡ r) ⊎ Acts r q
 
 -- what a step may do with the token: leave it, act on it in its slot, put into the slot the one that came, send off the one in the slot,
 -- or pass on the one that came
-pub data Handles {S L R : Type 0} (held : S → Option R) (carried : L → Option R) (Acts : R → R → Type 0) (s : S) (i : Option L) (t : S) (out : ℕ → List L) : Type 0 where
+pub data Handles {S L R : Type 0} (held : S → Option R) (carried : L → Option R) (Acts : R → R → Type 0) (s : S) (i : Option L) (t : S)
+    (out : ℕ → List L) : Type 0 where
   still : held t ≡ held s → carried_in carried i ≡ None → SendsNone carried out → Handles held carried Acts s i t out
   turns : (r q : R) → held s ≡ Some r → held t ≡ Some q → Turned Acts r q → carried_in carried i ≡ None → SendsNone carried out
       → Handles held carried Acts s i t out
@@ -63,7 +64,8 @@ pub data Handles {S L R : Type 0} (held : S → Option R) (carried : L → Optio
       → Handles held carried Acts s i t out
 
 -- where the token is after a step of node k
-abbrev pub place_after : {S L R : Type 0} {held : S → Option R} {carried : L → Option R} {Acts : R → R → Type 0} {s t : S} {i : Option L} {out : ℕ → List L}
+abbrev pub place_after : {S L R : Type 0} {held : S → Option R} {carried : L → Option R} {Acts : R → R → Type 0} {s t : S} {i : Option L}
+    {out : ℕ → List L}
     → ℕ → Handles held carried Acts s i t out → Place → Place
 place_after k (still e n o) p = p
 place_after k (turns r q a b c n o) p = p
@@ -72,7 +74,8 @@ place_after k (leaves r q to a b c n o) p = On k to
 place_after k (relays r q to a b c o) p = On k to
 
 -- what the token is after the step
-abbrev pub token_after : {S L R : Type 0} {held : S → Option R} {carried : L → Option R} {Acts : R → R → Type 0} {s t : S} {i : Option L} {out : ℕ → List L}
+abbrev pub token_after : {S L R : Type 0} {held : S → Option R} {carried : L → Option R} {Acts : R → R → Type 0} {s t : S} {i : Option L}
+    {out : ℕ → List L}
     → Handles held carried Acts s i t out → R → R
 token_after (still e n o) x = x
 token_after (turns r q a b c n o) x = q

@@ -5,9 +5,11 @@
 //! Multiprocess Programs" (1977), and a spill at the producer's end for what the ring has no room for.
 #![tactic(auto)]
 
-ghost use Rattle.std.specs.Prelude.{◌≡◌, ℕ, ◌+◌, ◌≤◌, [], ◌∷◌, ◌++◌, OnOk, IfOk, IfErr, IfSome, IfNone};
+ghost use Rattle.std.specs.Prelude.{◌≡◌, ◌≢◌, ℕ, ◌+◌, ◌<◌, ◌≤◌, [], ◌∷◌, ◌++◌, OnOk, IfOk, IfErr, IfSome, IfNone, true, false};
+ghost use Rattle.rtrb.specs.Ring.{ProducerLooked, known_free};
+ghost use Rattle.seam_link.specs.Ends.{IsFlushed};
 
-use rtrb::{Consumer, Producer, PushError, RingBuffer};
+use rtrb::{Consumer, Producer, RingBuffer};
 use seam_memory::NoMemoryFor;
 use std::alloc::{AllocError, Global};
 use std::collections::VecDeque;
@@ -19,6 +21,7 @@ use std::snapshot::Snapshot;
 pub struct LinkOut<T: Drop> {
     ring: Producer<T>,
     spill: VecDeque<T>,
+    fulls: Count,
 }
 
 impl<T: Drop> Model for LinkOut<T> {
@@ -29,7 +32,12 @@ impl<T: Drop> Model for LinkOut<T> {
 
     ghost Value = { OutView T Global };
 
-    ghost view = { λ o. record { put = sent o.ring ++ o.spill.items; ring = ring_of_out o.ring } };
+    ghost view = { λ o. record {
+      put = sent o.ring ++ o.spill.items;
+      waiting = o.spill.items;
+      fulls = o.fulls;
+      ring = ring_of_out o.ring;
+    } };
 }
 
 /// A count that only contracts see. It has no greatest value and takes no memory.
@@ -89,12 +97,14 @@ pub fn link<T: Drop>(alloc: Global, cap: u32) -> Result<(LinkOut<T>, LinkIn<T>),
     requires { 1 ≤ cap }
     ensures one { IfOk result (λ r. r.0.ring ≡ r.1.ring) }
     ensures empty { IfOk result (λ r. (r.0.put ≡ []) × (r.1.taken ≡ [])) }
+    ensures first { IfOk result (λ r. (r.0.fulls ≡ 0) × (r.1.nones ≡ 0)) }
 {
     let (producer, consumer) = RingBuffer::new(alloc, cap as usize)?;
     Ok((
         LinkOut {
             ring: producer,
             spill: VecDeque::new(alloc),
+            fulls: Count::new(),
         },
         LinkIn {
             ring: consumer,
@@ -103,27 +113,46 @@ pub fn link<T: Drop>(alloc: Global, cap: u32) -> Result<(LinkOut<T>, LinkIn<T>),
     ))
 }
 
+// Whether the ring was seen full, which is counted.
+fn sees_full<T: Drop>(ring: &mut Producer<T>, fulls: &mut Count) -> bool
+    ensures looked { ProducerLooked ring.old ring.new }
+    ensures full { result ≡ true → fulls.new ≡ fulls.old + 1 }
+    ensures room { result ≡ false → (0 < known_free ring.new) × (fulls.new ≡ fulls.old) }
+{
+    let full = ring.is_full();
+    if full {
+        fulls.raise();
+    }
+    full
+}
+
 impl<T: Drop> LinkOut<T> {
-    /// Puts an item into the link, after all that was put before. If allocation fails, the item comes back.
+    /// Puts an item into the link, after all that was put before. It goes into the ring, or waits where the ring was seen full.
+    /// If allocation fails, the item comes back; only an item that has to wait needs memory.
     pub fn put(&mut self, item: T) -> Result<(), NoMemoryFor<T>>
         ensures ok { OnOk result (self.new.put ≡ self.old.put ++ item ∷ []) }
         ensures err { IfErr result (λ e. (self.new.put ≡ self.old.put) × (e.item ≡ item)) }
+        ensures full { IfErr result (λ _. self.new.fulls ≡ self.old.fulls + 1) }
+        ensures flushed { OnOk result (IsFlushed self.old self.new) }
         ensures ring { self.new.ring ≡ self.old.ring }
     {
         self.flush();
         if !self.spill.is_empty() {
             return self.spill_over(item);
         }
-        match self.ring.push(item) {
-            Ok(()) => return Ok(()),
-            Err(PushError::Full(back)) => return self.spill_over(back),
+        if sees_full(&mut self.ring, &mut self.fulls) {
+            return self.spill_over(item);
         }
+        self.ring.push_reserved(item);
+        Ok(())
     }
 
     // Puts an item to the end of the spill.
     fn spill_over(&mut self, item: T) -> Result<(), NoMemoryFor<T>>
         ensures ok { OnOk result (self.new.put ≡ self.old.put ++ item ∷ []) }
         ensures err { IfErr result (λ e. (self.new.put ≡ self.old.put) × (e.item ≡ item)) }
+        ensures waiting { OnOk result (self.new.waiting ≢ []) }
+        ensures fulls { self.new.fulls ≡ self.old.fulls }
         ensures ring { self.new.ring ≡ self.old.ring }
     {
         if self.spill.reserve(1).is_err() {
@@ -133,11 +162,16 @@ impl<T: Drop> LinkOut<T> {
         Ok(())
     }
 
-    /// Moves items from the spill to the ring, while it has room.
+    /// Moves items from the spill to the ring, until nothing waits or the ring is seen full.
     pub fn flush(&mut self)
-        ensures { self.new ≡ self.old }
+        ensures put { self.new.put ≡ self.old.put }
+        ensures flushed { IsFlushed self.old self.new }
+        ensures ring { self.new.ring ≡ self.old.ring }
     {
-        while !self.spill.is_empty() && !self.ring.is_full() {
+        while !self.spill.is_empty() {
+            if sees_full(&mut self.ring, &mut self.fulls) {
+                return;
+            }
             if let Some(item) = self.spill.pop_front() {
                 self.ring.push_reserved(item);
             }
@@ -172,6 +206,7 @@ pub fn meet<T: Drop>(alloc: Global, out: LinkOut<T>, end: LinkIn<T>) -> Result<V
     let LinkOut {
         mut ring,
         mut spill,
+        fulls: _,
     } = out;
     let LinkIn {
         ring: mut consumer,

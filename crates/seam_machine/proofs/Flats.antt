@@ -1,5 +1,6 @@
 -- Rows one after the other.
-use Rattle.std.proofs.Common.{◌≡◌, ℕ, zero, suc, ◌+◌, ◌*◌, ◌<◌, List, [], ◌∷◌, ◌++◌, length, get_or, refl, sym, ap, ◌∙◌, arith, append_assoc}
+use Rattle.std.proofs.Common.{◌≡◌, ℕ, zero, suc, ◌+◌, ◌*◌, ◌<◌, List, [], ◌∷◌, ◌++◌, length, get_or, refl, sym, ap, ◌∙◌, arith}
+use Rattle.std.proofs.Common.{append_assoc}
 use Rattle.std.specs.List.{All}
 use Rattle.std.proofs.lemmas.List.{append-nil, length-append, get_or_append_left, get_or-append-add}
 use Rattle.std.proofs.lemmas.List.Elements.{All-head, All-tail}
@@ -10,9 +11,11 @@ flat-push [] r = append-nil r
 flat-push (q ∷ qs) r = ap (λ l. q ++ l) (flat-push qs r) ∙ sym (append_assoc q (flat qs) r)
 
 -- one more row was made of what is left
-pub flat_more : {X : Type 0} (rows rows' : List (List X)) (r left left' all : List X) → rows' ≡ rows ++ r ∷ [] → r ++ left' ≡ left → flat rows ++ left ≡ all → flat rows' ++ left' ≡ all
+pub flat_more : {X : Type 0} (rows rows' : List (List X)) (r left left' all : List X) → rows' ≡ rows ++ r ∷ [] → r ++ left' ≡ left →
+    flat rows ++ left ≡ all → flat rows' ++ left' ≡ all
 flat_more rows rows' r left left' all push next so_far =
-    ap (λ l. flat l ++ left') push ∙ (ap (λ l. l ++ left') (flat-push rows r) ∙ (append_assoc (flat rows) r left' ∙ (ap (λ l. flat rows ++ l) next ∙ so_far)))
+    ap (λ l. flat l ++ left') push ∙ (ap (λ l. l ++ left') (flat-push rows r)
+    ∙ (append_assoc (flat rows) r left' ∙ (ap (λ l. flat rows ++ l) next ∙ so_far)))
 
 pub one_more_row : (i n : ℕ) → (i + 1) * n ≡ i * n + n
 one_more_row i n = grind arith
@@ -27,7 +30,8 @@ length-flat n (r ∷ rs) wide =
     omega (arith, here, rest, one, more)
 
 -- the element at place b of row a is at place a * n + b
-pub flat-place : {X : Type 0} (n : ℕ) (rows : List (List X)) (a b : ℕ) (d : X) → All (λ r. length r ≡ n) rows → a < length rows → b < n → get_or (flat rows) (a * n + b) d ≡ get_or (get_or rows a []) b d
+pub flat-place : {X : Type 0} (n : ℕ) (rows : List (List X)) (a b : ℕ) (d : X) → All (λ r. length r ≡ n) rows → a < length rows → b < n →
+    get_or (flat rows) (a * n + b) d ≡ get_or (get_or rows a []) b d
 flat-place n [] a b d wide la lb = absurd (omega (arith, la))
 flat-place n (r ∷ rs) zero b d wide la lb =
     let here = All-head (λ r. length r ≡ n) r rs wide in
@@ -37,7 +41,9 @@ flat-place n (r ∷ rs) (suc a) b d wide la lb =
     let here = All-head (λ r. length r ≡ n) r rs wide in
     let more = one_more_row a n in
     let at : suc a * n + b ≡ length r + (a * n + b) = omega (arith, here, more) in
-    ap (λ i. get_or (r ++ flat rs) i d) at ∙ (get_or-append-add r (flat rs) (a * n + b) d ∙ flat-place n rs a b d (All-tail (λ r. length r ≡ n) r rs wide) (omega (arith, la)) lb)
+    ap (λ i. get_or (r ++ flat rs) i d) at
+    ∙ (get_or-append-add r (flat rs) (a * n + b) d
+    ∙ flat-place n rs a b d (All-tail (λ r. length r ≡ n) r rs wide) (omega (arith, la)) lb)
 
 -- two prefixes of a list are equal where they are as long
 split : {X : Type 0} (xs ys us vs : List X) → length xs ≡ length us → xs ++ ys ≡ us ++ vs → (xs ≡ us) × (ys ≡ vs)
@@ -51,7 +57,8 @@ split (x ∷ xs) ys (u ∷ us) vs n e =
     (ap (λ l. x ∷ l) h.0 ∙ ap (λ z. z ∷ us) same, h.1)
 
 -- rows of one width are told by the list that they make
-pub flat-same : {X : Type 0} (n : ℕ) (rows others : List (List X)) → All (λ r. length r ≡ n) rows → All (λ r. length r ≡ n) others → length rows ≡ length others → flat rows ≡ flat others → rows ≡ others
+pub flat-same : {X : Type 0} (n : ℕ) (rows others : List (List X)) → All (λ r. length r ≡ n) rows → All (λ r. length r ≡ n) others →
+    length rows ≡ length others → flat rows ≡ flat others → rows ≡ others
 flat-same n [] [] p q l e = refl
 flat-same n [] (s ∷ ss) p q l e = absurd (omega (arith, l))
 flat-same n (r ∷ rs) [] p q l e = absurd (omega (arith, l))

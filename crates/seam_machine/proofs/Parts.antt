@@ -11,15 +11,21 @@ same_net p w v a b =
     let n = ap length nodes in
     let P : ℕ → Type 0 = λ k. All (λ r. length r ≡ k) v.rows in
     let wide = subst P (sym n) b.square.links in
-    let rows = flat-same (length w.nodes) w.rows v.rows a.square.links wide (omega (arith, n, a.square.rows, b.square.rows)) (sym a.links ∙ b.links) in
+    let rows =
+    flat-same (length w.nodes) w.rows v.rows a.square.links wide (omega (arith, n, a.square.rows, b.square.rows)) (sym a.links
+    ∙ b.links) in
     ap (λ l. record { nodes = l; rows = w.rows }) nodes ∙ ap (λ l. record { nodes = v.nodes; rows = l }) rows
 
 pub parts_many : {N M : Type 0} (p : PartsView N M) (w : NetView N M) → AreParts p w → length p.links ≡ length p.nodes * length p.nodes
 parts_many p w a =
     let n : length w.nodes ≡ length p.nodes = sym (ap length a.nodes) in
-    ap length a.links ∙ (length-flat (length w.nodes) w.rows a.square.links ∙ (ap (λ k. k * length w.nodes) a.square.rows ∙ ap (λ k. k * k) n))
+    ap length a.links ∙ (length-flat (length w.nodes) w.rows a.square.links
+    ∙ (ap (λ k. k * length w.nodes) a.square.rows ∙ ap (λ k. k * k) n))
 
-pub parts_place : {N M : Type 0} (p : PartsView N M) (w : NetView N M) (a b : ℕ) → AreParts p w → a < length p.nodes → b < length p.nodes → get_or p.links (a * length p.nodes + b) [] ≡ link w.rows a b
+pub parts_place : {N M : Type 0} (p : PartsView N M) (w : NetView N M) (a b : ℕ) → AreParts p w → a < length p.nodes → b < length p.nodes →
+    get_or p.links (a * length p.nodes + b) [] ≡ link w.rows a b
 parts_place p w a b q la lb =
     let n = ap length q.nodes in
-    ap (λ l. get_or l (a * length p.nodes + b) []) q.links ∙ (ap (λ k. get_or (flat w.rows) (a * k + b) []) n ∙ flat-place (length w.nodes) w.rows a b [] q.square.links (omega (arith, la, n, q.square.rows)) (omega (arith, lb, n)))
+    ap (λ l. get_or l (a * length p.nodes + b) []) q.links
+    ∙ (ap (λ k. get_or (flat w.rows) (a * k + b) []) n
+    ∙ flat-place (length w.nodes) w.rows a b [] q.square.links (omega (arith, la, n, q.square.rows)) (omega (arith, lb, n)))

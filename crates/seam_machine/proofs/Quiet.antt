@@ -1,5 +1,6 @@
 -- A quiet net: every link is empty and no node has a task.
-use Rattle.std.proofs.Common.{◌≡◌, ℕ, zero, suc, ◌<◌, Bool, true, false, List, [], ◌∷◌, length, Option, None, Some, refl, sym, ap, ◌∙◌, arith}
+use Rattle.std.proofs.Common.{◌≡◌, ℕ, zero, suc, ◌<◌, Bool, true, false, List, [], ◌∷◌, length, Option, None, Some, refl, sym, ap, ◌∙◌}
+use Rattle.std.proofs.Common.{arith}
 use Rattle.std.specs.Prelude.{slice_get}
 use Rattle.seam_machine.specs.Views.{NetView}
 use Rattle.seam_machine.specs.Nets.{link, letter, input_from, is_ready, enabled, IsQuiet, IsSquare}
@@ -29,9 +30,12 @@ module _ {N M : Type 0} (has_work : N → Bool) (w : NetView N M) where
   quiet_links q quiet a b = empty_by q quiet a b (link w.rows a b) refl
 
   pub quiet_tasks : IsQuiet has_work w → EachNode (λ k s. has_work s ≡ false) w.nodes
-  quiet_tasks quiet k s h = let e : Event = record { node = k; from = None } in sym (ap (λ o. is_ready {M = M} has_work o (input_from w.rows k None)) h) ∙ quiet e
+  quiet_tasks quiet k s h =
+      let e : Event = record { node = k; from = None } in
+      sym (ap (λ o. is_ready {M = M} has_work o (input_from w.rows k None)) h) ∙ quiet e
 
-  not_ready : (k : ℕ) (o : Option N) (from : Option ℕ) → slice_get w.nodes k ≡ o → EachLink (λ a b l. l ≡ []) w.rows → EachNode (λ k s. has_work s ≡ false) w.nodes → is_ready has_work o (input_from w.rows k from) ≡ false
+  not_ready : (k : ℕ) (o : Option N) (from : Option ℕ) → slice_get w.nodes k ≡ o → EachLink (λ a b l. l ≡ []) w.rows →
+      EachNode (λ k s. has_work s ≡ false) w.nodes → is_ready has_work o (input_from w.rows k from) ≡ false
   not_ready k None from h empty idle = refl
   not_ready k (Some s) None h empty idle = idle k s h
   not_ready k (Some s) (Some a) h empty idle = ap (λ l. is_ready has_work (Some s) (letter a l)) (empty a k)

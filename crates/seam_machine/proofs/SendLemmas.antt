@@ -1,5 +1,6 @@
 -- Items that go to one node, counted one after the other.
-use Rattle.std.proofs.Common.{◌≡◌, ◌≢◌, ℕ, zero, suc, ◌+◌, ◌<◌, ◌≤◌, Bool, true, false, cond, eqb, List, [], ◌∷◌, ◌++◌, length, None, Some, get_or, take, refl, sym, ap, ◌∙◌, arith}
+use Rattle.std.proofs.Common.{◌≡◌, ◌≢◌, ℕ, zero, suc, ◌+◌, ◌<◌, ◌≤◌, Bool, true, false, cond, eqb, List, [], ◌∷◌, ◌++◌, length, None, Some}
+use Rattle.std.proofs.Common.{get_or, take, refl, sym, ap, ◌∙◌, arith}
 use Rattle.std.specs.Prelude.{slice_get}
 use Rattle.std.proofs.lemmas.Bool.Decides.{nat_tests}
 use Rattle.std.proofs.lemmas.List.{take_more, length-append}
@@ -7,23 +8,33 @@ use Rattle.seam_machine.specs.Sends.{items_to, first_target, AllBelow}
 
 pub items_to-append : {M : Type 0} (b : ℕ) (xs ys : List (ℕ × M)) → items_to b (xs ++ ys) ≡ items_to b xs ++ items_to b ys
 items_to-append b [] ys = refl
-items_to-append b (x ∷ xs) ys = elim (eqb x.0 b) as (λ t. cond t (x.1 ∷ items_to b (xs ++ ys)) (items_to b (xs ++ ys)) ≡ cond t (x.1 ∷ items_to b xs) (items_to b xs) ++ items_to b ys) [ true ↦ ap (λ l. x.1 ∷ l) (items_to-append b xs ys) | false ↦ items_to-append b xs ys ]
+items_to-append b (x ∷ xs) ys =
+    elim (eqb x.0 b) as (λ t. cond t (x.1 ∷ items_to b (xs ++ ys)) (items_to b (xs ++ ys))
+    ≡ cond t (x.1 ∷ items_to b xs) (items_to b xs) ++ items_to b ys) [
+      | true ↦ ap (λ l. x.1 ∷ l) (items_to-append b xs ys)
+      | false ↦ items_to-append b xs ys
+    ]
 
 one_of : {M : Type 0} (b : ℕ) (p : ℕ × M) (t : Bool) → eqb p.0 b ≡ t → items_to b (p ∷ []) ≡ cond t (p.1 ∷ []) []
 one_of b p t e = ap (λ y. cond y (p.1 ∷ []) []) e
 
 -- one more item is looked at
-items_step : {M : Type 0} (b : ℕ) (xs : List (ℕ × M)) (i : ℕ) (d : ℕ × M) (t : Bool) → i < length xs → eqb (get_or xs i d).0 b ≡ t → items_to b (take (i + 1) xs) ≡ items_to b (take i xs) ++ cond t ((get_or xs i d).1 ∷ []) []
-items_step b xs i d t h e = ap (items_to b) (take_more xs i d h) ∙ (items_to-append b (take i xs) (get_or xs i d ∷ []) ∙ ap (λ l. items_to b (take i xs) ++ l) (one_of b (get_or xs i d) t e))
+items_step : {M : Type 0} (b : ℕ) (xs : List (ℕ × M)) (i : ℕ) (d : ℕ × M) (t : Bool) → i < length xs → eqb (get_or xs i d).0 b ≡ t →
+    items_to b (take (i + 1) xs) ≡ items_to b (take i xs) ++ cond t ((get_or xs i d).1 ∷ []) []
+items_step b xs i d t h e =
+    ap (items_to b) (take_more xs i d h)
+    ∙ (items_to-append b (take i xs) (get_or xs i d ∷ []) ∙ ap (λ l. items_to b (take i xs) ++ l) (one_of b (get_or xs i d) t e))
 
-pub count_yes : {M : Type 0} (b : ℕ) (xs : List (ℕ × M)) (i : ℕ) (d : ℕ × M) → i < length xs → (get_or xs i d).0 ≡ b → length (items_to b (take (i + 1) xs)) ≡ length (items_to b (take i xs)) + 1
+pub count_yes : {M : Type 0} (b : ℕ) (xs : List (ℕ × M)) (i : ℕ) (d : ℕ × M) → i < length xs → (get_or xs i d).0 ≡ b →
+    length (items_to b (take (i + 1) xs)) ≡ length (items_to b (take i xs)) + 1
 count_yes b xs i d h e =
     let t : eqb (get_or xs i d).0 b ≡ true = grind (arith, nat_tests) in
     let one = ap length (items_step b xs i d true h t) in
     let two = length-append (items_to b (take i xs)) ((get_or xs i d).1 ∷ []) in
     omega (arith, one, two)
 
-pub count_no : {M : Type 0} (b : ℕ) (xs : List (ℕ × M)) (i : ℕ) (d : ℕ × M) → i < length xs → (get_or xs i d).0 ≢ b → length (items_to b (take (i + 1) xs)) ≡ length (items_to b (take i xs))
+pub count_no : {M : Type 0} (b : ℕ) (xs : List (ℕ × M)) (i : ℕ) (d : ℕ × M) → i < length xs → (get_or xs i d).0 ≢ b →
+    length (items_to b (take (i + 1) xs)) ≡ length (items_to b (take i xs))
 count_no b xs i d h e =
     let t : eqb (get_or xs i d).0 b ≡ false = grind (arith, nat_tests) in
     let one = ap length (items_step b xs i d false h t) in
@@ -31,14 +42,17 @@ count_no b xs i d h e =
     omega (arith, one, two)
 
 -- the item at the place that was counted so far
-item_here : {M : Type 0} (b : ℕ) (xs : List (ℕ × M)) (k : ℕ) (d : ℕ × M) → k < length xs → (get_or xs k d).0 ≡ b → slice_get (items_to b xs) (length (items_to b (take k xs))) ≡ Some (get_or xs k d).1
+item_here : {M : Type 0} (b : ℕ) (xs : List (ℕ × M)) (k : ℕ) (d : ℕ × M) → k < length xs → (get_or xs k d).0 ≡ b →
+    slice_get (items_to b xs) (length (items_to b (take k xs))) ≡ Some (get_or xs k d).1
 item_here b [] k d h e = absurd (omega (arith, h))
 item_here b (p ∷ ps) zero d h e = let t : eqb p.0 b ≡ true = grind (arith, nat_tests) in rw t refl
 item_here b (p ∷ ps) (suc k) d h e =
     let rest = item_here b ps k d (omega (arith, h)) e in
-    elim (eqb p.0 b) as (λ t. slice_get (cond t (p.1 ∷ items_to b ps) (items_to b ps)) (length (cond t (p.1 ∷ items_to b (take k ps)) (items_to b (take k ps)))) ≡ Some (get_or ps k d).1) [ true ↦ rest | false ↦ rest ]
+    elim (eqb p.0 b) as (λ t. slice_get (cond t (p.1 ∷ items_to b ps) (items_to b ps))
+    (length (cond t (p.1 ∷ items_to b (take k ps)) (items_to b (take k ps)))) ≡ Some (get_or ps k d).1) [ true ↦ rest | false ↦ rest ]
 
-pub found_here : {M : Type 0} (b : ℕ) (xs : List (ℕ × M)) (k n i : ℕ) (x : ℕ × M) → k < length xs → x ≡ get_or xs k x → x.0 ≡ b → n ≡ length (items_to b (take k xs)) → n ≡ i → Some x.1 ≡ slice_get (items_to b xs) i
+pub found_here : {M : Type 0} (b : ℕ) (xs : List (ℕ × M)) (k n i : ℕ) (x : ℕ × M) → k < length xs → x ≡ get_or xs k x → x.0 ≡ b →
+    n ≡ length (items_to b (take k xs)) → n ≡ i → Some x.1 ≡ slice_get (items_to b xs) i
 found_here b xs k n i x h r e c s =
     sym (item_here b xs k x h (sym (ap (λ p. p.0) r) ∙ e) ∙ ap (λ p. Some p.1) (sym r)) ∙ ap (slice_get (items_to b xs)) (sym c ∙ s)
 

@@ -10,10 +10,12 @@ total-append f (x ∷ xs) ys = let e = total-append f xs ys in omega (arith, e)
 pub total-push : {X : Type 0} (f : X → ℕ) (xs : List X) (y : X) → total f (xs ++ y ∷ []) ≡ total f xs + f y
 total-push f xs y = let e = total-append f xs (y ∷ []) in omega (arith, e)
 
-pub total-take : {X : Type 0} (f : X → ℕ) (xs : List X) (i : ℕ) (d : X) → i < length xs → total f (take (i + 1) xs) ≡ total f (take i xs) + f (get_or xs i d)
+pub total-take : {X : Type 0} (f : X → ℕ) (xs : List X) (i : ℕ) (d : X) → i < length xs →
+    total f (take (i + 1) xs) ≡ total f (take i xs) + f (get_or xs i d)
 total-take f xs i d h = ap (total f) (take_more xs i d h) ∙ total-push f (take i xs) (get_or xs i d)
 
-pub total-set : {X : Type 0} (f : X → ℕ) (xs : List X) (i : ℕ) (y d : X) → i < length xs → total f (set xs i y) + f (get_or xs i d) ≡ total f xs + f y
+pub total-set : {X : Type 0} (f : X → ℕ) (xs : List X) (i : ℕ) (y d : X) → i < length xs →
+    total f (set xs i y) + f (get_or xs i d) ≡ total f xs + f y
 total-set f [] i y d h = absurd (omega (arith, h))
 total-set f (x ∷ xs) zero y d h = omega arith
 total-set f (x ∷ xs) (suc i) y d h = let e = total-set f xs i y d (omega (arith, h)) in omega (arith, e)
@@ -32,7 +34,8 @@ total-le-length f [] one = omega arith
 total-le-length f (x ∷ xs) one = let e = total-le-length f xs one in let h = one x in omega (arith, e, h)
 
 -- where each weighs at most 1, the others weigh less than there are elements
-pub total-le-others : {X : Type 0} (f : X → ℕ) (xs : List X) (i : ℕ) (d : X) → ((x : X) → f x ≤ 1) → i < length xs → total f xs + 1 ≤ length xs + f (get_or xs i d)
+pub total-le-others : {X : Type 0} (f : X → ℕ) (xs : List X) (i : ℕ) (d : X) → ((x : X) → f x ≤ 1) → i < length xs →
+    total f xs + 1 ≤ length xs + f (get_or xs i d)
 total-le-others f [] i d one h = absurd (omega (arith, h))
 total-le-others f (x ∷ xs) zero d one h = let e = total-le-length f xs one in omega (arith, e)
 total-le-others f (x ∷ xs) (suc i) d one h = let e = total-le-others f xs i d one (omega (arith, h)) in let k = one x in omega (arith, e, k)

@@ -1,5 +1,6 @@
 -- What a list is after one place was written.
-use Rattle.std.proofs.Common.{◌≡◌, ℕ, zero, suc, ◌+◌, ◌<◌, ◌≤◌, ◌⊎◌, List, [], ◌∷◌, ◌++◌, length, Some, get_or, set, refl, ap, arith, inl, inr}
+use Rattle.std.proofs.Common.{◌≡◌, ℕ, zero, suc, ◌+◌, ◌<◌, ◌≤◌, ◌⊎◌, List, [], ◌∷◌, ◌++◌, length, Some, get_or, set, refl, ap, arith, inl}
+use Rattle.std.proofs.Common.{inr}
 use Rattle.std.specs.Prelude.{slice_get}
 use Rattle.std.specs.List.{All}
 use Rattle.std.proofs.lemmas.Bool.{cases_eq}
@@ -21,12 +22,14 @@ written (x ∷ xs) (suc i) v d (suc j) = elim (written xs i v d j) [
 ]
 
 -- the element at each place, after one was replaced
-pub slice_get-set : {X : Type 0} (xs : List X) (k : ℕ) (y : X) (j : ℕ) → k < length xs → ((j ≡ k) × (slice_get (set xs k y) j ≡ Some y)) ⊎ ((j ≡ k → ⊥) × (slice_get (set xs k y) j ≡ slice_get xs j))
+pub slice_get-set : {X : Type 0} (xs : List X) (k : ℕ) (y : X) (j : ℕ) → k < length xs →
+    ((j ≡ k) × (slice_get (set xs k y) j ≡ Some y)) ⊎ ((j ≡ k → ⊥) × (slice_get (set xs k y) j ≡ slice_get xs j))
 slice_get-set [] k y j lt = absurd (omega (arith, lt))
 slice_get-set (x ∷ xs) zero y zero lt = inl (refl, refl)
 slice_get-set (x ∷ xs) zero y (suc j) lt = inr ((λ e. omega (arith, e)), refl)
 slice_get-set (x ∷ xs) (suc k) y zero lt = inr ((λ e. omega (arith, e)), refl)
-slice_get-set (x ∷ xs) (suc k) y (suc j) lt = elim (slice_get-set xs k y j (omega (arith, lt))) [ inl h ↦ inl (ap suc h.0, h.1) | inr h ↦ inr ((λ e. h.0 (omega (arith, e))), h.1) ]
+slice_get-set (x ∷ xs) (suc k) y (suc j) lt =
+    elim (slice_get-set xs k y j (omega (arith, lt))) [ inl h ↦ inl (ap suc h.0, h.1) | inr h ↦ inr ((λ e. h.0 (omega (arith, e))), h.1) ]
 
 pub set_here : {X : Type 0} (xs : List X) (k : ℕ) (y : X) → k < length xs → slice_get (set xs k y) k ≡ Some y
 set_here xs k y lt = elim (slice_get-set xs k y k lt) [ inl h ↦ h.1 | inr h ↦ absurd (h.0 refl) ]

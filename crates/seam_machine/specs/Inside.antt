@@ -1,5 +1,6 @@
 -- What a net keeps of its fields.
-use Rattle.std.specs.Prelude.{◌≡◌, ℕ, ◌+◌, ◌<◌, ◌≤◌, Bool, true, false, List, [], ◌∷◌, ◌++◌, length, Option, Some, slice_index_or, slice_set}
+use Rattle.std.specs.Prelude.{◌≡◌, ℕ, ◌+◌, ◌<◌, ◌≤◌, Bool, true, false, List, [], ◌∷◌, ◌++◌, length, Option, Some, slice_index_or}
+use Rattle.std.specs.Prelude.{slice_set}
 use Rattle.std.specs.List.{All}
 use Rattle.seam_machine.specs.Views.{Stepped, NetView}
 use Rattle.seam_machine.specs.Sends.{AllBelow}
@@ -30,7 +31,8 @@ abbrev pub CountsFit : {M : Type 0} → List ℕ → List (List M) → Type 0
 CountsFit busy row = (b : ℕ) → slice_index_or busy b 0 ≤ 254 + filled (slice_index_or row b [])
 
 -- the first of the items went to the ends of their links, and the counts grew as links were filled
-pub record Delivers {M : Type 0} (row : List (List M)) (items : List (ℕ × M)) (busy : List ℕ) (row' : List (List M)) (items' : List (ℕ × M)) (busy' : List ℕ) : Type 0 where
+pub record Delivers {M : Type 0} (row : List (List M)) (items : List (ℕ × M)) (busy : List ℕ) (row' : List (List M)) (items' : List (ℕ × M))
+    (busy' : List ℕ) : Type 0 where
   pub moved : put_all row' items' ≡ put_all row items
   pub wide : length row' ≡ length row
   pub busy_len : length busy' ≡ length busy
@@ -49,13 +51,15 @@ pub record IsLinks {M : Type 0} (rows : List (List (List M))) (busy : List ℕ) 
   pub sender_in : 0 < length rows → sender < length rows
 
 -- the first of the items, which goes to node `to`, is at the end of its link
-pub record PutsFirst {M : Type 0} (to : ℕ) (row : List (List M)) (items : List (ℕ × M)) (row' : List (List M)) (items' : List (ℕ × M)) : Type 0 where
+pub record PutsFirst {M : Type 0} (to : ℕ) (row : List (List M)) (items : List (ℕ × M)) (row' : List (List M))
+    (items' : List (ℕ × M)) : Type 0 where
   pub item : M
   pub items_are : items ≡ (to, item) ∷ items'
   pub row_is : row' ≡ slice_set row to (slice_index_or row to [] ++ item ∷ [])
 
 -- the node was fed the first item of its link, and sent what its step sends
-pub record Serves {N M : Type 0} (steps : N → Input M → Stepped N M) (from to : ℕ) (row : List (List M)) (s : N) (out : List (ℕ × M)) (row' : List (List M)) (s' : N) (out' : List (ℕ × M)) : Type 0 where
+pub record Serves {N M : Type 0} (steps : N → Input M → Stepped N M) (from to : ℕ) (row : List (List M)) (s : N) (out : List (ℕ × M))
+    (row' : List (List M)) (s' : N) (out' : List (ℕ × M)) : Type 0 where
   pub input : Input M
   pub is_fed : letter from (slice_index_or row to []) ≡ Some input
   pub row_is : row' ≡ row_less row to
@@ -63,7 +67,8 @@ pub record Serves {N M : Type 0} (steps : N → Input M → Stepped N M) (from t
   pub out_is : out' ≡ out ++ (steps s input).sent
 
 -- node k was fed its input, and what its step sent is in its links
-pub record Feeds {N M : Type 0} (steps : N → Input M → Stepped N M) (k : ℕ) (from : Option ℕ) (rows : List (List (List M))) (s : N) (rows' : List (List (List M))) (s' : N) : Type 0 where
+pub record Feeds {N M : Type 0} (steps : N → Input M → Stepped N M) (k : ℕ) (from : Option ℕ) (rows : List (List (List M))) (s : N)
+    (rows' : List (List (List M))) (s' : N) : Type 0 where
   pub input : Input M
   pub is_fed : input_from rows k from ≡ Some input
   pub state_is : s' ≡ (steps s input).state

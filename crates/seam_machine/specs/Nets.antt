@@ -1,5 +1,6 @@
 -- Nets of machines: an event, when it is enabled, what it does, a run of events, and a quiet net.
-use Rattle.std.specs.Prelude.{◌≡◌, ℕ, Bool, true, false, List, [], ◌∷◌, ◌++◌, length, Option, None, Some, slice_get, slice_index_or, slice_set, drop}
+use Rattle.std.specs.Prelude.{◌≡◌, ℕ, Bool, true, false, List, [], ◌∷◌, ◌++◌, length, Option, None, Some, slice_get, slice_index_or}
+use Rattle.std.specs.Prelude.{slice_set, drop}
 use Rattle.std.specs.List.{All}
 use Rattle.seam_machine.specs.Views.{Stepped, NetView, PartsView}
 use Rattle.seam_machine.specs.declared.machines.Input.{Input}
@@ -82,7 +83,8 @@ AllEnabled has_work steps w [] = Unit {0}
 AllEnabled has_work steps w (e ∷ es) = (enabled has_work w e ≡ true) × AllEnabled has_work steps (happens steps w e) es
 
 -- the events, each enabled in turn, lead from one net to the other
-pub record LeadsTo {N M : Type 0} (has_work : N → Bool) (steps : N → Input M → Stepped N M) (w : NetView N M) (events : List Event) (v : NetView N M) : Type 0 where
+pub record LeadsTo {N M : Type 0} (has_work : N → Bool) (steps : N → Input M → Stepped N M) (w : NetView N M) (events : List Event)
+    (v : NetView N M) : Type 0 where
   pub each : AllEnabled has_work steps w events
   pub is_run : v ≡ run steps w events
 

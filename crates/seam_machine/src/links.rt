@@ -1,6 +1,7 @@
 //! The links of a net, and what waits for room in them.
 
-ghost use Rattle.std.specs.Prelude.{◌≡◌, ℕ, ◌+◌, ◌-◌, ◌<◌, ◌≤◌, ◌^◌, List, [], ◌∷◌, ◌++◌, length, true, Some, None, OnOk, OnErr, IfOk, IfSome, IfNone, option_copied, slice_get, slice_index, slice_index_or, slice_set, vec_len};
+ghost use Rattle.std.specs.Prelude.{◌≡◌, ℕ, ◌+◌, ◌-◌, ◌<◌, ◌≤◌, ◌^◌, List, [], ◌∷◌, ◌++◌, length, true, Some, None, OnOk, OnErr, IfOk};
+ghost use Rattle.std.specs.Prelude.{IfSome, IfNone, option_copied, slice_get, slice_index, slice_index_or, slice_set, vec_len};
 ghost use Rattle.std.specs.List.{All};
 ghost use Rattle.seam_machine.specs.Sends.{AllBelow};
 ghost use Rattle.seam_machine.specs.Nets.{link};

@@ -1,6 +1,7 @@
 //! Nets: nodes, and a link for each ordered pair of them.
 
-ghost use Rattle.std.specs.Prelude.{◌≡◌, ◌≢◌, ℕ, ◌+◌, ◌*◌, ◌<◌, ◌≤◌, [], ◌∷◌, ◌↔◌, length, true, false, Option, Some, None, IsTrue, OnOk, OnErr, IfOk, IfSome, IfNone, map, option_copied, replicate, slice_get, slice_index_or, vec_len};
+ghost use Rattle.std.specs.Prelude.{◌≡◌, ◌≢◌, ℕ, ◌+◌, ◌*◌, ◌<◌, ◌≤◌, [], ◌∷◌, ◌↔◌, length, true, false, Option, Some, None, IsTrue, OnOk};
+ghost use Rattle.std.specs.Prelude.{OnErr, IfOk, IfSome, IfNone, map, option_copied, replicate, slice_get, slice_index_or, vec_len};
 ghost use Rattle.std.specs.List.{All};
 ghost use Rattle.seam_machine.specs.Views.{NetView, PartsView};
 ghost use Rattle.seam_machine.specs.Nets.{link, flat, enabled, happens, with_node, IsQuiet, IsSquare, ArePeers, AreParts};

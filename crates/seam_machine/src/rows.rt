@@ -1,6 +1,7 @@
 //! The links from one node.
 
-ghost use Rattle.std.specs.Prelude.{◌≡◌, ◌+◌, ◌<◌, ◌≤◌, ◌^◌, List, [], ◌∷◌, ◌++◌, length, replicate, OnOk, OnErr, IfOk, option_copied, slice_get, slice_index_or, slice_set, map, drop, Some};
+ghost use Rattle.std.specs.Prelude.{◌≡◌, ◌+◌, ◌<◌, ◌≤◌, ◌^◌, List, [], ◌∷◌, ◌++◌, length, replicate, OnOk, OnErr, IfOk, option_copied};
+ghost use Rattle.std.specs.Prelude.{slice_get, slice_index_or, slice_set, map, drop, Some};
 ghost use Rattle.std.specs.VecDeque.{deque_len};
 ghost use Rattle.seam_machine.specs.Sends.{first_target, AllBelow};
 ghost use Rattle.seam_machine.specs.Inside.{Serves, PutsFirst};

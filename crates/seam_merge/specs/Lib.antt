@@ -1,3 +1,3 @@
-pub mod Deeds
+pub mod Acts
 pub mod Moves
 pub mod Joined

@@ -1,5 +1,6 @@
 -- Rows of links, as they are made.
-use Rattle.std.proofs.Common.{◌≡◌, ℕ, zero, suc, ◌+◌, ◌<◌, List, [], ◌∷◌, ◌++◌, length, Some, get_or, drop, map, refl, sym, ap, ◌∙◌, arith, inl, inr}
+use Rattle.std.proofs.Common.{◌≡◌, ℕ, zero, suc, ◌+◌, ◌<◌, List, [], ◌∷◌, ◌++◌, length, Some, get_or, drop, map, refl, sym, ap, ◌∙◌, arith}
+use Rattle.std.proofs.Common.{inl, inr}
 use Rattle.std.specs.Prelude.{slice_get}
 use Rattle.std.proofs.lemmas.Bool.{cases_eq}
 use Rattle.std.proofs.lemmas.List.{get_or-drop}
@@ -11,9 +12,9 @@ use Rattle.seam_mesh.specs.Mesh.{AreFull, AreLinked, at_start}
 use Rattle.seam_mesh.specs.Parts.{Reached}
 use Rattle.seam_mesh.proofs.Places.{pushed}
 
-pub at_start-append : {T : Type 0} (xs ys : List T) → at_start (xs ++ ys) ≡ at_start xs ++ at_start ys
-at_start-append [] ys = refl
-at_start-append (x ∷ xs) ys = ap (λ l. record { stamp = 0; item = x } ∷ l) (at_start-append xs ys)
+pub at_start_append : {T : Type 0} (xs ys : List T) → at_start (xs ++ ys) ≡ at_start xs ++ at_start ys
+at_start_append [] ys = refl
+at_start_append (x ∷ xs) ys = ap (λ l. record { stamp = 0; item = x } ∷ l) (at_start_append xs ys)
 
 drop_none : {X : Type 0} (k : ℕ) → drop {A = X} k [] ≡ []
 drop_none zero = refl
@@ -80,10 +81,13 @@ module _ {T H : Type 0} where
   }
 
   none_within : (a : ℕ) (os : List (OutView (Letter T) H)) (b : ℕ) → b < length os → (0 < a → length os ≡ 0) → (a ≡ 0 → length os ≡ 0) → ⊥
-  none_within a os b lt few few' = elim (cases_eq a 0) [ inl h ↦ omega (arith, lt, few' h) | inr h ↦ omega (arith, lt, few (omega (arith, h))) ]
+  none_within a os b lt few few' =
+      elim (cases_eq a 0) [ inl h ↦ omega (arith, lt, few' h) | inr h ↦ omega (arith, lt, few (omega (arith, h))) ]
 
   pub linked_none : (n : ℕ) (links : List (List T)) (ends : List (EndsView T H)) → Reached n 0 0 ends → AreLinked n links ends
-  linked_none n links ends r a b o i (e, at, is) end = absurd (let within = slice_get_within e.outs b o is in let few = r.outs_high a e at in let few' = r.outs_here a e at in none_within a e.outs b within few few')
+  linked_none n links ends r a b o i (e, at, is) end =
+      absurd (let within = slice_get_within e.outs b o is in let few = r.outs_high a e at in let few' = r.outs_here a e at in
+      none_within a e.outs b within few few')
 
   pub row_reached : (n a : ℕ) (ends : List (EndsView T H)) → Reached n (a + 1) 0 ends → Reached n a n ends
   row_reached n a ends r = record {

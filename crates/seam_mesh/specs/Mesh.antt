@@ -2,7 +2,7 @@
 use Rattle.std.specs.Prelude.{◌≡◌, ℕ, ◌+◌, ◌*◌, List, [], ◌∷◌, ◌++◌, length, drop, Option, None, Some, slice_get, slice_index_or}
 use Rattle.seam_link.specs.Ends.{InView, OutView}
 use Rattle.seam_stamp.specs.declared.Letter.{Letter}
-use Rattle.seam_merge.specs.Deeds.{taken_by, items}
+use Rattle.seam_merge.specs.Acts.{taken_by, items}
 use Rattle.seam_logged.specs.Logs.{EndsView}
 
 -- letters that were there at the start have the stamp 0
@@ -25,7 +25,8 @@ pub record AreFull {T H : Type 0} (n : ℕ) (ends : List (EndsView T H)) : Type 
 
 -- both ends of a link have one ring
 abbrev pub ArePaired : {T H : Type 0} → List (EndsView T H) → Type 0
-ArePaired {T} {H} ends = (a b : ℕ) (o : OutView (Letter T) H) (i : InView (Letter T) H) → IsOut ends a b o → IsIn ends a b i → o.ring ≡ i.ring
+ArePaired {T} {H} ends =
+    (a b : ℕ) (o : OutView (Letter T) H) (i : InView (Letter T) H) → IsOut ends a b o → IsIn ends a b i → o.ring ≡ i.ring
 
 -- both ends of a new link, into which these letters were put
 pub record IsNew {T H : Type 0} (letters : List T) (o : OutView (Letter T) H) (i : InView (Letter T) H) : Type 0 where
@@ -35,14 +36,17 @@ pub record IsNew {T H : Type 0} (letters : List T) (o : OutView (Letter T) H) (i
 
 -- the link from a to b is a new one, with the letters at place a * n + b
 abbrev pub AreLinked : {T H : Type 0} → ℕ → List (List T) → List (EndsView T H) → Type 0
-AreLinked {T} {H} n links ends = (a b : ℕ) (o : OutView (Letter T) H) (i : InView (Letter T) H) → IsOut ends a b o → IsIn ends a b i → IsNew (slice_index_or links (a * n + b) []) o i
+AreLinked {T} {H} n links ends =
+    (a b : ℕ) (o : OutView (Letter T) H) (i : InView (Letter T) H) → IsOut ends a b o → IsIn ends a b i →
+    IsNew (slice_index_or links (a * n + b) []) o i
 
 -- the letters of the link from a to b that no step received: first the letter in the receiver's hand, where it came from a, and then
 -- what was put into the link and not taken from it
-pub record IsCell {T H : Type 0} (ends : List (EndsView T H)) (hands : List (Option (ℕ × Letter T))) (a b : ℕ) (link : List T) : Type 0 where
-  pub out : OutView (Letter T) H
-  pub end : InView (Letter T) H
-  pub is_out : IsOut ends a b out
-  pub is_in : IsIn ends a b end
-  pub met : end.taken ++ drop (length end.taken) out.put ≡ out.put
-  pub link_is : link ≡ items (taken_by a (slice_index_or hands b None) ++ drop (length end.taken) out.put)
+pub record IsCell {T H : Type 0} (ends : List (EndsView T H)) (hands : List (Option (ℕ × Letter T))) (a b : ℕ) (link : List T) : Type 0
+  where
+    pub out : OutView (Letter T) H
+    pub end : InView (Letter T) H
+    pub is_out : IsOut ends a b out
+    pub is_in : IsIn ends a b end
+    pub met : end.taken ++ drop (length end.taken) out.put ≡ out.put
+    pub link_is : link ≡ items (taken_by a (slice_index_or hands b None) ++ drop (length end.taken) out.put)

@@ -1,6 +1,6 @@
 -- Some of the links of a net.
 use Rattle.std.specs.Prelude.{◌≡◌, ℕ, ◌+◌, ◌<◌, ◌≤◌, ◌⊎◌, List, length, Option, None, Some, slice_get, slice_index_or}
-use Rattle.seam_merge.specs.Deeds.{taken_by}
+use Rattle.seam_merge.specs.Acts.{taken_by}
 use Rattle.seam_link.specs.Ends.{InView, OutView}
 use Rattle.seam_stamp.specs.declared.Letter.{Letter}
 use Rattle.seam_logged.specs.Logs.{EndsView}
@@ -25,7 +25,8 @@ abbrev pub Below : ℕ → ℕ → ℕ → ℕ → Type 0
 Below a b c d = (c < a) ⊎ ((c ≡ a) × (d < b))
 
 -- some of the ends and hands remain: all that is there of the links before that from a to b
-pub record Remaining {T H : Type 0} (n a b : ℕ) (ends : List (EndsView T H)) (hands : List (Option (ℕ × Letter T))) (ends' : List (EndsView T H)) (hands' : List (Option (ℕ × Letter T))) : Type 0 where
+pub record Remaining {T H : Type 0} (n a b : ℕ) (ends : List (EndsView T H)) (hands : List (Option (ℕ × Letter T)))
+    (ends' : List (EndsView T H)) (hands' : List (Option (ℕ × Letter T))) : Type 0 where
   pub reached : Reached n a b ends'
   pub within : AreWithin ends' ends
   pub many : length hands' ≡ length hands

@@ -4,10 +4,11 @@
 //! With n nodes, the link from a to b is at place `a * n + b` of a list of links. Of `proofs/`, `Places` is for callers.
 #![tactic(auto)]
 
-ghost use Rattle.std.specs.Prelude.{◌≡◌, ◌≢◌, ℕ, ◌+◌, ◌*◌, ◌<◌, ◌≤◌, ◌⊎◌, List, [], ◌∷◌, ◌++◌, length, drop, map, OnOk, IfOk, slice_index_or};
+ghost use Rattle.std.specs.Prelude.{◌≡◌, ◌≢◌, ℕ, ◌+◌, ◌*◌, ◌<◌, ◌≤◌, ◌⊎◌, List, [], ◌∷◌, ◌++◌, length, drop, map, OnOk, IfOk};
+ghost use Rattle.std.specs.Prelude.{slice_index_or};
 ghost use Rattle.std.specs.Option.{option_to_list};
 ghost use Rattle.seam_stamp.specs.declared.Letter.{Letter};
-ghost use Rattle.seam_merge.specs.Deeds.{taken_by, items};
+ghost use Rattle.seam_merge.specs.Acts.{taken_by, items};
 ghost use Rattle.seam_mesh.specs.Mesh.{IsOut, IsIn, AreFull, AreLinked, ArePaired, IsCell, at_start};
 ghost use Rattle.seam_mesh.specs.Parts.{Reached, Remaining, IsRow};
 
@@ -17,8 +18,9 @@ use seam_stamp::Letter;
 use std::alloc::{AllocError, Global};
 use std::collections::VecDeque;
 
-/// How many letters a link's ring has room for; more wait in its spill.
-pub const RING_CAPACITY: u32 = 64;
+/// How many letters a link's ring has room for; more wait in its spill. The rings of all pairs of nodes are made for each run, and
+/// fresh memory for larger ones would cost more than the way through the spill.
+pub const RING_CAPACITY: u32 = 8;
 
 /// The ends of the links of n nodes, into which the letters were put, each with the stamp 0.
 pub fn linked<T: Drop>(
@@ -147,7 +149,8 @@ fn meet_row<T: Drop>(
     requires reached { Reached (length ends.old.items) (from + 1) 0 ends.old.items }
     requires paired { ArePaired ends.old.items }
     requires hands { length hands.old.items ≡ length ends.old.items }
-    ensures remaining { OnOk result (Remaining (length ends.old.items) from 0 ends.old.items hands.old.items ends.new.items hands.new.items) }
+    ensures remaining { OnOk result (Remaining (length ends.old.items) from 0 ends.old.items hands.old.items
+        ends.new.items hands.new.items) }
     ensures row { OnOk result ((row : List (List T)) × (map (λ l. l.items) links.new.items ≡ row ++ map (λ l. l.items) links.old.items)
         × (length row ≡ length ends.old.items) × IsRow ends.old.items hands.old.items from 0 row) }
 {
@@ -173,7 +176,8 @@ fn meet_link<T: Drop>(
     requires reached { Reached (length ends.old.items) from (to + 1) ends.old.items }
     requires paired { ArePaired ends.old.items }
     requires hands { length hands.old.items ≡ length ends.old.items }
-    ensures remaining { OnOk result (Remaining (length ends.old.items) from to ends.old.items hands.old.items ends.new.items hands.new.items) }
+    ensures remaining { OnOk result (Remaining (length ends.old.items) from to ends.old.items hands.old.items
+        ends.new.items hands.new.items) }
     ensures cell { IfOk result (λ l. IsCell ends.old.items hands.old.items from to l.items) }
 {
     let Some(out) = ends[from].outs.pop() else {

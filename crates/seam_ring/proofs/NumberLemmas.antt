@@ -27,7 +27,8 @@ one_sent to n = record {
   others = λ j ne. ap (letters_of Some) (sees_one_there Some to j n ne);
 }
 
-task_moves : (k : ℕ) (c : CounterView) (o : Option ℕ) → c.given ≡ o → NumberMoves k c None (task_steps c o).state (λ j. letters_of Some (items_to j (task_steps c o).sent))
+task_moves : (k : ℕ) (c : CounterView) (o : Option ℕ) → c.given ≡ o →
+    NumberMoves k c None (task_steps c o).state (λ j. letters_of Some (items_to j (task_steps c o).sent))
 task_moves k c None e = still refl refl (λ j. refl)
 task_moves k c (Some n) e = leaves n n c.next e refl (inl refl) refl (one_sent c.next n)
 
@@ -35,21 +36,28 @@ passed_moves : (k : ℕ) (c : CounterView) (n : ℕ) → (n ≡ 0 → ⊥) → N
 passed_moves k c zero h = absurd (h refl)
 passed_moves k c (suc n) h = relays (suc n) n c.next refl refl (inr (omega arith)) (one_sent c.next n)
 
-step_moves : (k : ℕ) (c : CounterView) (i : Input ℕ) → ((a : ℕ) → i ≡ From a 0 → ⊥) → NumberMoves k c (letter_in Some i) (counter_steps c i).state (λ j. letters_of Some (items_to j (counter_steps c i).sent))
+step_moves : (k : ℕ) (c : CounterView) (i : Input ℕ) → ((a : ℕ) → i ≡ From a 0 → ⊥) →
+    NumberMoves k c (letter_in Some i) (counter_steps c i).state (λ j. letters_of Some (items_to j (counter_steps c i).sent))
 step_moves k c Task h = task_moves k c c.given refl
 step_moves k c (From a n) h = passed_moves k c n (λ e. h a (ap (From a) e))
 
-number_goes : (w : NetView CounterView ℕ) (e : Event) (o : Occurs w e) → IsSoundNet w → ((a : ℕ) → input_from w.rows e.node e.from ≡ Some (From a 0) → ⊥) → Goes NumberMoves (numbers w) (numbers (happens counter_steps w e))
-number_goes w e o q h = event_goes Some (λ c. c) no_counter NumberMoves counter_steps w e o q.square (sound_sends counter_laws w e o q) (step_moves e.node o.node o.input (λ a f. h a (o.is_fed ∙ ap Some f)))
+number_goes : (w : NetView CounterView ℕ) (e : Event) (o : Occurs w e) → IsSoundNet w →
+    ((a : ℕ) → input_from w.rows e.node e.from ≡ Some (From a 0) → ⊥) → Goes NumberMoves (numbers w) (numbers (happens counter_steps w e))
+number_goes w e o q h =
+    event_goes Some (λ c. c) no_counter NumberMoves counter_steps w e o q.square (sound_sends counter_laws w e o q)
+    (step_moves e.node o.node o.input (λ a f. h a (o.is_fed ∙ ap Some f)))
 
-pub one_stays : (w : NetView CounterView ℕ) (e : Event) → IsSoundNet w → enabled counter_work w e ≡ true → ((a : ℕ) → input_from w.rows e.node e.from ≡ Some (From a 0) → ⊥) → number_count w ≡ 1 → number_count (happens counter_steps w e) ≡ 1
+pub one_stays : (w : NetView CounterView ℕ) (e : Event) → IsSoundNet w → enabled counter_work w e ≡ true →
+    ((a : ℕ) → input_from w.rows e.node e.from ≡ Some (From a 0) → ⊥) → number_count w ≡ 1 → number_count (happens counter_steps w e) ≡ 1
 one_stays w e q on h one =
     let o = occurs counter_work w e on in
     let g = number_goes w e o q h in
     let f = one_counted (λ c. c) no_counter Some given Some w refl one in
-    sole_counts (λ c. c) no_counter Some given Some (happens counter_steps w e) refl (place_after g.k g.moves f.0) (token_after g.moves f.1) (sole_goes given Some Lowered g f.0 f.1 f.2 g.moves)
+    sole_counts (λ c. c) no_counter Some given Some (happens counter_steps w e) refl (place_after g.k g.moves f.0) (token_after g.moves f.1)
+    (sole_goes given Some Lowered g f.0 f.1 f.2 g.moves)
 
-pub one_falls : (top : ℕ) {w v : Flow CounterView ℕ} → Goes NumberMoves w v → HasOne given Some (λ n. n ≤ top) w → HasOne given Some (λ n. n ≤ top) v
+pub one_falls : (top : ℕ) {w v : Flow CounterView ℕ} → Goes NumberMoves w v → HasOne given Some (λ n. n ≤ top) w →
+    HasOne given Some (λ n. n ≤ top) v
 one_falls top g h = one_goes given Some Lowered (λ n. n ≤ top) (λ n m low less. omega (arith, low, less)) g h g.moves
 
 task_alone : (c : CounterView) (o : Option ℕ) → alone (task_steps c o).state ≡ (task_steps (alone c) o).state
@@ -72,5 +80,8 @@ sent_alone : (c : CounterView) (i : Input ℕ) → (counter_steps c i).sent ≡ 
 sent_alone c Task = task_sent c c.given
 sent_alone c (From a n) = passed_sent c n
 
-pub runs_alone : (w v : NetView CounterView ℕ) (es : List Event) → LeadsTo counter_work counter_steps w es v → LeadsTo counter_work counter_steps (seen alone w) es (seen alone v)
-runs_alone w v es a = seen_leads alone counter_work counter_work (λ c. refl) counter_steps counter_steps (record { state = state_alone; sent = sent_alone }) w v es a
+pub runs_alone : (w v : NetView CounterView ℕ) (es : List Event) → LeadsTo counter_work counter_steps w es v →
+    LeadsTo counter_work counter_steps (seen alone w) es (seen alone v)
+runs_alone w v es a =
+    seen_leads alone counter_work counter_work (λ c. refl) counter_steps counter_steps (record { state = state_alone; sent = sent_alone }) w
+    v es a

@@ -1,5 +1,6 @@
 -- What each event of a net of counters keeps and lowers.
-use Rattle.std.proofs.Common.{◌≡◌, ℕ, zero, suc, ◌+◌, ◌<◌, ◌≤◌, Bool, true, false, cond, eqb, ltb, List, [], ◌∷◌, length, Option, None, Some, is_some, drop, refl, sym, ap, ◌∙◌, subst, arith}
+use Rattle.std.proofs.Common.{◌≡◌, ℕ, zero, suc, ◌+◌, ◌<◌, ◌≤◌, Bool, true, false, cond, eqb, ltb, List, [], ◌∷◌, length, Option, None}
+use Rattle.std.proofs.Common.{Some, is_some, drop, refl, sym, ap, ◌∙◌, subst, arith}
 use Rattle.seam_flows.specs.Flows.{Flow, Goes, comes, flow_of, letters_of, more_letter}
 use Rattle.seam_flows.specs.Newest.{NotAbove, AllBring, entry_in, greater_entry, Newest}
 use Rattle.std.proofs.lemmas.Bool.{ne_eqb}
@@ -24,9 +25,11 @@ use Rattle.std.specs.List.{AllByRecursion}
 use Rattle.seam_runs.proofs.Soundness.{sound_sends, sound_happens}
 use Rattle.seam_ring.specs.Views.{CounterView}
 use Rattle.seam_ring.specs.Counters.{task_steps, passed, counter_steps, counter_work, counter_laws}
-use Rattle.seam_ring.specs.Rings.{IsSoundNet, IsRing, given_to_do, to_do, to_go, small, no_counter, SmallMoves, AllSmall, next_entry, brings_none}
+use Rattle.seam_ring.specs.Rings.{IsSoundNet, IsRing, given_to_do, to_do, to_go, small, no_counter, SmallMoves, AllSmall, next_entry}
+use Rattle.seam_ring.specs.Rings.{brings_none}
 
-task_falls : (c : CounterView) (o : Option ℕ) → is_some o ≡ true → to_do (task_steps c o).state + sent_weight to_go (task_steps c o).sent + 1 ≡ given_to_do o
+task_falls : (c : CounterView) (o : Option ℕ) → is_some o ≡ true →
+    to_do (task_steps c o).state + sent_weight to_go (task_steps c o).sent + 1 ≡ given_to_do o
 task_falls c None h = cc
 task_falls c (Some n) h = omega arith
 
@@ -34,17 +37,20 @@ passed_falls : (c : CounterView) (k n : ℕ) → to_do c + sent_weight to_go (pa
 passed_falls c k zero = omega arith
 passed_falls c k (suc n) = omega arith
 
-step_falls : (k : ℕ) (c : CounterView) (i : Input ℕ) → (i ≡ Task → counter_work c ≡ true) → to_do (counter_steps c i).state + sent_weight to_go (counter_steps c i).sent + 1 ≡ to_do c + input_weight to_go k i
+step_falls : (k : ℕ) (c : CounterView) (i : Input ℕ) → (i ≡ Task → counter_work c ≡ true) →
+    to_do (counter_steps c i).state + sent_weight to_go (counter_steps c i).sent + 1 ≡ to_do c + input_weight to_go k i
 step_falls k c Task h = let f = task_falls c c.given (h refl) in omega (arith, f)
 step_falls k c (From a n) h = passed_falls c k n
 
-sends_in : (w : NetView CounterView ℕ) (e : Event) (o : Occurs w e) → IsSoundNet w → AllBelow (length w.nodes) (counter_steps o.node o.input).sent
+sends_in : (w : NetView CounterView ℕ) (e : Event) (o : Occurs w e) → IsSoundNet w →
+    AllBelow (length w.nodes) (counter_steps o.node o.input).sent
 sends_in w e o q = sound_sends counter_laws w e o q
 
 stays_sound : (w : NetView CounterView ℕ) (e : Event) (o : Occurs w e) → IsSoundNet w → IsSoundNet (happens counter_steps w e)
 stays_sound w e o q = sound_happens counter_laws w e o q
 
-falls : (w : NetView CounterView ℕ) (e : Event) → IsSoundNet w → enabled counter_work w e ≡ true → Lowers counter_steps (λ w e. false) (weight to_do to_go) w e
+falls : (w : NetView CounterView ℕ) (e : Event) → IsSoundNet w → enabled counter_work w e ≡ true →
+    Lowers counter_steps (λ w e. false) (weight to_do to_go) w e
 falls w e q h =
     let o = occurs counter_work w e h in
     let moved = weight_moves to_do to_go counter_steps w e o q.square (sends_in w e o q) in
@@ -55,9 +61,12 @@ counts_none : (w : NetView CounterView ℕ) (es : List Event) → counted counte
 counts_none w [] = refl
 counts_none w (e ∷ es) = let h = counts_none (happens counter_steps w e) es in omega (arith, h)
 
-pub ring_ends : (w v : NetView CounterView ℕ) (es : List Event) → IsSoundNet w → LeadsTo counter_work counter_steps w es v → length es + weight to_do to_go v ≤ weight to_do to_go w
+pub ring_ends : (w v : NetView CounterView ℕ) (es : List Event) → IsSoundNet w → LeadsTo counter_work counter_steps w es v →
+    length es + weight to_do to_go v ≤ weight to_do to_go w
 ring_ends w v es q a =
-    let h = leads_end counter_work counter_steps (λ w e. false) (weight to_do to_go) IsSoundNet (λ x e s on. (stays_sound x e (occurs counter_work x e on) s, falls x e s on)) w v es q a in
+    let h =
+    leads_end counter_work counter_steps (λ w e. false) (weight to_do to_go) IsSoundNet
+    (λ x e s on. (stays_sound x e (occurs counter_work x e on) s, falls x e s on)) w v es q a in
     let none = counts_none w es in
     omega (arith, h, none)
 
@@ -93,11 +102,15 @@ module _ (after : ℕ → ℕ) where
       let next = r.nexts e.node o.node o.is_node in
       record {
         nexts = each_node (λ k c. c.next ≡ after k) counter_steps w e o r.nexts (step_next o.node o.input ∙ next);
-        mail = each_link OnlyNext counter_steps w e o r.mail (λ a f ne. ap (drop 1) (r.mail a e.node ne)) (step_stays e.node o.node o.input next);
+        mail =
+            each_link OnlyNext counter_steps w e o r.mail (λ a f ne. ap (drop 1) (r.mail a e.node ne))
+            (step_stays e.node o.node o.input next);
       }
 
-  pub ring_leads : (w v : NetView CounterView ℕ) (es : List Event) → IsRing after w → LeadsTo counter_work counter_steps w es v → IsRing after v
-  ring_leads w v es r a = leads_keeps counter_work counter_steps (IsRing after) (λ x e q h. ring_happens x e (occurs counter_work x e h) q) w v es r a
+  pub ring_leads : (w v : NetView CounterView ℕ) (es : List Event) → IsRing after w → LeadsTo counter_work counter_steps w es v →
+      IsRing after v
+  ring_leads w v es r a =
+      leads_keeps counter_work counter_steps (IsRing after) (λ x e q h. ring_happens x e (occurs counter_work x e h) q) w v es r a
 
 one_alone : (to n j : ℕ) → (j ≡ to → ⊥) → letters_of small (items_to j ((to, n) ∷ [])) ≡ []
 one_alone to n j ne = ap (λ b. letters_of small (cond b (n ∷ []) [])) (ne_eqb to j (λ e. ne (sym e)))
@@ -148,13 +161,21 @@ none_in : (o : Option ℕ) → entry_in brings_none o ≡ None
 none_in None = refl
 none_in (Some n) = refl
 
-pub next_stays : {w v : Flow CounterView ℕ} (k key c : ℕ) (g : Goes SmallMoves w v) → Newest next_entry brings_none w k key c → Newest next_entry brings_none v k key c
+pub next_stays : {w v : Flow CounterView ℕ} (k key c : ℕ) (g : Goes SmallMoves w v) → Newest next_entry brings_none w k key c →
+    Newest next_entry brings_none v k key c
 next_stays {w} {v} k key c g n =
     newest_stays brings_none next_entry g k key c n (λ e.
     let here : (v.slot k).next ≡ (w.slot k).next = subst (λ j. (v.slot j).next ≡ (w.slot j).next) e g.moves.same in
-    ap (λ m. (0, m)) here ∙ sym (ap (greater_entry (next_entry (w.slot k))) (none_in (comes g.input)))) (none_brought (NotAbove key c) (g.out k))
+    ap (λ m. (0, m)) here ∙ sym (ap (greater_entry (next_entry (w.slot k))) (none_in (comes g.input))))
+    (none_brought (NotAbove key c) (g.out k))
 
-pub small_goes : (w : NetView CounterView ℕ) (e : Event) → IsSoundNet w → enabled counter_work w e ≡ true → Goes SmallMoves (flow_of (λ c. c) no_counter small w) (flow_of (λ c. c) no_counter small (happens counter_steps w e))
+pub small_goes : (w : NetView CounterView ℕ) (e : Event) → IsSoundNet w → enabled counter_work w e ≡ true →
+    Goes SmallMoves (flow_of (λ c. c) no_counter small w) (flow_of (λ c. c) no_counter small (happens counter_steps w e))
 small_goes w e q h =
     let o = occurs counter_work w e h in
-    event_goes small (λ c. c) no_counter SmallMoves counter_steps w e o q.square (sends_in w e o q) (record { same = step_next o.node o.input; alone = λ j ne. step_alone o.node o.input j ne; below = λ j. step_small o.node o.input j })
+    event_goes small (λ c. c) no_counter SmallMoves counter_steps w e o q.square (sends_in w e o q)
+    (record {
+      same = step_next o.node o.input;
+      alone = λ j ne. step_alone o.node o.input j ne;
+      below = λ j. step_small o.node o.input j;
+    })

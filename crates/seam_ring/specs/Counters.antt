@@ -64,4 +64,13 @@ counter_valid c (From a n) h = h
 
 -- a counter as a machine
 abbrev pub counter_laws : MachineLaws CounterView ℕ
-counter_laws = record { has_work = counter_work; peer_count = λ c. c.peers; valid = IsCounter; steps = counter_steps; targets = counter_targets; keeps_peers = counter_peers; stays_valid = counter_valid }
+counter_laws =
+    record {
+      has_work = counter_work;
+      peer_count = λ c. c.peers;
+      valid = IsCounter;
+      steps = counter_steps;
+      targets = counter_targets;
+      keeps_peers = counter_peers;
+      stays_valid = counter_valid;
+    }

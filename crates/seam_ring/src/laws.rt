@@ -12,7 +12,8 @@ ghost use Rattle.seam_flows.specs.Newest.{Newest};
 ghost use Rattle.seam_flows.specs.Tokens.{HasOne};
 ghost use Rattle.seam_ring.specs.Views.{CounterView};
 ghost use Rattle.seam_ring.specs.Counters.{counter_steps, counter_work};
-ghost use Rattle.seam_ring.specs.Rings.{IsRing, IsSoundNet, to_do, to_go, small, no_counter, SmallMoves, AllSmall, next_entry, brings_none, given, number_count, NumberMoves, alone};
+ghost use Rattle.seam_ring.specs.Rings.{IsRing, IsSoundNet, to_do, to_go, small, no_counter, SmallMoves, AllSmall, next_entry, brings_none};
+ghost use Rattle.seam_ring.specs.Rings.{given, number_count, NumberMoves, alone};
 
 /// A run of a net of counters is no longer than what its counters and numbers have before them.
 pub fn runs_of_a_ring_end()

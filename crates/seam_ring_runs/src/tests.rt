@@ -54,6 +54,21 @@ fn ring(alloc: Global, number: Option<u64>) -> Result<Net<Counter>, AllocError>
     Net::new(alloc, nodes)
 }
 
+// Three counters, each before the next, of which one alone has something to do at any time.
+fn lone(alloc: Global) -> Result<Net<Counter>, AllocError>
+    ensures { IfOk result (λ w. ArePeers (λ c. c.peers) w) }
+{
+    let nodes = Vec::from_array(
+        alloc,
+        [
+            Counter::new(1, 3, None),
+            Counter::new(2, 3, Some(20)),
+            Counter::new(0, 3, None),
+        ],
+    )?;
+    Net::new(alloc, nodes)
+}
+
 // Two counters that pass a number each to the other.
 fn pair(alloc: Global) -> Result<Net<Counter>, AllocError>
     ensures { IfOk result (λ w. ArePeers (λ c. c.peers) w) }
@@ -86,6 +101,23 @@ fn workers_leave_the_ring_quiet(rt: HostRuntime) -> Result<(), Fail> {
     assert_eq!(rt; left_quiet(&rt, rt.alloc(), 1)?, (true, 29));
     assert_eq!(rt; left_quiet(&rt, rt.alloc(), 2)?, (true, 29));
     assert_eq!(rt; left_quiet(&rt, rt.alloc(), 4)?, (true, 29));
+    Ok(())
+}
+
+#[test]
+fn workers_leave_a_ring_with_one_number_quiet(rt: HostRuntime) -> Result<(), Fail> {
+    let crew = Crew {
+        workers: 4,
+        turns: 1000,
+    };
+    let (net, events) = run_workers(&rt, rt.alloc(), lone(rt.alloc())?, crew, &OpenGate)?;
+    assert_eq!(rt; (net.is_quiet(), events.len()), (true, 22));
+    let few = Crew {
+        workers: 4,
+        turns: 5,
+    };
+    let (net, events) = run_workers(&rt, rt.alloc(), lone(rt.alloc())?, few, &OpenGate)?;
+    assert!(rt; !net.is_quiet() && events.len() >= 5);
     Ok(())
 }
 

@@ -15,14 +15,17 @@ use Rattle.seam_runs.proofs.Runs.{leads_keeps}
 
 module _ {N M : Type 0} (m : MachineLaws N M) where
   peers_at : (w : NetView N M) (e : Event) (o : Occurs w e) → ArePeers m.peer_count w → m.peer_count o.node ≡ length w.nodes
-  peers_at w e o p = ap m.peer_count (sym (get_or_from_slice_get w.nodes e.node o.node o.node o.is_node)) ∙ p e.node o.node (node_within w e o)
+  peers_at w e o p =
+      ap m.peer_count (sym (get_or_from_slice_get w.nodes e.node o.node o.node o.is_node)) ∙ p e.node o.node (node_within w e o)
 
-  pub sound_sends : (w : NetView N M) (e : Event) (o : Occurs w e) → IsSound m.peer_count m.valid w → AllBelow (length w.nodes) (m.steps o.node o.input).sent
+  pub sound_sends : (w : NetView N M) (e : Event) (o : Occurs w e) → IsSound m.peer_count m.valid w →
+      AllBelow (length w.nodes) (m.steps o.node o.input).sent
   sound_sends w e o q =
       let P : ℕ → Type 0 = λ n. AllBelow n (m.steps o.node o.input).sent in
       subst P (peers_at w e o q.peers) (m.targets o.node o.input (q.states e.node o.node o.is_node))
 
-  pub sound_happens : (w : NetView N M) (e : Event) (o : Occurs w e) → IsSound m.peer_count m.valid w → IsSound m.peer_count m.valid (happens m.steps w e)
+  pub sound_happens : (w : NetView N M) (e : Event) (o : Occurs w e) → IsSound m.peer_count m.valid w →
+      IsSound m.peer_count m.valid (happens m.steps w e)
   sound_happens w e o q =
       let good = q.states e.node o.node o.is_node in
       let new = m.keeps_peers o.node o.input good ∙ peers_at w e o q.peers in
@@ -35,5 +38,7 @@ module _ {N M : Type 0} (m : MachineLaws N M) where
         states = each_node (λ k s. m.valid s) m.steps w e o q.states (m.stays_valid o.node o.input good);
       }
 
-  pub sound_leads : (w v : NetView N M) (es : List Event) → IsSound m.peer_count m.valid w → LeadsTo m.has_work m.steps w es v → IsSound m.peer_count m.valid v
-  sound_leads w v es q a = leads_keeps m.has_work m.steps (IsSound m.peer_count m.valid) (λ x e s h. sound_happens x e (occurs m.has_work x e h) s) w v es q a
+  pub sound_leads : (w v : NetView N M) (es : List Event) → IsSound m.peer_count m.valid w → LeadsTo m.has_work m.steps w es v →
+      IsSound m.peer_count m.valid v
+  sound_leads w v es q a =
+      leads_keeps m.has_work m.steps (IsSound m.peer_count m.valid) (λ x e s h. sound_happens x e (occurs m.has_work x e h) s) w v es q a

@@ -122,7 +122,8 @@ pub fn links_are_exact<N, T>()
 pub fn weights_move<N, T>()
     ensures moved { (f : N → ℕ) (g : ℕ → T → ℕ) (steps : N → Input T → Stepped N T) (w : NetView N T) (e : Event) (o : Occurs w e) →
         IsSquare w → AllBelow (length w.nodes) (steps o.node o.input).sent →
-        weight f g (happens steps w e) + (f o.node + input_weight g e.node o.input) ≡ weight f g w + (f (steps o.node o.input).state + sent_weight g (steps o.node o.input).sent) }
+        weight f g (happens steps w e) + (f o.node + input_weight g e.node o.input)
+        ≡ weight f g w + (f (steps o.node o.input).state + sent_weight g (steps o.node o.input).sent) }
     ensures bound { (f : N → ℕ) (g : ℕ → T → ℕ) (w : NetView N T) (e : Event) (o : Occurs w e) →
         f o.node + input_weight g e.node o.input ≤ weight f g w }
 {}

@@ -4,8 +4,8 @@
 //! all runs is an induction over the list of events: what is proved here of one event holds after every run.
 //!
 //! Crates above cite these modules of `proofs`: `Runs` (join, part and extend runs; what they keep; how long they are), `Keeping`
-//! (each node, each link, each link exactly), `Weighing` (the weight of a net, by the node to which a message goes), `MapSums` (sums over finite maps), `Soundness` (a net of
-//! machines stays one), `Seeing` (a net through a function on its nodes).
+//! (each node, each link, each link exactly), `Weighing` (the weight of a net, by the node to which a message goes), `MapSums` (sums
+//! over finite maps), `Soundness` (a net of machines stays one), `Seeing` (a net through a function on its nodes).
 #![tactic(auto)]
 
 mod laws;

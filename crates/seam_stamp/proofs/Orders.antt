@@ -1,5 +1,6 @@
 -- The next entry of a merge.
-use Rattle.std.proofs.Common.{◌≡◌, ◌≢◌, ℕ, zero, suc, ◌+◌, ◌<◌, ◌≤◌, ◌⊎◌, true, false, Option, None, Some, List, [], ◌∷◌, ◌++◌, length, map, get_or, set, drop, refl, sym, ap, ◌∙◌, subst, arith, cond, eqb, inl, inr, append_assoc}
+use Rattle.std.proofs.Common.{◌≡◌, ◌≢◌, ℕ, zero, suc, ◌+◌, ◌<◌, ◌≤◌, ◌⊎◌, true, false, Option, None, Some, List, [], ◌∷◌, ◌++◌, length, map}
+use Rattle.std.proofs.Common.{get_or, set, drop, refl, sym, ap, ◌∙◌, subst, arith, cond, eqb, inl, inr, append_assoc}
 use Rattle.std.specs.Prelude.{IfSome}
 use Rattle.std.specs.Option.{IsSome}
 use Rattle.std.proofs.lemmas.Bool.{cases_eq}
@@ -17,7 +18,8 @@ eqb_no : (a b : ℕ) → a ≢ b → eqb a b ≡ false
 eqb_no a b e = grind (arith, nat_tests)
 
 -- a list at place k of those that a view gives
-pub read_view : {A B : Type 0} (f : A → B) (xs : List A) (k : ℕ) (x : A) (d : B) → k < length xs → x ≡ get_or xs k x → get_or (map f xs) k d ≡ f x
+pub read_view : {A B : Type 0} (f : A → B) (xs : List A) (k : ℕ) (x : A) (d : B) → k < length xs → x ≡ get_or xs k x →
+    get_or (map f xs) k d ≡ f x
 read_view f [] k x d lt e = absurd (omega arith)
 read_view f (y ∷ ys) zero x d lt e = ap f (sym e)
 read_view f (y ∷ ys) (suc k) x d lt e = read_view f ys k x d (omega (arith, lt)) e
@@ -36,7 +38,8 @@ module _ {E : Type 0} where
   by_node_append : (k : ℕ) (xs ys : List (Stamped E)) → by_node k (xs ++ ys) ≡ by_node k xs ++ by_node k ys
   by_node_append k [] ys = refl
   by_node_append k (x ∷ xs) ys = elim (cases_eq x.node k) [
-    | inl h ↦ by_node_own k x (xs ++ ys) h ∙ (ap (λ l. x ∷ l) (by_node_append k xs ys) ∙ ap (λ l. l ++ by_node k ys) (sym (by_node_own k x xs h)))
+    | inl h ↦ by_node_own k x (xs ++ ys) h
+        ∙ (ap (λ l. x ∷ l) (by_node_append k xs ys) ∙ ap (λ l. l ++ by_node k ys) (sym (by_node_own k x xs h)))
     | inr h ↦ by_node_other k x (xs ++ ys) h ∙ (by_node_append k xs ys ∙ ap (λ l. l ++ by_node k ys) (sym (by_node_other k x xs h)))
   ]
 
@@ -44,7 +47,8 @@ module _ {E : Type 0} where
   log_later k t [] h = tt
   log_later k t (e ∷ es) h = (h.0, omega arith, h.2)
 
-  rises_by_next : (t k : ℕ) (xs : List (Stamped E)) (e d : Stamped E) → RiseFrom t k (xs ++ e ∷ []) → IsFrom e.stamp (e.node + 1) d → RiseFrom t k ((xs ++ e ∷ []) ++ d ∷ [])
+  rises_by_next : (t k : ℕ) (xs : List (Stamped E)) (e d : Stamped E) → RiseFrom t k (xs ++ e ∷ []) → IsFrom e.stamp (e.node + 1) d →
+      RiseFrom t k ((xs ++ e ∷ []) ++ d ∷ [])
   rises_by_next t k [] e d h f = (h.0, (f, tt))
   rises_by_next t k (x ∷ xs) e d h f = (h.0, rises_by_next x.stamp (x.node + 1) xs e d h.1 f)
 
@@ -66,75 +70,88 @@ module _ {E : Type 0} where
     next = λ k d ds e. (first_from d, tt);
   }
 
-  pub merging_ends : (logs heads : List (List (Stamped E))) (merged : List (Stamped E)) → Merging logs heads merged → AllEmpty heads → IsMerge logs merged
+  pub merging_ends : (logs heads : List (List (Stamped E))) (merged : List (Stamped E)) → Merging logs heads merged → AllEmpty heads →
+      IsMerge logs merged
   merging_ends logs heads merged m empty = record {
     whole = λ k. sym (append-nil (by_node k merged)) ∙ (ap (λ l. by_node k merged ++ l) (sym (empty k)) ∙ m.whole k);
     order = m.order;
   }
 
-  module _ (logs heads : List (List (Stamped E))) (merged : List (Stamped E)) (k : ℕ) (m : Merging logs heads merged) (f : IsFirst heads k) where
-    abbrev left : List (List (Stamped E))
-    left = set heads k f.rest
+  module _ (logs heads : List (List (Stamped E))) (merged : List (Stamped E)) (k : ℕ) (m : Merging logs heads merged) (f : IsFirst heads k)
+    where
+      abbrev left : List (List (Stamped E))
+      left = set heads k f.rest
 
-    left_here : get_or left k [] ≡ f.rest
-    left_here = get_or-set_same heads k f.rest [] f.within
+      left_here : get_or left k [] ≡ f.rest
+      left_here = get_or-set_same heads k f.rest [] f.within
 
-    left_other : (j : ℕ) → j ≢ k → get_or left j [] ≡ get_or heads j []
-    left_other j differ = get_or-set_other heads k j f.rest [] differ
+      left_other : (j : ℕ) → j ≢ k → get_or left j [] ≡ get_or heads j []
+      left_other j differ = get_or-set_other heads k j f.rest [] differ
 
-    own_log : IsLogFrom k 0 (f.entry ∷ f.rest)
-    own_log = subst (IsLogFrom k 0) f.log_is (m.logs_left k)
+      own_log : IsLogFrom k 0 (f.entry ∷ f.rest)
+      own_log = subst (IsLogFrom k 0) f.log_is (m.logs_left k)
 
-    whole_left : (j : ℕ) → by_node j (merged ++ f.entry ∷ []) ++ get_or left j [] ≡ get_or logs j []
-    whole_left j = elim (cases_eq j k) [
-      | inl h ↦ ap (λ l. l ++ get_or left j []) (by_node_append j merged (f.entry ∷ []) ∙ ap (λ l. by_node j merged ++ l) (by_node_own j f.entry [] (own_log.0 ∙ sym h))) ∙ (append_assoc (by_node j merged) (f.entry ∷ []) (get_or left j []) ∙ (ap (λ l. by_node j merged ++ f.entry ∷ l) (ap (λ (i : ℕ). get_or left i []) h ∙ left_here) ∙ (ap (λ l. by_node j merged ++ l) (sym f.log_is ∙ ap (λ (i : ℕ). get_or heads i []) (sym h)) ∙ m.whole j)))
-      | inr h ↦ ap (λ l. l ++ get_or left j []) (by_node_append j merged (f.entry ∷ []) ∙ (ap (λ l. by_node j merged ++ l) (by_node_other j f.entry [] (λ e. h (sym e ∙ own_log.0))) ∙ append-nil (by_node j merged))) ∙ (ap (λ l. by_node j merged ++ l) (left_other j h) ∙ m.whole j)
-    ]
+      whole_left : (j : ℕ) → by_node j (merged ++ f.entry ∷ []) ++ get_or left j [] ≡ get_or logs j []
+      whole_left j = elim (cases_eq j k) [
+        | inl h ↦ ap (λ l. l ++ get_or left j []) (by_node_append j merged (f.entry ∷ [])
+            ∙ ap (λ l. by_node j merged ++ l) (by_node_own j f.entry [] (own_log.0 ∙ sym h)))
+            ∙ (append_assoc (by_node j merged) (f.entry ∷ []) (get_or left j [])
+            ∙ (ap (λ l. by_node j merged ++ f.entry ∷ l) (ap (λ (i : ℕ). get_or left i []) h ∙ left_here)
+            ∙ (ap (λ l. by_node j merged ++ l) (sym f.log_is ∙ ap (λ (i : ℕ). get_or heads i []) (sym h)) ∙ m.whole j)))
+        | inr h ↦ ap (λ l. l ++ get_or left j []) (by_node_append j merged (f.entry ∷ [])
+            ∙ (ap (λ l. by_node j merged ++ l) (by_node_other j f.entry [] (λ e. h (sym e ∙ own_log.0))) ∙ append-nil (by_node j merged)))
+            ∙ (ap (λ l. by_node j merged ++ l) (left_other j h) ∙ m.whole j)
+      ]
 
-    logs_after : (j : ℕ) → IsLogFrom j 0 (get_or left j [])
-    logs_after j = elim (cases_eq j k) [
-      | inl h ↦ rw (h, left_here) (log_later k (f.entry.stamp + 1) f.rest own_log.2)
-      | inr h ↦ rw (left_other j h) (m.logs_left j)
-    ]
+      logs_after : (j : ℕ) → IsLogFrom j 0 (get_or left j [])
+      logs_after j = elim (cases_eq j k) [
+        | inl h ↦ rw (h, left_here) (log_later k (f.entry.stamp + 1) f.rest own_log.2)
+        | inr h ↦ rw (left_other j h) (m.logs_left j)
+      ]
 
-    rest_after : (d : Stamped E) (ds : List (Stamped E)) → f.rest ≡ d ∷ ds → IsFrom f.entry.stamp (f.entry.node + 1) d
-    rest_after d ds e = let later = subst (IsLogFrom k (f.entry.stamp + 1)) e own_log.2 in inl (omega (arith, later.1))
+      rest_after : (d : Stamped E) (ds : List (Stamped E)) → f.rest ≡ d ∷ ds → IsFrom f.entry.stamp (f.entry.node + 1) d
+      rest_after d ds e = let later = subst (IsLogFrom k (f.entry.stamp + 1)) e own_log.2 in inl (omega (arith, later.1))
 
-    other_after : (j : ℕ) (d : Stamped E) (ds : List (Stamped E)) → j ≢ k → get_or heads j [] ≡ d ∷ ds → IsFrom f.entry.stamp (f.entry.node + 1) d
-    other_after j d ds other e =
-        let node = (subst (IsLogFrom j 0) e (m.logs_left j)).0 in
-        let least = f.least j d ds e in
-        elim (cases_eq f.entry.stamp d.stamp) [
-          | inl same ↦ elim (leb_tells (suc j) k) [
-            | inl p ↦ absurd (let less = f.lowest j d ds e p.1 in omega (arith, less, same))
-            | inr p ↦ inr (same, omega (arith, node, own_log.0, p.1, other))
+      other_after : (j : ℕ) (d : Stamped E) (ds : List (Stamped E)) → j ≢ k → get_or heads j [] ≡ d ∷ ds →
+          IsFrom f.entry.stamp (f.entry.node + 1) d
+      other_after j d ds other e =
+          let node = (subst (IsLogFrom j 0) e (m.logs_left j)).0 in
+          let least = f.least j d ds e in
+          elim (cases_eq f.entry.stamp d.stamp) [
+            | inl same ↦ elim (leb_tells (suc j) k) [
+              | inl p ↦ absurd (let less = f.lowest j d ds e p.1 in omega (arith, less, same))
+              | inr p ↦ inr (same, omega (arith, node, own_log.0, p.1, other))
+            ]
+            | inr differ ↦ inl (omega (arith, least, differ))
           ]
-          | inr differ ↦ inl (omega (arith, least, differ))
-        ]
 
-    next_after : (j : ℕ) (d : Stamped E) (ds : List (Stamped E)) → get_or left j [] ≡ d ∷ ds → RiseFrom 0 0 ((merged ++ f.entry ∷ []) ++ d ∷ [])
-    next_after j d ds e = rises_by_next 0 0 merged f.entry d (m.next k f.entry f.rest f.log_is) (elim (cases_eq j k) [
-      | inl h ↦ rest_after d ds (sym (ap (λ (i : ℕ). get_or left i []) h ∙ left_here) ∙ e)
-      | inr h ↦ other_after j d ds h (sym (left_other j h) ∙ e)
-    ])
+      next_after : (j : ℕ) (d : Stamped E) (ds : List (Stamped E)) → get_or left j [] ≡ d ∷ ds →
+          RiseFrom 0 0 ((merged ++ f.entry ∷ []) ++ d ∷ [])
+      next_after j d ds e = rises_by_next 0 0 merged f.entry d (m.next k f.entry f.rest f.log_is) (elim (cases_eq j k) [
+        | inl h ↦ rest_after d ds (sym (ap (λ (i : ℕ). get_or left i []) h ∙ left_here) ∙ e)
+        | inr h ↦ other_after j d ds h (sym (left_other j h) ∙ e)
+      ])
 
-    pub merging_goes_on : Merging logs left (merged ++ f.entry ∷ [])
-    merging_goes_on = record {
-      whole = whole_left;
-      order = m.next k f.entry f.rest f.log_is;
-      logs_left = logs_after;
-      next = next_after;
-    }
+      pub merging_goes_on : Merging logs left (merged ++ f.entry ∷ [])
+      merging_goes_on = record {
+        whole = whole_left;
+        order = m.next k f.entry f.rest f.log_is;
+        logs_left = logs_after;
+        next = next_after;
+      }
 
   -- of the logs below n none has an entry, or log k is the first of them with the least stamp
   abbrev pub FirstBelow : List (List (Stamped E)) → ℕ → Option ℕ → ℕ → Type 0
   FirstBelow heads n None least = (j : ℕ) → j < n → get_or heads j [] ≡ []
   FirstBelow heads n (Some k) least = (e : Stamped E) × (es : List (Stamped E)) × (k < n) × (get_or heads k [] ≡ e ∷ es) × (e.stamp ≡ least)
-      × ((j : ℕ) (d : Stamped E) (ds : List (Stamped E)) → j < n → get_or heads j [] ≡ d ∷ ds → (least ≤ d.stamp) × (j < k → least < d.stamp))
+      × ((j : ℕ) (d : Stamped E) (ds : List (Stamped E)) → j < n → get_or heads j [] ≡ d ∷ ds →
+      (least ≤ d.stamp) × (j < k → least < d.stamp))
 
   module _ (heads : List (List (Stamped E))) (n : ℕ) where
-    pub below_empty : (first : Option ℕ) (least : ℕ) → FirstBelow heads n first least → get_or heads n [] ≡ [] → FirstBelow heads (n + 1) first least
-    below_empty None least f none = λ j lt. elim (cases_eq j n) [ inl h ↦ ap (λ (i : ℕ). get_or heads i []) h ∙ none | inr h ↦ f j (omega (arith, lt, h)) ]
+    pub below_empty : (first : Option ℕ) (least : ℕ) → FirstBelow heads n first least → get_or heads n [] ≡ [] →
+        FirstBelow heads (n + 1) first least
+    below_empty None least f none =
+        λ j lt. elim (cases_eq j n) [ inl h ↦ ap (λ (i : ℕ). get_or heads i []) h ∙ none | inr h ↦ f j (omega (arith, lt, h)) ]
     below_empty (Some k) least (e, es, kl, at, st, all) none = (
       e,
       es,
@@ -147,7 +164,8 @@ module _ {E : Type 0} where
       ],
     )
 
-    pub below_kept : (first : Option ℕ) (least : ℕ) (e : Stamped E) (es : List (Stamped E)) → FirstBelow heads n first least → get_or heads n [] ≡ e ∷ es → (IsSome first) × (least ≤ e.stamp) → FirstBelow heads (n + 1) first least
+    pub below_kept : (first : Option ℕ) (least : ℕ) (e : Stamped E) (es : List (Stamped E)) → FirstBelow heads n first least →
+        get_or heads n [] ≡ e ∷ es → (IsSome first) × (least ≤ e.stamp) → FirstBelow heads (n + 1) first least
     below_kept None least e es f here le = absurd (cc (le.0))
     below_kept (Some k) least e es (d, ds, kl, at, st, all) here le = (
       d,
@@ -156,17 +174,23 @@ module _ {E : Type 0} where
       at,
       st,
       λ j c cs lt is. elim (cases_eq j n) [
-        | inl h ↦ (let same : c ≡ e = cc (sym is ∙ (ap (λ (i : ℕ). get_or heads i []) h ∙ here)) in (rw same le.1, λ less. absurd (omega (arith, less, h, kl))))
+        | inl h ↦ (let same : c ≡ e = cc (sym is ∙ (ap (λ (i : ℕ). get_or heads i []) h ∙ here)) in
+            (rw same le.1, λ less. absurd (omega (arith, less, h, kl))))
         | inr h ↦ all j c cs (omega (arith, lt, h)) is
       ],
     )
 
-    below_lower : (first : Option ℕ) (least : ℕ) (e : Stamped E) (es : List (Stamped E)) → FirstBelow heads n first least → (first ≡ None) ⊎ (e.stamp < least) → (j : ℕ) (d : Stamped E) (ds : List (Stamped E)) → j < n → get_or heads j [] ≡ d ∷ ds → e.stamp < d.stamp
+    below_lower : (first : Option ℕ) (least : ℕ) (e : Stamped E) (es : List (Stamped E)) → FirstBelow heads n first least →
+        (first ≡ None) ⊎ (e.stamp < least) → (j : ℕ) (d : Stamped E) (ds : List (Stamped E)) → j < n → get_or heads j [] ≡ d ∷ ds →
+        e.stamp < d.stamp
     below_lower None least e es f less j d ds lt is = absurd (cc (sym (f j lt) ∙ is))
     below_lower (Some k) least e es f (inl other) j d ds lt is = absurd (cc other)
-    below_lower (Some k) least e es (c, cs, kl, at, st, all) (inr less) j d ds lt is = let h = (all j d ds lt is).0 in omega (arith, h, less)
+    below_lower (Some k) least e es (c, cs, kl, at, st, all) (inr less) j d ds lt is =
+        let h = (all j d ds lt is).0 in
+        omega (arith, h, less)
 
-    pub below_new : (first : Option ℕ) (least : ℕ) (e : Stamped E) (es : List (Stamped E)) → FirstBelow heads n first least → get_or heads n [] ≡ e ∷ es → (first ≡ None) ⊎ (e.stamp < least) → FirstBelow heads (n + 1) (Some n) e.stamp
+    pub below_new : (first : Option ℕ) (least : ℕ) (e : Stamped E) (es : List (Stamped E)) → FirstBelow heads n first least →
+        get_or heads n [] ≡ e ∷ es → (first ≡ None) ⊎ (e.stamp < least) → FirstBelow heads (n + 1) (Some n) e.stamp
     below_new first least e es f here less = (
       e,
       es,
@@ -174,15 +198,19 @@ module _ {E : Type 0} where
       here,
       refl,
       λ j d ds lt is. elim (cases_eq j n) [
-        | inl h ↦ (let same : d ≡ e = cc (sym is ∙ (ap (λ (i : ℕ). get_or heads i []) h ∙ here)) in (rw same (omega arith), λ l. absurd (omega (arith, l, h))))
+        | inl h ↦ (let same : d ≡ e = cc (sym is ∙ (ap (λ (i : ℕ). get_or heads i []) h ∙ here)) in
+            (rw same (omega arith), λ l. absurd (omega (arith, l, h))))
         | inr h ↦ (let lower = below_lower first least e es f less j d ds (omega (arith, lt, h)) is in (omega (arith, lower), λ l. lower))
       ],
     )
 
-  within_by : (heads : List (List (Stamped E))) (j : ℕ) (d : Stamped E) (ds : List (Stamped E)) → get_or heads j [] ≡ d ∷ ds → j < length heads
-  within_by heads j d ds is = elim (leb_tells (length heads) j) [ inl p ↦ absurd (cc (sym (get_or_past heads j [] p.1) ∙ is)) | inr p ↦ p.1 ]
+  within_by : (heads : List (List (Stamped E))) (j : ℕ) (d : Stamped E) (ds : List (Stamped E)) → get_or heads j [] ≡ d ∷ ds →
+      j < length heads
+  within_by heads j d ds is =
+      elim (leb_tells (length heads) j) [ inl p ↦ absurd (cc (sym (get_or_past heads j [] p.1) ∙ is)) | inr p ↦ p.1 ]
 
-  pub first_of_all : (heads : List (List (Stamped E))) (first : Option ℕ) (least : ℕ) → FirstBelow heads (length heads) first least → IfSome first (IsFirst heads)
+  pub first_of_all : (heads : List (List (Stamped E))) (first : Option ℕ) (least : ℕ) → FirstBelow heads (length heads) first least →
+      IfSome first (IsFirst heads)
   first_of_all heads None least f = tt
   first_of_all heads (Some k) least (e, es, kl, at, st, all) = record {
     entry = e;

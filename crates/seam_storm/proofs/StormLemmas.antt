@@ -19,7 +19,8 @@ flat_more f a n j e =
     ∙ ap (λ l. flat_map f (range_with_len a n) ++ l) (flat_map-cons f j [] ∙ append-nil (f j)))
 
 -- one more line was appended
-pub line_more : (f : ℕ → List ℕ) (before text text' : List ℕ) (e : ℕ) → 0 < e → text ≡ before ++ flat_map f (range_with_len 1 (e - 1)) → text' ≡ text ++ f e → text' ≡ before ++ flat_map f (range_with_len 1 (e + 1 - 1))
+pub line_more : (f : ℕ → List ℕ) (before text text' : List ℕ) (e : ℕ) → 0 < e → text ≡ before ++ flat_map f (range_with_len 1 (e - 1)) →
+    text' ≡ text ++ f e → text' ≡ before ++ flat_map f (range_with_len 1 (e + 1 - 1))
 line_more f before text text' e low is more =
     let n : e + 1 - 1 ≡ (e - 1) + 1 = omega (arith, low) in
     more
@@ -28,7 +29,9 @@ line_more f before text text' e low is more =
     ∙ ap (λ l. before ++ l) (sym (ap (λ k. flat_map f (range_with_len 1 k)) n ∙ flat_more f 1 (e - 1) e (omega (arith, low))))))
 
 -- the line that was made is the first of those that were left
-pub made_same : (line line' : List ℕ) (at left number seed seed' : ℕ) → length line ≤ at → left ≢ 0 → line' ≡ drawn_line seed ++ sync_after number → seed' ≡ seed_after seed → drop 0 line' ++ lines_text (left - 1) (number + 1) seed' ≡ drop at line ++ lines_text left number seed
+pub made_same : (line line' : List ℕ) (at left number seed seed' : ℕ) → length line ≤ at → left ≢ 0 →
+    line' ≡ drawn_line seed ++ sync_after number → seed' ≡ seed_after seed →
+    drop 0 line' ++ lines_text (left - 1) (number + 1) seed' ≡ drop at line ++ lines_text left number seed
 made_same line line' at zero number seed seed' past some is moved = absurd (some refl)
 made_same line line' at (suc left) number seed seed' past some is moved =
     let n : suc left - 1 ≡ left = omega arith in

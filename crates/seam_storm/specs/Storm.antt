@@ -1,5 +1,6 @@
 -- The generated input: the text of a world of 64 avatars on four cells, and so many lines that draws choose.
-use Rattle.std.specs.Prelude.{ℕ, zero, suc, ◌+◌, ◌-◌, ◌*◌, ◌/◌, ◌%◌, ◌^◌, ◌==◌, Bool, nat_lt, List, [], ◌∷◌, ◌++◌, codes, decimal, if◌then◌else◌}
+use Rattle.std.specs.Prelude.{ℕ, zero, suc, ◌+◌, ◌-◌, ◌*◌, ◌/◌, ◌%◌, ◌^◌, ◌==◌, Bool, nat_lt, List, [], ◌∷◌, ◌++◌, codes, decimal}
+use Rattle.std.specs.Prelude.{if◌then◌else◌}
 use Rattle.std.specs.List.{flat_map, range_with_len}
 
 -- the next seed of the linear congruence, modulo 2^64
@@ -59,7 +60,9 @@ method_of d = if kind d == 2 then codes " hit" else codes " heal"
 
 -- the line that the next draws choose
 abbrev pub drawn_line : ℕ → List ℕ
-drawn_line x = if is_move (draw x) then move_line (entity (draw x)) (draw (next_seed x)) else call_line (entity (draw x)) (method_of (draw x)) (draw x / 256 % 100)
+drawn_line x =
+    if is_move (draw x) then move_line (entity (draw x)) (draw (next_seed x)) else call_line (entity (draw x)) (method_of (draw x))
+    (draw x / 256 % 100)
 
 -- the seed after those draws: a move needs two
 abbrev pub seed_after : ℕ → ℕ

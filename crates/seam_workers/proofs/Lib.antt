@@ -1,2 +1,4 @@
 mod Lists
 mod Whole
+mod Sooner
+mod Counts

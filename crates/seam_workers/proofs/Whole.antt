@@ -1,5 +1,6 @@
 -- From the nodes that were taken apart to the run of their net.
-use Rattle.std.proofs.Common.{◌≡◌, ℕ, zero, suc, ◌+◌, ◌*◌, ◌<◌, ◌≤◌, Bool, true, false, List, [], ◌∷◌, ◌++◌, length, Option, None, Some, get_or, drop, map, refl, sym, ap, ◌∙◌, subst, arith, inl, inr}
+use Rattle.std.proofs.Common.{◌≡◌, ℕ, zero, suc, ◌+◌, ◌*◌, ◌<◌, ◌≤◌, Bool, true, false, List, [], ◌∷◌, ◌++◌, length, Option, None, Some}
+use Rattle.std.proofs.Common.{get_or, drop, map, refl, sym, ap, ◌∙◌, subst, arith, inl, inr}
 use Rattle.std.specs.Prelude.{slice_get, IfOk, Result, Ok, Err}
 use Rattle.std.proofs.lemmas.Bool.{cases_eq}
 use Rattle.std.proofs.lemmas.Bool.Decides.{leb_tells}
@@ -17,15 +18,15 @@ use Rattle.seam_stamp.specs.declared.Letter.{Letter}
 use Rattle.seam_stamp.specs.declared.Stamped.{Stamped}
 use Rattle.seam_stamp.specs.Logs.{IsLogFrom, AreLogs, by_node}
 use Rattle.seam_stamp.proofs.Orders.{by_node_own, by_node_other}
-use Rattle.seam_merge.specs.Deeds.{Deed, received, state_after, sends, Legal, items, taken_by, entries, event_by, input_by}
+use Rattle.seam_merge.specs.Acts.{Act, received, state_after, sends, Legal, items, taken_by, entries, event_by, input_by}
 use Rattle.seam_merge.specs.Joined.{Did, Joined, IsRebuilt, left_of}
 use Rattle.seam_merge.proofs.Whole.{logs_are_run}
-use Rattle.seam_logged.proofs.Replay.{no_deeds}
+use Rattle.seam_logged.proofs.Replay.{no_acts}
 use Rattle.seam_logged.specs.Logs.{LoggedView, EndsView, Root, taken, put, in_rings, out_rings}
 use Rattle.seam_mesh.specs.Mesh.{AreFull, AreLinked, ArePaired, IsNew, IsCell, at_start}
 use Rattle.seam_workers.specs.Seats.{IsRun, AreRuns, roots_of, HasEnds}
 use Rattle.seam_workers.specs.Rejoined.{IsRejoined, HasEventOf}
-use Rattle.seam_workers.proofs.Lists.{all-get}
+use Rattle.seam_workers.proofs.Lists.{all_get}
 
 module _ {X : Type 0} where
   pub exists_at : (xs : List X) (k : ℕ) → k < length xs → (x : X) × (slice_get xs k ≡ Some x)
@@ -41,7 +42,8 @@ map_at f [] k x e = absurd (cc e)
 map_at f (y ∷ xs) zero x e = let same : y ≡ x = cc in ap (λ z. Some (f z)) same
 map_at f (y ∷ xs) (suc k) x e = map_at f xs k x e
 
-map_back : {A B : Type 0} (f : A → B) (xs : List A) (k : ℕ) (y : B) → slice_get (map f xs) k ≡ Some y → (x : A) × (slice_get xs k ≡ Some x) × (y ≡ f x)
+map_back : {A B : Type 0} (f : A → B) (xs : List A) (k : ℕ) (y : B) → slice_get (map f xs) k ≡ Some y →
+    (x : A) × (slice_get xs k ≡ Some x) × (y ≡ f x)
 map_back f [] k y e = absurd (cc e)
 map_back f (x ∷ xs) zero y e = (x, refl, cc)
 map_back f (x ∷ xs) (suc k) y e = map_back f xs k y e
@@ -65,11 +67,17 @@ module _ {T H : Type 0} where
   put_at (p ∷ os) (suc b) o e = put_at os b o e
 
   -- ends at one place of lists with the same rings have one ring
-  in_ring : (xs ys : List (InView T H)) (k : ℕ) (x y : InView T H) → in_rings xs ≡ in_rings ys → slice_get xs k ≡ Some x → slice_get ys k ≡ Some y → x.ring ≡ y.ring
-  in_ring xs ys k x y e p q = same_at (in_rings ys) k x.ring y.ring (ap (λ l. slice_get l k) (sym e) ∙ map_at (λ (v : InView T H). v.ring) xs k x p) (map_at (λ (v : InView T H). v.ring) ys k y q)
+  in_ring : (xs ys : List (InView T H)) (k : ℕ) (x y : InView T H) → in_rings xs ≡ in_rings ys → slice_get xs k ≡ Some x →
+      slice_get ys k ≡ Some y → x.ring ≡ y.ring
+  in_ring xs ys k x y e p q =
+      same_at (in_rings ys) k x.ring y.ring (ap (λ l. slice_get l k) (sym e) ∙ map_at (λ (v : InView T H). v.ring) xs k x p)
+      (map_at (λ (v : InView T H). v.ring) ys k y q)
 
-  out_ring : (xs ys : List (OutView T H)) (k : ℕ) (x y : OutView T H) → out_rings xs ≡ out_rings ys → slice_get xs k ≡ Some x → slice_get ys k ≡ Some y → x.ring ≡ y.ring
-  out_ring xs ys k x y e p q = same_at (out_rings ys) k x.ring y.ring (ap (λ l. slice_get l k) (sym e) ∙ map_at (λ (v : OutView T H). v.ring) xs k x p) (map_at (λ (v : OutView T H). v.ring) ys k y q)
+  out_ring : (xs ys : List (OutView T H)) (k : ℕ) (x y : OutView T H) → out_rings xs ≡ out_rings ys → slice_get xs k ≡ Some x →
+      slice_get ys k ≡ Some y → x.ring ≡ y.ring
+  out_ring xs ys k x y e p q =
+      same_at (out_rings ys) k x.ring y.ring (ap (λ l. slice_get l k) (sym e) ∙ map_at (λ (v : OutView T H). v.ring) xs k x p)
+      (map_at (λ (v : OutView T H). v.ring) ys k y q)
 
   in_many : (xs ys : List (InView T H)) → in_rings xs ≡ in_rings ys → length xs ≡ length ys
   in_many xs ys e = sym (length-map xs (λ (v : InView T H). v.ring)) ∙ (ap length e ∙ length-map ys (λ (v : InView T H). v.ring))
@@ -77,30 +85,46 @@ module _ {T H : Type 0} where
   out_many : (xs ys : List (OutView T H)) → out_rings xs ≡ out_rings ys → length xs ≡ length ys
   out_many xs ys e = sym (length-map xs (λ (v : OutView T H). v.ring)) ∙ (ap length e ∙ length-map ys (λ (v : OutView T H). v.ring))
 
-root_at : {N M H : Type 0} (ns : List N) (es : List (EndsView M H)) (k : ℕ) (r : Root N M H) → slice_get (roots_of ns es) k ≡ Some r → (slice_get ns k ≡ Some r.start) × (slice_get es k ≡ Some r.first)
+root_at : {N M H : Type 0} (ns : List N) (es : List (EndsView M H)) (k : ℕ) (r : Root N M H) → slice_get (roots_of ns es) k ≡ Some r →
+    (slice_get ns k ≡ Some r.start) × (slice_get es k ≡ Some r.first)
 root_at [] es k r e = absurd (cc e)
 root_at (n ∷ ns) [] k r e = absurd (cc e)
-root_at (n ∷ ns) (f ∷ es) zero r e = let same : record { start = n; first = f } ≡ r = cc in (ap (λ (v : Root _ _ _). Some v.start) same, ap (λ (v : Root _ _ _). Some v.first) same)
+root_at (n ∷ ns) (f ∷ es) zero r e =
+    let same : record { start = n; first = f } ≡ r = cc in
+    (ap (λ (v : Root _ _ _). Some v.start) same, ap (λ (v : Root _ _ _). Some v.first) same)
 root_at (n ∷ ns) (f ∷ es) (suc k) r e = root_at ns es k r e
 
 -- the log of legal steps
-legal_log : {N M : Type 0} (has_work : N → Bool) (steps : N → Input M → Stepped N M) (n me t last : ℕ) (s : N) (ds : List (Deed M)) → t ≤ last + 1 → Legal has_work steps n last s ds → IsLogFrom me t (entries me ds)
+legal_log : {N M : Type 0} (has_work : N → Bool) (steps : N → Input M → Stepped N M) (n me t last : ℕ) (s : N) (ds : List (Act M)) →
+    t ≤ last + 1 → Legal has_work steps n last s ds → IsLogFrom me t (entries me ds)
 legal_log has_work steps n me t last s [] le h = tt
-legal_log has_work steps n me t last s (d ∷ ds) le h = (refl, omega (arith, le, h.0), legal_log has_work steps n me (d.stamp + 1) d.stamp (steps s (input_by d.took)).state ds (omega arith) h.4)
+legal_log has_work steps n me t last s (d ∷ ds) le h = (
+  refl,
+  omega (arith, le, h.0),
+  legal_log has_work steps n me (d.stamp + 1) d.stamp (steps s (input_by d.took)).state ds (omega arith)
+      h.4,
+)
 
-first_node : {M : Type 0} (me : ℕ) (ds : List (Deed M)) (x : Stamped Event) (xs : List (Stamped Event)) → x ∷ xs ≡ entries me ds → x.item.node ≡ me
+first_node : {M : Type 0} (me : ℕ) (ds : List (Act M)) (x : Stamped Event) (xs : List (Stamped Event)) → x ∷ xs ≡ entries me ds →
+    x.item.node ≡ me
 first_node me [] x xs e = absurd (cc e)
-first_node me (d ∷ ds) x xs e = let same : x ≡ record { stamp = d.stamp; node = me; item = event_by me d } = cc in ap (λ (y : Stamped Event). y.item.node) same
+first_node me (d ∷ ds) x xs e =
+    let same : x ≡ record { stamp = d.stamp; node = me; item = event_by me d } = cc in
+    ap (λ (y : Stamped Event). y.item.node) same
 
 -- an entry of a merge is at some place
-entry_at : (k : ℕ) (es : List (Stamped Event)) (x : Stamped Event) (xs : List (Stamped Event)) → by_node k es ≡ x ∷ xs → (i : ℕ) × (slice_get es i ≡ Some x)
+entry_at : (k : ℕ) (es : List (Stamped Event)) (x : Stamped Event) (xs : List (Stamped Event)) → by_node k es ≡ x ∷ xs →
+    (i : ℕ) × (slice_get es i ≡ Some x)
 entry_at k [] x xs e = absurd (cc e)
 entry_at k (y ∷ es) x xs e = elim (cases_eq y.node k) [
   | inl h ↦ (0, (let same : y ≡ x = cc (sym (by_node_own k y es h) ∙ e) in ap Some same))
   | inr h ↦ (let r = entry_at k es x xs (sym (by_node_other k y es h) ∙ e) in (suc r.0, r.1))
 ]
 
-module _ {N M H : Type 0} (has_work : N → Bool) (steps : N → Input M → Stepped N M) (peers : N → ℕ) (n : ℕ) (w : NetView N M) (p : PartsView N M) (parts : AreParts p w) (count : length p.nodes ≡ n) (ends : List (EndsView M H)) (full : AreFull n ends) (linked : AreLinked n p.links ends) (done : List (LoggedView N M H)) (many : length done ≡ n) (runs : AreRuns has_work steps peers (roots_of p.nodes ends) done) where
+module _ {N M H : Type 0} (has_work : N → Bool) (steps : N → Input M → Stepped N M) (peers : N → ℕ) (n : ℕ) (w : NetView N M)
+    (p : PartsView N M) (parts : AreParts p w) (count : length p.nodes ≡ n) (ends : List (EndsView M H)) (full : AreFull n ends)
+    (linked : AreLinked n p.links ends) (done : List (LoggedView N M H)) (many : length done ≡ n)
+    (runs : AreRuns has_work steps peers (roots_of p.nodes ends) done) where
   -- what is known of node k
   pub record Known (k : ℕ) : Type 0 where
     pub node : LoggedView N M H
@@ -120,11 +144,15 @@ module _ {N M H : Type 0} (has_work : N → Bool) (steps : N → Input M → Ste
 
   ins_full : (k : ℕ) (v : LoggedView N M H) → slice_get done k ≡ Some v → length v.ends.ins ≡ n
   unfolding known_by
-  ins_full k v at = let h = known_by k v at in in_many v.ends.ins h.run.replay.root.first.ins h.run.replay.ins_same ∙ full.ins k h.run.replay.root.first h.first
+  ins_full k v at =
+      let h = known_by k v at in
+      in_many v.ends.ins h.run.replay.root.first.ins h.run.replay.ins_same ∙ full.ins k h.run.replay.root.first h.first
 
   outs_full : (k : ℕ) (v : LoggedView N M H) → slice_get done k ≡ Some v → length v.ends.outs ≡ n
   unfolding known_by
-  outs_full k v at = let h = known_by k v at in out_many v.ends.outs h.run.replay.root.first.outs h.run.replay.outs_same ∙ full.outs k h.run.replay.root.first h.first
+  outs_full k v at =
+      let h = known_by k v at in
+      out_many v.ends.outs h.run.replay.root.first.outs h.run.replay.outs_same ∙ full.outs k h.run.replay.root.first h.first
 
   peers_are : (k : ℕ) (v : LoggedView N M H) → slice_get done k ≡ Some v → peers v.node ≡ n
   unfolding known_by
@@ -135,8 +163,10 @@ module _ {N M H : Type 0} (has_work : N → Bool) (steps : N → Input M → Ste
       let all : length (map (λ (v : LoggedView N M H). v.ends) done) ≡ n = length-map done (λ (v : LoggedView N M H). v.ends) ∙ many in
       record {
         count = refl;
-        ins = λ k e at. let b = map_back (λ (v : LoggedView N M H). v.ends) done k e at in ap (λ (x : EndsView M H). length x.ins) b.2 ∙ (ins_full k b.0 b.1 ∙ sym all);
-        outs = λ k e at. let b = map_back (λ (v : LoggedView N M H). v.ends) done k e at in ap (λ (x : EndsView M H). length x.outs) b.2 ∙ (outs_full k b.0 b.1 ∙ sym all);
+        ins = λ k e at. let b = map_back (λ (v : LoggedView N M H). v.ends) done k e at in
+            ap (λ (x : EndsView M H). length x.ins) b.2 ∙ (ins_full k b.0 b.1 ∙ sym all);
+        outs = λ k e at. let b = map_back (λ (v : LoggedView N M H). v.ends) done k e at in
+            ap (λ (x : EndsView M H). length x.outs) b.2 ∙ (outs_full k b.0 b.1 ∙ sym all);
       }
 
   pub ends_paired : ArePaired (map (λ (v : LoggedView N M H). v.ends) done)
@@ -150,19 +180,27 @@ module _ {N M H : Type 0} (has_work : N → Bool) (steps : N → Input M → Ste
       let fb = kb.run.replay.root.first in
       let out : slice_get u.0.ends.outs b ≡ Some o = ap (λ (x : EndsView M H). slice_get x.outs b) (sym u.2) ∙ is in
       let end : slice_get v.0.ends.ins a ≡ Some i = ap (λ (x : EndsView M H). slice_get x.ins a) (sym v.2) ∙ it in
-      let o' = exists_at fa.outs b (let l = slice_get_within u.0.ends.outs b o out in omega (arith, l, outs_full a u.0 u.1, full.outs a fa ka.first)) in
-      let i' = exists_at fb.ins a (let l = slice_get_within v.0.ends.ins a i end in omega (arith, l, ins_full b v.0 v.1, full.ins b fb kb.first)) in
+      let o' =
+      exists_at fa.outs b (let l = slice_get_within u.0.ends.outs b o out in
+      omega (arith, l, outs_full a u.0 u.1, full.outs a fa ka.first)) in
+      let i' =
+      exists_at fb.ins a (let l = slice_get_within v.0.ends.ins a i end in
+      omega (arith, l, ins_full b v.0 v.1, full.ins b fb kb.first)) in
       let new = linked a b o'.0 i'.0 (fa, ka.first, o'.1) (fb, kb.first, i'.1) in
-      out_ring u.0.ends.outs fa.outs b o o'.0 ka.run.replay.outs_same out o'.1 ∙ (new.ring ∙ sym (in_ring v.0.ends.ins fb.ins a i i'.0 kb.run.replay.ins_same end i'.1))
+      out_ring u.0.ends.outs fa.outs b o o'.0 ka.run.replay.outs_same out o'.1
+      ∙ (new.ring ∙ sym (in_ring v.0.ends.ins fb.ins a i i'.0 kb.run.replay.ins_same end i'.1))
 
   pub logs_are : AreLogs (map (λ (v : LoggedView N M H). v.log) done)
   logs_are k = elim (leb_tells n k) [
-    | inl q ↦ subst (IsLogFrom k 0) (sym (get_or_past (map (λ (v : LoggedView N M H). v.log) done) k [] (omega (arith, q.1, many, length-map done (λ (v : LoggedView N M H). v.log))))) tt
+    | inl q ↦ subst (IsLogFrom k 0)
+        (sym (get_or_past (map (λ (v : LoggedView N M H). v.log) done) k []
+        (omega (arith, q.1, many, length-map done (λ (v : LoggedView N M H). v.log))))) tt
     | inr q ↦ (
         let h = known k q.1 in
         let r = h.run.replay in
-        let is : get_or (map (λ (v : LoggedView N M H). v.log) done) k [] ≡ entries k r.deeds = map_read (λ (v : LoggedView N M H). v.log) done k h.node [] h.at ∙ (r.log_is ∙ ap (λ (j : ℕ). entries j r.deeds) h.run.me_is) in
-        rw is (legal_log has_work steps (peers h.node.node) k 0 0 r.root.start r.deeds (omega arith) r.legal))
+        let is : get_or (map (λ (v : LoggedView N M H). v.log) done) k [] ≡ entries k r.acts =
+        map_read (λ (v : LoggedView N M H). v.log) done k h.node [] h.at ∙ (r.log_is ∙ ap (λ (j : ℕ). entries j r.acts) h.run.me_is) in
+        rw is (legal_log has_work steps (peers h.node.node) k 0 0 r.root.start r.acts (omega arith) r.legal))
   ]
 
   module _ (d : N) (v : NetView N M) (events : List Event) (rejoined : IsRejoined done v events) where
@@ -194,7 +232,9 @@ module _ {N M H : Type 0} (has_work : N → Bool) (steps : N → Input M → Ste
     met a b = drop (length (taken_from b a)) (put_to a b)
 
     -- a link at the start
-    new_link : (a b : ℕ) (la : a < n) (lb : b < n) → (o : OutView (Letter M) H) × (i : InView (Letter M) H) × (slice_get (known a la).run.replay.root.first.outs b ≡ Some o) × (slice_get (known b lb).run.replay.root.first.ins a ≡ Some i) × IsNew (get_or p.links (a * n + b) []) o i
+    new_link : (a b : ℕ) (la : a < n) (lb : b < n) → (o : OutView (Letter M) H) × (i : InView (Letter M) H)
+        × (slice_get (known a la).run.replay.root.first.outs b ≡ Some o) × (slice_get (known b lb).run.replay.root.first.ins a ≡ Some i)
+        × IsNew (get_or p.links (a * n + b) []) o i
     new_link a b la lb =
         let ka = known a la in
         let kb = known b lb in
@@ -205,9 +245,13 @@ module _ {N M H : Type 0} (has_work : N → Bool) (steps : N → Input M → Ste
         (o.0, i.0, o.1, i.1, linked a b o.0 i.0 (fa, ka.first, o.1) (fb, kb.first, i.1))
 
     place_is : (a b : ℕ) → a < n → b < n → get_or p.links (a * n + b) [] ≡ link w.rows a b
-    place_is a b la lb = ap (λ (m : ℕ). get_or p.links (a * m + b) []) (sym count) ∙ parts_place p w a b parts (omega (arith, la, count)) (omega (arith, lb, count))
+    place_is a b la lb =
+        ap (λ (m : ℕ). get_or p.links (a * m + b) []) (sym count)
+        ∙ parts_place p w a b parts (omega (arith, la, count)) (omega (arith, lb, count))
 
-    did : (k : ℕ) → k < n → (ds : List (Deed M)) × Did has_work steps n k (start k) (first k) (get_or (map (λ (v : LoggedView N M H). v.log) done) k []) (now k) (hand k) (taken_from k) (put_to k) ds
+    did : (k : ℕ) → k < n → (ds : List (Act M))
+        × Did has_work steps n k (start k) (first k) (get_or (map (λ (v : LoggedView N M H). v.log) done) k []) (now k) (hand k)
+        (taken_from k) (put_to k) ds
     did k lt =
         let h = known k lt in
         let r = h.run.replay in
@@ -215,35 +259,49 @@ module _ {N M H : Type 0} (has_work : N → Bool) (steps : N → Input M → Ste
         let start_is : start k ≡ r.root.start = get_or_from_slice_get p.nodes k r.root.start d h.starts in
         let ends_are : ends_of k ≡ u.ends = map_read (λ (v : LoggedView N M H). v.ends) done k u no_ends h.at in
         let hand_is : hand k ≡ u.hand = map_read (λ (v : LoggedView N M H). v.hand) done k u None h.at in (
-          r.deeds,
+          r.acts,
           record {
-            log_is = map_read (λ (v : LoggedView N M H). v.log) done k u [] h.at ∙ (r.log_is ∙ ap (λ (j : ℕ). entries j r.deeds) h.run.me_is);
-            node_is = map_read (λ (v : LoggedView N M H). v.node) done k u d h.at ∙ (r.node_is ∙ ap (λ s. state_after steps s r.deeds) (sym start_is));
-            legal = subst (λ s. Legal has_work steps n 0 s r.deeds) (sym start_is) (subst (λ (m : ℕ). Legal has_work steps m 0 r.root.start r.deeds) (peers_are k u h.at) r.legal);
+            log_is =
+                map_read (λ (v : LoggedView N M H). v.log) done k u [] h.at ∙ (r.log_is ∙ ap (λ (j : ℕ). entries j r.acts) h.run.me_is);
+            node_is =
+                map_read (λ (v : LoggedView N M H). v.node) done k u d h.at
+                ∙ (r.node_is ∙ ap (λ s. state_after steps s r.acts) (sym start_is));
+            legal =
+                subst (λ s. Legal has_work steps n 0 s r.acts) (sym start_is)
+                (subst (λ (m : ℕ). Legal has_work steps m 0 r.root.start r.acts) (peers_are k u h.at) r.legal);
             taken_is = λ a la.
                 let l = new_link a k la lt in
                 let none : taken r.root.first.ins a ≡ [] = taken_at r.root.first.ins a l.1 l.3 ∙ l.4.taken in
-                ap (λ (e : EndsView M H). taken e.ins a) ends_are ∙ (r.taken_is a ∙ (ap (λ t. t ++ received a r.deeds ++ taken_by a u.hand) none ∙ ap (λ x. received a r.deeds ++ taken_by a x) (sym hand_is)));
+                ap (λ (e : EndsView M H). taken e.ins a) ends_are
+                ∙ (r.taken_is a ∙ (ap (λ t. t ++ received a r.acts ++ taken_by a u.hand) none
+                ∙ ap (λ x. received a r.acts ++ taken_by a x) (sym hand_is)));
             put_is = λ b lb.
                 let l = new_link k b lt lb in
-                let old : put r.root.first.outs b ≡ first k b = put_at r.root.first.outs b l.0 l.2 ∙ (l.4.put ∙ ap at_start (place_is k b lt lb)) in
-                let all : put u.ends.outs b ≡ put r.root.first.outs b ++ items_to b (sends steps r.root.start r.deeds) = sym (append-nil (put u.ends.outs b)) ∙ (ap (λ x. put u.ends.outs b ++ items_to b x) (sym h.run.unsent) ∙ r.put_is b) in
-                ap (λ (e : EndsView M H). put e.outs b) ends_are ∙ (all ∙ (ap (λ t. t ++ items_to b (sends steps r.root.start r.deeds)) old ∙ ap (λ s. first k b ++ items_to b (sends steps s r.deeds)) (sym start_is)));
+                let old : put r.root.first.outs b ≡ first k b =
+                put_at r.root.first.outs b l.0 l.2 ∙ (l.4.put ∙ ap at_start (place_is k b lt lb)) in
+                let all : put u.ends.outs b ≡ put r.root.first.outs b ++ items_to b (sends steps r.root.start r.acts) =
+                sym (append-nil (put u.ends.outs b)) ∙ (ap (λ x. put u.ends.outs b ++ items_to b x) (sym h.run.unsent) ∙ r.put_is b) in
+                ap (λ (e : EndsView M H). put e.outs b) ends_are
+                ∙ (all ∙ (ap (λ t. t ++ items_to b (sends steps r.root.start r.acts)) old
+                ∙ ap (λ s. first k b ++ items_to b (sends steps s r.acts)) (sym start_is)));
           },
         )
 
-    cell : (a b : ℕ) → a < n → b < n → IsCell (map (λ (v : LoggedView N M H). v.ends) done) (map (λ (v : LoggedView N M H). v.hand) done) a b (link v.rows a b)
+    cell : (a b : ℕ) → a < n → b < n → IsCell (map (λ (v : LoggedView N M H). v.ends) done) (map (λ (v : LoggedView N M H). v.hand) done) a
+        b (link v.rows a b)
     cell a b la lb = rejoined.cells a b (omega (arith, la, many)) (omega (arith, lb, many))
 
     put_is : (a b : ℕ) (la : a < n) (lb : b < n) → put_to a b ≡ (cell a b la lb).out.put
     put_is a b la lb =
         let o = (cell a b la lb).is_out in
-        ap (λ (e : EndsView M H). put e.outs b) (get_or_from_slice_get (map (λ (v : LoggedView N M H). v.ends) done) a o.0 no_ends o.1) ∙ put_at o.0.outs b (cell a b la lb).out o.2
+        ap (λ (e : EndsView M H). put e.outs b) (get_or_from_slice_get (map (λ (v : LoggedView N M H). v.ends) done) a o.0 no_ends o.1)
+        ∙ put_at o.0.outs b (cell a b la lb).out o.2
 
     taken_is : (a b : ℕ) (la : a < n) (lb : b < n) → taken_from b a ≡ (cell a b la lb).end.taken
     taken_is a b la lb =
         let i = (cell a b la lb).is_in in
-        ap (λ (e : EndsView M H). taken e.ins a) (get_or_from_slice_get (map (λ (v : LoggedView N M H). v.ends) done) b i.0 no_ends i.1) ∙ taken_at i.0.ins a (cell a b la lb).end i.2
+        ap (λ (e : EndsView M H). taken e.ins a) (get_or_from_slice_get (map (λ (v : LoggedView N M H). v.ends) done) b i.0 no_ends i.1)
+        ∙ taken_at i.0.ins a (cell a b la lb).end i.2
 
     nodes_are : length w.nodes ≡ n
     nodes_are = ap length (sym parts.nodes) ∙ count
@@ -265,48 +323,67 @@ module _ {N M H : Type 0} (has_work : N → Bool) (steps : N → Input M → Ste
       count = ap length rejoined.nodes ∙ (length-map done (λ (v : LoggedView N M H). v.node) ∙ many);
       nodes = λ k lt.
           let h = known k lt in
-          ap (λ l. slice_get l k) rejoined.nodes ∙ (map_at (λ (v : LoggedView N M H). v.node) done k h.node h.at ∙ ap Some (sym (map_read (λ (v : LoggedView N M H). v.node) done k h.node d h.at)));
+          ap (λ l. slice_get l k) rejoined.nodes
+          ∙ (map_at (λ (v : LoggedView N M H). v.node) done k h.node h.at
+          ∙ ap Some (sym (map_read (λ (v : LoggedView N M H). v.node) done k h.node d h.at)));
       links = λ a b la lb. rw (put_is a b la lb, taken_is a b la lb) (cell a b la lb).link_is;
     }
 
     pub is_run : LeadsTo has_work steps w events v
-    is_run = subst (λ es. LeadsTo has_work steps w es v) (sym rejoined.events_are) (logs_are_run has_work steps n w v start now (map (λ (v : LoggedView N M H). v.log) done) hand first taken_from put_to met rejoined.merged joined rejoined.is_merge rebuilt)
+    is_run =
+        subst (λ es. LeadsTo has_work steps w es v) (sym rejoined.events_are)
+        (logs_are_run has_work steps n w v start now (map (λ (v : LoggedView N M H). v.log) done) hand first taken_from put_to met
+        rejoined.merged joined rejoined.is_merge rebuilt)
 
     pub peers_kept : ArePeers peers v
     peers_kept k e lt =
         let count : length v.nodes ≡ n = rebuilt.count in
         let h = known k (omega (arith, lt, count)) in
-        let is : get_or v.nodes k e ≡ h.node.node = ap (λ l. get_or l k e) rejoined.nodes ∙ map_read (λ (v : LoggedView N M H). v.node) done k h.node e h.at in
+        let is : get_or v.nodes k e ≡ h.node.node =
+        ap (λ l. get_or l k e) rejoined.nodes ∙ map_read (λ (v : LoggedView N M H). v.node) done k h.node e h.at in
         ap peers is ∙ (peers_are k h.node h.at ∙ sym count)
 
     -- a node that had a task has an event
-    event_by_log : (k : ℕ) (h : Known k) (s : N) → s ≡ h.run.replay.root.start → has_work s ≡ true → (l : List (Stamped Event)) → h.node.log ≡ l → HasEventOf k events
+    event_by_log : (k : ℕ) (h : Known k) (s : N) → s ≡ h.run.replay.root.start → has_work s ≡ true → (l : List (Stamped Event)) →
+        h.node.log ≡ l → HasEventOf k events
     event_by_log k h s is work [] e = absurd (
         let r = h.run.replay in
-        let none : r.deeds ≡ [] = no_deeds h.node.me r.deeds (sym e ∙ r.log_is) in
+        let none : r.acts ≡ [] = no_acts h.node.me r.acts (sym e ∙ r.log_is) in
         let same : h.node.node ≡ s = r.node_is ∙ (ap (state_after steps r.root.start) none ∙ sym is) in
         let idle : has_work s ≡ false = ap has_work (sym same) ∙ h.run.worked e in
         cc (sym work ∙ idle))
     event_by_log k h s is work (x ∷ xs) e =
         let r = h.run.replay in
-        let own : by_node k rejoined.merged ≡ x ∷ xs = rejoined.is_merge.whole k ∙ (map_read (λ (v : LoggedView N M H). v.log) done k h.node [] h.at ∙ e) in
-        let at = entry_at k rejoined.merged x xs own in
-        (at.0, x.item, ap (λ l. slice_get l at.0) rejoined.events_are ∙ map_at (λ (e : Stamped Event). e.item) rejoined.merged at.0 x at.1, first_node h.node.me r.deeds x xs (sym e ∙ r.log_is) ∙ h.run.me_is)
+        let own : by_node k rejoined.merged ≡ x ∷ xs =
+        rejoined.is_merge.whole k ∙ (map_read (λ (v : LoggedView N M H). v.log) done k h.node [] h.at ∙ e) in
+        let at = entry_at k rejoined.merged x xs own in (
+          at.0,
+          x.item,
+          ap (λ l. slice_get l at.0) rejoined.events_are
+              ∙ map_at (λ (e : Stamped Event). e.item) rejoined.merged at.0 x at.1,
+          first_node h.node.me r.acts x xs (sym e ∙ r.log_is)
+              ∙ h.run.me_is,
+        )
 
     pub has_event : (k : ℕ) (s : N) → slice_get w.nodes k ≡ Some s → has_work s ≡ true → HasEventOf k events
     has_event k s at work =
         let lt : k < n = (let l = slice_get_within w.nodes k s at in omega (arith, l, nodes_are)) in
         let h = known k lt in
-        event_by_log k h s (same_at p.nodes k s h.run.replay.root.start (ap (λ l. slice_get l k) parts.nodes ∙ at) h.starts) work h.node.log refl
+        event_by_log k h s (same_at p.nodes k s h.run.replay.root.start (ap (λ l. slice_get l k) parts.nodes ∙ at) h.starts) work h.node.log
+        refl
 
 -- each node has an end from and an end to each of its peers
-pub has_ends : {N M H : Type 0} (peers : N → ℕ) (n : ℕ) (w : NetView N M) (p : PartsView N M) (ends : List (EndsView M H)) → AreParts p w → length p.nodes ≡ n → ArePeers peers w → AreFull n ends → HasEnds peers (roots_of p.nodes ends)
+pub has_ends : {N M H : Type 0} (peers : N → ℕ) (n : ℕ) (w : NetView N M) (p : PartsView N M) (ends : List (EndsView M H)) → AreParts p w →
+    length p.nodes ≡ n → ArePeers peers w → AreFull n ends → HasEnds peers (roots_of p.nodes ends)
 has_ends peers n w p ends parts count are full k r at =
     let root = root_at p.nodes ends k r at in
-    let is_peers : peers r.start ≡ n = all-get (λ s. peers s ≡ length w.nodes) w.nodes k r.start (ap (λ l. slice_get l k) (sym parts.nodes) ∙ root.0) are ∙ (ap length (sym parts.nodes) ∙ count) in
+    let is_peers : peers r.start ≡ n =
+    all_get (λ s. peers s ≡ length w.nodes) w.nodes k r.start (ap (λ l. slice_get l k) (sym parts.nodes) ∙ root.0) are
+    ∙ (ap length (sym parts.nodes) ∙ count) in
     (full.ins k r.first root.1 ∙ sym is_peers, full.outs k r.first root.1 ∙ sym is_peers)
 
-pub no_task : {N M : Type 0} (has_work : N → Bool) (w : NetView N M) (k : ℕ) (s : N) → IsQuiet has_work w → slice_get w.nodes k ≡ Some s → has_work s ≡ true → ⊥
+pub no_task : {N M : Type 0} (has_work : N → Bool) (w : NetView N M) (k : ℕ) (s : N) → IsQuiet has_work w → slice_get w.nodes k ≡ Some s →
+    has_work s ≡ true → ⊥
 no_task {N} {M} has_work w k s quiet at work =
     let q : enabled has_work w (record { node = k; from = None }) ≡ false = quiet (record { node = k; from = None }) in
     cc (sym work ∙ subst (λ (o : Option N). is_ready {M = M} has_work o (Some Task) ≡ false) at q)

@@ -1,2 +1,4 @@
 pub mod Seats
 pub mod Rejoined
+pub mod Alone
+pub mod Shifts

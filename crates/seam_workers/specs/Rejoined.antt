@@ -12,7 +12,8 @@ use Rattle.seam_mesh.specs.Mesh.{IsCell}
 pub record IsRejoined {N M H : Type 0} (done : List (LoggedView N M H)) (net : NetView N M) (events : List Event) : Type 0 where
   pub nodes : net.nodes ≡ map (λ v. v.node) done
   pub square : IsSquare net
-  pub cells : (a b : ℕ) → a < length done → b < length done → IsCell (map (λ v. v.ends) done) (map (λ v. v.hand) done) a b (link net.rows a b)
+  pub cells : (a b : ℕ) → a < length done → b < length done →
+      IsCell (map (λ v. v.ends) done) (map (λ v. v.hand) done) a b (link net.rows a b)
   pub merged : List (Stamped Event)
   pub is_merge : IsMerge (map (λ v. v.log) done) merged
   pub events_are : events ≡ map (λ e. e.item) merged

@@ -12,7 +12,8 @@ roots_of (n ∷ ns) (e ∷ es) = record { start = n; first = e } ∷ roots_of ns
 
 -- a node has one end from and one to each of its peers
 abbrev pub HasEnds : {N M H : Type 0} → (N → ℕ) → List (Root N M H) → Type 0
-HasEnds {N} {M} {H} peers roots = (k : ℕ) (r : Root N M H) → slice_get roots k ≡ Some r → (length r.first.ins ≡ peers r.start) × (length r.first.outs ≡ peers r.start)
+HasEnds {N} {M} {H} peers roots =
+    (k : ℕ) (r : Root N M H) → slice_get roots k ≡ Some r → (length r.first.ins ≡ peers r.start) × (length r.first.outs ≡ peers r.start)
 
 -- each is at the place of its number
 abbrev pub Placed : {N M H : Type 0} → List (Option (LoggedView N M H)) → Type 0
@@ -26,11 +27,14 @@ filled (Some x ∷ xs) = suc (filled xs)
 
 -- the one at k has the number k and is the replay of its log from the root of that number; all that it sent is put, and where it has a
 -- task it made a step
-pub record IsRun {N M H : Type 0} (has_work : N → Bool) (steps : N → Input M → Stepped N M) (peers : N → ℕ) (roots : List (Root N M H)) (k : ℕ) (v : LoggedView N M H) : Type 0 where
+pub record IsRun {N M H : Type 0} (has_work : N → Bool) (steps : N → Input M → Stepped N M) (peers : N → ℕ) (roots : List (Root N M H))
+    (k : ℕ) (v : LoggedView N M H) : Type 0 where
   pub me_is : v.me ≡ k
   pub replay : IsReplay has_work steps peers roots v
   pub unsent : v.unsent ≡ []
   pub worked : v.log ≡ [] → has_work v.node ≡ false
 
-abbrev pub AreRuns : {N M H : Type 0} → (N → Bool) → (N → Input M → Stepped N M) → (N → ℕ) → List (Root N M H) → List (LoggedView N M H) → Type 0
-AreRuns {N} {M} {H} has_work steps peers roots vs = (k : ℕ) (v : LoggedView N M H) → slice_get vs k ≡ Some v → IsRun has_work steps peers roots k v
+abbrev pub AreRuns : {N M H : Type 0} → (N → Bool) → (N → Input M → Stepped N M) → (N → ℕ) → List (Root N M H) → List (LoggedView N M H) →
+    Type 0
+AreRuns {N} {M} {H} has_work steps peers roots vs =
+    (k : ℕ) (v : LoggedView N M H) → slice_get vs k ≡ Some v → IsRun has_work steps peers roots k v

@@ -5,18 +5,27 @@
 //! the net is the run of the events that are returned (Lamport, "Time, Clocks, and the Ordering of Events in a Distributed
 //! System", 1978).
 //!
-//! No clause says that two workers run at once, how much they do, or that they end: tests show it.
+//! While one node alone has something to do, nothing can be done side by side, and events happen on the net itself (`alone`).
+//!
+//! No clause of `run_workers` says that two workers run at once, how much they do, or that they end: tests show it.
 #![tactic(auto)]
 
-ghost use Rattle.std.specs.Prelude.{◌≡◌, ◌≢◌, ℕ, ◌+◌, ◌<◌, ◌≤◌, length, map, true, Some, IfOk, vec_len, slice_get};
+ghost use Rattle.std.specs.Prelude.{◌≡◌, ◌≢◌, ℕ, ◌+◌, ◌%◌, ◌<◌, ◌≤◌, [], length, map, true, Some, IfOk, vec_len, slice_get};
 ghost use Rattle.std.specs.List.{All};
 ghost use Rattle.seam_machine.specs.Nets.{LeadsTo, ArePeers};
 ghost use Rattle.seam_workers.specs.Seats.{Placed, filled, AreRuns, roots_of, HasEnds};
 ghost use Rattle.seam_workers.specs.Rejoined.{HasEventOf};
+ghost use Rattle.seam_workers.specs.Shifts.{IsDone};
+ghost use Rattle.seam_logged.specs.Logs.{HasStepped, SameBut, IsIdle};
+ghost use Rattle.seam_logged.specs.declared.Try.TheVariants as Try;
 
+mod alone;
 mod joins;
+mod shifts;
 
+use crate::alone::alone;
 use crate::joins::rejoin;
+use crate::shifts::{Shift, visit};
 use crossbeam_utils::CachePadded;
 use seam_logged::{Apart, Ends, Logged, Naming, Try};
 use seam_machine::{Event, Machine, Net, NetParts};
@@ -36,7 +45,7 @@ pub struct Crew {
     pub turns: u32,
 }
 
-/// What a worker calls before each try, while it has the node's lock.
+/// What is called before each try, while nobody else can step the node.
 pub trait Gate {
     fn at_step<R: Threads + Wait + Sync>(&self, rt: &R, node: u8);
 }
@@ -124,7 +133,9 @@ impl<M: Machine, J: Naming<M, M::Msg> + Claims> Seat<M, J> {
 
     // Makes one step, if there is one to make.
     fn try_step(&mut self, alloc: Global) -> Try
-        ensures { self.new.me ≡ self.old.me }
+        ensures me { self.new.me ≡ self.old.me }
+        ensures stepped { result ≡ Try.Stepped → HasStepped M.steps self.old self.new × (self.new.unsent ≡ []) }
+        ensures idle { result ≡ Try.Idle → SameBut self.old self.new × IsIdle M.has_work self.new × (self.new.unsent ≡ []) }
     {
         self.logged.try_step(alloc)
     }
@@ -175,55 +186,45 @@ struct Tries {
     turns: u32,
 }
 
-// Tries one step of a node.
-fn visit<M: Machine, J: Naming<M, M::Msg> + Claims, G: Gate, R: Threads + Wait + Sync>(
-    rt: &R,
-    alloc: Global,
-    place: &CachePadded<Mutex<Seat<M, J>>>,
-    gate: &G,
-) -> Try {
-    let lock: &Mutex<Seat<M, J>> = place;
-    let mut held = lock.lock(rt);
-    gate.at_step(rt, held.number());
-    held.try_step(alloc)
-}
-
 // Which of n nodes a worker visits at its turn.
 fn place_at(number: usize, turn: u32, n: usize) -> usize
     requires { 0 < n }
-    ensures { result < n }
+    ensures within { result < n }
+    ensures rising { number % 2 ≡ 0 → result ≡ turn % n }
+    ensures falling { number % 2 ≡ 1 → result + turn % n + 1 ≡ n }
 {
     let k = turn as usize % n;
     if number % 2 == 0 { k } else { n - 1 - k }
 }
 
-// Visits the nodes in turn, until no step was made over as many visits as there are nodes. False if allocation failed.
+// Visits the nodes in turn, until no step was made over as many visits as there are nodes, or memory was refused.
 fn work<M: Machine, J: Naming<M, M::Msg> + Claims, G: Gate, R: Threads + Wait + Sync>(
     rt: &R,
     alloc: Global,
     places: &[CachePadded<Mutex<Seat<M, J>>>],
     tries: Tries,
     gate: &G,
-) -> bool {
+) -> Shift
+    ensures { IsDone tries.turns (length places.now) result }
+{
     let n = places.len();
-    if n == 0 {
-        return true;
-    }
-    let mut idle = 0;
+    let mut shift = Shift::new();
     for turn in 0..tries.turns {
-        match visit(rt, alloc, &places[place_at(tries.number, turn, n)], gate) {
-            Try::Stepped => idle = 0,
-            Try::Idle => idle += 1,
-            Try::NoMemory => return false,
+        if shift.is_over(n) {
+            return shift;
         }
-        if idle >= n {
-            return true;
-        }
+        visit(
+            rt,
+            alloc,
+            &places[place_at(tries.number, turn, n)],
+            gate,
+            &mut shift,
+        );
     }
-    true
+    shift
 }
 
-// Each worker's visits, in a thread of its own.
+// Each worker's visits, in a thread of its own. For each, whether memory was refused.
 fn visits<
     M: Machine + Send,
     J: Naming<M, M::Msg> + Claims + Send,
@@ -238,6 +239,7 @@ fn visits<
 ) -> Result<Vec<bool>, AllocError>
 where
     M::Msg: Send,
+    ensures { IfOk result (λ v. vec_len v ≡ crew.workers) }
 {
     thread::map_indices(
         rt,
@@ -254,6 +256,7 @@ where
                 },
                 gate,
             )
+            .is_refused()
         },
     )
 }
@@ -356,13 +359,20 @@ struct Start<M: Machine> {
     claims: Vec<Blank>,
 }
 
+// The nodes of a run after it, and of each worker, whether memory was refused.
+#[derive(Drop)]
+struct Joined<M: Machine> {
+    nodes: Vec<Apart<M>>,
+    refused: Vec<bool>,
+}
+
 // Steps the nodes of the run J in threads.
 fn run_named<
     M: Machine + Send,
     J: Naming<M, M::Msg> + Claims + Send,
     G: Gate + Sync,
     R: Threads + Wait + Sync,
->(rt: &R, alloc: Global, start: Start<M>, crew: Crew, gate: &G) -> Result<Vec<Apart<M>>, AllocError>
+>(rt: &R, alloc: Global, start: Start<M>, crew: Crew, gate: &G) -> Result<Joined<M>, AllocError>
 where
     M::Msg: Send,
     requires few { vec_len start.nodes < 256 }
@@ -372,8 +382,9 @@ where
     requires whole { All (λ b. b.parts ≡ 1) start.claims.items }
     requires each { vec_len start.ends ≡ vec_len start.nodes }
     requires each_claim { vec_len start.claims ≡ vec_len start.nodes }
-    ensures many { IfOk result (λ r. vec_len r ≡ vec_len start.nodes) }
-    ensures runs { IfOk result (λ r. AreRuns M.has_work M.steps M.peer_count J.roots r.items) }
+    ensures many { IfOk result (λ r. vec_len r.nodes ≡ vec_len start.nodes) }
+    ensures runs { IfOk result (λ r. AreRuns M.has_work M.steps M.peer_count J.roots r.nodes.items) }
+    ensures crew { IfOk result (λ r. vec_len r.refused ≡ crew.workers) }
 {
     let Start {
         nodes,
@@ -381,12 +392,13 @@ where
         claims,
     } = start;
     let places: Vec<CachePadded<Mutex<Seat<M, J>>>> = seated(alloc, nodes, ends, claims)?;
-    let done = visits(rt, alloc, places.as_slice(), crew, gate)?;
-    if !done.iter().all(|b| *b) {
+    let refused = visits(rt, alloc, places.as_slice(), crew, gate)?;
+    if refused.iter().any(|b| *b) {
         return Err(AllocError);
     }
     let found = unlocked(alloc, places)?;
-    sorted(alloc, found)
+    let nodes = sorted(alloc, found)?;
+    Ok(Joined { nodes, refused })
 }
 
 // Steps the nodes of the start in threads. The node given back at each place is the replay of its log from the one at that place.
@@ -396,7 +408,7 @@ fn run_nodes<M: Machine + Send, G: Gate + Sync, R: Threads + Wait + Sync>(
     start: Start<M>,
     crew: Crew,
     gate: &G,
-) -> Result<Vec<Apart<M>>, AllocError>
+) -> Result<Joined<M>, AllocError>
 where
     M::Msg: Send,
     requires few { vec_len start.nodes < 256 }
@@ -404,15 +416,15 @@ where
     requires whole { All (λ b. b.parts ≡ 1) start.claims.items }
     requires each { vec_len start.ends ≡ vec_len start.nodes }
     requires each_claim { vec_len start.claims ≡ vec_len start.nodes }
-    ensures many { IfOk result (λ r. vec_len r ≡ vec_len start.nodes) }
-    ensures runs { IfOk result (λ r. AreRuns M.has_work M.steps M.peer_count (roots_of start.nodes.items start.ends.items) r.items) }
+    ensures many { IfOk result (λ r. vec_len r.nodes ≡ vec_len start.nodes) }
+    ensures runs { IfOk result (λ r. AreRuns M.has_work M.steps M.peer_count (roots_of start.nodes.items start.ends.items) r.nodes.items) }
+    ensures crew { IfOk result (λ r. vec_len r.refused ≡ crew.workers) }
 {
     run_named::<M, Brand, G, R>(rt, alloc, start, crew, gate)
 }
 
-/// Runs the net by workers in threads. Each node that has a task makes a step, and a net with nothing to do starts no thread.
-/// If allocation fails, nothing is given back.
-pub fn run_workers<M: Machine + Send, G: Gate + Sync, R: Threads + Wait + Sync>(
+// Runs the net by workers in threads. Each node that has a task makes a step.
+fn run_crew<M: Machine + Send, G: Gate + Sync, R: Threads + Wait + Sync>(
     rt: &R,
     alloc: Global,
     net: Net<M>,
@@ -421,8 +433,6 @@ pub fn run_workers<M: Machine + Send, G: Gate + Sync, R: Threads + Wait + Sync>(
 ) -> Result<(Net<M>, Vec<Event>), AllocError>
 where
     M::Msg: Send,
-    requires workers { (1 ≤ crew.workers) × (crew.workers ≤ 16) }
-    requires turns { 1 ≤ crew.turns }
     requires peers { ArePeers M.peer_count net }
     ensures run { IfOk result (λ r. LeadsTo M.has_work M.steps net r.1.items r.0) }
     ensures tasks { IfOk result (λ r. (k : ℕ) (s : M) → slice_get net.nodes k ≡ Some s → M.has_work s ≡ true → HasEventOf k r.1.items) }
@@ -440,6 +450,36 @@ where
         ends,
         claims,
     };
-    let done = run_nodes(rt, alloc, start, crew, gate)?;
+    let Joined {
+        nodes: done,
+        refused: _,
+    } = run_nodes(rt, alloc, start, crew, gate)?;
     rejoin(alloc, done)
+}
+
+/// Runs the net by workers in threads. Each node that has a task makes a step.
+///
+/// While one node alone has something to do, at most `turns` events happen at once: no thread is started and no link is made before
+/// two nodes have something to do, and none at all where nothing has. If allocation fails, nothing is given back.
+pub fn run_workers<M: Machine + Send, G: Gate + Sync, R: Threads + Wait + Sync>(
+    rt: &R,
+    alloc: Global,
+    net: Net<M>,
+    crew: Crew,
+    gate: &G,
+) -> Result<(Net<M>, Vec<Event>), AllocError>
+where
+    M::Msg: Send,
+    requires workers { (1 ≤ crew.workers) × (crew.workers ≤ 16) }
+    requires turns { 1 ≤ crew.turns }
+    requires peers { ArePeers M.peer_count net }
+    ensures run { IfOk result (λ r. LeadsTo M.has_work M.steps net r.1.items r.0) }
+    ensures tasks { IfOk result (λ r. (k : ℕ) (s : M) → slice_get net.nodes k ≡ Some s → M.has_work s ≡ true → HasEventOf k r.1.items) }
+    ensures peers { IfOk result (λ r. ArePeers M.peer_count r.0) }
+{
+    let mut net = net;
+    let mut events = alone(rt, alloc, &mut net, crew.turns, gate)?;
+    let (net, mut more) = run_crew(rt, alloc, net, crew, gate)?;
+    events.append(&mut more)?;
+    Ok((net, events))
 }

@@ -1,7 +1,8 @@
 use Rattle.std.proofs.Common.{rules, ap, ap₂, refl, codes, true, map, List, [], ◌∷◌, ◌≡◌, ◌∙◌, subst}
 use Rattle.std.proofs.lemmas.Result.{IfOk-weaker}
 use Rattle.std.specs.String.{string_bytes}
-use Rattle.clap.specs.Words.{App, FailsBy, Rule, Text, app_of, fault_of, is_simple, is_simple_and_free, matches_of, new_app, rule_of, with_rule}
+use Rattle.clap.specs.Words.{App, FailsBy, Rule, Text, app_of, fault_of, is_simple, is_simple_and_free, matches_of, new_app, rule_of}
+use Rattle.clap.specs.Words.{with_rule}
 use Rattle.clap.specs.Simple.{app_of_fields}
 use Rattle.clap.proofs.OnLiterals.{clap_on_literals}
 use Rattle.seam_args.specs.Words.{command, flag_rule, number_rule, without_name}

@@ -1,6 +1,6 @@
 use Rattle.std.proofs.Common.{◌∙◌, ◌∷◌, ◌++◌, [], ap, sym, append_assoc}
-use Rattle.seam_merge.specs.Deeds.{items}
-use Rattle.seam_mesh.proofs.Meets.{items-append}
+use Rattle.seam_merge.specs.Acts.{items}
+use Rattle.seam_merge.proofs.Moves.{items_append}
 use Rattle.seam_mesh.proofs.add_letters.Goals as goal
 
 pub loop-letter-preserved : goal.loop-letter-preserved
@@ -8,4 +8,5 @@ loop-letter-preserved g c =
     let old = c.args.link.now.items in
     let done = c.loop-letter.yielded in
     let next = c.in-Some.letter ∷ [] in
-    c.in_ok-push.ensures.items ∙ (ap (λ l. l ++ items next) c.loop-letter.invariant ∙ (append_assoc old (items done) (items next) ∙ ap (λ l. old ++ l) (sym (items-append done next))))
+    c.in_ok-push.ensures.items ∙ (ap (λ l. l ++ items next) c.loop-letter.invariant
+    ∙ (append_assoc old (items done) (items next) ∙ ap (λ l. old ++ l) (sym (items_append done next))))

@@ -1,5 +1,5 @@
 use Rattle.std.proofs.Common.{◌≡◌, ◌++◌}
-use Rattle.seam_merge.specs.Deeds.{items}
+use Rattle.seam_merge.specs.Acts.{items}
 use Rattle.seam_mesh.proofs.add_letters.Given as goal
 
 abbrev pub invariant-loop-letter : goal.invariant-loop-letter

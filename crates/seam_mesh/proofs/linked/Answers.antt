@@ -17,8 +17,12 @@ loop-from-preserved g c =
     let here = ap (map (λ v. v.items)) inv.rest ∙ map_drop (λ v. v.items) (from * n) links in
     record {
       reached = subst (λ (m : ℕ). Reached m (from + 1) 0 next) count c.in_ok-link_row.ensures.reached;
-      rest = c.in_ok-link_row.ensures.rest ∙ (ap (λ (m : ℕ). drop m c.loop-from.rest.items) count ∙ (ap (drop n) inv.rest ∙ (drop_more (from * n) n links ∙ ap (λ (m : ℕ). drop m links) (sym (one_more_row from n)))));
-      linked = subst (λ (m : ℕ). (ls : List (List _)) → map (λ v. v.items) c.loop-from.rest.items ≡ drop (from * m) ls → AreLinked m ls now → AreLinked m ls next) count c.in_ok-link_row.ensures.linked (map (λ v. v.items) links) here inv.linked;
+      rest =
+          c.in_ok-link_row.ensures.rest ∙ (ap (λ (m : ℕ). drop m c.loop-from.rest.items) count
+          ∙ (ap (drop n) inv.rest ∙ (drop_more (from * n) n links ∙ ap (λ (m : ℕ). drop m links) (sym (one_more_row from n)))));
+      linked =
+          subst (λ (m : ℕ). (ls : List (List _)) → map (λ v. v.items) c.loop-from.rest.items ≡ drop (from * m) ls → AreLinked m ls now →
+          AreLinked m ls next) count c.in_ok-link_row.ensures.linked (map (λ v. v.items) links) here inv.linked;
     }
 
 pub returns-clause-full : goal.returns-clause-full

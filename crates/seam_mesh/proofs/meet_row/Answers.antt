@@ -20,7 +20,8 @@ loop-to-init g c =
 pub meet_link-requires-clause-paired : goal.meet_link-requires-clause-paired
 meet_link-requires-clause-paired g c =
     let ends = c.args.ends.now.items in
-    paired_less (length ends) ends c.args.hands.now.items c.args.from c.loop-to.to c.loop-to.ends.items c.loop-to.hands.items c.loop-to.invariant.remaining c.requires.paired
+    paired_less (length ends) ends c.args.hands.now.items c.args.from c.loop-to.to c.loop-to.ends.items c.loop-to.hands.items
+    c.loop-to.invariant.remaining c.requires.paired
 
 pub loop-to-preserved : goal.loop-to-preserved
 loop-to-preserved g c =
@@ -39,10 +40,13 @@ loop-to-preserved g c =
     let count : length ends' ≡ n = inv.remaining.reached.count in
     let link = c.in_ok-link.link.items in
     let old = map (λ v. v.items) c.args.links.now.items in
-    let one : Remaining n from at ends' hands' ends'' hands'' = subst (λ (m : ℕ). Remaining m from at ends' hands' ends'' hands'') count c.in_ok-link.ensures.remaining in
-    let below : (x y : ℕ) → Below from at x y → Below from to x y = λ x y b. elim b [ inl p ↦ inl p | inr p ↦ inr (p.0, omega (arith, p.1, back)) ] in
+    let one : Remaining n from at ends' hands' ends'' hands'' =
+    subst (λ (m : ℕ). Remaining m from at ends' hands' ends'' hands'') count c.in_ok-link.ensures.remaining in
+    let below : (x y : ℕ) → Below from at x y → Below from to x y =
+    λ x y b. elim b [ inl p ↦ inl p | inr p ↦ inr (p.0, omega (arith, p.1, back)) ] in
     let here : Below from to from at = inr (refl, omega (arith, back)) in
-    let cell : IsCell ends hands from at link = cell_before n ends hands from to ends' hands' inv.remaining from at link here c.in_ok-link.ensures.cell in
+    let cell : IsCell ends hands from at link =
+    cell_before n ends hands from to ends' hands' inv.remaining from at link here c.in_ok-link.ensures.cell in
     let row = inv.row.0 in
     let rest : IsRow ends hands from (at + 1) row = subst (λ (b : ℕ). IsRow ends hands from b row) (sym back) inv.row.3 in
     record {
@@ -60,7 +64,8 @@ pub returns-clause-remaining : goal.returns-clause-remaining
 returns-clause-remaining g c =
     let ends = c.args.ends.now.items in
     let none : c.loop-to.to ≡ 0 = omega (arith, c.loop-to-test.false) in
-    subst (λ (b : ℕ). Remaining (length ends) c.args.from b ends c.args.hands.now.items c.loop-to.ends.items c.loop-to.hands.items) none c.loop-to.invariant.remaining
+    subst (λ (b : ℕ). Remaining (length ends) c.args.from b ends c.args.hands.now.items c.loop-to.ends.items c.loop-to.hands.items) none
+    c.loop-to.invariant.remaining
 
 pub returns-clause-row : goal.returns-clause-row
 returns-clause-row g c =

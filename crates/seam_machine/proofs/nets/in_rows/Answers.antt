@@ -14,8 +14,12 @@ loop-i-preserved g c =
     let more = c.in_ok-of_next.ensures.left in
     let left = c.loop-i.invariant.left in
     record {
-      taken = flat_more rows c.push.new.self.items row (map (λ v. v.items) c.loop-i.rest.items) (map (λ v. v.items) c.of_next.new.rest.items) (map (λ v. v.items) c.args.links.items) push c.in_ok-of_next.ensures.taken c.loop-i.invariant.taken;
+      taken =
+          flat_more rows c.push.new.self.items row (map (λ v. v.items) c.loop-i.rest.items) (map (λ v. v.items) c.of_next.new.rest.items)
+          (map (λ v. v.items) c.args.links.items) push c.in_ok-of_next.ensures.taken c.loop-i.invariant.taken;
       count = ap length push ∙ (length-append rows (row ∷ []) ∙ omega arith);
-      wide = (let P : List (List _) → Type 0 = λ l. All (λ r. length r ≡ c.args.n) l in subst P (sym push) (All-push (λ r. length r ≡ c.args.n) rows row c.loop-i.invariant.wide c.in_ok-of_next.ensures.wide));
+      wide =
+          (let P : List (List _) → Type 0 = λ l. All (λ r. length r ≡ c.args.n) l in
+          subst P (sym push) (All-push (λ r. length r ≡ c.args.n) rows row c.loop-i.invariant.wide c.in_ok-of_next.ensures.wide));
       left = omega (arith, one, more, left);
     }

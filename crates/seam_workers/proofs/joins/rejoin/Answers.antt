@@ -33,7 +33,8 @@ returns g c =
           let same : a * length parted.ends.items + b ≡ a * length parted.nodes.items + b = ap (λ (m : ℕ). a * m + b) (many ∙ sym nodes) in
           let place = parts_place p c.in_ok-net.net a b parts (omega (arith, la, nodes)) (omega (arith, lb, nodes)) in
           let at = get_or links (a * length parted.ends.items + b) [] in
-          subst (λ l. IsCell ends hands a b l) (ap (λ (k : ℕ). get_or links k []) same ∙ place) (subst (λ es. IsCell es hands a b at) is.ends (subst (λ hs. IsCell parted.ends.items hs a b at) is.hands cell));
+          subst (λ l. IsCell ends hands a b l) (ap (λ (k : ℕ). get_or links k []) same ∙ place)
+          (subst (λ es. IsCell es hands a b at) is.ends (subst (λ hs. IsCell parted.ends.items hs a b at) is.hands cell));
       merged = merged;
       is_merge = subst (λ l. IsMerge l merged) is.logs c.in_ok-merged.ensures;
       events_are = c.in_ok-events.ensures;

@@ -13,4 +13,6 @@ returns-then-index-eq0 g c = λ t a.
     let n = c.self.inside in
     let lt : c.args.to < length n.busy.items = omega (arith, n.busy.ok) in
     let none : length _ ≡ 0 = sym c.count_to.ensures.count ∙ is_zero c.count_to.result t in
-    ap (λ r. link r a c.args.to) (sym (ap (λ w. w.rows) c.self.view_is)) ∙ idle n.rows.items n.busy.items n.sender n.out.items c.self.invariant c.args.to lt (sym (get_or_read n.busy.items c.args.to c.index.result.now lt c.index.ensures 0) ∙ c.if-index-eq0.true) none a
+    ap (λ r. link r a c.args.to) (sym (ap (λ w. w.rows) c.self.view_is))
+    ∙ idle n.rows.items n.busy.items n.sender n.out.items c.self.invariant c.args.to lt
+    (sym (get_or_read n.busy.items c.args.to c.index.result.now lt c.index.ensures 0) ∙ c.if-index-eq0.true) none a

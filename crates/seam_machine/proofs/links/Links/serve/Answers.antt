@@ -8,7 +8,9 @@ none_waits : (g : _) (c : After-index_mut-row g) → c.self.inside.out.items ≡
 none_waits g c = empty_is c.self.inside.out.items (ap (λ l. l.clear) c.self.view_is ∙ c.requires.clear)
 
 all_there : (g : _) (c : After-index_mut-row g) → c.args.self.now.rows ≡ c.self.inside.rows.items
-all_there g c = sym (ap (λ l. l.rows) c.self.view_is) ∙ clear_rows c.self.inside.rows.items c.self.inside.sender c.self.inside.out.items (ap (λ l. l.clear) c.self.view_is ∙ c.requires.clear)
+all_there g c =
+    sym (ap (λ l. l.rows) c.self.view_is)
+    ∙ clear_rows c.self.inside.rows.items c.self.inside.sender c.self.inside.out.items (ap (λ l. l.clear) c.self.view_is ∙ c.requires.clear)
 
 holds : (g : _) (c : After-index_mut-row g) → 0 < length (link c.self.inside.rows.items c.args.from c.args.to)
 holds g c =
@@ -26,7 +28,8 @@ pub lower-requires-clause-some : goal.lower-requires-clause-some
 lower-requires-clause-some g c =
     let n = c.self.inside in
     let i = (goal.at.lower-requires-clause-some g c).After-index_mut-row in
-    counted_some n.rows.items n.busy.items n.sender n.out.items c.self.invariant c.args.from c.args.to c.index_mut-row.result.now (row_is g i) (row_holds g i)
+    counted_some n.rows.items n.busy.items n.sender n.out.items c.self.invariant c.args.from c.args.to c.index_mut-row.result.now
+    (row_is g i) (row_holds g i)
 
 pub invariant_of-self-2 : goal.invariant_of-self-2
 invariant_of-self-2 g c =
@@ -35,8 +38,12 @@ invariant_of-self-2 g c =
     let s = c.in-Ok.ensures.served in
     let rows = ap length (all_there g i) in
     let peers = g.M.Machine.peer_count c.args.node.now in
-    let below = below_peers (length n.rows.items) peers c.serve.new.out.items (c.requires.peers ∙ rows) (c.serve.ensures.to_peers (below_none peers n.out.items (none_waits g i))) in
-    links_served n.rows.items n.busy.items n.sender n.out.items c.self.invariant c.args.from c.args.to c.index_mut-row.result.now (row_is g i) (row_holds g i) c.serve.new.self c.lower.new.busy.items c.len-left.result c.serve.new.out.items s.row_is c.len-left.ensures.len c.lower.ensures below
+    let below =
+    below_peers (length n.rows.items) peers c.serve.new.out.items (c.requires.peers ∙ rows)
+    (c.serve.ensures.to_peers (below_none peers n.out.items (none_waits g i))) in
+    links_served n.rows.items n.busy.items n.sender n.out.items c.self.invariant c.args.from c.args.to c.index_mut-row.result.now
+    (row_is g i) (row_holds g i) c.serve.new.self c.lower.new.busy.items c.len-left.result c.serve.new.out.items s.row_is
+    c.len-left.ensures.len c.lower.ensures below
 
 pub returns-clause-fed : goal.returns-clause-fed
 returns-clause-fed g c =
@@ -44,7 +51,12 @@ returns-clause-fed g c =
     let s = c.in-Ok.ensures.served in
     record {
       input = s.input;
-      is_fed = ap (λ r. letter c.args.from (get_or r c.args.to [])) (ap (λ r. get_or r c.args.from []) (all_there g i) ∙ sym (row_is g i)) ∙ s.is_fed;
+      is_fed =
+          ap (λ r. letter c.args.from (get_or r c.args.to [])) (ap (λ r. get_or r c.args.from []) (all_there g i) ∙ sym (row_is g i))
+          ∙ s.is_fed;
       state_is = s.state_is;
-      rows_is = c.settle.ensures.rows ∙ served_rows c.self.inside.rows.items c.args.self.now.rows c.args.from c.args.to c.index_mut-row.result.now c.serve.new.self c.serve.new.out.items c.self.inside.out.items (g.M.Machine.steps c.args.node.now s.input).sent (all_there g i) (row_is g i) s.row_is s.out_is (none_waits g i);
+      rows_is =
+          c.settle.ensures.rows ∙ served_rows c.self.inside.rows.items c.args.self.now.rows c.args.from c.args.to c.index_mut-row.result.now
+          c.serve.new.self c.serve.new.out.items c.self.inside.out.items (g.M.Machine.steps c.args.node.now s.input).sent (all_there g i)
+          (row_is g i) s.row_is s.out_is (none_waits g i);
     }

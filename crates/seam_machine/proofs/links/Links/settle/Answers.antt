@@ -6,13 +6,19 @@ use Rattle.seam_machine.proofs.links.Links.settle.Goals as goal
 use Rattle.seam_machine.proofs.links.Links.settle.Goals.{Else-is_empty, After-index_mut-row}
 
 sender_in : (g : _) (c : Else-is_empty g) → c.self.inside.sender < length c.self.inside.rows.items
-sender_in g c = sender_within c.self.inside.rows.items c.self.inside.busy.items c.self.inside.sender c.self.inside.out.items c.self.invariant (sym c.is_empty.ensures ∙ c.if-is_empty.false)
+sender_in g c =
+    sender_within c.self.inside.rows.items c.self.inside.busy.items c.self.inside.sender c.self.inside.out.items c.self.invariant
+    (sym c.is_empty.ensures ∙ c.if-is_empty.false)
 
 row_is : (g : _) (c : After-index_mut-row g) → c.index_mut-row.result.now ≡ get_or c.self.inside.rows.items c.self.inside.sender []
-row_is g c = get_or_read c.self.inside.rows.items c.self.inside.sender c.index_mut-row.result.now (sender_in g ((goal.at.After-index_mut-row g c).Else-is_empty)) c.index_mut-row.ensures.value []
+row_is g c =
+    get_or_read c.self.inside.rows.items c.self.inside.sender c.index_mut-row.result.now
+    (sender_in g ((goal.at.After-index_mut-row g c).Else-is_empty)) c.index_mut-row.ensures.value []
 
 pub index_mut-row-requires : goal.index_mut-row-requires
-index_mut-row-requires g c = let h = sender_in g ((goal.at.index_mut-row-requires g c).Else-is_empty) in omega (arith, h, c.self.inside.rows.ok.0)
+index_mut-row-requires g c =
+    let h = sender_in g ((goal.at.index_mut-row-requires g c).Else-is_empty) in
+    omega (arith, h, c.self.inside.rows.ok.0)
 
 pub deliver-requires-clause-wide : goal.deliver-requires-clause-wide
 deliver-requires-clause-wide g c =
@@ -26,16 +32,20 @@ pub deliver-requires-clause-fits : goal.deliver-requires-clause-fits
 deliver-requires-clause-fits g c =
     let lt = sender_in g ((goal.at.deliver-requires-clause-fits g c).Else-is_empty) in
     let row = row_is g ((goal.at.deliver-requires-clause-fits g c).After-index_mut-row) in
-    subst (CountsFit c.self.inside.busy.items) (sym row) (counts_fit c.self.inside.rows.items c.self.inside.busy.items c.self.inside.sender c.self.inside.out.items c.self.invariant c.self.inside.sender lt)
+    subst (CountsFit c.self.inside.busy.items) (sym row)
+    (counts_fit c.self.inside.rows.items c.self.inside.busy.items c.self.inside.sender c.self.inside.out.items c.self.invariant
+    c.self.inside.sender lt)
 
 pub invariant_of-self : goal.invariant_of-self
 invariant_of-self g c =
     let lt = sender_in g ((goal.at.invariant_of-self g c).Else-is_empty) in
     let n = c.self.inside in
-    links_delivered n.rows.items n.busy.items c.deliver.new.busy.items n.sender n.out.items c.deliver.new.out.items c.index_mut-row.result.now c.deliver.new.row c.self.invariant lt c.index_mut-row.ensures.value c.deliver.ensures.moved
+    links_delivered n.rows.items n.busy.items c.deliver.new.busy.items n.sender n.out.items c.deliver.new.out.items
+    c.index_mut-row.result.now c.deliver.new.row c.self.invariant lt c.index_mut-row.ensures.value c.deliver.ensures.moved
 
 pub returns-clause-rows : goal.returns-clause-rows
 returns-clause-rows g c =
     let lt = sender_in g ((goal.at.returns-clause-rows g c).Else-is_empty) in
     let n = c.self.inside in
-    delivering n.rows.items n.sender n.out.items c.deliver.new.out.items c.index_mut-row.result.now c.deliver.new.row lt c.index_mut-row.ensures.value c.deliver.ensures.moved.moved ∙ ap (λ w. w.rows) c.self.view_is
+    delivering n.rows.items n.sender n.out.items c.deliver.new.out.items c.index_mut-row.result.now c.deliver.new.row lt
+    c.index_mut-row.ensures.value c.deliver.ensures.moved.moved ∙ ap (λ w. w.rows) c.self.view_is

@@ -14,7 +14,9 @@ node_in g c =
 
 node_is : (g : _) (c : After-index_mut-node g) → slice_get c.args.self.now.nodes c.args.event.node ≡ Some c.index_mut-node.result.now
 node_is g c =
-    ap (λ w. slice_get w.nodes c.args.event.node) (sym c.self.view_is) ∙ slice_get_read c.self.inside.nodes.items (length c.self.inside.nodes.items) c.args.event.node c.index_mut-node.result.now refl (node_in g ((goal.at.After-index_mut-node g c).In_ok-settle)) c.index_mut-node.ensures.value
+    ap (λ w. slice_get w.nodes c.args.event.node) (sym c.self.view_is)
+    ∙ slice_get_read c.self.inside.nodes.items (length c.self.inside.nodes.items) c.args.event.node c.index_mut-node.result.now refl
+    (node_in g ((goal.at.After-index_mut-node g c).In_ok-settle)) c.index_mut-node.ensures.value
 
 rows_are : (g : _) (c : In_ok-settle g) → c.settle.new.self.rows ≡ c.args.self.now.rows
 rows_are g c = c.settle.ensures.rows ∙ ap (λ w. w.rows) c.self.view_is
@@ -30,7 +32,9 @@ work-requires-clause-is_node g c =
     omega (arith, lt, ap length (rows_are g i), ap (λ w. length w.nodes) c.self.view_is, n.square.rows)
 
 pub work-requires-clause-task : goal.work-requires-clause-task
-work-requires-clause-task g c = enabled_works g.M.Machine.has_work c.args.self.now c.args.event c.index_mut-node.result.now c.requires.enabled c.in-None.is (node_is g ((goal.at.work-requires-clause-task g c).After-index_mut-node))
+work-requires-clause-task g c =
+    enabled_works g.M.Machine.has_work c.args.self.now c.args.event c.index_mut-node.result.now c.requires.enabled c.in-None.is
+    (node_is g ((goal.at.work-requires-clause-task g c).After-index_mut-node))
 
 pub work-requires-clause-peers : goal.work-requires-clause-peers
 work-requires-clause-peers g c =
@@ -44,19 +48,27 @@ work-requires-clause-peers g c =
 pub invariant_of-self-in-Ok : goal.invariant_of-self-in-Ok
 invariant_of-self-in-Ok g c =
     let i = (goal.at.invariant_of-self-in-Ok g c).In_ok-settle in
-    net_fed g.M.Machine.steps c.args.self.now c.args.event (Some c.in-Some.from) c.self.inside.nodes.items c.settle.new.self.rows c.serve.new.self.rows c.index_mut-node.result.now c.serve.new.node c.in-Some.is (ap (λ w. w.nodes) c.self.view_is) (rows_are g i) (node_is g ((goal.at.invariant_of-self-in-Ok g c).After-index_mut-node)) c.in-Ok.ensures.fed (is_net g i)
+    net_fed g.M.Machine.steps c.args.self.now c.args.event (Some c.in-Some.from) c.self.inside.nodes.items c.settle.new.self.rows
+    c.serve.new.self.rows c.index_mut-node.result.now c.serve.new.node c.in-Some.is (ap (λ w. w.nodes) c.self.view_is) (rows_are g i)
+    (node_is g ((goal.at.invariant_of-self-in-Ok g c).After-index_mut-node)) c.in-Ok.ensures.fed (is_net g i)
 
 pub returns-in-Ok-clause-happens : goal.returns-in-Ok-clause-happens
 returns-in-Ok-clause-happens g c =
     let i = (goal.at.returns-in-Ok-clause-happens g c).In_ok-settle in
-    fed_happens g.M.Machine.steps c.args.self.now c.args.event (Some c.in-Some.from) c.self.inside.nodes.items c.settle.new.self.rows c.serve.new.self.rows c.index_mut-node.result.now c.serve.new.node c.in-Some.is (ap (λ w. w.nodes) c.self.view_is) (rows_are g i) (node_is g ((goal.at.returns-in-Ok-clause-happens g c).After-index_mut-node)) c.in-Ok.ensures.fed
+    fed_happens g.M.Machine.steps c.args.self.now c.args.event (Some c.in-Some.from) c.self.inside.nodes.items c.settle.new.self.rows
+    c.serve.new.self.rows c.index_mut-node.result.now c.serve.new.node c.in-Some.is (ap (λ w. w.nodes) c.self.view_is) (rows_are g i)
+    (node_is g ((goal.at.returns-in-Ok-clause-happens g c).After-index_mut-node)) c.in-Ok.ensures.fed
 
 pub invariant_of-self-in-Ok-work : goal.invariant_of-self-in-Ok-work
 invariant_of-self-in-Ok-work g c =
     let i = (goal.at.invariant_of-self-in-Ok-work g c).In_ok-settle in
-    net_fed g.M.Machine.steps c.args.self.now c.args.event None c.self.inside.nodes.items c.settle.new.self.rows c.work.new.self.rows c.index_mut-node.result.now c.work.new.node c.in-None.is (ap (λ w. w.nodes) c.self.view_is) (rows_are g i) (node_is g ((goal.at.invariant_of-self-in-Ok-work g c).After-index_mut-node)) c.in-Ok-work.ensures.fed (is_net g i)
+    net_fed g.M.Machine.steps c.args.self.now c.args.event None c.self.inside.nodes.items c.settle.new.self.rows c.work.new.self.rows
+    c.index_mut-node.result.now c.work.new.node c.in-None.is (ap (λ w. w.nodes) c.self.view_is) (rows_are g i)
+    (node_is g ((goal.at.invariant_of-self-in-Ok-work g c).After-index_mut-node)) c.in-Ok-work.ensures.fed (is_net g i)
 
 pub returns-in-Ok-work-clause-happens : goal.returns-in-Ok-work-clause-happens
 returns-in-Ok-work-clause-happens g c =
     let i = (goal.at.returns-in-Ok-work-clause-happens g c).In_ok-settle in
-    fed_happens g.M.Machine.steps c.args.self.now c.args.event None c.self.inside.nodes.items c.settle.new.self.rows c.work.new.self.rows c.index_mut-node.result.now c.work.new.node c.in-None.is (ap (λ w. w.nodes) c.self.view_is) (rows_are g i) (node_is g ((goal.at.returns-in-Ok-work-clause-happens g c).After-index_mut-node)) c.in-Ok-work.ensures.fed
+    fed_happens g.M.Machine.steps c.args.self.now c.args.event None c.self.inside.nodes.items c.settle.new.self.rows c.work.new.self.rows
+    c.index_mut-node.result.now c.work.new.node c.in-None.is (ap (λ w. w.nodes) c.self.view_is) (rows_are g i)
+    (node_is g ((goal.at.returns-in-Ok-work-clause-happens g c).After-index_mut-node)) c.in-Ok-work.ensures.fed

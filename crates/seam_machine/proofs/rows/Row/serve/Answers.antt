@@ -10,8 +10,12 @@ returns-in-Ok-clause-served g c =
     let lt = in_view qs (λ q. q.items) c.args.self.now c.args.to c.self.view_is c.requires in
     record {
       input = From c.args.from c.in-Some.item;
-      is_fed = feeds qs (λ q. q.items) c.args.self.now c.args.from c.args.to c.index_mut-link.result.now c.in-Some.item c.pop_front.new.self.items c.self.view_is lt c.index_mut-link.ensures.value c.in-Some.ensures.items;
-      row_is = take_first qs (λ q. q.items) c.args.to c.pop_front.new.self c.index_mut-link.result.now lt c.pop_front.ensures.rest c.index_mut-link.ensures.value ∙ ap (λ r. row_less r c.args.to) c.self.view_is;
+      is_fed =
+          feeds qs (λ q. q.items) c.args.self.now c.args.from c.args.to c.index_mut-link.result.now c.in-Some.item
+          c.pop_front.new.self.items c.self.view_is lt c.index_mut-link.ensures.value c.in-Some.ensures.items;
+      row_is =
+          take_first qs (λ q. q.items) c.args.to c.pop_front.new.self c.index_mut-link.result.now lt c.pop_front.ensures.rest
+          c.index_mut-link.ensures.value ∙ ap (λ r. row_less r c.args.to) c.self.view_is;
       state_is = c.in-Ok.ensures.state;
       out_is = c.in-Ok.ensures.sent;
     }
@@ -21,5 +25,8 @@ returns-in-Err-clause-err_row g c =
     let qs = c.self.inside.links.items in
     let back : From c.in-From.field-0 c.in-From.back ≡ From c.args.from c.in-Some.item = sym c.in-From.is ∙ c.in-Err.ensures.err_input in
     let same : c.in-From.back ≡ c.in-Some.item = cc in
-    let all : c.push_front_reserved.new.self.items ≡ c.index_mut-link.result.now.items = c.push_front_reserved.ensures.items ∙ (ap (λ m. m ∷ c.pop_front.new.self.items) (c.in-From.back-is ∙ same) ∙ sym c.in-Some.ensures.items) in
-    view-same qs (λ q. q.items) c.args.to c.push_front_reserved.new.self c.index_mut-link.result.now all c.index_mut-link.ensures.value ∙ c.self.view_is
+    let all : c.push_front_reserved.new.self.items ≡ c.index_mut-link.result.now.items =
+    c.push_front_reserved.ensures.items ∙ (ap (λ m. m ∷ c.pop_front.new.self.items) (c.in-From.back-is ∙ same)
+    ∙ sym c.in-Some.ensures.items) in
+    view-same qs (λ q. q.items) c.args.to c.push_front_reserved.new.self c.index_mut-link.result.now all c.index_mut-link.ensures.value
+    ∙ c.self.view_is

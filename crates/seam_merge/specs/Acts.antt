@@ -9,7 +9,7 @@ use Rattle.seam_stamp.specs.declared.Letter.{Letter}
 use Rattle.seam_stamp.specs.declared.Stamped.{Stamped}
 
 -- one step: its stamp, and the letter that it received with the number of its sender; none where it was the task's
-pub record Deed (M : Type 0) : Type 0 where
+pub record Act (M : Type 0) : Type 0 where
   pub stamp : ℕ
   pub took : Option (ℕ × Letter M)
 
@@ -32,12 +32,12 @@ taken_by a None = []
 taken_by a (Some p) = if p.0 == a then p.1 ∷ [] else []
 
 -- the letters that the steps received from node a
-abbrev pub received : {M : Type 0} → ℕ → List (Deed M) → List (Letter M)
+abbrev pub received : {M : Type 0} → ℕ → List (Act M) → List (Letter M)
 received a [] = []
 received a (d ∷ ds) = taken_by a d.took ++ received a ds
 
 -- the state after the steps
-abbrev pub state_after : {N M : Type 0} → (N → Input M → Stepped N M) → N → List (Deed M) → N
+abbrev pub state_after : {N M : Type 0} → (N → Input M → Stepped N M) → N → List (Act M) → N
 state_after steps s [] = s
 state_after steps s (d ∷ ds) = state_after steps (steps s (input_by d.took)).state ds
 
@@ -47,7 +47,7 @@ stamped t [] = []
 stamped t (p ∷ ps) = (p.0, record { stamp = t; item = p.1 }) ∷ stamped t ps
 
 -- the letters that the steps sent, each with the stamp of its step
-abbrev pub sends : {N M : Type 0} → (N → Input M → Stepped N M) → N → List (Deed M) → List (ℕ × Letter M)
+abbrev pub sends : {N M : Type 0} → (N → Input M → Stepped N M) → N → List (Act M) → List (ℕ × Letter M)
 sends steps s [] = []
 sends steps s (d ∷ ds) = stamped d.stamp (steps s (input_by d.took)).sent ++ sends steps (steps s (input_by d.took)).state ds
 
@@ -57,17 +57,17 @@ may_do has_work n s None = has_work s ≡ true
 may_do has_work n s (Some p) = p.0 < n
 
 -- stamps rise from `last` on and are above those of the letters received; each step may be made, and sends to the n nodes alone
-abbrev pub Legal : {N M : Type 0} → (N → Bool) → (N → Input M → Stepped N M) → ℕ → ℕ → N → List (Deed M) → Type 0
+abbrev pub Legal : {N M : Type 0} → (N → Bool) → (N → Input M → Stepped N M) → ℕ → ℕ → N → List (Act M) → Type 0
 Legal has_work steps n last s [] = Unit {0}
 Legal has_work steps n last s (d ∷ ds) =
     (last < d.stamp) × (stamp_by d.took < d.stamp) × may_do has_work n s d.took
     × AllBelow n (steps s (input_by d.took)).sent × Legal has_work steps n d.stamp (steps s (input_by d.took)).state ds
 
-abbrev pub event_by : {M : Type 0} → ℕ → Deed M → Event
+abbrev pub event_by : {M : Type 0} → ℕ → Act M → Event
 event_by me d = record { node = me; from = from_by d.took }
 
 -- the log of node `me` after the steps
-abbrev pub entries : {M : Type 0} → ℕ → List (Deed M) → List (Stamped Event)
+abbrev pub entries : {M : Type 0} → ℕ → List (Act M) → List (Stamped Event)
 entries me [] = []
 entries me (d ∷ ds) = record { stamp = d.stamp; node = me; item = event_by me d } ∷ entries me ds
 

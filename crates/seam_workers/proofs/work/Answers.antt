@@ -1,0 +1,12 @@
+use Rattle.std.proofs.Common.{◌∙◌, ◌+◌, ap, inr}
+use Rattle.seam_workers.proofs.Counts.{tries_counted}
+use Rattle.seam_workers.specs.Shifts.{ShiftView}
+use Rattle.seam_workers.proofs.work.Goals as goal
+
+pub returns-then-is_over : goal.returns-then-is_over
+returns-then-is_over g c = inr (c.is_over.ensures.over c.if-is_over.true)
+
+pub loop-turn-preserved : goal.loop-turn-preserved
+loop-turn-preserved g c =
+    let tried = c.visit.ensures in
+    ap (λ (x : ShiftView). x.tries) tried.1 ∙ (tries_counted c.loop-turn.shift tried.0 ∙ ap (λ k. k + 1) c.loop-turn.invariant)

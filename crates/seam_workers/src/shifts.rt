@@ -1,0 +1,92 @@
+//! What a worker does at a node, and what it did in all.
+
+ghost use Rattle.std.specs.Prelude.{◌≡◌, ◌+◌, ◌^◌, ◌<◌, ◌≤◌, ◌⊎◌, true, false};
+ghost use Rattle.seam_workers.specs.Shifts.{after_try};
+ghost use Rattle.seam_logged.specs.declared.Try.{Try};
+
+use crate::{Claims, Gate, Seat};
+use crossbeam_utils::CachePadded;
+use seam_logged::{Naming, Try};
+use seam_machine::Machine;
+use std::alloc::Global;
+use std::marker::Model;
+use std::sync::{Mutex, Wait};
+use std::thread::Threads;
+
+/// How many tries a worker made, how many of the last ones found nothing to do, and whether memory was refused at the last one.
+#[derive(Drop)]
+pub struct Shift {
+    tries: u32,
+    idle: u32,
+    refused: bool,
+}
+
+impl Model for Shift {
+    ghost use Rattle.std.specs.Prelude.{◌≤◌};
+    ghost use Rattle.seam_workers.specs.Shifts.{ShiftView};
+
+    ghost Value = { ShiftView };
+
+    ghost view = { λ s. record { tries = s.tries; idle = s.idle; refused = s.refused } };
+
+    ghost invariant = { λ s. s.idle ≤ s.tries };
+}
+
+impl Shift {
+    /// No try was made.
+    pub fn new() -> Shift
+        ensures { result ≡ record { tries = 0; idle = 0; refused = false } }
+    {
+        Shift {
+            tries: 0,
+            idle: 0,
+            refused: false,
+        }
+    }
+
+    /// Whether so many last tries found nothing to do, or memory was refused.
+    pub fn is_over(&self, nodes: usize) -> bool
+        ensures over { result ≡ true → (nodes ≤ self.now.idle) ⊎ (self.now.refused ≡ true) }
+        ensures goes_on { result ≡ false → self.now.idle < nodes }
+    {
+        self.refused || self.idle as usize >= nodes
+    }
+
+    /// Whether memory was refused.
+    pub fn is_refused(&self) -> bool
+        ensures { result ≡ self.now.refused }
+    {
+        self.refused
+    }
+
+    // Counts a try.
+    fn count(&mut self, tried: Try)
+        requires { self.old.tries + 1 < 2 ^ 32 }
+        ensures { self.new ≡ after_try self.old tried }
+    {
+        self.tries += 1;
+        match tried {
+            Try::Stepped => self.idle = 0,
+            Try::Idle => self.idle += 1,
+            Try::NoMemory => self.refused = true,
+        }
+    }
+}
+
+/// Tries one step of a node, under its lock.
+pub fn visit<M: Machine, J: Naming<M, M::Msg> + Claims, G: Gate, R: Threads + Wait + Sync>(
+    rt: &R,
+    alloc: Global,
+    place: &CachePadded<Mutex<Seat<M, J>>>,
+    gate: &G,
+    shift: &mut Shift,
+)
+    requires { shift.old.tries + 1 < 2 ^ 32 }
+    ensures { (tried : Try) × (shift.new ≡ after_try shift.old tried) }
+{
+    let lock: &Mutex<Seat<M, J>> = place;
+    let mut held = lock.lock(rt);
+    gate.at_step(rt, held.number());
+    let tried = held.try_step(alloc);
+    shift.count(tried);
+}
