@@ -73,31 +73,31 @@ sorted_same (x ∷ xs) (y ∷ ys) o p is =
     let rest = sorted_same xs ys (sorted_tail nat_cmp x xs o) (sorted_tail nat_cmp y ys p) (λ q. rest_step q x xs ys (is_eq (nat_cmp q x)) refl h kx (is q ∙ ap (λ n. is_eq (nat_cmp q n) || list_any (is_at (nat_cmp q)) ys) (sym e))) in
     λ i. e i ∷ rest i
 
-below-filter : {X : Type 0} (x : ℕ) (t : ℕ × X → Bool) (es : List (ℕ × X)) → IsBelow x (keys_of es) → IsBelow x (keys_of (filter t es))
-below-filter x t [] h = tt
-below-filter x t (e ∷ es) h = elim (t e) as (λ b. IsBelow x (keys_of (cond b (e ∷ filter t es) (filter t es)))) [ true ↦ (h.0, below-filter x t es h.1) | false ↦ below-filter x t es h.1 ]
+below_by_filter : {X : Type 0} (x : ℕ) (t : ℕ × X → Bool) (es : List (ℕ × X)) → IsBelow x (keys_of es) → IsBelow x (keys_of (filter t es))
+below_by_filter x t [] h = tt
+below_by_filter x t (e ∷ es) h = elim (t e) as (λ b. IsBelow x (keys_of (cond b (e ∷ filter t es) (filter t es)))) [ true ↦ (h.0, below_by_filter x t es h.1) | false ↦ below_by_filter x t es h.1 ]
 
 -- what a filter leaves is in order too
-pub sorted-filter : {X : Type 0} (t : ℕ × X → Bool) (es : List (ℕ × X)) → IsStrictlySortedBy nat_cmp (keys_of es) → IsStrictlySortedBy nat_cmp (keys_of (filter t es))
+pub sorted_by_filter : {X : Type 0} (t : ℕ × X → Bool) (es : List (ℕ × X)) → IsStrictlySortedBy nat_cmp (keys_of es) → IsStrictlySortedBy nat_cmp (keys_of (filter t es))
 unfolding IsStrictlySortedBy
-sorted-filter t [] o = tt
-sorted-filter t (e ∷ es) o = elim (t e) as (λ b. IsStrictlySortedBy nat_cmp (keys_of (cond b (e ∷ filter t es) (filter t es)))) [ true ↦ (below-filter e.0 t es o.0, sorted-filter t es o.1) | false ↦ sorted-filter t es o.1 ]
+sorted_by_filter t [] o = tt
+sorted_by_filter t (e ∷ es) o = elim (t e) as (λ b. IsStrictlySortedBy nat_cmp (keys_of (cond b (e ∷ filter t es) (filter t es)))) [ true ↦ (below_by_filter e.0 t es o.0, sorted_by_filter t es o.1) | false ↦ sorted_by_filter t es o.1 ]
 
 no_length : {A : Type 0} (xs : List A) → length xs ≡ 0 → xs ≡ []
 no_length [] e = refl
 no_length (x ∷ xs) e = absurd (omega arith)
 
-put-below : {X : Type 0} (k : ℕ) (v : X) (es : List (ℕ × X)) → IsBelow k (keys_of es) → map.put nat_cmp k v es ≡ (k, v) ∷ es
-put-below k v [] h = refl
-put-below k v (e ∷ es) h = rw h.0 refl
+put_below : {X : Type 0} (k : ℕ) (v : X) (es : List (ℕ × X)) → IsBelow k (keys_of es) → map.put nat_cmp k v es ≡ (k, v) ∷ es
+put_below k v [] h = refl
+put_below k v (e ∷ es) h = rw h.0 refl
 
 -- entries in order are those of the map that is made of them
-pub entries-sorted : {X : Type 0} (es : List (ℕ × X)) → IsStrictlySortedBy nat_cmp (keys_of es) → map.entries (map.from_entries {R = nat_cmp} es) ≡ es
-entries-sorted [] o = no_length _ (sym (map.len-entries map.empty) ∙ map.len-empty nat_cmp _)
-entries-sorted (e ∷ es) o =
+pub entries_when_sorted : {X : Type 0} (es : List (ℕ × X)) → IsStrictlySortedBy nat_cmp (keys_of es) → map.entries (map.from_entries {R = nat_cmp} es) ≡ es
+entries_when_sorted [] o = no_length _ (sym (map.len-entries map.empty) ∙ map.len-empty nat_cmp _)
+entries_when_sorted (e ∷ es) o =
     map.entries-insert nat_cmp_total _ e.0 e.1
-    ∙ (ap (map.put nat_cmp e.0 e.1) (entries-sorted es (sorted_tail nat_cmp e.0 (keys_of es) o)) ∙ put-below e.0 e.1 es (sorted_head nat_cmp e.0 (keys_of es) o))
+    ∙ (ap (map.put nat_cmp e.0 e.1) (entries_when_sorted es (sorted_tail nat_cmp e.0 (keys_of es) o)) ∙ put_below e.0 e.1 es (sorted_head nat_cmp e.0 (keys_of es) o))
 
-pub find-lookup : {X : Type 0} (q : ℕ) (es : List (ℕ × X)) → map.find nat_cmp q es ≡ lookup (is_at (nat_cmp q)) es
-find-lookup q [] = refl
-find-lookup q (e ∷ es) = ap (λ o. cond (is_eq (nat_cmp q e.0)) (Some e.1) o) (find-lookup q es)
+pub lookup_of_find : {X : Type 0} (q : ℕ) (es : List (ℕ × X)) → map.find nat_cmp q es ≡ lookup (is_at (nat_cmp q)) es
+lookup_of_find q [] = refl
+lookup_of_find q (e ∷ es) = ap (λ o. cond (is_eq (nat_cmp q e.0)) (Some e.1) o) (lookup_of_find q es)
