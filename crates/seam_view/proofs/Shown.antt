@@ -24,14 +24,14 @@ fresh [] i d o lt = absurd (omega (arith, lt))
 fresh (p ∷ es) zero d o lt = refl
 fresh (p ∷ es) (suc i) d o lt = rw (key_below p.0 es i d (sorted_head nat_cmp p.0 (keys_of es) o) (omega (arith, lt))) (fresh es i d (sorted_tail nat_cmp p.0 (keys_of es) o) (omega (arith, lt)))
 
-take-snoc : (es : List (ℕ × ℕ)) (i : ℕ) (d : ℕ × ℕ) → i < length es → take i es ++ get_or es i d ∷ [] ≡ take (i + 1) es
-take-snoc [] i d lt = absurd (omega (arith, lt))
-take-snoc (p ∷ es) zero d lt = refl
-take-snoc (p ∷ es) (suc i) d lt = let n : suc (i + 1) ≡ suc i + 1 = omega arith in ap (λ xs. p ∷ xs) (take-snoc es i d (omega (arith, lt))) ∙ ap (λ n. take n (p ∷ es)) n
+take_and_next : (es : List (ℕ × ℕ)) (i : ℕ) (d : ℕ × ℕ) → i < length es → take i es ++ get_or es i d ∷ [] ≡ take (i + 1) es
+take_and_next [] i d lt = absurd (omega (arith, lt))
+take_and_next (p ∷ es) zero d lt = refl
+take_and_next (p ∷ es) (suc i) d lt = let n : suc (i + 1) ≡ suc i + 1 = omega arith in ap (λ xs. p ∷ xs) (take_and_next es i d (omega (arith, lt))) ∙ ap (λ n. take n (p ∷ es)) n
 
 -- one more of the versions in rising number
-pub versions-next : (es : List (ℕ × ℕ)) (i : ℕ) (d : ℕ × ℕ) → IsStrictlySortedBy nat_cmp (keys_of es) → i < length es → versions.insert (versions.from_entries {R = nat_cmp} (take i es)) (get_or es i d).0 (get_or es i d).1 ≡ versions.from_entries (take (i + 1) es)
-versions-next es i d o lt = sym (versions.from_entries_push nat_cmp_total versions.nat_cmp-IsAntisymmetric (take i es) (get_or es i d).0 (get_or es i d).1 (fresh es i d o lt)) ∙ ap versions.from_entries (take-snoc es i d lt)
+pub versions_next : (es : List (ℕ × ℕ)) (i : ℕ) (d : ℕ × ℕ) → IsStrictlySortedBy nat_cmp (keys_of es) → i < length es → versions.insert (versions.from_entries {R = nat_cmp} (take i es)) (get_or es i d).0 (get_or es i d).1 ≡ versions.from_entries (take (i + 1) es)
+versions_next es i d o lt = sym (versions.from_entries_push nat_cmp_total versions.nat_cmp-IsAntisymmetric (take i es) (get_or es i d).0 (get_or es i d).1 (fresh es i d o lt)) ∙ ap versions.from_entries (take_and_next es i d lt)
 
 or_true : (a b : Bool) → b ≡ true → (a || b) ≡ true
 or_true true b h = refl

@@ -1,3 +1,4 @@
 pub mod Replica
 pub mod Looks
+pub mod Plain
 pub mod Together

@@ -12,12 +12,14 @@ ghost use Rattle.std.specs.List.{All, AllWithin, IsDistinct};
 ghost use Rattle.std.specs.Map.{keys_of};
 ghost use Rattle.seam_geo.specs.declared.pos.Pos.{Pos};
 ghost use Rattle.seam_view.specs.declared.Seen.{Seen};
+ghost use Rattle.seam_view.specs.declared.Look.{Look};
 ghost use Rattle.seam_table.specs.Tables.{is_after};
 ghost use Rattle.std.specs.FinMap as versions;
 ghost use Rattle.std.specs.FinSet as set;
-ghost use Rattle.seam_view.specs.Replica.{Replica, HasRoom, without, seen_of, entity_of, with_version_shown, after_showing, after_look, after_looks};
+ghost use Rattle.seam_view.specs.Replica.{Replica, IsView, AreShown, NeverFalls, HasRoom, without, seen_of, entity_of, with_version_shown, after_showing, after_look, after_looks};
 ghost use Rattle.seam_view.specs.Together.{leaves_next, looks_past};
 ghost use Rattle.seam_view.specs.Looks.{is_far, in_view, not_older, leaves, has_changed, enters, leaving, changed, entering, one_look, matters};
+ghost use Rattle.seam_view.specs.Plain.{plain_look, AreNotOlder};
 
 use indexmap::IndexMap;
 use seam_geo::{Pos, dist};
@@ -60,7 +62,7 @@ pub struct View {
 }
 
 impl Model for View {
-    ghost use Rattle.seam_view.specs.Replica.{ViewValue, view_code};
+    ghost use Rattle.seam_view.specs.Replica.{ViewValue, IsView, view_code};
 
     ghost Value = { ViewValue };
 
@@ -69,6 +71,8 @@ impl Model for View {
     ghost use Rattle.indexmap.specs.IndexMap.{spare};
 
     ghost view = { λ v. record { core = record { radius = v.radius; hysteresis = v.hysteresis; entries = v.view.entries; shown = v.shown.items }; places = spare v.view; room = v.shown.room } };
+
+    ghost invariant = { λ v. IsView (record { radius = v.radius; hysteresis = v.hysteresis; entries = v.view.entries; shown = v.shown.items }) };
 }
 
 impl View {
@@ -86,7 +90,7 @@ impl View {
     }
 
     /// The view with these entities in this enter order, each with the version last shown, and these versions shown, also of
-    /// entities that left.
+    /// entities that left. Each pair of `view` stands in `shown`.
     pub fn of_lists(
         alloc: Global,
         radius: u32,
@@ -96,6 +100,7 @@ impl View {
     ) -> Result<View, AllocError>
         requires once { IsDistinct nat_eq (keys_of view.now) }
         requires rising { IsStrictlySortedBy nat_cmp (keys_of shown.now) }
+        requires last { AreShown (versions.from_entries shown.now) view.now }
         ensures { IfOk result (λ v. v.core ≡ record { radius = radius; hysteresis = hysteresis; entries = view.now; shown = versions.from_entries shown.now }) }
     {
         let view = view_of(alloc, view)?;
@@ -109,9 +114,10 @@ impl View {
         })
     }
 
-    /// How many entities are in view.
+    /// How many entities are in view. None is there twice, and `at` gives the version that `shown` gives.
     pub fn len(&self) -> usize
-        ensures { result ≡ length self.now.core.entries }
+        ensures count { result ≡ length self.now.core.entries }
+        ensures view { IsView self.now.core }
     {
         self.view.len()
     }
@@ -443,6 +449,18 @@ fn reserve_versions(shown: &mut Table<u64>, looks: &[Look]) -> Result<(), AllocE
 /// same looks.
 pub fn only_near_matters()
     ensures { (r : Replica) (own : Pos) (known other : List Seen) → filter (matters r own) known ≡ filter (matters r own) other → one_look r own known ≡ one_look r own other }
+{}
+
+/// No version shown ever falls: after the looks that `plan` gives for what is known, each entity is shown at the version that it was
+/// shown at, or at a later one, also where it left. And what a look leaves is a view.
+pub fn versions_shown_never_fall()
+    ensures never_fall { (r : Replica) (own : Pos) (known : List Seen) → IsView r → IsStrictlySortedBy nat_cmp (map (λ s. s.entity) known) → NeverFalls r (after_looks known r (one_look r own known)) }
+    ensures view { (r : Replica) (known : List Seen) (looks : List Look) → IsView r → IsView (after_looks known r looks) }
+{}
+
+/// Where nothing was shown at a greater version than is known, `plan` gives the look at a flat table.
+pub fn looks_are_plain()
+    ensures { (r : Replica) (own : Pos) (known : List Seen) → IsView r → AreNotOlder r known → one_look r own known ≡ plain_look r own known }
 {}
 
 fn sent<T: Send>(value: T) -> T
