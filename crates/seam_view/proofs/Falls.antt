@@ -103,7 +103,7 @@ module _ (known : List Seen) (r : Replica) (own : Pos) where
   rises_by_enter s t self x q v h =
       let same : s ≡ x = ap (λ o. unwrap_or o s) (sym self ∙ q) in
       let le = not_below (versions.get r.shown s.entity) v s.version h
-          (second_of (not (in_view r s.entity) && leb (distance own s.pos) r.radius) (not_older (versions.get r.shown s.entity) s.version) t) in
+      (second_of (not (in_view r s.entity) && leb (distance own s.pos) r.radius) (not_older (versions.get r.shown s.entity) s.version) t) in
       let version = ap (λ y. y.version) same in
       omega (arith, le, version)
 
@@ -128,9 +128,10 @@ self_past x (s ∷ ss) xs h k =
 -- each of those known is found by its number
 self_known : (known : List Seen) → IsStrictlySortedBy nat_cmp (entities known) → AllByRecursion (λ s. seen_of s.entity known ≡ Some s) known
 self_known [] o = tt
-self_known (s ∷ known) o =
-    (ap (λ b. cond b (Some s) (seen_of s.entity known)) (same_again s.entity),
-        self_past s known known (sorted_head nat_cmp s.entity (entities known) o) (self_known known (sorted_tail nat_cmp s.entity (entities known) o)))
+self_known (s ∷ known) o = (
+  ap (λ b. cond b (Some s) (seen_of s.entity known)) (same_again s.entity),
+  self_past s known known (sorted_head nat_cmp s.entity (entities known) o) (self_known known (sorted_tail nat_cmp s.entity (entities known) o)),
+)
 
 all_append : {A : Type 0} (P : A → Type 0) (xs ys : List A) → AllByRecursion P xs → AllByRecursion P ys → AllByRecursion P (xs ++ ys)
 all_append P [] ys h k = k
@@ -146,5 +147,5 @@ never_falls_by_one_look r own known view o =
     let set = set_may known r own r.entries view.shown in
     let entered = enter_may known r own known (self_known known o) in
     never_falls_by_looks known r r (one_look r own known)
-        (all_append (MayShow known r) (leaving r own known r.entries ++ changed r own known r.entries) (entering r own known)
-            (all_append (MayShow known r) (leaving r own known r.entries) (changed r own known r.entries) left set) entered) (itself r)
+    (all_append (MayShow known r) (leaving r own known r.entries ++ changed r own known r.entries) (entering r own known)
+    (all_append (MayShow known r) (leaving r own known r.entries) (changed r own known r.entries) left set) entered) (itself r)

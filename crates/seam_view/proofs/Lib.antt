@@ -6,3 +6,4 @@ pub mod Together
 pub mod Kept
 pub mod Falls
 pub mod PlainLooks
+pub mod Noted

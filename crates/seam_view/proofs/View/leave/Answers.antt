@@ -13,5 +13,5 @@ pub invariant_of-self : goal.invariant_of-self
 invariant_of-self c =
     let e = c.shift_remove.ensures.entries ∙ without_of_remove c.args.e c.self.inside.view.entries in
     subst (λ es. IsView (record { radius = c.self.inside.radius; hysteresis = c.self.inside.hysteresis; entries = es; shown = c.self.inside.shown.items })) (sym e)
-        (view_when_left (record { radius = c.self.inside.radius; hysteresis = c.self.inside.hysteresis; entries = c.self.inside.view.entries; shown = c.self.inside.shown.items })
-            c.args.e c.self.invariant)
+    (view_when_left (record { radius = c.self.inside.radius; hysteresis = c.self.inside.hysteresis; entries = c.self.inside.view.entries; shown = c.self.inside.shown.items })
+    c.args.e c.self.invariant)

@@ -19,5 +19,5 @@ invariant_of-self c =
     let v = ap (λ w. w.items) c.put_reserved.ensures.after in
     let old : Replica = record { radius = c.self.inside.radius; hysteresis = c.self.inside.hysteresis; entries = c.self.inside.view.entries; shown = c.self.inside.shown.items } in
     let new : record { radius = c.self.inside.radius; hysteresis = c.self.inside.hysteresis; entries = c.insert.new.self.entries; shown = c.put_reserved.new.self.items } ≡ with_version_shown old c.args.e c.args.version =
-        λ i. record { radius = c.self.inside.radius; hysteresis = c.self.inside.hysteresis; entries = e i; shown = v i } in
+    λ i. record { radius = c.self.inside.radius; hysteresis = c.self.inside.hysteresis; entries = e i; shown = v i } in
     subst IsView (sym new) (view_when_shown old c.args.e c.args.version c.self.invariant)
