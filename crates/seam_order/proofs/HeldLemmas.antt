@@ -1,5 +1,6 @@
 -- What an ordered map by number holds, as items that wait: the item of a number, one more, one less, and what stays rising.
-use Rattle.std.proofs.Common.{◌≡◌, ℕ, ◌+◌, ◌<◌, ◌≤◌, ◌^◌, Bool, true, false, cond, eqb, ltb, List, [], ◌∷◌, Option, None, Some, refl, ap, ◌∙◌, arith, is_some}
+use Rattle.std.proofs.Common.{◌≡◌, ℕ, ◌+◌, ◌<◌, ◌≤◌, ◌^◌, Bool, true, false, cond, eqb, ltb, List, [], ◌∷◌, Option, None, Some, refl, ap}
+use Rattle.std.proofs.Common.{◌∙◌, arith, is_some}
 use Rattle.std.specs.Ordering.{nat_cmp, is_eq, match_ordering}
 use Rattle.std.specs.declared.cmp.Ordering.{Ordering}
 use Rattle.std.specs.declared.cmp.Ordering.TheVariants.{Less, Equal, Greater}
@@ -81,12 +82,15 @@ above_of : (p n : ℕ) → n ≤ p → eqb p n ≡ false → n < p
 above_of p n le ne = grind (arith, nat_tests)
 
 -- with one more they still rise
-rises_by : {T : Type 0} (low n : ℕ) (x : T) (p : ℕ × T) (ps : List (ℕ × T)) (b : Bool) → ltb n p.0 ≡ b → eqb p.0 n ≡ false → low ≤ n → n < 2 ^ 62 →
-    RiseFrom low (p ∷ ps) → (p.0 < n → RiseFrom (p.0 + 1) (with_item n x ps)) → RiseFrom low (cond b ((n, x) ∷ p ∷ ps) (p ∷ with_item n x ps))
+rises_by : {T : Type 0} (low n : ℕ) (x : T) (p : ℕ × T) (ps : List (ℕ × T)) (b : Bool) → ltb n p.0 ≡ b → eqb p.0 n ≡ false → low ≤ n →
+    n < 2 ^ 62 →
+    RiseFrom low (p ∷ ps) → (p.0 < n → RiseFrom (p.0 + 1) (with_item n x ps)) →
+    RiseFrom low (cond b ((n, x) ∷ p ∷ ps) (p ∷ with_item n x ps))
 rises_by low n x p ps true t ne le few r rest = (le, few, ((let h : n + 1 ≤ p.0 = grind (arith, nat_tests) in h), r.1, r.2))
 rises_by low n x p ps false t ne le few r rest = (r.0, r.1, rest (grind (arith, nat_tests)))
 
-pub rises_with_item : {T : Type 0} (low n : ℕ) (x : T) (xs : List (ℕ × T)) → RiseFrom low xs → is_some (item_at n xs) ≡ false → low ≤ n → n < 2 ^ 62 →
+pub rises_with_item : {T : Type 0} (low n : ℕ) (x : T) (xs : List (ℕ × T)) → RiseFrom low xs → is_some (item_at n xs) ≡ false → low ≤ n →
+    n < 2 ^ 62 →
     RiseFrom low (with_item n x xs)
 rises_with_item low n x [] r out le few = (le, few, tt)
 rises_with_item low n x (p ∷ ps) r out le few =

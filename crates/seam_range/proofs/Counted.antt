@@ -1,5 +1,6 @@
 -- A sorted list that has each near entity once is the near entities in rising number.
-use Rattle.std.proofs.Common.{◌≡◌, ◌≤◌, ◌+◌, ℕ, Bool, true, false, cond, ◌||◌, eqb, ltb, List, [], ◌∷◌, Option, None, Some, refl, sym, ap, ◌∙◌, is_some, arith}
+use Rattle.std.proofs.Common.{◌≡◌, ◌≤◌, ◌+◌, ℕ, Bool, true, false, cond, ◌||◌, eqb, ltb, List, [], ◌∷◌, Option, None, Some, refl, sym, ap}
+use Rattle.std.proofs.Common.{◌∙◌, is_some, arith}
 use Rattle.std.specs.Ordering.{nat_cmp, is_eq}
 use Rattle.std.specs.Cmp.{nat_cmp_total, eq_by_cmp_equiv}
 use Rattle.std.specs.Map.{keys_of}
@@ -12,7 +13,8 @@ use Rattle.std.proofs.lemmas.Bool.Decides.{nat_tests}
 use Rattle.std.proofs.lemmas.List.Sums.{sum_by-cons}
 use Rattle.std.proofs.lemmas.List.Sorted.{sum_by-IsPermutation, IsNonDecreasingBy-from_sort}
 use Rattle.std.proofs.lemmas.Map.Entries.{lookup-filter-values, option_filter}
-use Rattle.std.proofs.lemmas.Map.Keys.{IsDistinct-from_sorted, IsDistinct-cons, IsStrictlyIncreasing-from_distinct, sorted_from_strictly_increasing}
+use Rattle.std.proofs.lemmas.Map.Keys.{IsDistinct-from_sorted, IsDistinct-cons, IsStrictlyIncreasing-from_distinct}
+use Rattle.std.proofs.lemmas.Map.Keys.{sorted_from_strictly_increasing}
 use Rattle.std.proofs.lemmas.Map.Made.{is_some-lookup}
 use Rattle.seam_geo.specs.declared.pos.Pos.{Pos}
 use Rattle.seam_range.specs.Found.{count_of, one_if}
@@ -65,17 +67,25 @@ module _ (test : Pos → Bool) where
   passes (Some p) = elim (test p) as (λ b. ltb 0 (cond b 1 0) ≡ is_some (cond b (Some p) None)) [ true ↦ refl | false ↦ refl ]
 
   pub sorted_when_counted : (m : tree.BTreeMap ℕ Pos) (found rising : List ℕ) → tree.IsOrdered nat_cmp m →
-      ((q : ℕ) → count_of q found ≡ one_if test (map.get (map.from_entries {R = nat_cmp} m.entries) q)) → IsPermutation found rising → IsSorted nat_cmp rising →
+      ((q : ℕ) → count_of q found ≡ one_if test (map.get (map.from_entries {R = nat_cmp} m.entries) q)) → IsPermutation found rising →
+      IsSorted nat_cmp rising →
       rising ≡ keys_of (filter (λ e. test e.1) (map.entries (map.from_entries {R = nat_cmp} m.entries)))
   sorted_when_counted m found rising o counts moved up =
       let counted : (q : ℕ) → count_of q rising ≡ one_if test (tree.get nat_cmp m q) = λ q.
       sum_by-IsPermutation (λ x. cond (eqb x q) 1 0) found rising moved ∙ (counts q ∙ ap (one_if test) (place_of_entry m q)) in
-      let once = distinct_when_counted rising (λ q. let most = at_most_one (tree.get nat_cmp m q) in let e = counted q in omega (arith, most, e)) in
-      let rises = sorted_from_strictly_increasing rising (IsStrictlyIncreasing-from_distinct rising (IsNonDecreasingBy-from_sort (λ x. x) rising up) once) in
+      let once =
+      distinct_when_counted rising (λ q. let most = at_most_one (tree.get nat_cmp m q) in let e = counted q in
+      omega (arith, most, e)) in
+      let rises =
+      sorted_from_strictly_increasing rising
+      (IsStrictlyIncreasing-from_distinct rising (IsNonDecreasingBy-from_sort (λ x. x) rising up) once) in
       sorted_same rising (keys_of (filter (λ e. test e.1) m.entries)) rises (sorted_by_filter (λ e. test e.1) m.entries o) (λ q.
       any_when_counted q rising
       ∙ (ap (ltb 0) (counted q)
       ∙ (passes (tree.get nat_cmp m q)
-      ∙ (ap is_some (sym (lookup-filter-values (eq_by_cmp_equiv nat_cmp_total) test q m.entries (IsDistinct-from_sorted nat_cmp (keys_of m.entries) o)))
+      ∙
+      (ap is_some
+      (sym (lookup-filter-values (eq_by_cmp_equiv nat_cmp_total) test q m.entries
+      (IsDistinct-from_sorted nat_cmp (keys_of m.entries) o)))
       ∙ is_some-lookup (is_at (nat_cmp q)) (filter (λ e. test e.1) m.entries)))))
       ∙ ap (λ es. keys_of (filter (λ e. test e.1) es)) (sym (entries_when_sorted m.entries o))

@@ -1,5 +1,6 @@
 -- How often a number is among the near entities of a strip, and of all strips.
-use Rattle.std.proofs.Common.{◌≡◌, ◌≤◌, ◌<◌, ◌-◌, ◌+◌, ◌/◌, ℕ, Bool, true, false, cond, not, ◌&&◌, eqb, ltb, List, [], ◌∷◌, ◌++◌, Option, None, Some, refl, sym, ap, ◌∙◌, subst, is_some, unwrap_or, arith}
+use Rattle.std.proofs.Common.{◌≡◌, ◌≤◌, ◌<◌, ◌-◌, ◌+◌, ◌/◌, ℕ, Bool, true, false, cond, not, ◌&&◌, eqb, ltb, List, [], ◌∷◌, ◌++◌, Option}
+use Rattle.std.proofs.Common.{None, Some, refl, sym, ap, ◌∙◌, subst, is_some, unwrap_or, arith}
 use Rattle.std.specs.Prelude.{nat_le, nat_lt}
 use Rattle.std.specs.Ordering.{nat_cmp, eq_by_cmp, is_eq, is_le, ordering_then}
 use Rattle.std.specs.declared.ops.Bound.TheVariants.{Included, Excluded}
@@ -139,7 +140,8 @@ position_is : (o p v : Pos) (b : Bool) → same_spot (spot_of p) (spot_of o) ≡
 position_is o p v true e h = ap (λ s. unwrap_or s p) h
 position_is o p v false e h = absurd (none_some v h)
 
-located_by : (s : ℕ × ℕ) (p v : Pos) (b : Bool) → same_spot (spot_of p) s ≡ b → cond b (Some p) None ≡ Some v → (Some p ≡ Some v) × (s ≡ spot_of v)
+located_by : (s : ℕ × ℕ) (p v : Pos) (b : Bool) → same_spot (spot_of p) s ≡ b → cond b (Some p) None ≡ Some v →
+    (Some p ≡ Some v) × (s ≡ spot_of v)
 located_by s p v true e h =
     let same : p ≡ v = ap (λ o. unwrap_or o p) h in
     (h, sym (spot_is (spot_of p) s e) ∙ ap spot_of same)
@@ -174,10 +176,12 @@ module _ (m : tree.BTreeMap ℕ Pos) (q : ℕ) (t : Key × Pos → Bool) where
       let same : r.1 ≡ o = ap (λ x. unwrap_or x o) (sym l.0 ∙ (ap (tree.get nat_cmp m) entity ∙ at)) in
       let spot : r.0.0 ≡ spot_of o = l.1 ∙ ap spot_of same in
       let key : (spot_of o, q) ≡ r.0 = λ i. (sym spot i, sym entity i) in
-      let here : is_eq (by_spot (spot_of o, q) r.0) ≡ true = ap (λ k. is_eq (by_spot (spot_of o, q) k)) (sym key) ∙ key_itself (spot_of o, q) in
+      let here : is_eq (by_spot (spot_of o, q) r.0) ≡ true =
+      ap (λ k. is_eq (by_spot (spot_of o, q) k)) (sym key) ∙ key_itself (spot_of o, q) in
       λ i. t ((spot i, entity i), same i) && sym here i
   hit_by r o false e at l =
-      let other : is_eq (by_spot (spot_of o, q) r.0) ≡ false = elim (is_eq (by_spot (spot_of o, q) r.0)) as (λ b. is_eq (by_spot (spot_of o, q) r.0) ≡ b → b ≡ false) [
+      let other : is_eq (by_spot (spot_of o, q) r.0) ≡ false =
+      elim (is_eq (by_spot (spot_of o, q) r.0)) as (λ b. is_eq (by_spot (spot_of o, q) r.0) ≡ b → b ≡ false) [
         | true ↦ λ h. let f : true ≡ false = sym (same_again q) ∙ (ap (λ k. eqb k.1 q) (key_is (spot_of o, q) r.0 h) ∙ e) in cc
         | false ↦ λ h. refl
       ] refl in
@@ -192,13 +196,16 @@ module _ (m : tree.BTreeMap ℕ Pos) (q : ℕ) (t : Key × Pos → Bool) where
   miss_by r true e at l = absurd (none_some r.1 (sym at ∙ (ap (tree.get nat_cmp m) (sym (number_is r.0.1 q e)) ∙ l.0)))
   miss_by r false e at l = and_no (t r)
 
-  misses : (rs : List (Key × Pos)) → tree.get nat_cmp m q ≡ None → AllByRecursion (IsLocated m) rs → AllByRecursion (λ r. (t r && eqb r.0.1 q) ≡ false) rs
+  misses : (rs : List (Key × Pos)) → tree.get nat_cmp m q ≡ None → AllByRecursion (IsLocated m) rs →
+      AllByRecursion (λ r. (t r && eqb r.0.1 q) ≡ false) rs
   misses [] at l = tt
   misses (r ∷ rs) at l = (miss_by r (eqb r.0.1 q) refl at l.0, misses rs at l.1)
 
   counted_by : (s : tree.BTreeMap Key Pos) (o : Option Pos) → IsIndexed m s → tree.IsOrdered by_spot s → tree.get nat_cmp m q ≡ o →
       count_by (λ r. t r && eqb r.0.1 q) s.entries ≡ one_if (λ p. t ((spot_of p, q), p)) o
-  counted_by s None i d at = count_nothing _ s.entries (misses s.entries at (located_each m s s.entries i (found_each s.entries (IsDistinct-from_sorted by_spot (keys_of s.entries) d))))
+  counted_by s None i d at =
+      count_nothing _ s.entries
+      (misses s.entries at (located_each m s s.entries i (found_each s.entries (IsDistinct-from_sorted by_spot (keys_of s.entries) d))))
   counted_by s (Some o) i d at =
       let apart = IsDistinct-from_sorted by_spot (keys_of s.entries) d in
       let there : is_some (lookup (is_at (by_spot (spot_of o, q))) s.entries) ≡ true =
@@ -230,7 +237,8 @@ high_by high z q Equal e lt = absurd (let l : high ≡ z = grind (arith, nat_tes
 high_by high z q Greater e lt = refl
 
 run_by : (strip x low high z q : ℕ) (r : Ordering) → nat_cmp strip x ≡ r → low ≤ z → z < high →
-    (is_le (ordering_then (ordering_then r (nat_cmp low z)) (nat_cmp 0 q)) && not (is_le (ordering_then (ordering_then r (nat_cmp high z)) (nat_cmp 0 q))))
+    (is_le (ordering_then (ordering_then r (nat_cmp low z)) (nat_cmp 0 q)) && not
+    (is_le (ordering_then (ordering_then r (nat_cmp high z)) (nat_cmp 0 q))))
     ≡ eqb x strip
 run_by strip x low high z q Less e le lt = let other : eqb x strip ≡ false = grind (arith, nat_tests) in sym other
 run_by strip x low high z q Equal e le lt =
@@ -245,13 +253,15 @@ in_run strip p d k = range_contains by_spot (Included ((strip, p.z - d), 0)) (Ex
 z_within : (p o : Pos) (d : ℕ) → is_within p d o ≡ true → (p.z - d ≤ o.z) × (o.z < (p.z + d) + 1)
 z_within p o d t = let h = le_of (distance p o) d t in (omega (arith, h), omega (arith, h))
 
-strip_by : (strip : ℕ) (p o : Pos) (d q : ℕ) (w : Bool) → is_within p d o ≡ w → (in_run strip p d (spot_of o, q) && w) ≡ (eqb (o.x / STRIP_WIDTH) strip && w)
+strip_by : (strip : ℕ) (p o : Pos) (d q : ℕ) (w : Bool) → is_within p d o ≡ w →
+    (in_run strip p d (spot_of o, q) && w) ≡ (eqb (o.x / STRIP_WIDTH) strip && w)
 strip_by strip p o d q true e =
     let z = z_within p o d e in
     ap (λ b. b && true) (run_by strip (o.x / STRIP_WIDTH) (p.z - d) ((p.z + d) + 1) o.z q (nat_cmp strip (o.x / STRIP_WIDTH)) refl z.0 z.1)
 strip_by strip p o d q false e = and_no (in_run strip p d (spot_of o, q)) ∙ sym (and_no (eqb (o.x / STRIP_WIDTH) strip))
 
-strip_of : (strip : ℕ) (p : Pos) (d q : ℕ) (o : Option Pos) → one_if (λ v. in_run strip p d (spot_of v, q) && is_within p d v) o ≡ one_if (is_in_strip strip p d) o
+strip_of : (strip : ℕ) (p : Pos) (d q : ℕ) (o : Option Pos) →
+    one_if (λ v. in_run strip p d (spot_of v, q) && is_within p d v) o ≡ one_if (is_in_strip strip p d) o
 strip_of strip p d q None = refl
 strip_of strip p d q (Some o) = ap (λ b. cond b 1 0) (strip_by strip p o d q (is_within p d o) refl)
 
@@ -266,7 +276,8 @@ count_near p d q rs = count_by (λ r. is_within p d r.1 && eqb r.0.1 q) rs
 abbrev pub run_of : ℕ → Pos → ℕ → List (Key × Pos) → List (Key × Pos)
 run_of strip p d es = filter (λ r. in_run strip p d r.0) es
 
-pub count_in_run : (m : tree.BTreeMap ℕ Pos) (s : tree.BTreeMap Key Pos) (strip : ℕ) (p : Pos) (d q : ℕ) → IsIndexed m s → tree.IsOrdered by_spot s →
+pub count_in_run : (m : tree.BTreeMap ℕ Pos) (s : tree.BTreeMap Key Pos) (strip : ℕ) (p : Pos) (d q : ℕ) → IsIndexed m s →
+    tree.IsOrdered by_spot s →
     count_near p d q (run_of strip p d s.entries) ≡ one_if (is_in_strip strip p d) (tree.get nat_cmp m q)
 count_in_run m s strip p d q i o =
     count_by_filter (λ r. in_run strip p d r.0) (λ r. is_within p d r.1 && eqb r.0.1 q) s.entries
@@ -296,7 +307,8 @@ is_below_strip strip p d o = nat_lt (o.x / STRIP_WIDTH) strip && is_within p d o
 
 one_more : (x strip : ℕ) (w : Bool) → cond (ltb x strip && w) 1 0 + cond (eqb x strip && w) 1 0 ≡ cond (ltb x (strip + 1) && w) 1 0
 one_more x strip true = grind (arith, nat_tests)
-one_more x strip false = (λ i. cond (and_no (ltb x strip) i) 1 0 + cond (and_no (eqb x strip) i) 1 0) ∙ ap (λ b. cond b 1 0) (sym (and_no (ltb x (strip + 1))))
+one_more x strip false =
+    (λ i. cond (and_no (ltb x strip) i) 1 0 + cond (and_no (eqb x strip) i) 1 0) ∙ ap (λ b. cond b 1 0) (sym (and_no (ltb x (strip + 1))))
 
 pub one_strip_more : (strip : ℕ) (p : Pos) (d : ℕ) (o : Option Pos) →
     one_if (is_below_strip strip p d) o + one_if (is_in_strip strip p d) o ≡ one_if (is_below_strip (strip + 1) p d) o

@@ -132,7 +132,8 @@ impl RangeList {
 
     // Appends the near entities of the strip.
     fn push_near(&self, strip: u64, p: Pos, d: u32, found: &mut Vec<u32>) -> Result<(), AllocError>
-        ensures { OnOk result ((q : ℕ) → count_of q found.new.items ≡ count_of q found.old.items + one_if (is_in_strip strip p d) (map.get self.now q)) }
+        ensures { OnOk result ((q : ℕ) → count_of q found.new.items
+            ≡ count_of q found.old.items + one_if (is_in_strip strip p d) (map.get self.now q)) }
     {
         let low = u64::from(p.z.saturating_sub(d));
         let end = u64::from(p.z) + u64::from(d) + 1;

@@ -1,5 +1,6 @@
 -- No version shown falls by the looks of what is known.
-use Rattle.std.proofs.Common.{◌≡◌, ◌≤◌, ◌<◌, ℕ, Bool, true, false, cond, not, ◌&&◌, eqb, leb, ltb, List, [], ◌∷◌, ◌++◌, map, Option, None, Some, refl, sym, ap, ◌∙◌, arith, unwrap_or}
+use Rattle.std.proofs.Common.{◌≡◌, ◌≤◌, ◌<◌, ℕ, Bool, true, false, cond, not, ◌&&◌, eqb, leb, ltb, List, [], ◌∷◌, ◌++◌, map, Option, None}
+use Rattle.std.proofs.Common.{Some, refl, sym, ap, ◌∙◌, arith, unwrap_or}
 use Rattle.std.specs.Ordering.{nat_cmp}
 use Rattle.std.specs.List.{AllByRecursion, filter}
 use Rattle.std.specs.List.Sorted.{IsStrictlySortedBy}
@@ -12,7 +13,8 @@ use Rattle.seam_geo.specs.Pos.{distance}
 use Rattle.seam_view.specs.declared.Seen.{Seen}
 use Rattle.seam_view.specs.declared.Look.{Look}
 use Rattle.seam_view.specs.declared.Look.TheVariants.{Leave, Set, Enter}
-use Rattle.seam_view.specs.Replica.{Replica, IsView, AreShown, NeverFalls, seen_of, with_version_shown, after_showing, after_look, after_looks}
+use Rattle.seam_view.specs.Replica.{Replica, IsView, AreShown, NeverFalls, seen_of, with_version_shown, after_showing, after_look}
+use Rattle.seam_view.specs.Replica.{after_looks}
 use Rattle.seam_view.specs.Looks.{is_far, in_view, leaves, has_changed, not_older, enters, leaving, changed, entering, one_look}
 use Rattle.seam_view.proofs.Known.{entities}
 use Rattle.seam_view.proofs.Kept.{get_by_shown}
@@ -34,7 +36,8 @@ same_value a b e = ap (λ o. unwrap_or o a) e
 
 -- ---- one look after the other
 
-module _ (old r : Replica) (e : ℕ) (s : Seen) (rises : (v : ℕ) → versions.get old.shown e ≡ Some v → v ≤ s.version) (so_far : NeverFalls old r) where
+module _ (old r : Replica) (e : ℕ) (s : Seen) (rises : (v : ℕ) → versions.get old.shown e ≡ Some v → v ≤ s.version)
+    (so_far : NeverFalls old r) where
   shown_by : (q v : ℕ) (b : Bool) → eqb e q ≡ b → versions.get old.shown q ≡ Some v →
       (w : ℕ) × (versions.get (with_version_shown r e s.version).shown q ≡ Some w) × (v ≤ w)
   shown_by q v true t h =
@@ -44,17 +47,20 @@ module _ (old r : Replica) (e : ℕ) (s : Seen) (rises : (v : ℕ) → versions.
   never_falls_when_shown : NeverFalls old (with_version_shown r e s.version)
   never_falls_when_shown q v h = shown_by q v (eqb e q) refl h
 
-never_falls_when_known : (old r : Replica) (e : ℕ) (o : Option Seen) → ((s : Seen) → o ≡ Some s → (v : ℕ) → versions.get old.shown e ≡ Some v → v ≤ s.version) →
+never_falls_when_known : (old r : Replica) (e : ℕ) (o : Option Seen) →
+    ((s : Seen) → o ≡ Some s → (v : ℕ) → versions.get old.shown e ≡ Some v → v ≤ s.version) →
     NeverFalls old r → NeverFalls old (after_showing r e o)
 never_falls_when_known old r e None rises n = n
 never_falls_when_known old r e (Some s) rises n = never_falls_when_shown old r e s (rises s refl) n
 
-never_falls_by_look : (known : List Seen) (old r : Replica) (look : Look) → MayShow known old look → NeverFalls old r → NeverFalls old (after_look known r look)
+never_falls_by_look : (known : List Seen) (old r : Replica) (look : Look) → MayShow known old look → NeverFalls old r →
+    NeverFalls old (after_look known r look)
 never_falls_by_look known old r (Leave e) m n = n
 never_falls_by_look known old r (Set e) m n = never_falls_when_known old r e (seen_of e known) m n
 never_falls_by_look known old r (Enter e) m n = never_falls_when_known old r e (seen_of e known) m n
 
-never_falls_by_looks : (known : List Seen) (old r : Replica) (looks : List Look) → AllByRecursion (MayShow known old) looks → NeverFalls old r →
+never_falls_by_looks : (known : List Seen) (old r : Replica) (looks : List Look) → AllByRecursion (MayShow known old) looks →
+    NeverFalls old r →
     NeverFalls old (after_looks known r looks)
 never_falls_by_looks known old r [] m n = n
 never_falls_by_looks known old r (look ∷ looks) m n =
@@ -80,20 +86,25 @@ module _ (known : List Seen) (r : Replica) (own : Pos) where
   left_may [] = tt
   left_may (p ∷ ps) = (tt, left_may ps)
 
-  rises_by_change : (p : ℕ × ℕ) → has_changed r own p.1 (seen_of p.0 known) ≡ true → versions.get r.shown p.0 ≡ Some p.1 → MayRise known r p.0
+  rises_by_change : (p : ℕ × ℕ) → has_changed r own p.1 (seen_of p.0 known) ≡ true → versions.get r.shown p.0 ≡ Some p.1 →
+      MayRise known r p.0
   rises_by_change p t at s q v h =
       let same = same_value p.1 v (sym at ∙ h) in
-      let less = below_of p.1 s.version (second_of (not (is_far r own s.pos)) (ltb p.1 s.version) (ap (has_changed r own p.1) (sym q) ∙ t)) in
+      let less =
+      below_of p.1 s.version (second_of (not (is_far r own s.pos)) (ltb p.1 s.version) (ap (has_changed r own p.1) (sym q) ∙ t)) in
       omega (arith, same, less)
 
-  set_by : (p : ℕ × ℕ) (es : List (ℕ × ℕ)) (b : Bool) → has_changed r own p.1 (seen_of p.0 known) ≡ b → versions.get r.shown p.0 ≡ Some p.1 →
+  set_by : (p : ℕ × ℕ) (es : List (ℕ × ℕ)) (b : Bool) → has_changed r own p.1 (seen_of p.0 known) ≡ b →
+      versions.get r.shown p.0 ≡ Some p.1 →
       AllByRecursion (MayShow known r) (map (λ p. Set p.0) es) → AllByRecursion (MayShow known r) (map (λ p. Set p.0) (cond b (p ∷ es) es))
   set_by p es true t at rest = (rises_by_change p t at, rest)
   set_by p es false t at rest = rest
 
   set_may : (es : List (ℕ × ℕ)) → AreShown r.shown es → AllByRecursion (MayShow known r) (changed r own known es)
   set_may [] h = tt
-  set_may (p ∷ es) h = set_by p (filter (λ p. has_changed r own p.1 (seen_of p.0 known)) es) (has_changed r own p.1 (seen_of p.0 known)) refl h.0 (set_may es h.1)
+  set_may (p ∷ es) h =
+      set_by p (filter (λ p. has_changed r own p.1 (seen_of p.0 known)) es) (has_changed r own p.1 (seen_of p.0 known)) refl h.0
+      (set_may es h.1)
 
   not_below : (o : Option ℕ) (v n : ℕ) → o ≡ Some v → not_older o n ≡ true → v ≤ n
   not_below None v n e t = cc
@@ -108,11 +119,13 @@ module _ (known : List Seen) (r : Replica) (own : Pos) where
       omega (arith, le, version)
 
   enter_by : (s : Seen) (ss : List Seen) (b : Bool) → enters r own s ≡ b → seen_of s.entity known ≡ Some s →
-      AllByRecursion (MayShow known r) (map (λ s. Enter s.entity) ss) → AllByRecursion (MayShow known r) (map (λ s. Enter s.entity) (cond b (s ∷ ss) ss))
+      AllByRecursion (MayShow known r) (map (λ s. Enter s.entity) ss) →
+      AllByRecursion (MayShow known r) (map (λ s. Enter s.entity) (cond b (s ∷ ss) ss))
   enter_by s ss true t self rest = (rises_by_enter s t self, rest)
   enter_by s ss false t self rest = rest
 
-  enter_may : (ss : List Seen) → AllByRecursion (λ s. seen_of s.entity known ≡ Some s) ss → AllByRecursion (MayShow known r) (entering r own ss)
+  enter_may : (ss : List Seen) → AllByRecursion (λ s. seen_of s.entity known ≡ Some s) ss →
+      AllByRecursion (MayShow known r) (entering r own ss)
   enter_may [] h = tt
   enter_may (s ∷ ss) h = enter_by s (filter (enters r own) ss) (enters r own s) refl h.0 (enter_may ss h.1)
 
@@ -130,7 +143,8 @@ self_known : (known : List Seen) → IsStrictlySortedBy nat_cmp (entities known)
 self_known [] o = tt
 self_known (s ∷ known) o = (
   ap (λ b. cond b (Some s) (seen_of s.entity known)) (same_again s.entity),
-  self_past s known known (sorted_head nat_cmp s.entity (entities known) o) (self_known known (sorted_tail nat_cmp s.entity (entities known) o)),
+  self_past s known known (sorted_head nat_cmp s.entity (entities known) o)
+      (self_known known (sorted_tail nat_cmp s.entity (entities known) o)),
 )
 
 all_append : {A : Type 0} (P : A → Type 0) (xs ys : List A) → AllByRecursion P xs → AllByRecursion P ys → AllByRecursion P (xs ++ ys)

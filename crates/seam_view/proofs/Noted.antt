@@ -1,5 +1,7 @@
 -- The notes of a view as those known are looked up one by one, and the looks that they give.
-use Rattle.std.proofs.Common.{◌≡◌, ◌<◌, ◌+◌, ℕ, zero, suc, Bool, true, false, cond, not, ◌&&◌, ◌||◌, eqb, List, [], ◌∷◌, ◌++◌, map, take, drop, length, get_or, slice_get, slice_set, Option, None, Some, is_some, refl, sym, ap, ◌∙◌, subst, arith, unwrap_or}
+use Rattle.std.proofs.Common.{◌≡◌, ◌<◌, ◌+◌, ℕ, zero, suc, Bool, true, false, cond, not, ◌&&◌, ◌||◌, eqb, List, [], ◌∷◌, ◌++◌, map, take}
+use Rattle.std.proofs.Common.{drop, length, get_or, slice_get, slice_set, Option, None, Some, is_some, refl, sym, ap, ◌∙◌, subst, arith}
+use Rattle.std.proofs.Common.{unwrap_or}
 use Rattle.std.specs.Prelude.{nat_lt, nat_le, replicate}
 use Rattle.std.specs.Ordering.{nat_cmp}
 use Rattle.std.specs.Map.{keys_of, lookup, lookup_key}
@@ -62,12 +64,15 @@ module _ (r : Replica) (own : Pos) (known : List Seen) where
   changes_noted [] = refl
   changes_noted (p ∷ es) =
       noted_by (λ e. Set e) _ (has_changed r own p.1 (seen_of p.0 known)) p _ (filter (λ p. has_changed r own p.1 (seen_of p.0 known)) es)
-      (change_noted (leaves r own p.1 (seen_of p.0 known)) (has_changed r own p.1 (seen_of p.0 known)) (left_or_changed p.1 (seen_of p.0 known)))
+      (change_noted (leaves r own p.1 (seen_of p.0 known)) (has_changed r own p.1 (seen_of p.0 known))
+      (left_or_changed p.1 (seen_of p.0 known)))
       (changes_noted es)
 
 -- what is noted from a place on
-pub noted_from : (t : Note → Bool) (ns : List Note) (es : List ℕ) (i e : ℕ) (n d : Note) → i < length ns → get_or ns i d ≡ n → slice_get es i ≡ Some e →
-    noted t (drop i ns) (drop i es) ≡ cond (t n) (e ∷ noted t (drop (i + 1) ns) (drop (i + 1) es)) (noted t (drop (i + 1) ns) (drop (i + 1) es))
+pub noted_from : (t : Note → Bool) (ns : List Note) (es : List ℕ) (i e : ℕ) (n d : Note) → i < length ns → get_or ns i d ≡ n →
+    slice_get es i ≡ Some e →
+    noted t (drop i ns) (drop i es) ≡ cond (t n) (e ∷ noted t (drop (i + 1) ns) (drop (i + 1) es))
+    (noted t (drop (i + 1) ns) (drop (i + 1) es))
 noted_from t [] es i e n d lt h k = absurd (omega (arith, lt))
 noted_from t (m ∷ ns) [] i e n d lt h k = cc
 noted_from t (m ∷ ns) (x ∷ es) zero e n d lt h k =
@@ -79,12 +84,15 @@ noted_from t (m ∷ ns) (x ∷ es) (suc i) e n d lt h k =
     ∙ ap (λ j. cond (t n) (e ∷ noted t (drop j (m ∷ ns)) (drop j (x ∷ es))) (noted t (drop j (m ∷ ns)) (drop j (x ∷ es)))) more
 
 -- one that passes comes next, and one that does not is passed over
-pub noted_with : (t : Note → Bool) (ns : List Note) (es : List ℕ) (i e : ℕ) (n d : Note) → i < length ns → get_or ns i d ≡ n → slice_get es i ≡ Some e → t n ≡ true →
+pub noted_with : (t : Note → Bool) (ns : List Note) (es : List ℕ) (i e : ℕ) (n d : Note) → i < length ns → get_or ns i d ≡ n →
+    slice_get es i ≡ Some e → t n ≡ true →
     e ∷ noted t (drop (i + 1) ns) (drop (i + 1) es) ≡ noted t (drop i ns) (drop i es)
 noted_with t ns es i e n d lt h k p =
-    sym (noted_from t ns es i e n d lt h k ∙ ap (λ b. cond b (e ∷ noted t (drop (i + 1) ns) (drop (i + 1) es)) (noted t (drop (i + 1) ns) (drop (i + 1) es))) p)
+    sym (noted_from t ns es i e n d lt h k
+    ∙ ap (λ b. cond b (e ∷ noted t (drop (i + 1) ns) (drop (i + 1) es)) (noted t (drop (i + 1) ns) (drop (i + 1) es))) p)
 
-pub noted_past : (t : Note → Bool) (ns : List Note) (es : List ℕ) (i : ℕ) (n d : Note) → i < length ns → length ns ≡ length es → get_or ns i d ≡ n → t n ≡ false →
+pub noted_past : (t : Note → Bool) (ns : List Note) (es : List ℕ) (i : ℕ) (n d : Note) → i < length ns → length ns ≡ length es →
+    get_or ns i d ≡ n → t n ≡ false →
     noted t (drop (i + 1) ns) (drop (i + 1) es) ≡ noted t (drop i ns) (drop i es)
 noted_past t [] es i n d lt l h p = absurd (omega (arith, lt))
 noted_past t (m ∷ ns) [] i n d lt l h p = absurd (omega (arith, l))
@@ -104,7 +112,8 @@ push_append (z ∷ xs) x ys = ap (λ l. z ∷ l) (push_append xs x ys)
 apart : (x y : ℕ) → nat_cmp x y ≡ Less → eqb x y ≡ false
 apart x y e = grind (arith, nat_tests)
 
-apart_at : (x : ℕ) (xs : List Seen) (k : ℕ) (d : Seen) → AllByRecursion (λ y. nat_cmp x y ≡ Less) (entities xs) → k < length xs → eqb x (get_or xs k d).entity ≡ false
+apart_at : (x : ℕ) (xs : List Seen) (k : ℕ) (d : Seen) → AllByRecursion (λ y. nat_cmp x y ≡ Less) (entities xs) → k < length xs →
+    eqb x (get_or xs k d).entity ≡ false
 apart_at x [] k d h lt = absurd (omega (arith, lt))
 apart_at x (s ∷ xs) zero d h lt = apart x s.entity h.0
 apart_at x (s ∷ xs) (suc k) d h lt = apart_at x xs k d h.1 (omega (arith, lt))
@@ -128,7 +137,8 @@ seen_with_next (s ∷ known) (suc k) e d o lt =
     let s' = get_or known k d in
     let other = apart_at s.entity known k d (sorted_head nat_cmp s.entity (entities known) o) (omega (arith, lt)) in
     ap (λ n. seen_of e (take n (s ∷ known))) (sym more)
-    ∙ (ap (cond (eqb s.entity e) (Some s)) (seen_with_next known k e d (sorted_tail nat_cmp s.entity (entities known) o) (omega (arith, lt)))
+    ∙ (ap (cond (eqb s.entity e) (Some s))
+    (seen_with_next known k e d (sorted_tail nat_cmp s.entity (entities known) o) (omega (arith, lt)))
     ∙ swapped (eqb s.entity e) (eqb s'.entity e) (Some s) (Some s') (seen_of e (take k known)) (not_two s.entity s'.entity e other))
 
 -- ---- the notes of the entries
@@ -138,18 +148,21 @@ absent_keys : {X : Type 0} (f g : ℕ × ℕ → X) (e : ℕ) (es : List (ℕ ×
 absent_keys f g e [] same h = refl
 absent_keys f g e (p ∷ es) same h = λ i. same p h.0 i ∷ absent_keys f g e es same h.1 i
 
-key_at : (x : ℕ) (es : List (ℕ × ℕ)) (i : ℕ) (q : ℕ × ℕ) → AllByRecursion (λ y. eqb x y ≡ false) (keys_of es) → slice_get es i ≡ Some q → eqb x q.0 ≡ false
+key_at : (x : ℕ) (es : List (ℕ × ℕ)) (i : ℕ) (q : ℕ × ℕ) → AllByRecursion (λ y. eqb x y ≡ false) (keys_of es) → slice_get es i ≡ Some q →
+    eqb x q.0 ≡ false
 key_at x [] i q h k = cc
 key_at x (p ∷ es) zero q h k = let same : p ≡ q = ap (λ o. unwrap_or o p) k in ap (λ y. eqb x y.0) (sym same) ∙ h.0
 key_at x (p ∷ es) (suc i) q h k = key_at x es i q h.1 k
 
 -- a change of the one entry of an entity
-pub noted_at : {X : Type 0} (f g : ℕ × ℕ → X) (e : ℕ) (es : List (ℕ × ℕ)) (i : ℕ) (q : ℕ × ℕ) → IsDistinct eqb (keys_of es) → slice_get es i ≡ Some q → q.0 ≡ e →
+pub noted_at : {X : Type 0} (f g : ℕ × ℕ → X) (e : ℕ) (es : List (ℕ × ℕ)) (i : ℕ) (q : ℕ × ℕ) → IsDistinct eqb (keys_of es) →
+    slice_get es i ≡ Some q → q.0 ≡ e →
     ((p : ℕ × ℕ) → eqb e p.0 ≡ false → f p ≡ g p) → slice_set (map f es) i (g q) ≡ map g es
 noted_at f g e [] i q u k t same = cc
 noted_at f g e (p ∷ es) zero q u k t same =
     let here : p ≡ q = ap (λ o. unwrap_or o p) k in
-    let head = subst (λ y. AllByRecursion (λ z. eqb y z ≡ false) (keys_of es)) (ap (λ y. y.0) here ∙ t) (IsDistinct-head eqb p.0 (keys_of es) u) in
+    let head =
+    subst (λ y. AllByRecursion (λ z. eqb y z ≡ false) (keys_of es)) (ap (λ y. y.0) here ∙ t) (IsDistinct-head eqb p.0 (keys_of es) u) in
     λ j. g (sym here j) ∷ absent_keys f g e es same head j
 noted_at f g e (p ∷ es) (suc i) q u k t same =
     let other : eqb p.0 e ≡ false = ap (eqb p.0) (sym t) ∙ key_at p.0 es i q (IsDistinct-head eqb p.0 (keys_of es) u) k in
@@ -178,16 +191,20 @@ pub not_in_view : (e : ℕ) (es : List (ℕ × ℕ)) → AllByRecursion (λ y. e
 not_in_view e [] h = refl
 not_in_view e (p ∷ es) h = λ i. h.0 i || not_in_view e es h.1 i
 
-pub notes_of_none : (r : Replica) (own : Pos) (es : List (ℕ × ℕ)) → replicate (length es) Leaves ≡ map (λ p. note_of r own p.1 (seen_of p.0 [])) es
+pub notes_of_none : (r : Replica) (own : Pos) (es : List (ℕ × ℕ)) →
+    replicate (length es) Leaves ≡ map (λ p. note_of r own p.1 (seen_of p.0 [])) es
 notes_of_none r own [] = refl
 notes_of_none r own (p ∷ es) = ap (λ ns. Leaves ∷ ns) (notes_of_none r own es)
 
-module _ (r : Replica) (own : Pos) (known : List Seen) (k : ℕ) (d : Seen) (o : IsStrictlySortedBy nat_cmp (entities known)) (lt : k < length known) where
+module _ (r : Replica) (own : Pos) (known : List Seen) (k : ℕ) (d : Seen) (o : IsStrictlySortedBy nat_cmp (entities known))
+    (lt : k < length known) where
   abbrev Next : Seen
   Next = get_or known k d
 
-  note_same : (p : ℕ × ℕ) → eqb Next.entity p.0 ≡ false → note_of r own p.1 (seen_of p.0 (take k known)) ≡ note_of r own p.1 (seen_of p.0 (take (k + 1) known))
-  note_same p t = ap (note_of r own p.1) (sym (seen_with_next known k p.0 d o lt ∙ ap (λ b. cond b (Some Next) (seen_of p.0 (take k known))) t))
+  note_same : (p : ℕ × ℕ) → eqb Next.entity p.0 ≡ false →
+      note_of r own p.1 (seen_of p.0 (take k known)) ≡ note_of r own p.1 (seen_of p.0 (take (k + 1) known))
+  note_same p t =
+      ap (note_of r own p.1) (sym (seen_with_next known k p.0 d o lt ∙ ap (λ b. cond b (Some Next) (seen_of p.0 (take k known))) t))
 
   same_again : (a : ℕ) → eqb a a ≡ true
   same_again a = grind (arith, nat_tests)
@@ -197,14 +214,18 @@ module _ (r : Replica) (own : Pos) (known : List Seen) (k : ℕ) (d : Seen) (o :
       slice_set (notes_of r own (take k known)) i (note_of r own q.1 (Some Next)) ≡ notes_of r own (take (k + 1) known)
   notes_when_found i q u at t =
       let seen : seen_of q.0 (take (k + 1) known) ≡ Some Next =
-      seen_with_next known k q.0 d o lt ∙ ap (λ b. cond b (Some Next) (seen_of q.0 (take k known))) (ap (eqb Next.entity) t ∙ same_again Next.entity) in
+      seen_with_next known k q.0 d o lt ∙ ap (λ b. cond b (Some Next) (seen_of q.0 (take k known))) (ap (eqb Next.entity) t
+      ∙ same_again Next.entity) in
       ap (λ s. slice_set (notes_of r own (take k known)) i (note_of r own q.1 s)) (sym seen)
-      ∙ noted_at (λ p. note_of r own p.1 (seen_of p.0 (take k known))) (λ p. note_of r own p.1 (seen_of p.0 (take (k + 1) known))) Next.entity r.entries i q u at t note_same
+      ∙ noted_at (λ p. note_of r own p.1 (seen_of p.0 (take k known))) (λ p. note_of r own p.1 (seen_of p.0 (take (k + 1) known)))
+      Next.entity r.entries i q u at t note_same
 
   -- the next one is not
-  pub notes_when_missing : AllByRecursion (λ y. eqb Next.entity y ≡ false) (keys_of r.entries) → notes_of r own (take k known) ≡ notes_of r own (take (k + 1) known)
+  pub notes_when_missing : AllByRecursion (λ y. eqb Next.entity y ≡ false) (keys_of r.entries) →
+      notes_of r own (take k known) ≡ notes_of r own (take (k + 1) known)
   notes_when_missing h =
-      absent_keys (λ p. note_of r own p.1 (seen_of p.0 (take k known))) (λ p. note_of r own p.1 (seen_of p.0 (take (k + 1) known))) Next.entity r.entries note_same h
+      absent_keys (λ p. note_of r own p.1 (seen_of p.0 (take k known))) (λ p. note_of r own p.1 (seen_of p.0 (take (k + 1) known)))
+      Next.entity r.entries note_same h
 
 -- ---- what the look-up of one tells
 
@@ -228,17 +249,20 @@ viewed_at (p ∷ es) (suc i) e q h t = or_second (eqb e p.0) _ (viewed_at es i e
 -- the enters from a place on
 entering_from : (r : Replica) (own : Pos) (known : List Seen) (k : ℕ) (d : Seen) → k < length known →
     entering r own (drop k known)
-    ≡ cond (enters r own (get_or known k d)) (Enter (get_or known k d).entity ∷ entering r own (drop (k + 1) known)) (entering r own (drop (k + 1) known))
+    ≡ cond (enters r own (get_or known k d)) (Enter (get_or known k d).entity ∷ entering r own (drop (k + 1) known))
+    (entering r own (drop (k + 1) known))
 entering_from r own [] k d lt = absurd (omega (arith, lt))
 entering_from r own (s ∷ known) zero d lt =
-    elim (enters r own s) as (λ b. map (λ s. Enter s.entity) (cond b (s ∷ filter (enters r own) known) (filter (enters r own) known)) ≡ cond b (Enter s.entity ∷ entering r own known) (entering r own known)) [
+    elim (enters r own s) as (λ b. map (λ s. Enter s.entity) (cond b (s ∷ filter (enters r own) known) (filter (enters r own) known))
+    ≡ cond b (Enter s.entity ∷ entering r own known) (entering r own known)) [
       | true ↦ refl
       | false ↦ refl
     ]
 entering_from r own (s ∷ known) (suc k) d lt =
     let more : suc (k + 1) ≡ suc k + 1 = omega arith in
     entering_from r own known k d (omega (arith, lt))
-    ∙ ap (λ n. cond (enters r own (get_or known k d)) (Enter (get_or known k d).entity ∷ entering r own (drop n (s ∷ known))) (entering r own (drop n (s ∷ known)))) more
+    ∙ ap (λ n. cond (enters r own (get_or known k d)) (Enter (get_or known k d).entity ∷ entering r own (drop n (s ∷ known)))
+    (entering r own (drop n (s ∷ known)))) more
 
 module _ (r : Replica) (own : Pos) (known : List Seen) (k : ℕ) (d : Seen) (lt : k < length known) where
   abbrev Last : Seen
@@ -248,11 +272,16 @@ module _ (r : Replica) (own : Pos) (known : List Seen) (k : ℕ) (d : Seen) (lt 
       (items ++ Enter Last.entity ∷ []) ++ entering r own (drop (k + 1) known) ≡ items ++ entering r own (drop k known)
   entering_with_next items t =
       push_append items (Enter Last.entity) (entering r own (drop (k + 1) known))
-      ∙ ap (λ xs. items ++ xs) (sym (entering_from r own known k d lt ∙ ap (λ b. cond b (Enter Last.entity ∷ entering r own (drop (k + 1) known)) (entering r own (drop (k + 1) known))) t))
+      ∙ ap (λ xs. items ++ xs) (sym (entering_from r own known k d lt
+      ∙ ap (λ b. cond b (Enter Last.entity ∷ entering r own (drop (k + 1) known)) (entering r own (drop (k + 1) known))) t))
 
   pub entering_past : enters r own Last ≡ false → entering r own (drop (k + 1) known) ≡ entering r own (drop k known)
-  entering_past t = sym (entering_from r own known k d lt ∙ ap (λ b. cond b (Enter Last.entity ∷ entering r own (drop (k + 1) known)) (entering r own (drop (k + 1) known))) t)
+  entering_past t =
+      sym (entering_from r own known k d lt
+      ∙ ap (λ b. cond b (Enter Last.entity ∷ entering r own (drop (k + 1) known)) (entering r own (drop (k + 1) known))) t)
 
   -- one in view does not enter
   pub entering_past_viewed : in_view r Last.entity ≡ true → entering r own (drop (k + 1) known) ≡ entering r own (drop k known)
-  entering_past_viewed h = entering_past (ap (λ b. (not b && nat_le (distance own Last.pos) r.radius) && not_older (versions.get r.shown Last.entity) Last.version) h)
+  entering_past_viewed h =
+      entering_past
+      (ap (λ b. (not b && nat_le (distance own Last.pos) r.radius) && not_older (versions.get r.shown Last.entity) Last.version) h)

@@ -1,5 +1,6 @@
 -- Looks depend on what is known of entities in view or near alone.
-use Rattle.std.proofs.Common.{◌≡◌, ◌≤◌, ◌+◌, ℕ, Bool, true, false, cond, not, ◌&&◌, ◌||◌, eqb, List, [], ◌∷◌, ◌++◌, map, find, Option, Some, refl, sym, ap, ◌∙◌, arith}
+use Rattle.std.proofs.Common.{◌≡◌, ◌≤◌, ◌+◌, ℕ, Bool, true, false, cond, not, ◌&&◌, ◌||◌, eqb, List, [], ◌∷◌, ◌++◌, map, find, Option, Some}
+use Rattle.std.proofs.Common.{refl, sym, ap, ◌∙◌, arith}
 use Rattle.std.specs.Prelude.{nat_lt, nat_le}
 use Rattle.std.specs.List.{AllByRecursion, list_any, filter}
 use Rattle.std.specs.FinMap as versions
@@ -11,18 +12,21 @@ use Rattle.seam_view.specs.declared.Look.TheVariants.{Leave, Set, Enter}
 use Rattle.seam_view.specs.Replica.{Replica, seen_of}
 use Rattle.seam_view.specs.Looks.{leaves, has_changed, enters, matters, in_view, not_older, one_look}
 
-filter_step : {A : Type 0} (x : A) (xs ys : List A) (p : A → Bool) (b c : Bool) → p x ≡ b → (b ≡ true → c ≡ true) → xs ≡ filter p ys → cond b (x ∷ xs) xs ≡ filter p (cond c (x ∷ ys) ys)
+filter_step : {A : Type 0} (x : A) (xs ys : List A) (p : A → Bool) (b c : Bool) → p x ≡ b → (b ≡ true → c ≡ true) → xs ≡ filter p ys →
+    cond b (x ∷ xs) xs ≡ filter p (cond c (x ∷ ys) ys)
 filter_step x xs ys p true true e h rest = rw e (ap (λ zs. x ∷ zs) rest)
 filter_step x xs ys p true false e h rest = let f : false ≡ true = h refl in cc
 filter_step x xs ys p false true e h rest = rw e rest
 filter_step x xs ys p false false e h rest = rest
 
 -- a filter sees no more than a wider one leaves
-filter_of_filter : {A : Type 0} (p q : A → Bool) → ((x : A) → p x ≡ true → q x ≡ true) → (xs : List A) → filter p xs ≡ filter p (filter q xs)
+filter_of_filter : {A : Type 0} (p q : A → Bool) → ((x : A) → p x ≡ true → q x ≡ true) → (xs : List A) →
+    filter p xs ≡ filter p (filter q xs)
 filter_of_filter p q h [] = refl
 filter_of_filter p q h (x ∷ xs) = filter_step x (filter p xs) (filter q xs) p (p x) (q x) refl (h x) (filter_of_filter p q h xs)
 
-find_step : {A : Type 0} (x : A) (xs ys : List A) (p : A → Bool) (b c : Bool) → p x ≡ b → (b ≡ true → c ≡ true) → find p xs ≡ find p ys → cond b (Some x) (find p xs) ≡ find p (cond c (x ∷ ys) ys)
+find_step : {A : Type 0} (x : A) (xs ys : List A) (p : A → Bool) (b c : Bool) → p x ≡ b → (b ≡ true → c ≡ true) → find p xs ≡ find p ys →
+    cond b (Some x) (find p xs) ≡ find p (cond c (x ∷ ys) ys)
 find_step x xs ys p true true e h rest = rw e refl
 find_step x xs ys p true false e h rest = let f : false ≡ true = h refl in cc
 find_step x xs ys p false true e h rest = rw e rest
@@ -61,17 +65,27 @@ all_viewed [] = tt
 all_viewed (x ∷ es) = (or_first (eqb x.0 x.0) _ (same_self x.0), viewed_more x es es (all_viewed es))
 
 -- what is known of an entity in view
-seen_when_viewed : (r : Replica) (own : Pos) (known : List Seen) (e : ℕ) → in_view r e ≡ true → seen_of e known ≡ seen_of e (filter (matters r own) known)
-seen_when_viewed r own known e v = find_of_filter (λ s. eqb s.entity e) (matters r own) (λ s t. or_first (in_view r s.entity) _ (ap (in_view r) (number_is s.entity e t) ∙ v)) known
+seen_when_viewed : (r : Replica) (own : Pos) (known : List Seen) (e : ℕ) → in_view r e ≡ true →
+    seen_of e known ≡ seen_of e (filter (matters r own) known)
+seen_when_viewed r own known e v =
+    find_of_filter (λ s. eqb s.entity e) (matters r own)
+    (λ s t. or_first (in_view r s.entity) _ (ap (in_view r) (number_is s.entity e t) ∙ v)) known
 
-seen_when_same : (r : Replica) (own : Pos) (known other : List Seen) (e : ℕ) → filter (matters r own) known ≡ filter (matters r own) other → in_view r e ≡ true → seen_of e known ≡ seen_of e other
-seen_when_same r own known other e same v = seen_when_viewed r own known e v ∙ (ap (seen_of e) same ∙ sym (seen_when_viewed r own other e v))
+seen_when_same : (r : Replica) (own : Pos) (known other : List Seen) (e : ℕ) → filter (matters r own) known ≡ filter (matters r own) other →
+    in_view r e ≡ true → seen_of e known ≡ seen_of e other
+seen_when_same r own known other e same v =
+    seen_when_viewed r own known e v ∙ (ap (seen_of e) same ∙ sym (seen_when_viewed r own other e v))
 
-tests_agree : (r : Replica) (own : Pos) (known other : List Seen) (t : ℕ → Option Seen → Bool) (xs : List (ℕ × ℕ)) → filter (matters r own) known ≡ filter (matters r own) other → Viewed r.entries xs → AllByRecursion (λ p. t p.1 (seen_of p.0 known) ≡ t p.1 (seen_of p.0 other)) xs
+tests_agree : (r : Replica) (own : Pos) (known other : List Seen) (t : ℕ → Option Seen → Bool) (xs : List (ℕ × ℕ)) →
+    filter (matters r own) known ≡ filter (matters r own) other → Viewed r.entries xs →
+    AllByRecursion (λ p. t p.1 (seen_of p.0 known) ≡ t p.1 (seen_of p.0 other)) xs
 tests_agree r own known other t [] same v = tt
-tests_agree r own known other t (x ∷ xs) same v = (ap (t x.1) (seen_when_same r own known other x.0 same v.0), tests_agree r own known other t xs same v.1)
+tests_agree r own known other t (x ∷ xs) same v =
+    (ap (t x.1) (seen_when_same r own known other x.0 same v.0), tests_agree r own known other t xs same v.1)
 
-viewed_agree : (r : Replica) (own : Pos) (known other : List Seen) (t : ℕ → Option Seen → Bool) → filter (matters r own) known ≡ filter (matters r own) other → filter (λ p. t p.1 (seen_of p.0 known)) r.entries ≡ filter (λ p. t p.1 (seen_of p.0 other)) r.entries
+viewed_agree : (r : Replica) (own : Pos) (known other : List Seen) (t : ℕ → Option Seen → Bool) →
+    filter (matters r own) known ≡ filter (matters r own) other →
+    filter (λ p. t p.1 (seen_of p.0 known)) r.entries ≡ filter (λ p. t p.1 (seen_of p.0 other)) r.entries
 viewed_agree r own known other t same = filter_agree _ _ r.entries (tests_agree r own known other t r.entries same (all_viewed r.entries))
 
 second_of : (a b c : Bool) → ((a && b) && c) ≡ true → b ≡ true
@@ -86,13 +100,18 @@ near_not_far radius hysteresis d t =
     ap not far
 
 matters_when_entering : (r : Replica) (own : Pos) (s : Seen) → enters r own s ≡ true → matters r own s ≡ true
-matters_when_entering r own s h = or_second (in_view r s.entity) _ (near_not_far r.radius r.hysteresis (distance own s.pos) (second_of (not (in_view r s.entity)) (nat_le (distance own s.pos) r.radius) (not_older (versions.get r.shown s.entity) s.version) h))
+matters_when_entering r own s h =
+    or_second (in_view r s.entity) _ (near_not_far r.radius r.hysteresis (distance own s.pos)
+    (second_of (not (in_view r s.entity)) (nat_le (distance own s.pos) r.radius) (not_older (versions.get r.shown s.entity) s.version) h))
 
-entering_agree : (r : Replica) (own : Pos) (known other : List Seen) → filter (matters r own) known ≡ filter (matters r own) other → filter (enters r own) known ≡ filter (enters r own) other
+entering_agree : (r : Replica) (own : Pos) (known other : List Seen) → filter (matters r own) known ≡ filter (matters r own) other →
+    filter (enters r own) known ≡ filter (enters r own) other
 entering_agree r own known other same =
-    filter_of_filter (enters r own) (matters r own) (matters_when_entering r own) known ∙ (ap (filter (enters r own)) same ∙ sym (filter_of_filter (enters r own) (matters r own) (matters_when_entering r own) other))
+    filter_of_filter (enters r own) (matters r own) (matters_when_entering r own) known
+    ∙ (ap (filter (enters r own)) same ∙ sym (filter_of_filter (enters r own) (matters r own) (matters_when_entering r own) other))
 
-pub looks_agree : (r : Replica) (own : Pos) (known other : List Seen) → filter (matters r own) known ≡ filter (matters r own) other → one_look r own known ≡ one_look r own other
+pub looks_agree : (r : Replica) (own : Pos) (known other : List Seen) → filter (matters r own) known ≡ filter (matters r own) other →
+    one_look r own known ≡ one_look r own other
 looks_agree r own known other same =
     let a = viewed_agree r own known other (leaves r own) same in
     let b = viewed_agree r own known other (has_changed r own) same in

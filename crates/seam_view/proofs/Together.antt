@@ -17,7 +17,8 @@ walked looks [] = []
 walked looks (p ∷ es) = cond (not (leaves_next p.0 looks)) (p ∷ walked (looks_past p.0 looks) es) (walked (looks_past p.0 looks) es)
 
 module _ {F : Type 0} (T : F → ℕ → ℕ → Bool → ℕ → F → Type 0) (next : F → List Look)
-    (says : (f : F) (k v : ℕ) (b : Bool) (w : ℕ) (g : F) → T f k v b w g → (b ≡ not (leaves_next k (next f))) × (w ≡ v) × (next g ≡ looks_past k (next f))) where
+    (says : (f : F) (k v : ℕ) (b : Bool) (w : ℕ) (g : F) → T f k v b w g →
+    (b ≡ not (leaves_next k (next f))) × (w ≡ v) × (next g ≡ looks_past k (next f))) where
   pub walked_when_retained : (es left : List (ℕ × ℕ)) (f : F) → RetainsPairs T f es left → left ≡ walked (next f) es
   walked_when_retained [] left f h = h
   walked_when_retained (e ∷ es) left f h =
@@ -52,9 +53,11 @@ absent_cond e false p es h k = k
 
 absent_walked : (e : ℕ) (looks : List Look) (es : List (ℕ × ℕ)) → Absent e es → Absent e (walked looks es)
 absent_walked e looks [] h = tt
-absent_walked e looks (p ∷ es) h = absent_cond e (not (leaves_next p.0 looks)) p (walked (looks_past p.0 looks) es) h.0 (absent_walked e (looks_past p.0 looks) es h.1)
+absent_walked e looks (p ∷ es) h =
+    absent_cond e (not (leaves_next p.0 looks)) p (walked (looks_past p.0 looks) es) h.0 (absent_walked e (looks_past p.0 looks) es h.1)
 
-apart_push : (p : ℕ × ℕ) (earlier es : List (ℕ × ℕ)) → AllByRecursion (λ y. eqb p.0 y ≡ false) (keys_of es) → Apart earlier es → Apart (earlier ++ p ∷ []) es
+apart_push : (p : ℕ × ℕ) (earlier es : List (ℕ × ℕ)) → AllByRecursion (λ y. eqb p.0 y ≡ false) (keys_of es) → Apart earlier es →
+    Apart (earlier ++ p ∷ []) es
 apart_push p earlier [] h k = tt
 apart_push p earlier (q ∷ es) h k = (absent_append q.0 earlier (p ∷ []) k.0 (differs_too p.0 q.0 h.0, tt), apart_push p earlier es h.1 k.1)
 
@@ -66,7 +69,8 @@ without_absent : (e : ℕ) (es : List (ℕ × ℕ)) → Absent e es → without 
 without_absent e [] h = refl
 without_absent e (p ∷ es) h = rw h.0 (ap (λ xs. p ∷ xs) (without_absent e es h.1))
 
-without_here : (e : ℕ) (earlier : List (ℕ × ℕ)) (p : ℕ × ℕ) (es : List (ℕ × ℕ)) → Absent e earlier → eqb e p.0 ≡ true → without e (earlier ++ p ∷ es) ≡ earlier ++ es
+without_here : (e : ℕ) (earlier : List (ℕ × ℕ)) (p : ℕ × ℕ) (es : List (ℕ × ℕ)) → Absent e earlier → eqb e p.0 ≡ true →
+    without e (earlier ++ p ∷ es) ≡ earlier ++ es
 without_here e [] p es h t = rw t refl
 without_here e (q ∷ earlier) p es h t = rw h.0 (ap (λ xs. q ∷ xs) (without_here e earlier p es h.1 t))
 
@@ -79,17 +83,28 @@ module _ (known : List Seen) (r : Replica) where
   Same earlier es looks = seen_with looks (earlier ++ walked looks es) ≡ seen_with looks (earlier ++ es)
 
   -- its turn has come
-  left_now : (earlier : List (ℕ × ℕ)) (p : ℕ × ℕ) (es : List (ℕ × ℕ)) (looks : List Look) → leaves_next p.0 looks ≡ true → Absent p.0 earlier → Absent p.0 es → ((looks : List Look) → Same earlier es looks) → seen_with looks (earlier ++ walked (drop 1 looks) es) ≡ seen_with looks (earlier ++ p ∷ es)
+  left_now : (earlier : List (ℕ × ℕ)) (p : ℕ × ℕ) (es : List (ℕ × ℕ)) (looks : List Look) → leaves_next p.0 looks ≡ true →
+      Absent p.0 earlier → Absent p.0 es → ((looks : List Look) → Same earlier es looks) →
+      seen_with looks (earlier ++ walked (drop 1 looks) es) ≡ seen_with looks (earlier ++ p ∷ es)
   left_now earlier p es [] t f k rest = cc
   left_now earlier p es (Set x ∷ looks) t f k rest = cc
   left_now earlier p es (Enter x ∷ looks) t f k rest = cc
   left_now earlier p es (Leave x ∷ looks) t f k rest =
       let same = number_is p.0 x t in
-      let gone = without_absent x (earlier ++ walked looks es) (absent_append x earlier (walked looks es) (subst (λ e. Absent e earlier) same f) (absent_walked x looks es (subst (λ e. Absent e es) same k))) in
-      let taken = without_here x earlier p es (subst (λ e. Absent e earlier) same f) (ap (λ e. eqb e p.0) (sym same) ∙ (ap (λ e. eqb p.0 e) same ∙ t)) in
+      let gone =
+      without_absent x (earlier ++ walked looks es)
+      (absent_append x earlier (walked looks es) (subst (λ e. Absent e earlier) same f)
+      (absent_walked x looks es (subst (λ e. Absent e es) same k))) in
+      let taken =
+      without_here x earlier p es (subst (λ e. Absent e earlier) same f) (ap (λ e. eqb e p.0) (sym same)
+      ∙ (ap (λ e. eqb p.0 e) same ∙ t)) in
       ap (seen_with looks) gone ∙ (rest looks ∙ ap (seen_with looks) (sym taken))
 
-  turn : (earlier : List (ℕ × ℕ)) (p : ℕ × ℕ) (es : List (ℕ × ℕ)) (looks : List Look) (b : Bool) → leaves_next p.0 looks ≡ b → Absent p.0 earlier → Absent p.0 es → ((looks : List Look) → Same earlier es looks) → ((looks : List Look) → Same (earlier ++ p ∷ []) es looks) → seen_with looks (earlier ++ cond (not b) (p ∷ walked (cond b (drop 1 looks) looks) es) (walked (cond b (drop 1 looks) looks) es)) ≡ seen_with looks (earlier ++ p ∷ es)
+  turn : (earlier : List (ℕ × ℕ)) (p : ℕ × ℕ) (es : List (ℕ × ℕ)) (looks : List Look) (b : Bool) → leaves_next p.0 looks ≡ b →
+      Absent p.0 earlier → Absent p.0 es → ((looks : List Look) → Same earlier es looks) →
+      ((looks : List Look) → Same (earlier ++ p ∷ []) es looks) →
+      seen_with looks (earlier ++ cond (not b) (p ∷ walked (cond b (drop 1 looks) looks) es) (walked (cond b (drop 1 looks) looks) es))
+      ≡ seen_with looks (earlier ++ p ∷ es)
   turn earlier p es looks true t f k rest past = left_now earlier p es looks t f k rest
   turn earlier p es looks false t f k rest past =
       ap (seen_with looks) (sym (push_append earlier p (walked looks es))) ∙ (past looks ∙ ap (seen_with looks) (push_append earlier p es))
@@ -99,11 +114,13 @@ module _ (known : List Seen) (r : Replica) where
   same_past earlier (p ∷ es) looks a u =
       let once = IsDistinct-head eqb p.0 (keys_of es) u in
       let tail = IsDistinct-tail eqb p.0 (keys_of es) u in
-      turn earlier p es looks (leaves_next p.0 looks) refl a.0 (absent_of_keys p.0 es once) (λ more. same_past earlier es more a.1 tail) (λ more. same_past (earlier ++ p ∷ []) es more (apart_push p earlier es once a.1) tail)
+      turn earlier p es looks (leaves_next p.0 looks) refl a.0 (absent_of_keys p.0 es once) (λ more. same_past earlier es more a.1 tail)
+      (λ more. same_past (earlier ++ p ∷ []) es more (apart_push p earlier es once a.1) tail)
 
   none_in_front : (es : List (ℕ × ℕ)) → Apart [] es
   none_in_front [] = tt
   none_in_front (p ∷ es) = (tt, none_in_front es)
 
-  pub same_together : (es : List (ℕ × ℕ)) (looks : List Look) → IsDistinct eqb (keys_of es) → fold (after_look known) (record r { entries = walked looks es }) looks ≡ fold (after_look known) (record r { entries = es }) looks
+  pub same_together : (es : List (ℕ × ℕ)) (looks : List Look) → IsDistinct eqb (keys_of es) →
+      fold (after_look known) (record r { entries = walked looks es }) looks ≡ fold (after_look known) (record r { entries = es }) looks
   same_together es looks u = same_past [] es looks (none_in_front es) u

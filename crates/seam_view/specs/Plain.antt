@@ -1,5 +1,5 @@
 -- The looks at a flat table, which has each entity as it is now: no guard against older versions is needed.
-use Rattle.std.specs.Prelude.{◌≡◌, ℕ, Bool, true, not, ◌&&◌, nat_le, List, ◌++◌, map, filter, Option, None, Some}
+use Rattle.std.specs.Prelude.{◌≡◌, Bool, true, not, ◌&&◌, nat_le, List, ◌++◌, map, filter, Option, None, Some}
 use Rattle.std.specs.List.{AllByRecursion}
 use Rattle.std.specs.FinMap as versions
 use Rattle.seam_geo.specs.declared.pos.Pos.{Pos}

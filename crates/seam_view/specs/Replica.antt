@@ -11,7 +11,8 @@ use Rattle.seam_view.specs.declared.Seen.{Seen}
 use Rattle.seam_view.specs.declared.Look.{Look}
 use Rattle.seam_view.specs.declared.Look.TheVariants.{Leave, Set, Enter}
 
--- the two distances of a view, the entities in view in enter order, each with the last version shown, and the last version shown of every entity ever shown
+-- the two distances of a view, the entities in view in enter order, each with the last version shown, and the last version shown of every
+-- entity ever shown
 pub record Replica : Type 0 where
   pub radius : ℕ
   pub hysteresis : ℕ
@@ -38,10 +39,16 @@ pub record ViewValue : Type 0 where
   pub room : set.FinSet nat_cmp
 
 abbrev pub replica_code : Coded Replica
-replica_code = code_by (ℕ × (ℕ × (List (ℕ × ℕ) × versions.FinMap nat_cmp ℕ))) (coded× coded_ℕ (coded× coded_ℕ (coded× (coded_list (coded× coded_ℕ coded_ℕ)) (versions.code coded_ℕ coded_ℕ)))) (λ r. (r.radius, (r.hysteresis, (r.entries, r.shown)))) (λ q. record { radius = q.0; hysteresis = q.1.0; entries = q.1.1.0; shown = q.1.1.1 }) (λ _. refl)
+replica_code =
+    code_by (ℕ × (ℕ × (List (ℕ × ℕ) × versions.FinMap nat_cmp ℕ)))
+    (coded× coded_ℕ (coded× coded_ℕ (coded× (coded_list (coded× coded_ℕ coded_ℕ)) (versions.code coded_ℕ coded_ℕ))))
+    (λ r. (r.radius, (r.hysteresis, (r.entries, r.shown))))
+    (λ q. record { radius = q.0; hysteresis = q.1.0; entries = q.1.1.0; shown = q.1.1.1 }) (λ _. refl)
 
 abbrev pub view_code : Coded ViewValue
-view_code = code_by (Replica × (ℕ × set.FinSet nat_cmp)) (coded× replica_code (coded× coded_ℕ (set.code coded_ℕ))) (λ w. (w.core, (w.places, w.room))) (λ q. record { core = q.0; places = q.1.0; room = q.1.1 }) (λ _. refl)
+view_code =
+    code_by (Replica × (ℕ × set.FinSet nat_cmp)) (coded× replica_code (coded× coded_ℕ (set.code coded_ℕ)))
+    (λ w. (w.core, (w.places, w.room))) (λ q. record { core = q.0; places = q.1.0; room = q.1.1 }) (λ _. refl)
 
 -- what is known of the entity
 abbrev pub seen_of : ℕ → List Seen → Option Seen

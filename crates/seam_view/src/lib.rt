@@ -4,7 +4,8 @@
 //! of the BigWorld Server Overview.)
 #![tactic(auto)]
 
-ghost use Rattle.std.specs.Prelude.{◌≡◌, ◌≤◌, ◌++◌, ℕ, List, [], filter, map, length, slice_get, option_copied, IfOk, OnOk, OnErr, is_some, false, not, IfSome, drop, find, Some};
+ghost use Rattle.std.specs.Prelude.{◌≡◌, ◌≤◌, ◌++◌, ℕ, List, [], filter, map, length, slice_get, option_copied, IfOk, OnOk, OnErr, is_some};
+ghost use Rattle.std.specs.Prelude.{false, not, IfSome, drop, find, Some};
 ghost use Rattle.std.specs.Ordering.{nat_cmp};
 ghost use Rattle.std.specs.List.Sorted.{IsStrictlySortedBy};
 ghost use Rattle.std.specs.Prelude.{◌<◌, ◌+◌, nat_eq, true};
@@ -17,7 +18,8 @@ ghost use Rattle.seam_view.specs.declared.Look.TheVariants.{Leave, Set};
 ghost use Rattle.seam_table.specs.Tables.{is_after};
 ghost use Rattle.std.specs.FinMap as versions;
 ghost use Rattle.std.specs.FinSet as set;
-ghost use Rattle.seam_view.specs.Replica.{Replica, IsView, AreShown, NeverFalls, HasRoom, without, seen_of, entity_of, with_version_shown, after_showing, after_look, after_looks};
+ghost use Rattle.seam_view.specs.Replica.{Replica, IsView, AreShown, NeverFalls, HasRoom, without, seen_of, entity_of, with_version_shown};
+ghost use Rattle.seam_view.specs.Replica.{after_showing, after_look, after_looks};
 ghost use Rattle.seam_view.specs.Together.{leaves_next, looks_past};
 ghost use Rattle.seam_view.specs.Looks.{is_far, in_view, not_older, enters, entering, one_look, matters};
 ghost use Rattle.seam_view.specs.Notes.{note_of, notes_of, is_leave, is_change, noted};
@@ -83,9 +85,18 @@ impl Model for View {
 
     ghost use Rattle.indexmap.specs.IndexMap.{spare};
 
-    ghost view = { λ v. record { core = record { radius = v.radius; hysteresis = v.hysteresis; entries = v.view.entries; shown = v.shown.items }; places = spare v.view; room = v.shown.room } };
+    ghost view = { λ v. record {
+      core = record { radius = v.radius; hysteresis = v.hysteresis; entries = v.view.entries; shown = v.shown.items };
+      places = spare v.view;
+      room = v.shown.room;
+    } };
 
-    ghost invariant = { λ v. IsView (record { radius = v.radius; hysteresis = v.hysteresis; entries = v.view.entries; shown = v.shown.items }) };
+    ghost invariant = { λ v. IsView (record {
+      radius = v.radius;
+      hysteresis = v.hysteresis;
+      entries = v.view.entries;
+      shown = v.shown.items;
+    }) };
 }
 
 impl View {
@@ -114,7 +125,12 @@ impl View {
         requires once { IsDistinct nat_eq (keys_of view.now) }
         requires rising { IsStrictlySortedBy nat_cmp (keys_of shown.now) }
         requires last { AreShown (versions.from_entries shown.now) view.now }
-        ensures { IfOk result (λ v. v.core ≡ record { radius = radius; hysteresis = hysteresis; entries = view.now; shown = versions.from_entries shown.now }) }
+        ensures { IfOk result (λ v. v.core ≡ record {
+          radius = radius;
+          hysteresis = hysteresis;
+          entries = view.now;
+          shown = versions.from_entries shown.now;
+        }) }
     {
         let view = view_of(alloc, view)?;
         let shown = shown_of(alloc, shown)?;
@@ -245,8 +261,10 @@ impl View {
         sets: &mut Vec<Look>,
     ) -> Result<(), AllocError>
         requires { length notes.now ≡ length self.now.core.entries }
-        ensures leaves { OnOk result (looks.new.items ≡ looks.old.items ++ map (λ e. Leave e) (noted is_leave notes.now (keys_of self.now.core.entries))) }
-        ensures sets { OnOk result (sets.new.items ≡ sets.old.items ++ map (λ e. Set e) (noted is_change notes.now (keys_of self.now.core.entries))) }
+        ensures leaves { OnOk result (looks.new.items ≡ looks.old.items
+            ++ map (λ e. Leave e) (noted is_leave notes.now (keys_of self.now.core.entries))) }
+        ensures sets { OnOk result (sets.new.items ≡ sets.old.items
+            ++ map (λ e. Set e) (noted is_change notes.now (keys_of self.now.core.entries))) }
     {
         for i in 0..notes.len() {
             match notes[i] {
@@ -356,7 +374,8 @@ impl View {
         let mut next = looks;
         self.view.retain(
             |e: &u32, version: &mut u64| -> bool
-                ensures { (result ≡ not (leaves_next e.now next.entry.now)) × (next.exit.now ≡ looks_past e.now next.entry.now) × (version.new ≡ version.old) }
+                ensures { (result ≡ not (leaves_next e.now next.entry.now)) × (next.exit.now ≡ looks_past e.now next.entry.now)
+                    × (version.new ≡ version.old) }
             {
                 match past_leave(next, *e) {
                     Some(rest) => {
@@ -467,19 +486,22 @@ fn reserve_versions(shown: &mut Table<u64>, looks: &[Look]) -> Result<(), AllocE
 /// What is known of entities that are neither in view nor near makes no difference: two lists that agree on all the others give the
 /// same looks.
 pub fn only_near_matters()
-    ensures { (r : Replica) (own : Pos) (known other : List Seen) → filter (matters r own) known ≡ filter (matters r own) other → one_look r own known ≡ one_look r own other }
+    ensures { (r : Replica) (own : Pos) (known other : List Seen) → filter (matters r own) known ≡ filter (matters r own) other →
+        one_look r own known ≡ one_look r own other }
 {}
 
 /// No version shown ever falls: after the looks that `plan` gives for what is known, each entity is shown at the version that it was
 /// shown at, or at a later one, also where it left. And what a look leaves is a view.
 pub fn versions_shown_never_fall()
-    ensures never_fall { (r : Replica) (own : Pos) (known : List Seen) → IsView r → IsStrictlySortedBy nat_cmp (map (λ s. s.entity) known) → NeverFalls r (after_looks known r (one_look r own known)) }
+    ensures never_fall { (r : Replica) (own : Pos) (known : List Seen) → IsView r → IsStrictlySortedBy nat_cmp (map (λ s. s.entity) known) →
+        NeverFalls r (after_looks known r (one_look r own known)) }
     ensures view { (r : Replica) (known : List Seen) (looks : List Look) → IsView r → IsView (after_looks known r looks) }
 {}
 
 /// Where nothing was shown at a greater version than is known, `plan` gives the look at a flat table.
 pub fn looks_are_plain()
-    ensures { (r : Replica) (own : Pos) (known : List Seen) → IsView r → AreNotOlder r known → one_look r own known ≡ plain_look r own known }
+    ensures { (r : Replica) (own : Pos) (known : List Seen) → IsView r → AreNotOlder r known →
+        one_look r own known ≡ plain_look r own known }
 {}
 
 fn sent<T: Send>(value: T) -> T

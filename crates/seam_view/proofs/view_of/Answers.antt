@@ -6,4 +6,5 @@ use Rattle.seam_view.proofs.view_of.Goals as goal
 pub loop-e-preserved : goal.loop-e-preserved
 loop-e-preserved c =
     let p = get_or c.args.pairs.now c.loop-e.e-index (0, 0) in
-    c.in_ok-insert.ensures.entries ∙ (ap (λ es. insert_entry eqb es p.0 p.1) c.loop-e.invariant ∙ placed_next c.args.pairs.now c.loop-e.e-index (0, 0) c.requires c.loop-e-test.true)
+    c.in_ok-insert.ensures.entries ∙ (ap (λ es. insert_entry eqb es p.0 p.1) c.loop-e.invariant
+    ∙ placed_next c.args.pairs.now c.loop-e.e-index (0, 0) c.requires c.loop-e-test.true)

@@ -18,7 +18,9 @@ invariant_of-self g c =
 
 pub unreachable-requires : goal.unreachable-requires
 unreachable-requires g c =
-    let there = c.in-Ok-Some.ensures.old ∙ (item_of_lookup c.args.n c.self.inside.held.entries ∙ ap (λ w. item_at c.args.n w.held) c.self.view_is) in
+    let there =
+    c.in-Ok-Some.ensures.old ∙ (item_of_lookup c.args.n c.self.inside.held.entries
+    ∙ ap (λ w. item_at c.args.n w.held) c.self.view_is) in
     let none : true ≡ false = sym (ap is_some c.in-Ok-Some.field-0-is) ∙ (ap is_some there ∙ c.requires.not_held) in
     cc
 

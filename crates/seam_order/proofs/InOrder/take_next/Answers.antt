@@ -11,14 +11,16 @@ returns-in_default-clause-item g c =
 
 pub returns-in_default-clause-after : goal.returns-in_default-clause-after
 returns-in_default-clause-after g c =
-    none_taken c.self.inside.next c.self.inside.held.entries c.remove.new.self.entries c.in_default.ensures.value c.in_default.ensures.unchanged
+    none_taken c.self.inside.next c.self.inside.held.entries c.remove.new.self.entries c.in_default.ensures.value
+    c.in_default.ensures.unchanged
     ∙ ap after_taking c.self.view_is
 
 pub invariant_of-self-2 : goal.invariant_of-self-2
 invariant_of-self-2 g c =
     let taken = taken_of_lookup c.self.inside.next c.self.inside.held.entries c.remove.new.self.entries c.in-Some.item
     c.in-Some.ensures.value c.in-Some.ensures.entries in
-    subst IsInOrder (sym taken) (order_after_taking (record { next = c.self.inside.next; held = c.self.inside.held.entries }) c.self.invariant)
+    subst IsInOrder (sym taken) (order_after_taking (record { next = c.self.inside.next; held = c.self.inside.held.entries })
+    c.self.invariant)
 
 pub returns-clause-item : goal.returns-clause-item
 returns-clause-item g c =

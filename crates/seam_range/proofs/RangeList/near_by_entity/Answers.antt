@@ -12,6 +12,7 @@ loop-e-init c =
       tt,
       tt,
       ap (λ items. items ++ keys_of (filter (λ e. is_within c.args.p c.args.d e.1) c.into_iter-e-iterator.result)) none
-          ∙ (ap (λ es. keys_of (filter (λ e. is_within c.args.p c.args.d e.1) es)) (given ∙ sym (entries_when_sorted c.self.inside.places.entries c.self.invariant.ordered))
+          ∙ (ap (λ es. keys_of (filter (λ e. is_within c.args.p c.args.d e.1) es)) (given
+          ∙ sym (entries_when_sorted c.self.inside.places.entries c.self.invariant.ordered))
           ∙ ap (λ m. within m c.args.p c.args.d) c.self.view_is),
     )

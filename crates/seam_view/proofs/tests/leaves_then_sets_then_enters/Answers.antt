@@ -15,9 +15,10 @@ of_lists-requires-clause-rising g c = ((refl, (refl, (refl, tt))), ((refl, (refl
 
 pub of_lists-requires-clause-last : goal.of_lists-requires-clause-last
 of_lists-requires-clause-last g c =
-    let shown = (2, 1) ∷ (5, 1) ∷ (7, 4) ∷ (9, 1) ∷ [] in
-    (versions.get-from_entries nat_cmp_total shown 5,
-        (versions.get-from_entries nat_cmp_total shown 2, (versions.get-from_entries nat_cmp_total shown 9, tt)))
+    let shown = (2, 1) ∷ (5, 1) ∷ (7, 4) ∷ (9, 1) ∷ [] in (
+      versions.get-from_entries nat_cmp_total shown 5,
+      (versions.get-from_entries nat_cmp_total shown 2, (versions.get-from_entries nat_cmp_total shown 9, tt)),
+    )
 
 pub plan-requires : goal.plan-requires
 unfolding IsStrictlySortedBy
