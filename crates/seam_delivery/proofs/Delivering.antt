@@ -9,7 +9,7 @@ use Rattle.std.proofs.lemmas.List.{append-nil, append_assoc, length-append}
 use Rattle.seam_flows.specs.Flows.{Flow, Goes, comes, letters_of, more_letter}
 use Rattle.seam_order.specs.Held.{OrderView, item_at, with_item, RiseFrom, IsInOrder}
 use Rattle.seam_order.specs.Offers.{after_offer, after_item, after_taking, next_item}
-use Rattle.seam_order.proofs.OrderLaws.{order-after_offer, order-after_taking, held-early, held-taken}
+use Rattle.seam_order.proofs.OrderLaws.{order_after_offer, order_after_taking, held_early, held_taken}
 use Rattle.seam_flows.specs.Tokens.{carried_in, Place, In, On, SoleOn, Sole, Nobody, SendsNone}
 use Rattle.seam_delivery.specs.Deliveries.{Delivery, at_once, Passes, rests, issues, offers, gives, more_issued}
 use Rattle.seam_delivery.specs.Lives.{IsToward, Waits, Life}
@@ -269,7 +269,7 @@ module _ {S L U : Type 0} (order : S → OrderView U) (delivered : S → List U)
       offered_early n u more due free i q eo es o =
           let new = eo ∙ offer_early (order s_is) n u more in
           let held_is_now : (m : ℕ) → item_at m (order t_is).held ≡ cond (eqb m n) (Some u) (item_at m (order s_is).held) =
-          λ m. ap (λ x. item_at m x.held) eo ∙ held-early (order s_is) n u m (not_some (item_at n (order s_is).held) free) more in
+          λ m. ap (λ x. item_at m x.held) eo ∙ held_early (order s_is) n u m (not_some (item_at n (order s_is).held) free) more in
           let line : delivered t_is ≡ delivered s_is =
           es ∙ (ap (λ t. delivered s_is ++ cond t (u ∷ []) []) (ne_eqb n next_is (λ e. omega (arith, e, more)))
           ∙ append-nil (delivered s_is)) in
@@ -312,7 +312,7 @@ module _ {S L U : Type 0} (order : S → OrderView U) (delivered : S → List U)
           let size = long g.k d in
           let limit = d.small in
           let few : n < 2 ^ 62 = omega (arith, high, size, limit) in
-          let q = order-after_offer (order s_is) n u d.in_order few (not_some (item_at n (order s_is).held) free) in
+          let q = order_after_offer (order s_is) n u d.in_order few (not_some (item_at n (order s_is).held) free) in
           elim (cases_eq n next_is) [
             | inl e ↦ offered_next n u e met.0 i q eo es o
             | inr e ↦ offered_early n u (let m : n ≡ next_is → ⊥ = e in grind (arith, low, m)) met.0 free i q eo es o
@@ -326,13 +326,13 @@ module _ {S L U : Type 0} (order : S → OrderView U) (delivered : S → List U)
           let r = first_rest next_is u d.rest has.0 in
           let up : (order t_is).next ≡ next_is + 1 = ap (λ x. x.next) (eo ∙ ap (after_item (order s_is)) due) in
           let held_now : (m : ℕ) → item_at m (order t_is).held ≡ cond (eqb m next_is) None (item_at m (order s_is).held) =
-          λ m. ap (λ x. item_at m x.held) eo ∙ held-taken (order s_is) m d.in_order in
+          λ m. ap (λ x. item_at m x.held) eo ∙ held_taken (order s_is) m d.in_order in
           record {
             rest = r.0;
             parts = delivered_parts d.rest r.0 u d.parts r.1 line;
             next = delivered_next u d.next up line;
             small = d.small;
-            in_order = subst IsInOrder (sym eo) (order-after_taking (order s_is) d.in_order);
+            in_order = subst IsInOrder (sym eo) (order_after_taking (order s_is) d.in_order);
             life =
                 λ m. subst (λ x. Life (keeps m) (bears m) v g.k (item_at m (number_from x r.0))) (sym up)
                 (life_past m next_is d.rest r.0 u r.1

@@ -4,16 +4,14 @@
 //! it is kept until its turn. No item is given twice, and none is left out.
 #![tactic(auto)]
 
-ghost use Rattle.std.specs.Prelude.{◌≡◌, ◌<◌, ◌≤◌, ◌^◌, [], ◌∷◌, length, false, IfOk, IfErr, OnOk, OnErr, option_map, slice_get, is_some, option_copied, ℕ, ◌==◌, Some, None, if◌then◌else◌};
-ghost use Rattle.std.specs.List.{AllWithin};
-ghost use Rattle.std.specs.List.Sorted.{IsNonDecreasingBy};
-ghost use Rattle.std.specs.VecDeque.{deque_len};
+ghost use Rattle.std.specs.Prelude.{◌≡◌, ◌<◌, ◌≤◌, ◌^◌, [], ◌∷◌, length, false, IfOk, IfErr, OnOk, OnErr, option_map, slice_get, is_some};
+ghost use Rattle.std.specs.Prelude.{option_copied, ℕ, ◌==◌, Some, None, if◌then◌else◌};
 ghost use Rattle.seam_order.specs.Held.{OrderView, item_at, IsInOrder};
 ghost use Rattle.seam_order.specs.Offers.{offer_answer, after_offer, next_item, after_taking};
 
 pub use seam_memory::NoMemoryFor;
 use std::alloc::Global;
-use std::collections::VecDeque;
+use std::collections::BTreeMap;
 use std::marker::Model;
 
 #[cfg(test)]
@@ -36,8 +34,8 @@ pub enum Offer<T> {
 #[derive(Drop)]
 pub struct InOrder<T> {
     next: u64,
-    // In rising number, none below `next`.
-    held: VecDeque<(u64, T)>,
+    // None below `next`.
+    held: BTreeMap<u64, T>,
 }
 
 impl<T> Model for InOrder<T> {
@@ -45,22 +43,11 @@ impl<T> Model for InOrder<T> {
 
     ghost Value = { OrderView T };
 
-    ghost view = { λ o. record { next = o.next; held = o.held.items } };
+    ghost view = { λ o. record { next = o.next; held = o.held.entries } };
 
-    ghost invariant = { λ o. IsInOrder (record { next = o.next; held = o.held.items }) };
+    ghost invariant = { λ o. IsInOrder (record { next = o.next; held = o.held.entries }) };
 }
 
-/// How many of the items have numbers below n.
-fn place_of<T>(held: &VecDeque<(u64, T)>, n: u64) -> usize
-    requires { IsNonDecreasingBy (λ p. p.0) held.now.items }
-    ensures bound { result ≤ deque_len held.now }
-    ensures below { AllWithin (λ p. p.0 < n) held.now.items 0 result }
-    ensures above { AllWithin (λ p. n ≤ p.0) held.now.items result (length held.now.items) }
-{
-    held.partition_point(|p| p.0 < n)
-}
-
-#[tactic(auto, using(crate::proofs::HeldLemmas::held_laws))]
 impl<T> InOrder<T> {
     /// Begins at number 1 and holds nothing.
     pub fn new(alloc: Global) -> Self
@@ -79,7 +66,7 @@ impl<T> InOrder<T> {
     {
         InOrder {
             next: n,
-            held: VecDeque::new(alloc),
+            held: BTreeMap::new(alloc),
         }
     }
 
@@ -105,9 +92,9 @@ impl<T> InOrder<T> {
             self.next = n + 1;
             return Ok(Offer::Next(item));
         }
-        let at = place_of(&self.held, n);
-        match self.held.insert(at, (n, item)) {
-            Ok(()) => return Ok(Offer::Held),
+        match self.held.insert(n, item) {
+            Ok(None) => return Ok(Offer::Held),
+            Ok(Some(_held)) => unreachable!(),
             Err(refused) => {
                 return Err(NoMemoryFor {
                     item: refused.value.1,
@@ -121,11 +108,8 @@ impl<T> InOrder<T> {
         ensures item { result ≡ next_item self.old }
         ensures after { self.new ≡ after_taking self.old }
     {
-        if !self.is_ready() {
+        let Some(item) = self.held.remove(&self.next) else {
             return None;
-        }
-        let Some((_, item)) = self.held.pop_front() else {
-            unreachable!()
         };
         self.next += 1;
         Some(item)
@@ -135,31 +119,21 @@ impl<T> InOrder<T> {
     pub fn peek(&self) -> Option<&T>
         ensures { option_copied result ≡ next_item self.now }
     {
-        let Some((n, item)) = self.held.front() else {
-            return None;
-        };
-        if *n == self.next { Some(item) } else { None }
+        self.held.get(&self.next)
     }
 
     /// Whether `take_next` would give an item.
     pub fn is_ready(&self) -> bool
         ensures { result ≡ is_some (next_item self.now) }
     {
-        let Some((n, _)) = self.held.front() else {
-            return false;
-        };
-        *n == self.next
+        self.held.contains_key(&self.next)
     }
 
     /// Whether the item of number n is held.
     pub fn holds(&self, n: u64) -> bool
         ensures { result ≡ is_some (item_at n self.now.held) }
     {
-        let at = place_of(&self.held, n);
-        match self.held.get(at) {
-            None => return false,
-            Some((m, _)) => return *m == n,
-        }
+        self.held.contains_key(&n)
     }
 
     /// The number whose turn it is. What is held has rising numbers, from that one on.
@@ -170,13 +144,11 @@ impl<T> InOrder<T> {
         self.next
     }
 
-    /// The held items with their numbers, in rising number; none where i is not below their count.
+    /// The held items with their numbers, in rising number; none where i is not below their count. It takes time with i.
     pub fn held_at(&self, i: usize) -> Option<(u64, &T)>
         ensures { option_map (λ p. (p.0, p.1.now)) result ≡ slice_get self.now.held i }
     {
-        let Some((n, item)) = self.held.get(i) else {
-            return None;
-        };
+        let (n, item) = self.held.iter().nth(i)?;
         Some((*n, item))
     }
 }
@@ -196,14 +168,17 @@ pub fn send_in_order<T: Send>(items: InOrder<T>) -> InOrder<T>
 
 /// The order stays one: numbers rise from the next one on, after each offer and each taking.
 pub fn order_is_kept<T>()
-    ensures offered { (w : OrderView T) (n : ℕ) (item : T) → IsInOrder w → 1 ≤ n → n < 2 ^ 62 → is_some (item_at n w.held) ≡ false → IsInOrder (after_offer w n item) }
+    ensures offered { (w : OrderView T) (n : ℕ) (item : T) → IsInOrder w → 1 ≤ n → n < 2 ^ 62 → is_some (item_at n w.held) ≡ false →
+        IsInOrder (after_offer w n item) }
     ensures taken { (w : OrderView T) → IsInOrder w → IsInOrder (after_taking w) }
 {}
 
 /// What is held is exactly what was offered early and not yet given: an early offer adds its item,
 /// any other offer none, and a taking leaves out the item whose turn it is.
 pub fn held_is_what_came_early<T>()
-    ensures early { (w : OrderView T) (n : ℕ) (item : T) (m : ℕ) → is_some (item_at n w.held) ≡ false → w.next < n → item_at m (after_offer w n item).held ≡ (if m == n then Some item else item_at m w.held) }
+    ensures early { (w : OrderView T) (n : ℕ) (item : T) (m : ℕ) → is_some (item_at n w.held) ≡ false → w.next < n →
+        item_at m (after_offer w n item).held ≡ (if m == n then Some item else item_at m w.held) }
     ensures other { (w : OrderView T) (n : ℕ) (item : T) → n ≤ w.next → (after_offer w n item).held ≡ w.held }
-    ensures taken { (w : OrderView T) (m : ℕ) → IsInOrder w → item_at m (after_taking w).held ≡ (if m == w.next then None else item_at m w.held) }
+    ensures taken { (w : OrderView T) (m : ℕ) → IsInOrder w →
+        item_at m (after_taking w).held ≡ (if m == w.next then None else item_at m w.held) }
 {}

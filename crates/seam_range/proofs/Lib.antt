@@ -1,3 +1,4 @@
 pub mod Sorted
 pub mod Moves
-pub mod Near
+pub mod Strips
+pub mod Counted

@@ -1,27 +1,31 @@
 //! Entities by their positions, for queries of those that are near.
 #![tactic(auto)]
 
-ghost use Rattle.std.specs.Prelude.{◌≡◌, is_some, IfOk, OnOk, OnErr};
+ghost use Rattle.std.specs.Prelude.{◌≡◌, ◌≤◌, ℕ, ◌+◌, is_some, IfOk, OnOk, OnErr};
 ghost use Rattle.std.specs.FinMap as map;
 ghost use Rattle.std.specs.Ordering.{nat_cmp};
-ghost use Rattle.std.specs.BTreeSet.{IsOrdered};
 ghost use Rattle.seam_range.specs.Places.{is_within, within};
+ghost use Rattle.seam_range.specs.Indexed.{spot_of, same_spot};
+ghost use Rattle.seam_range.specs.Found.{count_of, one_if, is_in_strip, first_strip, end_strip};
 
 use seam_geo::{Pos, dist};
 use std::alloc::{AllocError, Global};
-use std::collections::{BTreeMap, BTreeSet};
+use std::collections::BTreeMap;
 use std::marker::Model;
 
 #[cfg(test)]
 mod tests;
+
+// The width of the strips of x in which the positions are ordered.
+const STRIP_WIDTH: u64 = 256;
 
 /// Entities with their positions. Contracts see the position of each entity that was put.
 #[derive(Drop)]
 pub struct RangeList {
     alloc: Global,
     places: BTreeMap<u32, Pos>,
-    // The positions again, by x and entity, so that a query looks at its own band alone.
-    by_x: BTreeMap<(u64, u32), Pos>,
+    // The positions again, by strip, z and entity, so that a query reads a short run of each strip that it meets.
+    by_spot: BTreeMap<((u64, u64), u32), Pos>,
 }
 
 impl Model for RangeList {
@@ -37,7 +41,7 @@ impl Model for RangeList {
 
     ghost view = { λ r. map.from_entries r.places.entries };
 
-    ghost invariant = { λ r. IsIndexed r.places r.by_x };
+    ghost invariant = { λ r. IsIndexed r.places r.by_spot };
 }
 
 impl RangeList {
@@ -48,7 +52,7 @@ impl RangeList {
         RangeList {
             alloc,
             places: BTreeMap::new(alloc),
-            by_x: BTreeMap::new(alloc),
+            by_spot: BTreeMap::new(alloc),
         }
     }
 
@@ -57,19 +61,19 @@ impl RangeList {
         ensures after { OnOk result (self.new ≡ map.insert self.old e p) }
         ensures err { OnErr result (self.new ≡ self.old) }
     {
-        let Ok(_) = self.by_x.insert((u64::from(p.x), e), p) else {
+        let Ok(_) = self.by_spot.insert(key(e, p), p) else {
             return Err(AllocError);
         };
         match self.places.insert(e, p) {
             Ok(Some(old)) => {
-                if old.x != p.x {
-                    self.by_x.remove(&(u64::from(old.x), e));
+                if !are_at_one_spot(old, p) {
+                    self.by_spot.remove(&key(e, old));
                 }
                 Ok(())
             }
             Ok(None) => Ok(()),
             Err(_) => {
-                self.by_x.remove(&(u64::from(p.x), e));
+                self.by_spot.remove(&key(e, p));
                 Err(AllocError)
             }
         }
@@ -82,7 +86,7 @@ impl RangeList {
     {
         match self.places.remove(&e) {
             Some(old) => {
-                self.by_x.remove(&(u64::from(old.x), e));
+                self.by_spot.remove(&key(e, old));
                 true
             }
             None => false,
@@ -93,24 +97,82 @@ impl RangeList {
     pub fn within(&self, p: Pos, d: u32) -> Result<Vec<u32>, AllocError>
         ensures { IfOk result (λ v. v.items ≡ within self.now p d) }
     {
-        let low = u64::from(p.x.saturating_sub(d));
-        let end = u64::from(p.x) + u64::from(d) + 1;
-        let mut found = BTreeSet::new(self.alloc);
-        for ((_, e), place) in self.by_x.range((low, 0)..(end, 0)) {
+        let strips = strip_after(p, d) - strip_from(p, d);
+        if self.places.len() as u64 <= strips {
+            return self.near_by_entity(p, d);
+        }
+        let mut found = self.near_by_strip(p, d)?;
+        found.sort_unstable();
+        Ok(found)
+    }
+
+    // The near entities, in rising number: all are looked at.
+    fn near_by_entity(&self, p: Pos, d: u32) -> Result<Vec<u32>, AllocError>
+        ensures { IfOk result (λ v. v.items ≡ within self.now p d) }
+    {
+        let mut found = Vec::new(self.alloc);
+        for (e, place) in &self.places {
             if is_near(*place, p, d) {
-                found.insert(*e)?;
+                found.push(*e)?;
             }
         }
-        in_order(self.alloc, found)
+        Ok(found)
+    }
+
+    // The near entities, strip after strip.
+    fn near_by_strip(&self, p: Pos, d: u32) -> Result<Vec<u32>, AllocError>
+        ensures { IfOk result (λ v. (q : ℕ) → count_of q v.items ≡ one_if (is_within p d) (map.get self.now q)) }
+    {
+        let mut found = Vec::new(self.alloc);
+        for strip in strip_from(p, d)..strip_after(p, d) {
+            self.push_near(strip, p, d, &mut found)?;
+        }
+        Ok(found)
+    }
+
+    // Appends the near entities of the strip.
+    fn push_near(&self, strip: u64, p: Pos, d: u32, found: &mut Vec<u32>) -> Result<(), AllocError>
+        ensures { OnOk result ((q : ℕ) → count_of q found.new.items
+            ≡ count_of q found.old.items + one_if (is_in_strip strip p d) (map.get self.now q)) }
+    {
+        let low = u64::from(p.z.saturating_sub(d));
+        let end = u64::from(p.z) + u64::from(d) + 1;
+        for ((_, e), place) in self.by_spot.range(((strip, low), 0)..((strip, end), 0)) {
+            if is_near(*place, p, d) {
+                found.push(*e)?;
+            }
+        }
+        Ok(())
     }
 }
 
-// The numbers of a set, in rising order.
-fn in_order(alloc: Global, found: BTreeSet<u32>) -> Result<Vec<u32>, AllocError>
-    ensures all { IfOk result (λ v. v.items ≡ found.keys) }
-    ensures ordered { IsOrdered nat_cmp found }
+// The key of an entity at a position.
+fn key(e: u32, p: Pos) -> ((u64, u64), u32)
+    ensures { result ≡ (spot_of p, e) }
 {
-    found.into_iter().collect(alloc)
+    ((u64::from(p.x) / STRIP_WIDTH, u64::from(p.z)), e)
+}
+
+// Whether the positions lie in one strip at one z.
+fn are_at_one_spot(a: Pos, b: Pos) -> bool
+    ensures { result ≡ same_spot (spot_of a) (spot_of b) }
+{
+    u64::from(a.x) / STRIP_WIDTH == u64::from(b.x) / STRIP_WIDTH && a.z == b.z
+}
+
+// The first strip that has positions at distance at most d from p.
+fn strip_from(p: Pos, d: u32) -> u64
+    ensures { result ≡ first_strip p d }
+{
+    u64::from(p.x.saturating_sub(d)) / STRIP_WIDTH
+}
+
+// The strip after the last one that has positions at distance at most d from p.
+fn strip_after(p: Pos, d: u32) -> u64
+    ensures strip { result ≡ end_strip p d }
+    ensures later { first_strip p d ≤ result }
+{
+    (u64::from(p.x) + u64::from(d)) / STRIP_WIDTH + 1
 }
 
 // Whether the place is at distance at most d from p.

@@ -9,6 +9,10 @@ fn near_entities_in_rising_number(rt: HostRuntime) -> Result<(), Fail> {
     list.put(3, Pos { x: 6, z: 0 })?;
     let corner = Pos { x: 0, z: 0 };
     assert_eq!(rt; list.within(corner, 5)?.as_slice(), [1, 2].as_slice());
+    assert_eq!(rt;
+        list.within(corner, 5_000)?.as_slice(),
+        [1, 2, 3].as_slice()
+    );
     list.put(1, Pos { x: 9, z: 9 })?;
     assert!(rt; list.remove(2));
     assert!(rt; !list.remove(2));

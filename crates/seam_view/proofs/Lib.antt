@@ -3,3 +3,7 @@ pub mod Known
 pub mod Places
 pub mod Only
 pub mod Together
+pub mod Kept
+pub mod Falls
+pub mod PlainLooks
+pub mod Noted

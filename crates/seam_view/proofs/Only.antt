@@ -1,5 +1,6 @@
 -- Looks depend on what is known of entities in view or near alone.
-use Rattle.std.proofs.Common.{◌≡◌, ◌≤◌, ◌+◌, ℕ, Bool, true, false, cond, not, ◌&&◌, ◌||◌, eqb, List, [], ◌∷◌, ◌++◌, map, find, Option, Some, refl, sym, ap, ◌∙◌, arith}
+use Rattle.std.proofs.Common.{◌≡◌, ◌≤◌, ◌+◌, ℕ, Bool, true, false, cond, not, ◌&&◌, ◌||◌, eqb, List, [], ◌∷◌, ◌++◌, map, find, Option, Some}
+use Rattle.std.proofs.Common.{refl, sym, ap, ◌∙◌, arith}
 use Rattle.std.specs.Prelude.{nat_lt, nat_le}
 use Rattle.std.specs.List.{AllByRecursion, list_any, filter}
 use Rattle.std.specs.FinMap as versions
@@ -11,30 +12,33 @@ use Rattle.seam_view.specs.declared.Look.TheVariants.{Leave, Set, Enter}
 use Rattle.seam_view.specs.Replica.{Replica, seen_of}
 use Rattle.seam_view.specs.Looks.{leaves, has_changed, enters, matters, in_view, not_older, one_look}
 
-filter_step : {A : Type 0} (x : A) (xs ys : List A) (p : A → Bool) (b c : Bool) → p x ≡ b → (b ≡ true → c ≡ true) → xs ≡ filter p ys → cond b (x ∷ xs) xs ≡ filter p (cond c (x ∷ ys) ys)
+filter_step : {A : Type 0} (x : A) (xs ys : List A) (p : A → Bool) (b c : Bool) → p x ≡ b → (b ≡ true → c ≡ true) → xs ≡ filter p ys →
+    cond b (x ∷ xs) xs ≡ filter p (cond c (x ∷ ys) ys)
 filter_step x xs ys p true true e h rest = rw e (ap (λ zs. x ∷ zs) rest)
 filter_step x xs ys p true false e h rest = let f : false ≡ true = h refl in cc
 filter_step x xs ys p false true e h rest = rw e rest
 filter_step x xs ys p false false e h rest = rest
 
 -- a filter sees no more than a wider one leaves
-filter-filter : {A : Type 0} (p q : A → Bool) → ((x : A) → p x ≡ true → q x ≡ true) → (xs : List A) → filter p xs ≡ filter p (filter q xs)
-filter-filter p q h [] = refl
-filter-filter p q h (x ∷ xs) = filter_step x (filter p xs) (filter q xs) p (p x) (q x) refl (h x) (filter-filter p q h xs)
+filter_of_filter : {A : Type 0} (p q : A → Bool) → ((x : A) → p x ≡ true → q x ≡ true) → (xs : List A) →
+    filter p xs ≡ filter p (filter q xs)
+filter_of_filter p q h [] = refl
+filter_of_filter p q h (x ∷ xs) = filter_step x (filter p xs) (filter q xs) p (p x) (q x) refl (h x) (filter_of_filter p q h xs)
 
-find_step : {A : Type 0} (x : A) (xs ys : List A) (p : A → Bool) (b c : Bool) → p x ≡ b → (b ≡ true → c ≡ true) → find p xs ≡ find p ys → cond b (Some x) (find p xs) ≡ find p (cond c (x ∷ ys) ys)
+find_step : {A : Type 0} (x : A) (xs ys : List A) (p : A → Bool) (b c : Bool) → p x ≡ b → (b ≡ true → c ≡ true) → find p xs ≡ find p ys →
+    cond b (Some x) (find p xs) ≡ find p (cond c (x ∷ ys) ys)
 find_step x xs ys p true true e h rest = rw e refl
 find_step x xs ys p true false e h rest = let f : false ≡ true = h refl in cc
 find_step x xs ys p false true e h rest = rw e rest
 find_step x xs ys p false false e h rest = rest
 
-find-filter : {A : Type 0} (p q : A → Bool) → ((x : A) → p x ≡ true → q x ≡ true) → (xs : List A) → find p xs ≡ find p (filter q xs)
-find-filter p q h [] = refl
-find-filter p q h (x ∷ xs) = find_step x xs (filter q xs) p (p x) (q x) refl (h x) (find-filter p q h xs)
+find_of_filter : {A : Type 0} (p q : A → Bool) → ((x : A) → p x ≡ true → q x ≡ true) → (xs : List A) → find p xs ≡ find p (filter q xs)
+find_of_filter p q h [] = refl
+find_of_filter p q h (x ∷ xs) = find_step x xs (filter q xs) p (p x) (q x) refl (h x) (find_of_filter p q h xs)
 
-filter-agree : {A : Type 0} (t u : A → Bool) (xs : List A) → AllByRecursion (λ x. t x ≡ u x) xs → filter t xs ≡ filter u xs
-filter-agree t u [] h = refl
-filter-agree t u (x ∷ xs) h = (λ i. cond (h.0 i) (x ∷ filter-agree t u xs h.1 i) (filter-agree t u xs h.1 i))
+pub filter_agree : {A : Type 0} (t u : A → Bool) (xs : List A) → AllByRecursion (λ x. t x ≡ u x) xs → filter t xs ≡ filter u xs
+filter_agree t u [] h = refl
+filter_agree t u (x ∷ xs) h = (λ i. cond (h.0 i) (x ∷ filter_agree t u xs h.1 i) (filter_agree t u xs h.1 i))
 
 same_self : (e : ℕ) → eqb e e ≡ true
 same_self e = grind (arith, nat_tests)
@@ -52,27 +56,37 @@ or_second false c h = h
 abbrev Viewed : List (ℕ × ℕ) → List (ℕ × ℕ) → Type 0
 Viewed es xs = AllByRecursion (λ x. list_any (λ p. eqb x.0 p.0) es ≡ true) xs
 
-viewed-more : (q : ℕ × ℕ) (es xs : List (ℕ × ℕ)) → Viewed es xs → Viewed (q ∷ es) xs
-viewed-more q es [] h = tt
-viewed-more q es (x ∷ xs) h = (or_second (eqb x.0 q.0) _ h.0, viewed-more q es xs h.1)
+viewed_more : (q : ℕ × ℕ) (es xs : List (ℕ × ℕ)) → Viewed es xs → Viewed (q ∷ es) xs
+viewed_more q es [] h = tt
+viewed_more q es (x ∷ xs) h = (or_second (eqb x.0 q.0) _ h.0, viewed_more q es xs h.1)
 
-all-viewed : (es : List (ℕ × ℕ)) → Viewed es es
-all-viewed [] = tt
-all-viewed (x ∷ es) = (or_first (eqb x.0 x.0) _ (same_self x.0), viewed-more x es es (all-viewed es))
+all_viewed : (es : List (ℕ × ℕ)) → Viewed es es
+all_viewed [] = tt
+all_viewed (x ∷ es) = (or_first (eqb x.0 x.0) _ (same_self x.0), viewed_more x es es (all_viewed es))
 
 -- what is known of an entity in view
-seen-viewed : (r : Replica) (own : Pos) (known : List Seen) (e : ℕ) → in_view r e ≡ true → seen_of e known ≡ seen_of e (filter (matters r own) known)
-seen-viewed r own known e v = find-filter (λ s. eqb s.entity e) (matters r own) (λ s t. or_first (in_view r s.entity) _ (ap (in_view r) (number_is s.entity e t) ∙ v)) known
+seen_when_viewed : (r : Replica) (own : Pos) (known : List Seen) (e : ℕ) → in_view r e ≡ true →
+    seen_of e known ≡ seen_of e (filter (matters r own) known)
+seen_when_viewed r own known e v =
+    find_of_filter (λ s. eqb s.entity e) (matters r own)
+    (λ s t. or_first (in_view r s.entity) _ (ap (in_view r) (number_is s.entity e t) ∙ v)) known
 
-seen-same : (r : Replica) (own : Pos) (known other : List Seen) (e : ℕ) → filter (matters r own) known ≡ filter (matters r own) other → in_view r e ≡ true → seen_of e known ≡ seen_of e other
-seen-same r own known other e same v = seen-viewed r own known e v ∙ (ap (seen_of e) same ∙ sym (seen-viewed r own other e v))
+seen_when_same : (r : Replica) (own : Pos) (known other : List Seen) (e : ℕ) → filter (matters r own) known ≡ filter (matters r own) other →
+    in_view r e ≡ true → seen_of e known ≡ seen_of e other
+seen_when_same r own known other e same v =
+    seen_when_viewed r own known e v ∙ (ap (seen_of e) same ∙ sym (seen_when_viewed r own other e v))
 
-tests-agree : (r : Replica) (own : Pos) (known other : List Seen) (t : ℕ → Option Seen → Bool) (xs : List (ℕ × ℕ)) → filter (matters r own) known ≡ filter (matters r own) other → Viewed r.entries xs → AllByRecursion (λ p. t p.1 (seen_of p.0 known) ≡ t p.1 (seen_of p.0 other)) xs
-tests-agree r own known other t [] same v = tt
-tests-agree r own known other t (x ∷ xs) same v = (ap (t x.1) (seen-same r own known other x.0 same v.0), tests-agree r own known other t xs same v.1)
+tests_agree : (r : Replica) (own : Pos) (known other : List Seen) (t : ℕ → Option Seen → Bool) (xs : List (ℕ × ℕ)) →
+    filter (matters r own) known ≡ filter (matters r own) other → Viewed r.entries xs →
+    AllByRecursion (λ p. t p.1 (seen_of p.0 known) ≡ t p.1 (seen_of p.0 other)) xs
+tests_agree r own known other t [] same v = tt
+tests_agree r own known other t (x ∷ xs) same v =
+    (ap (t x.1) (seen_when_same r own known other x.0 same v.0), tests_agree r own known other t xs same v.1)
 
-viewed-agree : (r : Replica) (own : Pos) (known other : List Seen) (t : ℕ → Option Seen → Bool) → filter (matters r own) known ≡ filter (matters r own) other → filter (λ p. t p.1 (seen_of p.0 known)) r.entries ≡ filter (λ p. t p.1 (seen_of p.0 other)) r.entries
-viewed-agree r own known other t same = filter-agree _ _ r.entries (tests-agree r own known other t r.entries same (all-viewed r.entries))
+viewed_agree : (r : Replica) (own : Pos) (known other : List Seen) (t : ℕ → Option Seen → Bool) →
+    filter (matters r own) known ≡ filter (matters r own) other →
+    filter (λ p. t p.1 (seen_of p.0 known)) r.entries ≡ filter (λ p. t p.1 (seen_of p.0 other)) r.entries
+viewed_agree r own known other t same = filter_agree _ _ r.entries (tests_agree r own known other t r.entries same (all_viewed r.entries))
 
 second_of : (a b c : Bool) → ((a && b) && c) ≡ true → b ≡ true
 second_of true true c h = refl
@@ -85,16 +99,21 @@ near_not_far radius hysteresis d t =
     let far : nat_lt (radius + hysteresis) d ≡ false = grind (arith, nat_tests) in
     ap not far
 
-enters-matters : (r : Replica) (own : Pos) (s : Seen) → enters r own s ≡ true → matters r own s ≡ true
-enters-matters r own s h = or_second (in_view r s.entity) _ (near_not_far r.radius r.hysteresis (distance own s.pos) (second_of (not (in_view r s.entity)) (nat_le (distance own s.pos) r.radius) (not_older (versions.get r.shown s.entity) s.version) h))
+matters_when_entering : (r : Replica) (own : Pos) (s : Seen) → enters r own s ≡ true → matters r own s ≡ true
+matters_when_entering r own s h =
+    or_second (in_view r s.entity) _ (near_not_far r.radius r.hysteresis (distance own s.pos)
+    (second_of (not (in_view r s.entity)) (nat_le (distance own s.pos) r.radius) (not_older (versions.get r.shown s.entity) s.version) h))
 
-entering-agree : (r : Replica) (own : Pos) (known other : List Seen) → filter (matters r own) known ≡ filter (matters r own) other → filter (enters r own) known ≡ filter (enters r own) other
-entering-agree r own known other same =
-    filter-filter (enters r own) (matters r own) (enters-matters r own) known ∙ (ap (filter (enters r own)) same ∙ sym (filter-filter (enters r own) (matters r own) (enters-matters r own) other))
+entering_agree : (r : Replica) (own : Pos) (known other : List Seen) → filter (matters r own) known ≡ filter (matters r own) other →
+    filter (enters r own) known ≡ filter (enters r own) other
+entering_agree r own known other same =
+    filter_of_filter (enters r own) (matters r own) (matters_when_entering r own) known
+    ∙ (ap (filter (enters r own)) same ∙ sym (filter_of_filter (enters r own) (matters r own) (matters_when_entering r own) other))
 
-pub looks-agree : (r : Replica) (own : Pos) (known other : List Seen) → filter (matters r own) known ≡ filter (matters r own) other → one_look r own known ≡ one_look r own other
-looks-agree r own known other same =
-    let a = viewed-agree r own known other (leaves r own) same in
-    let b = viewed-agree r own known other (has_changed r own) same in
-    let c = entering-agree r own known other same in
+pub looks_agree : (r : Replica) (own : Pos) (known other : List Seen) → filter (matters r own) known ≡ filter (matters r own) other →
+    one_look r own known ≡ one_look r own other
+looks_agree r own known other same =
+    let a = viewed_agree r own known other (leaves r own) same in
+    let b = viewed_agree r own known other (has_changed r own) same in
+    let c = entering_agree r own known other same in
     λ i. map (λ p. Leave p.0) (a i) ++ map (λ p. Set p.0) (b i) ++ map (λ s. Enter s.entity) (c i)

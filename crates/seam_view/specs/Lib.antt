@@ -1,3 +1,5 @@
 pub mod Replica
 pub mod Looks
+pub mod Plain
+pub mod Notes
 pub mod Together

@@ -1,5 +1,6 @@
 -- The looks of a witness: which entities leave its view, which have changed, and which enter.
-use Rattle.std.specs.Prelude.{ℕ, ◌+◌, Bool, true, false, not, ◌&&◌, ◌||◌, nat_eq, nat_lt, nat_le, List, ◌++◌, map, filter, Option, None, Some}
+use Rattle.std.specs.Prelude.{ℕ, ◌+◌, Bool, true, false, not, ◌&&◌, ◌||◌, nat_eq, nat_lt, nat_le, List, ◌++◌, map, filter, Option, None}
+use Rattle.std.specs.Prelude.{Some}
 use Rattle.std.specs.List.{list_any}
 use Rattle.std.specs.FinMap as versions
 use Rattle.seam_geo.specs.declared.pos.Pos.{Pos}
@@ -44,7 +45,8 @@ changed r own known es = map (λ p. Set p.0) (filter (λ p. has_changed r own p.
 abbrev pub entering : Replica → Pos → List Seen → List Look
 entering r own known = map (λ s. Enter s.entity) (filter (enters r own) known)
 
--- one look: those that leave, in enter order, then those that have changed, in enter order, then those that enter, in the order in which they are known
+-- one look: those that leave, in enter order, then those that have changed, in enter order, then those that enter, in the order in which
+-- they are known
 abbrev pub one_look : Replica → Pos → List Seen → List Look
 one_look r own known = leaving r own known r.entries ++ changed r own known r.entries ++ entering r own known
 

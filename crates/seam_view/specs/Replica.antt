@@ -1,7 +1,8 @@
 -- What a client was shown, and what each look changes in it.
 use Rattle.std.specs.Prelude.{◌≡◌, ℕ, ◌≤◌, true, nat_eq, List, [], ◌∷◌, length, fold, find, Option, None, Some, if◌then◌else◌}
 use Rattle.std.specs.Ordering.{nat_cmp}
-use Rattle.std.specs.List.{All}
+use Rattle.std.specs.List.{All, AllByRecursion, IsDistinct}
+use Rattle.std.specs.Map.{keys_of}
 use Rattle.std.specs.FinMap as versions
 use Rattle.std.specs.FinSet as set
 use Rattle.std.specs.Coded.{Coded, code_by, coded×, coded_ℕ, coded_list}
@@ -10,12 +11,26 @@ use Rattle.seam_view.specs.declared.Seen.{Seen}
 use Rattle.seam_view.specs.declared.Look.{Look}
 use Rattle.seam_view.specs.declared.Look.TheVariants.{Leave, Set, Enter}
 
--- the two distances of a view, the entities in view in enter order, each with the last version shown, and the last version shown of every entity ever shown
+-- the two distances of a view, the entities in view in enter order, each with the last version shown, and the last version shown of every
+-- entity ever shown
 pub record Replica : Type 0 where
   pub radius : ℕ
   pub hysteresis : ℕ
   pub entries : List (ℕ × ℕ)
   pub shown : versions.FinMap nat_cmp ℕ
+
+-- each pair is of an entity and the version last shown of it
+abbrev pub AreShown : versions.FinMap nat_cmp ℕ → List (ℕ × ℕ) → Type 0
+AreShown shown es = AllByRecursion (λ p. versions.get shown p.0 ≡ Some p.1) es
+
+-- no entity is in view twice, and of each the version is the one last shown
+pub record IsView (r : Replica) : Type 0 where
+  pub once : IsDistinct nat_eq (keys_of r.entries)
+  pub shown : AreShown r.shown r.entries
+
+-- of each entity of which a version was shown, that or a later one is shown
+abbrev pub NeverFalls : Replica → Replica → Type 0
+NeverFalls old new = (e v : ℕ) → versions.get old.shown e ≡ Some v → (w : ℕ) × (versions.get new.shown e ≡ Some w) × (v ≤ w)
 
 -- beside it: for so many looks there are places, and for these entities there is room to keep a version
 pub record ViewValue : Type 0 where
@@ -24,10 +39,16 @@ pub record ViewValue : Type 0 where
   pub room : set.FinSet nat_cmp
 
 abbrev pub replica_code : Coded Replica
-replica_code = code_by (ℕ × (ℕ × (List (ℕ × ℕ) × versions.FinMap nat_cmp ℕ))) (coded× coded_ℕ (coded× coded_ℕ (coded× (coded_list (coded× coded_ℕ coded_ℕ)) (versions.code coded_ℕ coded_ℕ)))) (λ r. (r.radius, (r.hysteresis, (r.entries, r.shown)))) (λ q. record { radius = q.0; hysteresis = q.1.0; entries = q.1.1.0; shown = q.1.1.1 }) (λ _. refl)
+replica_code =
+    code_by (ℕ × (ℕ × (List (ℕ × ℕ) × versions.FinMap nat_cmp ℕ)))
+    (coded× coded_ℕ (coded× coded_ℕ (coded× (coded_list (coded× coded_ℕ coded_ℕ)) (versions.code coded_ℕ coded_ℕ))))
+    (λ r. (r.radius, (r.hysteresis, (r.entries, r.shown))))
+    (λ q. record { radius = q.0; hysteresis = q.1.0; entries = q.1.1.0; shown = q.1.1.1 }) (λ _. refl)
 
 abbrev pub view_code : Coded ViewValue
-view_code = code_by (Replica × (ℕ × set.FinSet nat_cmp)) (coded× replica_code (coded× coded_ℕ (set.code coded_ℕ))) (λ w. (w.core, (w.places, w.room))) (λ q. record { core = q.0; places = q.1.0; room = q.1.1 }) (λ _. refl)
+view_code =
+    code_by (Replica × (ℕ × set.FinSet nat_cmp)) (coded× replica_code (coded× coded_ℕ (set.code coded_ℕ)))
+    (λ w. (w.core, (w.places, w.room))) (λ q. record { core = q.0; places = q.1.0; room = q.1.1 }) (λ _. refl)
 
 -- what is known of the entity
 abbrev pub seen_of : ℕ → List Seen → Option Seen

@@ -4,7 +4,8 @@
 //! of the BigWorld Server Overview.)
 #![tactic(auto)]
 
-ghost use Rattle.std.specs.Prelude.{◌≡◌, ◌≤◌, ◌++◌, ℕ, List, [], filter, map, length, slice_get, option_copied, IfOk, OnOk, OnErr, is_some, false, not, IfSome, drop, find};
+ghost use Rattle.std.specs.Prelude.{◌≡◌, ◌≤◌, ◌++◌, ℕ, List, [], filter, map, length, slice_get, option_copied, IfOk, OnOk, OnErr, is_some};
+ghost use Rattle.std.specs.Prelude.{false, not, IfSome, drop, find, Some};
 ghost use Rattle.std.specs.Ordering.{nat_cmp};
 ghost use Rattle.std.specs.List.Sorted.{IsStrictlySortedBy};
 ghost use Rattle.std.specs.Prelude.{◌<◌, ◌+◌, nat_eq, true};
@@ -12,12 +13,17 @@ ghost use Rattle.std.specs.List.{All, AllWithin, IsDistinct};
 ghost use Rattle.std.specs.Map.{keys_of};
 ghost use Rattle.seam_geo.specs.declared.pos.Pos.{Pos};
 ghost use Rattle.seam_view.specs.declared.Seen.{Seen};
+ghost use Rattle.seam_view.specs.declared.Look.{Look};
+ghost use Rattle.seam_view.specs.declared.Look.TheVariants.{Leave, Set};
 ghost use Rattle.seam_table.specs.Tables.{is_after};
 ghost use Rattle.std.specs.FinMap as versions;
 ghost use Rattle.std.specs.FinSet as set;
-ghost use Rattle.seam_view.specs.Replica.{Replica, HasRoom, without, seen_of, entity_of, with_version_shown, after_showing, after_look, after_looks};
+ghost use Rattle.seam_view.specs.Replica.{Replica, IsView, AreShown, NeverFalls, HasRoom, without, seen_of, entity_of, with_version_shown};
+ghost use Rattle.seam_view.specs.Replica.{after_showing, after_look, after_looks};
 ghost use Rattle.seam_view.specs.Together.{leaves_next, looks_past};
-ghost use Rattle.seam_view.specs.Looks.{is_far, in_view, not_older, leaves, has_changed, enters, leaving, changed, entering, one_look, matters};
+ghost use Rattle.seam_view.specs.Looks.{is_far, in_view, not_older, enters, entering, one_look, matters};
+ghost use Rattle.seam_view.specs.Notes.{note_of, notes_of, is_leave, is_change, noted};
+ghost use Rattle.seam_view.specs.Plain.{plain_look, AreNotOlder};
 
 use indexmap::IndexMap;
 use seam_geo::{Pos, dist};
@@ -47,6 +53,17 @@ pub enum Look {
     Enter(u32),
 }
 
+// What a look makes of an entity in view.
+#[derive(Clone, Copy)]
+enum Note {
+    // It stays as it was shown.
+    Stays,
+    // It leaves: nothing is known of it, or it is known to be far.
+    Leaves,
+    // It stays, and has changed.
+    Changed,
+}
+
 /// The entities in view, in enter order, and what was shown of each entity ever shown.
 ///
 /// Contracts see these as a replica of what the client was shown, and beside it the room for looks that `plan` made.
@@ -60,7 +77,7 @@ pub struct View {
 }
 
 impl Model for View {
-    ghost use Rattle.seam_view.specs.Replica.{ViewValue, view_code};
+    ghost use Rattle.seam_view.specs.Replica.{ViewValue, IsView, view_code};
 
     ghost Value = { ViewValue };
 
@@ -68,7 +85,18 @@ impl Model for View {
 
     ghost use Rattle.indexmap.specs.IndexMap.{spare};
 
-    ghost view = { λ v. record { core = record { radius = v.radius; hysteresis = v.hysteresis; entries = v.view.entries; shown = v.shown.items }; places = spare v.view; room = v.shown.room } };
+    ghost view = { λ v. record {
+      core = record { radius = v.radius; hysteresis = v.hysteresis; entries = v.view.entries; shown = v.shown.items };
+      places = spare v.view;
+      room = v.shown.room;
+    } };
+
+    ghost invariant = { λ v. IsView (record {
+      radius = v.radius;
+      hysteresis = v.hysteresis;
+      entries = v.view.entries;
+      shown = v.shown.items;
+    }) };
 }
 
 impl View {
@@ -86,7 +114,7 @@ impl View {
     }
 
     /// The view with these entities in this enter order, each with the version last shown, and these versions shown, also of
-    /// entities that left.
+    /// entities that left. Each pair of `view` stands in `shown`.
     pub fn of_lists(
         alloc: Global,
         radius: u32,
@@ -96,7 +124,13 @@ impl View {
     ) -> Result<View, AllocError>
         requires once { IsDistinct nat_eq (keys_of view.now) }
         requires rising { IsStrictlySortedBy nat_cmp (keys_of shown.now) }
-        ensures { IfOk result (λ v. v.core ≡ record { radius = radius; hysteresis = hysteresis; entries = view.now; shown = versions.from_entries shown.now }) }
+        requires last { AreShown (versions.from_entries shown.now) view.now }
+        ensures { IfOk result (λ v. v.core ≡ record {
+          radius = radius;
+          hysteresis = hysteresis;
+          entries = view.now;
+          shown = versions.from_entries shown.now;
+        }) }
     {
         let view = view_of(alloc, view)?;
         let shown = shown_of(alloc, shown)?;
@@ -109,9 +143,10 @@ impl View {
         })
     }
 
-    /// How many entities are in view.
+    /// How many entities are in view. None is there twice, and `at` gives the version that `shown` gives.
     pub fn len(&self) -> usize
-        ensures { result ≡ length self.now.core.entries }
+        ensures count { result ≡ length self.now.core.entries }
+        ensures view { IsView self.now.core }
     {
         self.view.len()
     }
@@ -144,38 +179,11 @@ impl View {
         }
     }
 
-    // Whether an entity in view leaves it.
-    fn is_leaving(&self, own: Pos, version: u64, seen: Option<&Seen>) -> bool
-        ensures { result ≡ leaves self.now.core own version (option_copied seen.entry) }
-    {
-        match seen {
-            Some(seen) => self.is_far(own, seen.pos) && version <= seen.version,
-            None => true,
-        }
-    }
-
-    // Whether an entity in view stays, and has changed.
-    fn is_changed(&self, own: Pos, version: u64, seen: Option<&Seen>) -> bool
-        ensures { result ≡ has_changed self.now.core own version (option_copied seen.entry) }
-    {
-        match seen {
-            Some(seen) => !self.is_far(own, seen.pos) && version < seen.version,
-            None => false,
-        }
-    }
-
     // Whether the position is farther than radius and hysteresis together.
     fn is_far(&self, own: Pos, p: Pos) -> bool
         ensures { result ≡ is_far self.now.core own p }
     {
         u64::from(dist(own, p)) > u64::from(self.radius) + u64::from(self.hysteresis)
-    }
-
-    // Whether the entity is in view.
-    fn is_viewed(&self, e: u32) -> bool
-        ensures { result ≡ in_view self.now.core e }
-    {
-        self.view.contains_key(&e)
     }
 
     // Whether the version is not older than the one shown of the entity, if any was.
@@ -188,48 +196,81 @@ impl View {
         }
     }
 
-    // Whether a known entity enters.
+    // Whether a known entity that is not in view enters.
     fn is_entering(&self, own: Pos, seen: &Seen) -> bool
+        requires { in_view self.now.core seen.now.entity ≡ false }
         ensures { result ≡ enters self.now.core own seen.now }
     {
-        !self.is_viewed(seen.entity)
-            && dist(own, seen.pos) <= self.radius
-            && self.may_show(seen.entity, seen.version)
+        dist(own, seen.pos) <= self.radius && self.may_show(seen.entity, seen.version)
     }
 
-    // Appends the leaves, in enter order.
-    fn push_leaves(&self, own: Pos, known: &[Seen], looks: &mut Vec<Look>) -> Result<(), AllocError>
-        requires { IsStrictlySortedBy nat_cmp (map (λ s. s.entity) known.now) }
-        ensures { OnOk result (looks.new.items ≡ looks.old.items ++ leaving self.now.core own known.now self.now.core.entries) }
+    // What a look makes of an entity in view that is known, and was shown at this version.
+    fn note(&self, own: Pos, version: u64, seen: &Seen) -> Note
+        ensures { result ≡ note_of self.now.core own version (Some seen.now) }
     {
-        for (e, version) in &self.view {
-            if self.is_leaving(own, *version, find_seen(known, *e)) {
-                looks.push(Look::Leave(*e))?;
+        if self.is_far(own, seen.pos) {
+            if version <= seen.version {
+                Note::Leaves
+            } else {
+                Note::Stays
             }
+        } else if version < seen.version {
+            Note::Changed
+        } else {
+            Note::Stays
         }
-        Ok(())
     }
 
-    // Appends the sets, in enter order.
-    fn push_sets(&self, own: Pos, known: &[Seen], looks: &mut Vec<Look>) -> Result<(), AllocError>
+    // What a look makes of each entity in view, in enter order, and the enters, in rising number. Each of those known is looked up once.
+    fn note_known(&self, own: Pos, known: &[Seen]) -> Result<(Vec<Note>, Vec<Look>), AllocError>
         requires { IsStrictlySortedBy nat_cmp (map (λ s. s.entity) known.now) }
-        ensures { OnOk result (looks.new.items ≡ looks.old.items ++ changed self.now.core own known.now self.now.core.entries) }
+        ensures notes { IfOk result (λ r. r.0.items ≡ notes_of self.now.core own known.now) }
+        ensures enters { IfOk result (λ r. r.1.items ≡ entering self.now.core own known.now) }
     {
-        for (e, version) in &self.view {
-            if self.is_changed(own, *version, find_seen(known, *e)) {
-                looks.push(Look::Set(*e))?;
-            }
-        }
-        Ok(())
-    }
-
-    // Appends the enters, in rising number.
-    fn push_enters(&self, own: Pos, known: &[Seen], looks: &mut Vec<Look>) -> Result<(), AllocError>
-        ensures { OnOk result (looks.new.items ≡ looks.old.items ++ entering self.now.core own known.now) }
-    {
+        let mut notes = vec![in self.alloc; Note::Leaves; self.view.len()]?;
+        let mut enters = Vec::new(self.alloc);
         for seen in known {
-            if self.is_entering(own, seen) {
-                looks.push(Look::Enter(seen.entity))?;
+            match self.view.get_full(&seen.entity) {
+                Some((i, _, version)) => notes[i] = self.note(own, *version, seen),
+                None => {
+                    if self.is_entering(own, seen) {
+                        enters.push(Look::Enter(seen.entity))?;
+                    }
+                }
+            }
+        }
+        Ok((notes, enters))
+    }
+
+    // The entity at the place of the enter order.
+    fn entity_at(&self, i: usize) -> u32
+        requires { i < length self.now.core.entries }
+        ensures { slice_get (keys_of self.now.core.entries) i ≡ Some result }
+    {
+        let Some((e, _)) = self.view.get_index(i) else {
+            unreachable!()
+        };
+        *e
+    }
+
+    // Appends the leaves to the looks, in enter order, and the sets to theirs.
+    fn push_noted(
+        &self,
+        notes: &[Note],
+        looks: &mut Vec<Look>,
+        sets: &mut Vec<Look>,
+    ) -> Result<(), AllocError>
+        requires { length notes.now ≡ length self.now.core.entries }
+        ensures leaves { OnOk result (looks.new.items ≡ looks.old.items
+            ++ map (λ e. Leave e) (noted is_leave notes.now (keys_of self.now.core.entries))) }
+        ensures sets { OnOk result (sets.new.items ≡ sets.old.items
+            ++ map (λ e. Set e) (noted is_change notes.now (keys_of self.now.core.entries))) }
+    {
+        for i in 0..notes.len() {
+            match notes[i] {
+                Note::Stays => {}
+                Note::Leaves => looks.push(Look::Leave(self.entity_at(i)))?,
+                Note::Changed => sets.push(Look::Set(self.entity_at(i)))?,
             }
         }
         Ok(())
@@ -255,10 +296,12 @@ impl View {
         ensures room { IfOk result (λ v. HasRoom self.new v.items) }
         ensures same { self.new.core ≡ self.old.core }
     {
+        let (notes, mut enters) = self.note_known(own, known)?;
         let mut looks = Vec::new(self.alloc);
-        self.push_leaves(own, known, &mut looks)?;
-        self.push_sets(own, known, &mut looks)?;
-        self.push_enters(own, known, &mut looks)?;
+        let mut sets = Vec::new(self.alloc);
+        self.push_noted(&notes, &mut looks, &mut sets)?;
+        looks.append(&mut sets)?;
+        looks.append(&mut enters)?;
         self.reserve(&looks)?;
         Ok(looks)
     }
@@ -331,7 +374,8 @@ impl View {
         let mut next = looks;
         self.view.retain(
             |e: &u32, version: &mut u64| -> bool
-                ensures { (result ≡ not (leaves_next e.now next.entry.now)) × (next.exit.now ≡ looks_past e.now next.entry.now) × (version.new ≡ version.old) }
+                ensures { (result ≡ not (leaves_next e.now next.entry.now)) × (next.exit.now ≡ looks_past e.now next.entry.now)
+                    × (version.new ≡ version.old) }
             {
                 match past_leave(next, *e) {
                     Some(rest) => {
@@ -442,7 +486,22 @@ fn reserve_versions(shown: &mut Table<u64>, looks: &[Look]) -> Result<(), AllocE
 /// What is known of entities that are neither in view nor near makes no difference: two lists that agree on all the others give the
 /// same looks.
 pub fn only_near_matters()
-    ensures { (r : Replica) (own : Pos) (known other : List Seen) → filter (matters r own) known ≡ filter (matters r own) other → one_look r own known ≡ one_look r own other }
+    ensures { (r : Replica) (own : Pos) (known other : List Seen) → filter (matters r own) known ≡ filter (matters r own) other →
+        one_look r own known ≡ one_look r own other }
+{}
+
+/// No version shown ever falls: after the looks that `plan` gives for what is known, each entity is shown at the version that it was
+/// shown at, or at a later one, also where it left. And what a look leaves is a view.
+pub fn versions_shown_never_fall()
+    ensures never_fall { (r : Replica) (own : Pos) (known : List Seen) → IsView r → IsStrictlySortedBy nat_cmp (map (λ s. s.entity) known) →
+        NeverFalls r (after_looks known r (one_look r own known)) }
+    ensures view { (r : Replica) (known : List Seen) (looks : List Look) → IsView r → IsView (after_looks known r looks) }
+{}
+
+/// Where nothing was shown at a greater version than is known, `plan` gives the look at a flat table.
+pub fn looks_are_plain()
+    ensures { (r : Replica) (own : Pos) (known : List Seen) → IsView r → AreNotOlder r known →
+        one_look r own known ≡ plain_look r own known }
 {}
 
 fn sent<T: Send>(value: T) -> T

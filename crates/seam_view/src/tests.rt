@@ -45,3 +45,44 @@ fn made_of_lists(rt: HostRuntime) -> Result<(), Fail> {
     assert_eq!(rt; looks.as_slice(), [Look::Leave(2)].as_slice());
     Ok(())
 }
+
+#[test]
+fn leaves_then_sets_then_enters(rt: HostRuntime) -> Result<(), Fail> {
+    let pairs = [(5, 1), (2, 1), (9, 1)];
+    let mut view = View::of_lists(
+        rt.alloc(),
+        300,
+        10,
+        &pairs,
+        &[(2, 1), (5, 1), (7, 4), (9, 1)],
+    )?;
+    let near = Pos { x: 1, z: 0 };
+    let far = Pos { x: 311, z: 0 };
+    let known = [
+        Seen {
+            entity: 2,
+            version: 2,
+            pos: near,
+        },
+        Seen {
+            entity: 5,
+            version: 1,
+            pos: far,
+        },
+        Seen {
+            entity: 7,
+            version: 4,
+            pos: near,
+        },
+    ];
+    let looks = view.plan(OWN, &known)?;
+    assert_eq!(rt;
+        looks.as_slice(),
+        [Look::Leave(5), Look::Leave(9), Look::Set(2), Look::Enter(7)].as_slice()
+    );
+    view.keep(&known, &looks);
+    assert_eq!(rt; view.at(0), Some((2, 2)));
+    assert_eq!(rt; view.at(1), Some((7, 4)));
+    assert_eq!(rt; view.at(2), None);
+    Ok(())
+}

@@ -6,16 +6,21 @@ use Rattle.seam_view.proofs.find_seen.Goals as goal
 pub returns-in_default : goal.returns-in_default
 returns-in_default c =
     let past = ltb-false _ _ (sym c.in_default.ensures.lookup.0) in
-    sym (seen_missing c.args.e c.args.known.now c.place_of-at.result c.requires c.place_of-at.ensures.below c.place_of-at.ensures.above (λ d lt. absurd (omega (arith, lt, past))))
+    sym (seen_missing c.args.e c.args.known.now c.place_of-at.result c.requires c.place_of-at.ensures.below c.place_of-at.ensures.above
+    (λ d lt. absurd (omega (arith, lt, past))))
 
 pub returns-then-seen-e : goal.returns-then-seen-e
 returns-then-seen-e c =
     let lt = ltb-true _ _ (sym c.in-Some.ensures.lookup.0) in
     let read = c.in-Some.ensures.lookup.1 in
-    ap (λ s. Some s) read ∙ sym (seen_here c.args.e c.args.known.now c.place_of-at.result c.in-Some.seen.now c.place_of-at.ensures.below lt (ap (λ s. s.entity) (sym read) ∙ c.if-seen-e.true))
+    ap (λ s. Some s) read
+    ∙ sym (seen_here c.args.e c.args.known.now c.place_of-at.result c.in-Some.seen.now c.place_of-at.ensures.below lt
+    (ap (λ s. s.entity) (sym read) ∙ c.if-seen-e.true))
 
 pub returns-else-seen-e : goal.returns-else-seen-e
 returns-else-seen-e c =
     let lt = ltb-true _ _ (sym c.in-Some.ensures.lookup.0) in
     let read = c.in-Some.ensures.lookup.1 in
-    sym (seen_missing c.args.e c.args.known.now c.place_of-at.result c.requires c.place_of-at.ensures.below c.place_of-at.ensures.above (λ d l same. c.if-seen-e.false (ap (λ s. s.entity) (get_or_read c.args.known.now c.place_of-at.result c.in-Some.seen.now lt read d) ∙ same)))
+    sym (seen_missing c.args.e c.args.known.now c.place_of-at.result c.requires c.place_of-at.ensures.below c.place_of-at.ensures.above
+    (λ d l same. c.if-seen-e.false (ap (λ s. s.entity) (get_or_read c.args.known.now c.place_of-at.result c.in-Some.seen.now lt read d)
+    ∙ same)))

@@ -14,5 +14,10 @@ loop-look-preserved c =
     let more = c.in_ok-reserve.ensures.room in
     record {
       same = c.reserve.ensures.same ∙ inv.same;
-      room = λ k d low h. below_more (λ k. (d : Look) → set.contains c.reserve.new.self.room (entity_of (get_or c.args.looks.now k d)) ≡ true) c.loop-look.look-index (λ k l d. rw more (room_stays _ _ _ (inv.room k d (omega arith) l))) (λ d. ap (λ look. set.contains c.reserve.new.self.room (entity_of look)) (get_or_default c.args.looks.now c.loop-look.look-index d (Leave 0) c.loop-look-test.true) ∙ (ap (set.contains c.reserve.new.self.room) (sym c.entity.ensures) ∙ c.in_ok-reserve.ensures.there)) k h d;
+      room =
+          λ k d low h. below_more (λ k. (d : Look) → set.contains c.reserve.new.self.room (entity_of (get_or c.args.looks.now k d)) ≡ true)
+          c.loop-look.look-index (λ k l d. rw more (room_stays _ _ _ (inv.room k d (omega arith) l)))
+          (λ d. ap (λ look. set.contains c.reserve.new.self.room (entity_of look))
+          (get_or_default c.args.looks.now c.loop-look.look-index d (Leave 0) c.loop-look-test.true)
+          ∙ (ap (set.contains c.reserve.new.self.room) (sym c.entity.ensures) ∙ c.in_ok-reserve.ensures.there)) k h d;
     }

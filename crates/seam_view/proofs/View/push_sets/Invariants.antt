@@ -1,9 +1,0 @@
-use Rattle.std.proofs.Common.{◌≡◌, ◌++◌}
-use Rattle.seam_view.specs.Looks.{changed}
-use Rattle.seam_view.proofs.View.push_sets.Given as goal
-
-abbrev pub invariant-loop-e : goal.invariant-loop-e
-invariant-loop-e l =
-    goal.iterator-loop-e.can_next l.e-iterator ×
-    goal.iterator-loop-e.is_finite l.e-iterator ×
-    (l.looks.items ++ changed l.self.core l.own l.known l.e-iterator ≡ l.initial.looks.items ++ changed l.self.core l.own l.known l.self.core.entries)
