@@ -1,15 +1,16 @@
 -- For callers: a step of a node is, for each entity, one of the moves, and so is an event of a world.
-use Rattle.std.proofs.Common.{ℕ, refl, ◌∙◌, subst}
+use Rattle.std.proofs.Common.{ℕ, Option, refl, ◌∙◌, subst}
 use Rattle.seam_tree.specs.Division.{cells_of}
 use Rattle.seam_machine.specs.Nets.{happens}
 use Rattle.seam_machine.specs.Events.{Occurs}
+use Rattle.seam_machine.specs.Sends.{items_to}
 use Rattle.seam_machine.specs.declared.machines.Input.{Input}
 use Rattle.seam_machine.specs.declared.machines.Input.TheVariants.{Task, From}
 use Rattle.seam_machine.specs.declared.machines.Event.{Event}
 use Rattle.seam_runs.specs.Sound.{MachineLaws}
 use Rattle.seam_runs.proofs.Keeping.{each_node}
 use Rattle.seam_runs.proofs.Soundness.{sound_sends, sound_happens}
-use Rattle.seam_flows.specs.Flows.{Goes, letter_in}
+use Rattle.seam_flows.specs.Flows.{Goes, letter_in, letters_of}
 use Rattle.seam_flows.proofs.Bridge.{event_goes}
 use Rattle.seam_entity.specs.declared.message.Msg.{Msg}
 use Rattle.seam_steps.specs.Cells.{cell_steps}
@@ -80,12 +81,23 @@ module _ (f : Frame) (w : World) (v : Event) (o : Occurs w v) (q : IsInFrame f w
     nodes = each_node (IsAt f) node_steps w v o q.nodes (stays_at f v.node o.node o.input (q.nodes v.node o.node o.is_node));
   }
 
+  node_moves_to : (e : ℕ) →
+      MovesTo f e v.node (has_of e o.node) (letter_in (mine e) o.input) (has_of e (node_steps o.node o.input).state)
+      (λ j. letters_of (mine e) (items_to j (node_steps o.node o.input).sent))
+  node_moves_to e = record {
+    sent = concerning e (node_steps o.node o.input).sent;
+    moves = node_moves f e v.node o.node o.input (q.sound.states v.node o.node o.is_node) (q.nodes v.node o.node o.is_node);
+    items = λ j. letters_are e j (node_steps o.node o.input).sent;
+  }
+
   pub event_moves : (e : ℕ) → Goes (MovesTo f e) (entity_flow e w) (entity_flow e (happens node_steps w v))
   event_moves e =
       event_goes (mine e) (has_of e) has_none (MovesTo f e) node_steps w v o q.sound.square (sound_sends node_laws w v o q.sound)
-      (record {
-        sent = concerning e (node_steps o.node o.input).sent;
-        moves =
-            node_moves f e v.node o.node o.input (q.sound.states v.node o.node o.is_node) (q.nodes v.node o.node o.is_node);
-        items = λ j. letters_are e j (node_steps o.node o.input).sent;
-      })
+      (node_moves_to e)
+
+  -- the same with a fact about the letter that comes
+  pub event_moves_with : (e : ℕ) (Came : Option Msg → Type 0) → Came (letter_in (mine e) o.input) →
+      Goes (λ k s i t out. MovesTo f e k s i t out × Came i) (entity_flow e w) (entity_flow e (happens node_steps w v))
+  event_moves_with e Came came =
+      event_goes (mine e) (has_of e) has_none (λ k s i t out. MovesTo f e k s i t out × Came i) node_steps w v o q.sound.square
+      (sound_sends node_laws w v o q.sound) (node_moves_to e, came)

@@ -1,0 +1,5 @@
+pub mod Holds
+pub mod RealsKept
+pub mod Plain
+pub mod Replaying
+pub mod Handling

@@ -1,0 +1,4 @@
+pub mod Replays
+pub mod Fits
+pub mod Burdens
+pub mod Ones

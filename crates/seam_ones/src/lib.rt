@@ -1,0 +1,2 @@
+//! Exactly one real.
+#![tactic(auto)]
