@@ -88,3 +88,8 @@ pub record HasOne (f : Frame) (e ty : ℕ) (w : World) : Type 0 where
   pub place : Place
   pub real : RealView
   pub one : IsOne e w place real
+
+-- the same, and the real is what `start` became by further calls
+pub record OneFrom (f : Frame) (e ty : ℕ) (start : RealView) (w : World) : Type 0 where
+  pub has : HasOne f e ty w
+  pub replays : Replays f start has.real

@@ -1,0 +1,41 @@
+//! The laws, each on a function that does nothing.
+
+ghost use Rattle.std.specs.Prelude.{◌≡◌, ℕ, ◌<◌, ◌≤◌, List, length};
+ghost use Rattle.seam_machine.specs.Nets.{LeadsTo};
+ghost use Rattle.seam_machine.specs.declared.machines.Event.{Event};
+ghost use Rattle.seam_flows.specs.Tokens.{Place, Nobody};
+ghost use Rattle.seam_entity.specs.Reals.{RealView};
+ghost use Rattle.seam_steps.specs.Holders.{holders};
+ghost use Rattle.seam_steps.specs.Nodes.{World, node_steps, node_has_work};
+ghost use Rattle.seam_moves.specs.Frames.{Frame, IsInFrame};
+ghost use Rattle.seam_moves.specs.Sights.{entity_flow};
+ghost use Rattle.seam_ones.specs.Burdens.{burden};
+ghost use Rattle.seam_ones.specs.Ones.{real_in, real_of, IsOne, IsSpared, AllFits, IsFrame, OneFrom};
+
+/// An entity that fits, has one holder and is not reaped has one holder after every list of events.
+pub fn exactly_one_real()
+    ensures { (f : Frame) (e ty : ℕ) (w v : World) (es : List Event) → IsFrame f → ty < length f.defs → AllFits f e ty w → IsSpared e w →
+        holders w e ≡ 1 → LeadsTo node_has_work node_steps w es v → holders v e ≡ 1 }
+{}
+
+/// Its one real, wherever it is then, is the one at the start after further calls: they are appended to its list of done calls, its state is
+/// that after their deeds, its version rose by their number, and its public version is the version at the last of them that others may see.
+/// All that fitted still fits.
+pub fn reals_replay_their_calls()
+    ensures { (f : Frame) (e ty : ℕ) (w v : World) (es : List Event) → IsFrame f → ty < length f.defs → AllFits f e ty w → IsSpared e w →
+        (p : Place) (r : RealView) → IsOne e w p r → LeadsTo node_has_work node_steps w es v → OneFrom f e ty r v }
+{}
+
+/// An entity has one holder exactly where its one real is at one place, and none exactly where nobody has it.
+pub fn holders_are_at_one_place()
+    ensures one { (w : World) (e : ℕ) → holders w e ≡ 1 → (p : Place) × (r : RealView) × IsOne e w p r }
+    ensures counts { (w : World) (e : ℕ) (p : Place) (r : RealView) → IsOne e w p r → holders w e ≡ 1 }
+    ensures none { (w : World) (e : ℕ) → holders w e ≡ 0 → Nobody real_in real_of (entity_flow e w) }
+    ensures nobody { (w : World) (e : ℕ) → Nobody real_in real_of (entity_flow e w) → holders w e ≡ 0 }
+{}
+
+/// What an entity has yet to do, its version, beat and generation among it, is never more than at the start.
+pub fn numbers_stay_small()
+    ensures { (f : Frame) (e : ℕ) (w v : World) (es : List Event) → IsInFrame f w → LeadsTo node_has_work node_steps w es v →
+        burden e v ≤ burden e w }
+{}
