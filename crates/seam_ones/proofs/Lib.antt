@@ -9,3 +9,4 @@ pub mod Easing
 pub mod Sparing
 pub mod OneReal
 pub mod Counting
+pub mod ExampleMet

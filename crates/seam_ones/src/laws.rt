@@ -7,9 +7,14 @@ ghost use Rattle.seam_flows.specs.Tokens.{Place, Nobody};
 ghost use Rattle.seam_entity.specs.Reals.{RealView};
 ghost use Rattle.seam_steps.specs.Holders.{holders};
 ghost use Rattle.seam_steps.specs.Nodes.{World, node_steps, node_has_work};
+ghost use Rattle.seam_steps.specs.Loads.{loaded};
+ghost use Rattle.seam_steps.specs.Rows.{empty_world};
+ghost use Rattle.seam_steps.specs.EarlyCall as early;
 ghost use Rattle.seam_moves.specs.Frames.{Frame, IsInFrame};
 ghost use Rattle.seam_moves.specs.Sights.{entity_flow};
 ghost use Rattle.seam_ones.specs.Burdens.{burden};
+ghost use Rattle.seam_ones.specs.Example as example;
+ghost use Rattle.seam_ones.specs.Example.{events_of};
 ghost use Rattle.seam_ones.specs.Ones.{real_in, real_of, IsOne, IsSpared, AllFits, IsFrame, OneFrom};
 
 /// An entity that fits, has one holder and is not reaped has one holder after every list of events.
@@ -39,3 +44,16 @@ pub fn numbers_stay_small()
     ensures { (f : Frame) (e : ℕ) (w v : World) (es : List Event) → IsInFrame f w → LeadsTo node_has_work node_steps w es v →
         burden e v ≤ burden e w }
 {}
+
+/// What these laws ask of a world is true of one that a load made: two cells, an entity and three calls of two senders; and a run of it
+/// hands the entity over.
+pub fn a_loaded_world_has_what_the_laws_ask()
+    ensures frame { IsFrame example.frame }
+    ensures load { loaded empty_world early.batch ≡ early.world_0 }
+    ensures fits { AllFits example.frame 1 0 early.world_0 }
+    ensures spared { IsSpared 1 early.world_0 }
+    ensures one { holders early.world_0 1 ≡ 1 }
+    ensures handed_over { LeadsTo node_has_work node_steps early.world_0 (events_of early.steps) early.world_12 }
+{
+    seam_steps::rows::an_early_call_is_held();
+}

@@ -14,4 +14,4 @@
 
 mod laws;
 
-pub use laws::{exactly_one_real, holders_are_at_one_place, numbers_stay_small, reals_replay_their_calls};
+pub use laws::{a_loaded_world_has_what_the_laws_ask, exactly_one_real, holders_are_at_one_place, numbers_stay_small, reals_replay_their_calls};
