@@ -23,7 +23,7 @@ use Rattle.seam_steps.proofs.Peers.{peers_stay, node_stays_valid, cell_frame}
 use Rattle.seam_steps.proofs.Targets.{node_targets}
 use Rattle.seam_steps.proofs.ValidBases.{base_frame}
 use Rattle.seam_moves.specs.Frames.{Frame, IsAt, IsInFrame}
-use Rattle.seam_moves.specs.Sights.{mine, concerning, at_cell, at_base, has_of, has_none, entity_flow}
+use Rattle.seam_moves.specs.Sights.{Has, mine, concerning, at_cell, at_base, has_of, has_none, entity_flow}
 use Rattle.seam_moves.specs.CellMoves.{CellMoves}
 use Rattle.seam_moves.specs.BaseMoves.{BaseMoves}
 use Rattle.seam_moves.specs.Moves.{Moves, at_a_cell, at_a_base, MovesTo}
@@ -95,9 +95,9 @@ module _ (f : Frame) (w : World) (v : Event) (o : Occurs w v) (q : IsInFrame f w
       event_goes (mine e) (has_of e) has_none (MovesTo f e) node_steps w v o q.sound.square (sound_sends node_laws w v o q.sound)
       (node_moves_to e)
 
-  -- the same with a fact about the letter that comes
-  pub event_moves_with : (e : ℕ) (Came : Option Msg → Type 0) → Came (letter_in (mine e) o.input) →
-      Goes (λ k s i t out. MovesTo f e k s i t out × Came i) (entity_flow e w) (entity_flow e (happens node_steps w v))
-  event_moves_with e Came came =
-      event_goes (mine e) (has_of e) has_none (λ k s i t out. MovesTo f e k s i t out × Came i) node_steps w v o q.sound.square
-      (sound_sends node_laws w v o q.sound) (node_moves_to e, came)
+  -- the same with a fact about what the node has and the letter that comes
+  pub event_moves_with : (e : ℕ) (Fact : Has → Option Msg → Type 0) → Fact (has_of e o.node) (letter_in (mine e) o.input) →
+      Goes (λ k s i t out. MovesTo f e k s i t out × Fact s i) (entity_flow e w) (entity_flow e (happens node_steps w v))
+  event_moves_with e Fact fact =
+      event_goes (mine e) (has_of e) has_none (λ k s i t out. MovesTo f e k s i t out × Fact s i) node_steps w v o q.sound.square
+      (sound_sends node_laws w v o q.sound) (node_moves_to e, fact)

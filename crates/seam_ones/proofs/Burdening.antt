@@ -40,7 +40,7 @@ heavy (Current e j g) = None
 heavy (GhostSet e n c) = None
 heavy (GhostDrop e n) = None
 heavy Tick = None
-heavy (Reap e) = None
+heavy (Reap e) = Some 0
 heavy (Update u) = None
 
 light : (m : Msg) → heavy m ≡ None → letter_burden m ≡ 0
@@ -51,7 +51,7 @@ light (Current e j g) h = refl
 light (GhostSet e n c) h = refl
 light (GhostDrop e n) h = refl
 light Tick h = refl
-light (Reap e) h = refl
+light (Reap e) h = cc
 light (Update u) h = refl
 
 abbrev pub sent_burden : List (ℕ × Msg) → ℕ
@@ -275,7 +275,7 @@ module _ (f : Frame) (e k : ℕ) (s : Has) (i : Option Msg) (t : Has) (sent : Li
       (omega (arith, le))
   base_eased cells (base_move.orders_reap os r n at has a z) same =
       let le = first_is (order.Reap e) os at in
-      base_by (total order_burden os) 0 same (order_is _ a) (ap sent_burden z) (omega (arith, le))
+      base_by (total order_burden os) 1 same (order_is _ a) (ap sent_burden z) (omega (arith, le))
   base_eased cells (base_move.stuck_order o os n at b a z) same = same_by s.base refl a z same
   base_eased cells (base_move.executes p o c n has may at item a z) same = same_by _ refl a z same
   base_eased cells (base_move.stuck_part p n has is may a z) same = same_by s.base refl a z same

@@ -15,7 +15,7 @@ use Rattle.seam_runs.proofs.Weighing.{weight_moves, weight_bounds}
 use Rattle.seam_flows.specs.Flows.{letter_in}
 use Rattle.seam_entity.specs.Reals.{RealView}
 use Rattle.seam_entity.specs.declared.message.Msg.{Msg}
-use Rattle.seam_entity.specs.declared.message.Msg.TheVariants.{Hand}
+use Rattle.seam_entity.specs.declared.message.Msg.TheVariants.{Hand, Reap}
 use Rattle.seam_steps.specs.Numbers.{limit}
 use Rattle.seam_steps.specs.Nodes.{NodeView, World, node_steps, node_has_work}
 use Rattle.seam_steps.specs.Valid.{IsNode}
@@ -64,6 +64,16 @@ module _ (f : Frame) (e : ℕ) (w : World) (v : Event) (o : Occurs w v) (q : IsI
       let b = input_is e v.node o.input in
       let c = ap (weight_or letter_burden) is in
       omega (arith, a, b, c, few)
+
+  -- and those of a real that a Reap finds leave room for one more
+  pub reaped_small : burden e w < limit → (r : RealView) → (has_of e o.node).cell.slot.real ≡ Some r →
+      letter_in (mine e) o.input ≡ Some (Reap e) → real_burden r + 1 < limit
+  reaped_small few r has is =
+      let a = weight_bounds (node_burden e) (mine_burden e) w v o in
+      let b = input_is e v.node o.input in
+      let c = ap (weight_or letter_burden) is in
+      let d = ap (weight_or real_burden) has in
+      omega (arith, a, b, c, d, few)
 
 -- what a run keeps of it
 record Lighter (f : Frame) (e n : ℕ) (w : World) : Type 0 where

@@ -28,7 +28,7 @@ use Rattle.seam_moves.specs.BaseMoves.{BaseMoves, strays_at}
 use Rattle.seam_moves.specs.Moves.{Moves, at_a_cell, at_a_base}
 use Rattle.seam_ones.specs.Replays.{Replays}
 use Rattle.seam_ones.specs.Fits.{RealFits}
-use Rattle.seam_ones.specs.Ones.{real_in, real_of, reaped_by}
+use Rattle.seam_ones.specs.Ones.{real_in, real_of}
 use Rattle.seam_ones.proofs.Plain.{SeesNoGhost, ghosts_silent, mapped_silent, numbered_silent}
 use Rattle.seam_ones.proofs.Replaying.{acts_replays, replays_none}
 use Rattle.seam_ones.proofs.RealsKept.{executed_fits, held_fits, ready_fits, settled_fits, home_is_low}
@@ -153,7 +153,7 @@ module _ (f : Frame) (defs : AreDefs f.defs) (e ty k : ℕ) (s : Has) (i : Optio
           settled_fits f defs e ty k q j j old (q.beat + 1) (q.generation + 1) fits
           (home_is_low f defs e ty k q.state.pos j at is.home))
 
-  cell_handled : ((r : RealView) → i ≡ Some (Hand r) → FindsRoom f k s r) → ((m : Msg) → i ≡ Some m → reaped_by m ≡ None) →
+  cell_handled : ((r : RealView) → i ≡ Some (Hand r) → FindsRoom f k s r) → ((r : RealView) → real_in s ≡ Some r → i ≡ Some (Reap e) → ⊥) →
       CellMoves (here_at f k) f.tree e s.cell i t.cell sent → Handled
   cell_handled room spared (move.rests n d) = rests (real_is _ s.cell d) (none_of n) (silent_of _ s.cell d tt)
   cell_handled room spared (move.strays m n b d) = rests (real_is _ s.cell d) (stray_none room m n b) (silent_of _ s.cell d tt)
@@ -177,7 +177,7 @@ module _ (f : Frame) (defs : AreDefs f.defs) (e ty k : ℕ) (s : Has) (i : Optio
       rests (real_is _ s.cell d) (came_none (GhostSet e n c) h refl) (silent_of _ s.cell d tt)
   cell_handled room spared (move.hears_drop n h d) =
       rests (real_is _ s.cell d) (came_none (GhostDrop e n) h refl) (silent_of _ s.cell d tt)
-  cell_handled room spared (move.reaped r n has own may d) = absurd (let no = spared (Reap e) n in cc)
+  cell_handled room spared (move.reaped r n has own may d) = absurd (spared r has n)
   cell_handled room spared (move.ticks n st se) =
       rests (ap (λ a. a.slot.real) st) (came_none Tick n refl) (subst (IsSilent real_of) (sym se) tt)
   cell_handled room spared (move.unlists n h at b d) =
@@ -242,7 +242,7 @@ module _ (f : Frame) (defs : AreDefs f.defs) (e ty k : ℕ) (s : Has) (i : Optio
   base_handled high room cells (base_move.shows p n has is may a z) same = rests same (none_of n) (quiet z)
   base_handled high room cells (base_move.stuck_client p n has is may a z) same = rests same (none_of n) (quiet z)
 
-  pub handled : ((r : RealView) → i ≡ Some (Hand r) → FindsRoom f k s r) → ((m : Msg) → i ≡ Some m → reaped_by m ≡ None) →
+  pub handled : ((r : RealView) → i ≡ Some (Hand r) → FindsRoom f k s r) → ((r : RealView) → real_in s ≡ Some r → i ≡ Some (Reap e) → ⊥) →
       Moves f e k s i t sent → Handled
   handled room spared (at_a_cell low m same) = cell_handled room spared m
   handled room spared (at_a_base high m same) = base_handled high room _ m (ap (λ c. c.slot.real) same)

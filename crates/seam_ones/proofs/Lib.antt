@@ -10,3 +10,4 @@ pub mod Sparing
 pub mod OneReal
 pub mod Counting
 pub mod ExampleMet
+pub mod Gone

@@ -1,6 +1,6 @@
 -- Exactly one real: each event leaves the one real at a place that is known, and it replays its calls.
-use Rattle.std.proofs.Common.{◌≡◌, ℕ, ◌+◌, ◌*◌, ◌<◌, ◌≤◌, Bool, true, false, ◌&&◌, nat_lt, List, [], ◌∷◌, length, ◌⊎◌, Option, None, Some, refl, sym, ap, ◌∙◌, subst, arith, inl, inr}
-use Rattle.std.specs.List.{AllByRecursion, list_all, range_with_len}
+use Rattle.std.proofs.Common.{◌≡◌, ℕ, ◌+◌, ◌*◌, ◌<◌, ◌≤◌, Bool, true, false, ◌&&◌, nat_lt, is_some, List, [], ◌∷◌, length, ◌⊎◌, Option, None, Some, refl, sym, ap, ◌∙◌, subst, arith, inl, inr}
+use Rattle.std.specs.List.{AllByRecursion, list_all}
 use Rattle.std.specs.FinSet as set
 use Rattle.std.proofs.lemmas.Bool.{cases_eq}
 use Rattle.std.proofs.lemmas.Bool.Decides.{nat_tests}
@@ -8,13 +8,15 @@ use Rattle.seam_tree.specs.Division.{cells_of}
 use Rattle.seam_defs.specs.declared.flags.Group.TheVariants as group
 use Rattle.seam_defs.specs.Types.{AreDefs}
 use Rattle.seam_defs.proofs.TestLemmas.{of_group-Decides}
-use Rattle.seam_machine.specs.Nets.{happens, enabled, LeadsTo}
+use Rattle.seam_machine.specs.Nets.{happens, enabled, run, AllEnabled, LeadsTo}
 use Rattle.seam_machine.specs.Events.{Occurs}
 use Rattle.seam_machine.specs.Sends.{items_to}
+use Rattle.seam_machine.specs.declared.machines.Input.{Input}
+use Rattle.seam_machine.specs.declared.machines.Input.TheVariants.{Task, From}
 use Rattle.seam_machine.specs.declared.machines.Event.{Event}
 use Rattle.seam_machine.proofs.Occurring.{occurs}
 use Rattle.seam_runs.proofs.Runs.{leads_keeps}
-use Rattle.seam_flows.specs.Flows.{Flow, Goes, comes, letters_of}
+use Rattle.seam_flows.specs.Flows.{Goes, comes, letter_in, letters_of}
 use Rattle.seam_flows.specs.Tokens.{carried_in, Place, In, On, Sole, Handles, still, turns, lands, leaves, relays, place_after, token_after}
 use Rattle.seam_flows.proofs.Following.{slots_kept, letters_kept, came}
 use Rattle.seam_flows.proofs.TokenLemmas.{sole_came, sole_goes, token_turns}
@@ -28,13 +30,13 @@ use Rattle.seam_steps.specs.Reals.{fits_cell_part}
 use Rattle.seam_steps.specs.CellCases.{haunts_cell, is_cell_if, may_come}
 use Rattle.seam_steps.specs.Nodes.{World, node_steps, node_has_work}
 use Rattle.seam_moves.specs.Frames.{Frame, here_at, IsInFrame}
-use Rattle.seam_moves.specs.Sights.{Has, entity_flow}
+use Rattle.seam_moves.specs.Sights.{Has, concerns, kept_if, mine, entity_flow}
 use Rattle.seam_moves.specs.Moves.{MovesTo}
 use Rattle.seam_moves.proofs.Classify.{frame_happens, event_moves_with}
 use Rattle.seam_ones.specs.Replays.{Replays}
 use Rattle.seam_ones.specs.Fits.{RealFits, IsFitReal, IsFitHand}
 use Rattle.seam_ones.specs.Burdens.{real_burden, held_in}
-use Rattle.seam_ones.specs.Ones.{real_in, real_of, reaped_by, HasNoReaps, IsSpared, AllFits, IsFrame, HasOne, OneFrom}
+use Rattle.seam_ones.specs.Ones.{real_in, real_of, reaped_by, HasNoReaps, IsSpared, AllFits, IsFrame, HasOne, OneFrom, reaps, NoReapComes}
 use Rattle.seam_ones.proofs.Holds.{all_two}
 use Rattle.seam_ones.proofs.Replaying.{replays_none, replays_on}
 use Rattle.seam_ones.proofs.Handling.{FindsRoom, StillFits, Handled, handled}
@@ -84,7 +86,7 @@ hand_is Tick r h = cc
 hand_is (Reap e) r h = cc
 hand_is (Update u) r h = cc
 
-came_hand : (i : Option Msg) (r : RealView) → carried_in real_of i ≡ Some r → i ≡ Some (Hand r)
+pub came_hand : (i : Option Msg) (r : RealView) → carried_in real_of i ≡ Some r → i ≡ Some (Hand r)
 came_hand None r h = cc
 came_hand (Some m) r h = ap Some (hand_is m r h)
 
@@ -105,7 +107,7 @@ module _ (P : RealView → Type 0) where
   hands_by (Reap e) ms h more = ((λ r is. cc), more h)
   hands_by (Update u) ms h more = ((λ r is. cc), more h)
 
-  hands_all : (ms : List Msg) → AllByRecursion P (letters_of real_of ms) → AllByRecursion OfHand ms
+  pub hands_all : (ms : List Msg) → AllByRecursion P (letters_of real_of ms) → AllByRecursion OfHand ms
   hands_all [] h = tt
   hands_all (m ∷ ms) h = hands_by m ms h (hands_all ms)
 
@@ -155,15 +157,17 @@ module _ (f : Frame) (defs : AreDefs f.defs) (e ty k : ℕ) (s : Has) (i : Optio
 
 -- ---- an event
 
-module _ (f : Frame) (frame : IsFrame f) (e ty : ℕ) (known : ty < length f.defs) (w : World) (v : Event) (o : Occurs w v) (has : HasOne f e ty w) where
+module _ (f : Frame) (frame : IsFrame f) (e ty : ℕ) (known : ty < length f.defs) (w : World) (v : Event) (o : Occurs w v) (has : HasOne f e ty w)
+    (calm : letter_in (mine e) o.input ≡ Some (Reap e) → ⊥) where
+  -- a hand-over that comes has small numbers, and no Reap comes
   abbrev Came : Option Msg → Type 0
-  Came i = (r : RealView) → i ≡ Some (Hand r) → real_burden r < limit
+  Came i = ((r : RealView) → i ≡ Some (Hand r) → real_burden r < limit) × (i ≡ Some (Reap e) → ⊥)
 
   abbrev next : World
   next = happens node_steps w v
 
   goes : Goes (λ k s i t out. MovesTo f e k s i t out × Came i) (entity_flow e w) (entity_flow e next)
-  goes = event_moves_with f w v o has.fits.frame e Came (came_small f e w v o has.fits.frame has.fits.room)
+  goes = event_moves_with f w v o has.fits.frame e (λ s i. Came i) (came_small f e w v o has.fits.frame has.fits.room, calm)
 
   abbrev node : ℕ
   node = goes.k
@@ -187,16 +191,13 @@ module _ (f : Frame) (frame : IsFrame f) (e ty : ℕ) (known : ty < length f.def
       record {
         cell = omega (arith, low, most);
         free = free_by has.place c.0 c.1 has.one;
-        may = may_land f e ty node r known fits (goes.moves.1 r is);
+        may = may_land f e ty node r known fits (goes.moves.1.0 r is);
       }
-
-  unreaped : (m : Msg) → letter ≡ Some m → reaped_by m ≡ None
-  unreaped m is = (came (λ a k m. reaped_by m ≡ None) goes m is has.spared.letters).1
 
   what : Handled f frame.defs e ty node ((entity_flow e w).slot node) letter ((entity_flow e next).slot node) goes.moves.0.sent goes.out goes.moves.0.items
   what =
       handled f frame.defs e ty node ((entity_flow e w).slot node) letter ((entity_flow e next).slot node) goes.moves.0.sent goes.out
-      goes.moves.0.items room unreaped goes.moves.0.moves
+      goes.moves.0.items room (λ r h. goes.moves.1.1) goes.moves.0.moves
 
   fits_next : AllFits f e ty next
   fits_next =
@@ -213,18 +214,6 @@ module _ (f : Frame) (frame : IsFrame f) (e ty : ℕ) (known : ty < length f.def
         room = omega (arith, eased, few);
       }
 
-  spared_next : IsSpared e next
-  spared_next = record {
-    orders =
-        slots_kept (λ k s. HasNoReaps s) goes has.spared.orders
-        (orders_spared f e node _ letter _ goes.moves.0.sent (has.spared.orders node) goes.moves.0.moves);
-    letters =
-        letters_kept (λ a k m. reaped_by m ≡ None) goes has.spared.letters (λ j.
-        subst (AllByRecursion (λ m. reaped_by m ≡ None)) (sym (goes.moves.0.items j))
-        (items_all (λ m. reaped_by m ≡ None) j goes.moves.0.sent
-        (sent_spared f e node _ letter _ goes.moves.0.sent (has.spared.orders node) goes.moves.0.moves)));
-  }
-
   either_replays : (q : RealView) → (q ≡ has.real) ⊎ Replays f has.real q → Replays f has.real q
   either_replays q (inl same) = subst (Replays f has.real) (sym same) (replays_none f has.real)
   either_replays q (inr a) = a
@@ -234,7 +223,6 @@ module _ (f : Frame) (frame : IsFrame f) (e ty : ℕ) (known : ty < length f.def
   one_happens = record {
     has = record {
       fits = fits_next;
-      spared = spared_next;
       place = place_after node what.0 has.place;
       real = token_after what.0 has.real;
       one = sole_goes real_in real_of (Replays f) goes has.place has.real has.one what.0;
@@ -243,15 +231,76 @@ module _ (f : Frame) (frame : IsFrame f) (e ty : ℕ) (known : ty < length f.def
         either_replays (token_after what.0 has.real) (token_turns real_in real_of (Replays f) goes has.place has.real has.one what.0);
   }
 
+-- ---- a run without a Reap
+
+reap_by : (e : ℕ) (i : Input Msg) → reaps e (Some i) ≡ false → letter_in (mine e) i ≡ Some (Reap e) → ⊥
+reap_by e Task h is = cc
+reap_by e (From a m) h is = mine_by (concerns e m) refl is
+  where
+    mine_by : (b : Bool) → concerns e m ≡ b → kept_if b m ≡ Some (Reap e) → ⊥
+    mine_by true c at =
+        let same : m ≡ Reap e = cc in
+        let yes : (is_some (reaped_by m) && concerns e m) ≡ true = ap (λ x. is_some (reaped_by x) && concerns e m) same ∙ c in
+        let both = sym yes ∙ h in
+        cc
+    mine_by false c at = cc
+
 module _ (f : Frame) (frame : IsFrame f) (e ty : ℕ) (known : ty < length f.defs) where
-  one_more : (start : RealView) (w : World) (v : Event) → OneFrom f e ty start w → enabled node_has_work w v ≡ true →
-      OneFrom f e ty start (happens node_steps w v)
-  one_more start w v h on =
-      let more = one_happens f frame e ty known w v (occurs node_has_work w v on) h.has in
-      record { has = more.has; replays = replays_on f start h.has.real more.has.real h.replays more.replays }
+  pub one_until : (w : World) (es : List Event) (h : HasOne f e ty w) → AllEnabled node_has_work node_steps w es → NoReapComes e w es →
+      OneFrom f e ty h.real (run node_steps w es)
+  one_until w [] h on calm = record { has = h; replays = replays_none f h.real }
+  one_until w (v ∷ es) h on calm =
+      let o = occurs node_has_work w v on.0 in
+      let none : reaps e (Some o.input) ≡ false = sym (ap (reaps e) o.is_fed) ∙ calm.0 in
+      let more = one_happens f frame e ty known w v o h (reap_by e o.input none) in
+      let rest = one_until (happens node_steps w v) es more.has on.1 calm.1 in
+      record { has = rest.has; replays = replays_on f h.real more.has.real rest.has.real more.replays rest.replays }
+
+-- ---- a run of an entity that no one reaps
+
+-- it is spared after an event too
+module _ (f : Frame) (e : ℕ) (w : World) (v : Event) (o : Occurs w v) (q : IsInFrame f w) (spared : IsSpared e w) where
+  abbrev Fed : Option Msg → Type 0
+  Fed i = i ≡ letter_in (mine e) o.input
+
+  flows : Goes (λ k s i t out. MovesTo f e k s i t out × Fed i) (entity_flow e w) (entity_flow e (happens node_steps w v))
+  flows = event_moves_with f w v o q e (λ s i. Fed i) refl
+
+  pub calm_of : letter_in (mine e) o.input ≡ Some (Reap e) → ⊥
+  calm_of h = let none = (came (λ a k m. reaped_by m ≡ None) flows (Reap e) (flows.moves.1 ∙ h) spared.letters).1 in cc
+
+  pub spared_happens : IsSpared e (happens node_steps w v)
+  spared_happens = record {
+    orders =
+        slots_kept (λ k s. HasNoReaps s) flows spared.orders
+        (orders_spared f e flows.k _ (comes flows.input) _ flows.moves.0.sent (spared.orders flows.k) flows.moves.0.moves);
+    letters =
+        letters_kept (λ a k m. reaped_by m ≡ None) flows spared.letters (λ j.
+        subst (AllByRecursion (λ m. reaped_by m ≡ None)) (sym (flows.moves.0.items j))
+        (items_all (λ m. reaped_by m ≡ None) j flows.moves.0.sent
+        (sent_spared f e flows.k _ (comes flows.input) _ flows.moves.0.sent (spared.orders flows.k) flows.moves.0.moves)));
+  }
+
+module _ (f : Frame) (frame : IsFrame f) (e ty : ℕ) (known : ty < length f.defs) where
+  record Spared (start : RealView) (w : World) : Type 0 where
+    one : OneFrom f e ty start w
+    spared : IsSpared e w
+
+  spared_more : (start : RealView) (w : World) (v : Event) → Spared start w → enabled node_has_work w v ≡ true →
+      Spared start (happens node_steps w v)
+  spared_more start w v h on =
+      let o = occurs node_has_work w v on in
+      let has = h.one.has in
+      let more = one_happens f frame e ty known w v o has (calm_of f e w v o has.fits.frame h.spared) in
+      record {
+        one = record { has = more.has; replays = replays_on f start has.real more.has.real h.one.replays more.replays };
+        spared = spared_happens f e w v o has.fits.frame h.spared;
+      }
 
   -- after every list of events
-  pub one_leads : (w v : World) (es : List Event) (h : HasOne f e ty w) → LeadsTo node_has_work node_steps w es v → OneFrom f e ty h.real v
-  one_leads w v es h run =
-      leads_keeps node_has_work node_steps (OneFrom f e ty h.real) (one_more h.real) w v es
-      (record { has = h; replays = replays_none f h.real }) run
+  pub one_leads : (w v : World) (es : List Event) (h : HasOne f e ty w) → IsSpared e w → LeadsTo node_has_work node_steps w es v →
+      OneFrom f e ty h.real v
+  one_leads w v es h spared run =
+      (leads_keeps node_has_work node_steps (Spared h.real) (spared_more h.real) w v es
+      (record { one = record { has = h; replays = replays_none f h.real }; spared = spared }) run).one
+

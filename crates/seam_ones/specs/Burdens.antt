@@ -21,7 +21,7 @@ held_of o = length o.held
 abbrev pub held_in : Orders → ℕ
 held_in os = map_total held_of os
 
--- a call may raise each of the three numbers by one, and an entry of the survey list the latter two
+-- a call may raise each of the three numbers by one, an entry of the survey list the latter two, and a reap the beat
 abbrev pub real_burden : RealView → ℕ
 real_burden r = r.version + (r.beat + (r.generation + 3 * held_in r.orders))
 
@@ -29,7 +29,7 @@ abbrev pub order_burden : Order → ℕ
 order_burden (order.Cell c) = 3
 order_burden (order.Base c) = 0
 order_burden order.Tick = 0
-order_burden (order.Reap e) = 0
+order_burden (order.Reap e) = 1
 
 abbrev pub letter_burden : Msg → ℕ
 letter_burden (Call c) = 3
@@ -39,7 +39,7 @@ letter_burden (Current e j g) = 0
 letter_burden (GhostSet e n c) = 0
 letter_burden (GhostDrop e n) = 0
 letter_burden Tick = 0
-letter_burden (Reap e) = 0
+letter_burden (Reap e) = 1
 letter_burden (Update u) = 0
 
 abbrev pub has_burden : Has → ℕ

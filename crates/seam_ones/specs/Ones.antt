@@ -1,19 +1,22 @@
 -- Exactly one real: where it is, and what it is.
-use Rattle.std.specs.Prelude.{◌≡◌, ℕ, ◌<◌, ◌≤◌, List, length, Option, None, Some}
+use Rattle.std.specs.Prelude.{◌≡◌, ℕ, ◌<◌, Bool, false, ◌&&◌, is_some, List, [], ◌∷◌, Option, None, Some}
 use Rattle.std.specs.List.{AllByRecursion}
 use Rattle.seam_tree.specs.Division.{IsTree}
 use Rattle.seam_defs.specs.Types.{AreDefs}
-use Rattle.seam_flows.specs.Flows.{Flow}
-use Rattle.seam_flows.specs.Tokens.{Place, In, On, Sole}
+use Rattle.seam_flows.specs.Tokens.{Place, Sole}
 use Rattle.seam_call.specs.declared.order.Order.{Order}
 use Rattle.seam_call.specs.declared.order.Order.TheVariants as order
 use Rattle.seam_entity.specs.Reals.{RealView}
 use Rattle.seam_entity.specs.declared.message.Msg.{Msg}
 use Rattle.seam_entity.specs.declared.message.Msg.TheVariants.{Call, BaseCall, Hand, Current, GhostSet, GhostDrop, Tick, Reap, Update}
 use Rattle.seam_steps.specs.Numbers.{limit}
-use Rattle.seam_steps.specs.Nodes.{World}
+use Rattle.seam_machine.specs.Nets.{input_from, happens}
+use Rattle.seam_machine.specs.declared.machines.Input.{Input}
+use Rattle.seam_machine.specs.declared.machines.Input.TheVariants.{Task, From}
+use Rattle.seam_machine.specs.declared.machines.Event.{Event}
+use Rattle.seam_steps.specs.Nodes.{World, node_steps}
 use Rattle.seam_moves.specs.Frames.{Frame, IsInFrame}
-use Rattle.seam_moves.specs.Sights.{Has, entity_flow}
+use Rattle.seam_moves.specs.Sights.{Has, concerns, entity_flow}
 use Rattle.seam_ones.specs.Fits.{IsFitReal, IsFitHand}
 use Rattle.seam_ones.specs.Burdens.{burden}
 use Rattle.seam_ones.specs.Replays.{Replays}
@@ -84,7 +87,6 @@ pub record IsFrame (f : Frame) : Type 0 where
 -- what a world has of an entity whose one real is r, at that place
 pub record HasOne (f : Frame) (e ty : ℕ) (w : World) : Type 0 where
   pub fits : AllFits f e ty w
-  pub spared : IsSpared e w
   pub place : Place
   pub real : RealView
   pub one : IsOne e w place real
@@ -93,3 +95,16 @@ pub record HasOne (f : Frame) (e ty : ℕ) (w : World) : Type 0 where
 pub record OneFrom (f : Frame) (e ty : ℕ) (start : RealView) (w : World) : Type 0 where
   pub has : HasOne f e ty w
   pub replays : Replays f start has.real
+
+-- ---- reaps
+
+-- the input is the entity's Reap
+abbrev pub reaps : ℕ → Option (Input Msg) → Bool
+reaps e None = false
+reaps e (Some Task) = false
+reaps e (Some (From a m)) = is_some (reaped_by m) && concerns e m
+
+-- none of the events feeds the entity's Reap to a node
+abbrev pub NoReapComes : ℕ → World → List Event → Type 0
+NoReapComes e w [] = Unit {0}
+NoReapComes e w (v ∷ es) = (reaps e (input_from w.rows v.node v.from) ≡ false) × NoReapComes e (happens node_steps w v) es
