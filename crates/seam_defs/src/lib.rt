@@ -1,8 +1,9 @@
 //! Definitions of entities: types, properties with their distribution flags, methods whose bodies are lists of simple
 //! operations, and what one deed does to a state.
 //!
-//! Of `proofs/`, `NameSearch` (a name among names in rising order), `Numbers` (the type of a number is well formed) and
-//! `WellFormed` (the built-in types are) are for callers.
+//! Of `proofs/`, `NameSearch` (a name among names in rising order), `Numbers` (the type of a number is well formed), `Keeping` (a
+//! method keeps the values of its group), `TestLemmas` (the tests are their relations) and `WellFormed` (the built-in types are well
+//! formed) are for callers.
 #![tactic(auto)]
 
 mod builtin;

@@ -1,5 +1,5 @@
 //! Which cells have a ghost of a real: those near enough, and those that had one and are not yet far (BigWorld Server
-//! Overview, ghost entities).
+//! Overview, ghost entities). For callers, `proofs/Chosen` says which numbers of a range are in a set that was chosen by a test.
 #![tactic(auto)]
 
 ghost use Rattle.std.specs.Prelude.{◌≡◌, ℕ, ◌<◌, ◌↔◌, IsTrue};

@@ -14,7 +14,10 @@ use Rattle.seam_steps.specs.Maps.{Map}
 use Rattle.seam_steps.specs.CellCases.{about}
 use Rattle.seam_steps.specs.Bases.{BaseView, RouteView, PartView, ProxyView, with_part}
 use Rattle.seam_steps.specs.BaseCases
-use Rattle.seam_steps.specs.BaseCases.{may_call, may_execute, may_show, offered, after_ready, executes_ready, after_showing, is_base_node_of, tick_to, on_route, stray_base_call, stray_current, stray_update, stray_order, order_of_node, base_order, base_task, task_without_orders, proxy_task, ready_part, ready_proxy, part_is_ready, sends_none, unless_stray, is_stray, case_of, base_steps}
+use Rattle.seam_steps.specs.BaseCases.{may_call, may_execute, may_show, offered, after_ready, executes_ready, after_showing}
+use Rattle.seam_steps.specs.BaseCases.{is_base_node_of, tick_to, on_route, stray_base_call, stray_current, stray_update, stray_order}
+use Rattle.seam_steps.specs.BaseCases.{order_of_node, base_order, base_task, task_without_orders, proxy_task, ready_part, ready_proxy}
+use Rattle.seam_steps.specs.BaseCases.{part_is_ready, sends_none, unless_stray, is_stray, case_of, base_steps}
 use Rattle.seam_moves.specs.Sights.{mine, concerning, orders_of, AtBase, at_base}
 use Rattle.seam_moves.specs.BaseMoves as move
 use Rattle.seam_moves.specs.BaseMoves.{strays_at, is_stuck, newer, part_offered, updated, BaseMoves}
@@ -115,7 +118,8 @@ module _ (e : ℕ) (b : BaseView) where
   current_by new r false has is = move.reroutes new r refl has is (rerouted new r has) refl
 
   current_at : (new : RouteView) (o : Option RouteView) → table.get b.routes e ≡ o →
-      Goal (Some (Current e new.cell new.generation)) (unless_stray (stray_current new o) b (sends_none (BaseCases.current b e new o))).state []
+      Goal (Some (Current e new.cell new.generation))
+      (unless_stray (stray_current new o) b (sends_none (BaseCases.current b e new o))).state []
   current_at new None has = move.strays (Current e new.cell new.generation) refl (ap (stray_current new) has) refl refl
   current_at new (Some r) has = current_by new r (stray_current new (Some r)) has refl
 
@@ -163,7 +167,8 @@ module _ (e : ℕ) (b : BaseView) where
   current_other x new None n = refl
   current_other x new (Some r) n = newer_other (nat_lt r.generation new.generation) x new n
 
-  proxy_other : (u : UpdateData) (p : PartView) (x : Option ProxyView) → (u.entity ≡ e → ⊥) → at_base e (BaseCases.updated_proxy b u p x) ≡ s
+  proxy_other : (u : UpdateData) (p : PartView) (x : Option ProxyView) → (u.entity ≡ e → ⊥) →
+      at_base e (BaseCases.updated_proxy b u p x) ≡ s
   proxy_other u p None n = refl
   proxy_other u p (Some x) n = part_other u.entity _ n
 

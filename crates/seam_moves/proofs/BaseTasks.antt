@@ -1,5 +1,6 @@
 -- A task of a base node is, for each entity, one of the moves.
-use Rattle.std.proofs.Common.{◌≡◌, ℕ, ◌⊎◌, Bool, true, false, not, ◌&&◌, List, [], ◌∷◌, map, is_none, Option, None, Some, refl, sym, ap, ◌∙◌, subst, inl, inr}
+use Rattle.std.proofs.Common.{◌≡◌, ℕ, ◌⊎◌, Bool, true, false, not, ◌&&◌, List, [], ◌∷◌, map, is_none, Option, None, Some, refl, sym, ap}
+use Rattle.std.proofs.Common.{◌∙◌, subst, inl, inr}
 use Rattle.std.specs.List.{AllByRecursion, range_with_len}
 use Rattle.std.specs.FinMap as table
 use Rattle.std.proofs.lemmas.Bool.{cases_eq}
@@ -17,11 +18,15 @@ use Rattle.seam_steps.specs.CellCases.{about}
 use Rattle.seam_steps.specs.Calls.{has_ready, ready_order}
 use Rattle.seam_steps.specs.Bases.{BaseView, RouteView, PartView, ProxyView, with_part}
 use Rattle.seam_steps.specs.BaseCases
-use Rattle.seam_steps.specs.BaseCases.{may_call, may_execute, may_show, after_ready, executes_ready, after_showing, is_base_node_of, tick_to, on_route, stray_base_call, stray_order, order_of_node, base_order, base_task, task_without_orders, proxy_task, ready_part, ready_proxy, part_is_ready, client_is_ready, sends_none, unless_stray}
+use Rattle.seam_steps.specs.BaseCases.{may_call, may_execute, may_show, after_ready, executes_ready, after_showing, is_base_node_of}
+use Rattle.seam_steps.specs.BaseCases.{tick_to, on_route, stray_base_call, stray_order, order_of_node, base_order, base_task}
+use Rattle.seam_steps.specs.BaseCases.{task_without_orders, proxy_task, ready_part, ready_proxy, part_is_ready, client_is_ready, sends_none}
+use Rattle.seam_steps.specs.BaseCases.{unless_stray}
 use Rattle.seam_moves.specs.Sights.{concerns, concerning, order_about, orders_of, AtBase, at_base}
 use Rattle.seam_moves.specs.BaseMoves as move
 use Rattle.seam_moves.specs.BaseMoves.{is_stuck, part_offered, BaseMoves}
-use Rattle.seam_moves.proofs.Lists.{AllAbout, all_pass, concerned_own, concerned_other, concerning_own, concerning_other, orders_own, orders_other}
+use Rattle.seam_moves.proofs.Lists.{AllAbout, all_pass, concerned_own, concerned_other, concerning_own, concerning_other, orders_own}
+use Rattle.seam_moves.proofs.Lists.{orders_other}
 use Rattle.seam_moves.proofs.BaseSteps.{gone_own, gone_other, at_same, yes_of, part_own, part_other}
 
 both_no : (a b : Bool) → (a && b) ≡ false → a ≡ true → b ≡ false
@@ -41,7 +46,8 @@ module _ (e : ℕ) (b : BaseView) where
     abbrev d : BaseView
     d = record b { orders = os }
 
-    route_moves : (c : CallData) (o : Option RouteView) → s.orders ≡ order.Cell c ∷ orders_of e os → c.entity ≡ e → table.get b.routes e ≡ o →
+    route_moves : (c : CallData) (o : Option RouteView) → s.orders ≡ order.Cell c ∷ orders_of e os → c.entity ≡ e →
+        table.get b.routes e ≡ o →
         is_none o ≡ false → Goal (record { state = d; sent = on_route o (Call c) })
     route_moves c None at is has sound = cc
     route_moves c (Some r) at is has sound =
@@ -50,7 +56,8 @@ module _ (e : ℕ) (b : BaseView) where
     own_part : (p : PartView) (x : ℕ) → x ≡ e → at_base e (with_part d x p) ≡ record s { orders = orders_of e os; part = Some p }
     own_part p x is = ap (λ z. at_base e (with_part d z p)) is ∙ part_own e d p
 
-    called_moves : (c : CallData) (o : Option PartView) → s.orders ≡ order.Base c ∷ orders_of e os → c.entity ≡ e → is_base_node_of b.here e ≡ true →
+    called_moves : (c : CallData) (o : Option PartView) → s.orders ≡ order.Base c ∷ orders_of e os → c.entity ≡ e →
+        is_base_node_of b.here e ≡ true →
         table.get b.parts e ≡ o →
         stray_base_call b.here c o ≡ false → Goal (sends_none (BaseCases.part_called d c o))
     called_moves c None at is here has sound = cc
@@ -109,7 +116,8 @@ module _ (e : ℕ) (b : BaseView) where
         let same : x ≡ e = cc in
         sym (ap (λ z. is_none (table.get b.routes z)) same) ∙ h
 
-    own_by : (o : Order) (t : Bool) → b.orders ≡ o ∷ os → order_about o ≡ Some e → stray_order b o ≡ t → Goal (unless_stray t b (order_of_node d o))
+    own_by : (o : Order) (t : Bool) → b.orders ≡ o ∷ os → order_about o ≡ Some e → stray_order b o ≡ t →
+        Goal (unless_stray t b (order_of_node d o))
     own_by o true at is h =
         let first = ap (orders_of e) at ∙ orders_own e o os (concerned_own e (order_about o) is) in
         move.stuck_order o (orders_of e os) refl first (stuck_is o is h) refl refl

@@ -1,5 +1,6 @@
 -- A step of a cell is, for each entity, one of the moves.
-use Rattle.std.proofs.Common.{◌≡◌, ℕ, ◌⊎◌, Bool, true, false, cond, List, [], ◌∷◌, find, Option, None, Some, refl, sym, ap, ◌∙◌, subst, inl, inr}
+use Rattle.std.proofs.Common.{◌≡◌, ℕ, ◌⊎◌, Bool, true, false, cond, List, [], ◌∷◌, find, Option, None, Some, refl, sym, ap, ◌∙◌, subst, inl}
+use Rattle.std.proofs.Common.{inr}
 use Rattle.std.specs.Prelude.{option_map}
 use Rattle.std.specs.Ordering.{nat_cmp, eq_by_cmp}
 use Rattle.std.specs.Cmp.{unsigned_tied}
@@ -17,13 +18,15 @@ use Rattle.seam_steps.specs.Calls.{has_ready}
 use Rattle.seam_steps.specs.Slots.{Slot, SlotStep, slot_after}
 use Rattle.seam_steps.specs.CellCases.{about, slot_steps, stray_survey, stray_ready_call}
 use Rattle.seam_steps.specs.Looks.{stray_look}
-use Rattle.seam_steps.specs.Cells.{CellView, slot_of, after_slot, unlisted_by, stepped, cell_steps, cell_task, ready_next, look_next, cell_hears, ready_entity, real_is_ready, surveys, calls_ready, looks_around, known_to}
+use Rattle.seam_steps.specs.Cells.{CellView, slot_of, after_slot, unlisted_by, stepped, cell_steps, cell_task, ready_next, look_next}
+use Rattle.seam_steps.specs.Cells.{cell_hears, ready_entity, real_is_ready, surveys, calls_ready, looks_around, known_to}
 use Rattle.seam_steps.specs.Valid.{AreUnderTheirEntities}
 use Rattle.seam_steps.proofs.Slots.{slot_stepped}
 use Rattle.seam_moves.specs.Sights.{mine, concerning, times, AtCell, at_cell}
 use Rattle.seam_moves.specs.CellMoves as move
 use Rattle.seam_moves.specs.CellMoves.{unlisted_if, after_step, Does, CellMoves, looks_after_tick}
-use Rattle.seam_moves.proofs.Lists.{AllAbout, mine_own, mine_other, concerning_own, concerning_other, times_own, times_other, times_without, times_without_other}
+use Rattle.seam_moves.proofs.Lists.{AllAbout, mine_own, mine_other, concerning_own, concerning_other, times_own, times_other, times_without}
+use Rattle.seam_moves.proofs.Lists.{times_without_other}
 use Rattle.seam_moves.proofs.Sent.{slot_about, surveys_about, readies_about, looks_about}
 use Rattle.seam_moves.proofs.SlotSteps.{message_moves, survey_moves, ready_moves, look_moves}
 use Rattle.seam_moves.proofs.Ticking.{ticked}
@@ -40,25 +43,29 @@ slot_own c e x = slot_stepped c e e x ∙ ap (λ b. cond b (slot_after x.slot (s
 slot_other : (c : CellView) (y e : ℕ) (x : SlotStep) → (y ≡ e → ⊥) → slot_of (stepped c y x).state e ≡ slot_of c e
 slot_other c y e x n = slot_stepped c y e x ∙ ap (λ b. cond b (slot_after x.slot (slot_of c y)) (slot_of c e)) (apart e y n)
 
-survey_own : (b : Bool) (c : CellView) (e : ℕ) (o : Option Slot) → times e (unlisted_by b (after_slot c e o) e).survey ≡ unlisted_if b (times e c.survey)
+survey_own : (b : Bool) (c : CellView) (e : ℕ) (o : Option Slot) →
+    times e (unlisted_by b (after_slot c e o) e).survey ≡ unlisted_if b (times e c.survey)
 survey_own true c e None = times_without e c.survey
 survey_own true c e (Some s) = times_without e c.survey
 survey_own false c e None = refl
 survey_own false c e (Some s) = refl
 
-looks_own : (b : Bool) (c : CellView) (e : ℕ) (o : Option Slot) → times e (unlisted_by b (after_slot c e o) e).looks ≡ unlisted_if b (times e c.looks)
+looks_own : (b : Bool) (c : CellView) (e : ℕ) (o : Option Slot) →
+    times e (unlisted_by b (after_slot c e o) e).looks ≡ unlisted_if b (times e c.looks)
 looks_own true c e None = times_without e c.looks
 looks_own true c e (Some s) = times_without e c.looks
 looks_own false c e None = refl
 looks_own false c e (Some s) = refl
 
-survey_other : (b : Bool) (c : CellView) (y e : ℕ) (o : Option Slot) → (y ≡ e → ⊥) → times e (unlisted_by b (after_slot c y o) y).survey ≡ times e c.survey
+survey_other : (b : Bool) (c : CellView) (y e : ℕ) (o : Option Slot) → (y ≡ e → ⊥) →
+    times e (unlisted_by b (after_slot c y o) y).survey ≡ times e c.survey
 survey_other true c y e None n = times_without_other e y c.survey n
 survey_other true c y e (Some s) n = times_without_other e y c.survey n
 survey_other false c y e None n = refl
 survey_other false c y e (Some s) n = refl
 
-looks_other : (b : Bool) (c : CellView) (y e : ℕ) (o : Option Slot) → (y ≡ e → ⊥) → times e (unlisted_by b (after_slot c y o) y).looks ≡ times e c.looks
+looks_other : (b : Bool) (c : CellView) (y e : ℕ) (o : Option Slot) → (y ≡ e → ⊥) →
+    times e (unlisted_by b (after_slot c y o) y).looks ≡ times e c.looks
 looks_other true c y e None n = times_without_other e y c.looks n
 looks_other true c y e (Some s) n = times_without_other e y c.looks n
 looks_other false c y e None n = refl
@@ -115,7 +122,8 @@ module _ (c : CellView) (keys : AreUnderTheirEntities c.reals) (e : ℕ) where
       look_moves c.here c.tree e (at_cell e c) (keys e) (at_cell e (stepped d e x).state) (concerning e x.sent) (times e es) (known_to c e)
       (ap (times e) (at ∙ ap (λ z. z ∷ es) is) ∙ times_own e es)
       (does_own d e x
-      (looks_about e c.here c.tree (slot_of c e) (stray_look c.here (table.get c.reals e) (known_to c e)) (table.get c.reals e) (known_to c e)
+      (looks_about e c.here c.tree (slot_of c e) (stray_look c.here (table.get c.reals e) (known_to c e)) (table.get c.reals e)
+      (known_to c e)
       (keys e))))
   look_by y es at (inr n) =
       let d = record c { looks = es } in
@@ -144,7 +152,8 @@ module _ (c : CellView) (keys : AreUnderTheirEntities c.reals) (e : ℕ) where
       (let x = calls_ready c e (table.get c.reals e) in
       let k = ready_found (find real_is_ready (table.entries c.reals)) e refl (at ∙ ap Some is) in
       ready_moves c.here c.tree e (at_cell e c) (keys e) (at_cell e (stepped c e x).state) (concerning e x.sent) k.0 k.1 k.2
-      (does_own c e x (readies_about e c.here c.tree (slot_of c e) (stray_ready_call (table.get c.reals e)) (table.get c.reals e) (keys e))))
+      (does_own c e x (readies_about e c.here c.tree (slot_of c e) (stray_ready_call (table.get c.reals e)) (table.get c.reals e)
+      (keys e))))
   ready_by y at (inr n) =
       let x = calls_ready c y (table.get c.reals y) in
       others None c y x refl n refl

@@ -54,7 +54,8 @@ pub concerning_other : (e x : ℕ) (ps : List (ℕ × Msg)) → AllAbout x ps �
 concerning_other e x ps h n = none_passes (λ p. concerns e p.1) ps (each_other e x ps h n)
 
 -- the letters to one node are what it gets of the sends that concern the entity
-letters_by : (e j : ℕ) (p : ℕ × Msg) (ps : List (ℕ × Msg)) (a b : Bool) → letters_of (mine e) (items_to j ps) ≡ items_to j (concerning e ps) →
+letters_by : (e j : ℕ) (p : ℕ × Msg) (ps : List (ℕ × Msg)) (a b : Bool) →
+    letters_of (mine e) (items_to j ps) ≡ items_to j (concerning e ps) →
     eqb p.0 j ≡ a →
     concerns e p.1 ≡ b →
     letters_of (mine e) (cond a (p.1 ∷ items_to j ps) (items_to j ps)) ≡ items_to j (cond b (p ∷ concerning e ps) (concerning e ps))

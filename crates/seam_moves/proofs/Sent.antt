@@ -22,7 +22,8 @@ use Rattle.seam_steps.specs.Here.{Here, cell_numbers, base_numbers, base_of}
 use Rattle.seam_steps.specs.Calls.{ready_order}
 use Rattle.seam_steps.specs.Reals.{executed, executed_ready, shows, copy_of_real}
 use Rattle.seam_steps.specs.Slots.{Slot, NextPlace, SlotStep, unless_stray}
-use Rattle.seam_steps.specs.Settle.{home_after, haunts_at, told, told_unless, ghost_message, ghost_messages, settled_by, settled, stays, goes, settled_to}
+use Rattle.seam_steps.specs.Settle.{home_after, haunts_at, told, told_unless, ghost_message, ghost_messages, settled_by, settled, stays}
+use Rattle.seam_steps.specs.Settle.{goes, settled_to}
 use Rattle.seam_steps.specs.CellCases
 use Rattle.seam_steps.specs.CellCases.{about, slot_steps, case_of, is_stray}
 use Rattle.seam_steps.specs.Looks.{Known, numbered, look_by, look_task}
@@ -61,7 +62,8 @@ module _ (e : ℕ) where
       AllAbout e (ghost_messages h r j haunts changed)
   ghosts_about h r j haunts changed is =
       chosen_about e (ghost_message h r j haunts changed)
-      (λ k. ghost_about ((k == h.me) || (k == j)) k r (r.beat + 1) (copy_of_real h r) (set.contains haunts k) (set.contains r.haunts k) changed is)
+      (λ k. ghost_about ((k == h.me) || (k == j)) k r (r.beat + 1) (copy_of_real h r) (set.contains haunts k) (set.contains r.haunts k)
+      changed is)
       cell_numbers
 
   pub stays_about : (h : Here) (t : Division) (s : Slot) (r : RealView) (changed : Bool) → r.entity ≡ e →

@@ -21,7 +21,8 @@ use Rattle.seam_steps.specs.Reals.{may_settle, may_execute, may_call, executed, 
 use Rattle.seam_steps.specs.Slots.{Slot, NextPlace, unless_stray}
 use Rattle.seam_steps.specs.Settle.{home_after, settled_by, settled}
 use Rattle.seam_steps.specs.CellCases
-use Rattle.seam_steps.specs.CellCases.{about, slot_steps, case_of, is_stray, may_come, stray_survey, stray_ready_call, survey_task, ready_call_task}
+use Rattle.seam_steps.specs.CellCases.{about, slot_steps, case_of, is_stray, may_come, stray_survey, stray_ready_call, survey_task}
+use Rattle.seam_steps.specs.CellCases.{ready_call_task}
 use Rattle.seam_steps.specs.Looks.{Known, shown_of, look_by, look_task, stray_look, stray_look_by}
 use Rattle.seam_moves.specs.Sights.{AtCell}
 use Rattle.seam_moves.specs.CellMoves as move
@@ -51,13 +52,15 @@ module _ (h : Here) (t : Division) (e : ℕ) (s : AtCell) (key : IsKey e s.slot)
   abbrev Goal : Option Msg → Type 0
   Goal i = CellMoves h t e s i v sent
 
-  module _ (i : Option Msg) (u : AtCell) (r q : RealView) (changed : Bool) (has : s.slot.real ≡ Some r) (acts : Acts h e s i r u q changed) where
-    by_home : (b : Bool) (j : ℕ) → home_after h t q.state.pos ≡ j → eqb j h.me ≡ b → Does u (settled_by b h t s.slot q changed j) v sent → Goal i
-    by_home true j at is d = move.stays u r q changed has (key r has) acts (at ∙ eqb-true j h.me is) d
-    by_home false j at is d = move.goes u r q changed j has (key r has) acts at (eqb-false j h.me is) d
+  module _ (i : Option Msg) (u : AtCell) (r q : RealView) (changed : Bool) (has : s.slot.real ≡ Some r) (acts : Acts h e s i r u q changed)
+    where
+      by_home : (b : Bool) (j : ℕ) → home_after h t q.state.pos ≡ j → eqb j h.me ≡ b → Does u (settled_by b h t s.slot q changed j) v sent →
+          Goal i
+      by_home true j at is d = move.stays u r q changed has (key r has) acts (at ∙ eqb-true j h.me is) d
+      by_home false j at is d = move.goes u r q changed j has (key r has) acts at (eqb-false j h.me is) d
 
-    settles : Does u (settled h t s.slot q changed) v sent → Goal i
-    settles d = by_home (home_after h t q.state.pos == h.me) (home_after h t q.state.pos) refl refl d
+      settles : Does u (settled h t s.slot q changed) v sent → Goal i
+      settles d = by_home (home_after h t q.state.pos == h.me) (home_after h t q.state.pos) refl refl d
 
   -- ---- messages
 
@@ -182,5 +185,6 @@ module _ (h : Here) (t : Division) (e : ℕ) (s : AtCell) (key : IsKey e s.slot)
 
   -- the entity is taken from the look list
   pub look_moves : (n : ℕ) (known : List Known) → s.looks ≡ n + 1 →
-      Does (record s { looks = n }) (unless_stray (stray_look h s.slot.real known) (look_task h s.slot s.slot.real known)) v sent → Goal None
+      Does (record s { looks = n }) (unless_stray (stray_look h s.slot.real known) (look_task h s.slot s.slot.real known)) v sent →
+      Goal None
   look_moves n known at_n d = look_at n s.slot.real known at_n refl d

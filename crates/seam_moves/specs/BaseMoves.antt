@@ -14,7 +14,8 @@ use Rattle.seam_entity.specs.declared.message.Msg.TheVariants.{Call, BaseCall, H
 use Rattle.seam_steps.specs.Here.{Here, base_of}
 use Rattle.seam_steps.specs.Calls.{is_ready, has_ready, ready_order}
 use Rattle.seam_steps.specs.Bases.{RouteView, PartView, ProxyView}
-use Rattle.seam_steps.specs.BaseCases.{may_call, may_execute, may_show, offered, with_order, executed, after_showing, offered_update, is_base_node_of, tick_to, stray_base_call, stray_current, stray_update}
+use Rattle.seam_steps.specs.BaseCases.{may_call, may_execute, may_show, offered, with_order, executed, after_showing, offered_update}
+use Rattle.seam_steps.specs.BaseCases.{is_base_node_of, tick_to, stray_base_call, stray_current, stray_update}
 use Rattle.seam_moves.specs.Sights.{AtBase}
 
 -- stray input, by what the base node has of the entity that it is about

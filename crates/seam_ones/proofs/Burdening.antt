@@ -1,6 +1,7 @@
 -- No move raises what is yet to do.
-use Rattle.std.proofs.Common.{◌≡◌, ℕ, zero, suc, ◌+◌, ◌*◌, ◌<◌, ◌≤◌, Bool, true, false, cond, List, [], ◌∷◌, ◌++◌, map, Option, None, Some, refl, sym, ap, ◌∙◌, subst, arith}
-use Rattle.std.specs.List.{AllByRecursion, range_with_len}
+use Rattle.std.proofs.Common.{◌≡◌, ℕ, ◌+◌, ◌*◌, ◌≤◌, Bool, false, List, [], ◌∷◌, map, Option, None, Some}
+use Rattle.std.proofs.Common.{refl, ap, ◌∙◌, arith}
+use Rattle.std.specs.List.{range_with_len}
 use Rattle.std.specs.FinSet as set
 use Rattle.seam_call.specs.Senders.{rank_of}
 use Rattle.seam_machine.specs.Totals.{total}
@@ -13,7 +14,6 @@ use Rattle.seam_entity.specs.Reals.{RealView}
 use Rattle.seam_entity.specs.declared.message.Msg.{Msg}
 use Rattle.seam_entity.specs.declared.message.Msg.TheVariants.{Call, BaseCall, Hand, Current, GhostSet, GhostDrop, Tick, Reap, Update}
 use Rattle.seam_steps.specs.Here.{base_numbers, base_of}
-use Rattle.seam_steps.specs.Reals.{with_offer}
 use Rattle.seam_steps.specs.Slots.{SlotStep, slot_after}
 use Rattle.seam_steps.specs.Settle.{haunts_at, ghost_messages, settled_to, beat_after}
 use Rattle.seam_steps.specs.Settle as settle
@@ -128,7 +128,7 @@ module _ (f : Frame) (e k : ℕ) (s : Has) (i : Option Msg) (t : Has) (sent : Li
       let a = real_is (settle.stays (here_at f k) f.tree s.cell.slot q changed) u d in
       let b = survey_is (settle.stays (here_at f k) f.tree s.cell.slot q changed) u d in
       let c = sent_is (settle.stays (here_at f k) f.tree s.cell.slot q changed) u d
-          (ghosts_silent heavy no_ghosts (here_at f k) q k haunts changed) in
+      (ghosts_silent heavy no_ghosts (here_at f k) q k haunts changed) in
       let z = base_is same in
       let p = pays u r q changed acts in
       let pb = p.beat in
@@ -147,7 +147,8 @@ module _ (f : Frame) (e k : ℕ) (s : Has) (i : Option Msg) (t : Has) (sent : Li
       let gone = settled_to q haunts (q.beat + 1) (q.generation + 1) in
       let a = real_is (settle.goes (here_at f k) f.tree s.cell.slot q changed j) u d in
       let b = survey_is (settle.goes (here_at f k) f.tree s.cell.slot q changed j) u d in
-      let c : sent_burden sent ≡ sent_burden told + real_burden gone = ap sent_burden d.sends ∙ total-push (λ p. letter_burden p.1) told (j, Hand gone) in
+      let c : sent_burden sent ≡ sent_burden told + real_burden gone =
+      ap sent_burden d.sends ∙ total-push (λ p. letter_burden p.1) told (j, Hand gone) in
       let none = light_sent told (ghosts_silent heavy no_ghosts (here_at f k) q j haunts changed) in
       let z = base_is same in
       let p = pays u r q changed acts in
@@ -271,7 +272,8 @@ module _ (f : Frame) (e k : ℕ) (s : Has) (i : Option Msg) (t : Has) (sent : Li
   base_eased cells (base_move.orders_tick os n at a z) same =
       let le = first_is order.Tick os at in
       base_by (total order_burden os) 0 same (order_is _ a)
-      (ap sent_burden z ∙ light_sent (map tick_to (range_with_len 0 cells)) (mapped_silent heavy tick_to (λ j. refl) (range_with_len 0 cells)))
+      (ap sent_burden z ∙ light_sent (map tick_to (range_with_len 0 cells))
+      (mapped_silent heavy tick_to (λ j. refl) (range_with_len 0 cells)))
       (omega (arith, le))
   base_eased cells (base_move.orders_reap os r n at has a z) same =
       let le = first_is (order.Reap e) os at in

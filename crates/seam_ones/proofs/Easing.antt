@@ -1,5 +1,5 @@
 -- No event raises what is yet to do, and a hand-over that comes has small numbers.
-use Rattle.std.proofs.Common.{◌≡◌, ℕ, ◌+◌, ◌<◌, ◌≤◌, Bool, true, false, cond, List, [], ◌∷◌, Option, None, Some, refl, sym, ap, ◌∙◌, arith}
+use Rattle.std.proofs.Common.{◌≡◌, ℕ, ◌+◌, ◌<◌, ◌≤◌, Bool, true, false, cond, List, [], ◌∷◌, Some, refl, ap, arith}
 use Rattle.seam_machine.specs.Nets.{happens, enabled, LeadsTo}
 use Rattle.seam_machine.specs.Events.{Occurs}
 use Rattle.seam_machine.specs.Totals.{total}
@@ -17,12 +17,11 @@ use Rattle.seam_entity.specs.Reals.{RealView}
 use Rattle.seam_entity.specs.declared.message.Msg.{Msg}
 use Rattle.seam_entity.specs.declared.message.Msg.TheVariants.{Hand, Reap}
 use Rattle.seam_steps.specs.Numbers.{limit}
-use Rattle.seam_steps.specs.Nodes.{NodeView, World, node_steps, node_has_work}
-use Rattle.seam_steps.specs.Valid.{IsNode}
-use Rattle.seam_moves.specs.Frames.{Frame, IsAt, IsInFrame}
+use Rattle.seam_steps.specs.Nodes.{World, node_steps, node_has_work}
+use Rattle.seam_moves.specs.Frames.{Frame, IsInFrame}
 use Rattle.seam_moves.specs.Sights.{concerns, kept_if, mine, concerning, has_of}
 use Rattle.seam_moves.proofs.Classify.{node_laws, node_moves, frame_happens}
-use Rattle.seam_ones.specs.Burdens.{real_burden, letter_burden, has_burden, node_burden, mine_burden, burden}
+use Rattle.seam_ones.specs.Burdens.{real_burden, letter_burden, node_burden, mine_burden, burden}
 use Rattle.seam_ones.proofs.Burdening.{sent_burden, eased}
 
 sent_by : (e : ℕ) (p : ℕ × Msg) (ps : List (ℕ × Msg)) (b : Bool) → total (λ p. mine_burden e p.0 p.1) ps ≡ sent_burden (concerning e ps) →
@@ -46,9 +45,9 @@ module _ (f : Frame) (e : ℕ) (w : World) (v : Event) (o : Occurs w v) (q : IsI
       let a = sent_is e (node_steps o.node o.input).sent in
       let b = input_is e v.node o.input in
       let c =
-          eased f e v.node (has_of e o.node) (letter_in (mine e) o.input) (has_of e (node_steps o.node o.input).state)
-          (concerning e (node_steps o.node o.input).sent)
-          (node_moves f e v.node o.node o.input (q.sound.states v.node o.node o.is_node) (q.nodes v.node o.node o.is_node)) in
+      eased f e v.node (has_of e o.node) (letter_in (mine e) o.input) (has_of e (node_steps o.node o.input).state)
+      (concerning e (node_steps o.node o.input).sent)
+      (node_moves f e v.node o.node o.input (q.sound.states v.node o.node o.is_node) (q.nodes v.node o.node o.is_node)) in
       omega (arith, a, b, c)
 
   pub burden_happens : burden e (happens node_steps w v) ≤ burden e w

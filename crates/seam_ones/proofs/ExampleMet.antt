@@ -1,5 +1,6 @@
 -- The example is a world of its frame in which the entity fits.
-use Rattle.std.proofs.Common.{◌≡◌, ℕ, zero, suc, ◌+◌, ◌<◌, ◌≤◌, Bool, true, false, cond, eqb, List, [], ◌∷◌, length, replicate, Option, None, Some, refl, sym, ap, ◌∙◌, subst, arith}
+use Rattle.std.proofs.Common.{◌≡◌, ℕ, zero, suc, ◌+◌, ◌<◌, ◌≤◌, Bool, true, false, cond, eqb, List, [], ◌∷◌, length, replicate, Option}
+use Rattle.std.proofs.Common.{None, Some, refl, sym, ap, ◌∙◌, subst, arith}
 use Rattle.std.specs.Prelude.{slice_get, slice_index_or}
 use Rattle.std.specs.List.{All, AllByRecursion}
 use Rattle.std.specs.Ordering.{nat_cmp}
@@ -8,7 +9,7 @@ use Rattle.std.proofs.lemmas.Bool.{eqb-true}
 use Rattle.std.specs.FinMap as table
 use Rattle.std.specs.FinSet as set
 use Rattle.std.proofs.lemmas.List.Elements.{All-nil, All-cons, All-replicate}
-use Rattle.seam_tree.specs.Division.{cells_of, cut_after, area, IsTree}
+use Rattle.seam_tree.specs.Division.{cut_after, area, IsTree}
 use Rattle.seam_geo.specs.Rect.{IsProper}
 use Rattle.seam_defs.specs.declared.flags.Group.TheVariants as group
 use Rattle.seam_defs.proofs.WellFormed.{builtin-are-defs}
@@ -18,19 +19,17 @@ use Rattle.seam_machine.specs.Nets.{link, run, AllEnabled, LeadsTo, IsSquare, Ar
 use Rattle.seam_machine.specs.Events.{EachNode}
 use Rattle.seam_machine.specs.declared.machines.Event.{Event}
 use Rattle.seam_flows.specs.Flows.{slot_at, letters_of}
-use Rattle.seam_entity.specs.Reals.{RealView}
 use Rattle.seam_entity.specs.declared.message.Msg.{Msg}
 use Rattle.seam_steps.specs.Maps.{Map}
-use Rattle.seam_steps.specs.Numbers.{limit}
-use Rattle.seam_steps.specs.Here.{cell_count, properties}
+use Rattle.seam_steps.specs.Here.{properties}
 use Rattle.seam_steps.specs.Calls.{all_held}
 use Rattle.seam_steps.specs.Reals.{fits_cell_part}
 use Rattle.seam_steps.specs.Nodes.{NodeView, World, node_peers, node_has_work, node_steps}
 use Rattle.seam_steps.specs.Valid.{IsNode}
 use Rattle.seam_steps.specs.Holders.{holders}
 use Rattle.seam_steps.specs.Bases.{RouteView}
-use Rattle.seam_steps.specs.Rows.{idle, here, one, IsRow}
-use Rattle.seam_steps.specs.EarlyCall.{two_cells, made, world_0, at_home, base_16, base_17}
+use Rattle.seam_steps.specs.Rows.{idle, one, IsRow}
+use Rattle.seam_steps.specs.EarlyCall.{two_cells, made, world_0, at_home}
 use Rattle.seam_steps.proofs.Tables.{computing}
 use Rattle.seam_moves.specs.Frames.{here_at, IsAt, IsInFrame}
 use Rattle.seam_moves.specs.Sights.{Has, mine, has_of, has_none, entity_flow}
@@ -162,25 +161,67 @@ idle_is k lt = (low_of k lt, idle_at k lt)
 
 nodes_are : EachFrom Q 0 world_0.nodes
 unfolding world_0
-nodes_are =
-    ((home_is, record { low = omega arith; here = refl; tree = refl }),
-    (idle_is 1 (omega arith),
-    (idle_is 2 (omega arith),
-    (idle_is 3 (omega arith),
-    (idle_is 4 (omega arith),
-    (idle_is 5 (omega arith),
-    (idle_is 6 (omega arith),
-    (idle_is 7 (omega arith),
-    (idle_is 8 (omega arith),
-    (idle_is 9 (omega arith),
-    (idle_is 10 (omega arith),
-    (idle_is 11 (omega arith),
-    (idle_is 12 (omega arith),
-    (idle_is 13 (omega arith),
-    (idle_is 14 (omega arith),
-    (idle_is 15 (omega arith),
-    ((record { bases = omega arith; cells = omega arith; routes = route_low 0 }, record { high = omega arith; here = refl; cells = refl }),
-    ((record { bases = omega arith; cells = omega arith; routes = route_low 0 }, record { high = omega arith; here = refl; cells = refl }), tt))))))))))))))))))
+nodes_are = (
+  (home_is, record { low = omega arith; here = refl; tree = refl }),
+  (
+    idle_is 1 (omega arith),
+    (
+      idle_is 2 (omega arith),
+      (
+        idle_is 3 (omega arith),
+        (
+          idle_is 4 (omega arith),
+          (
+            idle_is 5 (omega arith),
+            (
+              idle_is 6 (omega arith),
+              (
+                idle_is 7 (omega arith),
+                (
+                  idle_is 8 (omega arith),
+                  (
+                    idle_is 9 (omega arith),
+                    (
+                      idle_is 10 (omega arith),
+                      (
+                        idle_is 11 (omega arith),
+                        (
+                          idle_is 12 (omega arith),
+                          (
+                            idle_is 13 (omega arith),
+                            (
+                              idle_is 14 (omega arith),
+                              (
+                                idle_is 15 (omega arith),
+                                (
+                                  (
+                                    record { bases = omega arith; cells = omega arith; routes = route_low 0 },
+                                    record { high = omega arith; here = refl; cells = refl },
+                                  ),
+                                  (
+                                    (
+                                      record { bases = omega arith; cells = omega arith; routes = route_low 0 },
+                                      record { high = omega arith; here = refl; cells = refl },
+                                    ),
+                                    tt,
+                                  ),
+                                ),
+                              ),
+                            ),
+                          ),
+                        ),
+                      ),
+                    ),
+                  ),
+                ),
+              ),
+            ),
+          ),
+        ),
+      ),
+    ),
+  ),
+)
 
 peers_from : {N : Type 0} (P : N → Type 0) (xs : List N) → AllByRecursion P xs → All P xs
 peers_from P [] h = All-nil P
@@ -193,8 +234,13 @@ square_is = record { rows = refl; links = All-replicate (λ r. length r ≡ 18) 
 peers_are : ArePeers node_peers world_0
 unfolding world_0
 peers_are =
-    peers_from (λ s. node_peers s ≡ 18) world_0.nodes
-    (refl, (refl, (refl, (refl, (refl, (refl, (refl, (refl, (refl, (refl, (refl, (refl, (refl, (refl, (refl, (refl, (refl, (refl, tt))))))))))))))))))
+    peers_from (λ s. node_peers s ≡ 18) world_0.nodes (
+      refl,
+      (
+        refl,
+        (refl, (refl, (refl, (refl, (refl, (refl, (refl, (refl, (refl, (refl, (refl, (refl, (refl, (refl, (refl, (refl, tt)))))))))))))))),
+      ),
+    )
 
 pub world_is : IsInFrame frame world_0
 world_is = record {
@@ -235,11 +281,58 @@ none_fits k = (λ r at. absurd (let h = at in cc), tt)
 
 fits_at : EachFrom (λ k s. R k (has_of 1 s)) 0 world_0.nodes
 unfolding world_0
-fits_at = (home_fits, (idle_fits 1, (idle_fits 2, (idle_fits 3, (idle_fits 4, (idle_fits 5, (idle_fits 6,
-    (idle_fits 7, (idle_fits 8, (idle_fits 9, (idle_fits 10, (idle_fits 11, (idle_fits 12,
-    (idle_fits 13, (idle_fits 14, (idle_fits 15,
-    (((λ r at. absurd (let h = at in cc)), (refl, tt)),
-    (((λ r at. absurd (let h = at in cc)), (refl, (refl, tt))), tt))))))))))))))))))
+fits_at = (
+  home_fits,
+  (
+    idle_fits 1,
+    (
+      idle_fits 2,
+      (
+        idle_fits 3,
+        (
+          idle_fits 4,
+          (
+            idle_fits 5,
+            (
+              idle_fits 6,
+              (
+                idle_fits 7,
+                (
+                  idle_fits 8,
+                  (
+                    idle_fits 9,
+                    (
+                      idle_fits 10,
+                      (
+                        idle_fits 11,
+                        (
+                          idle_fits 12,
+                          (
+                            idle_fits 13,
+                            (
+                              idle_fits 14,
+                              (
+                                idle_fits 15,
+                                (
+                                  ((λ r at. absurd (let h = at in cc)), (refl, tt)),
+                                  (((λ r at. absurd (let h = at in cc)), (refl, (refl, tt))), tt),
+                                ),
+                              ),
+                            ),
+                          ),
+                        ),
+                      ),
+                    ),
+                  ),
+                ),
+              ),
+            ),
+          ),
+        ),
+      ),
+    ),
+  ),
+)
 
 fit_slots : (k : ℕ) → R k ((entity_flow 1 world_0).slot k)
 fit_slots = slots R 1 world_0 (each_node (λ k s. R k (has_of 1 s)) world_0.nodes fits_at) none_fits

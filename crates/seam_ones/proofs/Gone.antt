@@ -1,16 +1,16 @@
 -- A Reap that finds the real takes it out of the world, and an entity that no one has stays gone.
-use Rattle.std.proofs.Common.{◌≡◌, ℕ, ◌+◌, ◌<◌, ◌≤◌, Bool, true, false, not, nat_lt, List, [], ◌∷◌, Option, None, Some, refl, sym, ap, ◌∙◌, subst, arith}
+use Rattle.std.proofs.Common.{◌≡◌, ℕ, ◌+◌, ◌<◌, Bool, true, false, not, nat_lt, List, Option, None, Some, refl, sym, ap, ◌∙◌}
+use Rattle.std.proofs.Common.{subst, arith}
 use Rattle.std.specs.List.{AllByRecursion}
 use Rattle.std.proofs.lemmas.Bool.Decides.{nat_tests}
 use Rattle.seam_machine.specs.Nets.{happens, enabled, LeadsTo}
 use Rattle.seam_machine.specs.Events.{Occurs}
-use Rattle.seam_machine.specs.Sends.{items_to}
 use Rattle.seam_machine.specs.declared.machines.Event.{Event}
 use Rattle.seam_machine.proofs.Occurring.{occurs}
 use Rattle.seam_runs.proofs.Runs.{leads_keeps}
 use Rattle.seam_flows.specs.Flows.{Goes, comes, letter_in, letters_of}
 use Rattle.seam_flows.specs.Sent.{IsSilent}
-use Rattle.seam_flows.specs.Tokens.{carried_in, Nobody, Place, Sole, SendsNone, Handles, still, turns, lands, leaves, relays}
+use Rattle.seam_flows.specs.Tokens.{carried_in, Nobody, Handles, still, turns, lands, leaves, relays}
 use Rattle.seam_flows.proofs.Following.{came}
 use Rattle.seam_flows.proofs.SendLists.{sees_none}
 use Rattle.seam_delivery.proofs.Lives.{nobody_still, nobody_ends}
@@ -24,11 +24,9 @@ use Rattle.seam_moves.specs.Frames.{Frame, here_at, IsInFrame}
 use Rattle.seam_moves.specs.Sights.{Has, AtCell, mine, has_of, entity_flow}
 use Rattle.seam_moves.specs.CellMoves as move
 use Rattle.seam_moves.specs.CellMoves.{Acts, surveys, calls, readies, CellMoves}
-use Rattle.seam_moves.specs.BaseMoves.{BaseMoves}
 use Rattle.seam_moves.specs.Moves.{Moves, at_a_cell, at_a_base, MovesTo}
 use Rattle.seam_moves.proofs.Classify.{frame_happens, event_moves, event_moves_with}
 use Rattle.seam_ones.specs.Replays.{Replays}
-use Rattle.seam_ones.specs.Burdens.{real_burden}
 use Rattle.seam_ones.specs.Ones.{real_in, real_of, IsFrame, HasOne}
 use Rattle.seam_ones.proofs.Plain.{drops_silent}
 use Rattle.seam_ones.proofs.Handling.{reals_unseen, handled}
@@ -107,7 +105,9 @@ module _ (f : Frame) (e k : ℕ) (s : Has) (i : Option Msg) (t : Has) (sent : Li
   stray_not m n b =
       let same : Reap e ≡ m = let z = sym is ∙ n in cc in
       let c = ap (is_stray (here_at f k) f.tree s.cell.slot) same ∙ b in
-      absurd (not_yes (may_rise r.beat) may (sym (ap (λ o. is_stray (here_at f k) f.tree (record { real = o; next = s.cell.slot.next; ghost = s.cell.slot.ghost }) (Reap e)) has) ∙ c))
+      absurd (not_yes (may_rise r.beat) may
+      (sym (ap (λ o. is_stray (here_at f k) f.tree (record { real = o; next = s.cell.slot.next; ghost = s.cell.slot.ghost }) (Reap e))
+      has) ∙ c))
 
   takes : CellMoves (here_at f k) f.tree e s.cell i t.cell sent → Takes
   takes (move.rests n d) = never n

@@ -1,12 +1,13 @@
 -- What each move does with the entity's real: it stays as it is, is turned into what calls make of it, lands, or leaves.
-use Rattle.std.proofs.Common.{◌≡◌, ℕ, ◌+◌, ◌<◌, ◌≤◌, Bool, true, false, not, List, [], ◌∷◌, ◌++◌, Option, None, Some, refl, sym, ap, ◌∙◌, subst, arith, inl, inr}
-use Rattle.std.specs.List.{AllByRecursion, range_with_len}
+use Rattle.std.proofs.Common.{◌≡◌, ℕ, ◌+◌, ◌<◌, ◌≤◌, Bool, true, false, not, List, [], ◌∷◌, Option, None, Some, refl, sym, ap, ◌∙◌}
+use Rattle.std.proofs.Common.{subst, arith, inl, inr}
+use Rattle.std.specs.List.{range_with_len}
 use Rattle.std.specs.FinSet as set
 use Rattle.seam_defs.specs.Types.{AreDefs}
 use Rattle.seam_machine.specs.Sends.{items_to}
 use Rattle.seam_flows.specs.Flows.{letters_of}
 use Rattle.seam_flows.specs.Sent.{IsSilent}
-use Rattle.seam_flows.specs.Tokens.{carried_in, SendsNone, SendsOne, Handles, still, turns, lands, leaves, relays}
+use Rattle.seam_flows.specs.Tokens.{carried_in, SendsNone, Handles, still, turns, lands, leaves, relays}
 use Rattle.seam_flows.proofs.SendLists.{sees_none, sees_after_silent, sees_one_here, sees_one_there}
 use Rattle.seam_entity.specs.Reals.{RealView}
 use Rattle.seam_entity.specs.declared.message.Msg.{Msg}
@@ -20,7 +21,7 @@ use Rattle.seam_steps.specs.CellCases.{current_to, is_stray, may_come}
 use Rattle.seam_steps.specs.Looks.{shown_of, looks_with}
 use Rattle.seam_steps.specs.BaseCases.{tick_to}
 use Rattle.seam_moves.specs.Frames.{Frame, here_at}
-use Rattle.seam_moves.specs.Sights.{Has, AtCell, AtBase}
+use Rattle.seam_moves.specs.Sights.{Has, AtCell}
 use Rattle.seam_moves.specs.CellMoves as move
 use Rattle.seam_moves.specs.CellMoves.{Does, Acts, surveys, calls, readies, CellMoves}
 use Rattle.seam_moves.specs.BaseMoves as base_move
@@ -30,7 +31,7 @@ use Rattle.seam_ones.specs.Replays.{Replays}
 use Rattle.seam_ones.specs.Fits.{RealFits}
 use Rattle.seam_ones.specs.Ones.{real_in, real_of}
 use Rattle.seam_ones.proofs.Plain.{SeesNoGhost, ghosts_silent, mapped_silent, numbered_silent}
-use Rattle.seam_ones.proofs.Replaying.{acts_replays, replays_none}
+use Rattle.seam_ones.proofs.Replaying.{acts_replays}
 use Rattle.seam_ones.proofs.RealsKept.{executed_fits, held_fits, ready_fits, settled_fits, home_is_low}
 
 pub reals_unseen : SeesNoGhost real_of
@@ -105,7 +106,8 @@ module _ (f : Frame) (defs : AreDefs f.defs) (e ty k : ℕ) (s : Has) (i : Optio
   stray_none room (Hand r) h b =
       let p = room r h in
       absurd (not_both (may_come (here_at f k) f.tree r) p.may
-      (sym (ap (λ o. is_stray (here_at f k) f.tree (record { real = o; next = s.cell.slot.next; ghost = s.cell.slot.ghost }) (Hand r)) p.free)
+      (sym (ap (λ o. is_stray (here_at f k) f.tree (record { real = o; next = s.cell.slot.next; ghost = s.cell.slot.ghost }) (Hand r))
+      p.free)
       ∙ b))
   stray_none room (Current x j g) h b = came_none (Current x j g) h refl
   stray_none room (GhostSet x n c) h b = came_none (GhostSet x n c) h refl
@@ -120,13 +122,14 @@ module _ (f : Frame) (defs : AreDefs f.defs) (e ty k : ℕ) (s : Has) (i : Optio
   stays_handled u r q changed has acts d =
       let haunts = haunts_at (here_at f k) f.tree q.state.pos k q.haunts in
       let told = ghost_messages (here_at f k) q k haunts changed in
-      let beat = beat_after told q.beat in
-      (turns r (settled_to q haunts beat q.generation) has
-      (real_is (settle.stays (here_at f k) f.tree s.cell.slot q changed) u d)
-      (inr (settled_replays u r q changed haunts beat q.generation acts)) (acts_none u r q changed acts)
-      (sends_none (silent_of (settle.stays (here_at f k) f.tree s.cell.slot q changed) u d
-      (ghosts_silent real_of reals_unseen (here_at f k) q k haunts changed))),
-      λ is. settled_fits f defs e ty k q k k q.haunts beat q.generation (acts_fit u r q changed acts is) is.home)
+      let beat = beat_after told q.beat in (
+        turns r (settled_to q haunts beat q.generation) has
+            (real_is (settle.stays (here_at f k) f.tree s.cell.slot q changed) u d)
+            (inr (settled_replays u r q changed haunts beat q.generation acts)) (acts_none u r q changed acts)
+            (sends_none (silent_of (settle.stays (here_at f k) f.tree s.cell.slot q changed) u d
+            (ghosts_silent real_of reals_unseen (here_at f k) q k haunts changed))),
+        λ is. settled_fits f defs e ty k q k k q.haunts beat q.generation (acts_fit u r q changed acts is) is.home,
+      )
 
   -- a settling that goes
   goes_handled : (u : AtCell) (r q : RealView) (changed : Bool) (j : ℕ) → real_in s ≡ Some r →
@@ -137,21 +140,22 @@ module _ (f : Frame) (defs : AreDefs f.defs) (e ty k : ℕ) (s : Has) (i : Optio
       let haunts = haunts_at (here_at f k) f.tree q.state.pos j old in
       let told = ghost_messages (here_at f k) q j haunts changed in
       let gone = settled_to q haunts (q.beat + 1) (q.generation + 1) in
-      let silent = ghosts_silent real_of reals_unseen (here_at f k) q j haunts changed in
-      (leaves r gone j has (real_is (settle.goes (here_at f k) f.tree s.cell.slot q changed j) u d)
-      (inr (settled_replays u r q changed haunts (q.beat + 1) (q.generation + 1) acts)) (acts_none u r q changed acts)
-      (record {
-        here =
-            ap (letters_of real_of) (items j ∙ ap (items_to j) d.sends)
-            ∙ (sees_after_silent real_of j told ((j, Hand gone) ∷ []) silent ∙ sees_one_here real_of j (Hand gone));
-        others = λ x n.
-            ap (letters_of real_of) (items x ∙ ap (items_to x) d.sends)
-            ∙ (sees_after_silent real_of x told ((j, Hand gone) ∷ []) silent ∙ sees_one_there real_of j x (Hand gone) n);
-      }),
-      λ is.
-          let fits = acts_fit u r q changed acts is in
-          settled_fits f defs e ty k q j j old (q.beat + 1) (q.generation + 1) fits
-          (home_is_low f defs e ty k q.state.pos j at is.home))
+      let silent = ghosts_silent real_of reals_unseen (here_at f k) q j haunts changed in (
+        leaves r gone j has (real_is (settle.goes (here_at f k) f.tree s.cell.slot q changed j) u d)
+            (inr (settled_replays u r q changed haunts (q.beat + 1) (q.generation + 1) acts)) (acts_none u r q changed acts)
+            (record {
+              here =
+                  ap (letters_of real_of) (items j ∙ ap (items_to j) d.sends)
+                  ∙ (sees_after_silent real_of j told ((j, Hand gone) ∷ []) silent ∙ sees_one_here real_of j (Hand gone));
+              others = λ x n.
+                  ap (letters_of real_of) (items x ∙ ap (items_to x) d.sends)
+                  ∙ (sees_after_silent real_of x told ((j, Hand gone) ∷ []) silent ∙ sees_one_there real_of j x (Hand gone) n);
+            }),
+        λ is.
+            let fits = acts_fit u r q changed acts is in
+            settled_fits f defs e ty k q j j old (q.beat + 1) (q.generation + 1) fits
+            (home_is_low f defs e ty k q.state.pos j at is.home),
+      )
 
   cell_handled : ((r : RealView) → i ≡ Some (Hand r) → FindsRoom f k s r) → ((r : RealView) → real_in s ≡ Some r → i ≡ Some (Reap e) → ⊥) →
       CellMoves (here_at f k) f.tree e s.cell i t.cell sent → Handled
@@ -161,16 +165,18 @@ module _ (f : Frame) (defs : AreDefs f.defs) (e ty k : ℕ) (s : Has) (i : Optio
   cell_handled room spared (move.goes u r q changed j has own acts at n d) = goes_handled u r q changed j has acts at d
   cell_handled room spared (move.late c r n has may lt d) =
       rests (real_is _ s.cell d) (came_none (Call c) n refl) (silent_of _ s.cell d tt)
-  cell_handled room spared (move.holds c r n is has own may lt d) =
-      (turns r (with_offer r c) has (real_is _ s.cell d) (inr (record { further = []; entity = refl; type = refl; account = refl }))
-      (came_none (Call c) n refl) (sends_none (silent_of _ s.cell d tt)),
-      λ fits. held_fits f defs e ty k r c fits may)
+  cell_handled room spared (move.holds c r n is has own may lt d) = (
+    turns r (with_offer r c) has (real_is _ s.cell d) (inr (record { further = []; entity = refl; type = refl; account = refl }))
+        (came_none (Call c) n refl) (sends_none (silent_of _ s.cell d tt)),
+    λ fits. held_fits f defs e ty k r c fits may,
+  )
   cell_handled room spared (move.passes c p n is has at d) =
       rests (real_is _ s.cell d) (came_none (Call c) n refl) (silent_of _ s.cell d (refl, tt))
-  cell_handled room spared (move.lands r n is has may d) =
-      (lands r r (ap (carried_in real_of) n) (real_is _ s.cell d) (inl refl)
-      (sends_none (silent_of _ s.cell d (mapped_silent real_of (current_to (here_at f k) r) (λ b. refl) (base_numbers (here_at f k))))),
-      λ fits. fits)
+  cell_handled room spared (move.lands r n is has may d) = (
+    lands r r (ap (carried_in real_of) n) (real_is _ s.cell d) (inl refl)
+        (sends_none (silent_of _ s.cell d (mapped_silent real_of (current_to (here_at f k) r) (λ b. refl) (base_numbers (here_at f k))))),
+    λ fits. fits,
+  )
   cell_handled room spared (move.hears_set n c h has d) =
       rests (real_is _ s.cell d) (came_none (GhostSet e n c) h refl) (silent_of _ s.cell d tt)
   cell_handled room spared (move.ignores_set n c r h has d) =
@@ -182,20 +188,21 @@ module _ (f : Frame) (defs : AreDefs f.defs) (e ty k : ℕ) (s : Has) (i : Optio
       rests (ap (λ a. a.slot.real) st) (came_none Tick n refl) (subst (IsSilent real_of) (sym se) tt)
   cell_handled room spared (move.unlists n h at b d) =
       rests (real_is _ (record { slot = s.cell.slot; survey = n; looks = s.cell.looks }) d) (none_of h) (silent_of _ _ d tt)
-  cell_handled room spared (move.looks n r w known h at has own is small d) =
-      (turns r _ has (real_is (looks_with (here_at f k) s.cell.slot r w known (shown_of (here_at f k) r w known)) _ d)
-      (inr (record { further = []; entity = refl; type = refl; account = refl })) (none_of h)
-      (sends_none (silent_of (looks_with (here_at f k) s.cell.slot r w known (shown_of (here_at f k) r w known)) _ d
-      (numbered_silent real_of (base_of (here_at f k) r.entity) r.entity w.sent _ (λ u. refl)))),
-      λ fits. record {
-        entity = fits.entity;
-        type = fits.type;
-        values = fits.values;
-        inside = fits.inside;
-        held = fits.held;
-        home = fits.home;
-        haunts = fits.haunts;
-      })
+  cell_handled room spared (move.looks n r w known h at has own is small d) = (
+    turns r _ has (real_is (looks_with (here_at f k) s.cell.slot r w known (shown_of (here_at f k) r w known)) _ d)
+        (inr (record { further = []; entity = refl; type = refl; account = refl })) (none_of h)
+        (sends_none (silent_of (looks_with (here_at f k) s.cell.slot r w known (shown_of (here_at f k) r w known)) _ d
+        (numbered_silent real_of (base_of (here_at f k) r.entity) r.entity w.sent _ (λ u. refl)))),
+    λ fits. record {
+      entity = fits.entity;
+      type = fits.type;
+      values = fits.values;
+      inside = fits.inside;
+      held = fits.held;
+      home = fits.home;
+      haunts = fits.haunts;
+    },
+  )
   cell_handled room spared (move.overlooks n known h at b d) =
       rests (real_is _ (record { slot = s.cell.slot; survey = s.cell.survey; looks = n }) d) (none_of h) (silent_of _ _ d tt)
   cell_handled room spared (move.stuck r h has ready may d) = rests (real_is _ s.cell d) (none_of h) (silent_of _ s.cell d tt)
@@ -228,7 +235,8 @@ module _ (f : Frame) (defs : AreDefs f.defs) (e ty k : ℕ) (s : Has) (i : Optio
       rests same (came_none (Current e new.cell new.generation) n refl) (quiet z)
   base_handled high room cells (base_move.offers c p n is has may a z) same = rests same (came_none (BaseCall c) n refl) (quiet z)
   base_handled high room cells (base_move.updates u n is b a z) same = rests same (came_none (Update u) n refl) (quiet z)
-  base_handled high room cells (base_move.orders_call c os r n at is has a z) same = rests same (none_of n) (one_quiet r.cell (Call c) refl z)
+  base_handled high room cells (base_move.orders_call c os r n at is has a z) same =
+      rests same (none_of n) (one_quiet r.cell (Call c) refl z)
   base_handled high room cells (base_move.orders_base_call c os n at is b a z) same =
       rests same (none_of n) (one_quiet (base_of (here_at f k) e) (BaseCall c) refl z)
   base_handled high room cells (base_move.offers_own c os p n at is b has may a z) same = rests same (none_of n) (quiet z)

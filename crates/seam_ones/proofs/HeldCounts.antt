@@ -1,5 +1,6 @@
 -- How many calls a real holds after an offer and after one was taken.
-use Rattle.std.proofs.Common.{◌≡◌, ℕ, zero, suc, ◌+◌, ◌<◌, Bool, true, false, cond, eqb, ltb, List, [], ◌∷◌, length, Option, None, Some, refl, sym, ap, ◌∙◌, subst, arith}
+use Rattle.std.proofs.Common.{◌≡◌, ℕ, ◌+◌, ◌<◌, Bool, true, false, cond, eqb, ltb, List, [], ◌∷◌, length, Option, None, Some}
+use Rattle.std.proofs.Common.{refl, ap, arith}
 use Rattle.std.specs.Ordering.{nat_cmp, match_ordering}
 use Rattle.std.specs.declared.cmp.Ordering.{Ordering}
 use Rattle.std.specs.declared.cmp.Ordering.TheVariants.{Less, Equal, Greater}
@@ -8,7 +9,7 @@ use Rattle.std.proofs.lemmas.Bool.Decides.{nat_tests}
 use Rattle.seam_table.proofs.Found.{found}
 use Rattle.seam_order.specs.Held.{OrderView, item_at, with_item, without}
 use Rattle.seam_order.specs.Offers.{next_item, after_offer, after_item, after_taking}
-use Rattle.seam_runs.specs.Sums.{map_total, weight_or}
+use Rattle.seam_runs.specs.Sums.{weight_or}
 use Rattle.seam_runs.proofs.MapSums.{total_of_insert}
 use Rattle.seam_call.specs.declared.call.Call.{Call}
 use Rattle.seam_entity.specs.Orders.{Orders, order_or}

@@ -1,7 +1,8 @@
 -- Calls that are held all fit, whatever becomes of their orders.
-use Rattle.std.proofs.Common.{◌≡◌, ℕ, ◌+◌, Bool, true, false, cond, eqb, ltb, ◌&&◌, List, [], ◌∷◌, find, Option, None, Some, refl, sym, ap, ◌∙◌, subst}
+use Rattle.std.proofs.Common.{◌≡◌, ℕ, ◌+◌, Bool, true, false, cond, eqb, ltb, ◌&&◌, List, [], ◌∷◌, find, Option, None, Some, refl, sym, ap}
+use Rattle.std.proofs.Common.{◌∙◌, subst}
 use Rattle.std.specs.List.{list_all}
-use Rattle.std.specs.Ordering.{nat_cmp, match_ordering, is_eq}
+use Rattle.std.specs.Ordering.{nat_cmp, match_ordering}
 use Rattle.std.specs.declared.cmp.Ordering.{Ordering}
 use Rattle.std.specs.declared.cmp.Ordering.TheVariants.{Less, Equal, Greater}
 use Rattle.std.specs.Cmp.{nat_cmp_total}
@@ -10,8 +11,7 @@ use Rattle.std.specs.FinMap.Entries.{put, find as key_find}
 use Rattle.seam_order.specs.Held.{OrderView, item_at, with_item, without}
 use Rattle.seam_order.specs.Offers.{next_item, after_offer, after_taking, after_item}
 use Rattle.seam_call.specs.declared.call.Call.{Call}
-use Rattle.seam_entity.specs.Orders.{Orders, order_or, order_of}
-use Rattle.seam_call.specs.Senders.{rank_of}
+use Rattle.seam_entity.specs.Orders.{Orders, order_or}
 use Rattle.seam_steps.specs.Calls.{item_passes, order_passes, all_held}
 
 pub both : (a b : Bool) → (a && b) ≡ true → (a ≡ true) × (b ≡ true)
@@ -31,7 +31,8 @@ module _ {X : Type 0} (test : ℕ × X → Bool) (by_value : (a b : ℕ) (x : X)
       all_two (test (e.0, x)) (list_all test es) (by_value e.0 k x ∙ new) (both (test e) (list_all test es) h).1
   put_by k x e es Greater h new more = all_two (test e) (list_all test (put nat_cmp k x es)) (both (test e) (list_all test es) h).0 more
 
-  put_passes : (k : ℕ) (x : X) (es : List (ℕ × X)) → list_all test es ≡ true → test (k, x) ≡ true → list_all test (put nat_cmp k x es) ≡ true
+  put_passes : (k : ℕ) (x : X) (es : List (ℕ × X)) → list_all test es ≡ true → test (k, x) ≡ true →
+      list_all test (put nat_cmp k x es) ≡ true
   put_passes k x [] h new = all_two (test (k, x)) true new refl
   put_passes k x (e ∷ es) h new =
       put_by k x e es (nat_cmp k e.0) h new (put_passes k x es (both (test e) (list_all test es) h).1 new)
@@ -130,7 +131,8 @@ module _ (test : Call → Bool) where
   order_at os k (Some o) h at = got_passes (order_passes test) same_value os k o h at
 
   -- after an offer of a call that passes
-  pub held_offered : (os : Orders) (k : ℕ) (o : OrderView Call) (n : ℕ) (c : Call) → all_held test os ≡ true → order_or (table.get os k) ≡ o →
+  pub held_offered : (os : Orders) (k : ℕ) (o : OrderView Call) (n : ℕ) (c : Call) → all_held test os ≡ true →
+      order_or (table.get os k) ≡ o →
       test c ≡ true → all_held test (table.insert os k (after_offer o n c)) ≡ true
   held_offered os k o n c h at new =
       insert_passes (order_passes test) same_value os k (after_offer o n c) h

@@ -1,5 +1,6 @@
 -- Exactly one real: each event leaves the one real at a place that is known, and it replays its calls.
-use Rattle.std.proofs.Common.{◌≡◌, ℕ, ◌+◌, ◌*◌, ◌<◌, ◌≤◌, Bool, true, false, ◌&&◌, nat_lt, is_some, List, [], ◌∷◌, length, ◌⊎◌, Option, None, Some, refl, sym, ap, ◌∙◌, subst, arith, inl, inr}
+use Rattle.std.proofs.Common.{◌≡◌, ℕ, ◌<◌, Bool, true, false, ◌&&◌, nat_lt, is_some, List, [], ◌∷◌, length, ◌⊎◌, Option}
+use Rattle.std.proofs.Common.{None, Some, refl, sym, ap, ◌∙◌, subst, arith, inl, inr}
 use Rattle.std.specs.List.{AllByRecursion, list_all}
 use Rattle.std.specs.FinSet as set
 use Rattle.std.proofs.lemmas.Bool.{cases_eq}
@@ -17,16 +18,14 @@ use Rattle.seam_machine.specs.declared.machines.Event.{Event}
 use Rattle.seam_machine.proofs.Occurring.{occurs}
 use Rattle.seam_runs.proofs.Runs.{leads_keeps}
 use Rattle.seam_flows.specs.Flows.{Goes, comes, letter_in, letters_of}
-use Rattle.seam_flows.specs.Tokens.{carried_in, Place, In, On, Sole, Handles, still, turns, lands, leaves, relays, place_after, token_after}
+use Rattle.seam_flows.specs.Tokens.{carried_in, Place, On, Sole, Handles, still, turns, lands, leaves, relays, place_after, token_after}
 use Rattle.seam_flows.proofs.Following.{slots_kept, letters_kept, came}
 use Rattle.seam_flows.proofs.TokenLemmas.{sole_came, sole_goes, token_turns}
 use Rattle.seam_entity.specs.Reals.{RealView}
 use Rattle.seam_entity.specs.declared.message.Msg.{Msg}
 use Rattle.seam_entity.specs.declared.message.Msg.TheVariants.{Call, BaseCall, Hand, Current, GhostSet, GhostDrop, Tick, Reap, Update}
 use Rattle.seam_steps.specs.Numbers.{limit}
-use Rattle.seam_steps.specs.Here.{cell_count, cell_numbers, properties}
-use Rattle.seam_steps.specs.Calls.{all_held}
-use Rattle.seam_steps.specs.Reals.{fits_cell_part}
+use Rattle.seam_steps.specs.Here.{cell_numbers, properties}
 use Rattle.seam_steps.specs.CellCases.{haunts_cell, is_cell_if, may_come}
 use Rattle.seam_steps.specs.Nodes.{World, node_steps, node_has_work}
 use Rattle.seam_moves.specs.Frames.{Frame, here_at, IsInFrame}
@@ -35,7 +34,7 @@ use Rattle.seam_moves.specs.Moves.{MovesTo}
 use Rattle.seam_moves.proofs.Classify.{frame_happens, event_moves_with}
 use Rattle.seam_ones.specs.Replays.{Replays}
 use Rattle.seam_ones.specs.Fits.{RealFits, IsFitReal, IsFitHand}
-use Rattle.seam_ones.specs.Burdens.{real_burden, held_in}
+use Rattle.seam_ones.specs.Burdens.{real_burden}
 use Rattle.seam_ones.specs.Ones.{real_in, real_of, reaped_by, HasNoReaps, IsSpared, AllFits, IsFrame, HasOne, OneFrom, reaps, NoReapComes}
 use Rattle.seam_ones.proofs.Holds.{all_two}
 use Rattle.seam_ones.proofs.Replaying.{replays_none, replays_on}
@@ -70,7 +69,7 @@ module _ (f : Frame) (e ty k : ℕ) where
       let fits = all_two _ _ (below_is r.ty (length f.defs) a) (all_two _ _ values (all_two _ _ is.inside is.held)) in
       let tree = all_two _ _ (below_is k (cells_of f.tree) is.home) (haunts_in f r is.haunts cell_numbers) in
       let small = all_two _ _ (below_is r.beat limit (omega (arith, few)))
-          (all_two _ _ (below_is r.generation limit (omega (arith, few))) (below_is r.version limit (omega (arith, few)))) in
+      (all_two _ _ (below_is r.generation limit (omega (arith, few))) (below_is r.version limit (omega (arith, few)))) in
       all_two _ _ fits (all_two _ _ tree small)
 
 -- ---- letters that carry a real
@@ -157,7 +156,8 @@ module _ (f : Frame) (defs : AreDefs f.defs) (e ty k : ℕ) (s : Has) (i : Optio
 
 -- ---- an event
 
-module _ (f : Frame) (frame : IsFrame f) (e ty : ℕ) (known : ty < length f.defs) (w : World) (v : Event) (o : Occurs w v) (has : HasOne f e ty w)
+module _ (f : Frame) (frame : IsFrame f) (e ty : ℕ) (known : ty < length f.defs) (w : World) (v : Event) (o : Occurs w v)
+    (has : HasOne f e ty w)
     (calm : letter_in (mine e) o.input ≡ Some (Reap e) → ⊥) where
   -- a hand-over that comes has small numbers, and no Reap comes
   abbrev Came : Option Msg → Type 0
@@ -194,7 +194,8 @@ module _ (f : Frame) (frame : IsFrame f) (e ty : ℕ) (known : ty < length f.def
         may = may_land f e ty node r known fits (goes.moves.1.0 r is);
       }
 
-  what : Handled f frame.defs e ty node ((entity_flow e w).slot node) letter ((entity_flow e next).slot node) goes.moves.0.sent goes.out goes.moves.0.items
+  what : Handled f frame.defs e ty node ((entity_flow e w).slot node) letter ((entity_flow e next).slot node) goes.moves.0.sent goes.out
+      goes.moves.0.items
   what =
       handled f frame.defs e ty node ((entity_flow e w).slot node) letter ((entity_flow e next).slot node) goes.moves.0.sent goes.out
       goes.moves.0.items room (λ r h. goes.moves.1.1) goes.moves.0.moves
@@ -303,4 +304,3 @@ module _ (f : Frame) (frame : IsFrame f) (e ty : ℕ) (known : ty < length f.def
   one_leads w v es h spared run =
       (leads_keeps node_has_work node_steps (Spared h.real) (spared_more h.real) w v es
       (record { one = record { has = h; replays = replays_none f h.real }; spared = spared }) run).one
-

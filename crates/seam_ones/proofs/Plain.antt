@@ -1,6 +1,5 @@
 -- What a step sends beside a hand-over carries no real and is no reap.
-use Rattle.std.proofs.Common.{◌≡◌, ℕ, ◌+◌, Bool, true, false, ◌==◌, ◌||◌, List, [], ◌∷◌, map, Option, None, Some, refl, sym, ap, ◌∙◌}
-use Rattle.std.specs.List.{AllByRecursion, range_with_len}
+use Rattle.std.proofs.Common.{◌≡◌, ℕ, ◌+◌, Bool, true, false, ◌==◌, ◌||◌, List, [], ◌∷◌, map, Option, None, Some, sym, ap, ◌∙◌}
 use Rattle.std.specs.FinSet as set
 use Rattle.seam_tree.specs.Cells.{Cells}
 use Rattle.seam_flows.specs.Sent.{IsSilent}
@@ -10,12 +9,11 @@ use Rattle.seam_call.specs.declared.shown.Shown.{Shown}
 use Rattle.seam_entity.specs.Reals.{RealView}
 use Rattle.seam_entity.specs.declared.message.Msg.{Msg}
 use Rattle.seam_entity.specs.declared.message.Msg.TheVariants.{GhostSet, GhostDrop, Update}
-use Rattle.seam_steps.specs.Here.{Here, cell_numbers, base_numbers}
+use Rattle.seam_steps.specs.Here.{Here, cell_numbers}
 use Rattle.seam_steps.specs.Reals.{copy_of_real}
 use Rattle.seam_steps.specs.Settle.{told, told_unless, ghost_message, ghost_messages}
-use Rattle.seam_steps.specs.CellCases.{current_to, drop_if, drop_at, drops}
+use Rattle.seam_steps.specs.CellCases.{drop_if, drop_at, drops}
 use Rattle.seam_steps.specs.Looks.{numbered}
-use Rattle.seam_steps.specs.BaseCases.{tick_to}
 
 -- eyes that see no ghost message, no route, no update and no tick
 pub record SeesNoGhost {L : Type 0} (mine : Msg → Option L) : Type 0 where

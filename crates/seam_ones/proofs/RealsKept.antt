@@ -1,11 +1,11 @@
 -- A real that fits still fits after a call that fits, and where it settles.
-use Rattle.std.proofs.Common.{◌≡◌, ℕ, ◌+◌, ◌<◌, Bool, true, false, ◌&&◌, ◌==◌, nat_lt, nat_le, List, [], ◌∷◌, find, filter, length, Option, None, Some, refl, sym, ap, ◌∙◌, subst, arith}
-use Rattle.std.specs.List.{list_all, range_with_len}
+use Rattle.std.proofs.Common.{◌≡◌, ℕ, ◌+◌, ◌<◌, Bool, true, false, ◌&&◌, nat_lt, nat_le, length}
+use Rattle.std.proofs.Common.{Some, refl, sym, ◌∙◌, subst, arith}
 use Rattle.std.specs.FinMap as table
 use Rattle.std.specs.FinSet as set
 use Rattle.std.proofs.lemmas.Bool.Decides.{nat_tests}
 use Rattle.seam_geo.specs.declared.pos.Pos.{Pos}
-use Rattle.seam_tree.specs.Division.{Division, leaf_at, cells_of}
+use Rattle.seam_tree.specs.Division.{leaf_at, cells_of}
 use Rattle.seam_tree.specs.Cells.{Cells}
 use Rattle.seam_tree.proofs.Leaves.{leaf_is_cell}
 use Rattle.seam_haunt.specs.Haunts.{is_haunt, haunts_of}
@@ -18,9 +18,9 @@ use Rattle.seam_defs.specs.declared.states.State.{State}
 use Rattle.seam_defs.specs.declared.states.Deed.{Deed}
 use Rattle.seam_defs.specs.declared.states.Deed.TheVariants.{Move, Method}
 use Rattle.seam_defs.specs.Groups.{held_by}
-use Rattle.seam_defs.specs.Types.{type_of, method_of, AreDefs, IsType}
+use Rattle.seam_defs.specs.Types.{method_of, AreDefs, IsType}
 use Rattle.seam_defs.specs.Tests.{fits_deed, fit_values, same_part}
-use Rattle.seam_defs.specs.Deeds.{after, part_of_deed, IsOfGroup}
+use Rattle.seam_defs.specs.Deeds.{after, IsOfGroup}
 use Rattle.seam_defs.proofs.Numbers.{type_of-is}
 use Rattle.seam_defs.proofs.Keeping.{method-keeps}
 use Rattle.seam_defs.proofs.TestLemmas.{fit-Decides}
@@ -31,10 +31,10 @@ use Rattle.seam_call.specs.Senders.{rank_of}
 use Rattle.seam_call.specs.Calls.{is_for}
 use Rattle.seam_entity.specs.Orders.{order_of}
 use Rattle.seam_entity.specs.Reals.{RealView}
-use Rattle.seam_steps.specs.Fitting.{is_inside, stays_inside, can_do}
-use Rattle.seam_steps.specs.Here.{Here, type_at, properties}
-use Rattle.seam_steps.specs.Calls.{all_held, order_passes, item_passes, order_is_ready, ready_order}
-use Rattle.seam_steps.specs.Reals.{fits_cell_part, may_call, with_deed, with_offer, executed, executed_ready}
+use Rattle.seam_steps.specs.Fitting.{is_inside, can_do}
+use Rattle.seam_steps.specs.Here.{Here, type_at}
+use Rattle.seam_steps.specs.Calls.{order_passes, order_is_ready, ready_order}
+use Rattle.seam_steps.specs.Reals.{fits_cell_part, may_call, with_offer, executed, executed_ready}
 use Rattle.seam_steps.specs.Settle.{home_after, home_by, haunts_at, settled_to}
 use Rattle.seam_moves.specs.Frames.{Frame, here_at}
 use Rattle.seam_ones.specs.Fits.{RealFits}
@@ -84,7 +84,8 @@ module _ (f : Frame) (defs : AreDefs f.defs) (e ty k : ℕ) where
         values = deed_keeps (type_at h r.ty) (type_of-is f.defs defs r.ty) f.settings.size r.state c.deed can is.values;
         inside = deed_inside (type_at h r.ty) (type_of-is f.defs defs r.ty) f.settings.size r.state c.deed can is.inside;
         held =
-            held_offered (fits_cell_part h r.entity r.ty) r.orders (rank_of c.sender) (order_of r.orders c.sender) c.number c is.held refl fits;
+            held_offered (fits_cell_part h r.entity r.ty) r.orders (rank_of c.sender) (order_of r.orders c.sender) c.number c is.held refl
+            fits;
         home = is.home;
         haunts = is.haunts;
       }
@@ -98,7 +99,8 @@ module _ (f : Frame) (defs : AreDefs f.defs) (e ty k : ℕ) where
         values = is.values;
         inside = is.inside;
         held =
-            held_offered (fits_cell_part h r.entity r.ty) r.orders (rank_of c.sender) (order_of r.orders c.sender) c.number c is.held refl fits;
+            held_offered (fits_cell_part h r.entity r.ty) r.orders (rank_of c.sender) (order_of r.orders c.sender) c.number c is.held refl
+            fits;
         home = is.home;
         haunts = is.haunts;
       }

@@ -1,5 +1,5 @@
 -- An entity that no one reaps is reaped by none: no move orders it or sends a Reap.
-use Rattle.std.proofs.Common.{◌≡◌, ℕ, ◌+◌, Bool, true, false, cond, eqb, List, [], ◌∷◌, ◌++◌, Option, None, Some, refl, sym, ap, ◌∙◌, subst}
+use Rattle.std.proofs.Common.{◌≡◌, ℕ, Bool, true, false, cond, eqb, List, [], ◌∷◌, Option, None, refl, sym, ap, ◌∙◌, subst}
 use Rattle.std.specs.List.{AllByRecursion, range_with_len}
 use Rattle.std.specs.FinSet as set
 use Rattle.seam_machine.specs.Sends.{items_to}
@@ -8,7 +8,6 @@ use Rattle.seam_flows.proofs.Following.{all_append}
 use Rattle.seam_call.specs.declared.order.Order.{Order}
 use Rattle.seam_call.specs.declared.order.Order.TheVariants as order
 use Rattle.seam_entity.specs.declared.message.Msg.{Msg}
-use Rattle.seam_entity.specs.declared.message.Msg.TheVariants.{Hand}
 use Rattle.seam_steps.specs.Here.{base_numbers, base_of}
 use Rattle.seam_steps.specs.Slots.{SlotStep}
 use Rattle.seam_steps.specs.Settle.{haunts_at, ghost_messages}

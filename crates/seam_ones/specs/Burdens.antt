@@ -1,5 +1,5 @@
 -- What an entity has yet to do, in numbers that no step raises; versions, beats and generations count in it, so they stay small.
-use Rattle.std.specs.Prelude.{ℕ, ◌+◌, ◌*◌, length, List, Option, None, Some}
+use Rattle.std.specs.Prelude.{ℕ, ◌+◌, ◌*◌, length}
 use Rattle.seam_order.specs.Held.{OrderView}
 use Rattle.seam_machine.specs.Totals.{total}
 use Rattle.seam_runs.specs.Sums.{map_total, weight_or}

@@ -1,25 +1,17 @@
 -- What fits: an entity's real, its calls, and what each node has of it and each link brings about it.
-use Rattle.std.specs.Prelude.{◌≡◌, ℕ, ◌<◌, Bool, true, false, ◌&&◌, nat_lt, length, Option, None, Some}
+use Rattle.std.specs.Prelude.{◌≡◌, ℕ, ◌<◌, true, Option, Some}
 use Rattle.std.specs.FinSet as set
-use Rattle.std.specs.List.{AllByRecursion}
 use Rattle.seam_tree.specs.Division.{cells_of}
 use Rattle.seam_defs.specs.declared.flags.Group.TheVariants as group
 use Rattle.seam_defs.specs.Deeds.{IsOfGroup}
-use Rattle.seam_call.specs.declared.call.Call.{Call as CallData}
-use Rattle.seam_call.specs.declared.order.Order.{Order}
-use Rattle.seam_call.specs.declared.order.Order.TheVariants as order
 use Rattle.seam_entity.specs.Reals.{RealView}
 use Rattle.seam_entity.specs.declared.message.Msg.{Msg}
-use Rattle.seam_entity.specs.declared.message.Msg.TheVariants.{Call, BaseCall, Hand, Current, GhostSet, GhostDrop, Tick, Reap, Update}
-use Rattle.seam_steps.specs.Numbers.{may_rise}
+use Rattle.seam_entity.specs.declared.message.Msg.TheVariants.{Hand}
 use Rattle.seam_steps.specs.Fitting.{is_inside}
-use Rattle.seam_steps.specs.Here.{Here, cell_count, properties}
+use Rattle.seam_steps.specs.Here.{properties}
 use Rattle.seam_steps.specs.Calls.{all_held}
 use Rattle.seam_steps.specs.Reals.{fits_cell_part}
-use Rattle.seam_steps.specs.BaseCases.{fits_base_part}
-use Rattle.seam_steps.specs.Bases.{RouteView}
 use Rattle.seam_moves.specs.Frames.{Frame, here_at}
-use Rattle.seam_moves.specs.Sights.{Has}
 
 -- the real is one of entity e and of type ty, has values of the group, is in the space, and each call that it holds fits; it is in cell
 -- k or on its way there, and that cell and its haunts are cells of the tree

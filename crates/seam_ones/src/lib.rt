@@ -8,10 +8,14 @@
 //! that no step raises and that has versions, beats and generations in it, so that they stay small (`specs/Burdens`).
 //!
 //! Crates above cite these modules of `proofs`: `OneReal` (an event and a list of events), `Counting` (holders and the one place),
-//! `Gone` (a Reap, and an entity that no one has), `Easing` (what is yet to do after an event), `Handling` (what each move does with the real), `Sparing` (an entity that no one reaps),
+//! `Gone` (a Reap, and an entity that no one has), `Easing` (what is yet to do after an event), `Handling` (what each move does with the
+//! real), `Sparing` (an entity that no one reaps),
 //! `Plain` (sends that some eyes do not see), `Holds` and `HeldCounts` (held calls after an offer).
 #![tactic(auto)]
 
 mod laws;
 
-pub use laws::{a_loaded_world_has_what_the_laws_ask, a_reap_ends_the_one_real, exactly_one_real, holders_are_at_one_place, numbers_stay_small, reals_replay_their_calls};
+pub use laws::{
+    a_loaded_world_has_what_the_laws_ask, a_reap_ends_the_one_real, exactly_one_real,
+    holders_are_at_one_place, numbers_stay_small, reals_replay_their_calls,
+};

@@ -7,7 +7,8 @@ use Rattle.seam_entity.specs.declared.message.Msg.{Msg}
 use Rattle.seam_steps.specs.Here.{peers_of}
 use Rattle.seam_steps.specs.Slots.{Slot, SlotStep}
 use Rattle.seam_steps.specs.CellCases.{about, slot_steps}
-use Rattle.seam_steps.specs.Cells.{CellView, after_slot, unlisted_by, stepped, cell_steps, cell_task, ready_next, look_next, cell_hears, ready_entity, surveys, calls_ready, looks_around, known_to, slot_of}
+use Rattle.seam_steps.specs.Cells.{CellView, after_slot, unlisted_by, stepped, cell_steps, cell_task, ready_next, look_next, cell_hears}
+use Rattle.seam_steps.specs.Cells.{ready_entity, surveys, calls_ready, looks_around, known_to, slot_of}
 use Rattle.seam_steps.specs.Nodes.{NodeView, node_steps, node_peers}
 use Rattle.seam_steps.specs.Nodes.NodeView.{Cell, Base}
 use Rattle.seam_steps.specs.Valid.{IsNode}

@@ -1,7 +1,8 @@
 //! A table by number: an item for some of the numbers, kept in rising number.
 //!
 //! Contracts see a table as a finite map, and beside it the numbers for which there is room. A call that is to change several tables, or
-//! all or none of them, makes room first and changes what cannot fail then.
+//! all or none of them, makes room first and changes what cannot fail then. For callers, `proofs/Found` says that what a search of a map's
+//! entries finds is what the map has there.
 #![tactic(auto)]
 
 ghost use Rattle.std.specs.Prelude.{◌≡◌, ℕ, Bool, Some, find, true, false, OnOk, OnErr, IfOk, IfErr, IfSome, option_map, option_copied};
