@@ -1,4 +1,4 @@
--- A step of a node keeps what the node knows, and so the number of nodes.
+-- For callers: a step of a node keeps what the node knows, and so the number of nodes; and a cell's tree.
 use Rattle.std.proofs.Common.{◌≡◌, ℕ, Bool, true, false, List, [], ◌∷◌, Option, None, Some, refl, ap}
 use Rattle.std.specs.FinMap as table
 use Rattle.seam_machine.specs.declared.machines.Input.{Input}
@@ -13,42 +13,54 @@ use Rattle.seam_steps.specs.Nodes.{NodeView, node_steps, node_peers}
 use Rattle.seam_steps.specs.Nodes.NodeView.{Cell, Base}
 use Rattle.seam_steps.specs.Valid.{IsNode}
 use Rattle.seam_steps.proofs.ValidCells.{cell_stays_valid}
-use Rattle.seam_steps.proofs.ValidBases.{base_stays_valid, base_here}
+use Rattle.seam_steps.proofs.ValidBases.{base_stays_valid, base_frame}
 
-unlisted_here : (b : Bool) (c : CellView) (e : ℕ) → (unlisted_by b c e).here ≡ c.here
-unlisted_here true c e = refl
-unlisted_here false c e = refl
+-- the cell knows the same, and has the same tree
+pub record SameFrame (c d : CellView) : Type 0 where
+  pub here : d.here ≡ c.here
+  pub tree : d.tree ≡ c.tree
 
-slot_here : (b : Bool) (c : CellView) (e : ℕ) (o : Option Slot) → (unlisted_by b (after_slot c e o) e).here ≡ c.here
-slot_here b c e None = unlisted_here b c e
-slot_here b c e (Some s) = unlisted_here b (after_slot c e (Some s)) e
+unlisted_same : (b : Bool) (c : CellView) (e : ℕ) → SameFrame c (unlisted_by b c e)
+unlisted_same true c e = record { here = refl; tree = refl }
+unlisted_same false c e = record { here = refl; tree = refl }
 
-step_here : (c : CellView) (e : ℕ) (t : SlotStep) → (stepped c e t).state.here ≡ c.here
-step_here c e t = slot_here t.unlisted c e t.slot
+slot_same : (b : Bool) (c : CellView) (e : ℕ) (o : Option Slot) → SameFrame c (unlisted_by b (after_slot c e o) e)
+slot_same b c e None = unlisted_same b c e
+slot_same b c e (Some s) =
+    let u = unlisted_same b (after_slot c e (Some s)) e in
+    record { here = u.here; tree = u.tree }
 
-look_here : (c : CellView) (es : List ℕ) → (look_next c es).state.here ≡ c.here
-look_here c [] = refl
-look_here c (e ∷ es) = step_here (record c { looks = es }) e (looks_around c e (table.get c.reals e) (known_to c e))
+step_same : (c : CellView) (e : ℕ) (t : SlotStep) → SameFrame c (stepped c e t).state
+step_same c e t = slot_same t.unlisted c e t.slot
 
-ready_here : (c : CellView) (o : Option ℕ) → (ready_next c o).state.here ≡ c.here
-ready_here c (Some e) = step_here c e (calls_ready c e (table.get c.reals e))
-ready_here c None = look_here c c.looks
+look_same : (c : CellView) (es : List ℕ) → SameFrame c (look_next c es).state
+look_same c [] = record { here = refl; tree = refl }
+look_same c (e ∷ es) =
+    let s = step_same (record c { looks = es }) e (looks_around c e (table.get c.reals e) (known_to c e)) in
+    record { here = s.here; tree = s.tree }
 
-task_here : (c : CellView) (es : List ℕ) → (cell_task c es).state.here ≡ c.here
-task_here c (e ∷ es) = step_here (record c { survey = es }) e (surveys c e (table.get c.reals e))
-task_here c [] = ready_here c (ready_entity c)
+ready_same : (c : CellView) (o : Option ℕ) → SameFrame c (ready_next c o).state
+ready_same c (Some e) = step_same c e (calls_ready c e (table.get c.reals e))
+ready_same c None = look_same c c.looks
 
-hears_here : (c : CellView) (m : Msg) (o : Option ℕ) → (cell_hears c m o).state.here ≡ c.here
-hears_here c m (Some e) = step_here c e (slot_steps c.here c.tree (slot_of c e) m)
-hears_here c m None = refl
+task_same : (c : CellView) (es : List ℕ) → SameFrame c (cell_task c es).state
+task_same c (e ∷ es) =
+    let s = step_same (record c { survey = es }) e (surveys c e (table.get c.reals e)) in
+    record { here = s.here; tree = s.tree }
+task_same c [] = ready_same c (ready_entity c)
 
-pub cell_here : (c : CellView) (i : Input Msg) → (cell_steps c i).state.here ≡ c.here
-cell_here c Task = task_here c c.survey
-cell_here c (From a m) = hears_here c m (about m)
+hears_same : (c : CellView) (m : Msg) (o : Option ℕ) → SameFrame c (cell_hears c m o).state
+hears_same c m (Some e) = step_same c e (slot_steps c.here c.tree (slot_of c e) m)
+hears_same c m None = record { here = refl; tree = refl }
+
+-- a cell's step keeps what the cell knows, and its tree
+pub cell_frame : (c : CellView) (i : Input Msg) → SameFrame c (cell_steps c i).state
+cell_frame c Task = task_same c c.survey
+cell_frame c (From a m) = hears_same c m (about m)
 
 pub peers_stay : (s : NodeView) (i : Input Msg) → node_peers (node_steps s i).state ≡ node_peers s
-peers_stay (Cell c) i = ap peers_of (cell_here c i)
-peers_stay (Base b) i = ap peers_of (base_here b i)
+peers_stay (Cell c) i = ap peers_of (cell_frame c i).here
+peers_stay (Base b) i = ap peers_of (base_frame b i).here
 
 pub node_stays_valid : (s : NodeView) (i : Input Msg) → IsNode s → IsNode (node_steps s i).state
 node_stays_valid (Cell c) i is = cell_stays_valid c i is

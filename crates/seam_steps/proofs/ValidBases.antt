@@ -127,27 +127,37 @@ base_stays_valid b (From a (Update u)) is = valid_of b _ (heard_same b _ _ (upda
 
 -- ---- what the node knows
 
-newer_here : (d : Bool) (b : BaseView) (e : ℕ) (r : RouteView) → (BaseCases.newer_route d b e r).here ≡ b.here
-newer_here true b e r = refl
-newer_here false b e r = refl
+-- the base node knows the same, and as many cells
+pub record SameFrame (b c : BaseView) : Type 0 where
+  pub here : c.here ≡ b.here
+  pub cells : c.cells ≡ b.cells
 
-current_here : (b : BaseView) (e : ℕ) (new : RouteView) (o : Option RouteView) → (BaseCases.current b e new o).here ≡ b.here
-current_here b e new None = refl
-current_here b e new (Some r) = newer_here _ b e new
+of_routes : (b c : BaseView) → SameRoutes b c → SameFrame b c
+of_routes b c s = record { here = s.here; cells = s.cells }
 
-unless_here : (d : Bool) (b : BaseView) (c : BaseView) → c.here ≡ b.here →
-    (BaseCases.unless_stray d b (BaseCases.sends_none c)).state.here ≡ b.here
-unless_here true b c s = refl
-unless_here false b c s = s
+newer_frame : (d : Bool) (b : BaseView) (e : ℕ) (r : RouteView) → SameFrame b (BaseCases.newer_route d b e r)
+newer_frame true b e r = record { here = refl; cells = refl }
+newer_frame false b e r = record { here = refl; cells = refl }
 
-pub base_here : (b : BaseView) (i : Input Msg) → (BaseCases.base_steps b i).state.here ≡ b.here
-base_here b Task = (task_same b b.orders).here
-base_here b (From a (Call k)) = refl
-base_here b (From a (BaseCall k)) = (heard_same b _ _ (call_same b k (table.get b.parts k.entity))).here
-base_here b (From a (Hand r)) = refl
-base_here b (From a (Current e j g)) = unless_here _ b _ (current_here b e (record { cell = j; generation = g }) (table.get b.routes e))
-base_here b (From a (GhostSet e n c)) = refl
-base_here b (From a (GhostDrop e n)) = refl
-base_here b (From a Tick) = refl
-base_here b (From a (Reap e)) = refl
-base_here b (From a (Update u)) = (heard_same b _ _ (update_same b u (table.get b.parts u.entity))).here
+current_frame : (b : BaseView) (e : ℕ) (new : RouteView) (o : Option RouteView) → SameFrame b (BaseCases.current b e new o)
+current_frame b e new None = record { here = refl; cells = refl }
+current_frame b e new (Some r) = newer_frame _ b e new
+
+unless_frame : (d : Bool) (b : BaseView) (c : BaseView) → SameFrame b c →
+    SameFrame b (BaseCases.unless_stray d b (BaseCases.sends_none c)).state
+unless_frame true b c s = record { here = refl; cells = refl }
+unless_frame false b c s = s
+
+-- a base node's step keeps what the node knows, and the number of cells
+pub base_frame : (b : BaseView) (i : Input Msg) → SameFrame b (BaseCases.base_steps b i).state
+base_frame b Task = of_routes b _ (task_same b b.orders)
+base_frame b (From a (Call k)) = record { here = refl; cells = refl }
+base_frame b (From a (BaseCall k)) = of_routes b _ (heard_same b _ _ (call_same b k (table.get b.parts k.entity)))
+base_frame b (From a (Hand r)) = record { here = refl; cells = refl }
+base_frame b (From a (Current e j g)) =
+    unless_frame _ b _ (current_frame b e (record { cell = j; generation = g }) (table.get b.routes e))
+base_frame b (From a (GhostSet e n c)) = record { here = refl; cells = refl }
+base_frame b (From a (GhostDrop e n)) = record { here = refl; cells = refl }
+base_frame b (From a Tick) = record { here = refl; cells = refl }
+base_frame b (From a (Reap e)) = record { here = refl; cells = refl }
+base_frame b (From a (Update u)) = of_routes b _ (heard_same b _ _ (update_same b u (table.get b.parts u.entity)))

@@ -3,7 +3,8 @@
 //! A cell (BigWorld's CellApp) has reals and ghosts, and hands reals over; a base node (BaseApp) has base parts and proxies,
 //! and passes calls on. `specs/` has what contracts see of both, each case of their steps as one function, and what loads
 //! make of a world. Nothing here runs. For callers, `proofs/Slots` says that a step of one entity's slot changes that slot
-//! alone, and `proofs/Tables` how worlds of a few entities compute.
+//! alone, `proofs/Peers` and `proofs/ValidBases` that a step keeps what a node knows, `proofs/Targets` that it sends to nodes of
+//! the net, and `proofs/Tables` how worlds of a few entities compute.
 #![tactic(auto)]
 
 pub mod base_steps;

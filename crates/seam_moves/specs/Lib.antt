@@ -1,0 +1,5 @@
+pub mod Frames
+pub mod Sights
+pub mod CellMoves
+pub mod BaseMoves
+pub mod Moves

@@ -1,0 +1,13 @@
+pub mod Holds
+pub mod RealsKept
+pub mod Plain
+pub mod Replaying
+pub mod Handling
+pub mod HeldCounts
+pub mod Burdening
+pub mod Easing
+pub mod Sparing
+pub mod OneReal
+pub mod Counting
+pub mod ExampleMet
+pub mod Gone
