@@ -65,7 +65,8 @@ module _ (ps : List Property) (held g : Group) (i : ℕ) (p : Property) (within 
         (map-append (λ e. e.1) (filter (λ e. in_group e.0.flag g) before) (filter (λ e. in_group e.0.flag g) (zip (p ∷ []) rest)))
 
     pub projected-more : in_group p.flag held ≡ true → in_group p.flag g ≡ true →
-        projected (take (i + 1) ps) held g vs ≡ projected (take i ps) held g vs ++ take 1 (drop (length (properties_of (take i ps) held)) vs)
+        projected (take (i + 1) ps) held g vs ≡ projected (take i ps) held g vs
+        ++ take 1 (drop (length (properties_of (take i ps) held)) vs)
     projected-more inside seen =
         projected-split inside ∙ ap (λ l. projected (take i ps) held g vs ++ l)
         (one-projected p g (drop (length (properties_of (take i ps) held)) vs) seen)

@@ -65,7 +65,8 @@ impl TypeDef {
     pub fn apply(&self, state: &mut State, deed: &Deed) -> Result<bool, AllocError>
         requires { IsType self.now }
         ensures ok { OnOk result (state.new ≡ after self.now state.old deed.now) }
-        ensures changed { IfOk result (λ c. (c ≡ false) ↔ SameShown self.now.properties (part_of_deed self.now deed.now) state.old state.new) }
+        ensures changed { IfOk result (λ c. (c ≡ false)
+            ↔ SameShown self.now.properties (part_of_deed self.now deed.now) state.old state.new) }
         ensures test { IfOk result (λ c. c ≡ changes self.now state.old deed.now) }
         ensures err { OnErr result (state.new ≡ state.old) }
         ensures kept { FitsDeed self.now deed.now → let group = held_by (part_of_deed self.now deed.now) in
@@ -89,7 +90,8 @@ impl TypeDef {
     fn perform(&self, state: &mut State, deed: &Deed) -> Result<bool, AllocError>
         requires { IsType self.now }
         ensures ok { OnOk result (state.new ≡ after self.now state.old deed.now) }
-        ensures changed { IfOk result (λ c. (c ≡ false) ↔ SameShown self.now.properties (part_of_deed self.now deed.now) state.old state.new) }
+        ensures changed { IfOk result (λ c. (c ≡ false)
+            ↔ SameShown self.now.properties (part_of_deed self.now deed.now) state.old state.new) }
         ensures err { OnErr result (state.new ≡ state.old) }
         ensures kept { FitsDeed self.now deed.now → let group = held_by (part_of_deed self.now deed.now) in
             IsOfGroup self.now.properties group state.old.props → IsOfGroup self.now.properties group state.new.props }
@@ -126,7 +128,8 @@ fn run(
     ensures kept { TakesArgs method.now.args args.now → IsOfGroup properties.now (held_by method.now.part) props.old →
         IsOfGroup properties.now (held_by method.now.part) props.new }
     ensures ok { OnOk result (props.new ≡ after_body properties.now (held_by method.now.part) args.now method.now.body props.old) }
-    ensures changed { IfOk result (λ c. (c ≡ false) ↔ (projected properties.now (held_by method.now.part) (shown_by method.now.part) props.old
+    ensures changed { IfOk result (λ c. (c ≡ false)
+        ↔ (projected properties.now (held_by method.now.part) (shown_by method.now.part) props.old
         ≡ projected properties.now (held_by method.now.part) (shown_by method.now.part) props.new)) }
     ensures err { OnErr result (props.new ≡ props.old) }
 {

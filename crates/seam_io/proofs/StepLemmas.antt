@@ -32,7 +32,8 @@ spent_prefix a held rest p none (inl passing) = let e = flag_at true p passing i
 spent_prefix a held rest p none (inr long) = let e = flag_bound p in omega arith
 
 -- the prefix of a line that is too long is let go
-pub prefix_let_go : (old : Reader) (rest line : List ℕ) → HasNoFeed old.held → (old.passing ≡ true) ⊎ (LONGEST_LINE < length old.held) → rest ≡ [] →
+pub prefix_let_go : (old : Reader) (rest line : List ℕ) → HasNoFeed old.held → (old.passing ≡ true) ⊎ (LONGEST_LINE < length old.held) →
+    rest ≡ [] →
     line ≡ []
     → LetsGo old (record old { held = rest; passing = true; line = line })
 prefix_let_go old rest line whole long none empty = record {

@@ -2,6 +2,8 @@
 //!
 //! A sender numbers its items 1, 2, 3 and so on. They may come over several ways, so a later one can come first;
 //! it is kept until its turn. No item is given twice, and none is left out.
+//!
+//! Of `proofs/`, `OrderLaws` (what an offer and taking the next item do to the held items) is for callers.
 #![tactic(auto)]
 
 ghost use Rattle.std.specs.Prelude.{◌≡◌, ◌<◌, ◌≤◌, ◌^◌, [], ◌∷◌, length, false, IfOk, IfErr, OnOk, OnErr, option_map, slice_get, is_some};

@@ -36,12 +36,17 @@ returns-then-len-eq-MOST_WORDS-clause-cause c =
     let begins : BeginsWord c.loop-rest.rest.now = search rules in (
       utf8,
       has_fault c.args.line.now c.loop-rest.words c.loop-rest.rest.now TooManyWords
-          (c.loop-rest.invariant.prefix [] c.loop-rest.rest.now ([], refl, refl)) (sym c.len.ensures.count ∙ c.if-len-eq-MOST_WORDS.true, begins),
+          (c.loop-rest.invariant.prefix [] c.loop-rest.rest.now ([], refl, refl)) (
+            sym c.len.ensures.count
+                ∙ c.if-len-eq-MOST_WORDS.true,
+            begins,
+          ),
     )
 
 pub returns-then-len-eq-MOST_WORDS-clause-found : goal.returns-then-len-eq-MOST_WORDS-clause-found
 returns-then-len-eq-MOST_WORDS-clause-found c =
-    λ spans utf8 words most. absurd (no_words c.args.line.now TooManyWords (returns-then-len-eq-MOST_WORDS-clause-cause c) spans utf8 words most)
+    λ spans utf8 words most. absurd (no_words c.args.line.now TooManyWords (returns-then-len-eq-MOST_WORDS-clause-cause c) spans utf8 words
+    most)
 
 pub returns-then-len-eq-MOST_WORDS-clause-refused : goal.returns-then-len-eq-MOST_WORDS-clause-refused
 returns-then-len-eq-MOST_WORDS-clause-refused c =
