@@ -33,10 +33,11 @@ returns-clause-reads g c = λ start given read r.
     let fits : held + c.in_ok-count.count ≤ length c.refill-result.new.buffer.items = omega arith in
     let within : c.self.inside.taken + c.in_ok-count.count ≤ c.self.inside.limit = omega arith in
     let some : 0 < length bytes = omega (arith, length-drop held c.refill-result.new.buffer.items) in
+    let kept = c.refill-result.ensures.kept in
     let filled =
     fills c.self.inside.buffer.items c.refill-result.new.buffer.items c.self.inside.start c.self.inside.end c.in_ok-count.count
     c.self.inside.passing
-    c.self.inside.ended (eqb c.in_ok-count.count 0) c.self.inside.taken c.self.inside.limit _ [] c.refill-result.ensures.kept fits within in (
+    c.self.inside.ended (eqb c.in_ok-count.count 0) c.self.inside.taken c.self.inside.limit _ [] kept fits within in (
       take c.in_ok-count.count bytes,
       refilled start _ _ c.args.self.now _ given read c.in_ok-count.count bytes r (rw (← c.self.view_is) filled)
           c.in_ok-count.ensures.bytes some c.refill-result.ensures.cause.later c.refill-result.ensures.end.later
