@@ -60,7 +60,7 @@ pub fn copies(rt: &(impl Clock + Alloc<A = Global>), calls: u32) -> io::Result<C
     for i in 0..calls {
         keep(&mut book, mixed(i), u64::from(i) + 1)?;
     }
-    Cost::since(rt, start, calls, book.len() as u64)
+    Cost::since(rt, start, calls, book.beat(mixed(calls.wrapping_sub(1))))
 }
 
 fn keep(book: &mut GhostBook<u64>, e: u32, beat: u64) -> Result<(), AllocError> {
