@@ -1,9 +1,7 @@
 //! The net and the events of nodes that were taken apart.
 
 ghost use Rattle.std.specs.Prelude.{◌≡◌, ◌<◌, length, map, IfOk};
-ghost use Rattle.seam_stamp.specs.Logs.{AreLogs};
-ghost use Rattle.seam_mesh.specs.Mesh.{AreFull, ArePaired};
-ghost use Rattle.seam_workers.specs.Rejoined.{IsRejoined};
+ghost use Rattle.seam_workers.specs.Rejoined.{CanRejoin, IsRejoined};
 
 use seam_logged::{Apart, Ends};
 use seam_machine::{Event, Machine, Net, NetParts};
@@ -71,9 +69,7 @@ pub fn rejoin<M: Machine>(
     done: Vec<Apart<M>>,
 ) -> Result<(Net<M>, Vec<Event>), AllocError>
     requires few { length done.items < 256 }
-    requires full { AreFull (length (map (λ v. v.ends) done.items)) (map (λ v. v.ends) done.items) }
-    requires paired { ArePaired (map (λ v. v.ends) done.items) }
-    requires logs { AreLogs (map (λ v. v.log) done.items) }
+    requires can { CanRejoin done.items }
     ensures { IfOk result (λ r. IsRejoined done.items r.0 r.1.items) }
 {
     let Columns {

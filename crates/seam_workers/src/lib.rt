@@ -14,7 +14,7 @@ ghost use Rattle.std.specs.Prelude.{◌≡◌, ◌≢◌, ℕ, ◌+◌, ◌%◌,
 ghost use Rattle.std.specs.List.{All};
 ghost use Rattle.seam_machine.specs.Nets.{LeadsTo, ArePeers};
 ghost use Rattle.seam_workers.specs.Seats.{Placed, filled, AreRuns, roots_of, HasEnds};
-ghost use Rattle.seam_workers.specs.Rejoined.{HasEventOf};
+ghost use Rattle.seam_workers.specs.Rejoined.{HasEventOf, IsOutcome};
 ghost use Rattle.seam_workers.specs.Shifts.{IsDone};
 ghost use Rattle.seam_logged.specs.Logs.{HasStepped, SameBut, IsIdle};
 ghost use Rattle.seam_logged.specs.declared.Try.TheVariants as Try;
@@ -434,9 +434,7 @@ fn run_crew<M: Machine + Send, G: Gate + Sync, R: Threads + Wait + Sync>(
 where
     M::Msg: Send,
     requires peers { ArePeers M.peer_count net }
-    ensures run { IfOk result (λ r. LeadsTo M.has_work M.steps net r.1.items r.0) }
-    ensures tasks { IfOk result (λ r. (k : ℕ) (s : M) → slice_get net.nodes k ≡ Some s → M.has_work s ≡ true → HasEventOf k r.1.items) }
-    ensures peers { IfOk result (λ r. ArePeers M.peer_count r.0) }
+    ensures { IfOk result (λ r. IsOutcome M.has_work M.steps M.peer_count net r.1.items r.0) }
 {
     let n = net.node_count();
     if net.is_quiet() {

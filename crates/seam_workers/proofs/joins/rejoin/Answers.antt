@@ -3,14 +3,17 @@ use Rattle.std.proofs.lemmas.List.{length-map}
 use Rattle.seam_machine.specs.Views.{PartsView}
 use Rattle.seam_machine.proofs.Parts.{parts_place}
 use Rattle.seam_stamp.specs.Logs.{AreLogs, IsMerge}
-use Rattle.seam_mesh.specs.Mesh.{ArePaired, IsCell}
+use Rattle.seam_mesh.specs.Mesh.{AreFull, ArePaired, IsCell}
 use Rattle.seam_workers.proofs.joins.rejoin.Goals as goal
 
 pub left-requires-clause-paired : goal.left-requires-clause-paired
-left-requires-clause-paired g c = subst (λ l. ArePaired l) (sym c.in_ok-nodes.ensures.ends) c.requires.paired
+left-requires-clause-paired g c = subst (λ l. ArePaired l) (sym c.in_ok-nodes.ensures.ends) c.requires.can.paired
+
+pub left-requires-clause-full : goal.left-requires-clause-full
+left-requires-clause-full g c = subst (λ l. AreFull (length l) l) (sym c.in_ok-nodes.ensures.ends) c.requires.can.full
 
 pub merge-requires : goal.merge-requires
-merge-requires g c = subst (λ l. AreLogs l) (sym c.in_ok-nodes.ensures.logs) c.requires.logs
+merge-requires g c = subst (λ l. AreLogs l) (sym c.in_ok-nodes.ensures.logs) c.requires.can.logs
 
 pub returns : goal.returns
 returns g c =
