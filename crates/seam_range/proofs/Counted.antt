@@ -19,6 +19,7 @@ use Rattle.std.proofs.lemmas.Map.Made.{is_some-lookup}
 use Rattle.seam_geo.specs.declared.pos.Pos.{Pos}
 use Rattle.seam_range.specs.Found.{count_of, one_if}
 use Rattle.seam_range.proofs.Moves.{place_of_entry}
+use Rattle.seam_range.proofs.Strips.{same_again}
 use Rattle.seam_range.proofs.Sorted.{sorted_same, sorted_by_filter, entries_when_sorted}
 
 count_cons : (q x : ℕ) (xs : List ℕ) → count_of q (x ∷ xs) ≡ cond (eqb x q) 1 0 + count_of q xs
@@ -31,9 +32,6 @@ none_by x y n false e h = (grind (arith, nat_tests), omega (arith, h))
 none_counted : (x : ℕ) (xs : List ℕ) → count_of x xs ≡ 0 → AllByRecursion (λ y. eqb x y ≡ false) xs
 none_counted x [] h = tt
 none_counted x (y ∷ ys) h = let k = none_by x y (count_of x ys) (eqb y x) refl (sym (count_cons x y ys) ∙ h) in (k.0, none_counted x ys k.1)
-
-same_again : (a : ℕ) → eqb a a ≡ true
-same_again a = grind (arith, nat_tests)
 
 distinct_when_counted : (xs : List ℕ) → ((q : ℕ) → count_of q xs ≤ 1) → IsDistinct eqb xs
 unfolding IsDistinct

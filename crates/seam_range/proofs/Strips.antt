@@ -59,7 +59,7 @@ count_by_filter b f (x ∷ xs) = filtered_by b f x xs (b x) (count_by_filter b f
 number_is : (a b : ℕ) → eqb a b ≡ true → a ≡ b
 number_is a b t = grind (arith, nat_tests)
 
-same_again : (a : ℕ) → eqb a a ≡ true
+pub same_again : (a : ℕ) → eqb a a ≡ true
 same_again a = grind (arith, nat_tests)
 
 and_parts : (a b : Bool) → (a && b) ≡ true → (a ≡ true) × (b ≡ true)

@@ -18,6 +18,7 @@ use Rattle.seam_view.specs.Replica.{after_looks}
 use Rattle.seam_view.specs.Looks.{is_far, in_view, leaves, has_changed, not_older, enters, leaving, changed, entering, one_look}
 use Rattle.seam_view.proofs.Known.{entities}
 use Rattle.seam_view.proofs.Kept.{get_by_shown}
+use Rattle.seam_view.proofs.Numbers.{number_is, same_again, apart}
 
 -- what is known of the entity is not older than what was shown of it
 abbrev MayRise : List Seen → Replica → ℕ → Type 0
@@ -27,9 +28,6 @@ abbrev MayShow : List Seen → Replica → Look → Type 0
 MayShow known r (Leave e) = Unit {0}
 MayShow known r (Set e) = MayRise known r e
 MayShow known r (Enter e) = MayRise known r e
-
-number_is : (a b : ℕ) → eqb a b ≡ true → a ≡ b
-number_is a b t = grind (arith, nat_tests)
 
 same_value : (a b : ℕ) → Some a ≡ Some b → a ≡ b
 same_value a b e = ap (λ o. unwrap_or o a) e
@@ -78,9 +76,6 @@ below_of a b t = grind (arith, nat_tests)
 le_of : (a b : ℕ) → leb a b ≡ true → a ≤ b
 le_of a b t = grind (arith, nat_tests)
 
-apart : (x y : ℕ) → nat_cmp x y ≡ Less → eqb x y ≡ false
-apart x y e = grind (arith, nat_tests)
-
 module _ (known : List Seen) (r : Replica) (own : Pos) where
   left_may : (ps : List (ℕ × ℕ)) → AllByRecursion (MayShow known r) (map (λ p. Leave p.0) ps)
   left_may [] = tt
@@ -128,9 +123,6 @@ module _ (known : List Seen) (r : Replica) (own : Pos) where
       AllByRecursion (MayShow known r) (entering r own ss)
   enter_may [] h = tt
   enter_may (s ∷ ss) h = enter_by s (filter (enters r own) ss) (enters r own s) refl h.0 (enter_may ss h.1)
-
-same_again : (a : ℕ) → eqb a a ≡ true
-same_again a = grind (arith, nat_tests)
 
 self_past : (x : Seen) (ss xs : List Seen) → AllByRecursion (λ y. nat_cmp x.entity y ≡ Less) (entities ss) →
     AllByRecursion (λ s. seen_of s.entity xs ≡ Some s) ss → AllByRecursion (λ s. seen_of s.entity (x ∷ xs) ≡ Some s) ss

@@ -15,11 +15,9 @@ use Rattle.seam_view.specs.Replica.{Replica, AreShown, IsView, seen_of, placed, 
 use Rattle.seam_view.specs.Replica.{after_looks}
 use Rattle.seam_view.specs.Together.{leaves_next, looks_past}
 use Rattle.seam_view.proofs.Together.{walked}
+use Rattle.seam_view.proofs.Numbers.{number_is, same_again, differs_too}
 
 -- ---- the version of an entity
-
-number_is : (a b : ℕ) → eqb a b ≡ true → a ≡ b
-number_is a b t = grind (arith, nat_tests)
 
 turned : (a b : ℕ) (t : Bool) → eqb a b ≡ t → is_eq (nat_cmp b a) ≡ t
 turned a b true e = grind (arith, nat_tests)
@@ -31,9 +29,6 @@ pub get_by_shown : (m : versions.FinMap nat_cmp ℕ) (e v q : ℕ) (t : Bool) �
 get_by_shown m e v q t h = versions.get-insert nat_cmp_total m e v q ∙ ap (λ b. cond b (Some v) (versions.get m q)) (turned e q t h)
 
 -- ---- each entity once
-
-differs_too : (a b : ℕ) → eqb a b ≡ false → eqb b a ≡ false
-differs_too a b t = grind (arith, nat_tests)
 
 abbrev Absent : ℕ → List (ℕ × ℕ) → Type 0
 Absent x es = AllByRecursion (λ y. eqb x y ≡ false) (keys_of es)
@@ -106,9 +101,6 @@ shown_placed_by : (m : versions.FinMap nat_cmp ℕ) (e v : ℕ) (p : ℕ × ℕ)
 shown_placed_by m e v p es true t u h k =
     (get_by_shown m e v p.0 true t, others_shown m e v es (absent_same p.0 e es t (IsDistinct-head eqb p.0 (keys_of es) u)) h.1)
 shown_placed_by m e v p es false t u h k = (get_by_shown m e v p.0 false t ∙ h.0, k)
-
-same_again : (a : ℕ) → eqb a a ≡ true
-same_again a = grind (arith, nat_tests)
 
 shown_placed : (m : versions.FinMap nat_cmp ℕ) (e v : ℕ) (es : List (ℕ × ℕ)) → IsDistinct eqb (keys_of es) → AreShown m es →
     AreShown (versions.insert m e v) (placed e v es)

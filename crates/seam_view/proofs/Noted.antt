@@ -22,9 +22,7 @@ use Rattle.seam_view.specs.Replica.{Replica, seen_of}
 use Rattle.seam_view.specs.Looks.{is_far, in_view, leaves, has_changed, not_older, enters, leaving, changed, entering}
 use Rattle.seam_view.specs.Notes.{note_of, notes_of, is_leave, is_change, noted}
 use Rattle.seam_view.proofs.Known.{entities}
-
-number_is : (a b : ℕ) → eqb a b ≡ true → a ≡ b
-number_is a b t = grind (arith, nat_tests)
+use Rattle.seam_view.proofs.Numbers.{number_is, apart, or_second, same_again}
 
 -- ---- the looks of the notes
 
@@ -108,9 +106,6 @@ push_append [] x ys = refl
 push_append (z ∷ xs) x ys = ap (λ l. z ∷ l) (push_append xs x ys)
 
 -- ---- those known, one by one
-
-apart : (x y : ℕ) → nat_cmp x y ≡ Less → eqb x y ≡ false
-apart x y e = grind (arith, nat_tests)
 
 apart_at : (x : ℕ) (xs : List Seen) (k : ℕ) (d : Seen) → AllByRecursion (λ y. nat_cmp x y ≡ Less) (entities xs) → k < length xs →
     eqb x (get_or xs k d).entity ≡ false
@@ -206,9 +201,6 @@ module _ (r : Replica) (own : Pos) (known : List Seen) (k : ℕ) (d : Seen) (o :
   note_same p t =
       ap (note_of r own p.1) (sym (seen_with_next known k p.0 d o lt ∙ ap (λ b. cond b (Some Next) (seen_of p.0 (take k known))) t))
 
-  same_again : (a : ℕ) → eqb a a ≡ true
-  same_again a = grind (arith, nat_tests)
-
   -- the next one is in view
   pub notes_when_found : (i : ℕ) (q : ℕ × ℕ) → IsDistinct eqb (keys_of r.entries) → slice_get r.entries i ≡ Some q → q.0 ≡ Next.entity →
       slice_set (notes_of r own (take k known)) i (note_of r own q.1 (Some Next)) ≡ notes_of r own (take (k + 1) known)
@@ -233,10 +225,6 @@ pub place_below : (n : ℕ) (es : List (ℕ × ℕ)) (i : ℕ) (q : ℕ × ℕ) 
 place_below n [] i q e h = cc
 place_below n (p ∷ es) zero q e h = omega (arith, e)
 place_below n (p ∷ es) (suc i) q e h = let rest = place_below (length es) es i q refl h in omega (arith, e, rest)
-
-or_second : (b c : Bool) → c ≡ true → (b || c) ≡ true
-or_second true c h = refl
-or_second false c h = h
 
 pub viewed_at : (es : List (ℕ × ℕ)) (i e : ℕ) (q : ℕ × ℕ) → slice_get es i ≡ Some q → q.0 ≡ e → list_any (λ p. eqb e p.0) es ≡ true
 viewed_at [] i e q h t = cc

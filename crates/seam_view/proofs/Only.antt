@@ -11,6 +11,7 @@ use Rattle.seam_view.specs.declared.Seen.{Seen}
 use Rattle.seam_view.specs.declared.Look.TheVariants.{Leave, Set, Enter}
 use Rattle.seam_view.specs.Replica.{Replica, seen_of}
 use Rattle.seam_view.specs.Looks.{leaves, has_changed, enters, matters, in_view, not_older, one_look}
+use Rattle.seam_view.proofs.Numbers.{number_is, or_second, same_again}
 
 filter_step : {A : Type 0} (x : A) (xs ys : List A) (p : A → Bool) (b c : Bool) → p x ≡ b → (b ≡ true → c ≡ true) → xs ≡ filter p ys →
     cond b (x ∷ xs) xs ≡ filter p (cond c (x ∷ ys) ys)
@@ -40,18 +41,8 @@ pub filter_agree : {A : Type 0} (t u : A → Bool) (xs : List A) → AllByRecurs
 filter_agree t u [] h = refl
 filter_agree t u (x ∷ xs) h = (λ i. cond (h.0 i) (x ∷ filter_agree t u xs h.1 i) (filter_agree t u xs h.1 i))
 
-same_self : (e : ℕ) → eqb e e ≡ true
-same_self e = grind (arith, nat_tests)
-
-number_is : (a b : ℕ) → eqb a b ≡ true → a ≡ b
-number_is a b t = grind (arith, nat_tests)
-
 or_first : (b c : Bool) → b ≡ true → (b || c) ≡ true
 or_first b c e = rw e refl
-
-or_second : (b c : Bool) → c ≡ true → (b || c) ≡ true
-or_second true c h = refl
-or_second false c h = h
 
 abbrev Viewed : List (ℕ × ℕ) → List (ℕ × ℕ) → Type 0
 Viewed es xs = AllByRecursion (λ x. list_any (λ p. eqb x.0 p.0) es ≡ true) xs
@@ -62,7 +53,7 @@ viewed_more q es (x ∷ xs) h = (or_second (eqb x.0 q.0) _ h.0, viewed_more q es
 
 all_viewed : (es : List (ℕ × ℕ)) → Viewed es es
 all_viewed [] = tt
-all_viewed (x ∷ es) = (or_first (eqb x.0 x.0) _ (same_self x.0), viewed_more x es es (all_viewed es))
+all_viewed (x ∷ es) = (or_first (eqb x.0 x.0) _ (same_again x.0), viewed_more x es es (all_viewed es))
 
 -- what is known of an entity in view
 seen_when_viewed : (r : Replica) (own : Pos) (known : List Seen) (e : ℕ) → in_view r e ≡ true →

@@ -1,9 +1,8 @@
 -- Where nothing was shown at a greater version than the table has, a look is the plain look.
 use Rattle.std.proofs.Common.{◌≡◌, ℕ, Bool, true, false, cond, ◌&&◌, eqb, leb, List, [], ◌∷◌, ◌++◌, map, Option, None, Some, refl, sym, ap}
-use Rattle.std.proofs.Common.{◌∙◌, arith}
+use Rattle.std.proofs.Common.{◌∙◌}
 use Rattle.std.specs.List.{AllByRecursion, filter}
 use Rattle.std.specs.FinMap as versions
-use Rattle.std.proofs.lemmas.Bool.Decides.{nat_tests}
 use Rattle.seam_geo.specs.declared.pos.Pos.{Pos}
 use Rattle.seam_view.specs.declared.Seen.{Seen}
 use Rattle.seam_view.specs.declared.Look.TheVariants.{Leave, Set, Enter}
@@ -11,13 +10,11 @@ use Rattle.seam_view.specs.Replica.{Replica, IsView, AreShown, seen_of}
 use Rattle.seam_view.specs.Looks.{is_far, leaves, has_changed, not_older, enters, one_look}
 use Rattle.seam_view.specs.Plain.{is_gone, is_new, plain_look, AreNotOlder}
 use Rattle.seam_view.proofs.Only.{filter_agree}
+use Rattle.seam_view.proofs.Numbers.{number_is}
 
 and_true : (a b : Bool) → b ≡ true → (a && b) ≡ a
 and_true true b e = e
 and_true false b e = refl
-
-number_is : (a b : ℕ) → eqb a b ≡ true → a ≡ b
-number_is a b t = grind (arith, nat_tests)
 
 abbrev Passes : (Seen → Bool) → List Seen → Type 0
 Passes t xs = AllByRecursion (λ s. t s ≡ true) xs

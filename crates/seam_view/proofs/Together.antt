@@ -1,15 +1,15 @@
 -- Leaves that were taken out of a view in one pass change nothing when they are kept afterwards.
-use Rattle.std.proofs.Common.{◌≡◌, ℕ, Bool, true, false, not, cond, eqb, List, [], ◌∷◌, ◌++◌, drop, fold, refl, sym, ap, subst, ◌∙◌, arith}
+use Rattle.std.proofs.Common.{◌≡◌, ℕ, Bool, true, false, not, cond, eqb, List, [], ◌∷◌, ◌++◌, drop, fold, refl, sym, ap, subst, ◌∙◌}
 use Rattle.std.specs.Map.{keys_of}
 use Rattle.std.specs.Map.Calls.{RetainsPairs}
 use Rattle.std.specs.List.{IsDistinct, AllByRecursion}
 use Rattle.std.proofs.lemmas.Map.Keys.{IsDistinct-head, IsDistinct-tail}
-use Rattle.std.proofs.lemmas.Bool.Decides.{nat_tests}
 use Rattle.seam_view.specs.declared.Seen.{Seen}
 use Rattle.seam_view.specs.declared.Look.{Look}
 use Rattle.seam_view.specs.declared.Look.TheVariants.{Leave, Set, Enter}
 use Rattle.seam_view.specs.Replica.{Replica, without, after_look}
 use Rattle.seam_view.specs.Together.{leaves_next, looks_past}
+use Rattle.seam_view.proofs.Numbers.{number_is, differs_too}
 
 -- what a pass leaves of the entries
 abbrev pub walked : List Look → List (ℕ × ℕ) → List (ℕ × ℕ)
@@ -32,12 +32,6 @@ Absent e es = AllByRecursion (λ p. eqb e p.0 ≡ false) es
 -- no entity of es is among the earlier ones
 abbrev Apart : List (ℕ × ℕ) → List (ℕ × ℕ) → Type 0
 Apart earlier es = AllByRecursion (λ p. Absent p.0 earlier) es
-
-number_is : (a b : ℕ) → eqb a b ≡ true → a ≡ b
-number_is a b t = grind (arith, nat_tests)
-
-differs_too : (a b : ℕ) → eqb a b ≡ false → eqb b a ≡ false
-differs_too a b t = grind (arith, nat_tests)
 
 absent_of_keys : (e : ℕ) (es : List (ℕ × ℕ)) → AllByRecursion (λ y. eqb e y ≡ false) (keys_of es) → Absent e es
 absent_of_keys e [] h = tt
