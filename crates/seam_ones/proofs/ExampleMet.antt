@@ -40,7 +40,7 @@ use Rattle.seam_ones.specs.Example.{frame, events_of}
 
 -- ---- lists of nodes, one by one
 
-abbrev EachFrom : {N : Type 0} → (ℕ → N → Type 0) → ℕ → List N → Type 0
+abbrev pub EachFrom : {N : Type 0} → (ℕ → N → Type 0) → ℕ → List N → Type 0
 EachFrom P i [] = Unit {0}
 EachFrom P i (x ∷ xs) = P i x × EachFrom P (suc i) xs
 
@@ -54,7 +54,7 @@ each_at P (x ∷ xs) i (suc k) s h e =
     let at : k + suc i ≡ suc k + i = omega arith in
     subst (λ j. P j s) at (each_at P xs (suc i) k s h.1 e)
 
-each_node : {N : Type 0} (P : ℕ → N → Type 0) (xs : List N) → EachFrom P 0 xs → EachNode P xs
+pub each_node : {N : Type 0} (P : ℕ → N → Type 0) (xs : List N) → EachFrom P 0 xs → EachNode P xs
 each_node P xs h k s e = let at : k + 0 ≡ k = omega arith in subst (λ j. P j s) at (each_at P xs 0 k s h e)
 
 slot_by : (P : ℕ → Has → Type 0) (e k : ℕ) (o : Option NodeView) → ((s : NodeView) → o ≡ Some s → P k (has_of e s)) → P k has_none →
@@ -62,7 +62,7 @@ slot_by : (P : ℕ → Has → Type 0) (e k : ℕ) (o : Option NodeView) → ((s
 slot_by P e k None h n = n
 slot_by P e k (Some s) h n = h s refl
 
-slots : (P : ℕ → Has → Type 0) (e : ℕ) (w : World) → EachNode (λ k s. P k (has_of e s)) w.nodes → ((k : ℕ) → P k has_none) → (k : ℕ) →
+pub slots : (P : ℕ → Has → Type 0) (e : ℕ) (w : World) → EachNode (λ k s. P k (has_of e s)) w.nodes → ((k : ℕ) → P k has_none) → (k : ℕ) →
     P k ((entity_flow e w).slot k)
 slots P e w each none k = slot_by P e k (slice_get w.nodes k) (each k) (none k)
 
@@ -74,7 +74,7 @@ row_empty zero k = refl
 row_empty (suc m) zero = refl
 row_empty (suc m) (suc k) = row_empty m k
 
-no_link : (n m a k : ℕ) → link (replicate n (no_row m)) a k ≡ []
+pub no_link : (n m a k : ℕ) → link (replicate n (no_row m)) a k ≡ []
 no_link zero m a k = refl
 no_link (suc n) m zero k = row_empty m k
 no_link (suc n) m (suc a) k = no_link n m a k
@@ -104,7 +104,7 @@ frame_is = record { defs = builtin-are-defs; tree = tree_is }
 
 -- ---- the nodes
 
-none_there : {X : Type 0} (q : ℕ) (x : X) → table.get (table.empty {K = ℕ} {X = X} {R = nat_cmp}) q ≡ Some x → ⊥
+pub none_there : {X : Type 0} (q : ℕ) (x : X) → table.get (table.empty {K = ℕ} {X = X} {R = nat_cmp}) q ≡ Some x → ⊥
 none_there q x at = let none = sym (table.get-empty nat_cmp q) ∙ at in cc
 
 low_of : (k : ℕ) → k < 16 → IsNode (idle two_cells k)
@@ -131,7 +131,7 @@ one_by : {X : Type 0} (x y : X) (b : Bool) → cond b (Some x) None ≡ Some y �
 one_by x y true h = cc
 one_by x y false h = cc
 
-one_is : {X : Type 0} (x y : X) (q : ℕ) → table.get (one x) q ≡ Some y → x ≡ y
+pub one_is : {X : Type 0} (x y : X) (q : ℕ) → table.get (one x) q ≡ Some y → x ≡ y
 one_is x y q at = one_by x y (eqb q 1) (sym (one_there x q) ∙ at)
 
 number_by : {X : Type 0} (x y : X) (q : ℕ) (b : Bool) → eqb q 1 ≡ b → cond b (Some x) None ≡ Some y → q ≡ 1
@@ -337,7 +337,7 @@ fits_at = (
 fit_slots : (k : ℕ) → R k ((entity_flow 1 world_0).slot k)
 fit_slots = slots R 1 world_0 (each_node (λ k s. R k (has_of 1 s)) world_0.nodes fits_at) none_fits
 
-no_mail : (a k : ℕ) → (entity_flow 1 world_0).mail a k ≡ []
+pub no_mail : (a k : ℕ) → (entity_flow 1 world_0).mail a k ≡ []
 unfolding world_0
 no_mail a k = ap (letters_of (mine 1)) (no_link 18 18 a k)
 

@@ -166,7 +166,7 @@ module _ (f : Frame) (frame : IsFrame f) (e ty : ℕ) (known : ty < length f.def
   abbrev next : World
   next = happens node_steps w v
 
-  goes : Goes (λ k s i t out. MovesTo f e k s i t out × Came i) (entity_flow e w) (entity_flow e next)
+  pub goes : Goes (λ k s i t out. MovesTo f e k s i t out × Came i) (entity_flow e w) (entity_flow e next)
   goes = event_moves_with f w v o has.fits.frame e (λ s i. Came i) (came_small f e w v o has.fits.frame has.fits.room, calm)
 
   abbrev node : ℕ
@@ -182,7 +182,7 @@ module _ (f : Frame) (frame : IsFrame f) (e ty : ℕ) (known : ty < length f.def
       real_in ((entity_flow e w).slot node) ≡ None
   free_by p a is one = let s = subst (λ x. Sole real_in real_of (entity_flow e w) x has.real) is one in s.slots node
 
-  room : (r : RealView) → letter ≡ Some (Hand r) → FindsRoom f node ((entity_flow e w).slot node) r
+  pub room : (r : RealView) → letter ≡ Some (Hand r) → FindsRoom f node ((entity_flow e w).slot node) r
   room r is =
       let c = sole_came real_in real_of goes has.place has.real r has.one (ap (carried_in real_of) is) in
       let fits = hand_fits r is in
