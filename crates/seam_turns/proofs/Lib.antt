@@ -1,0 +1,3 @@
+pub mod Turning
+pub mod Steps
+pub mod Ends
