@@ -10,8 +10,6 @@
 //! `SendLemmas` (the items that go to one node), `Flats` (rows as one list), `Quiet` (a quiet net is empty), `Parts` (a net and its parts).
 #![tactic(auto)]
 
-ghost use Rattle.std.specs.Prelude.{◌≡◌};
-
 mod laws;
 mod links;
 mod machines;
