@@ -1,10 +1,14 @@
 //! A link whose items spill, and one whose ends are in two threads.
 
+ghost use Rattle.std.specs.Prelude.{◌≡◌};
+
 use crate::{link, meet};
 use std::alloc::{AllocError, Global};
 
 // Each end goes from one thread to another.
-fn sent<T: Send>(value: T) -> T {
+fn sent<T: Send>(value: T) -> T
+    ensures { result ≡ value }
+{
     value
 }
 

@@ -1,4 +1,4 @@
-ghost use Rattle.std.specs.Prelude.{IfOk};
+ghost use Rattle.std.specs.Prelude.{◌≡◌, IfOk};
 ghost use Rattle.seam_machine.specs.Nets.{ArePeers};
 
 use super::Counter;
@@ -7,7 +7,9 @@ use std::alloc::{AllocError, Global};
 use std::test::Fail;
 
 // A net goes from one thread to another.
-fn sent<T: Send>(value: T) -> T {
+fn sent<T: Send>(value: T) -> T
+    ensures { result ≡ value }
+{
     value
 }
 

@@ -1,8 +1,12 @@
+ghost use Rattle.std.specs.Prelude.{◌≡◌};
+
 use super::*;
 use std::test::Fail;
 
 // A table goes from one thread to another.
-fn sent<T: Send>(value: T) -> T {
+fn sent<T: Send>(value: T) -> T
+    ensures { result ≡ value }
+{
     value
 }
 

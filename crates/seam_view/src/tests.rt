@@ -1,4 +1,4 @@
-ghost use Rattle.std.specs.Prelude.{map};
+ghost use Rattle.std.specs.Prelude.{◌≡◌, map};
 ghost use Rattle.std.specs.Ordering.{nat_cmp};
 ghost use Rattle.std.specs.List.Sorted.{IsStrictlySortedBy};
 
@@ -6,7 +6,9 @@ use super::*;
 use std::test::Fail;
 
 // A view goes from one thread to another.
-fn sent<T: Send>(value: T) -> T {
+fn sent<T: Send>(value: T) -> T
+    ensures { result ≡ value }
+{
     value
 }
 
