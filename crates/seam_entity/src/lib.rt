@@ -5,8 +5,6 @@
 //! `specs/Reals` has what contracts see of a real, `specs/Orders` what they see of the calls that it holds.
 #![tactic(auto)]
 
-ghost use Rattle.std.specs.Prelude.{◌≡◌};
-
 mod message;
 mod orders;
 mod real;
@@ -15,15 +13,5 @@ pub use message::{Msg, Parcel};
 pub use orders::Orders;
 pub use real::{After, Did, Real, Witness};
 
-fn sent<T: Send>(value: T) -> T
-    ensures { result ≡ value }
-{
-    value
-}
-
-/// A message may go to another thread.
-pub fn send_msg(msg: Msg) -> Msg
-    ensures { result ≡ msg }
-{
-    sent(msg)
-}
+#[cfg(test)]
+mod tests;

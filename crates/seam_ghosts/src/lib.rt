@@ -161,19 +161,6 @@ impl<P: Drop> GhostBook<P> {
     }
 }
 
-fn sent<T: Send>(value: T) -> T
-    ensures { result ≡ value }
-{
-    value
-}
-
-/// Where the copies may go to another thread, so may their book.
-pub fn send_book<P: Send>(book: GhostBook<P>) -> GhostBook<P>
-    ensures { result ≡ book }
-{
-    sent(book)
-}
-
 /// The beat of an entity never falls: after a message it is the greater of the message's beat and the one known, and where the
 /// message's is greater, the copy is the message's. No other entity changes.
 pub fn beats_never_fall<P>()

@@ -1,5 +1,14 @@
+ghost use Rattle.std.specs.Prelude.{◌≡◌};
+
 use super::*;
 use std::test::Fail;
+
+// A book goes from one thread to another.
+fn sent<T: Send>(value: T) -> T
+    ensures { result ≡ value }
+{
+    value
+}
 
 // The answer to a message, or the copy that came back.
 fn shown(answer: Result<Kept, NoMemoryFor<char>>) -> (Option<Kept>, Option<char>) {
@@ -11,7 +20,7 @@ fn shown(answer: Result<Kept, NoMemoryFor<char>>) -> (Option<Kept>, Option<char>
 
 #[test]
 fn a_late_copy_is_ignored_after_a_drop(rt: HostRuntime) -> Result<(), Fail> {
-    let mut book = send_book(GhostBook::new(rt.alloc()));
+    let mut book = sent(GhostBook::new(rt.alloc()));
     book.reserve(7)?;
     assert_eq!(rt; book.beat(7), 0);
     assert_eq!(rt; book.drop_copy(7, 3)?, Kept::Taken);

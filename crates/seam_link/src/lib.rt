@@ -225,25 +225,5 @@ pub fn meet<T: Drop>(alloc: Global, out: LinkOut<T>, end: LinkIn<T>) -> Result<V
     Ok(left)
 }
 
-fn sent<T: Send>(value: T) -> T
-    ensures { result ≡ value }
-{
-    value
-}
-
-/// The end that puts may go to another thread where its items may.
-pub fn send_out<T: Drop + Send>(end: LinkOut<T>) -> LinkOut<T>
-    ensures { result ≡ end }
-{
-    sent(end)
-}
-
-/// The end that takes may go to another thread where its items may.
-pub fn send_in<T: Drop + Send>(end: LinkIn<T>) -> LinkIn<T>
-    ensures { result ≡ end }
-{
-    sent(end)
-}
-
 #[cfg(test)]
 mod tests;

@@ -1,12 +1,22 @@
 //! A link whose items spill, and one whose ends are in two threads.
 
+ghost use Rattle.std.specs.Prelude.{◌≡◌};
+
 use crate::{link, meet};
 use std::alloc::{AllocError, Global};
+
+// Each end goes from one thread to another.
+fn sent<T: Send>(value: T) -> T
+    ensures { result ≡ value }
+{
+    value
+}
 
 #[test]
 fn what_is_put_is_taken_in_order(rt: HostRuntime) -> Result<(), AllocError> {
     let alloc: Global = rt.alloc();
-    let (mut out, mut end) = link::<u32>(alloc, 1)?;
+    let (out, end) = link::<u32>(alloc, 1)?;
+    let (mut out, mut end) = (sent(out), sent(end));
     assert!(rt; out.put(1).is_ok());
     assert!(rt; out.put(2).is_ok());
     assert!(rt; out.put(3).is_ok());

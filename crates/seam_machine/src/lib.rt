@@ -10,8 +10,6 @@
 //! `SendLemmas` (the items that go to one node), `Flats` (rows as one list), `Quiet` (a quiet net is empty), `Parts` (a net and its parts).
 #![tactic(auto)]
 
-ghost use Rattle.std.specs.Prelude.{◌≡◌};
-
 mod laws;
 mod links;
 mod machines;
@@ -26,25 +24,3 @@ pub use machines::{Event, Input, Machine};
 pub use nets::{Net, NetParts};
 pub use seam_memory::NoMemoryFor;
 pub use sends::Out;
-
-fn sent<T: Send>(value: T) -> T
-    ensures { result ≡ value }
-{
-    value
-}
-
-/// Sends of messages that may go to another thread may go there.
-pub fn send_out<T: Send>(out: Out<T>) -> Out<T>
-    ensures { result ≡ out }
-{
-    sent(out)
-}
-
-/// A net whose nodes and messages may go to another thread may go there.
-pub fn send_net<M: Machine + Send>(net: Net<M>) -> Net<M>
-where
-    M::Msg: Send,
-    ensures { result ≡ net }
-{
-    sent(net)
-}

@@ -1,6 +1,6 @@
 -- A real that fits still fits after a call that fits, and where it settles.
 use Rattle.std.proofs.Common.{◌≡◌, ℕ, ◌+◌, ◌<◌, Bool, true, false, ◌&&◌, nat_lt, nat_le, length}
-use Rattle.std.proofs.Common.{Some, refl, sym, ◌∙◌, subst, arith}
+use Rattle.std.proofs.Common.{Some, cond, refl, sym, ◌∙◌, subst, arith}
 use Rattle.std.specs.FinMap as table
 use Rattle.std.specs.FinSet as set
 use Rattle.std.proofs.lemmas.Bool.Decides.{nat_tests}
@@ -9,7 +9,7 @@ use Rattle.seam_tree.specs.Division.{leaf_at, cells_of}
 use Rattle.seam_tree.specs.Cells.{Cells}
 use Rattle.seam_tree.proofs.Leaves.{leaf_is_cell}
 use Rattle.seam_haunt.specs.Haunts.{is_haunt, haunts_of}
-use Rattle.seam_haunt.proofs.Chosen.{contains-chosen}
+use Rattle.seam_haunt.proofs.Chosen.{contains_chosen}
 use Rattle.seam_defs.specs.declared.flags.Part.{Part}
 use Rattle.seam_defs.specs.declared.flags.Part.TheVariants as part
 use Rattle.seam_defs.specs.declared.flags.Group.TheVariants as group
@@ -35,7 +35,7 @@ use Rattle.seam_steps.specs.Fitting.{is_inside, can_do}
 use Rattle.seam_steps.specs.Here.{Here, type_at}
 use Rattle.seam_steps.specs.Calls.{order_passes, order_is_ready, ready_order}
 use Rattle.seam_steps.specs.Reals.{fits_cell_part, may_call, with_offer, executed, executed_ready}
-use Rattle.seam_steps.specs.Settle.{home_after, home_by, haunts_at, settled_to}
+use Rattle.seam_steps.specs.Settle.{home_after, haunts_at, settled_to}
 use Rattle.seam_moves.specs.Frames.{Frame, here_at}
 use Rattle.seam_ones.specs.Fits.{RealFits}
 use Rattle.seam_ones.proofs.Holds.{both, picked_passes, item_passes_too, held_offered, held_taken}
@@ -131,7 +131,7 @@ module _ (f : Frame) (defs : AreDefs f.defs) (e ty k : ℕ) where
       j < cells_of f.tree
   haunts_low p home old near far j is =
       let test = is_haunt p home old f.tree near far in
-      let parts = both (nat_le 0 j && nat_lt j (0 + cells_of f.tree)) (test j) (sym (contains-chosen test 0 (cells_of f.tree) j) ∙ is) in
+      let parts = both (nat_le 0 j && nat_lt j (0 + cells_of f.tree)) (test j) (sym (contains_chosen test 0 (cells_of f.tree) j) ∙ is) in
       low_of j 0 (cells_of f.tree) parts.0
 
   pub settled_fits : (q : RealView) (j home : ℕ) (old : Cells) (beat generation : ℕ) → RealFits f e ty k q → home < cells_of f.tree →
@@ -147,7 +147,7 @@ module _ (f : Frame) (defs : AreDefs f.defs) (e ty k : ℕ) where
         haunts_low q.state.pos j old f.settings.ghost_distance (f.settings.ghost_distance + f.settings.ghost_hysteresis) i there;
   }
 
-  home_low : (b : Bool) (p : Pos) → k < cells_of f.tree → home_by b k (leaf_at f.tree p) < cells_of f.tree
+  home_low : (b : Bool) (p : Pos) → k < cells_of f.tree → cond b k (leaf_at f.tree p) < cells_of f.tree
   home_low true p low = low
   home_low false p low = leaf_is_cell f.tree p
 

@@ -26,10 +26,9 @@ pub fn exactly_one_real()
         holders w e ≡ 1 → LeadsTo node_has_work node_steps w es v → holders v e ≡ 1 }
 {}
 
-/// Its one real, wherever it is then, is the one at the start after further calls: they are appended to its list of done calls, its state
-/// is
-/// that after their deeds, its version rose by their number, and its public version is the version at the last of them that others may see.
-/// All that fitted still fits.
+/// Its one real, wherever it is then, is the one at the start after further calls: they are appended to its list of done calls, its
+/// state is that after their deeds, its version rose by their number, and its public version is the version at the last of them that
+/// others may see. All that fitted still fits.
 pub fn reals_replay_their_calls()
     ensures { (f : Frame) (e ty : ℕ) (w v : World) (es : List Event) → IsFrame f → ty < length f.defs → AllFits f e ty w → IsSpared e w →
         (p : Place) (r : RealView) → IsOne e w p r → LeadsTo node_has_work node_steps w es v → OneFrom f e ty r v }

@@ -155,19 +155,6 @@ impl<T> InOrder<T> {
     }
 }
 
-fn sent<T: Send>(value: T) -> T
-    ensures { result ≡ value }
-{
-    value
-}
-
-/// Items that may go to another thread may go there in their order.
-pub fn send_in_order<T: Send>(items: InOrder<T>) -> InOrder<T>
-    ensures { result ≡ items }
-{
-    sent(items)
-}
-
 /// The order stays one: numbers rise from the next one on, after each offer and each taking.
 pub fn order_is_kept<T>()
     ensures offered { (w : OrderView T) (n : ℕ) (item : T) → IsInOrder w → 1 ≤ n → n < 2 ^ 62 → is_some (item_at n w.held) ≡ false →

@@ -1,5 +1,14 @@
+ghost use Rattle.std.specs.Prelude.{◌≡◌};
+
 use super::*;
 use std::test::Fail;
+
+// Items go in their order from one thread to another.
+fn sent<T: Send>(value: T) -> T
+    ensures { result ≡ value }
+{
+    value
+}
 
 // The answer to an offer, or the item taken, as text.
 fn shown(answer: Result<Offer<char>, NoMemoryFor<char>>) -> (char, Option<char>) {
@@ -13,7 +22,7 @@ fn shown(answer: Result<Offer<char>, NoMemoryFor<char>>) -> (char, Option<char>)
 
 #[test]
 fn early_then_its_turn_then_over(rt: HostRuntime) -> Result<(), Fail> {
-    let mut items = send_in_order(InOrder::new(rt.alloc()));
+    let mut items = sent(InOrder::new(rt.alloc()));
     assert_eq!(rt; shown(items.offer(2, 'b')), ('h', None));
     assert!(rt; items.holds(2));
     assert_eq!(rt; items.held_at(0), Some((2, &'b')));

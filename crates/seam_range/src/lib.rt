@@ -181,16 +181,3 @@ fn is_near(place: Pos, p: Pos, d: u32) -> bool
 {
     dist(p, place) <= d
 }
-
-fn sent<T: Send>(value: T) -> T
-    ensures { result ≡ value }
-{
-    value
-}
-
-/// A list may go to another thread.
-pub fn send_list(list: RangeList) -> RangeList
-    ensures { result ≡ list }
-{
-    sent(list)
-}

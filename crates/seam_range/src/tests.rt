@@ -1,9 +1,18 @@
+ghost use Rattle.std.specs.Prelude.{◌≡◌};
+
 use super::*;
 use std::test::Fail;
 
+// A list goes from one thread to another.
+fn sent<T: Send>(value: T) -> T
+    ensures { result ≡ value }
+{
+    value
+}
+
 #[test]
 fn near_entities_in_rising_number(rt: HostRuntime) -> Result<(), Fail> {
-    let mut list = RangeList::new(rt.alloc());
+    let mut list = sent(RangeList::new(rt.alloc()));
     list.put(2, Pos { x: 5, z: 5 })?;
     list.put(1, Pos { x: 0, z: 0 })?;
     list.put(3, Pos { x: 6, z: 0 })?;

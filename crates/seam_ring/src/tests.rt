@@ -1,10 +1,17 @@
-ghost use Rattle.std.specs.Prelude.{IfOk};
+ghost use Rattle.std.specs.Prelude.{◌≡◌, IfOk};
 ghost use Rattle.seam_machine.specs.Nets.{ArePeers};
 
 use super::Counter;
-use seam_machine::{Event, Machine, Net, send_net};
+use seam_machine::{Event, Machine, Net};
 use std::alloc::{AllocError, Global};
 use std::test::Fail;
+
+// A net goes from one thread to another.
+fn sent<T: Send>(value: T) -> T
+    ensures { result ≡ value }
+{
+    value
+}
 
 // Lets the first enabled event happen again and again, until the net is quiet or so many happened. Gives how many did.
 fn run<M: Machine>(alloc: Global, net: &mut Net<M>, most: u32) -> Result<u32, AllocError>
@@ -37,7 +44,7 @@ fn ring(alloc: Global) -> Result<Net<Counter>, AllocError>
 
 #[test]
 fn a_number_goes_round_until_it_is_gone(rt: HostRuntime) -> Result<(), Fail> {
-    let mut net = send_net(ring(rt.alloc())?);
+    let mut net = sent(ring(rt.alloc())?);
     assert_eq!(rt; net.node_count(), 3);
     assert_eq!(rt;
         net.next_event(),

@@ -221,19 +221,6 @@ fn remove_entry<T: Drop>(entries: &mut BTreeMap<u32, Option<T>>, n: u32) -> Opti
     entries.remove(&n).flatten()
 }
 
-fn sent<T: Send>(value: T) -> T
-    ensures { result ≡ value }
-{
-    value
-}
-
-/// Where the items may go to another thread, so may their table.
-pub fn send_table<T: Send>(table: Table<T>) -> Table<T>
-    ensures { result ≡ table }
-{
-    sent(table)
-}
-
 /// An item that a search of a table's entries finds is the table's item of that number, and passes the test.
 pub fn what_is_found_is_there<T>()
     ensures { (test : ℕ × T → Bool) (m : map.FinMap nat_cmp T) (p : ℕ × T) → find test (map.entries m) ≡ Some p →

@@ -1,9 +1,18 @@
+ghost use Rattle.std.specs.Prelude.{◌≡◌};
+
 use super::*;
 use std::test::Fail;
 
+// A table goes from one thread to another.
+fn sent<T: Send>(value: T) -> T
+    ensures { result ≡ value }
+{
+    value
+}
+
 #[test]
 fn an_item_is_changed_in_the_room_that_it_left(rt: HostRuntime) -> Result<(), Fail> {
-    let mut table = send_table(Table::new(rt.alloc()));
+    let mut table = sent(Table::new(rt.alloc()));
     assert_eq!(rt; table.next_after(None), None);
     assert_eq!(rt; table.put(7, 'p').is_ok(), true);
     table.reserve(2)?;

@@ -15,7 +15,8 @@ fn sixteen_cells(rt: HostRuntime) {
     assert_eq!(rt; tree.cells(), 16);
     assert_eq!(rt; tree.size(), 10_000);
     assert!(rt; tree.holds(Pos { x: 9_999, z: 0 }) && !tree.holds(Pos { x: 10_000, z: 0 }));
-    assert_eq!(rt; sent(tree.areas())[15].low().x, 2_000);
+    let last = tree.areas()[15];
+    assert_eq!(rt; last.low().x, 2_000);
     assert_eq!(rt; tree.cut(16, Axis::X, 5), Err(CutError::NoCell));
     assert_eq!(rt; tree.cut(0, Axis::X, 5000), Err(CutError::OutsideCell));
     assert_eq!(rt; tree.cut(0, Axis::X, 1000), Err(CutError::TooManyCells));

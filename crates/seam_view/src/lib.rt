@@ -503,16 +503,3 @@ pub fn looks_are_plain()
     ensures { (r : Replica) (own : Pos) (known : List Seen) → IsView r → AreNotOlder r known →
         one_look r own known ≡ plain_look r own known }
 {}
-
-fn sent<T: Send>(value: T) -> T
-    ensures { result ≡ value }
-{
-    value
-}
-
-/// A view may go to another thread.
-pub fn send_view(view: View) -> View
-    ensures { result ≡ view }
-{
-    sent(view)
-}

@@ -1,9 +1,16 @@
-ghost use Rattle.std.specs.Prelude.{map};
+ghost use Rattle.std.specs.Prelude.{◌≡◌, map};
 ghost use Rattle.std.specs.Ordering.{nat_cmp};
 ghost use Rattle.std.specs.List.Sorted.{IsStrictlySortedBy};
 
 use super::*;
 use std::test::Fail;
+
+// A view goes from one thread to another.
+fn sent<T: Send>(value: T) -> T
+    ensures { result ≡ value }
+{
+    value
+}
 
 const OWN: Pos = Pos { x: 0, z: 0 };
 
@@ -20,7 +27,7 @@ fn seen(entity: u32, version: u64, x: u32) -> [Seen; 1]
 
 #[test]
 fn enters_at_the_radius_and_leaves_past_the_hysteresis(rt: HostRuntime) -> Result<(), Fail> {
-    let mut view = View::new(rt.alloc(), 300, 10);
+    let mut view = sent(View::new(rt.alloc(), 300, 10));
     let near = seen(2, 0, 300);
     let looks = view.plan(OWN, &near)?;
     assert_eq!(rt; looks.as_slice(), [Look::Enter(2)].as_slice());
