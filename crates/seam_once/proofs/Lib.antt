@@ -1,0 +1,5 @@
+pub mod DeskLemmas
+pub mod CellSeen
+pub mod CellRuns
+pub mod Quieting
+pub mod ExampleTurns

@@ -1,0 +1,2 @@
+pub mod CellTurns
+pub mod Example
