@@ -1,6 +1,6 @@
 -- Each call to a cell part once: after an event, and after every list of events.
-use Rattle.std.proofs.Common.{◌≡◌, ℕ, ◌+◌, ◌<◌, ◌≤◌, Bool, true, not, ◌&&◌, nat_lt, is_some, List, [], ◌∷◌, length, Option, None, Some}
-use Rattle.std.proofs.Common.{refl, sym}
+use Rattle.std.proofs.Common.{◌≡◌, ℕ, ◌+◌, ◌<◌, ◌≤◌, true, not, nat_lt, is_some, List, ◌∷◌, length, Option, None, Some}
+use Rattle.std.proofs.Common.{refl}
 use Rattle.std.proofs.Common.{ap, ◌∙◌, arith}
 use Rattle.std.specs.Prelude.{slice_get}
 use Rattle.std.specs.FinMap as table
@@ -18,9 +18,9 @@ use Rattle.seam_flows.specs.Flows.{Flow, comes, letter_in, letters_of, more_lett
 use Rattle.seam_flows.specs.Tokens.{carried_in}
 use Rattle.seam_flows.proofs.Narrowing.{narrow_goes}
 use Rattle.seam_flows.proofs.TokenLemmas.{first_is, sole_here}
-use Rattle.seam_order.specs.Held.{OrderView, item_at}
+use Rattle.seam_order.specs.Held.{item_at}
 use Rattle.seam_order.specs.Offers.{next_item}
-use Rattle.seam_turns.specs.Desks.{Desk, Post, Mail, Item, desk_of, parcel_of, AreInTurn}
+use Rattle.seam_turns.specs.Desks.{Item, desk_of, parcel_of, AreInTurn}
 use Rattle.seam_turns.specs.CallMoves.{Passes, Twice}
 use Rattle.seam_turns.proofs.Steps.{turns_go}
 use Rattle.seam_turns.proofs.Ends.{is_met, never_late, never_held, held_is_due, due_is}
@@ -32,7 +32,7 @@ use Rattle.seam_entity.specs.declared.message.Msg.{Msg}
 use Rattle.seam_entity.specs.declared.message.Msg.TheVariants.{Call, Reap}
 use Rattle.seam_steps.specs.Numbers.{limit}
 use Rattle.seam_steps.specs.Here.{cell_count}
-use Rattle.seam_steps.specs.Calls.{order_is_ready, ready_order, may_offer}
+use Rattle.seam_steps.specs.Calls.{order_is_ready, may_offer}
 use Rattle.seam_steps.specs.Reals.{fits_cell_part, may_call, may_execute}
 use Rattle.seam_steps.specs.Nodes.{NodeView, World, node_steps, node_has_work}
 use Rattle.seam_steps.specs.Nodes.NodeView.{Cell, Base}

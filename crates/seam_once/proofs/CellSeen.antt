@@ -13,8 +13,8 @@ use Rattle.seam_flows.specs.Sent.{IsSilent}
 use Rattle.seam_flows.specs.Tokens.{carried_in}
 use Rattle.seam_flows.proofs.SendLists.{sees_none, sees_after_silent, sees_one_here, sees_one_there}
 use Rattle.seam_order.specs.Held.{OrderView}
-use Rattle.seam_order.specs.Offers.{next_item, after_offer, after_taking}
-use Rattle.seam_turns.specs.Desks.{Desk, Post, Mail, Item, Parcel}
+use Rattle.seam_order.specs.Offers.{next_item}
+use Rattle.seam_turns.specs.Desks.{Desk, Post, Mail, Item}
 use Rattle.seam_turns.specs.CallMoves.{Quiet, Only, Passes, rests, sends, relays, offers, takes, lands, leaves, Twice, once, twice}
 use Rattle.seam_call.specs.declared.call.Call.{Call as CallData}
 use Rattle.seam_call.specs.declared.order.Order.{Order}
@@ -43,7 +43,6 @@ use Rattle.seam_moves.specs.Moves.{Moves, at_a_cell, at_a_base}
 use Rattle.seam_ones.specs.Ones.{real_in}
 use Rattle.seam_ones.proofs.Plain.{SeesNoGhost, ghosts_silent, mapped_silent, numbered_silent}
 use Rattle.seam_ones.proofs.Handling.{FindsRoom}
-use Rattle.seam_ways.specs.Ways.{is_visited}
 use Rattle.seam_once.specs.CellTurns.{desk_for, cell_order_from, real_desk, cell_post, cell_mail, FindsTurn}
 use Rattle.seam_once.proofs.DeskLemmas.{from_same, from_other, desk_executes, desk_holds, desk_keeps, desk_stays, desk_takes}
 

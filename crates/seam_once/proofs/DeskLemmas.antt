@@ -1,6 +1,5 @@
 -- One sender's desk after a call was offered, or one that was held was taken.
-use Rattle.std.proofs.Common.{◌≡◌, ℕ, ◌<◌, cond, eqb, List, [], ◌∷◌, ◌++◌, Option, None, Some, refl, sym, ap, ◌∙◌, arith}
-use Rattle.std.specs.Ordering.{nat_cmp}
+use Rattle.std.proofs.Common.{◌≡◌, ℕ, ◌<◌, cond, eqb, List, [], ◌∷◌, ◌++◌, None, Some, refl, sym, ap, ◌∙◌, arith}
 use Rattle.std.specs.Cmp.{nat_cmp_total, unsigned_tied}
 use Rattle.std.specs.FinMap as table
 use Rattle.std.proofs.lemmas.Bool.{eq-eqb, ne_eqb}
@@ -9,7 +8,6 @@ use Rattle.seam_flows.specs.Flows.{letters_of, more_letter}
 use Rattle.seam_flows.proofs.Bridge.{letters_of-append}
 use Rattle.seam_order.specs.Held.{OrderView}
 use Rattle.seam_order.specs.Offers.{after_offer, after_taking}
-use Rattle.seam_delivery.specs.Deliveries.{at_once}
 use Rattle.seam_turns.specs.Desks.{Desk}
 use Rattle.seam_turns.specs.CallMoves.{offered, taken}
 use Rattle.seam_call.specs.declared.call.Call.{Call as CallData}

@@ -1,5 +1,5 @@
 -- Each sender's calls are in turn in a loaded world of two cells.
-use Rattle.std.proofs.Common.{◌≡◌, ℕ, ◌+◌, ◌<◌, ◌^◌, Bool, true, false, eqb, List, [], ◌∷◌, length, Option, None, Some, refl, sym, ap, ◌∙◌}
+use Rattle.std.proofs.Common.{◌≡◌, ℕ, ◌+◌, ◌<◌, ◌^◌, Bool, true, false, eqb, List, [], ◌∷◌, length, None, Some, refl, sym, ap, ◌∙◌}
 use Rattle.std.proofs.Common.{subst}
 use Rattle.std.proofs.Common.{arith, inl, inr}
 use Rattle.std.specs.List.{AllByRecursion}
@@ -10,10 +10,9 @@ use Rattle.seam_flows.specs.Flows.{Flow, letters_of, more_letter}
 use Rattle.seam_delivery.specs.Numbered.{of_number, number_from}
 use Rattle.seam_delivery.proofs.Numbers.{letters_of-number_from}
 use Rattle.seam_order.specs.Held.{item_at}
-use Rattle.seam_turns.specs.Desks.{Desk, AreInTurn, IsLoaded}
+use Rattle.seam_turns.specs.Desks.{Desk, AreInTurn}
 use Rattle.seam_turns.proofs.Ends.{loaded_in_turn}
 use Rattle.seam_call.specs.declared.call.Call.{Call as CallData}
-use Rattle.seam_call.specs.declared.order.Order.{Order}
 use Rattle.seam_call.specs.declared.order.Order.TheVariants as order
 use Rattle.seam_call.specs.Senders.{rank_of}
 use Rattle.seam_entity.specs.Orders.{order_or}

@@ -17,7 +17,7 @@ use Rattle.seam_call.specs.declared.call.Call.{Call as CallData}
 use Rattle.seam_entity.specs.Orders.{Orders, order_or}
 use Rattle.seam_entity.specs.Reals.{RealView}
 use Rattle.seam_steps.specs.Maps.{number_of, has_any}
-use Rattle.seam_steps.specs.Calls.{is_ready, order_is_ready, has_ready}
+use Rattle.seam_steps.specs.Calls.{order_is_ready, has_ready}
 use Rattle.seam_steps.specs.Cells.{CellView, real_is_ready, cell_has_work}
 use Rattle.seam_steps.specs.Bases.{BaseView}
 use Rattle.seam_steps.specs.BaseCases.{base_has_work}
@@ -27,7 +27,7 @@ use Rattle.seam_moves.specs.Frames.{Frame, IsInFrame}
 use Rattle.seam_moves.specs.Sights.{Has, mine, has_of, has_none, orders_of, entity_flow}
 use Rattle.seam_ones.specs.Ones.{real_in}
 use Rattle.seam_ones.proofs.ExampleMet.{slots}
-use Rattle.seam_ones.proofs.Holds.{all_two, got_passes}
+use Rattle.seam_ones.proofs.Holds.{got_passes}
 use Rattle.seam_once.specs.CellTurns.{from_sender, desk_for, cell_order_from, real_desk, cell_mail, as_sender, CellCallsInTurn}
 
 neither : (a b : Bool) → (a || b) ≡ false → (a ≡ false) × (b ≡ false)
