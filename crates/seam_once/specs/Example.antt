@@ -1,4 +1,4 @@
--- The calls of a world of two cells that a load made, of three senders and more: what the laws ask of them is true.
+-- The calls of two senders in a world of two cells that a load made: what the laws ask of them is true.
 use Rattle.std.specs.Prelude.{ℕ, List, [], ◌∷◌}
 use Rattle.seam_flows.specs.Flows.{letters_of}
 use Rattle.seam_call.specs.declared.call.Call.{Call as CallData}
