@@ -99,7 +99,7 @@ module _ (f : Frame) (frame : IsFrame f) (e ty : ℕ) (known : ty < length f.def
       desk_is : desk_for s r.orders r.done ≡ turn.desk
       desk_is =
           (sole_here desk_of parcel_of (as_sender s flow) turn.place turn.desk (desk_for s r.orders r.done) k turn.in_turn.sole
-              desk_there).1
+          desk_there).1
 
     holds_own : (k : ℕ) → HoldsOwn (flow.slot k)
     holds_own k r p c has at item =
@@ -168,7 +168,7 @@ module _ (f : Frame) (frame : IsFrame f) (e ty : ℕ) (known : ty < length f.def
             let part = room_by k r (slice_get w.nodes k) refl has in
             all_two _ _ (below_is (r.version + 1) limit (omega (arith, few, part)))
             (all_two _ _ (below_is (r.beat + 1) limit (omega (arith, few, part)))
-                (below_is (r.generation + 1) limit (omega (arith, few, part))))
+            (below_is (r.generation + 1) limit (omega (arith, few, part))))
 
         may : may_call (here_at f k) r c ≡ true
         may = all_two _ _ fits (all_two _ _ may_be_offered may_be_executed)
@@ -208,7 +208,7 @@ module _ (f : Frame) (frame : IsFrame f) (e ty : ℕ) (known : ty < length f.def
         turns_go (first s) (batch s) (as_sender s (entity_flow e w)) (as_sender s (entity_flow e next))
         (narrow_goes (cell_post s) (cell_mail s) (Twice Passes) g
         (calls_seen f e g.k s ((entity_flow e w).slot g.k) (comes g.input) ((entity_flow e next).slot g.k) g.moves.0.sent g.out
-            g.moves.0.items
+        g.moves.0.items
         (room f frame e ty known w v o h.has calm)
         comes_due
         (holds_own w h g.k) g.moves.1.1 g.moves.0.moves)) (h.turns s)

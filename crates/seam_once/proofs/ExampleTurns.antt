@@ -66,21 +66,46 @@ none_is k = (λ n. refl, λ n m. refl)
 
 nodes_are : EachFrom (λ k s. W k (has_of 1 s)) 0 world_0.nodes
 unfolding world_0
-nodes_are =
-    (home_is,
-    (idle_is 1,
-    (idle_is 2,
-    (idle_is 3,
-    (idle_is 4,
-    (idle_is 5,
-    (idle_is 6,
-    (idle_is 7,
-    (idle_is 8,
-    (idle_is 9,
-    (idle_is 10,
-    (idle_is 11,
-    (idle_is 12,
-    (idle_is 13, (idle_is 14, (idle_is 15, ((λ n. refl, λ n m. absurd (n refl)), ((λ n. refl, λ n m. absurd (m refl)), tt))))))))))))))))))
+nodes_are = (
+  home_is,
+  (
+    idle_is 1,
+    (
+      idle_is 2,
+      (
+        idle_is 3,
+        (
+          idle_is 4,
+          (
+            idle_is 5,
+            (
+              idle_is 6,
+              (
+                idle_is 7,
+                (
+                  idle_is 8,
+                  (
+                    idle_is 9,
+                    (
+                      idle_is 10,
+                      (
+                        idle_is 11,
+                        (
+                          idle_is 12,
+                          (idle_is 13, (idle_is 14, (idle_is 15, ((λ n. refl, λ n m. absurd (n refl)), ((λ n. refl, λ n m. absurd (m refl)), tt))))),
+                        ),
+                      ),
+                    ),
+                  ),
+                ),
+              ),
+            ),
+          ),
+        ),
+      ),
+    ),
+  ),
+)
 
 abbrev flow : Flow Has Msg
 flow = entity_flow 1 world_0

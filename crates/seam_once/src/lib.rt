@@ -35,7 +35,7 @@ pub fn each_cell_call_waits_once()
     ensures { (f : Frame) (e ty : ℕ) (w v : World) (es : List Event) → IsFrame f → ty < length f.defs → HasOne f e ty w →
         IsSpared e w → AllLead (entity_flow e w) → (first : ℕ → ℕ) (batch : ℕ → List CallData) → AreCallsOf f e ty batch →
         CellCallsInTurn e first batch w → burden e w + 1 < limit → LeadsTo node_has_work node_steps w es v →
-            CellCallsInTurn e first batch v }
+        CellCallsInTurn e first batch v }
 {}
 
 /// A call that is the first of its link in such a world finds a cell with the real or the next place, and the real may be offered it: it

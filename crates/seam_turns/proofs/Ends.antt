@@ -73,6 +73,7 @@ module _ {U : Type 0} (first : ℕ) (batch : List U) (w : Flow (Post U) (Mail U)
             life = λ n. waits_by n (item_at n (number_from first batch)) refl;
           };
         }
+
   -- the call of number n that is the first in a link to a node
   module _ (place : Place) (d : Desk U) (b : InTurn first batch w place d) (a k n : ℕ) (u : U) (rest : List (Mail U))
       (at : w.mail a k ≡ Item n u ∷ rest) where
@@ -114,7 +115,7 @@ module _ {U : Type 0} (first : ℕ) (batch : List U) (w : Flow (Post U) (Mail U)
     pub never_held : (x : Desk U) → (w.slot k).desk ≡ Some x → item_at n x.order.held ≡ None
     never_held x e =
         let none : held_in n (w.slot k).desk ≡ [] =
-            (both_nil (letters_of (of_number n) (w.slot k).stored) (held_in n (w.slot k).desk) is_met.1).1 in
+        (both_nil (letters_of (of_number n) (w.slot k).stored) (held_in n (w.slot k).desk) is_met.1).1 in
         no_letter (item_at n x.order.held) (sym (ap (held_in n) e) ∙ none)
 
   -- a call that the part holds is the batch's
@@ -173,7 +174,7 @@ module _ {U : Type 0} (first : ℕ) (batch : List U) where
     none_left [] h = refl
     none_left (u ∷ us) h =
         let s : Somewhere (keeps d.order.next) (bears d.order.next) w (u ∷ []) =
-            subst (WaitsOnce w d.order.next) (item_first d.order.next u us) h in
+        subst (WaitsOnce w d.order.next) (item_first d.order.next u us) h in
         absurd (nowhere u s.place s.sole)
 
     pub all_done : d.done ≡ batch

@@ -141,21 +141,21 @@ module _ {U : Type 0} where
         WaitsOnce v m o
     sent_waits n u more to i a b q m o h =
         let before : kept_at m s_is ≡ more_letter (of_number m (n, u)) (letters_of (of_number m) more) ++ held_in m s_is.desk =
-            ap (λ l. letters_of (of_number m) l ++ held_in m s_is.desk) a in
+        ap (λ l. letters_of (of_number m) l ++ held_in m s_is.desk) a in
         let after : kept_at m t_is ≡ letters_of (of_number m) more ++ held_in m s_is.desk = ap (kept_at m) b in
         elim (cases_eq n m) [
           | inl e ↦
               let one_first : kept_at m s_is ≡ u ∷ (letters_of (of_number m) more ++ held_in m s_is.desk) =
-                  before ∙ ap (λ x. more_letter x (letters_of (of_number m) more) ++ held_in m s_is.desk) (number_same n u m e) in
+              before ∙ ap (λ x. more_letter x (letters_of (of_number m) more) ++ held_in m s_is.desk) (number_same n u m e) in
               let c = head_alone m o (letters_of (of_number m) more ++ held_in m s_is.desk) u h one_first in
               let born : bears m (Item n u) ≡ Some (u ∷ []) = ap (λ x. packed (more_letter x [])) (number_same n u m e) in
               lasts_leaves (keeps m) (bears m) g (one o) (u ∷ []) to h c.1 (ap packed (after ∙ c.0)) (nothing (bears m) i)
-                  (only_one (bears m) to (Item n u) (u ∷ []) q born)
+              (only_one (bears m) to (Item n u) (u ∷ []) q born)
           | inr e ↦
               let same : kept_at m s_is ≡ letters_of (of_number m) more ++ held_in m s_is.desk =
-                  before ∙ ap (λ x. more_letter x (letters_of (of_number m) more) ++ held_in m s_is.desk) (number_other n u m e) in
+              before ∙ ap (λ x. more_letter x (letters_of (of_number m) more) ++ held_in m s_is.desk) (number_other n u m e) in
               still_waits m o h (after ∙ sym same) (nothing (bears m) i)
-                  (only_none (bears m) to (Item n u) q (ap (λ x. packed (more_letter x [])) (number_other n u m e)))
+              (only_none (bears m) to (Item n u) q (ap (λ x. packed (more_letter x [])) (number_other n u m e)))
         ]
 
     -- ---- a call is passed on
@@ -165,7 +165,7 @@ module _ {U : Type 0} where
       | inl e ↦
           let born : bears m (Item n u) ≡ Some (u ∷ []) = ap (λ x. packed (more_letter x [])) (number_same n u m e) in
           lasts_relayed (keeps m) (bears m) g (one o) (u ∷ []) to h (something (bears m) (Item n u) i ∙ born) (ap (keeps m) a)
-              (only_one (bears m) to (Item n u) (u ∷ []) q born)
+          (only_one (bears m) to (Item n u) (u ∷ []) q born)
       | inr e ↦
           let born : bears m (Item n u) ≡ None = ap (λ x. packed (more_letter x [])) (number_other n u m e) in
           still_waits m o h (ap (kept_at m) a) (something (bears m) (Item n u) i ∙ born) (only_none (bears m) to (Item n u) q born)
@@ -177,13 +177,13 @@ module _ {U : Type 0} where
     left_by d to i b c q m o None e h =
         let none : held_in m (Some d) ≡ [] = ap (λ y. more_letter y []) e in
         still_waits m o h (ap (kept_at m) c ∙ sym (ap (λ y. left_of m ++ held_in m y) b ∙ ap (λ l. left_of m ++ l) none))
-            (nothing (bears m) i) (only_none (bears m) to (Parcel d) q (ap packed none))
+        (nothing (bears m) i) (only_none (bears m) to (Parcel d) q (ap packed none))
     left_by d to i b c q m o (Some x) e h =
         let has : held_in m (Some d) ≡ x ∷ [] = ap (λ y. more_letter y []) e in
         let at = alone m o (left_of m) x h (ap (λ y. left_of m ++ held_in m y) b ∙ ap (λ l. left_of m ++ l) has) in
         lasts_leaves (keeps m) (bears m) g (one o) (x ∷ []) to h at.1 (ap (keeps m) c
-            ∙ (ap packed (append-nil (left_of m)) ∙ ap packed at.0)) (nothing (bears m) i)
-            (only_one (bears m) to (Parcel d) (x ∷ []) q (ap packed has))
+        ∙ (ap packed (append-nil (left_of m)) ∙ ap packed at.0)) (nothing (bears m) i)
+        (only_one (bears m) to (Parcel d) (x ∷ []) q (ap packed has))
 
     -- ---- the part lands
     landed_by : (d : Desk U) → comes g.input ≡ Some (Parcel d) → s_is.desk ≡ None → t_is ≡ record { stored = s_is.stored; desk = Some d } →
@@ -191,12 +191,12 @@ module _ {U : Type 0} where
     landed_by d i b c q m o None e h =
         let none : held_in m (Some d) ≡ [] = ap (λ y. more_letter y []) e in
         still_waits m o h (ap (kept_at m) c ∙ (ap (λ l. left_of m ++ l) none ∙ sym (ap (λ y. left_of m ++ held_in m y) b)))
-            (something (bears m) (Parcel d) i ∙ ap packed none) (silent (bears m) q)
+        (something (bears m) (Parcel d) i ∙ ap packed none) (silent (bears m) q)
     landed_by d i b c q m o (Some x) e h =
         let has : held_in m (Some d) ≡ x ∷ [] = ap (λ y. more_letter y []) e in
         let free = (both_nil (left_of m) (held_in m s_is.desk) (coming m o x (Parcel d) i has h).1).0 in
         lasts_lands (keeps m) (bears m) g (one o) (x ∷ []) h (something (bears m) (Parcel d) i ∙ ap packed has) (ap (keeps m) c
-            ∙ ap packed (ap (λ l. l ++ held_in m (Some d)) free ∙ has)) (silent (bears m) q)
+        ∙ ap packed (ap (λ l. l ++ held_in m (Some d)) free ∙ has)) (silent (bears m) q)
 
     -- ---- the part itself
     module _ (first : ℕ) (batch : List U) (place : Place) (d : Desk U) (b : InTurn first batch w place d) where
@@ -206,8 +206,15 @@ module _ {U : Type 0} where
       with_same : (p : Place) → Sole desk_of parcel_of v p d → ((m : ℕ) (o : Option U) → WaitsOnce w m o → WaitsOnce v m o) →
           InTurn first batch v p d
       with_same p s f =
-          record { sole = s; rest = b.rest; parts = b.parts; next = b.next; small = b.small; in_order = b.in_order;
-          life = λ n. f n (is_life n) (b.life n) }
+          record {
+            sole = s;
+            rest = b.rest;
+            parts = b.parts;
+            next = b.next;
+            small = b.small;
+            in_order = b.in_order;
+            life = λ n. f n (is_life n) (b.life n);
+          }
 
       desk_still : t_is.desk ≡ s_is.desk → carried_in parcel_of (comes g.input) ≡ None → SendsNone parcel_of g.out →
           Sole desk_of parcel_of v place d
@@ -253,8 +260,15 @@ module _ {U : Type 0} where
           ((n : ℕ) → (n ≡ d.order.next → ⊥) → WaitsOnce v n (is_life n)) → InTurn first batch v place q
       executed q u due o up line s a c =
           let r = first_rest d.order.next u b.rest due in
-          record { sole = s; rest = r.0; parts = more_parts q u r.0 r.1 line; next = more_next q u up line; small = b.small; in_order = o;
-              life = life_past q u r.0 up r.1 a c }
+          record {
+            sole = s;
+            rest = r.0;
+            parts = more_parts q u r.0 r.1 line;
+            next = more_next q u up line;
+            small = b.small;
+            in_order = o;
+            life = life_past q u r.0 up r.1 a c;
+          }
 
       module _ (n : ℕ) (u : U) (i : comes g.input ≡ Some (Item n u)) (at : s_is.desk ≡ Some d)
           (e : t_is ≡ record { stored = s_is.stored; desk = Some (offered d n u) }) (q : Quiet g.out) where
@@ -283,8 +297,8 @@ module _ {U : Type 0} where
         pub not_held : item_at n d.order.held ≡ None
         not_held =
             let none =
-                (both_nil (left_of n) (more_letter (item_at n d.order.held) []) (sym (kept_before n)
-                ∙ (coming n (is_life n) u (Item n u) i (born n refl) (b.life n)).1)).1 in
+            (both_nil (left_of n) (more_letter (item_at n d.order.held) []) (sym (kept_before n)
+            ∙ (coming n (is_life n) u (Item n u) i (born n refl) (b.life n)).1)).1 in
             no_letter (item_at n d.order.held) none
           where
             no_letter : (o : Option U) → more_letter o [] ≡ [] → o ≡ None
@@ -311,19 +325,19 @@ module _ {U : Type 0} where
         offered_next h =
             let held_same : (after_offer d.order n u).held ≡ d.order.held = ap (λ x. x.held) (offer_next d.order n u h) in
             executed (offered d n u) u (subst (λ m. is_life m ≡ Some u) h due) keeps_order (ap (λ x. x.next) (offer_next d.order n u h))
-                (ap (λ t. d.done ++ cond t (u ∷ []) []) (eq-eqb n d.order.next h)) desk_now
+            (ap (λ t. d.done ++ cond t (u ∷ []) []) (eq-eqb n d.order.next h)) desk_now
             (λ m x. lasts_met (keeps m) (bears m) g (one (is_life m)) (u ∷ []) (b.life m) (bears_same m (h ∙ sym x))
-                (ap packed (kept_same m (ap (item_at m) held_same))) (silent (bears m) q))
+            (ap packed (kept_same m (ap (item_at m) held_same))) (silent (bears m) q))
             (λ m x. still_waits m (is_life m) (b.life m) (kept_same m (ap (item_at m) held_same)) (bears_other m (λ y. x (sym y ∙ h)))
-                (silent (bears m) q))
+            (silent (bears m) q))
 
         offered_early : d.order.next < n → InTurn first batch v place (offered d n u)
         offered_early lt =
             let held_now : (m : ℕ) → item_at m (after_offer d.order n u).held ≡ cond (eqb m n) (Some u) (item_at m d.order.held) =
-                λ m. held_early d.order n u m (not_some (item_at n d.order.held) not_held) lt in
+            λ m. held_early d.order n u m (not_some (item_at n d.order.held) not_held) lt in
             let same : (after_offer d.order n u).next ≡ d.order.next = ap (λ x. x.next) (offer_early d.order n u lt) in
             let line : (offered d n u).done ≡ d.done =
-                ap (λ t. d.done ++ cond t (u ∷ []) []) (ne_eqb n d.order.next (λ h. omega (arith, h, lt))) ∙ append-nil d.done in
+            ap (λ t. d.done ++ cond t (u ∷ []) []) (ne_eqb n d.order.next (λ h. omega (arith, h, lt))) ∙ append-nil d.done in
             record {
               sole = desk_now;
               rest = b.rest;
@@ -336,10 +350,10 @@ module _ {U : Type 0} where
                     let none = (coming m (is_life m) u (Item n u) i (born m h) (b.life m)).1 in
                     let free = (both_nil (left_of m) (more_letter (item_at m d.order.held) []) (sym (kept_before m) ∙ none)).0 in
                     let holds : item_at m (after_offer d.order n u).held ≡ Some u =
-                        held_now m ∙ ap (λ t. cond t (Some u) (item_at m d.order.held)) (eq-eqb m n (sym h)) in
+                    held_now m ∙ ap (λ t. cond t (Some u) (item_at m d.order.held)) (eq-eqb m n (sym h)) in
                     lasts_lands (keeps m) (bears m) g (one (is_life m)) (u ∷ []) (b.life m) (bears_same m h)
-                        (ap packed (kept_after m ∙ (ap (λ l. l ++ more_letter (item_at m (after_offer d.order n u).held) []) free
-                        ∙ ap (λ x. more_letter x []) holds))) (silent (bears m) q)
+                    (ap packed (kept_after m ∙ (ap (λ l. l ++ more_letter (item_at m (after_offer d.order n u).held) []) free
+                    ∙ ap (λ x. more_letter x []) holds))) (silent (bears m) q)
                 | inr h ↦ still_waits m (is_life m) (b.life m)
                     (kept_same m (held_now m ∙ ap (λ t. cond t (Some u) (item_at m d.order.held)) (ne_eqb m n (λ x. h (sym x)))))
                     (bears_other m h) (silent (bears m) q)
@@ -360,30 +374,30 @@ module _ {U : Type 0} where
       taken_here u i at ready e q =
           let next = d.order.next in
           let kept_before : (m : ℕ) → kept_at m s_is ≡ left_of m ++ more_letter (item_at m d.order.held) [] =
-              λ m. ap (λ y. left_of m ++ held_in m y) at in
+          λ m. ap (λ y. left_of m ++ held_in m y) at in
           let kept_after : (m : ℕ) → kept_at m t_is ≡ left_of m ++ more_letter (item_at m (after_taking d.order).held) [] =
-              λ m. ap (kept_at m) e in
+          λ m. ap (kept_at m) e in
           let held_now : (m : ℕ) → item_at m (after_taking d.order).held ≡ cond (eqb m next) None (item_at m d.order.held) =
-              λ m. held_taken d.order m b.in_order in
+          λ m. held_taken d.order m b.in_order in
           let last : (m : ℕ) → m ≡ next → kept_at m s_is ≡ left_of m ++ u ∷ [] =
-              λ m h. kept_before m ∙ ap (λ x. left_of m ++ more_letter x []) (ap (λ x. item_at x d.order.held) h ∙ ready) in
+          λ m h. kept_before m ∙ ap (λ x. left_of m ++ more_letter x []) (ap (λ x. item_at x d.order.held) h ∙ ready) in
           let stands = alone next (is_life next) (left_of next) u (b.life next) (last next refl) in
           let has =
-              one_is (is_life next) (u ∷ []) (here_is (keeps next) (bears next) w g.k (one (is_life next)) (u ∷ []) (b.life next)
-              stands.1) in
+          one_is (is_life next) (u ∷ []) (here_is (keeps next) (bears next) w g.k (one (is_life next)) (u ∷ []) (b.life next)
+          stands.1) in
           let same : u ≡ has.0 = let f = has.2 in cc in
           executed (taken d u) u (has.1 ∙ ap Some (sym same)) (order_after_taking d.order b.in_order)
-              (ap (λ x. x.next) (ap (after_item d.order) ready)) refl (turned (taken d u) at (ap desk_of e) (nothing parcel_of i) q)
+          (ap (λ x. x.next) (ap (after_item d.order) ready)) refl (turned (taken d u) at (ap desk_of e) (nothing parcel_of i) q)
           (λ m h.
           let c = alone m (is_life m) (left_of m) u (b.life m) (last m h) in
           let gone : item_at m (after_taking d.order).held ≡ None =
-              held_now m ∙ ap (λ t. cond t None (item_at m d.order.held)) (eq-eqb m next h) in
+          held_now m ∙ ap (λ t. cond t None (item_at m d.order.held)) (eq-eqb m next h) in
           lasts_ends (keeps m) (bears m) g (one (is_life m)) (u ∷ []) (b.life m) c.1
-              (ap packed (kept_after m ∙ (ap (λ x. left_of m ++ more_letter x []) gone ∙ (append-nil (left_of m) ∙ c.0))))
-              (nothing (bears m) i) (silent (bears m) q))
+          (ap packed (kept_after m ∙ (ap (λ x. left_of m ++ more_letter x []) gone ∙ (append-nil (left_of m) ∙ c.0))))
+          (nothing (bears m) i) (silent (bears m) q))
           (λ m h. still_waits m (is_life m) (b.life m) (kept_after m
-              ∙ (ap (λ x. left_of m ++ more_letter x []) (held_now m ∙ ap (λ t. cond t None (item_at m d.order.held)) (ne_eqb m next h))
-              ∙ sym (kept_before m))) (nothing (bears m) i) (silent (bears m) q))
+          ∙ (ap (λ x. left_of m ++ more_letter x []) (held_now m ∙ ap (λ t. cond t None (item_at m d.order.held)) (ne_eqb m next h))
+          ∙ sym (kept_before m))) (nothing (bears m) i) (silent (bears m) q))
 
       -- ---- it is offered a call from the store of its own node
       module _ (n : ℕ) (u : U) (more : List (ℕ × U)) (i : comes g.input ≡ None) (a : s_is.stored ≡ (n, u) ∷ more) (at : s_is.desk ≡ Some d)
@@ -414,8 +428,8 @@ module _ {U : Type 0} where
         own_due : is_life n ≡ Some u
         own_due =
             let r =
-                one_is (is_life n) (u ∷ []) (here_is (keeps n) (bears n) w g.k (one (is_life n)) (u ∷ []) (b.life n)
-                (own_alone n refl).1) in
+            one_is (is_life n) (u ∷ []) (here_is (keeps n) (bears n) w g.k (one (is_life n)) (u ∷ []) (b.life n)
+            (own_alone n refl).1) in
             let f = r.2 in
             let same : u ≡ r.0 = cc in
             r.1 ∙ ap Some (sym same)
@@ -446,21 +460,21 @@ module _ {U : Type 0} where
         own_next : n ≡ d.order.next → InTurn first batch v place (offered d n u)
         own_next h =
             let held_same : (m : ℕ) → kept_at m t_is ≡ more_of m ++ held_of m =
-                λ m. own_after m ∙ ap (λ x. more_of m ++ more_letter (item_at m x) []) (ap (λ x. x.held) (offer_next d.order n u h)) in
+            λ m. own_after m ∙ ap (λ x. more_of m ++ more_letter (item_at m x) []) (ap (λ x. x.held) (offer_next d.order n u h)) in
             executed (offered d n u) u (subst (λ m. is_life m ≡ Some u) h own_due) own_order (ap (λ x. x.next) (offer_next d.order n u h))
-                (ap (λ t. d.done ++ cond t (u ∷ []) []) (eq-eqb n d.order.next h)) own_desk
+            (ap (λ t. d.done ++ cond t (u ∷ []) []) (eq-eqb n d.order.next h)) own_desk
             (λ m x. let c = own_alone m (h ∙ sym x) in
-                lasts_ends (keeps m) (bears m) g (one (is_life m)) (u ∷ []) (b.life m) c.1 (ap packed (held_same m ∙ c.0))
-                (nothing (bears m) i) (silent (bears m) q))
+            lasts_ends (keeps m) (bears m) g (one (is_life m)) (u ∷ []) (b.life m) c.1 (ap packed (held_same m ∙ c.0))
+            (nothing (bears m) i) (silent (bears m) q))
             (λ m x. own_still m (held_same m ∙ sym (own_rest m (λ y. x (sym y ∙ h)))))
 
         own_early : d.order.next < n → InTurn first batch v place (offered d n u)
         own_early lt =
             let held_now : (m : ℕ) → item_at m (after_offer d.order n u).held ≡ cond (eqb m n) (Some u) (item_at m d.order.held) =
-                λ m. held_early d.order n u m (not_some (item_at n d.order.held) own_free) lt in
+            λ m. held_early d.order n u m (not_some (item_at n d.order.held) own_free) lt in
             let same : (after_offer d.order n u).next ≡ d.order.next = ap (λ x. x.next) (offer_early d.order n u lt) in
             let line : (offered d n u).done ≡ d.done =
-                ap (λ t. d.done ++ cond t (u ∷ []) []) (ne_eqb n d.order.next (λ h. omega (arith, h, lt))) ∙ append-nil d.done in
+            ap (λ t. d.done ++ cond t (u ∷ []) []) (ne_eqb n d.order.next (λ h. omega (arith, h, lt))) ∙ append-nil d.done in
             record {
               sole = own_desk;
               rest = b.rest;
@@ -473,9 +487,9 @@ module _ {U : Type 0} where
                     let none = (own_alone m h).0 in
                     let free = (both_nil (more_of m) (held_of m) none).0 in
                     let holds : item_at m (after_offer d.order n u).held ≡ Some u =
-                        held_now m ∙ ap (λ t. cond t (Some u) (item_at m d.order.held)) (eq-eqb m n (sym h)) in
+                    held_now m ∙ ap (λ t. cond t (Some u) (item_at m d.order.held)) (eq-eqb m n (sym h)) in
                     own_after m ∙ (ap (λ l. l ++ more_letter (item_at m (after_offer d.order n u).held) []) free
-                        ∙ (ap (λ x. more_letter x []) holds ∙ sym (own_first m h ∙ ap (λ l. u ∷ l) none)))
+                    ∙ (ap (λ x. more_letter x []) holds ∙ sym (own_first m h ∙ ap (λ l. u ∷ l) none)))
                 | inr h ↦ own_after m
                     ∙ (ap (λ x. more_of m ++ more_letter x []) (held_now m
                     ∙ ap (λ t. cond t (Some u) (item_at m d.order.held)) (ne_eqb m n (λ x. h (sym x)))) ∙ sym (own_rest m h))
@@ -497,14 +511,14 @@ module _ {U : Type 0} where
           let s = c.0 in
           let same : d ≡ x = cc in
           with_same (In g.k) (sole_landed desk_of parcel_of g place d x d b.sole (something parcel_of (Parcel x) i) (ap desk_of e
-              ∙ ap Some (sym same)) (silent parcel_of q)) (λ m o. landed_by x i c.1 e q m o (item_at m x.order.held) refl)
+          ∙ ap Some (sym same)) (silent parcel_of q)) (λ m o. landed_by x i c.1 e q m o (item_at m x.order.held) refl)
 
       left_here : (x : Desk U) (to : ℕ) → comes g.input ≡ None → s_is.desk ≡ Some x → t_is ≡ record { stored = s_is.stored; desk = None } →
           Only g.out to (Parcel x) → InTurn first batch v (On g.k to) d
       left_here x to i at e q =
           let same = the_one x at in
           with_same (On g.k to) (sole_left desk_of parcel_of g place d x d to b.sole at (ap desk_of e) (nothing parcel_of i)
-              (only_one parcel_of to (Parcel x) d q (ap Some same))) (λ m o. left_by x to i at e q m o (item_at m x.order.held) refl)
+          (only_one parcel_of to (Parcel x) d q (ap Some same))) (λ m o. left_by x to i at e q m o (item_at m x.order.held) refl)
 
       -- whatever a move does with the calls, they stay in turn
       pub in_turn_goes : (m : Passes g.k s_is (comes g.input) t_is g.out) → InTurn first batch v (place_then m place) (desk_then m d)
@@ -526,6 +540,6 @@ module _ {U : Type 0} where
       in_turn_goes (takes u x i at ready e q) =
           let same = the_one x at in
           taken_here u i (at ∙ ap Some same) (ap (λ y. next_item y.order) (sym same) ∙ ready) (e
-              ∙ ap (λ y. record { stored = s_is.stored; desk = Some (taken y u) }) same) q
+          ∙ ap (λ y. record { stored = s_is.stored; desk = Some (taken y u) }) same) q
       in_turn_goes (lands x i e q) = landed_here x i e q
       in_turn_goes (leaves x to i at e q) = left_here x to i at e q
