@@ -1,0 +1,4 @@
+pub mod Documents
+pub mod Settings
+pub mod Names
+pub mod Roles
