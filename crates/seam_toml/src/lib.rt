@@ -12,3 +12,6 @@ pub use documents::{DocumentError, MOST_HEADER_BYTES, read_document};
 pub use names::{flag_named, part_named};
 pub use roles::Role;
 pub use settings::{Setting, read_settings};
+
+#[cfg(test)]
+mod tests;
