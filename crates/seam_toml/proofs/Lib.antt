@@ -1,0 +1,2 @@
+mod SettingsLemmas
+mod Counts

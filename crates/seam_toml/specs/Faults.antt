@@ -1,0 +1,147 @@
+-- What is at fault in the values of a header.
+use Rattle.std.specs.Prelude.{◌≡◌, ◌≢◌, ◌⊎◌, ⊤, ℕ, ◌+◌, ◌<◌, pos, IsTrue, IsSome, IsNone, List, [], ◌∷◌, length, codes, Option, Some, None}
+use Rattle.toml.specs.Data.{Data, string, integer, float, boolean, datetime, array}
+use Rattle.toml.specs.Data.{table, Items, no_items, item, Members, no_members, member, get_member, as_str, as_integer, as_bool, as_table}
+use Rattle.seam_value.specs.Types.{name_of}
+use Rattle.seam_value.specs.Values.{Fits}
+use Rattle.seam_value.specs.declared.types.ValueType.{ValueType}
+use Rattle.seam_value.specs.declared.values.Value.TheVariants.{Number, Text}
+use Rattle.seam_defs.specs.declared.flags.Flag.{Flag}
+use Rattle.seam_defs.specs.declared.flags.Part.{Part}
+use Rattle.seam_defs.specs.declared.limits.TheConstants.{MOST_TYPES, MOST_PROPERTIES, MOST_METHODS, MOST_ARGUMENTS, MOST_OPERATIONS}
+use Rattle.seam_defs.specs.declared.settings.Settings.{Settings}
+use Rattle.seam_defs.specs.Settings.{GhostsReach}
+use Rattle.seam_toml.specs.declared.roles.Role.{Role}
+use Rattle.seam_toml.specs.declared.roles.Role.TheVariants as role
+use Rattle.seam_toml.specs.declared.faults.Fault.{Fault}
+use Rattle.seam_toml.specs.declared.faults.Fault.TheVariants.{NoSuchKey, BadType, BadFlag, BadDefault, TooManyNames, GhostTooNear}
+use Rattle.seam_toml.specs.Names.{flag_name, part_name}
+use Rattle.seam_toml.specs.Settings.{number_of, Sets}
+use Rattle.seam_toml.specs.Roles.{role_under, is_table}
+
+-- ---- keys
+
+-- the table has a key that it may not have
+abbrev pub HasStrangeKey : Role → Members → Type 0
+HasStrangeKey r no_members = ⊥
+HasStrangeKey r (member key d ms) = IsNone (role_under r key) ⊎ HasStrangeKey r ms
+
+abbrev pub Lacks : List ℕ → Members → Type 0
+Lacks key ms = get_member key ms ≡ None
+
+-- the table lacks a key that it has to have
+abbrev pub LacksKey : Role → Members → Type 0
+LacksKey role.Property ms = Lacks (codes "type") ms ⊎ (Lacks (codes "flag") ms ⊎ Lacks (codes "default") ms)
+LacksKey role.Method ms = Lacks (codes "part") ms
+LacksKey r ms = ⊥
+
+-- a table where one has to be has a key that it may not have, or lacks one that it has to have
+abbrev pub HasWrongKeys : Role → Data → Type 0
+HasWrongKeys r (table ms) = IsTrue (is_table r) × (HasStrangeKey r ms ⊎ LacksKey r ms)
+HasWrongKeys r d = ⊥
+
+-- ---- kinds of values
+
+-- a text that names a type of values
+abbrev pub IsTypeName : Data → Type 0
+IsTypeName (string s) = (t : ValueType) × (name_of t ≡ s)
+IsTypeName d = ⊥
+
+-- each item is such
+abbrev pub AreTypeNames : Items → Type 0
+AreTypeNames no_items = ⊤
+AreTypeNames (item d ds) = IsTypeName d × AreTypeNames ds
+
+-- each item is a text
+abbrev pub AreTexts : Items → Type 0
+AreTexts no_items = ⊤
+AreTexts (item d ds) = IsSome (as_str d) × AreTexts ds
+
+-- a text that names a part
+abbrev pub IsPartName : Data → Type 0
+IsPartName (string s) = (p : Part) × (part_name p ≡ s)
+IsPartName d = ⊥
+
+abbrev pub IsListOf : (Items → Type 0) → Data → Type 0
+IsListOf Are (array ds) = Are ds
+IsListOf Are d = ⊥
+
+-- the value is of the kind that is wanted where it is
+abbrev pub IsOfKind : Role → Data → Type 0
+IsOfKind role.Version d = as_integer d ≡ Some (pos 1)
+IsOfKind (role.Setting s) d = IsSome (number_of s d)
+IsOfKind role.TypeName d = IsTypeName d
+IsOfKind role.Flag d = IsSome (as_str d)
+IsOfKind role.Default d = IsSome (as_integer d) ⊎ IsSome (as_str d)
+IsOfKind role.Part d = IsPartName d
+IsOfKind role.Exposed d = IsSome (as_bool d)
+IsOfKind role.Arguments d = IsListOf AreTypeNames d
+IsOfKind role.Body d = IsListOf AreTexts d
+IsOfKind r d = IsSome (as_table d)
+
+-- ---- flags, defaults, limits, distances
+
+-- a text where a flag has to be is the name of none
+abbrev pub IsNoFlag : Role → Data → Type 0
+IsNoFlag role.Flag (string s) = (f : Flag) → flag_name f ≢ s
+IsNoFlag r d = ⊥
+
+-- a whole number or a text that fits a type of values
+abbrev pub FitsType : ValueType → Data → Type 0
+FitsType t (integer z) = Fits (Number z) t
+FitsType t (string s) = Fits (Text s) t
+FitsType t d = ⊥
+
+-- what is under the key `type` of a property names this type of values
+abbrev pub HasType : Members → ValueType → Type 0
+HasType ms t = get_member (codes "type") ms ≡ Some (string (name_of t))
+
+-- a property's default does not fit its type
+abbrev pub HasBadDefault : Members → Type 0
+HasBadDefault ms = (t : ValueType) × (d : Data) × HasType ms t × (get_member (codes "default") ms ≡ Some d) × ¬ (FitsType t d)
+
+abbrev pub IsBadProperty : Role → Data → Type 0
+IsBadProperty role.Property (table ms) = HasBadDefault ms
+IsBadProperty r d = ⊥
+
+-- how many members or items a value has
+abbrev pub count : Members → ℕ
+count no_members = 0
+count (member key d ms) = 1 + count ms
+
+abbrev pub count_items : Items → ℕ
+count_items no_items = 0
+count_items (item d ds) = 1 + count_items ds
+
+abbrev pub size_of : Data → ℕ
+size_of (table ms) = count ms
+size_of (array ds) = count_items ds
+size_of d = 0
+
+-- there are more of what a limit is on than may be
+abbrev pub AreTooMany : Role → Data → Type 0
+AreTooMany role.Types d = MOST_TYPES < size_of d
+AreTooMany role.Properties d = MOST_PROPERTIES < size_of d
+AreTooMany role.Methods d = MOST_METHODS < size_of d
+AreTooMany role.Arguments d = MOST_ARGUMENTS < size_of d
+AreTooMany role.Body d = MOST_OPERATIONS < size_of d
+AreTooMany r d = ⊥
+
+-- the table sets settings with which ghosts do not reach far enough
+abbrev pub SetsTooNear : Members → Type 0
+SetsTooNear ms = (s : Settings) × Sets ms s × ¬ (GhostsReach s)
+
+abbrev pub AreTooNear : Role → Data → Type 0
+AreTooNear role.Settings (table ms) = SetsTooNear ms
+AreTooNear r d = ⊥
+
+-- ---- a fault of a value
+
+-- the value itself is at fault
+abbrev pub IsAtFault : Fault → Role → Data → Type 0
+IsAtFault NoSuchKey r d = HasWrongKeys r d
+IsAtFault BadType r d = ¬ (IsOfKind r d)
+IsAtFault BadFlag r d = IsNoFlag r d
+IsAtFault BadDefault r d = IsBadProperty r d
+IsAtFault TooManyNames r d = AreTooMany r d
+IsAtFault GhostTooNear r d = AreTooNear r d

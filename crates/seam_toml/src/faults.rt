@@ -1,0 +1,285 @@
+// What is at fault in the values of a header.
+ghost use Rattle.std.specs.Prelude.{◌≡◌, ◌≢◌, ◌<◌, ◌⊎◌, ◌↔◌, IsTrue, IsSome, MatchOption};
+ghost use Rattle.seam_value.specs.declared.types.ValueType.{ValueType as Types};
+ghost use Rattle.toml.specs.View.{view, table_view, items_view};
+ghost use Rattle.toml.specs.Data.{as_array};
+ghost use Rattle.seam_toml.specs.Faults.{HasStrangeKey, Lacks, LacksKey, HasWrongKeys, AreTypeNames, AreTexts, IsOfKind, IsNoFlag};
+ghost use Rattle.seam_toml.specs.Faults.{AreTooMany, AreTooNear, HasType, FitsType, HasBadDefault, IsBadProperty};
+ghost use Rattle.seam_toml.specs.Faults.{IsAtFault};
+ghost use Rattle.seam_toml.specs.Faults.{IsTypeName, IsPartName, IsListOf, SetsTooNear, size_of, count, count_items};
+
+use crate::members::member;
+use crate::{Role, flag_named, part_named, read_settings};
+use seam_defs::{MOST_ARGUMENTS, MOST_METHODS, MOST_OPERATIONS, MOST_PROPERTIES, MOST_TYPES};
+use seam_value::{ShortText, ValueType};
+use toml::{Table, Value};
+
+/// What may be at fault in the values of a header, in the order in which it is sought.
+#[derive(Clone, Copy, Debug, PartialEq, Eq)]
+pub enum Fault {
+    /// A table has a key that it may not have, or lacks one that it has to have.
+    NoSuchKey,
+    /// A value is of another kind than has to be under its key, or outside its range, or names no type or part.
+    BadType,
+    /// A text names no flag.
+    BadFlag,
+    /// A default does not fit the property's type.
+    BadDefault,
+    /// There are more types, properties, methods, arguments or operations than may be.
+    TooManyNames,
+    /// The ghost distance is less than the view radius, the view hysteresis and the offload hysteresis together.
+    GhostTooNear,
+}
+
+// ---- keys
+
+fn has_wrong_keys(role: &Role, value: &Value) -> bool
+    ensures { IsTrue result ↔ HasWrongKeys role.now (view value.now) }
+{
+    match value.as_table() {
+        Some(table) => role.is_table() && (has_strange_key(role, table) || lacks_key(role, table)),
+        None => false,
+    }
+}
+
+fn has_strange_key(role: &Role, table: &Table) -> bool
+    ensures { IsTrue result ↔ HasStrangeKey role.now (table_view table.now) }
+{
+    'members: for (key, _value) in table.iter() {
+        if role.under(key.as_str()).is_none() {
+            return true;
+        }
+    }
+    false
+}
+
+fn lacks(table: &Table, key: &str) -> bool
+    ensures { IsTrue result ↔ Lacks key.now (table_view table.now) }
+{
+    match member(table, key) {
+        Some(_) => false,
+        None => true,
+    }
+}
+
+fn lacks_key(role: &Role, table: &Table) -> bool
+    ensures { IsTrue result ↔ LacksKey role.now (table_view table.now) }
+{
+    match role {
+        Role::Property => lacks(table, "type") || (lacks(table, "flag") || lacks(table, "default")),
+        Role::Method => lacks(table, "part"),
+        _ => false,
+    }
+}
+
+// ---- kinds of values
+
+fn is_type_name(value: &Value) -> bool
+    ensures { IsTrue result ↔ IsTypeName (view value.now) }
+{
+    match value.as_str() {
+        Some(name) => match ValueType::named(name) {
+            Some(_) => true,
+            None => false,
+        },
+        None => false,
+    }
+}
+
+fn is_part_name(value: &Value) -> bool
+    ensures { IsTrue result ↔ IsPartName (view value.now) }
+{
+    match value.as_str() {
+        Some(name) => match part_named(name) {
+            Some(_) => true,
+            None => false,
+        },
+        None => false,
+    }
+}
+
+fn are_type_names(items: &[Value]) -> bool
+    ensures { IsTrue result ↔ AreTypeNames (items_view items.now) }
+{
+    'items: for value in items.iter() {
+        if !is_type_name(value) {
+            return false;
+        }
+    }
+    true
+}
+
+fn are_texts(items: &[Value]) -> bool
+    ensures { IsTrue result ↔ AreTexts (items_view items.now) }
+{
+    'items: for value in items.iter() {
+        if !value.is_str() {
+            return false;
+        }
+    }
+    true
+}
+
+fn is_no_flag(role: &Role, value: &Value) -> bool
+    ensures { IsTrue result ↔ IsNoFlag role.now (view value.now) }
+{
+    match (role, value.as_str()) {
+        (Role::Flag, Some(name)) => match flag_named(name) {
+            Some(_) => false,
+            None => true,
+        },
+        _ => false,
+    }
+}
+
+fn are_too_near(role: &Role, value: &Value) -> bool
+    ensures { IsTrue result ↔ AreTooNear role.now (view value.now) }
+{
+    match (role, value.as_table()) {
+        (Role::Settings, Some(table)) => sets_too_near(table),
+        _ => false,
+    }
+}
+
+fn sets_too_near(table: &Table) -> bool
+    ensures { IsTrue result ↔ SetsTooNear (table_view table.now) }
+{
+    match read_settings(table) {
+        Some(settings) => !settings.ghosts_reach(),
+        None => false,
+    }
+}
+
+fn size(value: &Value) -> usize
+    ensures { result ≡ size_of (view value.now) }
+{
+    match value.as_table() {
+        Some(table) => entries(table),
+        None => match value.as_array() {
+            Some(items) => length_of(items),
+            None => 0,
+        },
+    }
+}
+
+#[tactic(auto, using(crate::proofs::Counts::count_is_length))]
+fn entries(table: &Table) -> usize
+    ensures { result ≡ count (table_view table.now) }
+{
+    table.len()
+}
+
+#[tactic(auto, using(crate::proofs::Counts::count_items_is_length))]
+fn length_of(items: &[Value]) -> usize
+    ensures { result ≡ count_items (items_view items.now) }
+{
+    items.len()
+}
+
+fn are_too_many(role: &Role, value: &Value) -> bool
+    ensures { IsTrue result ↔ AreTooMany role.now (view value.now) }
+{
+    match role {
+        Role::Types => size(value) > MOST_TYPES,
+        Role::Properties => size(value) > MOST_PROPERTIES,
+        Role::Methods => size(value) > MOST_METHODS,
+        Role::Arguments => size(value) > MOST_ARGUMENTS,
+        Role::Body => size(value) > MOST_OPERATIONS,
+        _ => false,
+    }
+}
+
+fn is_list_of_type_names(value: &Value) -> bool
+    ensures { IsTrue result ↔ IsListOf AreTypeNames (view value.now) }
+{
+    match value.as_array() {
+        Some(items) => are_type_names(items),
+        None => false,
+    }
+}
+
+fn is_list_of_texts(value: &Value) -> bool
+    ensures { IsTrue result ↔ IsListOf AreTexts (view value.now) }
+{
+    match value.as_array() {
+        Some(items) => are_texts(items),
+        None => false,
+    }
+}
+
+fn is_of_kind(role: &Role, value: &Value) -> bool
+    ensures { IsTrue result ↔ IsOfKind role.now (view value.now) }
+{
+    match role {
+        Role::Version => value.as_integer() == Some(1),
+        Role::Setting(setting) => setting.number(value).is_some(),
+        Role::TypeName => is_type_name(value),
+        Role::Flag => value.is_str(),
+        Role::Default => value.is_integer() || value.is_str(),
+        Role::Part => is_part_name(value),
+        Role::Exposed => value.is_bool(),
+        Role::Arguments => is_list_of_type_names(value),
+        Role::Body => is_list_of_texts(value),
+        _ => value.is_table(),
+    }
+}
+
+// ---- defaults
+
+fn type_of(table: &Table) -> Option<ValueType>
+    ensures { MatchOption result ((t : Types) → ¬ (HasType (table_view table.now) t)) (HasType (table_view table.now)) }
+{
+    match member(table, "type") {
+        Some(value) => match value.as_str() {
+            Some(name) => ValueType::named(name),
+            None => None,
+        },
+        None => None,
+    }
+}
+
+fn fits_type(t: ValueType, value: &Value) -> bool
+    ensures { IsTrue result ↔ FitsType t (view value.now) }
+{
+    match value.as_integer() {
+        Some(number) => seam_value::Value::Number(i128::from(number)).fits(t),
+        None => match value.as_str() {
+            Some(text) => !t.is_number() && text.len() <= ShortText::MAX_LEN,
+            None => false,
+        },
+    }
+}
+
+fn has_bad_default(table: &Table) -> bool
+    ensures { IsTrue result ↔ HasBadDefault (table_view table.now) }
+{
+    match (type_of(table), member(table, "default")) {
+        (Some(t), Some(value)) => !fits_type(t, value),
+        _ => false,
+    }
+}
+
+fn is_bad_property(role: &Role, value: &Value) -> bool
+    ensures { IsTrue result ↔ IsBadProperty role.now (view value.now) }
+{
+    match (role, value.as_table()) {
+        (Role::Property, Some(table)) => has_bad_default(table),
+        _ => false,
+    }
+}
+
+// ---- a fault of a value
+
+/// Whether the value, which is for this, is itself at fault in this way.
+pub fn is_at_fault(fault: Fault, role: &Role, value: &Value) -> bool
+    ensures { IsTrue result ↔ IsAtFault fault role.now (view value.now) }
+{
+    match fault {
+        Fault::NoSuchKey => has_wrong_keys(role, value),
+        Fault::BadType => !is_of_kind(role, value),
+        Fault::BadFlag => is_no_flag(role, value),
+        Fault::BadDefault => is_bad_property(role, value),
+        Fault::TooManyNames => are_too_many(role, value),
+        Fault::GhostTooNear => are_too_near(role, value),
+    }
+}
