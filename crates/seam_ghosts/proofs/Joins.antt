@@ -83,7 +83,7 @@ joined_after beats copies after e b p written =
     ∙ ap (cond (eq_by_cmp nat_cmp q e) (Some (record { beat = b; copy = p }))) (sym (get_joined beats copies q))
     ∙ sym (map.get-insert nat_cmp_total (joined beats copies) e (record { beat = b; copy = p }) q))
 
-pub joined_put : {P : Type 0} (beats : map.FinMap nat_cmp ℕ) (copies : map.FinMap nat_cmp P) (e b : ℕ) (p : P) →
+joined_put : {P : Type 0} (beats : map.FinMap nat_cmp ℕ) (copies : map.FinMap nat_cmp P) (e b : ℕ) (p : P) →
     joined (map.insert beats e b) (map.insert copies e p) ≡ map.insert (joined beats copies) e (record { beat = b; copy = Some p })
 joined_put beats copies e b p =
     joined_after beats copies (map.insert copies e p) e b (Some p) (map.get-insert nat_cmp_total copies e p)
@@ -91,6 +91,13 @@ joined_put beats copies e b p =
 joined_dropped : {P : Type 0} (beats : map.FinMap nat_cmp ℕ) (copies : map.FinMap nat_cmp P) (e b : ℕ) →
     joined (map.insert beats e b) (map.remove copies e) ≡ map.insert (joined beats copies) e (record { beat = b; copy = None })
 joined_dropped beats copies e b = joined_after beats copies (map.remove copies e) e b None (map.get-remove nat_cmp_total copies e)
+
+pub book_with_copy : {P : Type 0} (beats beats' : TableView ℕ) (copies : TableView P) (e b : ℕ) (p : P) → beats'.items ≡ beats.items →
+    book_of (with_item beats' e b) (with_item copies e p) ≡ with_ghost (book_of beats copies) e (record { beat = b; copy = Some p })
+book_with_copy beats beats' copies e b p same =
+    let ghosts =
+    ap (λ m. joined (map.insert m e b) (map.insert copies.items e p)) same ∙ joined_put beats.items copies.items e b p in
+    λ i. record { ghosts = ghosts i; room = set.insert copies.room e }
 
 pub book_without_copy : {P : Type 0} (beats : TableView ℕ) (copies : TableView P) (e b : ℕ) →
     book_of (with_item beats e b) (without_room copies e) ≡ with_ghost (book_of beats copies) e (record { beat = b; copy = None })
@@ -186,6 +193,13 @@ with_room_made beats beats' copies copies' e book items room items' room' = reco
   beat = λ q there. ap (λ m. map.contains_key m q) items ∙ book.beat q (sym (ap (λ m. map.contains_key m q) items') ∙ there);
   room = λ q there. ap (λ s. set.contains s q) room ∙ room' q there;
 }
+
+-- room was made for a beat alone
+pub book_begun : {P : Type 0} (beats beats' : TableView ℕ) (copies copies' : TableView P) (e : ℕ) → IsBook beats copies →
+    beats'.items ≡ beats.items → beats'.room ≡ set.insert beats.room e → copies' ≡ copies → IsBook beats' copies'
+book_begun beats beats' copies copies' e book items room same =
+    with_room_made beats beats' copies copies' e book items room (ap (λ t. t.items) same)
+    (λ q there. room_more beats.room copies.room e book.room q (sym (ap (λ t. set.contains t.room q) same) ∙ there))
 
 pub book_reserved : {P : Type 0} (beats beats' : TableView ℕ) (copies copies' : TableView P) (e : ℕ) (r : Result (Unit {0}) AllocError) →
     IsBook beats copies → beats'.items ≡ beats.items → beats'.room ≡ set.insert beats.room e → copies'.items ≡ copies.items →

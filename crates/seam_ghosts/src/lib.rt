@@ -115,21 +115,14 @@ impl<P: Drop> GhostBook<P> {
         if beat <= self.beat(e) {
             return Ok(Kept::Ignored);
         }
-        let Ok(()) = self.reserve(e) else {
+        let Ok(()) = self.beats.reserve(e) else {
             return Err(NoMemoryFor { item: copy });
         };
-        self.write(e, beat, copy);
-        Ok(Kept::Taken)
-    }
-
-    // Writes a copy and its beat over what was known of the entity.
-    fn write(&mut self, e: u32, beat: u64, copy: P)
-        requires { set.contains self.old.room e ≡ true }
-        ensures ghosts { self.new.ghosts ≡ map.insert self.old.ghosts e (record { beat = beat; copy = Some copy }) }
-        ensures room { self.new.room ≡ self.old.room }
-    {
+        if let Err(refused) = self.copies.put(e, copy) {
+            return Err(refused);
+        }
         let _ = self.beats.put_reserved(e, beat);
-        let _ = self.copies.put_reserved(e, copy);
+        Ok(Kept::Taken)
     }
 
     /// Drops the entity's copy at this beat, which is known from then on. It is ignored exactly where the beat is not
