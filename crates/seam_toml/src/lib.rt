@@ -10,7 +10,7 @@ mod roles;
 mod settings;
 
 pub use documents::{DocumentError, MOST_HEADER_BYTES, read_document};
-pub use faults::{Fault, is_at_fault};
+pub use faults::{Fault, first_fault, has_fault, is_at_fault};
 pub use names::{flag_named, part_named};
 pub use roles::Role;
 pub use settings::{Setting, read_settings};
