@@ -5,7 +5,8 @@ use Rattle.std.proofs.lemmas.Option.{none-some}
 use Rattle.seam_defs.specs.Types.{is_name}
 use Rattle.seam_toml.specs.declared.roles.Role.{Role}
 use Rattle.seam_toml.specs.declared.roles.Role.TheVariants as role
-use Rattle.seam_toml.specs.Roles.{Keys, role_in, role_under, is_method_name, header_keys, setting_keys, type_keys, property_keys, method_keys}
+use Rattle.seam_toml.specs.Roles.{Keys, role_in, role_under, is_method_name}
+use Rattle.seam_toml.specs.Roles.{header_keys, setting_keys, type_keys, property_keys, method_keys}
 
 -- how many tables what is for this is deep, at most
 abbrev pub depth : Role → ℕ

@@ -1,6 +1,6 @@
 -- What is at fault in the values of a header.
-use Rattle.std.specs.Prelude.{◌≡◌, ◌≢◌, ◌⊎◌, ⊤, ℕ, ◌+◌, ◌<◌, pos, IsTrue, IsSome, IsNone, List, [], ◌∷◌, length, codes, Option, Some, None}
-use Rattle.toml.specs.Data.{Data, string, integer, float, boolean, datetime, array}
+use Rattle.std.specs.Prelude.{◌≡◌, ◌≢◌, ◌⊎◌, ⊤, ℕ, ◌+◌, ◌<◌, pos, IsTrue, IsSome, IsNone, List, codes, Some, None}
+use Rattle.toml.specs.Data.{Data, string, integer, array}
 use Rattle.toml.specs.Data.{table, Items, no_items, item, Members, no_members, member, get_member, as_str, as_integer, as_bool, as_table}
 use Rattle.seam_value.specs.Types.{name_of}
 use Rattle.seam_value.specs.Values.{Fits}

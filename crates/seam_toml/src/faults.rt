@@ -336,9 +336,7 @@ fn header_has(fault: Fault, document: &Table) -> bool
 /// The first fault of the header whose top table this is: each fault is sought in the whole header before the next one, in the order of
 /// `Fault`. None where the header has none. Operations of methods are not looked at.
 pub fn first_fault(document: &Table) -> Option<Fault>
-    ensures {
-        MatchOption result ((f : Faults) → ¬ (HeaderHas (table_view document.now) f)) (IsFirstFault (table_view document.now))
-    }
+    ensures { MatchOption result ((f : Faults) → ¬ (HeaderHas (table_view document.now) f)) (IsFirstFault (table_view document.now)) }
 {
     'faults: for fault in [
         Fault::NoSuchKey,

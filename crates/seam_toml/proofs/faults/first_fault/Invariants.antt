@@ -8,5 +8,5 @@ use Rattle.seam_toml.proofs.faults.first_fault.Given as goal
 abbrev pub invariant-faults : goal.invariant-faults
 invariant-faults l = record {
   all : l.fault-items ≡ in_order;
-  none_before : (g : Fault) → order g < l.fault-index → ¬ (HeaderHas (members_view l.document.entries) g)
+  none_before : (g : Fault) → order g < l.fault-index → ¬ (HeaderHas (members_view l.document.entries) g);
 }
