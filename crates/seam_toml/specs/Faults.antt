@@ -169,6 +169,10 @@ order BadDefault = 3
 order TooManyNames = 4
 order GhostTooNear = 5
 
+-- the top table of a header, which has these members, is itself at fault
+abbrev pub TopIsAtFault : Members → Fault → Type 0
+TopIsAtFault ms f = IsAtFault f role.Header (table ms)
+
 -- the header, whose top table has these members, has the fault
 abbrev pub HeaderHas : Members → Fault → Type 0
 HeaderHas ms f = HasFault f role.Header (table ms)

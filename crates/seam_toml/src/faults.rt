@@ -1,14 +1,12 @@
 // What is at fault in the values of a header.
 ghost use Rattle.std.specs.Prelude.{◌≡◌, ◌↔◌, IsTrue, MatchOption};
 ghost use Rattle.seam_value.specs.declared.types.ValueType.{ValueType as Types};
-ghost use Rattle.toml.specs.Data.{table};
 ghost use Rattle.toml.specs.View.{view, table_view, items_view};
-ghost use Rattle.seam_toml.specs.declared.roles.Role.TheVariants.{Header};
 ghost use Rattle.seam_toml.specs.declared.faults.Fault.{Fault as Faults};
 ghost use Rattle.seam_toml.specs.Faults.{HasStrangeKey, Lacks, LacksKey, HasWrongKeys, AreTypeNames, AreTexts, IsOfKind, IsNoFlag};
 ghost use Rattle.seam_toml.specs.Faults.{AreTooMany, AreTooNear, HasType, FitsType, HasBadDefault, IsBadProperty};
 ghost use Rattle.seam_toml.specs.Faults.{IsTypeName, IsPartName, IsListOf, SetsTooNear, size_of, count, count_items};
-ghost use Rattle.seam_toml.specs.Faults.{IsAtFault, HasFault, HasFaultBelow, HeaderHas, IsFirstFault};
+ghost use Rattle.seam_toml.specs.Faults.{IsAtFault, HasFault, HasFaultBelow, TopIsAtFault, HeaderHas, IsFirstFault};
 
 use crate::members::member;
 use crate::{Role, flag_named, part_named, read_settings};
@@ -317,9 +315,9 @@ fn has_fault_below(fault: Fault, role: &Role, table: &Table) -> bool
 
 // ---- the first fault of a header
 
-// Whether the top table of a header is itself at fault: it is a table, and nothing but a key that it may not have can be wrong with it.
-fn is_top_at_fault(fault: Fault, document: &Table) -> bool
-    ensures { IsTrue result ↔ IsAtFault fault Header (table (table_view document.now)) }
+// What is a table in any case can be wrong by its keys alone, and a header's top table has to have none.
+fn top_is_at_fault(fault: Fault, document: &Table) -> bool
+    ensures { IsTrue result ↔ TopIsAtFault (table_view document.now) fault }
 {
     match fault {
         Fault::NoSuchKey => has_strange_key(&Role::Header, document),
@@ -330,11 +328,11 @@ fn is_top_at_fault(fault: Fault, document: &Table) -> bool
 fn header_has(fault: Fault, document: &Table) -> bool
     ensures { IsTrue result ↔ HeaderHas (table_view document.now) fault }
 {
-    is_top_at_fault(fault, document) || has_fault_below(fault, &Role::Header, document)
+    top_is_at_fault(fault, document) || has_fault_below(fault, &Role::Header, document)
 }
 
 /// The first fault of the header whose top table this is: each fault is sought in the whole header before the next one, in the order of
-/// `Fault`. None where the header has none. Operations of methods are not looked at.
+/// `Fault`. None where the header has none. What the operations of methods say is not looked at.
 pub fn first_fault(document: &Table) -> Option<Fault>
     ensures { MatchOption result ((f : Faults) → ¬ (HeaderHas (table_view document.now) f)) (IsFirstFault (table_view document.now)) }
 {
