@@ -1,5 +1,5 @@
 -- The members and items that a table and an array are seen as are as many as its entries.
-use Rattle.std.proofs.Common.{◌≡◌, ℕ, List, [], ◌∷◌, length, refl, arith}
+use Rattle.std.proofs.Common.{◌≡◌, List, [], ◌∷◌, length, refl, arith}
 use Rattle.toml.proofs.Views.{Entry}
 use Rattle.toml.specs.View.{members_view, items_view}
 use Rattle.toml.specs.declared.value.Value.{Value}

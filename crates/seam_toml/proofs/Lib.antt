@@ -1,2 +1,4 @@
 mod SettingsLemmas
 mod Counts
+mod Depths
+mod FaultOrder

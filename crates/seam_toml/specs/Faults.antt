@@ -1,6 +1,6 @@
 -- What is at fault in the values of a header.
-use Rattle.std.specs.Prelude.{◌≡◌, ◌≢◌, ◌⊎◌, ⊤, ℕ, ◌+◌, ◌<◌, pos, IsTrue, IsSome, IsNone, List, [], ◌∷◌, length, codes, Option, Some, None}
-use Rattle.toml.specs.Data.{Data, string, integer, float, boolean, datetime, array}
+use Rattle.std.specs.Prelude.{◌≡◌, ◌≢◌, ◌⊎◌, ⊤, ℕ, ◌+◌, ◌<◌, pos, IsTrue, IsSome, IsNone, List, codes, Some, None}
+use Rattle.toml.specs.Data.{Data, string, integer, array}
 use Rattle.toml.specs.Data.{table, Items, no_items, item, Members, no_members, member, get_member, as_str, as_integer, as_bool, as_table}
 use Rattle.seam_value.specs.Types.{name_of}
 use Rattle.seam_value.specs.Values.{Fits}
@@ -145,3 +145,39 @@ IsAtFault BadFlag r d = IsNoFlag r d
 IsAtFault BadDefault r d = IsBadProperty r d
 IsAtFault TooManyNames r d = AreTooMany r d
 IsAtFault GhostTooNear r d = AreTooNear r d
+
+-- ---- a fault anywhere
+
+-- The value is at fault, or one below it, under keys that the tables there may have.
+abbrev mutual
+  pub HasFault : Fault → Role → Data → Type 0
+  HasFault f r (table ms) = IsAtFault f r (table ms) ⊎ HasFaultBelow f r ms
+  HasFault f r d = IsAtFault f r d
+
+  pub HasFaultBelow : Fault → Role → Members → Type 0
+  HasFaultBelow f r no_members = ⊥
+  HasFaultBelow f r (member key d ms) = ((below : Role) × (role_under r key ≡ Some below) × HasFault f below d) ⊎ HasFaultBelow f r ms
+
+-- ---- the first fault of a header
+
+-- the place of a fault in the order in which faults are sought
+abbrev pub order : Fault → ℕ
+order NoSuchKey = 0
+order BadType = 1
+order BadFlag = 2
+order BadDefault = 3
+order TooManyNames = 4
+order GhostTooNear = 5
+
+-- the top table of a header, which has these members, is itself at fault
+abbrev pub TopIsAtFault : Members → Fault → Type 0
+TopIsAtFault ms f = IsAtFault f role.Header (table ms)
+
+-- the header, whose top table has these members, has the fault
+abbrev pub HeaderHas : Members → Fault → Type 0
+HeaderHas ms f = HasFault f role.Header (table ms)
+
+-- the header has the fault, and none that is sought before it
+pub record IsFirstFault (ms : Members) (f : Fault) : Type 0 where
+  pub here : HeaderHas ms f
+  pub before : (g : Fault) → order g < order f → ¬ (HeaderHas ms g)

@@ -24,9 +24,10 @@ setting_key s = (key_of s, role.Setting s)
 
 abbrev pub setting_keys : Keys
 setting_keys =
-    setting_key setting.Size ∷ setting_key setting.ViewRadius ∷ setting_key setting.ViewHysteresis
-    ∷ setting_key setting.OffloadHysteresis
-    ∷ setting_key setting.GhostDistance ∷ setting_key setting.GhostHysteresis ∷ setting_key setting.BalanceShift ∷ setting_key setting.Bases ∷ []
+    setting_key setting.Size ∷ setting_key setting.ViewRadius
+    ∷ setting_key setting.ViewHysteresis ∷ setting_key setting.OffloadHysteresis
+    ∷ setting_key setting.GhostDistance ∷ setting_key setting.GhostHysteresis
+    ∷ setting_key setting.BalanceShift ∷ setting_key setting.Bases ∷ []
 
 abbrev pub type_keys : Keys
 type_keys = (codes "properties", role.Properties) ∷ (codes "methods", role.Methods) ∷ []

@@ -1,12 +1,12 @@
 // What is at fault in the values of a header.
-ghost use Rattle.std.specs.Prelude.{◌≡◌, ◌≢◌, ◌<◌, ◌⊎◌, ◌↔◌, IsTrue, IsSome, MatchOption};
+ghost use Rattle.std.specs.Prelude.{◌≡◌, ◌↔◌, IsTrue, MatchOption};
 ghost use Rattle.seam_value.specs.declared.types.ValueType.{ValueType as Types};
 ghost use Rattle.toml.specs.View.{view, table_view, items_view};
-ghost use Rattle.toml.specs.Data.{as_array};
+ghost use Rattle.seam_toml.specs.declared.faults.Fault.{Fault as Faults};
 ghost use Rattle.seam_toml.specs.Faults.{HasStrangeKey, Lacks, LacksKey, HasWrongKeys, AreTypeNames, AreTexts, IsOfKind, IsNoFlag};
 ghost use Rattle.seam_toml.specs.Faults.{AreTooMany, AreTooNear, HasType, FitsType, HasBadDefault, IsBadProperty};
-ghost use Rattle.seam_toml.specs.Faults.{IsAtFault};
 ghost use Rattle.seam_toml.specs.Faults.{IsTypeName, IsPartName, IsListOf, SetsTooNear, size_of, count, count_items};
+ghost use Rattle.seam_toml.specs.Faults.{IsAtFault, HasFault, HasFaultBelow, TopIsAtFault, HeaderHas, IsFirstFault};
 
 use crate::members::member;
 use crate::{Role, flag_named, part_named, read_settings};
@@ -282,4 +282,71 @@ pub fn is_at_fault(fault: Fault, role: &Role, value: &Value) -> bool
         Fault::TooManyNames => are_too_many(role, value),
         Fault::GhostTooNear => are_too_near(role, value),
     }
+}
+
+// ---- a fault anywhere
+
+/// Whether the value, which is for this, or one below it is at fault in this way. Only what is under keys that a table may have is
+/// below it.
+#[cycle(has_fault)]
+pub fn has_fault(fault: Fault, role: &Role, value: &Value) -> bool
+    ensures { IsTrue result ↔ HasFault fault role.now (view value.now) }
+{
+    is_at_fault(fault, role, value)
+        || match value.as_table() {
+            Some(table) => has_fault_below(fault, role, table),
+            None => false,
+        }
+}
+
+#[cycle(has_fault)]
+fn has_fault_below(fault: Fault, role: &Role, table: &Table) -> bool
+    ensures { IsTrue result ↔ HasFaultBelow fault role.now (table_view table.now) }
+{
+    'members: for (key, value) in table.iter() {
+        if let Some(below) = role.under(key.as_str()) {
+            if has_fault(fault, &below, value) {
+                return true;
+            }
+        }
+    }
+    false
+}
+
+// ---- the first fault of a header
+
+// What is a table in any case can be wrong by its keys alone, and a header's top table has to have none.
+fn top_is_at_fault(fault: Fault, document: &Table) -> bool
+    ensures { IsTrue result ↔ TopIsAtFault (table_view document.now) fault }
+{
+    match fault {
+        Fault::NoSuchKey => has_strange_key(&Role::Header, document),
+        _ => false,
+    }
+}
+
+fn header_has(fault: Fault, document: &Table) -> bool
+    ensures { IsTrue result ↔ HeaderHas (table_view document.now) fault }
+{
+    top_is_at_fault(fault, document) || has_fault_below(fault, &Role::Header, document)
+}
+
+/// The first fault of the header whose top table this is: each fault is sought in the whole header before the next one, in the order of
+/// `Fault`. None where the header has none. What the operations of methods say is not looked at.
+pub fn first_fault(document: &Table) -> Option<Fault>
+    ensures { MatchOption result ((f : Faults) → ¬ (HeaderHas (table_view document.now) f)) (IsFirstFault (table_view document.now)) }
+{
+    'faults: for fault in [
+        Fault::NoSuchKey,
+        Fault::BadType,
+        Fault::BadFlag,
+        Fault::BadDefault,
+        Fault::TooManyNames,
+        Fault::GhostTooNear,
+    ] {
+        if header_has(fault, document) {
+            return Some(fault);
+        }
+    }
+    None
 }

@@ -1,5 +1,6 @@
 //! Headers: the definitions and settings that the TOML text before a script stands for. So far: the document that a text is, the
-//! grammar of a header's tables, the settings that its table of settings sets, and what is at fault in one value.
+//! grammar of a header's tables, the settings that its table of settings sets, and the first fault of its values. What the operations
+//! of methods say is not looked at yet.
 #![tactic(auto)]
 
 mod documents;
@@ -10,7 +11,7 @@ mod roles;
 mod settings;
 
 pub use documents::{DocumentError, MOST_HEADER_BYTES, read_document};
-pub use faults::{Fault, is_at_fault};
+pub use faults::{Fault, first_fault, has_fault, is_at_fault};
 pub use names::{flag_named, part_named};
 pub use roles::Role;
 pub use settings::{Setting, read_settings};

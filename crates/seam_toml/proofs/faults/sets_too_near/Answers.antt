@@ -1,4 +1,3 @@
-use Rattle.std.proofs.Common.{◌↔◌, false, true}
 use Rattle.std.proofs.lemmas.Bool.{false≢true}
 use Rattle.seam_toml.proofs.SettingsLemmas.{near_by_reach, bad_sets_none}
 use Rattle.seam_toml.proofs.faults.sets_too_near.Goals as goal
