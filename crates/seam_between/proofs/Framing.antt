@@ -28,14 +28,7 @@ use Rattle.seam_steps.specs.Loads.{base_round, order_if, ordered_at, loaded}
 use Rattle.seam_steps.specs.Valid.{AreUnderTheirEntities, IsCell, IsBase, IsNode}
 use Rattle.seam_moves.specs.Frames.{Frame, here_at, IsCellAt, IsBaseAt, IsAt, IsInFrame}
 use Rattle.seam_between.specs.Between.{IsBetweenRounds, IsFitting, framed}
-use Rattle.seam_between.proofs.Loading.{each, each_keeps, made, node_loaded, loaded_is, node_there, set_keeps, get-each_value}
-
-abbrev Any : {A : Type 0} → A → Type 0
-Any x = Unit {0}
-
-any : {A : Type 0} (xs : List A) → AllByRecursion Any xs
-any [] = tt
-any (x ∷ xs) = (tt, any xs)
+use Rattle.seam_between.proofs.Loading.{each, each_keeps, Any, any, made, node_loaded, loaded_is, node_there, set_keeps, get-each_value}
 
 abbrev IsUnder : ℕ → RealView → Type 0
 IsUnder e r = r.entity ≡ e

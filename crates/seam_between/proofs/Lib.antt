@@ -1,2 +1,4 @@
 pub mod Loading
 pub mod Framing
+pub mod Staying
+pub mod Loaded

@@ -36,6 +36,14 @@ module _ {A : Type 0} (g : A → NodeView → NodeView) where
   each_keeps P Q step [] all s h = h
   each_keeps P Q step (x ∷ xs) all s h = each_keeps P Q step xs all.1 (g x s) (step x s all.0 h)
 
+-- no fact of an item is needed
+abbrev pub Any : {A : Type 0} → A → Type 0
+Any x = Unit {0}
+
+pub any : {A : Type 0} (xs : List A) → AllByRecursion Any xs
+any [] = tt
+any (x ∷ xs) = (tt, any xs)
+
 -- what a load makes of a node
 abbrev pub made : Batch → NodeView → NodeView
 made b s = each attached b.clients (each (created_at b.tree) b.creates (base_round (cells_of b.tree) s))

@@ -1,16 +1,18 @@
 -- The record between rounds: what a quiet world keeps from the end of a round to the load of the next; and a batch that fits it.
-use Rattle.std.specs.Prelude.{◌≡◌, ℕ, ◌<◌, ◌≤◌, length, None, Some}
+use Rattle.std.specs.Prelude.{◌≡◌, ℕ, ◌+◌, ◌<◌, ◌≤◌, length, None, Some}
 use Rattle.std.specs.List.{AllByRecursion}
 use Rattle.seam_tree.specs.Division.{cells_of, IsTree}
 use Rattle.seam_machine.specs.Nets.{IsQuiet}
-use Rattle.seam_call.specs.declared.create.Create.{Create}
 use Rattle.seam_call.specs.declared.order.Batch.{Batch}
 use Rattle.seam_entity.specs.Reals.{RealView}
+use Rattle.seam_steps.specs.Numbers.{limit}
+use Rattle.seam_steps.specs.Loads.{loaded}
 use Rattle.seam_steps.specs.Bases.{RouteView}
 use Rattle.seam_steps.specs.Nodes.{World, node_has_work}
 use Rattle.seam_moves.specs.Frames.{Frame, IsInFrame}
 use Rattle.seam_moves.specs.Sights.{entity_flow}
 use Rattle.seam_ones.specs.Fits.{RealFits}
+use Rattle.seam_ones.specs.Burdens.{burden}
 use Rattle.seam_ones.specs.Ones.{real_in, reaped_by_order, IsFrame}
 
 -- what a world keeps of an entity whose real, r, is in cell `home`
@@ -51,6 +53,8 @@ pub record IsFitting (f : Frame) (w : World) (b : Batch) : Type 0 where
   pub new : AllByRecursion (λ x. IsNew w x.entity) b.creates
   -- none of its orders is a reap: these are loaded after the round's calls
   pub spares : AllByRecursion (λ o. reaped_by_order o.1 ≡ None) b.orders
+  -- what each entity has to do then leaves room in its numbers
+  pub room : (e : ℕ) → burden e (loaded w b) + 1 < limit
 
 -- what the nodes go by once the batch is loaded
 abbrev pub framed : Frame → Batch → Frame

@@ -1,16 +1,47 @@
-//! Worlds between rounds: what a load makes of one that keeps the record.
+//! Worlds between rounds: what the laws of the core ask of a loaded world is true of each that a fitting batch makes of one that keeps
+//! the record.
+//!
+//! `specs/Between` has the record, a sentence for each of its fields, and what a fitting batch is. These laws speak of entities that were
+//! there before the load; those that the batch creates are not in them.
+//!
+//! Crates above cite these modules of `proofs`: `Loading` (a load node by node), `Framing` (the frame), `Staying` (what a load leaves of
+//! an entity at a node), `Loaded` (and in the world).
 #![tactic(auto)]
 
-ghost use Rattle.std.specs.Prelude.{◌≡◌, ℕ};
+ghost use Rattle.std.specs.Prelude.{◌≡◌, ℕ, List, Some};
+ghost use Rattle.seam_machine.specs.Nets.{LeadsTo};
+ghost use Rattle.seam_machine.specs.declared.machines.Event.{Event};
 ghost use Rattle.seam_call.specs.declared.order.Batch.{Batch};
-ghost use Rattle.seam_steps.specs.Nodes.{World};
+ghost use Rattle.seam_entity.specs.Reals.{RealView};
+ghost use Rattle.seam_steps.specs.Holders.{holders};
+ghost use Rattle.seam_steps.specs.Nodes.{World, node_steps, node_has_work};
 ghost use Rattle.seam_steps.specs.Loads.{loaded};
 ghost use Rattle.seam_moves.specs.Frames.{Frame, IsInFrame};
-ghost use Rattle.seam_ones.specs.Ones.{IsFrame};
+ghost use Rattle.seam_moves.specs.Sights.{entity_flow};
+ghost use Rattle.seam_ones.specs.Ones.{real_in, IsFrame, IsSpared, HasOne};
+ghost use Rattle.seam_ways.specs.Ways.{AllLead};
 ghost use Rattle.seam_between.specs.Between.{IsBetweenRounds, IsFitting, framed};
 
 /// A world between rounds that was given a fitting batch goes by the batch's tree.
 pub fn a_loaded_world_goes_by_its_tree()
     ensures frame { (f : Frame) (w : World) (b : Batch) → IsBetweenRounds f w → IsFitting f w b → IsFrame (framed f b) }
     ensures nodes { (f : Frame) (w : World) (b : Batch) → IsBetweenRounds f w → IsFitting f w b → IsInFrame (framed f b) (loaded w b) }
+{}
+
+/// Each entity that was there has one real in it, which fits; no one reaps it, and whatever leads to a cell leads to it.
+pub fn an_entity_that_was_there_is_ready()
+    ensures one { (f : Frame) (w : World) (b : Batch) → IsBetweenRounds f w → IsFitting f w b → (e k : ℕ) (r : RealView) →
+        real_in ((entity_flow e w).slot k) ≡ Some r → HasOne (framed f b) e r.ty (loaded w b) }
+    ensures spared { (f : Frame) (w : World) (b : Batch) → IsBetweenRounds f w → IsFitting f w b → (e k : ℕ) (r : RealView) →
+        real_in ((entity_flow e w).slot k) ≡ Some r → IsSpared e (loaded w b) }
+    ensures lead { (f : Frame) (w : World) (b : Batch) → IsBetweenRounds f w → IsFitting f w b → (e k : ℕ) (r : RealView) →
+        real_in ((entity_flow e w).slot k) ≡ Some r → AllLead (entity_flow e (loaded w b)) }
+{}
+
+/// So over every list of events after the load one has its real, and its calls find their way.
+pub fn an_entity_that_was_there_keeps_one_real()
+    ensures one { (f : Frame) (w : World) (b : Batch) → IsBetweenRounds f w → IsFitting f w b → (e : ℕ) → holders w e ≡ 1 →
+        (v : World) (es : List Event) → LeadsTo node_has_work node_steps (loaded w b) es v → holders v e ≡ 1 }
+    ensures lead { (f : Frame) (w : World) (b : Batch) → IsBetweenRounds f w → IsFitting f w b → (e : ℕ) → holders w e ≡ 1 →
+        (v : World) (es : List Event) → LeadsTo node_has_work node_steps (loaded w b) es v → AllLead (entity_flow e v) }
 {}
