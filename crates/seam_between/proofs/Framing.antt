@@ -129,7 +129,7 @@ module _ (f : Frame) (b : Batch) (tree : IsTree b.tree) (k : ℕ) where
     at = record { high = h.at.high; here = h.at.here; cells = h.at.cells };
   }
 
-  abbrev Goes : NodeView → Type 0
+  abbrev pub Goes : NodeView → Type 0
   Goes s = IsNode s × IsAt (framed f b) k s
 
   rounds : (s : NodeView) → While s → Goes (cell_round b.tree s)
@@ -160,16 +160,20 @@ module _ (f : Frame) (b : Batch) (tree : IsTree b.tree) (k : ℕ) where
   orders o (Cell c) any h = h
   orders o (Base n) any h = order_more _ n o.1 h
 
+  -- before the orders
+  pub node_begun : (s : NodeView) → IsNode s → IsAt f k s → Goes (cell_round b.tree (made b s))
+  node_begun s is at =
+      rounds (made b s)
+      (each_keeps attached While Any joins b.clients (any b.clients) (each (created_at b.tree) b.creates (base_round (cells_of b.tree) s))
+      (each_keeps (created_at b.tree) While Any creates b.creates (any b.creates) (base_round (cells_of b.tree) s) (begins s is at)))
+
   pub node_goes : (s : NodeView) → IsNode s → IsAt f k s → Goes (node_loaded b s)
   node_goes s is at =
-      each_keeps ordered_at Goes Any orders b.orders (any b.orders) (cell_round b.tree (made b s))
-      (rounds (made b s)
-      (each_keeps attached While Any joins b.clients (any b.clients) (each (created_at b.tree) b.creates (base_round (cells_of b.tree) s))
-      (each_keeps (created_at b.tree) While Any creates b.creates (any b.creates) (base_round (cells_of b.tree) s) (begins s is at))))
+      each_keeps ordered_at Goes Any orders b.orders (any b.orders) (cell_round b.tree (made b s)) (node_begun s is at)
 
 -- ---- the world
 
-peers_at : (f : Frame) (k : ℕ) (s : NodeView) → IsAt f k s → node_peers s ≡ cell_count + f.settings.bases
+pub peers_at : (f : Frame) (k : ℕ) (s : NodeView) → IsAt f k s → node_peers s ≡ cell_count + f.settings.bases
 peers_at f k (Cell c) h = ap (λ x. cell_count + x.settings.bases) h.here
 peers_at f k (Base n) h = ap (λ x. cell_count + x.settings.bases) h.here
 

@@ -2,3 +2,4 @@ pub mod Loading
 pub mod Framing
 pub mod Staying
 pub mod Loaded
+pub mod Turns

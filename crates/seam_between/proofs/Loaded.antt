@@ -47,7 +47,7 @@ kept_some : (o p : Option RealView) → Kept real_begins o p → (r : RealView) 
 kept_some None p k r is = absurd (let z = is in cc)
 kept_some (Some q) p k r is = let same : q ≡ r = cc in subst (λ y. (x : Option WitnessView) × (p ≡ Some (record (real_begins y) { witness = x }))) same k
 
-no_items : {A : Type 0} (xs : List A) (b : Bool) → (has_any xs || b) ≡ false → xs ≡ []
+pub no_items : {A : Type 0} (xs : List A) (b : Bool) → (has_any xs || b) ≡ false → xs ≡ []
 no_items [] b h = refl
 no_items (x ∷ xs) b h = cc
 
@@ -61,7 +61,7 @@ module _ (f : Frame) (w : World) (b : Batch) (between : IsBetweenRounds f w) (fi
   abbrev before : Flow Has Msg
   before = entity_flow e w
 
-  abbrev after : Flow Has Msg
+  abbrev pub after : Flow Has Msg
   after = entity_flow e (loaded w b)
 
   settled : IsSettled f e home r w
@@ -78,9 +78,12 @@ module _ (f : Frame) (w : World) (b : Batch) (between : IsBetweenRounds f w) (fi
           let z = sym there ∙ here in
           cc
 
+  pub others : AllByRecursion (λ x. x.entity ≡ e → ⊥) b.creates
+  others = others_of b.creates fits.new
+
   slot_by : (o : Option NodeView) → Becomes e (slot_at (has_of e) has_none o) (slot_at (has_of e) has_none (option_map (node_loaded b) o))
   slot_by None = record { real = refl; next = refl; route = refl; spared = λ h. h }
-  slot_by (Some s) = node_becomes e b (others_of b.creates fits.new) fits.spares s
+  slot_by (Some s) = node_becomes e b others fits.spares s
 
   slot_becomes : (k : ℕ) → Becomes e (before.slot k) (after.slot k)
   slot_becomes k =
@@ -88,14 +91,14 @@ module _ (f : Frame) (w : World) (b : Batch) (between : IsBetweenRounds f w) (fi
       (subst (λ o. Becomes e (before.slot k) (slot_at (has_of e) has_none o)) (sym (slice_get-map (node_loaded b) w.nodes k))
       (slot_by (slice_get w.nodes k)))
 
-  no_mail : (x y : ℕ) → after.mail x y ≡ []
+  pub no_mail : (x y : ℕ) → after.mail x y ≡ []
   no_mail x y =
       ap (λ v. letters_of (mine e) (link v.rows x y)) (loaded_is w b)
       ∙ ap (letters_of (mine e)) (quiet_links node_has_work w between.nodes.sound.square between.quiet x y)
 
   -- ---- the real
 
-  kept : (x : Option WitnessView) × (real_in (after.slot home) ≡ Some (record (real_begins r) { witness = x }))
+  pub kept : (x : Option WitnessView) × (real_in (after.slot home) ≡ Some (record (real_begins r) { witness = x }))
   kept = kept_some (real_in (before.slot home)) (real_in (after.slot home)) (slot_becomes home).real r here
 
   abbrev real : RealView
@@ -115,7 +118,7 @@ module _ (f : Frame) (w : World) (b : Batch) (between : IsBetweenRounds f w) (fi
         haunts = λ j h. let low = q.haunts j h in omega (arith, low, more);
       }
 
-  elsewhere : (j : ℕ) → (j ≡ home → ⊥) → real_in (after.slot j) ≡ None
+  pub elsewhere : (j : ℕ) → (j ≡ home → ⊥) → real_in (after.slot j) ≡ None
   elsewhere j n = kept_none (real_in (before.slot j)) (real_in (after.slot j)) (slot_becomes j).real (settled.others j n)
 
   fit_at : (k : ℕ) → IsFitReal (framed f b) e r.ty k (real_in (after.slot k))

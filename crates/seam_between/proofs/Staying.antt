@@ -51,10 +51,10 @@ kept_begins None p k = ap (option_map real_begins) k
 kept_begins (Some r) p k = (k.0, ap (option_map real_begins) k.1)
 
 -- the route and the orders are the same
-record Stays (turn : RealView → RealView) (g h : Has) : Type 0 where
-  real : Kept turn (real_in g) (real_in h)
-  route : h.base.route ≡ g.base.route
-  orders : h.base.orders ≡ g.base.orders
+pub record Stays (turn : RealView → RealView) (g h : Has) : Type 0 where
+  pub real : Kept turn (real_in g) (real_in h)
+  pub route : h.base.route ≡ g.base.route
+  pub orders : h.base.orders ≡ g.base.orders
 
 module _ (e : ℕ) where
   -- ---- the base nodes begin the round
@@ -187,10 +187,11 @@ module _ (e : ℕ) where
     spared = λ none. subst (AllByRecursion Spares) (sym s.orders) none;
   }
 
-  module _ (b : Batch) (others : AllByRecursion (λ x. x.entity ≡ e → ⊥) b.creates)
-      (spares : AllByRecursion (λ o. Spares o.1) b.orders) where
-    pub node_becomes : (s : NodeView) → Becomes (has_of e s) (has_of e (node_loaded b s))
-    node_becomes s =
+  module _ (b : Batch) (others : AllByRecursion (λ x. x.entity ≡ e → ⊥) b.creates) where
+    -- before the orders
+    pub node_stays : (s : NodeView) → Stays real_begins (has_of e s) (has_of e (cell_round b.tree (made b s)))
+        × ((has_of e (cell_round b.tree (made b s))).cell.slot.next ≡ None)
+    node_stays s =
         let g = has_of e s in
         let begun = base_round (cells_of b.tree) s in
         let created = each (created_at b.tree) b.creates begun in
@@ -198,6 +199,12 @@ module _ (e : ℕ) where
         let first = each_keeps (created_at b.tree) P (λ x. x.entity ≡ e → ⊥) (λ x n other h. created_stays b.tree x other g n h) b.creates
             others begun (base_stays (cells_of b.tree) s) in
         let second = each_keeps attached P Any (λ q n u h. joined_stays g q n h) b.clients (any b.clients) created first in
-        let third = round_stays g b.tree (made b s) second in
+        round_stays g b.tree (made b s) second
+
+    pub node_becomes : AllByRecursion (λ o. Spares o.1) b.orders → (s : NodeView) → Becomes (has_of e s) (has_of e (node_loaded b s))
+    node_becomes spares s =
+        let g = has_of e s in
+        let begun = cell_round b.tree (made b s) in
+        let two = node_stays s in
         each_keeps ordered_at (λ n. Becomes g (has_of e n)) (λ o. Spares o.1) (λ o n h k. order_becomes g o n h k) b.orders spares
-        (cell_round b.tree (made b s)) (becomes_of g (has_of e (cell_round b.tree (made b s))) third.0 third.1)
+        begun (becomes_of g (has_of e begun) two.0 two.1)
