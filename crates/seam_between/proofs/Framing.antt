@@ -1,23 +1,21 @@
 -- A loaded world goes by the batch's tree.
-use Rattle.std.proofs.Common.{◌≡◌, ℕ, ◌+◌, ◌<◌, Bool, true, false, List, [], ◌∷◌, length, Option, None, Some, refl, sym, ap, ◌∙◌, subst}
+use Rattle.std.proofs.Common.{◌≡◌, ℕ, ◌+◌, ◌<◌, Bool, true, false, length, Option, None, Some, refl, sym, ap, ◌∙◌, subst}
 use Rattle.std.proofs.Common.{arith}
 use Rattle.std.specs.Prelude.{option_map, slice_get, slice_index_or}
-use Rattle.std.specs.List.{All, AllByRecursion}
+use Rattle.std.specs.List.{All}
 use Rattle.std.specs.Ordering.{nat_cmp}
 use Rattle.std.specs.FinMap as table
 use Rattle.std.proofs.lemmas.List.{length-map}
 use Rattle.std.proofs.lemmas.List.Elements.{All-map}
 use Rattle.std.proofs.lemmas.Option.{slice_get-map, slice_get-get_or}
-use Rattle.seam_tree.specs.Division.{Division, leaf_at, cells_of, IsTree}
+use Rattle.seam_tree.specs.Division.{leaf_at, cells_of, IsTree}
 use Rattle.seam_tree.proofs.Leaves.{leaf_is_cell}
 use Rattle.seam_machine.specs.Nets.{IsSquare, ArePeers}
-use Rattle.seam_machine.specs.Events.{EachNode}
 use Rattle.seam_call.specs.declared.create.Create.{Create}
 use Rattle.seam_call.specs.declared.order.Order.{Order}
 use Rattle.seam_call.specs.declared.order.Batch.{Batch}
 use Rattle.seam_entity.specs.Reals.{RealView}
-use Rattle.seam_steps.specs.Maps.{set_at}
-use Rattle.seam_steps.specs.Here.{Here, cell_count, base_of}
+use Rattle.seam_steps.specs.Here.{Here, cell_count}
 use Rattle.seam_steps.specs.Cells.{CellView}
 use Rattle.seam_steps.specs.Bases.{BaseView, RouteView}
 use Rattle.seam_steps.specs.Nodes.{NodeView, World, node_peers}
@@ -25,8 +23,8 @@ use Rattle.seam_steps.specs.Nodes.NodeView.{Cell, Base}
 use Rattle.seam_steps.specs.Reals.{created}
 use Rattle.seam_steps.specs.Loads.{with_nodes, real_if, part_if, with_route, created_at, with_witness, attached, real_begins, cell_round}
 use Rattle.seam_steps.specs.Loads.{base_round, order_if, ordered_at, loaded}
-use Rattle.seam_steps.specs.Valid.{AreUnderTheirEntities, IsCell, IsBase, IsNode}
-use Rattle.seam_moves.specs.Frames.{Frame, here_at, IsCellAt, IsBaseAt, IsAt, IsInFrame}
+use Rattle.seam_steps.specs.Valid.{IsCell, IsBase, IsNode}
+use Rattle.seam_moves.specs.Frames.{Frame, here_at, IsBaseAt, IsAt, IsInFrame}
 use Rattle.seam_between.specs.Between.{IsBetweenRounds, IsFitting, framed}
 use Rattle.seam_between.proofs.Loading.{each, each_keeps, Any, any, made, node_loaded, loaded_is, node_there, set_keeps, get-each_value}
 
@@ -133,27 +131,25 @@ module _ (f : Frame) (b : Batch) (tree : IsTree b.tree) (k : ℕ) where
   Goes s = IsNode s × IsAt (framed f b) k s
 
   rounds : (s : NodeView) → While s → Goes (cell_round b.tree s)
-  rounds (Cell c) h =
-      (
-        record {
-          me_in = h.is.me_in;
-          bases = h.is.bases;
-          tree = tree;
-          nexts = λ e n at. absurd (let none = sym (table.get-empty nat_cmp e) ∙ at in cc);
-          keys = λ e r at.
-              same_entity real_begins (λ r. refl) e (table.get c.reals e) (h.is.keys e) r (sym (get-each_value real_begins c.reals e) ∙ at);
-        },
-        record { low = h.low; here = h.here; tree = refl },
-      )
+  rounds (Cell c) h = (
+    record {
+      me_in = h.is.me_in;
+      bases = h.is.bases;
+      tree = tree;
+      nexts = λ e n at. absurd (let none = sym (table.get-empty nat_cmp e) ∙ at in cc);
+      keys = λ e r at.
+          same_entity real_begins (λ r. refl) e (table.get c.reals e) (h.is.keys e) r (sym (get-each_value real_begins c.reals e) ∙ at);
+    },
+    record { low = h.low; here = h.here; tree = refl },
+  )
   rounds (Base n) h = (h.is, h.at)
 
   order_more : (d : Bool) (n : BaseView) (o : Order) → IsBase n × IsBaseAt (framed f b) k n →
       IsBase (order_if d n o) × IsBaseAt (framed f b) k (order_if d n o)
-  order_more true n o h =
-      (
-        record { bases = h.0.bases; cells = h.0.cells; routes = h.0.routes },
-        record { high = h.1.high; here = h.1.here; cells = h.1.cells },
-      )
+  order_more true n o h = (
+    record { bases = h.0.bases; cells = h.0.cells; routes = h.0.routes },
+    record { high = h.1.high; here = h.1.here; cells = h.1.cells },
+  )
   order_more false n o h = h
 
   orders : (o : ℕ × Order) (s : NodeView) → Any o → Goes s → Goes (ordered_at o s)

@@ -1,33 +1,28 @@
 -- An entity that was there, in a loaded world: it has one real, which fits; no one reaps it; and what leads to a cell leads to it.
-use Rattle.std.proofs.Common.{◌≡◌, ℕ, ◌+◌, ◌<◌, Bool, true, List, [], ◌∷◌, length, is_some, Option, None, Some, refl, sym, ap, ◌∙◌, subst}
+use Rattle.std.proofs.Common.{◌≡◌, ℕ, ◌<◌, Bool, List, [], ◌∷◌, length, is_some, Option, None, Some, refl, sym, ap, ◌∙◌, subst}
 use Rattle.std.proofs.Common.{arith, inl, inr, ◌||◌, false}
 use Rattle.std.specs.Prelude.{option_map, slice_get}
 use Rattle.std.specs.List.{AllByRecursion}
 use Rattle.std.proofs.lemmas.Bool.{cases_eq}
 use Rattle.std.proofs.lemmas.Option.{slice_get-map}
-use Rattle.seam_tree.specs.Division.{cells_of}
-use Rattle.seam_machine.specs.Nets.{IsQuiet, link, LeadsTo}
+use Rattle.seam_machine.specs.Nets.{link, LeadsTo}
 use Rattle.seam_machine.specs.declared.machines.Event.{Event}
 use Rattle.seam_machine.proofs.Quiet.{quiet_links, quiet_tasks}
 use Rattle.seam_flows.specs.Flows.{Flow, slot_at, letters_of}
 use Rattle.seam_flows.specs.Tokens.{Place, In, On}
 use Rattle.seam_call.specs.declared.create.Create.{Create}
-use Rattle.seam_call.specs.declared.call.Call.{Call as CallData}
 use Rattle.seam_call.specs.declared.order.Batch.{Batch}
 use Rattle.seam_entity.specs.Reals.{RealView, WitnessView}
 use Rattle.seam_entity.specs.declared.message.Msg.{Msg}
 use Rattle.seam_steps.specs.Maps.{has_any}
-use Rattle.seam_steps.specs.Numbers.{limit}
-use Rattle.seam_steps.specs.Bases.{RouteView, BaseView}
 use Rattle.seam_steps.specs.Holders.{holders}
 use Rattle.seam_steps.specs.Nodes.{NodeView, World, node_has_work, node_steps}
 use Rattle.seam_steps.specs.Nodes.NodeView.{Cell, Base}
-use Rattle.seam_steps.specs.Loads.{with_nodes, real_begins, loaded}
+use Rattle.seam_steps.specs.Loads.{real_begins, loaded}
 use Rattle.seam_moves.specs.Frames.{Frame}
-use Rattle.seam_moves.specs.Sights.{Has, mine, has_of, has_none, orders_of, entity_flow}
+use Rattle.seam_moves.specs.Sights.{Has, mine, has_of, has_none, entity_flow}
 use Rattle.seam_ones.specs.Fits.{RealFits, IsFitReal, IsFitHand}
-use Rattle.seam_ones.specs.Burdens.{burden}
-use Rattle.seam_ones.specs.Ones.{real_in, real_of, reaped_by, HasNoReaps, IsSpared, AllFits, IsFrame, HasOne, IsOne}
+use Rattle.seam_ones.specs.Ones.{real_in, real_of, reaped_by, HasNoReaps, IsSpared, IsFrame, HasOne, IsOne}
 use Rattle.seam_ones.proofs.Counting.{counted_one, one_counts}
 use Rattle.seam_ones.proofs.OneReal.{one_leads}
 use Rattle.seam_ones.proofs.ExampleMet.{slots}
@@ -45,7 +40,9 @@ kept_none (Some r) p k is = absurd (let z = is in cc)
 kept_some : (o p : Option RealView) → Kept real_begins o p → (r : RealView) → o ≡ Some r →
     (x : Option WitnessView) × (p ≡ Some (record (real_begins r) { witness = x }))
 kept_some None p k r is = absurd (let z = is in cc)
-kept_some (Some q) p k r is = let same : q ≡ r = cc in subst (λ y. (x : Option WitnessView) × (p ≡ Some (record (real_begins y) { witness = x }))) same k
+kept_some (Some q) p k r is =
+  let same : q ≡ r = cc in
+  subst (λ y. (x : Option WitnessView) × (p ≡ Some (record (real_begins y) { witness = x }))) same k
 
 pub no_items : {A : Type 0} (xs : List A) (b : Bool) → (has_any xs || b) ≡ false → xs ≡ []
 no_items [] b h = refl
@@ -124,8 +121,8 @@ module _ (f : Frame) (w : World) (b : Batch) (between : IsBetweenRounds f w) (fi
   fit_at : (k : ℕ) → IsFitReal (framed f b) e r.ty k (real_in (after.slot k))
   fit_at k q at = elim (cases_eq k home) [
     | inl is ↦
-      let same : real ≡ q = let z = sym kept.1 ∙ ap (λ j. real_in (after.slot j)) (sym is) ∙ at in cc in
-      subst (λ j. RealFits (framed f b) e r.ty j q) (sym is) (subst (RealFits (framed f b) e r.ty home) same real_fits)
+        let same : real ≡ q = let z = sym kept.1 ∙ ap (λ j. real_in (after.slot j)) (sym is) ∙ at in cc in
+        subst (λ j. RealFits (framed f b) e r.ty j q) (sym is) (subst (RealFits (framed f b) e r.ty home) same real_fits)
     | inr n ↦ absurd (let z = sym (elsewhere k n) ∙ at in cc)
   ]
 
@@ -135,7 +132,7 @@ module _ (f : Frame) (w : World) (b : Batch) (between : IsBetweenRounds f w) (fi
       frame = in_frame f w b between fits;
       reals = fit_at;
       hands = λ a k. subst (AllByRecursion (IsFitHand (framed f b) e r.ty k)) (sym (no_mail a k)) tt;
-      room = let more = fits.room e in omega (arith, more);
+      room = let more = fits.room e home r here in omega (arith, more);
     };
     place = In home;
     real = real;
@@ -156,7 +153,8 @@ module _ (f : Frame) (w : World) (b : Batch) (between : IsBetweenRounds f w) (fi
 
 -- ---- over every list of events
 
-module _ (f : Frame) (w : World) (b : Batch) (between : IsBetweenRounds f w) (fits : IsFitting f w b) (e : ℕ) (there : holders w e ≡ 1) where
+module _ (f : Frame) (w : World) (b : Batch) (between : IsBetweenRounds f w) (fits : IsFitting f w b) (e : ℕ) (there : holders w e ≡ 1)
+    where
   -- in a quiet world the one real is at a node
   record Home : Type 0 where
     node : ℕ
@@ -167,7 +165,7 @@ module _ (f : Frame) (w : World) (b : Batch) (between : IsBetweenRounds f w) (fi
   home_by (In k) r one = record { node = k; real = r; here = one.here }
   home_by (On x y) r one =
       let none =
-          ap (λ l. letters_of real_of (letters_of (mine e) l)) (quiet_links node_has_work w between.nodes.sound.square between.quiet x y) in
+      ap (λ l. letters_of real_of (letters_of (mine e) l)) (quiet_links node_has_work w between.nodes.sound.square between.quiet x y) in
       absurd (let z = sym none ∙ one.here in cc)
 
   at_home : Home

@@ -1,5 +1,6 @@
 -- What a load leaves of an entity that was there: its real, with no calls done and perhaps a witness, its routes, and no next place.
-use Rattle.std.proofs.Common.{◌≡◌, ℕ, Bool, true, false, cond, eqb, List, [], ◌∷◌, ◌++◌, Option, None, Some, refl, sym, ap, ◌∙◌, subst, arith}
+use Rattle.std.proofs.Common.{◌≡◌, ℕ, Bool, true, false, cond, eqb, List, [], ◌∷◌, ◌++◌, Option, None, Some, refl, sym, ap, ◌∙◌, subst}
+use Rattle.std.proofs.Common.{arith}
 use Rattle.std.specs.Prelude.{option_map}
 use Rattle.std.specs.List.{AllByRecursion}
 use Rattle.std.specs.Ordering.{nat_cmp, eq_by_cmp}
@@ -9,7 +10,6 @@ use Rattle.std.proofs.lemmas.List.Elements.{filter-append}
 use Rattle.std.proofs.lemmas.Bool.{ne_eqb}
 use Rattle.std.proofs.lemmas.Bool.Decides.{nat_tests}
 use Rattle.seam_tree.specs.Division.{Division, leaf_at, cells_of}
-use Rattle.seam_machine.specs.Sends.{items_to}
 use Rattle.seam_flows.proofs.Following.{all_append}
 use Rattle.seam_call.specs.declared.create.Create.{Create}
 use Rattle.seam_call.specs.declared.order.Order.{Order}
@@ -17,16 +17,15 @@ use Rattle.seam_call.specs.declared.order.Batch.{Batch}
 use Rattle.seam_entity.specs.Reals.{RealView, WitnessView}
 use Rattle.seam_steps.specs.Maps.{Map, set_at}
 use Rattle.seam_steps.specs.Here.{Here, base_of}
-use Rattle.seam_steps.specs.Slots.{Slot}
-use Rattle.seam_steps.specs.Cells.{CellView, slot_of}
+use Rattle.seam_steps.specs.Cells.{CellView}
 use Rattle.seam_steps.specs.Bases.{BaseView}
 use Rattle.seam_steps.specs.Nodes.{NodeView}
 use Rattle.seam_steps.specs.Nodes.NodeView.{Cell, Base}
 use Rattle.seam_steps.specs.Reals.{created}
 use Rattle.seam_steps.specs.Loads.{real_if, part_if, with_route, created_at, with_witness, attached, real_begins, cell_round, base_round}
-use Rattle.seam_steps.specs.Loads.{new_part, order_if, ordered_at}
+use Rattle.seam_steps.specs.Loads.{order_if, ordered_at}
 use Rattle.seam_steps.proofs.Slots.{get-set_at}
-use Rattle.seam_moves.specs.Sights.{Has, AtCell, AtBase, at_cell, at_base, no_base, no_cell, has_of, orders_of, order_concerns}
+use Rattle.seam_moves.specs.Sights.{Has, has_of, orders_of, order_concerns}
 use Rattle.seam_ones.specs.Ones.{real_in, reaped_by_order, HasNoReaps}
 use Rattle.seam_between.proofs.Loading.{each, each_keeps, Any, any, made, node_loaded, get-each_value}
 
@@ -130,16 +129,15 @@ module _ (e : ℕ) where
 
   round_stays : (g : Has) (t : Division) (s : NodeView) → Stays same g (has_of e s) →
       Stays real_begins g (has_of e (cell_round t s)) × ((has_of e (cell_round t s)).cell.slot.next ≡ None)
-  round_stays g t (Cell c) h =
-      (
-        record {
-          real = subst (Kept real_begins (real_in g)) (sym (get-each_value real_begins c.reals e))
-              (kept_begins (real_in g) (table.get c.reals e) h.real);
-          route = h.route;
-          orders = h.orders;
-        },
-        table.get-empty nat_cmp e,
-      )
+  round_stays g t (Cell c) h = (
+    record {
+      real = subst (Kept real_begins (real_in g)) (sym (get-each_value real_begins c.reals e))
+          (kept_begins (real_in g) (table.get c.reals e) h.real);
+      route = h.route;
+      orders = h.orders;
+    },
+    table.get-empty nat_cmp e,
+  )
   round_stays g t (Base n) h = (record { real = no_real (real_in g) h.real; route = h.route; orders = h.orders }, refl)
 
   -- ---- the orders
@@ -197,7 +195,7 @@ module _ (e : ℕ) where
         let created = each (created_at b.tree) b.creates begun in
         let P : NodeView → Type 0 = λ n. Stays same g (has_of e n) in
         let first = each_keeps (created_at b.tree) P (λ x. x.entity ≡ e → ⊥) (λ x n other h. created_stays b.tree x other g n h) b.creates
-            others begun (base_stays (cells_of b.tree) s) in
+        others begun (base_stays (cells_of b.tree) s) in
         let second = each_keeps attached P Any (λ q n u h. joined_stays g q n h) b.clients (any b.clients) created first in
         round_stays g b.tree (made b s) second
 

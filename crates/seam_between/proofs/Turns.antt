@@ -1,14 +1,13 @@
 -- Each sender's calls of a batch are in turn in a loaded world, for an entity that was there.
-use Rattle.std.proofs.Common.{◌≡◌, ℕ, ◌+◌, ◌<◌, ◌≤◌, Bool, true, false, cond, eqb, List, [], ◌∷◌, ◌++◌, map, length, Option, None, Some, refl}
+use Rattle.std.proofs.Common.{◌≡◌, ℕ, ◌+◌, ◌<◌, ◌≤◌, Bool, true, false, cond, eqb, List, [], ◌∷◌, ◌++◌, map, length, Option, None, Some}
+use Rattle.std.proofs.Common.{refl}
 use Rattle.std.proofs.Common.{sym, ap, ◌∙◌, subst, arith, inl, inr}
-use Rattle.std.specs.Prelude.{option_map, slice_get, slice_index_or, nat_lt}
+use Rattle.std.specs.Prelude.{option_map, slice_get}
 use Rattle.std.specs.List.{AllByRecursion}
-use Rattle.std.specs.FinMap as table
 use Rattle.std.proofs.lemmas.Bool.{eqb-true, cases_lt}
-use Rattle.std.proofs.lemmas.Bool.Decides.{nat_tests}
 use Rattle.std.proofs.lemmas.List.{append_assoc, append-nil}
 use Rattle.std.proofs.lemmas.List.Elements.{filter-append}
-use Rattle.std.proofs.lemmas.Option.{slice_get-map, slice_get-get_or, slice_get_within, slice_get_cases, get_or_from_slice_get}
+use Rattle.std.proofs.lemmas.Option.{slice_get-map, slice_get_within, slice_get_cases, get_or_from_slice_get}
 use Rattle.seam_machine.specs.Nets.{IsQuiet, LeadsTo}
 use Rattle.seam_machine.specs.Sends.{items_to}
 use Rattle.seam_machine.specs.declared.machines.Event.{Event}
@@ -16,7 +15,7 @@ use Rattle.seam_machine.proofs.Quiet.{quiet_tasks}
 use Rattle.seam_flows.specs.Flows.{Flow, slot_at, letters_of, more_letter}
 use Rattle.seam_delivery.specs.Numbered.{number_from, of_number}
 use Rattle.seam_delivery.proofs.Numbers.{letters_of-number_from}
-use Rattle.seam_order.specs.Held.{OrderView, item_at}
+use Rattle.seam_order.specs.Held.{item_at}
 use Rattle.seam_turns.specs.Desks.{Desk, AreInTurn}
 use Rattle.seam_turns.proofs.Ends.{loaded_in_turn}
 use Rattle.seam_call.specs.declared.call.Call.{Call as CallData}
@@ -24,7 +23,6 @@ use Rattle.seam_call.specs.declared.order.Order.{Order}
 use Rattle.seam_call.specs.declared.order.Order.TheVariants as order
 use Rattle.seam_call.specs.declared.order.Batch.{Batch}
 use Rattle.seam_call.specs.Senders.{rank_of}
-use Rattle.seam_entity.specs.Orders.{order_or}
 use Rattle.seam_entity.specs.Reals.{RealView}
 use Rattle.seam_entity.specs.declared.message.Msg.{Msg}
 use Rattle.seam_steps.specs.Here.{cell_count}
@@ -32,15 +30,15 @@ use Rattle.seam_steps.specs.Reals.{fits_cell_part}
 use Rattle.seam_steps.specs.Bases.{BaseView}
 use Rattle.seam_steps.specs.Nodes.{NodeView, World, node_has_work, node_peers, node_steps}
 use Rattle.seam_steps.specs.Nodes.NodeView.{Cell, Base}
-use Rattle.seam_steps.specs.Loads.{with_nodes, cell_round, order_if, ordered_at, loaded}
-use Rattle.seam_steps.specs.Valid.{IsNode}
+use Rattle.seam_steps.specs.Loads.{cell_round, order_if, ordered_at, loaded}
 use Rattle.seam_moves.specs.Frames.{Frame, here_at, IsAt}
 use Rattle.seam_moves.specs.Sights.{Has, kept_if, has_of, has_none, order_concerns, orders_of, entity_flow}
 use Rattle.seam_ones.specs.Ones.{real_in}
-use Rattle.seam_once.specs.CellTurns.{is_from, from_sender, cell_order_from, real_desk, cell_mail, as_sender, IsCallOf, AreCallsOf, CellCallsInTurn}
+use Rattle.seam_once.specs.CellTurns.{is_from, from_sender, cell_order_from, real_desk, cell_mail, as_sender, IsCallOf, AreCallsOf}
+use Rattle.seam_once.specs.CellTurns.{CellCallsInTurn}
 use Rattle.seam_once.proofs.CellRuns.{Kept, kept_leads}
 use Rattle.seam_once.proofs.Quieting.{all_executed}
-use Rattle.seam_between.specs.Between.{order_in, cell_call_from, calls_of, calls_at, AreNumbered, IsFitOrder, IsForReal, next_from}
+use Rattle.seam_between.specs.Between.{order_in, cell_call_from, calls_of, calls_at, AreNumbered, IsFitOrder, next_from}
 use Rattle.seam_between.specs.Between.{IsSettled, IsBetweenRounds, IsFitting, framed}
 use Rattle.seam_between.proofs.Loading.{each, made, node_loaded, loaded_is}
 use Rattle.seam_between.proofs.Framing.{node_begun, node_goes, peers_at}
@@ -58,7 +56,8 @@ module _ (f : Frame) (e ty s : ℕ) where
   from_by c rest true is h all = (record { sender = eqb-true (rank_of c.sender) s is; fits = h }, all)
   from_by c rest false is h all = all
 
-  ours_by : (o : Order) (rs : List Order) (b : Bool) → order_concerns e o ≡ b → IsFitOrder f e ty o → Ours (letters_of (cell_call_from s) rs) →
+  ours_by : (o : Order) (rs : List Order) (b : Bool) → order_concerns e o ≡ b → IsFitOrder f e ty o →
+      Ours (letters_of (cell_call_from s) rs) →
       Ours (letters_of (cell_call_from s) (cond b (o ∷ rs) rs))
   ours_by (order.Cell c) rs true is h all =
       from_by c (letters_of (cell_call_from s) rs) (is_from s c) refl (h (eqb-true c.entity e is)) all
@@ -97,7 +96,7 @@ module _ (f : Frame) (e k : ℕ) where
   given_by o os true more l n me h =
       let now = filter-append (order_concerns e) n.orders (o.1 ∷ []) ∙ ap (λ x. x ++ orders_of e (o.1 ∷ [])) h in
       let is = append_assoc l (orders_of e (o.1 ∷ [])) (orders_of e (items_to k os))
-          ∙ ap (λ x. l ++ x) (sym (cons_is o.1 (items_to k os))) in
+      ∙ ap (λ x. l ++ x) (sym (cons_is o.1 (items_to k os))) in
       subst (λ x. OrdersAre x (each ordered_at os (Base (order_if true n o.1)))) is
       (more (l ++ orders_of e (o.1 ∷ [])) (order_if true n o.1) me now)
   given_by o os false more l n me h = more l n me h
@@ -138,7 +137,7 @@ module _ (f : Frame) (w : World) (b : Batch) (between : IsBetweenRounds f w) (fi
       let begun = node_begun f b fits.tree k s (q.sound.states k s at) (q.nodes k s at) in
       let goes = node_goes f b fits.tree k s (q.sound.states k s at) (q.nodes k s at) in
       let none = (node_stays e b (others f w b between fits e home r here) s).0.orders
-          ∙ idle_orders e s (quiet_tasks node_has_work w between.quiet k s at) in
+      ∙ idle_orders e s (quiet_tasks node_has_work w between.quiet k s at) in
       at_base_is (framed f b) e k (orders_of e (items_to k b.orders)) (node_loaded b s) goes.1 high
       (orders_given (framed f b) e k b.orders (cell_round b.tree (made b s)) begun.1 none high)
 
@@ -173,7 +172,7 @@ module _ (f : Frame) (w : World) (b : Batch) (between : IsBetweenRounds f w) (fi
     none_by k (Some n) at none = elim (cases_lt k cell_count) [
       | inr high ↦ there_by k n at high ∙ none
       | inl low ↦
-        stored_is k (Some n) at ∙ ap (letters_of (cell_order_from s)) (node_none k n at low)
+          stored_is k (Some n) at ∙ ap (letters_of (cell_order_from s)) (node_none k n at low)
     ]
 
     -- ---- how many nodes there are
@@ -246,7 +245,7 @@ module _ (f : Frame) (w : World) (b : Batch) (between : IsBetweenRounds f w) (fi
         spared = spared_loaded f w b between fits e home r here;
         lead = lead_loaded f w b between fits e home r here;
         turns = calls_in_turn f w b between fits e home r here;
-        room = fits.room e;
+        room = fits.room e home r here;
       }) run
 
   pub each_waits_once : CellCallsInTurn e (λ s. next_from s r) (calls_of b e) v

@@ -114,8 +114,8 @@ pub record IsFitting (f : Frame) (w : World) (b : Batch) : Type 0 where
   pub spares : AllByRecursion (λ o. reaped_by_order o.1 ≡ None) b.orders
   -- its calls fit the entities that are there
   pub calls : (e k : ℕ) (r : RealView) → real_in ((entity_flow e w).slot k) ≡ Some r → IsForReal f b e r
-  -- what each entity has to do then leaves room in its numbers
-  pub room : (e : ℕ) → burden e (loaded w b) + 1 < limit
+  -- what each of them has to do then leaves room in its numbers
+  pub room : (e k : ℕ) (r : RealView) → real_in ((entity_flow e w).slot k) ≡ Some r → burden e (loaded w b) + 1 < limit
 
 -- what the nodes go by once the batch is loaded
 abbrev pub framed : Frame → Batch → Frame

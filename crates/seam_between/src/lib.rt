@@ -40,8 +40,7 @@ pub fn an_entity_that_was_there_is_ready()
         real_in ((entity_flow e w).slot k) ≡ Some r → AllLead (entity_flow e (loaded w b)) }
 {}
 
-/// Each sender's calls of the batch to its cell part are its own, fit, and are in turn, numbered from the sender's next number on; and its
-/// numbers have room for all that is to be done.
+/// Each sender's calls of the batch to its cell part are its own, fit, and are in turn, numbered from the sender's next number on.
 pub fn calls_of_a_batch_are_in_turn()
     ensures ours { (f : Frame) (w : World) (b : Batch) → IsBetweenRounds f w → IsFitting f w b → (e k : ℕ) (r : RealView) →
         real_in ((entity_flow e w).slot k) ≡ Some r → AreCallsOf (framed f b) e r.ty (calls_of b e) }

@@ -1,4 +1,3 @@
-use Rattle.std.proofs.Common.{arith}
 use Rattle.seam_between.proofs.Loaded.{one_loaded, spared_loaded, lead_loaded}
 use Rattle.seam_between.proofs.an_entity_that_was_there_is_ready.Goals as goal
 
