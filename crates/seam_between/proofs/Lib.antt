@@ -3,3 +3,4 @@ pub mod Framing
 pub mod Staying
 pub mod Loaded
 pub mod Turns
+pub mod ExampleBetween

@@ -20,6 +20,8 @@ ghost use Rattle.seam_steps.specs.Loads.{loaded};
 ghost use Rattle.seam_moves.specs.Frames.{Frame, IsInFrame};
 ghost use Rattle.seam_moves.specs.Sights.{entity_flow};
 ghost use Rattle.seam_ones.specs.Ones.{real_in, IsFrame, IsSpared, HasOne};
+ghost use Rattle.seam_steps.specs.EarlyCall as early;
+ghost use Rattle.seam_ones.specs.Example.{frame};
 ghost use Rattle.seam_ways.specs.Ways.{AllLead};
 ghost use Rattle.seam_once.specs.CellTurns.{from_sender, AreCallsOf, CellCallsInTurn};
 ghost use Rattle.seam_between.specs.Between.{IsBetweenRounds, IsFitting, framed, calls_of, next_from};
@@ -66,4 +68,10 @@ pub fn calls_of_a_batch_are_executed_once()
         real_in ((entity_flow e w).slot k) ≡ Some r → (v : World) (es : List Event) →
         LeadsTo node_has_work node_steps (loaded w b) es v → IsQuiet node_has_work v → (j : ℕ) (q : RealView) →
         real_in ((entity_flow e v).slot j) ≡ Some q → (s : ℕ) → letters_of (from_sender s) q.done ≡ calls_of b e s }
+{}
+
+/// A world keeps the record at the end of a run: that of two cells of `seam_ones`, whose entity was handed over and executed three calls
+/// of two senders.
+pub fn a_run_ends_between_rounds()
+    ensures { IsBetweenRounds frame early.world_12 }
 {}
