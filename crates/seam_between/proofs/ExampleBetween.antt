@@ -9,6 +9,7 @@ use Rattle.seam_order.specs.Held.{OrderView}
 use Rattle.seam_call.specs.declared.call.Call.{Call as CallData}
 use Rattle.seam_entity.specs.Orders.{order_or}
 use Rattle.seam_entity.specs.Reals.{RealView}
+use Rattle.seam_steps.specs.Holders.{holders}
 use Rattle.seam_steps.specs.Maps.{Map}
 use Rattle.seam_steps.specs.Bases.{RouteView}
 use Rattle.seam_steps.specs.Rows.{idle, one, orders}
@@ -19,7 +20,7 @@ use Rattle.seam_moves.specs.Sights.{Has, has_of, has_none, entity_flow}
 use Rattle.seam_ones.specs.Fits.{RealFits}
 use Rattle.seam_ones.specs.Example.{frame, events_of}
 use Rattle.seam_ones.specs.Ones.{real_in, OneFrom, HasOne}
-use Rattle.seam_ones.proofs.Counting.{counted_one}
+use Rattle.seam_ones.proofs.Counting.{counted_one, one_counts}
 use Rattle.seam_ones.proofs.OneReal.{one_leads}
 use Rattle.seam_ones.proofs.ExampleMet.{EachFrom, each_node, slots, none_there, one_is, frame_is, all_fit, spared, one_holder, row_leads}
 use Rattle.seam_between.specs.Between.{next_from, IsSettled, IsBetweenRounds}
@@ -81,7 +82,7 @@ after = one_leads frame frame_is 1 0 (omega arith) world_0 world_12 (events_of s
 -- ---- the orders of its senders
 
 abbrev IsFresh : OrderView CallData → Type 0
-IsFresh o = (o.held ≡ []) × (1 ≤ o.next)
+IsFresh o = (o.held ≡ []) × (1 ≤ o.next) × (o.next ≤ 3)
 
 abbrev first : OrderView CallData
 first = in_order 2 []
@@ -90,18 +91,23 @@ abbrev second : OrderView CallData
 second = in_order 3 []
 
 fresh_by : (a b : Bool) → IsFresh (order_or (cond a (Some first) (cond b (Some second) None)))
-fresh_by true b = (refl, omega arith)
-fresh_by false true = (refl, omega arith)
-fresh_by false false = (refl, omega arith)
+fresh_by true b = (refl, omega arith, omega arith)
+fresh_by false true = (refl, omega arith, omega arith)
+fresh_by false false = (refl, omega arith, omega arith)
+
+got : (s : ℕ) → table.get (orders first second) s
+    ≡ cond (eq_by_cmp nat_cmp s 1) (Some first) (cond (eq_by_cmp nat_cmp s 2) (Some second) None)
+got s =
+    let none : Map (OrderView CallData) = table.empty in
+    table.get-insert nat_cmp_total (table.insert none 2 second) 1 first s
+    ∙ ap (cond (eq_by_cmp nat_cmp s 1) (Some first)) (table.get-insert nat_cmp_total none 2 second s
+    ∙ ap (cond (eq_by_cmp nat_cmp s 2) (Some second)) (table.get-empty nat_cmp s))
 
 fresh : (s : ℕ) → IsFresh (order_or (table.get (orders first second) s))
-fresh s =
-    let none : Map (OrderView CallData) = table.empty in
-    subst (λ o. IsFresh (order_or o))
-    (sym (table.get-insert nat_cmp_total (table.insert none 2 second) 1 first s
-    ∙ ap (cond (eq_by_cmp nat_cmp s 1) (Some first)) (table.get-insert nat_cmp_total none 2 second s
-    ∙ ap (cond (eq_by_cmp nat_cmp s 2) (Some second)) (table.get-empty nat_cmp s))))
-    (fresh_by (eq_by_cmp nat_cmp s 1) (eq_by_cmp nat_cmp s 2))
+fresh s = subst (λ o. IsFresh (order_or o)) (sym (got s)) (fresh_by (eq_by_cmp nat_cmp s 1) (eq_by_cmp nat_cmp s 2))
+
+pub next_of_second : next_from 2 hit_twice ≡ 3
+next_of_second = ap (λ o. (order_or o).next) (got 2)
 
 -- ---- the record
 
@@ -133,3 +139,21 @@ settled_by e k r at = elim (cases_eq e 1) [
 
 pub between : IsBetweenRounds frame world_12
 between = record { frame = frame_is; nodes = after.has.fits.frame; quiet = quiet; settled = settled_by }
+
+-- ---- for a batch that fits it
+
+module _ (e k : ℕ) (r : RealView) (at : real_in ((entity_flow e world_12).slot k) ≡ Some r) where
+  pub is_first : e ≡ 1
+  is_first = elim (cases_eq e 1) [
+    | inl is ↦ is
+    | inr n ↦ absurd (let z = sym ((there e k).0 n) ∙ at in cc)
+  ]
+
+  pub is_hit_twice : hit_twice ≡ r
+  is_hit_twice = ((there e k).1 r at).1
+
+pub next_low : (s : ℕ) → next_from s hit_twice ≤ 3
+next_low s = (fresh s).2
+
+pub holds_one : holders world_12 1 ≡ 1
+holds_one = one_counts world_12 1 after.has.place after.has.real after.has.one

@@ -4,3 +4,4 @@ pub mod Staying
 pub mod Loaded
 pub mod Turns
 pub mod ExampleBetween
+pub mod ExampleFits
