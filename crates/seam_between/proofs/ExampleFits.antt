@@ -1,0 +1,80 @@
+-- A batch of one call fits the world at the end of a worked run.
+use Rattle.std.proofs.Common.{◌≡◌, ℕ, ◌+◌, ◌<◌, ◌≤◌, Bool, true, false, eqb, List, [], ◌∷◌, length, None, Some, refl, sym, ap, ◌∙◌, subst}
+use Rattle.std.proofs.Common.{arith, inl, inr}
+use Rattle.std.specs.FinMap as table
+use Rattle.std.specs.Cmp.{nat_cmp_total}
+use Rattle.std.proofs.lemmas.Bool.{cases_eq, ne_eqb}
+use Rattle.seam_delivery.specs.Numbered.{number_from}
+use Rattle.seam_entity.specs.Reals.{RealView}
+use Rattle.seam_steps.specs.Numbers.{limit}
+use Rattle.seam_steps.specs.Reals.{fits_cell_part}
+use Rattle.seam_steps.specs.Loads.{loaded}
+use Rattle.seam_steps.specs.EarlyCall.{world_12, hit_twice}
+use Rattle.seam_steps.proofs.Tables.{computing}
+use Rattle.seam_moves.specs.Frames.{here_at}
+use Rattle.seam_moves.specs.Sights.{entity_flow}
+use Rattle.seam_ones.specs.Burdens.{burden}
+use Rattle.seam_ones.specs.Example.{frame}
+use Rattle.seam_ones.specs.Ones.{real_in}
+use Rattle.seam_ones.proofs.ExampleMet.{frame_is}
+use Rattle.seam_between.specs.Between.{AreNumbered, IsForReal, IsFitting, next_from, calls_of, calls_at}
+use Rattle.seam_between.specs.Example.{third_call, next_batch}
+use Rattle.seam_between.proofs.ExampleBetween.{is_first, is_hit_twice, next_low, next_of_second}
+
+burden_is : burden 1 (loaded world_12 next_batch) ≡ 10
+unfolding world_12
+burden_is = simp computing
+
+call_fits : fits_cell_part (here_at frame 0) 1 0 third_call ≡ true
+call_fits = refl
+
+numbered_second : AreNumbered frame next_batch 1 2 (next_from 2 hit_twice)
+numbered_second = subst (AreNumbered frame next_batch 1 2) (sym next_of_second) (record {
+  node = 17;
+  is_base = omega arith;
+  is_there = omega arith;
+  calls = refl;
+  others = λ j n. rw (ne_eqb 17 j (λ e. n (sym e))) refl;
+  room = omega arith;
+})
+
+module _ (s : ℕ) (n : s ≡ 2 → ⊥) where
+  no_calls : calls_of next_batch 1 s ≡ []
+  no_calls = rw (ne_eqb 2 s (λ e. n (sym e))) refl
+
+  none_by : (j : ℕ) (b : Bool) → eqb 17 j ≡ b → calls_at next_batch 1 s j ≡ []
+  none_by j true is = rw (is, ne_eqb 2 s (λ e. n (sym e))) refl
+  none_by j false is = rw is refl
+
+  numbered_other : AreNumbered frame next_batch 1 s (next_from s hit_twice)
+  numbered_other = record {
+    node = 17;
+    is_base = omega arith;
+    is_there = omega arith;
+    calls = none_by 17 true refl ∙ sym (ap (number_from (next_from s hit_twice)) no_calls);
+    others = λ j m. none_by j (eqb 17 j) refl;
+    room = let none = ap length no_calls in let low = next_low s in omega (arith, none, low);
+  }
+
+numbered : (s : ℕ) → AreNumbered frame next_batch 1 s (next_from s hit_twice)
+numbered s = elim (cases_eq s 2) [
+  | inl is ↦ subst (λ x. AreNumbered frame next_batch 1 x (next_from x hit_twice)) (sym is) numbered_second
+  | inr n ↦ numbered_other s n
+]
+
+for_real : IsForReal frame next_batch 1 hit_twice
+for_real = record { fit = (λ e. call_fits, tt); numbered = numbered }
+
+pub fits : IsFitting frame world_12 next_batch
+fits = record {
+  tree = frame_is.tree;
+  cells = omega arith;
+  new = tt;
+  spares = (refl, tt);
+  calls = λ e k r at.
+      subst (λ x. IsForReal frame next_batch x r) (sym (is_first e k r at))
+      (subst (IsForReal frame next_batch 1) (is_hit_twice e k r at) for_real);
+  room = λ e k r at.
+      let is = burden_is in
+      subst (λ x. burden x (loaded world_12 next_batch) + 1 < limit) (sym (is_first e k r at)) (omega (arith, is));
+}

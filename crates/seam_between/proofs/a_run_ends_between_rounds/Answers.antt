@@ -1,0 +1,12 @@
+use Rattle.seam_between.proofs.ExampleBetween.{between, holds_one}
+use Rattle.seam_between.proofs.ExampleFits.{fits}
+use Rattle.seam_between.proofs.a_run_ends_between_rounds.Goals as goal
+
+pub returns-clause-between : goal.returns-clause-between
+returns-clause-between c = between
+
+pub returns-clause-fits : goal.returns-clause-fits
+returns-clause-fits c = fits
+
+pub returns-clause-one : goal.returns-clause-one
+returns-clause-one c = holds_one

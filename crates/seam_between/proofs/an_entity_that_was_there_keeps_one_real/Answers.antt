@@ -1,0 +1,8 @@
+use Rattle.seam_between.proofs.Loaded.{keeps_one, keeps_leading}
+use Rattle.seam_between.proofs.an_entity_that_was_there_keeps_one_real.Goals as goal
+
+pub returns-clause-one : goal.returns-clause-one
+returns-clause-one c = keeps_one
+
+pub returns-clause-lead : goal.returns-clause-lead
+returns-clause-lead c = keeps_leading
