@@ -7,6 +7,8 @@
 //! messages to an entity arrive in order; sequence numbers, as of the Transmission Control Protocol).
 //!
 //! What a world is to one sender is in `specs/CellTurns`: each step of a node is one or two of the moves of `seam_turns`, for each sender.
+//!
+//! Of `proofs/`, `CellRuns` (an event and a list of events) and `Quieting` (what is not there in a quiet world) are for callers.
 #![tactic(auto)]
 
 ghost use Rattle.std.specs.Prelude.{◌≡◌, ℕ, ◌+◌, ◌<◌, List, ◌∷◌, length, Some};

@@ -4,7 +4,7 @@
 //! and passes calls on. `specs/` has what contracts see of both, each case of their steps as one function, and what loads
 //! make of a world. Nothing here runs. For callers, `proofs/Slots` says that a step of one entity's slot changes that slot
 //! alone, `proofs/Peers` and `proofs/ValidBases` that a step keeps what a node knows, `proofs/Targets` that it sends to nodes of
-//! the net, and `proofs/Tables` how worlds of a few entities compute.
+//! the net, `proofs/Tables` how worlds of a few entities compute, and `proofs/Early` what is true of the worlds of its row.
 #![tactic(auto)]
 
 pub mod base_steps;
