@@ -1,5 +1,5 @@
 -- The end of a worked row is a world between rounds.
-use Rattle.std.proofs.Common.{◌≡◌, ℕ, ◌<◌, ◌≤◌, Bool, true, false, cond, eqb, List, [], ◌∷◌, Option, None, Some, refl, sym, ap, ◌∙◌, subst}
+use Rattle.std.proofs.Common.{◌≡◌, ℕ, ◌≤◌, Bool, true, false, cond, [], Option, None, Some, refl, sym, ap, ◌∙◌, subst}
 use Rattle.std.proofs.Common.{arith, inl, inr}
 use Rattle.std.specs.Ordering.{nat_cmp, eq_by_cmp}
 use Rattle.std.specs.Cmp.{nat_cmp_total, unsigned_tied}
@@ -58,15 +58,60 @@ module _ (e : ℕ) where
   base_is : (x : RouteView) → table.get (one (record { cell = 1; generation = 1 })) e ≡ Some x → x.cell ≡ 1
   base_is x is = sym (ap (λ y. y.cell) (one_is (record { cell = 1; generation = 1 }) x e is))
 
-  no_base_real : (r : RealView) (k : ℕ) → None ≡ Some r → (k ≡ 1) × (hit_twice ≡ r)
-  no_base_real r k h = absurd (let z = h in cc)
+  no_real : (r : RealView) (k : ℕ) → None ≡ Some r → (k ≡ 1) × (hit_twice ≡ r)
+  no_real r k h = absurd (let z = h in cc)
 
   nodes_are : EachFrom (λ k s. W e k (has_of e s)) 0 world_12.nodes
   unfolding world_12
-  nodes_are =
-      (left_is, (away_is, (empty_is 2, (empty_is 3, (empty_is 4, (empty_is 5, (empty_is 6, (empty_is 7, (empty_is 8, (empty_is 9,
-      (empty_is 10, (empty_is 11, (empty_is 12, (empty_is 13, (empty_is 14, (empty_is 15,
-      ((λ n. refl, λ r h. no_base_real r 16 h, base_is), ((λ n. refl, λ r h. no_base_real r 17 h, base_is), tt))))))))))))))))))
+  nodes_are = (
+    left_is,
+    (
+      away_is,
+      (
+        empty_is 2,
+        (
+          empty_is 3,
+          (
+            empty_is 4,
+            (
+              empty_is 5,
+              (
+                empty_is 6,
+                (
+                  empty_is 7,
+                  (
+                    empty_is 8,
+                    (
+                      empty_is 9,
+                      (
+                        empty_is 10,
+                        (
+                          empty_is 11,
+                          (
+                            empty_is 12,
+                            (
+                              empty_is 13,
+                              (
+                                empty_is 14,
+                                (
+                                  empty_is 15,
+                                  ((λ n. refl, λ r h. no_real r 16 h, base_is), ((λ n. refl, λ r h. no_real r 17 h, base_is), tt)),
+                                ),
+                              ),
+                            ),
+                          ),
+                        ),
+                      ),
+                    ),
+                  ),
+                ),
+              ),
+            ),
+          ),
+        ),
+      ),
+    ),
+  )
 
   there : (k : ℕ) → W e k ((entity_flow e world_12).slot k)
   there = slots (W e) e world_12 (each_node (λ k s. W e k (has_of e s)) world_12.nodes nodes_are) none_is
@@ -133,7 +178,7 @@ one_settled k r at =
 settled_by : (e k : ℕ) (r : RealView) → real_in ((entity_flow e world_12).slot k) ≡ Some r → IsSettled frame e k r world_12
 settled_by e k r at = elim (cases_eq e 1) [
   | inl is ↦ subst (λ x. IsSettled frame x k r world_12) (sym is)
-    (one_settled k r (subst (λ x. real_in ((entity_flow x world_12).slot k) ≡ Some r) is at))
+      (one_settled k r (subst (λ x. real_in ((entity_flow x world_12).slot k) ≡ Some r) is at))
   | inr n ↦ absurd (let z = sym ((there e k).0 n) ∙ at in cc)
 ]
 

@@ -1,24 +1,22 @@
 -- A batch of one call fits the world at the end of a worked run.
-use Rattle.std.proofs.Common.{◌≡◌, ℕ, ◌+◌, ◌<◌, ◌≤◌, Bool, true, false, eqb, List, [], ◌∷◌, length, None, Some, refl, sym, ap, ◌∙◌, subst}
-use Rattle.std.proofs.Common.{arith, inl, inr}
-use Rattle.std.specs.FinMap as table
-use Rattle.std.specs.Cmp.{nat_cmp_total}
+use Rattle.std.proofs.Common.{◌≡◌, ℕ, ◌+◌, ◌<◌, Bool, true, false, eqb, [], length, refl, sym, ap, ◌∙◌, subst}
+use Rattle.std.proofs.Common.{List, ◌∷◌, Some, arith, inl, inr}
 use Rattle.std.proofs.lemmas.Bool.{cases_eq, ne_eqb}
 use Rattle.seam_delivery.specs.Numbered.{number_from}
-use Rattle.seam_entity.specs.Reals.{RealView}
 use Rattle.seam_steps.specs.Numbers.{limit}
 use Rattle.seam_steps.specs.Reals.{fits_cell_part}
 use Rattle.seam_steps.specs.Loads.{loaded}
 use Rattle.seam_steps.specs.EarlyCall.{world_12, hit_twice}
 use Rattle.seam_steps.proofs.Tables.{computing}
 use Rattle.seam_moves.specs.Frames.{here_at}
-use Rattle.seam_moves.specs.Sights.{entity_flow}
 use Rattle.seam_ones.specs.Burdens.{burden}
 use Rattle.seam_ones.specs.Example.{frame}
+use Rattle.seam_call.specs.declared.call.Call.{Call as CallData}
+use Rattle.seam_moves.specs.Sights.{entity_flow}
 use Rattle.seam_ones.specs.Ones.{real_in}
 use Rattle.seam_ones.proofs.ExampleMet.{frame_is}
 use Rattle.seam_between.specs.Between.{AreNumbered, IsForReal, IsFitting, next_from, calls_of, calls_at}
-use Rattle.seam_between.specs.Example.{third_call, next_batch}
+use Rattle.seam_between.specs.Example.{third_call, next_batch, skipping_batch}
 use Rattle.seam_between.proofs.ExampleBetween.{is_first, is_hit_twice, next_low, next_of_second}
 
 burden_is : burden 1 (loaded world_12 next_batch) ≡ 10
@@ -78,3 +76,24 @@ fits = record {
       let is = burden_is in
       subst (λ x. burden x (loaded world_12 next_batch) + 1 < limit) (sym (is_first e k r at)) (omega (arith, is));
 }
+
+-- ---- a number left out
+
+real_there : real_in ((entity_flow 1 world_12).slot 1) ≡ Some hit_twice
+unfolding world_12
+real_there = simp computing
+
+abbrev first_number : List (ℕ × CallData) → ℕ
+first_number [] = 0
+first_number (p ∷ ps) = p.0
+
+skips : (n : ℕ) → n ≡ 3 → AreNumbered frame skipping_batch 1 2 n → ⊥
+skips n is a = elim (cases_eq a.node 17) [
+  | inl at ↦
+      let two = sym (ap (calls_at skipping_batch 1 2) at) ∙ a.calls ∙ ap (λ m. number_from m (calls_of skipping_batch 1 2)) is in
+      absurd (let z : 4 ≡ 3 = ap first_number two in omega (arith, z))
+  | inr n ↦ absurd (let z = a.others 17 (λ e. n (sym e)) in cc)
+]
+
+pub skipping : IsFitting frame world_12 skipping_batch → ⊥
+skipping q = skips (next_from 2 hit_twice) next_of_second ((q.calls 1 1 hit_twice real_there).numbered 2)

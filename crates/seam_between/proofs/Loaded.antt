@@ -41,8 +41,8 @@ kept_some : (o p : Option RealView) → Kept real_begins o p → (r : RealView) 
     (x : Option WitnessView) × (p ≡ Some (record (real_begins r) { witness = x }))
 kept_some None p k r is = absurd (let z = is in cc)
 kept_some (Some q) p k r is =
-  let same : q ≡ r = cc in
-  subst (λ y. (x : Option WitnessView) × (p ≡ Some (record (real_begins y) { witness = x }))) same k
+    let same : q ≡ r = cc in
+    subst (λ y. (x : Option WitnessView) × (p ≡ Some (record (real_begins y) { witness = x }))) same k
 
 pub no_items : {A : Type 0} (xs : List A) (b : Bool) → (has_any xs || b) ≡ false → xs ≡ []
 no_items [] b h = refl
@@ -154,42 +154,42 @@ module _ (f : Frame) (w : World) (b : Batch) (between : IsBetweenRounds f w) (fi
 -- ---- over every list of events
 
 module _ (f : Frame) (w : World) (b : Batch) (between : IsBetweenRounds f w) (fits : IsFitting f w b) (e : ℕ) (there : holders w e ≡ 1)
-    where
-  -- in a quiet world the one real is at a node
-  record Home : Type 0 where
-    node : ℕ
-    real : RealView
-    here : real_in ((entity_flow e w).slot node) ≡ Some real
+  where
+    -- in a quiet world the one real is at a node
+    record Home : Type 0 where
+      node : ℕ
+      real : RealView
+      here : real_in ((entity_flow e w).slot node) ≡ Some real
 
-  home_by : (p : Place) (r : RealView) → IsOne e w p r → Home
-  home_by (In k) r one = record { node = k; real = r; here = one.here }
-  home_by (On x y) r one =
-      let none =
-      ap (λ l. letters_of real_of (letters_of (mine e) l)) (quiet_links node_has_work w between.nodes.sound.square between.quiet x y) in
-      absurd (let z = sym none ∙ one.here in cc)
+    home_by : (p : Place) (r : RealView) → IsOne e w p r → Home
+    home_by (In k) r one = record { node = k; real = r; here = one.here }
+    home_by (On x y) r one =
+        let none =
+        ap (λ l. letters_of real_of (letters_of (mine e) l)) (quiet_links node_has_work w between.nodes.sound.square between.quiet x y) in
+        absurd (let z = sym none ∙ one.here in cc)
 
-  at_home : Home
-  at_home = let one = counted_one w e there in home_by one.0 one.1 one.2
+    at_home : Home
+    at_home = let one = counted_one w e there in home_by one.0 one.1 one.2
 
-  frame : IsFrame (framed f b)
-  frame = record { defs = between.frame.defs; tree = fits.tree }
+    frame : IsFrame (framed f b)
+    frame = record { defs = between.frame.defs; tree = fits.tree }
 
-  known : at_home.real.ty < length f.defs
-  known = (between.settled e at_home.node at_home.real at_home.here).type
+    known : at_home.real.ty < length f.defs
+    known = (between.settled e at_home.node at_home.real at_home.here).type
 
-  one : HasOne (framed f b) e at_home.real.ty (loaded w b)
-  one = one_loaded f w b between fits e at_home.node at_home.real at_home.here
+    one : HasOne (framed f b) e at_home.real.ty (loaded w b)
+    one = one_loaded f w b between fits e at_home.node at_home.real at_home.here
 
-  spared : IsSpared e (loaded w b)
-  spared = spared_loaded f w b between fits e at_home.node at_home.real at_home.here
+    spared : IsSpared e (loaded w b)
+    spared = spared_loaded f w b between fits e at_home.node at_home.real at_home.here
 
-  leading : AllLead (entity_flow e (loaded w b))
-  leading = lead_loaded f w b between fits e at_home.node at_home.real at_home.here
+    leading : AllLead (entity_flow e (loaded w b))
+    leading = lead_loaded f w b between fits e at_home.node at_home.real at_home.here
 
-  pub keeps_one : (v : World) (es : List Event) → LeadsTo node_has_work node_steps (loaded w b) es v → holders v e ≡ 1
-  keeps_one v es run =
-      let has = (one_leads (framed f b) frame e at_home.real.ty known (loaded w b) v es one spared run).has in
-      one_counts v e has.place has.real has.one
+    pub keeps_one : (v : World) (es : List Event) → LeadsTo node_has_work node_steps (loaded w b) es v → holders v e ≡ 1
+    keeps_one v es run =
+        let has = (one_leads (framed f b) frame e at_home.real.ty known (loaded w b) v es one spared run).has in
+        one_counts v e has.place has.real has.one
 
-  pub keeps_leading : (v : World) (es : List Event) → LeadsTo node_has_work node_steps (loaded w b) es v → AllLead (entity_flow e v)
-  keeps_leading v es run = ways_lead (framed f b) frame e at_home.real.ty known (loaded w b) v es one spared leading run
+    pub keeps_leading : (v : World) (es : List Event) → LeadsTo node_has_work node_steps (loaded w b) es v → AllLead (entity_flow e v)
+    keeps_leading v es run = ways_lead (framed f b) frame e at_home.real.ty known (loaded w b) v es one spared leading run

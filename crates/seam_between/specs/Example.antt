@@ -19,3 +19,10 @@ next_batch = record {
   balance = false;
   orders = (17, order.Cell third_call) ∷ [];
 }
+
+-- its number leaves one out, so a batch with it does not fit
+abbrev pub fourth_call : CallData
+fourth_call = call 2 4 (hit 1)
+
+abbrev pub skipping_batch : Batch
+skipping_batch = record next_batch { orders = (17, order.Cell fourth_call) ∷ [] }

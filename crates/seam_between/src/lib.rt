@@ -24,7 +24,7 @@ ghost use Rattle.seam_steps.specs.EarlyCall as early;
 ghost use Rattle.seam_ones.specs.Example.{frame};
 ghost use Rattle.seam_ways.specs.Ways.{AllLead};
 ghost use Rattle.seam_once.specs.CellTurns.{from_sender, AreCallsOf, CellCallsInTurn};
-ghost use Rattle.seam_between.specs.Example.{next_batch};
+ghost use Rattle.seam_between.specs.Example.{next_batch, skipping_batch};
 ghost use Rattle.seam_between.specs.Between.{IsBetweenRounds, IsFitting, framed, calls_of, next_from};
 
 /// A world between rounds that was given a fitting batch goes by the batch's tree.
@@ -72,9 +72,11 @@ pub fn calls_of_a_batch_are_executed_once()
 {}
 
 /// A world keeps the record at the end of a run: that of two cells of `seam_ones`, whose entity was handed over and executed three calls
-/// of two senders. A batch with one more call fits it.
+/// of two senders. A batch with one more call fits it, and one whose call
+/// leaves a number out does not.
 pub fn a_run_ends_between_rounds()
     ensures between { IsBetweenRounds frame early.world_12 }
     ensures fits { IsFitting frame early.world_12 next_batch }
+    ensures skipping { IsFitting frame early.world_12 skipping_batch → ⊥ }
     ensures one { holders early.world_12 1 ≡ 1 }
 {}

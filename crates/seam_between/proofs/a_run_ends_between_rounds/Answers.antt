@@ -1,5 +1,5 @@
 use Rattle.seam_between.proofs.ExampleBetween.{between, holds_one}
-use Rattle.seam_between.proofs.ExampleFits.{fits}
+use Rattle.seam_between.proofs.ExampleFits.{fits, skipping}
 use Rattle.seam_between.proofs.a_run_ends_between_rounds.Goals as goal
 
 pub returns-clause-between : goal.returns-clause-between
@@ -10,3 +10,6 @@ returns-clause-fits c = fits
 
 pub returns-clause-one : goal.returns-clause-one
 returns-clause-one c = holds_one
+
+pub returns-clause-skipping : goal.returns-clause-skipping
+returns-clause-skipping c = skipping
