@@ -80,7 +80,7 @@ module _ (began : SourceState) (sink : SinkState) (now later : SourceState) (rea
     later = now_later;
     failed = λ e. cc;
     allowed = tt;
-    tells = (g.read, inl (are_first began later after _ g.read more r, open_so_far));
+    tells = (g.read, are_first began later after _ g.read more r, open_so_far);
   }
 
   -- the sink failed within the text of a line
@@ -334,7 +334,7 @@ header_stopped began now sink st given took most tells end = record {
 pub nothing_judged : (began now : SourceState) (sink : SinkState) (given : List ℕ) → Consumes began.left now.left given →
     length given ≤ most_bytes → Stopped status.NoMemory began now sink sink
 nothing_judged began now sink given took most =
-    header_stopped began now sink status.NoMemory given took most ([], inl (inl (whole_lines_of given, refl), inl (refl, await_at_first)))
+    header_stopped began now sink status.NoMemory given took most ([], inl (whole_lines_of given, refl), inl (refl, await_at_first))
     tt
 
 -- nothing was printed for a header of which no line was read

@@ -73,8 +73,8 @@ module _ (Open Ended : List Line → List ℕ → Type 0) where
   Tells status.WriteFault old new given text = (whole : List ℕ) × IsProperPrefix text whole × IsSoFar old new given whole
   -- as many bytes as may be were taken and no whole line is left, and the text is an open transcript of the lines read
   Tells status.Limit old new given text = (length given ≡ most_bytes) × Open (whole_lines_of given) text
-  -- an allocation failed, and the text is a transcript of the lines judged
-  Tells status.NoMemory old new given text = IsSoFar old new given text
+  -- an allocation failed, and the text is an open transcript of the first lines
+  Tells status.NoMemory old new given text = (read : List Line) × AreFirst old new given read × Open read text
 
   -- How a run ends with a status: the bytes that it took, the text that it wrote, and after it the fault line. The source and the
   -- sink were at `old` and `sink` when the run began, and at `new` and `sink'` when it ended.
