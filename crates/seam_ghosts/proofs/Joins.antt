@@ -1,27 +1,24 @@
 -- What a table of beats and a table of copies answer together.
 use Rattle.std.proofs.Common.{◌≡◌, ℕ, Bool, true, false, cond, ◌||◌, not, ◌&&◌, List, [], ◌∷◌, Option, None, Some, is_some, map as each}
 use Rattle.std.proofs.Common.{refl, sym, ap, ◌∙◌}
-use Rattle.std.proofs.Common.{arith, unwrap_or, Result, Ok, Err}
+use Rattle.std.proofs.Common.{unwrap_or, Result, Ok, Err}
 use Rattle.std.specs.declared.alloc.AllocError.{AllocError}
 use Rattle.std.specs.Prelude.{OnOk, OnErr}
 use Rattle.std.proofs.lemmas.Bool.{false≢true}
 use Rattle.std.specs.Ordering.{nat_cmp, eq_by_cmp}
 use Rattle.std.specs.Cmp.{nat_cmp_total}
-use Rattle.std.proofs.lemmas.Bool.Decides.{nat_tests}
 use Rattle.std.specs.FinMap as map
 use Rattle.std.specs.FinSet as set
 use Rattle.seam_table.specs.Tables.{TableView, with_item, without_room}
 use Rattle.seam_ghosts.specs.declared.Ghost.{Ghost}
 use Rattle.seam_ghosts.specs.Book.{beat_in, copy_in, with_ghost}
 use Rattle.seam_ghosts.specs.Joined.{ghost_at, joined, book_of, IsBook}
+use Rattle.seam_ghosts.proofs.Messages.{key_is}
 
 -- the ghost of a beat, if there is one
 abbrev pub ghost_with : {P : Type 0} → Option ℕ → Option P → Option (Ghost P)
 ghost_with None c = None
 ghost_with (Some b) c = Some (record { beat = b; copy = c })
-
-key_is : (q e : ℕ) → eq_by_cmp nat_cmp q e ≡ true → e ≡ q
-key_is q e t = grind (arith, nat_tests)
 
 found_step : {P : Type 0} (copies : map.FinMap nat_cmp P) (q k b : ℕ) (t : Bool) (rest : Option ℕ) (gs : Option (Ghost P)) →
     eq_by_cmp nat_cmp q k ≡ t → gs ≡ ghost_with rest (map.get copies q) →

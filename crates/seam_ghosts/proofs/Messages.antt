@@ -7,7 +7,7 @@ use Rattle.std.specs.FinMap as map
 use Rattle.seam_ghosts.specs.declared.Ghost.{Ghost}
 use Rattle.seam_ghosts.specs.Book.{BookView, beat_in, copy_in, beat_of, copy_of, with_ghost, after_message, ghost_after}
 
-key_is : (q e : ℕ) → eq_by_cmp nat_cmp q e ≡ true → e ≡ q
+pub key_is : (q e : ℕ) → eq_by_cmp nat_cmp q e ≡ true → e ≡ q
 key_is q e t = grind (arith, nat_tests)
 
 below_of : (a b : ℕ) → nat_lt a b ≡ true → a < b
