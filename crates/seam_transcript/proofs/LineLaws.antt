@@ -2,15 +2,15 @@
 use Rattle.std.proofs.Common.{◌≡◌, ◌↔◌, ◌+◌, ℕ, List, [], ◌∷◌, subst}
 use Rattle.seam_io.specs.Lines.{Line, Content, Long}
 use Rattle.seam_words.specs.Texts.{HasWords}
-use Rattle.seam_transcript.specs.Language.{IsSkipped}
+use Rattle.seam_transcript.specs.Language.{IsSkipped, NamesCommand}
 use Rattle.seam_transcript.specs.declared.header.Header.{Header}
-use Rattle.seam_transcript.specs.Book.{SpellsNone, Judges}
+use Rattle.seam_transcript.specs.Book.{Judges}
 use Rattle.seam_transcript.specs.Standing.{Standing, with_line}
 use Rattle.seam_transcript.specs.Transcript.{Piece, Refusal, Follows, Step}
 use Rattle.seam_transcript.specs.declared.verdict.Cause.TheVariants as cause
 use Rattle.seam_transcript.specs.declared.verdict.Verdict.{Verdict}
 use Rattle.seam_transcript.specs.declared.verdict.Verdict.TheVariants as verdict
-use Rattle.seam_transcript.proofs.Verdicts.{long_is_refused, long_only, none_is_refused, none_only}
+use Rattle.seam_transcript.proofs.Verdicts.{long_is_refused, long_only, no_command_is_refused, no_command_only}
 
 -- a line with one verdict follows it
 pub step_of_verdict : (h : Header) (s t : Standing) (line : Line) (pieces : List Piece) (v : Verdict) → Judges h s.book line v →
@@ -26,8 +26,8 @@ pub long_line : (h : Header) (s t : Standing) (pieces : List Piece) →
 long_line h s t pieces = step_of_verdict h s t Long pieces (verdict.Refused cause.TooLong) (long_is_refused h s.book) (long_only h s.book)
 
 pub unknown_command : (h : Header) (s t : Standing) (line : List ℕ) (words : List (List ℕ)) (pieces : List Piece) → ¬ (IsSkipped line) →
-    HasWords line words → SpellsNone h s.book words
+    HasWords line words → ¬ (NamesCommand words)
     → Step h s (Content line) pieces t ↔ ((pieces ≡ Refusal (s.lines + 1) cause.NoCommand ∷ []) × (t ≡ with_line s))
 unknown_command h s t line words pieces not has none =
-    step_of_verdict h s t (Content line) pieces (verdict.Refused cause.NoCommand) (none_is_refused h s.book line words not has none)
-    (λ w judged. none_only h s.book line words w not has none judged)
+    step_of_verdict h s t (Content line) pieces (verdict.Refused cause.NoCommand) (no_command_is_refused h s.book line words not has none)
+    (λ w judged. no_command_only h s.book line words w not has none judged)

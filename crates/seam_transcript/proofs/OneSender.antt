@@ -8,6 +8,9 @@ use Rattle.std.proofs.lemmas.List.{append_cancel_left}
 use Rattle.std.proofs.lemmas.List.Elements.{All-nil, All-head, All-tail, All-push, filter_map-append}
 use Rattle.std.proofs.Common.{append-nil, append_assoc, length-append}
 use Rattle.seam_io.specs.Lines.{Line, Content}
+use Rattle.seam_value.specs.NumberWords.{SpellsPositive}
+use Rattle.seam_defs.specs.declared.types.TypeDef.{TypeDef}
+use Rattle.seam_defs.specs.declared.states.Deed.{Deed}
 use Rattle.seam_defs.specs.Types.{AreDefs}
 use Rattle.seam_defs.specs.declared.flags.Part.{Part}
 use Rattle.seam_defs.specs.declared.flags.Part.TheVariants as part
@@ -21,8 +24,8 @@ use Rattle.seam_call.specs.declared.create.Create.{Create}
 use Rattle.seam_transcript.specs.Language as language
 use Rattle.seam_transcript.specs.declared.header.Header.{Header}
 use Rattle.seam_transcript.specs.Header.{Reads, AreHeaderLines, BeginWithHeader, separator}
-use Rattle.seam_transcript.specs.Book.{Book, entries, called, calls_of, created_as, live_as, accepted, open_lines, with_entry, Means}
-use Rattle.seam_transcript.specs.Book.{Spells, Judges}
+use Rattle.seam_transcript.specs.Book.{Book, entries, called, calls_of, created_as, live_as, accepted, open_lines, with_entry, Adds}
+use Rattle.seam_transcript.specs.Book.{NamesDeed, NamesMove, NamesCall, Spells, Judges}
 use Rattle.seam_transcript.specs.Orders.{Orders, of_sender, IsFull}
 use Rattle.seam_transcript.specs.Standing.{Standing, after_header, with_line, with_book}
 use Rattle.seam_transcript.specs.Round.{RoundData, DoneLine, HomeLine, BaseLine, done_lines, home_line, base_line, ExtendsOrders, HasHomes}
@@ -208,18 +211,25 @@ calls_with_entry : (b : Book) (x : Entry) → calls_of (entries (with_entry b x)
 calls_with_entry b x = ap calls_of (sym (append_assoc b.past b.current (x ∷ []))) ∙ filter_map-append called (entries b) (x ∷ [])
 
 -- an accepted call is from the sender that its line names
+call_is_own : (h : Header) (one : ℕ → Sender) (b : Book) (s e : List ℕ) (Asks : TypeDef → Deed → Type 0) (c : Call) (x : Entry) →
+    ((n : ℕ) → SpellsPositive e n → s ≡ language.sender_text (one n)) → NamesCall h b s e Asks c → x ≡ entry.Called c
+    → AreOwn one (calls_of (entries b)) → AreOwn one (calls_of (entries (with_entry b x)))
+call_is_own h one b s e Asks c x names call is own =
+    let number : SpellsPositive e c.entity = subst (SpellsPositive e) (sym call.entity_) call.live.number in
+    let from : c.sender ≡ one c.entity = sender_is_one c.sender (one c.entity) (call.sender.spelled ∙ names c.entity number) in
+    subst (λ (y : Entry). AreOwn one (calls_of (entries (with_entry b y)))) (sym is)
+    (subst (AreOwn one) (sym (calls_with_entry b (entry.Called c))) (All-push (IsOwn one) (calls_of (entries b)) c own from))
+
 entry_is_own : (h : Header) (one : ℕ → Sender) (b : Book) (line : Line) (c : language.Command) (x : Entry) → CallIsFrom one line →
-    Spells line c → Means h b c x → AreOwn one (calls_of (entries b))
-    → AreOwn one (calls_of (entries (with_entry b x)))
-entry_is_own h one b line language.Sync x names spells means own = absurd means
-entry_is_own h one b line (language.Create e n px pz) x names spells (c, _, _, is) own =
+    Spells line c → Adds h b c x → AreOwn one (calls_of (entries b)) → AreOwn one (calls_of (entries (with_entry b x)))
+entry_is_own h one b line language.Sync x names spells adds own = absurd adds
+entry_is_own h one b line (language.Create e n px pz) x names spells (c, _, is) own =
     subst (λ (y : Entry). AreOwn one (calls_of (entries (with_entry b y)))) (sym is)
     (subst (AreOwn one) (sym (calls_with_entry b (entry.Created c) ∙ append-nil (calls_of (entries b)))) own)
 entry_is_own h one b line (language.Call s e n a) x names spells (c, call, is) own =
-    let from : c.sender ≡ one c.entity =
-    sender_is_one c.sender (one c.entity) (call.sender.spelled ∙ names s e n a c.entity spells call.number) in
-    subst (λ (y : Entry). AreOwn one (calls_of (entries (with_entry b y)))) (sym is)
-    (subst (AreOwn one) (sym (calls_with_entry b (entry.Called c))) (All-push (IsOwn one) (calls_of (entries b)) c own from))
+    call_is_own h one b s e (NamesDeed a n) c x (λ k. names (language.Call s e n a) s e k spells (refl, refl)) call is own
+entry_is_own h one b line (language.Move s e px pz) x names spells (c, call, is) own =
+    call_is_own h one b s e (λ t. NamesMove h px pz) c x (λ k. names (language.Move s e px pz) s e k spells (refl, refl)) call is own
 
 -- a verdict has one text, and leaves one standing
 follows_one : (h : Header) (one : ℕ → Sender) (s : Standing) (line : Line) (v : Verdict) (xs ys : List Piece) (t u : Standing) →
@@ -229,9 +239,9 @@ follows_one h one s line verdict.Skipped xs ys t u names own judged x y =
     (x.0 ∙ sym y.0, x.1 ∙ sym y.1, subst (λ (k : Standing). AreOwn one (calls_of (entries k.book))) (sym x.1) own)
 follows_one h one s line (verdict.Refused c) xs ys t u names own judged x y =
     (x.0 ∙ sym y.0, x.1 ∙ sym y.1, subst (λ (k : Standing). AreOwn one (calls_of (entries k.book))) (sym x.1) own)
-follows_one h one s line (verdict.Accepted added) xs ys t u names own (_, c, spells, means) x y =
+follows_one h one s line (verdict.Accepted added) xs ys t u names own (_, _, c, spells, adds) x y =
     let at : Standing = with_book (with_line s) (with_entry s.book added) in
-    kept_is_one h one at (open_lines at.book == MOST_LINES) xs ys t u (entry_is_own h one s.book line c added names spells means own) x y
+    kept_is_one h one at (open_lines at.book == MOST_LINES) xs ys t u (entry_is_own h one s.book line c added names spells adds own) x y
 follows_one h one s line verdict.Synced xs ys t u names own judged x y =
     let same = end_is_one h one (with_line s) xs ys t u own x y in (same.0, same.1, calls_after_round h one (with_line s) t x.0 own x.2)
 

@@ -1,20 +1,21 @@
 -- The book of what was accepted: which lines it accepts, and what it then holds.
-use Rattle.std.specs.Prelude.{◌≡◌, ℕ, ◌+◌, ◌<◌, ◌≤◌, List, [], ◌∷◌, ◌++◌, length, map, filter, find, ◌==◌, Option, Some, None}
+use Rattle.std.specs.Prelude.{◌≡◌, ◌⊎◌, ℕ, ◌+◌, ◌<◌, ◌≤◌, List, [], ◌∷◌, ◌++◌, length, map, filter, find, ◌==◌}
+use Rattle.std.specs.Prelude.{Option, Some, None, IsSome}
 use Rattle.std.specs.List.{filter_map}
 use Rattle.seam_io.specs.Lines.{Line, Content, Long}
 use Rattle.seam_words.specs.Faults.{Refuses}
 use Rattle.seam_words.specs.Texts.{HasWords}
 use Rattle.seam_value.specs.NumberWords.{SpellsNumber, SpellsPositive}
 use Rattle.seam_value.specs.Values.{text_of}
-use Rattle.seam_value.specs.declared.types.ValueType.TheVariants as type
 use Rattle.seam_value.specs.declared.values.Value.{Value}
+use Rattle.seam_geo.specs.declared.pos.Pos.{Pos}
 use Rattle.seam_defs.specs.Types.{type_of, method_of}
 use Rattle.seam_defs.specs.Deeds.{TakesArgs, part_of_deed}
 use Rattle.seam_defs.specs.declared.types.TypeDef.{TypeDef}
 use Rattle.seam_defs.specs.declared.flags.Part.{Part}
-use Rattle.seam_defs.specs.declared.flags.Part.TheVariants as part
+use Rattle.seam_defs.specs.declared.types.Method.{Method}
 use Rattle.seam_defs.specs.declared.states.Deed.{Deed}
-use Rattle.seam_defs.specs.declared.states.Deed.TheVariants.{Method}
+use Rattle.seam_defs.specs.declared.states.Deed.TheVariants as deed
 use Rattle.seam_call.specs.BaseNodes.{IsBaseNodeOf}
 use Rattle.seam_call.specs.Calls.{is_from}
 use Rattle.seam_call.specs.declared.sender.Sender.{Sender}
@@ -93,94 +94,147 @@ abbrev pub IsThere : Header → Book → Sender → Type 0
 IsThere h b (sender.Base n) = IsBaseNodeOf h.settings.bases n
 IsThere h b (sender.Client e) = ⊥
 
--- So far calls are built for methods of the cell part that have one argument, a number of 32 bits with a sign.
-pub record IsBuilt (t : TypeDef) (m : ℕ) : Type 0 where
-  pub has : m < length t.methods
-  pub on_cell : (method_of t m).part ≡ part.Cell
-  pub args : (method_of t m).args ≡ type.Int32 ∷ []
-
--- the word names a type that a `create` may name: one that takes calls that are built
+-- the word names a type
 pub record NamesType (defs : List TypeDef) (type_name : language.Word) (ty : ℕ) : Type 0 where
   pub has : ty < length defs
   pub named : (type_of defs ty).name ≡ type_name
-  pub takes_calls : (m : ℕ) × IsBuilt (type_of defs ty) m
 
--- the words name a method of a type, whose calls are built, and spell the arguments that it takes
-pub record NamesMethod (t : TypeDef) (method_name : language.Word) (arguments : List language.Word) (m : ℕ) (args : List Value) : Type 0
-  where
-    pub built : IsBuilt t m
-    pub named : (method_of t m).name ≡ method_name
-    pub takes : TakesArgs (method_of t m).args args
-    pub spelled : map text_of args ≡ arguments
+-- the word names a method of a type
+pub record NamesMethod (t : TypeDef) (method_name : language.Word) (m : ℕ) : Type 0 where
+  pub has : m < length t.methods
+  pub named : (method_of t m).name ≡ method_name
 
--- and this is what a call of it does
-abbrev pub NamesDeed : TypeDef → language.Word → List language.Word → Deed → Type 0
-NamesDeed t method_name arguments deed = (m : ℕ) × (args : List Value) × (deed ≡ Method m args) × NamesMethod t method_name arguments m args
+-- the words spell arguments that a method takes
+pub record SpellsArgs (m : Method) (arguments : List language.Word) (args : List Value) : Type 0 where
+  pub takes : TakesArgs m.args args
+  pub spelled : map text_of args ≡ arguments
 
--- the words name an entity that may be made: its number, its type and a position of the space
-pub record NamesCreate (h : Header) (entity type_name x z : language.Word) (c : Create) : Type 0 where
-  pub number : SpellsPositive entity c.entity
-  pub spelled_x : SpellsNumber x c.pos.x
-  pub spelled_z : SpellsNumber z c.pos.z
-  pub type_ : NamesType h.defs type_name c.ty
-  pub in_x : c.pos.x < h.settings.size
-  pub in_z : c.pos.z < h.settings.size
+-- the words spell a position of the space
+pub record SpellsPosition (h : Header) (x z : language.Word) (p : Pos) : Type 0 where
+  pub spelled_x : SpellsNumber x p.x
+  pub spelled_z : SpellsNumber z p.z
+  pub in_x : p.x < h.settings.size
+  pub in_z : p.z < h.settings.size
 
 -- the word names a sender of the world
 pub record NamesSender (h : Header) (b : Book) (sender_name : language.Word) (s : Sender) : Type 0 where
   pub there : IsThere h b s
   pub spelled : language.sender_text s ≡ sender_name
 
--- ---- what a command means
+-- the word is the number of a live entity
+pub record NamesLive (b : Book) (entity : language.Word) (made : Create) : Type 0 where
+  pub number : SpellsPositive entity made.entity
+  pub lives : live_as b made.entity ≡ Some made
 
--- the entity may be made: its number is new, and there is room
-pub record MayCreate (b : Book) (c : Create) : Type 0 where
-  pub is_new : created_as b c.entity ≡ None
-  pub room : length (creates_of (entries b)) < MOST_ENTITIES
+-- ---- what a command adds to a book that accepts it
 
--- The words name a call that may be accepted: its sender is one of the world, its entity lives and has the method, and it has
--- the sender's next number.
-pub record NamesCall (h : Header) (b : Book) (sender_name entity method_name : language.Word) (arguments : List language.Word)
-    (c : Call) : Type 0 where
-  pub sender : NamesSender h b sender_name c.sender
+-- the entity that the words of a `create` name
+pub record NamesCreate (h : Header) (entity type_name x z : language.Word) (c : Create) : Type 0 where
   pub number : SpellsPositive entity c.entity
-  pub made : Create
-  pub lives : live_as b c.entity ≡ Some made
-  pub deed : NamesDeed (type_of h.defs made.ty) method_name arguments c.deed
-  pub part : c.part ≡ part_of_deed (type_of h.defs made.ty) c.deed
-  pub next : c.number ≡ length (accepted b c.part c.entity c.sender) + 1
+  pub type_ : NamesType h.defs type_name c.ty
+  pub position : SpellsPosition h x z c.pos
 
--- what a command adds to a book that accepts it; `sync` adds nothing
-abbrev pub Means : Header → Book → language.Command → Entry → Type 0
-Means h b (language.Create entity type_name x z) added =
-    (c : Create) × NamesCreate h entity type_name x z c × MayCreate b c × (added ≡ entry.Created c)
-Means h b (language.Call sender_name entity method_name arguments) added =
-    (c : Call) × NamesCall h b sender_name entity method_name arguments c × (added ≡ entry.Called c)
-Means h b language.Sync added = ⊥
+-- the deed that the words of a `call` name, for an entity of this type
+abbrev pub NamesDeed : List language.Word → language.Word → TypeDef → Deed → Type 0
+NamesDeed arguments method_name t d =
+    (m : ℕ) × (args : List Value) × NamesMethod t method_name m × SpellsArgs (method_of t m) arguments args × (d ≡ deed.Method m args)
 
--- ---- the verdict on a line
+-- the deed that the words of a `move` name
+abbrev pub NamesMove : Header → language.Word → language.Word → Deed → Type 0
+NamesMove h x z d = (p : Pos) × SpellsPosition h x z p × (d ≡ deed.Move p)
+
+-- The call of a sender to an entity, by the words that name both, and by the deeds that are asked for of each type. It has the
+-- sender's next number.
+pub record NamesCall (h : Header) (b : Book) (sender_name entity : language.Word) (Asks : TypeDef → Deed → Type 0) (c : Call) : Type 0
+  where
+    pub sender : NamesSender h b sender_name c.sender
+    pub made : Create
+    pub live : NamesLive b entity made
+    pub entity_ : c.entity ≡ made.entity
+    pub deed_ : Asks (type_of h.defs made.ty) c.deed
+    pub part_ : c.part ≡ part_of_deed (type_of h.defs made.ty) c.deed
+    pub next : c.number ≡ length (accepted b c.part c.entity c.sender) + 1
+
+-- what a command adds; `sync` adds nothing
+abbrev pub Adds : Header → Book → language.Command → Entry → Type 0
+Adds h b (language.Create entity type_name x z) added = (c : Create) × NamesCreate h entity type_name x z c × (added ≡ entry.Created c)
+Adds h b (language.Call sender_name entity method_name arguments) added =
+    (c : Call) × NamesCall h b sender_name entity (NamesDeed arguments method_name) c × (added ≡ entry.Called c)
+Adds h b (language.Move sender_name entity x z) added =
+    (c : Call) × NamesCall h b sender_name entity (λ t. NamesMove h x z) c × (added ≡ entry.Called c)
+Adds h b language.Sync added = ⊥
+
+-- ---- why a line is refused
 
 -- the place of a cause in the order in which causes are looked for
 abbrev pub rank : Cause → ℕ
 rank cause.TooLong = 0
 rank (cause.BadWords error) = 1
 rank cause.NoCommand = 2
+rank cause.WrongCount = 3
+rank cause.BadNumber = 4
+rank cause.Exists = 5
+rank cause.NoType = 6
+rank cause.Outside = 7
+rank cause.Full = 8
+rank cause.NoSender = 9
+rank cause.Dead = 10
+rank cause.UnknownMethod = 11
+rank cause.IllTyped = 12
 
--- words that spell no command that the book accepts
-abbrev pub SpellsNone : Header → Book → List language.Word → Type 0
-SpellsNone h b words = (c : language.Command) → words ≡ language.words_of c → ¬ (c ≡ language.Sync) × ((x : Entry) → ¬ (Means h b c x))
+-- the word is no number
+abbrev pub IsNoNumber : language.Word → Type 0
+IsNoNumber word = (n : ℕ) → ¬ (SpellsNumber word n)
 
--- A cause holds of a line: it is too long; its words are at fault; or it has words that spell no command that the book accepts.
+-- the word is no number of an entity
+abbrev pub IsNoEntity : language.Word → Type 0
+IsNoEntity word = (e : ℕ) → ¬ (SpellsPositive word e)
+
+-- the word is the number of an entity that does not live
+abbrev pub IsDead : Book → language.Word → Type 0
+IsDead b entity = (e : ℕ) × SpellsPositive entity e × (live_as b e ≡ None)
+
+-- which causes hold against a command
+abbrev pub HoldsAgainst : Header → Book → language.Command → Cause → Type 0
+HoldsAgainst h b (language.Create entity type_name x z) cause.BadNumber = IsNoEntity entity ⊎ (IsNoNumber x ⊎ IsNoNumber z)
+HoldsAgainst h b (language.Create entity type_name x z) cause.Exists = (e : ℕ) × SpellsPositive entity e × IsSome (created_as b e)
+HoldsAgainst h b (language.Create entity type_name x z) cause.NoType = (ty : ℕ) → ¬ (NamesType h.defs type_name ty)
+HoldsAgainst h b (language.Create entity type_name x z) cause.Outside =
+    (n : ℕ) × (SpellsNumber x n ⊎ SpellsNumber z n) × (h.settings.size ≤ n)
+HoldsAgainst h b (language.Create entity type_name x z) cause.Full = MOST_ENTITIES ≤ length (creates_of (entries b))
+HoldsAgainst h b (language.Call sender_name entity method_name arguments) cause.BadNumber = IsNoEntity entity
+HoldsAgainst h b (language.Call sender_name entity method_name arguments) cause.NoSender = (s : Sender) → ¬ (NamesSender h b sender_name s)
+HoldsAgainst h b (language.Call sender_name entity method_name arguments) cause.Dead = IsDead b entity
+HoldsAgainst h b (language.Call sender_name entity method_name arguments) cause.UnknownMethod =
+    (made : Create) × NamesLive b entity made × ((m : ℕ) → ¬ (NamesMethod (type_of h.defs made.ty) method_name m))
+HoldsAgainst h b (language.Call sender_name entity method_name arguments) cause.IllTyped =
+    (made : Create) × (m : ℕ) × NamesLive b entity made × NamesMethod (type_of h.defs made.ty) method_name m
+    × ((args : List Value) → ¬ (SpellsArgs (method_of (type_of h.defs made.ty) m) arguments args))
+HoldsAgainst h b (language.Move sender_name entity x z) cause.BadNumber = IsNoEntity entity
+HoldsAgainst h b (language.Move sender_name entity x z) cause.NoSender = (s : Sender) → ¬ (NamesSender h b sender_name s)
+HoldsAgainst h b (language.Move sender_name entity x z) cause.Dead = IsDead b entity
+HoldsAgainst h b (language.Move sender_name entity x z) cause.IllTyped = (p : Pos) → ¬ (SpellsPosition h x z p)
+HoldsAgainst h b c k = ⊥
+
+-- which causes hold against words
+abbrev pub HoldsAgainstWords : Header → Book → List language.Word → Cause → Type 0
+HoldsAgainstWords h b words cause.NoCommand = ¬ (language.NamesCommand words)
+HoldsAgainstWords h b words cause.WrongCount = (c : language.Command) → ¬ (words ≡ language.words_of c)
+HoldsAgainstWords h b words k = (c : language.Command) × (words ≡ language.words_of c) × HoldsAgainst h b c k
+
+-- which causes hold against a line that has words
 abbrev pub Holds : Header → Book → Line → Cause → Type 0
 Holds h b line cause.TooLong = line ≡ Long
 Holds h b line (cause.BadWords error) = (content : List ℕ) × (line ≡ Content content) × Refuses content error
-Holds h b line cause.NoCommand =
-    (content : List ℕ) × (words : List language.Word) × (line ≡ Content content) × HasWords content words × SpellsNone h b words
+Holds h b line k =
+    (content : List ℕ) × (words : List language.Word) × (line ≡ Content content) × HasWords content words × HoldsAgainstWords h b words k
 
 -- a cause holds, and none that comes before it
-pub record IsFirst (holds : Cause → Type 0) (c : Cause) : Type 0 where
-  pub here : holds c
-  pub first : (d : Cause) → holds d → rank c ≤ rank d
+pub record IsFirst (Against : Cause → Type 0) (c : Cause) : Type 0 where
+  pub here : Against c
+  pub first : (d : Cause) → Against d → rank c ≤ rank d
+
+-- ---- the verdict on a line
 
 -- a line without words
 abbrev pub IsEmptyLine : Line → Type 0
@@ -192,10 +246,11 @@ abbrev pub Spells : Line → language.Command → Type 0
 Spells Long c = ⊥
 Spells (Content line) c = language.SpellsCommand line c
 
--- What becomes of a line: one without words is skipped. Every other one is refused for the first cause that holds of it, or its
--- command is accepted, and adds an entry or ends the round.
+-- What becomes of a line: one without words is skipped. Every other one is refused for the first cause that holds; where none
+-- holds, its command is accepted, and adds an entry or ends the round.
 abbrev pub Judges : Header → Book → Line → Verdict → Type 0
 Judges h b line verdict.Skipped = IsEmptyLine line
 Judges h b line (verdict.Refused c) = ¬ (IsEmptyLine line) × IsFirst (Holds h b line) c
-Judges h b line (verdict.Accepted x) = ¬ (IsEmptyLine line) × (c : language.Command) × Spells line c × Means h b c x
+Judges h b line (verdict.Accepted x) =
+    ¬ (IsEmptyLine line) × ((k : Cause) → ¬ (Holds h b line k)) × (c : language.Command) × Spells line c × Adds h b c x
 Judges h b line verdict.Synced = ¬ (IsEmptyLine line) × Spells line language.Sync

@@ -1,5 +1,5 @@
 -- What lines say: the words of each command.
-use Rattle.std.specs.Prelude.{◌≡◌, ◌⊎◌, ℕ, List, [], ◌∷◌, ◌++◌, codes}
+use Rattle.std.specs.Prelude.{◌≡◌, ◌⊎◌, ℕ, List, [], ◌∷◌, ◌++◌, codes, Contains}
 use Rattle.seam_value.specs.Values.{decimal_of}
 use Rattle.seam_words.specs.Words.{IsGap}
 use Rattle.seam_words.specs.Texts.{HasWords}
@@ -14,18 +14,29 @@ Word = List ℕ
 abbrev pub IsSkipped : List ℕ → Type 0
 IsSkipped line = (gap : List ℕ) × IsGap gap × ((line ≡ gap) ⊎ ((note : List ℕ) × (line ≡ gap ++ 35 ∷ note)))
 
--- A command, by its words: make an entity of a type at a position; let a sender call a method of an entity with arguments; end
--- the round. What the words name is looked up when the command is judged.
+-- A command, by its words: make an entity of a type at a position; let a sender call a method of an entity with arguments; let a
+-- sender move an entity; end the round. What the words name is looked up when the command is judged.
 pub data Command : Type 0 where
   Create : (entity type_name x z : Word) → Command
   Call : (sender_name entity method_name : Word) (arguments : List Word) → Command
+  Move : (sender_name entity x z : Word) → Command
   Sync : Command
 
 -- the words of a command
 abbrev pub words_of : Command → List Word
 words_of (Create entity type_name x z) = codes "create" ∷ entity ∷ type_name ∷ x ∷ z ∷ []
 words_of (Call sender_name entity method_name arguments) = codes "call" ∷ sender_name ∷ entity ∷ method_name ∷ arguments
+words_of (Move sender_name entity x z) = codes "move" ∷ sender_name ∷ entity ∷ x ∷ z ∷ []
 words_of Sync = codes "sync" ∷ []
+
+-- the first words of the commands
+abbrev pub command_names : List Word
+command_names = codes "create" ∷ codes "call" ∷ codes "move" ∷ codes "sync" ∷ []
+
+-- the first of the words is that of a command
+abbrev pub NamesCommand : List Word → Type 0
+NamesCommand [] = ⊥
+NamesCommand (first ∷ rest) = Contains command_names first
 
 -- the words of the line spell the command
 abbrev pub SpellsCommand : List ℕ → Command → Type 0

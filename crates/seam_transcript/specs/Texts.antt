@@ -25,6 +25,16 @@ abbrev pub cause_text : Cause → List ℕ
 cause_text cause.TooLong = codes "long"
 cause_text (cause.BadWords error) = codes "words " ++ decimal_of (number_of error)
 cause_text cause.NoCommand = codes "command"
+cause_text cause.WrongCount = codes "count"
+cause_text cause.BadNumber = codes "number"
+cause_text cause.Exists = codes "exists"
+cause_text cause.NoType = codes "type"
+cause_text cause.Outside = codes "outside"
+cause_text cause.Full = codes "full"
+cause_text cause.NoSender = codes "sender"
+cause_text cause.Dead = codes "dead"
+cause_text cause.UnknownMethod = codes "unknown"
+cause_text cause.IllTyped = codes "illtyped"
 
 -- the line of a refused line: its number and the cause
 abbrev pub refusal : ℕ → Cause → List ℕ

@@ -59,7 +59,8 @@ pub record PrintLines (lines : List Line) (h : Header) (pieces : List Piece) (t 
   pub header : BeginWithHeader lines h count rest
   pub run : Run (Step h) (after_header count) rest pieces t
 
--- An open transcript of the lines read: nothing where they have no header yet, and else what the lines after it print.
+-- An open transcript of the lines read: nothing where they may yet begin a header, and what the lines after it print where they
+-- have one. Lines that can begin no header have none.
 abbrev pub IsOpen : List Line → List ℕ → Type 0
 IsOpen lines text =
     ((text ≡ []) × AwaitHeader lines)

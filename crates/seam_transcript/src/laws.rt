@@ -5,10 +5,10 @@ ghost use Rattle.seam_words.specs.Texts.{HasWords};
 ghost use Rattle.seam_defs.specs.Types.{AreDefs};
 ghost use Rattle.seam_call.specs.declared.sender.Sender.{Sender};
 ghost use Rattle.seam_call.specs.declared.call.Call.{Call};
-ghost use Rattle.seam_transcript.specs.Language.{IsSkipped, Command, words_of};
+ghost use Rattle.seam_transcript.specs.Language.{IsSkipped, Command, words_of, NamesCommand};
 ghost use Rattle.seam_transcript.specs.declared.header.Header.{Header};
 ghost use Rattle.seam_transcript.specs.Header.{Reads, BeginWithHeader};
-ghost use Rattle.seam_transcript.specs.Book.{Book, SpellsNone, Judges};
+ghost use Rattle.seam_transcript.specs.Book.{Book, Judges};
 ghost use Rattle.seam_transcript.specs.Orders.{IsLegal, IsFull};
 ghost use Rattle.seam_transcript.specs.Standing.{Standing, with_line};
 ghost use Rattle.seam_transcript.specs.Transcript.{Piece, Refusal, Step, IsEnded};
@@ -32,11 +32,11 @@ pub fn long_line_is_refused()
         ↔ ((pieces ≡ Refusal (s.lines + 1) TooLong ∷ []) × (t ≡ with_line s)) }
 {}
 
-/// A line whose words spell no command that the book accepts is refused for that and nothing else, and changes nothing but the
-/// count of lines.
+/// A line whose first word is not that of a command is refused for that and nothing else, and changes nothing but the count of
+/// lines.
 pub fn unknown_command_is_refused()
     ensures { (h : Header) (s t : Standing) (line : List ℕ) (words : List (List ℕ)) (pieces : List Piece)
-        → ¬ (IsSkipped line) → HasWords line words → SpellsNone h s.book words → Step h s (Content line) pieces t
+        → ¬ (IsSkipped line) → HasWords line words → ¬ (NamesCommand words) → Step h s (Content line) pieces t
         ↔ ((pieces ≡ Refusal (s.lines + 1) NoCommand ∷ []) × (t ≡ with_line s)) }
 {}
 

@@ -9,14 +9,35 @@ pub enum Entry {
     Called(Call),
 }
 
-/// Why a line is refused.
+/// Why a line is refused: of the causes that hold, the first in this order.
 #[derive(Clone, Copy, Debug, PartialEq, Eq)]
 pub enum Cause {
     /// It has more than 4,096 bytes.
     TooLong,
     BadWords(WordsError),
-    /// Its words spell no command that the book accepts.
+    /// Its first word is not that of a command.
     NoCommand,
+    /// The command has not so many words.
+    WrongCount,
+    /// A word that has to be a number is none.
+    BadNumber,
+    /// An entity of this number was created before.
+    Exists,
+    /// There is no such type.
+    NoType,
+    /// The position is not one of the space.
+    Outside,
+    /// As many entities were created as may be.
+    Full,
+    /// There is no such sender.
+    NoSender,
+    /// The entity was not created.
+    Dead,
+    /// The entity's type has no such method.
+    UnknownMethod,
+    /// The arguments are not as many as the method takes, or one is no spelling of a value of its type; or the place of a `move`
+    /// is not one of the space.
+    IllTyped,
 }
 
 /// What becomes of a line.
