@@ -1,4 +1,5 @@
 pub mod Groups
+pub mod Names
 pub mod Settings
 pub mod Types
 pub mod Deeds

@@ -50,10 +50,11 @@ abbrev pub is_name : List ℕ → Bool
 is_name [] = false
 is_name (c ∷ cs) = is_letter c && is_after_letter cs
 
--- the names are names, in strictly rising byte order
+-- a name comes before another one in byte order
 abbrev pub is_before : List ℕ → List ℕ → Bool
 is_before a b = is_lt (slice_cmp nat_cmp a b)
 
+-- the names are names, in strictly rising byte order
 abbrev pub are_rising : List (List ℕ) → Bool
 are_rising [] = true
 are_rising (n ∷ ns) = is_name n && list_all (is_before n) ns && are_rising ns

@@ -1,5 +1,8 @@
-ghost use Rattle.std.specs.Prelude.{◌≡◌};
+ghost use Rattle.std.specs.Prelude.{◌≡◌, ◌≢◌, MatchOption};
+ghost use Rattle.seam_defs.specs.declared.flags.Flag.{Flag as Flags};
+ghost use Rattle.seam_defs.specs.declared.flags.Part.{Part as Parts};
 ghost use Rattle.seam_defs.specs.Groups.{in_group as in_group_of};
+ghost use Rattle.seam_defs.specs.Names.{flag_name, part_name};
 
 /// The part of an entity that a property or a method belongs to: the cell part moves between cells, the base part stays
 /// on its base node.
@@ -35,7 +38,37 @@ pub enum Group {
     BaseClient,
 }
 
+impl Part {
+    /// The part of this name: `cell` or `base`. `None` for every other text.
+    pub fn named(name: &str) -> Option<Part>
+        ensures { MatchOption result ((p : Parts) → part_name p ≢ name.now) (λ p. part_name p ≡ name.now) }
+    {
+        match name {
+            "cell" => Some(Part::Cell),
+            "base" => Some(Part::Base),
+            _ => None,
+        }
+    }
+}
+
 impl Flag {
+    /// The flag of this name: `BASE` to `ALL_CLIENTS`. `None` for every other text.
+    pub fn named(name: &str) -> Option<Flag>
+        ensures { MatchOption result ((f : Flags) → flag_name f ≢ name.now) (λ f. flag_name f ≡ name.now) }
+    {
+        match name {
+            "BASE" => Some(Flag::Base),
+            "BASE_AND_CLIENT" => Some(Flag::BaseAndClient),
+            "CELL_PRIVATE" => Some(Flag::CellPrivate),
+            "CELL_PUBLIC" => Some(Flag::CellPublic),
+            "CELL_PUBLIC_AND_OWN" => Some(Flag::CellPublicAndOwn),
+            "OWN_CLIENT" => Some(Flag::OwnClient),
+            "OTHER_CLIENTS" => Some(Flag::OtherClients),
+            "ALL_CLIENTS" => Some(Flag::AllClients),
+            _ => None,
+        }
+    }
+
     /// Whether properties of this flag are in the group.
     pub fn in_group(self, group: Group) -> bool
         ensures { result ≡ in_group_of self group }

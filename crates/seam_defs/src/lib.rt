@@ -16,6 +16,7 @@ mod limits;
 mod listed;
 mod methods;
 mod names;
+mod properties;
 mod settings;
 mod states;
 mod types;

@@ -10,12 +10,12 @@ use Rattle.seam_defs.specs.declared.flags.Flag.{Flag}
 use Rattle.seam_defs.specs.declared.flags.Part.{Part}
 use Rattle.seam_defs.specs.declared.limits.TheConstants.{MOST_TYPES, MOST_PROPERTIES, MOST_METHODS, MOST_ARGUMENTS, MOST_OPERATIONS}
 use Rattle.seam_defs.specs.declared.settings.Settings.{Settings}
+use Rattle.seam_defs.specs.Names.{flag_name, part_name}
 use Rattle.seam_defs.specs.Settings.{GhostsReach}
 use Rattle.seam_toml.specs.declared.roles.Role.{Role}
 use Rattle.seam_toml.specs.declared.roles.Role.TheVariants as role
 use Rattle.seam_toml.specs.declared.faults.Fault.{Fault}
 use Rattle.seam_toml.specs.declared.faults.Fault.TheVariants.{NoSuchKey, BadType, BadFlag, BadDefault, TooManyNames, GhostTooNear}
-use Rattle.seam_toml.specs.Names.{flag_name, part_name}
 use Rattle.seam_toml.specs.Settings.{number_of, Sets}
 use Rattle.seam_toml.specs.Roles.{role_under, is_table}
 

@@ -9,8 +9,10 @@ ghost use Rattle.seam_toml.specs.Faults.{IsTypeName, IsPartName, IsListOf, SetsT
 ghost use Rattle.seam_toml.specs.Faults.{IsAtFault, HasFault, HasFaultBelow, TopIsAtFault, HeaderHas, IsFirstFault};
 
 use crate::members::member;
-use crate::{Role, flag_named, part_named, read_settings};
-use seam_defs::{MOST_ARGUMENTS, MOST_METHODS, MOST_OPERATIONS, MOST_PROPERTIES, MOST_TYPES};
+use crate::{Role, read_settings};
+use seam_defs::{
+    Flag, MOST_ARGUMENTS, MOST_METHODS, MOST_OPERATIONS, MOST_PROPERTIES, MOST_TYPES, Part,
+};
 use seam_value::{ShortText, ValueType};
 use toml::{Table, Value};
 
@@ -90,7 +92,7 @@ fn is_part_name(value: &Value) -> bool
     ensures { IsTrue result ↔ IsPartName (view value.now) }
 {
     match value.as_str() {
-        Some(name) => match part_named(name) {
+        Some(name) => match Part::named(name) {
             Some(_) => true,
             None => false,
         },
@@ -124,7 +126,7 @@ fn is_no_flag(role: &Role, value: &Value) -> bool
     ensures { IsTrue result ↔ IsNoFlag role.now (view value.now) }
 {
     match (role, value.as_str()) {
-        (Role::Flag, Some(name)) => match flag_named(name) {
+        (Role::Flag, Some(name)) => match Flag::named(name) {
             Some(_) => false,
             None => true,
         },

@@ -6,13 +6,11 @@
 mod documents;
 mod faults;
 mod members;
-mod names;
 mod roles;
 mod settings;
 
 pub use documents::{DocumentError, MOST_HEADER_BYTES, read_document};
 pub use faults::{Fault, first_fault, has_fault, is_at_fault};
-pub use names::{flag_named, part_named};
 pub use roles::Role;
 pub use settings::{Setting, read_settings};
 

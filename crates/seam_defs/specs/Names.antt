@@ -1,4 +1,4 @@
--- The names of flags and parts in a header.
+-- The names by which definitions of entities call flags and parts.
 use Rattle.std.specs.Prelude.{ℕ, List, codes}
 use Rattle.seam_defs.specs.declared.flags.Flag.{Flag}
 use Rattle.seam_defs.specs.declared.flags.Flag.TheVariants as flag
