@@ -1,13 +1,14 @@
 -- The part of a list between two places.
-use Rattle.std.proofs.Common.{◌≡◌, ℕ, ◌+◌, ◌-◌, ◌<◌, ◌≤◌, Bool, true, false, List, [], ◌++◌, length, take, drop, get_or, refl, sym, ap, ◌∙◌}
-use Rattle.std.proofs.Common.{subst, arith, length-append, eqb-true}
-use Rattle.std.specs.Prelude.{slice_range}
-use Rattle.std.proofs.Math.Nat.{sub_self}
-use Rattle.std.proofs.Math.Seq.{take-add, take-append-add}
+use Rattle.std.proofs.Common.{◌≡◌, ℕ, ◌+◌, ◌-◌, ◌<◌, ◌≤◌, false, List, [], ◌++◌, length, take, drop, get_or, sym, ap, ◌∙◌}
+use Rattle.std.proofs.Common.{subst, arith}
+use Rattle.std.specs.Prelude.{slice_index, slice_range, Option, None, Some, MatchOption, MatchBool}
+use Rattle.std.specs.Option.{is_some}
+use Rattle.std.proofs.Math.Nat.{sub_self, sub-zero}
+use Rattle.std.proofs.Math.Seq.{take-add}
+use Rattle.std.proofs.lemmas.Bool.{false≢true}
 use Rattle.std.proofs.lemmas.Grind.{common_steps}
-use Rattle.std.proofs.lemmas.List.{length-take, length-drop, drop-drop, drop-take, take_all, get_or-append-add}
-use Rattle.std.proofs.lemmas.List.Elements.{All-from_get_or}
-use Rattle.memchr.specs.Find.{Nowhere, NoneBefore, Passes, is_byte}
+use Rattle.std.proofs.lemmas.List.{length-take, length-drop, drop-drop, drop-take, get_or-take, get_or-drop}
+use Rattle.std.proofs.lemmas.List.Elements.{All-get_or}
 use Rattle.seam_io.specs.Lines.{HasNoFeed, is_feed}
 use Rattle.seam_io.specs.Steps.{IsFeedAt}
 use Rattle.seam_io.proofs.LineLemmas.{no_feed_append}
@@ -37,37 +38,34 @@ range_prefix xs a b n within =
     let low : n ≤ b - a = omega arith in
     grind (arith, common_steps)
 
--- ---- a search for a line feed
+-- ---- line feeds
 
-false_of : (b : Bool) → ¬ (b ≡ true) → b ≡ false
-false_of true h = absurd (h refl)
-false_of false h = refl
-
-none_passes : (bytes : List ℕ) (n : ℕ) → n ≤ length bytes → Nowhere (Passes (is_byte 10) bytes) 0 n → HasNoFeed (take n bytes)
-none_passes bytes n fits none = All-from_get_or (λ byte. is_feed byte ≡ false) (take n bytes) 0 (λ i within.
-    let below : i < n = omega (arith, length-take n bytes) in
-    let same : get_or (take n bytes) i 0 ≡ get_or bytes i 0 = grind (arith, common_steps) in
-    ap is_feed same ∙ false_of (is_feed (get_or bytes i 0)) (none i (omega arith) below))
-
--- after a part without a line feed none was found
-pub not_found : (prefix rest : List ℕ) → HasNoFeed prefix → Nowhere (Passes (is_byte 10) rest) 0 (length rest) → HasNoFeed (prefix ++ rest)
-not_found prefix rest whole none =
-    no_feed_append prefix rest whole (subst HasNoFeed (take_all (length rest) rest (omega arith))
-    (none_passes rest (length rest) (omega arith) none))
-
--- after a part without a line feed one was found
-found_after : (prefix rest : List ℕ) (place : ℕ) → HasNoFeed prefix → NoneBefore (Passes (is_byte 10) rest) 0 (length rest) place →
-    Passes (is_byte 10) rest place
-    → IsFeedAt (prefix ++ rest) (length prefix + place)
-found_after prefix rest place whole none feed = record {
-  within = let high = none.high in omega (arith, length-append prefix rest);
-  feed = get_or-append-add prefix rest place 0 ∙ eqb-true _ _ feed;
-  before = subst HasNoFeed (sym (take-append-add prefix rest place))
-      (no_feed_append prefix (take place rest) whole (none_passes rest place (let high = none.high in omega arith) none.before));
+-- the first line feed between two places, by where it is
+pub feed_held : (xs : List ℕ) (a f b : ℕ) → a ≤ f → f < b → b ≤ length xs → HasNoFeed (slice_range xs a f) → slice_index xs f ≡ 10
+    → IsFeedAt (slice_range xs a b) (f - a)
+feed_held xs a f b order low fits before feed = record {
+  within = omega (arith, range_size xs a b (omega arith) fits);
+  feed = get_or-take (b - a) (drop a xs) (f - a) 0 (omega arith) ∙ get_or-drop a xs (f - a) 0 ∙ ap (λ n. get_or xs n 0) place ∙ feed;
+  before = subst HasNoFeed (ap (slice_range xs a) (sym place) ∙ range_prefix xs a b (f - a) (omega arith)) before;
 }
+  where
+    place : a + (f - a) ≡ f
+    place = omega arith
 
-pub found : (held prefix rest : List ℕ) (size place : ℕ) → held ≡ prefix ++ rest → length prefix ≡ size → HasNoFeed prefix
-    → NoneBefore (Passes (is_byte 10) rest) 0 (length rest) place → Passes (is_byte 10) rest place → IsFeedAt held (size + place)
-found held prefix rest size place parts same whole none feed =
-    subst (λ bytes. IsFeedAt bytes (size + place)) (sym parts)
-    (subst (λ n. IsFeedAt (prefix ++ rest) (n + place)) same (found_after prefix rest place whole none feed))
+no_feed_denied : (held : List ℕ) (len : ℕ) → IsFeedAt held len → ¬ (HasNoFeed held)
+no_feed_denied held len feed none =
+    false≢true (sym (All-get_or (λ byte. is_feed byte ≡ false) held len 0 feed.within none) ∙ ap is_feed feed.feed)
+
+-- the answer of a search for a line feed, as a test
+pub found_or_none : (held : List ℕ) (found : Option ℕ) → MatchOption found (HasNoFeed held) (IsFeedAt held)
+    → MatchBool (is_some found) (¬ (HasNoFeed held)) (HasNoFeed held)
+found_or_none held None answer = answer
+found_or_none held (Some len) answer = no_feed_denied held len answer
+
+-- bytes were read after those that were moved to the start
+pub no_feed_after_read : (old new : List ℕ) (a b f : ℕ) → take (b - a) new ≡ slice_range old a b → b - a ≤ f → HasNoFeed (slice_range old a b)
+    → HasNoFeed (slice_range new (b - a) f) → HasNoFeed (slice_range new 0 f)
+no_feed_after_read old new a b f kept order whole more =
+    let moved : slice_range new 0 (b - a) ≡ slice_range old a b = ap (λ n. take n new) (sub-zero (b - a)) ∙ kept in
+    subst HasNoFeed (sym (range_split new 0 (b - a) f (omega arith) order))
+    (no_feed_append (slice_range new 0 (b - a)) (slice_range new (b - a) f) (subst HasNoFeed (sym moved) whole) more)

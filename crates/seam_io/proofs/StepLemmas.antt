@@ -4,7 +4,7 @@ use Rattle.std.proofs.Common.{drop, refl, sym, ap, ◌∙◌, subst, arith, appe
 use Rattle.std.specs.Prelude.{if◌then◌else◌}
 use Rattle.std.proofs.lemmas.List.{length-drop, take_all, drop_all}
 use Rattle.seam_io.specs.Lines.{Line, Long, line_of, lines_of, lines_left, HasNoFeed}
-use Rattle.seam_io.specs.Reading.{Reader, budget, lines_given}
+use Rattle.seam_io.specs.Reading.{Reader, budget, lines_given, IsLine}
 use Rattle.seam_io.specs.Steps.{IsFeedAt, LetsGo, IsAt, Answers, Waits}
 use Rattle.seam_io.specs.declared.lines.Next.{Next}
 use Rattle.seam_io.specs.declared.lines.Next.TheVariants as next
@@ -68,6 +68,13 @@ at_line next.End r text gave = cc
 at_line next.ReadFault r text gave = cc
 at_line next.Limit r text gave = cc
 
+is_line : (n : Next) (line : List ℕ) (text : Line) → lines_given n line ≡ text ∷ [] → IsLine n
+is_line next.Line line text gave = tt
+is_line next.Long line text gave = tt
+is_line next.End line text gave = cc
+is_line next.ReadFault line text gave = cc
+is_line next.Limit line text gave = cc
+
 -- the first bytes of what is held are a line
 pub line_given : (n : Next) (old new : Reader) (text : Line) (gone : ℕ) →
     new ≡ record old { held = drop gone old.held; passing = false; line = new.line }
@@ -86,6 +93,7 @@ line_given n old new text gone same gave empty within some law = record {
         ∙ ap (λ (r : Reader). lines_given n new.line ++ lines_left r.passing (r.held ++ more)) (sym same);
   };
   at = at_line n new text gave;
+  whole = λ _. is_line n new.line text gave;
   line = empty;
 }
   where
@@ -131,12 +139,13 @@ pub end_found : (old : Reader) → old.ended ≡ true → old.held ≡ [] → ol
 end_found old ended none passing empty = record {
   moves = record { ended = refl; taken = refl; limit = refl; spent = omega arith; lines = λ more allowed. refl };
   at = record { ended = ended; none = none; passing = passing };
+  whole = λ some. absurd (some (subst HasNoFeed (sym none) no_feed_none));
   line = λ _. empty;
 }
 
 -- an answer after the prefix of a long line was let go
-pub answers_after : (n : Next) (old mid new : Reader) → LetsGo old mid → Answers n mid new → Answers n old new
-answers_after n old mid new lets answers = record {
+pub answers_after : (n : Next) (old mid new : Reader) → HasNoFeed old.held → LetsGo old mid → Answers n mid new → Answers n old new
+answers_after n old mid new whole lets answers = record {
   moves = record {
     ended = answers.moves.ended ∙ lets.moves.ended;
     taken = answers.moves.taken ∙ lets.moves.taken;
@@ -146,12 +155,19 @@ answers_after n old mid new lets answers = record {
         lets.moves.lines more allowed ∙ answers.moves.lines more (λ ended. allowed (sym lets.moves.ended ∙ ended));
   };
   at = answers.at;
+  whole = λ some. absurd (some whole);
   line = answers.line;
 }
 
 -- as many bytes as may be were taken
-pub limit_reached : (old mid : Reader) → LetsGo old mid → mid.ended ≡ false → mid.taken ≡ mid.limit → Answers next.Limit old mid
-limit_reached old mid lets going full = record { moves = lets.moves; at = (lets.whole, going, full); line = λ _. lets.line }
+pub limit_reached : (old mid : Reader) → HasNoFeed old.held → LetsGo old mid → mid.ended ≡ false → mid.taken ≡ mid.limit
+    → Answers next.Limit old mid
+limit_reached old mid whole lets going full = record {
+  moves = lets.moves;
+  at = (lets.whole, going, full);
+  whole = λ some. absurd (some whole);
+  line = λ _. lets.line;
+}
 
 -- more bytes are wanted
 pub more_wanted : (old mid : Reader) → HasNoFeed old.held → LetsGo old mid → mid.ended ≡ false → mid.taken < mid.limit → Waits old mid

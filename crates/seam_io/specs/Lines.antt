@@ -12,8 +12,8 @@ pub data Line : Type 0 where
 abbrev pub is_feed : ℕ → Bool
 is_feed byte = byte == 10
 
--- the line of a text without line feeds: one of more than 4,096 bytes is too long, and from another the last carriage
--- return is dropped
+-- the line of a text without line feeds: one of more than 4,096 bytes is too long, and from another a carriage return at its
+-- very end is dropped
 abbrev pub line_of : List ℕ → Line
 line_of text = if nat_lt LONGEST_LINE (length text) then Long else Content (strip_carriage_return text)
 

@@ -46,6 +46,14 @@ lines_given next.End line = []
 lines_given next.ReadFault line = []
 lines_given next.Limit line = []
 
+-- the answers that come with a line
+abbrev pub IsLine : Next → Type 0
+IsLine next.Line = Unit {0}
+IsLine next.Long = Unit {0}
+IsLine next.End = ⊥
+IsLine next.ReadFault = ⊥
+IsLine next.Limit = ⊥
+
 -- An answer is told by the bytes taken until then and the lines given before it.
 pub record IsExact (answer : Next) (reader : Reader) (given : List ℕ) (read : List Line) : Type 0 where
   -- the end was found, and every line of the bytes was given

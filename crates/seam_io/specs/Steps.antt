@@ -1,7 +1,7 @@
 -- What a reader of lines does between its reads, and at a read. Only private functions speak of it.
 use Rattle.std.specs.Prelude.{◌≡◌, ◌≢◌, ℕ, ◌≤◌, ◌<◌, ◌+◌, true, false, List, [], ◌++◌, length, take, slice_index}
 use Rattle.seam_io.specs.Lines.{Line, lines_left, HasNoFeed}
-use Rattle.seam_io.specs.Reading.{Reader, budget, lines_given, NeedsMore, IsDone}
+use Rattle.seam_io.specs.Reading.{Reader, budget, lines_given, NeedsMore, IsDone, IsLine}
 use Rattle.seam_io.specs.declared.lines.Next.{Next}
 use Rattle.seam_io.specs.declared.lines.Next.TheVariants as next
 use Rattle.seam_io.specs.declared.lines.TheConstants.{LONGEST_LINE}
@@ -40,6 +40,7 @@ IsAt next.Limit r = HasNoFeed r.held × (r.ended ≡ false) × (r.taken ≡ r.li
 pub record Answers (answer : Next) (old new : Reader) : Type 0 where
   pub moves : Moves old new (lines_given answer new.line)
   pub at : IsAt answer new
+  pub whole : ¬ (HasNoFeed old.held) → IsLine answer
   pub line : answer ≢ next.Line → new.line ≡ []
 
 -- a reader that needs a read, before and after it let the prefix of a long line go

@@ -1,11 +1,12 @@
 // The lines of a source.
 ghost use Rattle.std.specs.Prelude.{◌≡◌, ◌≢◌, ◌<◌, ◌≤◌, ◌⊎◌, ◌+◌, ◌-◌, ◌++◌, [], ◌∷◌, List, ℕ, true, false, length, take, drop};
-ghost use Rattle.std.specs.Prelude.{slice_range, vec_len, IfOk, IfSome, IfNone, OnOk, OnErr, MatchOption, if◌then◌else◌};
+ghost use Rattle.std.specs.Prelude.{slice_index, slice_range, vec_len, IfOk, IfSome, IfNone, OnOk, OnErr};
+ghost use Rattle.std.specs.Prelude.{MatchBool, MatchOption, if◌then◌else◌};
 ghost use Rattle.std.specs.Io.KnownBytes.{ReadConsumes};
 ghost use Rattle.std.specs.Str.Lines.{strip_carriage_return};
 ghost use Rattle.seam_io.specs.Causes.{Rose, HasCause, CountsEnds};
 ghost use Rattle.seam_io.specs.Lines.{Line, Long, line_of, HasNoFeed};
-ghost use Rattle.seam_io.specs.Reading.{Reader, Reading, IsExact, IsSparing, IsDone, NeedsMore, lines_given, budget};
+ghost use Rattle.seam_io.specs.Reading.{Reader, Reading, IsExact, IsSparing, IsDone, IsLine, NeedsMore, lines_given, budget};
 ghost use Rattle.seam_io.specs.States.{SourceState};
 ghost use Rattle.seam_io.specs.Steps.{IsFeedAt, LetsGo, Answers, Waits};
 
@@ -29,7 +30,8 @@ pub enum Next {
     Limit,
 }
 
-/// The most bytes of a line's content. A longer line is `Next::Long`.
+/// The most bytes of a line: its content, and a carriage return that ends it. A longer line is `Next::Long`, as content of
+/// 4,096 bytes before a carriage return is.
 pub const LONGEST_LINE: usize = 4096;
 
 // How many bytes are asked for at most at once.
@@ -38,10 +40,11 @@ const CHUNK: usize = 4096;
 /// A reader of lines that takes a bounded number of bytes. All its memory is taken when it is made.
 #[derive(Drop)]
 pub struct Lines {
-    // The bytes from `start` to `end` were taken and not given, and up to `seen` they have no line feed.
+    // The bytes from `start` to `end` were taken and not given. Their first line feed is at `feed`, which is `end` where they
+    // have none.
     buffer: Vec<u8>,
     start: usize,
-    seen: usize,
+    feed: usize,
     end: usize,
     // Where the content of the line that was given is.
     line_start: usize,
@@ -121,6 +124,21 @@ fn refill<S: Source>(
     read_at(buffer, end - start, want, source)
 }
 
+// Where the first line feed between two places is, or the second place where there is none.
+fn feed_between(buffer: &[u8], from: usize, end: usize) -> usize
+    requires order { from ≤ end }
+    requires within { end ≤ length buffer.now }
+    ensures from { from ≤ result }
+    ensures to { result ≤ end }
+    ensures before { HasNoFeed (slice_range buffer.now from result) }
+    ensures found { result < end → slice_index buffer.now result ≡ 10 }
+{
+    match memchr(b'\n', &buffer[from..end]) {
+        Some(place) => from + place,
+        None => end,
+    }
+}
+
 impl Lines {
     /// A reader that takes at most `limit` bytes.
     ///
@@ -132,7 +150,7 @@ impl Lines {
         Ok(Lines {
             buffer: vec![in alloc; 0; LONGEST_LINE + CHUNK]?,
             start: 0,
-            seen: 0,
+            feed: 0,
             end: 0,
             line_start: 0,
             line_end: 0,
@@ -158,6 +176,13 @@ impl Lines {
         self.taken
     }
 
+    /// Whether a whole line is left in what was taken, so that the next call of [`Lines::next`] answers without a read.
+    pub fn has_line(&self) -> bool
+        ensures { MatchBool result (¬ (HasNoFeed self.now.held)) (HasNoFeed self.now.held) }
+    {
+        self.find_feed().is_some()
+    }
+
     /// The next line of the source.
     ///
     /// It reads only where no whole line is left in what was taken, at most 4,096 bytes at a time and never past the
@@ -178,6 +203,7 @@ impl Lines {
             × (self.new.ended ≡ self.old.ended) }
         ensures done { result ≡ Next.End → IsDone self.new }
         ensures again { IsDone self.old → result ≡ Next.End }
+        ensures whole { ¬ (HasNoFeed self.old.held) → IsLine result }
 
         // Each line that is given lowers the budget.
         ensures budget { length (lines_given result self.new.line) + budget self.new ≤ budget self.old }
@@ -219,9 +245,10 @@ impl Lines {
     fn find_feed(&self) -> Option<usize>
         ensures { MatchOption result (HasNoFeed self.now.held) (IsFeedAt self.now.held) }
     {
-        match memchr(b'\n', &self.buffer[self.seen..self.end]) {
-            Some(place) => Some(self.seen - self.start + place),
-            None => None,
+        if self.feed < self.end {
+            Some(self.feed - self.start)
+        } else {
+            None
         }
     }
 
@@ -235,7 +262,7 @@ impl Lines {
         let text = self.start;
         let long = self.passing || len > LONGEST_LINE;
         self.start += len + skip;
-        self.seen = self.start;
+        self.feed = feed_between(&self.buffer, self.start, self.end);
         self.passing = false;
         if long {
             self.line_start = 0;
@@ -254,7 +281,7 @@ impl Lines {
     {
         self.line_start = 0;
         self.line_end = 0;
-        self.seen = self.end;
+        self.feed = self.end;
         if self.passing || self.end - self.start > LONGEST_LINE {
             self.start = self.end;
             self.passing = true;
@@ -297,12 +324,13 @@ impl Lines {
         let want = (self.limit - self.taken).min(CHUNK as u64) as usize;
         let result = refill(&mut self.buffer, self.start, self.end, want, source);
         self.start = 0;
-        self.seen = held;
+        self.feed = held;
         self.end = held;
         self.line_start = 0;
         self.line_end = 0;
         let count = result?;
         self.end += count;
+        self.feed = feed_between(&self.buffer, held, self.end);
         self.taken += count as u64;
         self.ended = count == 0;
         Ok(())

@@ -4,7 +4,8 @@ use std::io;
 use std::io::{ErrorKind, Read, Write};
 use std::test::Fail;
 
-// The answers of a reader of lines up to the end or the limit, and the one after it, each with a bar after it.
+// The answers of a reader of lines up to the end or the limit, and the one after it, each with a bar after it, and before that
+// a plus sign where the reader has one more line.
 fn told<S: Source>(alloc: Global, limit: u64, source: &mut S) -> Result<Vec<u8>, AllocError> {
     let mut lines = Lines::new(alloc, limit)?;
     let mut text = Vec::new(alloc);
@@ -20,6 +21,9 @@ fn told<S: Source>(alloc: Global, limit: u64, source: &mut S) -> Result<Vec<u8>,
             Next::End => text.extend_from_slice(b"end")?,
             Next::ReadFault => text.extend_from_slice(b"fault")?,
             Next::Limit => text.extend_from_slice(b"limit")?,
+        }
+        if lines.has_line() {
+            text.push(b'+')?;
         }
         text.push(b'|')?;
         if last {
@@ -62,7 +66,7 @@ static ROWS: [Row; 5] = [
         cuts: &[1],
         fails: &[2],
         limit: 99,
-        told: b"fault|line ab|line cd|end|end|",
+        told: b"fault|line ab+|line cd|end|end|",
     },
     // an empty line is one, and of two carriage returns one stays
     Row {
@@ -70,7 +74,7 @@ static ROWS: [Row; 5] = [
         cuts: &[],
         fails: &[],
         limit: 99,
-        told: b"line |line \r|line |end|end|",
+        told: b"line +|line \r|line |end|end|",
     },
     Row {
         input: b"",

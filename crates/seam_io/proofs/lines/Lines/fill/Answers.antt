@@ -1,11 +1,40 @@
-use Rattle.std.proofs.Common.{eqb, ◌≡◌, ◌<◌, ◌≤◌, ◌+◌, ◌-◌, length, take, drop, arith, refl, ap, ◌∙◌, sym, subst, []}
+use Rattle.std.proofs.Common.{eqb, eqb-true, ◌≡◌, ◌<◌, ◌≤◌, ◌+◌, ◌-◌, length, take, drop, arith, refl, ap, ◌∙◌, sym, subst, []}
 use Rattle.std.specs.Prelude.{slice_range}
 use Rattle.std.proofs.lemmas.List.{length-take, length-drop}
+use Rattle.seam_io.specs.Lines.{HasNoFeed}
 use Rattle.seam_io.specs.Reading.{Reader}
-use Rattle.seam_io.proofs.RangeLemmas.{range_size}
+use Rattle.seam_io.proofs.RangeLemmas.{range_size, no_feed_after_read}
 use Rattle.seam_io.proofs.ReadLemmas.{fills, same_view, unread, refilled}
 use Rattle.seam_io.proofs.lines.Lines.fill.Goals as goal
 use Rattle.seam_io.specs.declared.lines.TheConstants.{LONGEST_LINE}
+
+pub invariant_of-self-2 : goal.invariant_of-self-2
+invariant_of-self-2 g c =
+    let is = c.self.invariant in
+    let len = c.refill-result.ensures.len in
+    let bound = c.in_ok-count.ensures.bound in
+    let order = c.feed_between-self-inside.ensures.from in
+    let size : length (slice_range c.self.inside.buffer.items c.self.inside.start c.self.inside.end)
+    ≡ c.self.inside.end - c.self.inside.start = range_size _ _ _ (omega arith) (omega arith) in
+    let short : length (slice_range c.self.inside.buffer.items c.self.inside.start c.self.inside.end) ≤ LONGEST_LINE =
+    subst (λ (r : Reader). length r.held ≤ LONGEST_LINE) (sym c.self.view_is) c.requires.short in
+    let room : c.self.inside.taken < c.self.inside.limit =
+    subst (λ (r : Reader). r.taken < r.limit) (sym c.self.view_is) c.requires.needs.room in
+    record {
+      size = len ∙ is.size;
+      start = omega arith;
+      feed = c.feed_between-self-inside.ensures.to;
+      end = omega arith;
+      line_start = omega arith;
+      line_end = omega arith;
+      line_len = omega arith;
+      before = no_feed_after_read _ _ _ _ _ c.refill-result.ensures.kept order
+          (subst (λ (r : Reader). HasNoFeed r.held) (sym c.self.view_is) c.requires.needs.whole)
+          (rw c.deref.ensures.value at c.feed_between-self-inside.ensures.before);
+      found = rw c.deref.ensures.value at c.feed_between-self-inside.ensures.found;
+      within = omega arith;
+      ended = λ e. let none = eqb-true _ _ e in omega arith;
+    }
 
 pub returns-in_err-count-clause-reads : goal.returns-in_err-count-clause-reads
 returns-in_err-count-clause-reads g c = λ start given read r.

@@ -7,12 +7,13 @@ pub invariant_of-result : goal.invariant_of-result
 invariant_of-result c = record {
   size = c.in_ok-vec.ensures.len;
   start = omega arith;
-  seen = omega arith;
+  feed = omega arith;
   end = omega arith;
   line_start = omega arith;
   line_end = omega arith;
   line_len = omega arith;
-  feedless = no_feed_none;
+  before = no_feed_none;
+  found = λ low. omega arith;
   within = omega arith;
   ended = λ e. absurd (false≢true e);
 }

@@ -1,4 +1,5 @@
 use Rattle.std.proofs.Common.{◌++◌, arith, ap, ◌∙◌, sym, subst, append_assoc}
+use Rattle.seam_io.specs.Lines.{HasNoFeed}
 use Rattle.seam_io.specs.Reading.{Reader, NeedsMore, IsDone}
 use Rattle.seam_io.proofs.ReadLemmas.{answered, faulted, kept, done_by_answer, again_by_answer, not_needed, sparing_more, no_feed_more}
 use Rattle.seam_io.proofs.lines.Lines.next.Goals as goal
@@ -22,6 +23,11 @@ pub returns-in-Some-clause-again : goal.returns-in-Some-clause-again
 returns-in-Some-clause-again g c = λ done.
     let same = (c.loop-next.invariant.quiet (not_needed _ done)).1 in
     again_by_answer c.in-Some.next c.loop-next.self _ c.in-Some.ensures.some (subst IsDone (sym same) done)
+
+pub returns-in-Some-clause-whole : goal.returns-in-Some-clause-whole
+returns-in-Some-clause-whole g c = λ some.
+    let same = (c.loop-next.invariant.quiet (λ (needs : NeedsMore c.args.self.now). some needs.whole)).1 in
+    c.in-Some.ensures.some.whole (subst (λ (r : Reader). ¬ (HasNoFeed r.held)) (sym same) some)
 
 pub returns-in-Err-clause-reads : goal.returns-in-Err-clause-reads
 returns-in-Err-clause-reads g c = λ start given read r.
