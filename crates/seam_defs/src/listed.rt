@@ -32,6 +32,13 @@ impl<T> Listed<T> {
         &self.items
     }
 
+    /// The vector of the items.
+    pub fn into_vec(self) -> Vec<T>
+        ensures { result.items ≡ self }
+    {
+        self.items
+    }
+
     /// Where the items are allocated.
     pub fn allocator(&self) -> &Global {
         self.items.allocator()
