@@ -2,8 +2,13 @@
 use crate::{Args, Deed, Defs, Group, Props, State};
 use seam_geo::Pos;
 use seam_value::Value;
-use std::alloc::Global;
+use std::alloc::{AllocError, Global};
 use std::test::Fail;
+
+// A call of its own, without a clause: what the built-in types are is not computed again for each call on them.
+fn builtin(alloc: Global) -> Result<Defs, AllocError> {
+    Defs::builtin(alloc)
+}
 
 const AVATAR: u16 = 0;
 
@@ -11,7 +16,7 @@ const CHEST: u16 = 1;
 
 #[test]
 fn groups_of_a_new_avatar_are_written(rt: HostRuntime) -> Result<(), Fail> {
-    let defs = Defs::builtin(rt.alloc())?.copy()?;
+    let defs = builtin(rt.alloc())?.copy()?;
     let avatar = defs.type_at(AVATAR);
     let own = avatar.start_props(Group::Own)?;
     let mut text = Vec::new(rt.alloc());
@@ -36,7 +41,7 @@ fn arguments_are_copied(rt: HostRuntime) -> Result<(), Fail> {
 
 #[test]
 fn a_heal_stops_at_the_greatest_number(rt: HostRuntime) -> Result<(), Fail> {
-    let defs = Defs::builtin(rt.alloc())?;
+    let defs = builtin(rt.alloc())?;
     let pos = Pos { x: 0, z: 0 };
     let avatar = defs.type_at(AVATAR);
     let props = avatar.start_props(Group::Real)?;
@@ -56,7 +61,7 @@ fn sent<T: Send>(value: T) -> T {
 
 #[test]
 fn definitions_states_and_deeds_may_cross_threads(rt: HostRuntime) -> Result<(), Fail> {
-    let defs = sent(Defs::builtin(rt.alloc())?);
+    let defs = sent(builtin(rt.alloc())?);
     let props: Props = sent(defs.type_at(CHEST).start_props(Group::Real)?);
     let state = sent(State {
         pos: Pos { x: 1, z: 2 },
