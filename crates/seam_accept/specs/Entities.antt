@@ -1,5 +1,6 @@
 -- What is kept of entities, beside the book of a transcript.
-use Rattle.std.specs.Prelude.{◌≡◌, ℕ, ◌+◌, ◌<◌, List, [], length, Option, None, Some, MatchOption, slice_index, slice_set}
+use Rattle.std.specs.Prelude.{◌≡◌, ◌≢◌, ℕ, ◌+◌, ◌-◌, ◌<◌, List, [], length, Option, None, Some, MatchOption, IfSome}
+use Rattle.std.specs.Prelude.{slice_index, slice_set}
 use Rattle.std.specs.Map.{lookup}
 use Rattle.std.specs.Ordering.{nat_cmp}
 use Rattle.std.specs.BTreeMap.{is_at}
@@ -50,3 +51,9 @@ pub record IsNextCall (b : Book) (c : Call) : Type 0 where
   pub made : Create
   pub is : created_as b c.entity ≡ Some made
   pub next : c.number ≡ length (accepted b c.part c.entity c.sender) + 1
+
+-- an entity, where it is there, has the number of a base node's call as its last one, and the others stay
+pub record KeepsLast (old new : List (ℕ × Entity)) (n : ℕ) (c : Call) : Type 0 where
+  pub count : length new ≡ length old
+  pub here : IfSome (entity_at old c.entity) (λ v. entity_at new c.entity ≡ Some (with_last c.part (n - 1) c.number v))
+  pub others : (other : ℕ) → other ≢ c.entity → entity_at new other ≡ entity_at old other

@@ -1,5 +1,6 @@
 // What the book answers to a line.
 ghost use Rattle.std.specs.Prelude.{◌≡◌};
+ghost use Rattle.seam_accept.specs.declared.answers.Refusal.TheVariants as refusal;
 
 use seam_transcript::Cause;
 use std::alloc::{AllocError, AllocFailed};
@@ -23,7 +24,7 @@ pub enum Refusal {
 }
 
 impl From<AllocError> for Refusal {
-    ghost from_gives = { λ _ r. r ≡ NoMemory };
+    ghost from_gives = { λ _ r. r ≡ refusal.NoMemory };
 
     fn from(_error: AllocError) -> Refusal {
         Refusal::NoMemory
@@ -31,7 +32,7 @@ impl From<AllocError> for Refusal {
 }
 
 impl From<Cause> for Refusal {
-    ghost from_gives = { λ k r. r ≡ Cause k };
+    ghost from_gives = { λ k r. r ≡ refusal.Cause k };
 
     fn from(cause: Cause) -> Refusal {
         Refusal::Cause(cause)
@@ -39,7 +40,7 @@ impl From<Cause> for Refusal {
 }
 
 impl<T: Drop> From<AllocFailed<T>> for Refusal {
-    ghost from_gives = { λ _ r. r ≡ NoMemory };
+    ghost from_gives = { λ _ r. r ≡ refusal.NoMemory };
 
     fn from(_failed: AllocFailed<T>) -> Refusal {
         Refusal::NoMemory

@@ -14,7 +14,7 @@ ghost use Rattle.seam_accept.specs.Refines.{Refines, LineAccepted, LineRefused, 
 
 use crate::answers::{Accepted, Refusal};
 use crate::command::{CallWords, Command, CreateWords, Form, read_line};
-use crate::entity::Entity;
+use crate::entity::{Entity, keep_last};
 use crate::judging::{Sent, judge_call, judge_create};
 use seam_call::{Batch, Call, Create, Order};
 use seam_defs::{Listed, Part};
@@ -151,9 +151,7 @@ impl Book {
     {
         self.orders.reserve(1)?;
         let Sent { node, call } = sent;
-        if let Some(called) = self.entities.get_mut(&call.entity) {
-            called.keep_last(call.part, node, call.number);
-        }
+        keep_last(&mut self.entities, node, &call);
         self.orders
             .push_reserved((MOST_CELLS as u8 + node.place() as u8, order(call)));
         Ok(())

@@ -1,12 +1,13 @@
 // What is kept of an entity.
 ghost use Rattle.std.specs.Prelude.{◌≡◌, ◌+◌, ◌-◌, ◌<◌, ℕ, IfOk, length, slice_index};
 ghost use Rattle.seam_defs.specs.declared.flags.Part.{Part as Parts};
-ghost use Rattle.seam_accept.specs.Entities.{last_of, with_last};
+ghost use Rattle.seam_accept.specs.Entities.{last_of, with_last, KeepsLast};
 
 use crate::count::next_count;
-use seam_call::BaseNode;
+use seam_call::{BaseNode, Call};
 use seam_defs::{MOST_BASE_NODES, Part};
 use std::alloc::AllocError;
+use std::collections::BTreeMap;
 
 /// An entity: its type, and for each part and base node the number of the last call, 0 where there was none.
 #[derive(Drop)]
@@ -49,4 +50,14 @@ impl Entity {
             Part::Base => self.base[node.place()] = number,
         }
     }
+}
+
+/// Keeps the number of a call as that of its base node's last one.
+pub fn keep_last(entities: &mut BTreeMap<u32, Entity>, node: BaseNode, call: &Call)
+    ensures { KeepsLast entities.old.entries entities.new.entries node call.now }
+{
+    let Some(called) = entities.get_mut(&call.entity) else {
+        return;
+    };
+    called.keep_last(call.part, node, call.number);
 }

@@ -84,6 +84,7 @@ pub fn judge_call(
     let Some(called) = entities.get(&entity) else {
         return Err(Refusal::Cause(Cause::Dead));
     };
+    header.defs.known();
     let t = header.defs.type_at(called.ty);
     let deed = deed_named(alloc, header, t, &words.deed)?;
     let part = part_of(t, &deed);
