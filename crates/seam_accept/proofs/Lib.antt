@@ -6,3 +6,4 @@ mod ArgLemmas
 mod CallLemmas
 mod Books
 mod Keeping
+mod Lines
