@@ -1,2 +1,9 @@
-pub mod CommandLemmas
 mod NamingLemmas
+mod CommandLemmas
+mod Causes
+mod CreateLemmas
+mod ArgLemmas
+mod CallLemmas
+mod Books
+mod Keeping
+mod Lines

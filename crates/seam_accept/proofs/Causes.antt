@@ -1,0 +1,50 @@
+-- Which causes may hold against a command of each kind: what is so of each of these is so of every one that holds.
+use Rattle.std.proofs.Common.{ℕ, List}
+use Rattle.seam_transcript.specs.Language.{Create, Call, Move}
+use Rattle.seam_transcript.specs.declared.header.Header.{Header}
+use Rattle.seam_transcript.specs.Book.{Book, HoldsAgainst}
+use Rattle.seam_transcript.specs.declared.verdict.Cause.{Cause}
+use Rattle.seam_transcript.specs.declared.verdict.Cause.TheVariants as cause
+
+-- against a `create`
+pub against_create : (h : Header) (b : Book) (e n x z : List ℕ) (P : Cause → Type 0)
+    → (HoldsAgainst h b (Create e n x z) cause.BadNumber → P cause.BadNumber)
+    → (HoldsAgainst h b (Create e n x z) cause.Exists → P cause.Exists)
+    → (HoldsAgainst h b (Create e n x z) cause.NoType → P cause.NoType)
+    → (HoldsAgainst h b (Create e n x z) cause.Outside → P cause.Outside)
+    → (HoldsAgainst h b (Create e n x z) cause.Full → P cause.Full)
+    → (k : Cause) → HoldsAgainst h b (Create e n x z) k → P k
+against_create h b e n x z P number exists type_ outside full cause.BadNumber holds = number holds
+against_create h b e n x z P number exists type_ outside full cause.Exists holds = exists holds
+against_create h b e n x z P number exists type_ outside full cause.NoType holds = type_ holds
+against_create h b e n x z P number exists type_ outside full cause.Outside holds = outside holds
+against_create h b e n x z P number exists type_ outside full cause.Full holds = full holds
+against_create h b e n x z P number exists type_ outside full k holds = absurd holds
+
+-- against a `call`
+pub against_call : (h : Header) (b : Book) (s e n : List ℕ) (a : List (List ℕ)) (P : Cause → Type 0)
+    → (HoldsAgainst h b (Call s e n a) cause.BadNumber → P cause.BadNumber)
+    → (HoldsAgainst h b (Call s e n a) cause.NoSender → P cause.NoSender)
+    → (HoldsAgainst h b (Call s e n a) cause.Dead → P cause.Dead)
+    → (HoldsAgainst h b (Call s e n a) cause.UnknownMethod → P cause.UnknownMethod)
+    → (HoldsAgainst h b (Call s e n a) cause.IllTyped → P cause.IllTyped)
+    → (k : Cause) → HoldsAgainst h b (Call s e n a) k → P k
+against_call h b s e n a P number sender dead unknown ill cause.BadNumber holds = number holds
+against_call h b s e n a P number sender dead unknown ill cause.NoSender holds = sender holds
+against_call h b s e n a P number sender dead unknown ill cause.Dead holds = dead holds
+against_call h b s e n a P number sender dead unknown ill cause.UnknownMethod holds = unknown holds
+against_call h b s e n a P number sender dead unknown ill cause.IllTyped holds = ill holds
+against_call h b s e n a P number sender dead unknown ill k holds = absurd holds
+
+-- against a `move`
+pub against_move : (h : Header) (b : Book) (s e x z : List ℕ) (P : Cause → Type 0)
+    → (HoldsAgainst h b (Move s e x z) cause.BadNumber → P cause.BadNumber)
+    → (HoldsAgainst h b (Move s e x z) cause.NoSender → P cause.NoSender)
+    → (HoldsAgainst h b (Move s e x z) cause.Dead → P cause.Dead)
+    → (HoldsAgainst h b (Move s e x z) cause.IllTyped → P cause.IllTyped)
+    → (k : Cause) → HoldsAgainst h b (Move s e x z) k → P k
+against_move h b s e x z P number sender dead ill cause.BadNumber holds = number holds
+against_move h b s e x z P number sender dead ill cause.NoSender holds = sender holds
+against_move h b s e x z P number sender dead ill cause.Dead holds = dead holds
+against_move h b s e x z P number sender dead ill cause.IllTyped holds = ill holds
+against_move h b s e x z P number sender dead ill k holds = absurd holds

@@ -1,0 +1,27 @@
+use Rattle.std.proofs.Common.{◌≡◌, ◌+◌, List, [], ◌∷◌, ◌++◌, refl, sym, ◌∙◌, ap, subst, Option}
+use Rattle.std.specs.Prelude.{is_some, if◌then◌else◌}
+use Rattle.std.specs.BTreeMap.{btree_map_len}
+use Rattle.seam_call.specs.declared.create.Create.{Create}
+use Rattle.seam_accept.specs.BookView.{BookView}
+use Rattle.seam_accept.specs.Entities.{entity_at}
+use Rattle.seam_accept.specs.Refines.{Refines}
+use Rattle.seam_accept.specs.declared.entity.Entity.{Entity}
+use Rattle.seam_accept.proofs.CreateLemmas.{new_in_book}
+use Rattle.seam_accept.proofs.Keeping.{apart, create_kept}
+use Rattle.seam_accept.proofs.book.Book.keep_create.Goals as goal
+
+pub returns-clause-kept : goal.returns-clause-kept
+returns-clause-kept c = λ h b was.
+    let put = c.in_ok-insert.ensures in
+    let absent = ap (λ (x : BookView). entity_at x.entities c.args.create.entity) c.self.view_is ∙ c.requires in
+    create_kept h b _ _ c.args.create c.new.result (subst (Refines h b) (sym c.self.view_is) was)
+    (new_in_book b c.args.self.now.entities c.args.create.entity was.entities c.requires)
+    (record { ty = c.new.ensures.ty; nodes = c.new.ensures.nodes; last = c.new.ensures.last }) refl refl
+    (record {
+      count =
+          put.len
+          ∙ ap (λ (o : Option Entity). btree_map_len c.self.inside.entities + (if is_some o then 0 else 1)) (put.old ∙ absent);
+      here = put.updates.1;
+      others = λ other ne. put.updates.2 other (apart c.args.create.entity other ne);
+    })
+    (c.push_reserved.ensures.items ∙ ap (λ (cs : List Create). cs ++ c.args.create ∷ []) c.reserve.ensures.items) refl
