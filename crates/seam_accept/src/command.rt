@@ -1,11 +1,12 @@
 // The command that a line spells.
-ghost use Rattle.std.specs.Prelude.{◌≡◌, ◌≢◌, ◌≤◌, ◌↔◌, ◌∷◌, ℕ, IsTrue, IfErr, IfOk, List, length, codes, MatchOption};
+ghost use Rattle.std.specs.Prelude.{◌≡◌, ◌≢◌, ◌≤◌, ◌↔◌, ◌∷◌, IsTrue, IfErr, IfOk, length, codes, Contains, MatchOption};
 ghost use Rattle.seam_io.specs.Lines.{Content};
-ghost use Rattle.seam_transcript.specs.Language.{IsSkipped, words_of, SpellsCommand, Command as Commands};
+ghost use Rattle.seam_transcript.specs.Language.{IsSkipped, words_of, command_names, NamesCommand};
+ghost use Rattle.seam_transcript.specs.Language.{SpellsCommand, Command as Commands};
 ghost use Rattle.seam_transcript.specs.Book.{Book, Judges};
 ghost use Rattle.seam_transcript.specs.declared.header.Header.{Header};
 ghost use Rattle.seam_transcript.specs.declared.verdict.Verdict.TheVariants.{Refused};
-ghost use Rattle.seam_accept.specs.Commands.{texts_of, command_of};
+ghost use Rattle.seam_accept.specs.Commands.{texts_of, command_of, IsFaultOfWords};
 
 use seam_io::LONGEST_LINE;
 use seam_transcript::Cause;
@@ -17,17 +18,36 @@ use std::marker::Model;
 pub struct CreateWords<'a> {
     pub entity: &'a [u8],
     pub type_name: &'a [u8],
+    pub place: PlaceWords<'a>,
+}
+
+/// The words of a method with arguments.
+#[derive(Clone, Copy)]
+pub struct MethodWords<'a, 'b> {
+    pub name: &'a [u8],
+    pub arguments: &'b [&'a [u8]],
+}
+
+/// The words of a position.
+#[derive(Clone, Copy)]
+pub struct PlaceWords<'a> {
     pub x: &'a [u8],
     pub z: &'a [u8],
 }
 
-/// The words of a `call`: a sender calls a method of an entity with arguments.
+/// What a sender asks of an entity: a method, or a move.
+#[derive(Clone, Copy)]
+pub enum DeedWords<'a, 'b> {
+    Method(MethodWords<'a, 'b>),
+    Move(PlaceWords<'a>),
+}
+
+/// The words of a `call` or a `move`: a sender, an entity, and what is asked of it.
 #[derive(Clone, Copy)]
 pub struct CallWords<'a, 'b> {
     pub sender_name: &'a [u8],
     pub entity: &'a [u8],
-    pub method_name: &'a [u8],
-    pub arguments: &'b [&'a [u8]],
+    pub deed: DeedWords<'a, 'b>,
 }
 
 /// What kind of command it is, and its words.
@@ -84,10 +104,38 @@ pub fn read_line<'a, 'b>(
     match words_of_line(line, table) {
         Ok(words) => match read_words(words) {
             Some(command) => Ok(Some(command)),
-            None => Err(Cause::NoCommand),
+            None => Err(fault_of_words(words)),
         },
         Err(error) => Err(Cause::BadWords(error)),
     }
+}
+
+// Why words spell no command.
+fn fault_of_words(words: &[&[u8]]) -> Cause
+    requires { (c : Commands) → texts_of words.now ≢ words_of c }
+    ensures { IsFaultOfWords (texts_of words.now) result }
+{
+    if begin_with_name(words) {
+        Cause::WrongCount
+    } else {
+        Cause::NoCommand
+    }
+}
+
+// Whether the first of the words is that of a command.
+fn begin_with_name(words: &[&[u8]]) -> bool
+    ensures { IsTrue result ↔ NamesCommand (texts_of words.now) }
+{
+    match words {
+        [first, ..] => is_command_name(first),
+        [] => false,
+    }
+}
+
+fn is_command_name(word: &[u8]) -> bool
+    ensures { IsTrue result ↔ Contains command_names word.now }
+{
+    matches!(word, b"create" | b"call" | b"move" | b"sync")
 }
 
 // Whether the line has no other bytes than spaces and tabs, or begins with `#` after them.
@@ -124,6 +172,8 @@ fn read_command<'a, 'b>(first: &[u8], rest: &'b [&'a [u8]]) -> Option<Command<'a
         read_create(rest)
     } else if first == b"call".as_slice() {
         read_call(rest)
+    } else if first == b"move".as_slice() {
+        read_move(rest)
     } else {
         None
     }
@@ -151,8 +201,7 @@ fn read_create<'a, 'b>(words: &'b [&'a [u8]]) -> Option<Command<'a, 'b>>
         [entity, type_name, x, z] => Some(Command::of(Form::Create(CreateWords {
             entity,
             type_name,
-            x,
-            z,
+            place: PlaceWords { x, z },
         }))),
         _ => None,
     }
@@ -165,14 +214,29 @@ fn read_call<'a, 'b>(words: &'b [&'a [u8]]) -> Option<Command<'a, 'b>>
         (λ c. codes "call" ∷ texts_of words.now ≡ words_of c) }
 {
     match words {
-        [sender_name, entity, method_name, arguments @ ..] => {
+        [sender_name, entity, name, arguments @ ..] => {
             Some(Command::of(Form::Call(CallWords {
                 sender_name,
                 entity,
-                method_name,
-                arguments,
+                deed: DeedWords::Method(MethodWords { name, arguments }),
             })))
         }
+        _ => None,
+    }
+}
+
+// The words after `move`.
+fn read_move<'a, 'b>(words: &'b [&'a [u8]]) -> Option<Command<'a, 'b>>
+    ensures { MatchOption result
+        ((c : Commands) → codes "move" ∷ texts_of words.now ≢ words_of c)
+        (λ c. codes "move" ∷ texts_of words.now ≡ words_of c) }
+{
+    match words {
+        [sender_name, entity, x, z] => Some(Command::of(Form::Call(CallWords {
+            sender_name,
+            entity,
+            deed: DeedWords::Move(PlaceWords { x, z }),
+        }))),
         _ => None,
     }
 }

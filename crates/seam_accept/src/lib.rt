@@ -1,16 +1,18 @@
-//! Reads lines of a script, and finds what their words name, by the language of `seam_transcript`. Nothing here takes memory
-//! but the arguments of a call.
-//!
-//! Of `proofs/`, `CommandLemmas` is for callers.
+//! Reads the lines of a script, one after another: the book of what was accepted judges each by the definition *the book* of
+//! `seam_transcript`, and gives what a round brings as a batch for the core.
 #![tactic(auto)]
 
+mod answers;
+mod book;
 mod command;
+mod count;
+mod deeds;
+mod entity;
 mod header;
+mod judging;
 mod naming;
 
-pub use command::{CallWords, Command, CreateWords, Form, read_line};
+pub use answers::{Accepted, Refusal};
+pub use book::Book;
+pub use count::next_count;
 pub use header::{is_separator, standard_header};
-pub use naming::{base_named, create_named, deed_named, type_named};
-
-#[cfg(test)]
-mod tests;

@@ -1,0 +1,99 @@
+// The deeds that words ask of an entity.
+ghost use Rattle.std.specs.Prelude.{◌≡◌, ◌≢◌, ◌<◌, ℕ, List, IfOk, IfErr, length};
+ghost use Rattle.seam_value.specs.Values.{Fits, text_of};
+ghost use Rattle.seam_value.specs.declared.values.Value.{Value as Values};
+ghost use Rattle.seam_defs.specs.Types.{IsType, method_of};
+ghost use Rattle.seam_defs.specs.Deeds.{part_of_deed};
+ghost use Rattle.seam_transcript.specs.Book.{SpellsArgs};
+ghost use Rattle.seam_accept.specs.Commands.{texts_of};
+ghost use Rattle.seam_accept.specs.Judging.{Asks, NoDeed, IsIllTyped};
+
+use crate::answers::Refusal;
+use crate::command::{DeedWords, MethodWords};
+use crate::naming::{method_named, position_named};
+use seam_defs::{Args, Deed, Method, Part, TypeDef};
+use seam_transcript::{Cause, Header};
+use seam_value::{Value, ValueError, ValueType};
+use std::alloc::Global;
+
+/// The deed that words ask of an entity of a type.
+pub fn deed_named(
+    alloc: Global,
+    header: &Header,
+    t: &TypeDef,
+    words: &DeedWords,
+) -> Result<Deed, Refusal>
+    requires { IsType t.now }
+    ensures deed { IfOk result (Asks header.now words.now t.now) }
+    ensures none { IfErr result (NoDeed header.now words.now t.now) }
+{
+    match words {
+        DeedWords::Method(words) => method_deed(alloc, header, t, words),
+        DeedWords::Move(words) => match position_named(header, words) {
+            Some(to) => Ok(Deed::Move(to)),
+            None => Err(Refusal::Cause(Cause::IllTyped)),
+        },
+    }
+}
+
+// A method of the type, with its arguments.
+fn method_deed(
+    alloc: Global,
+    header: &Header,
+    t: &TypeDef,
+    words: &MethodWords,
+) -> Result<Deed, Refusal>
+    requires { IsType t.now }
+    ensures deed { IfOk result (Asks header.now (DeedWords.Method words.now) t.now) }
+    ensures none { IfErr result (NoDeed header.now (DeedWords.Method words.now) t.now) }
+{
+    let Some(number) = method_named(t, words.name) else {
+        return Err(Refusal::Cause(Cause::UnknownMethod));
+    };
+    let Some(method) = t.method(number) else {
+        unreachable!()
+    };
+    let args = args_named(alloc, method, words.arguments)?;
+    Ok(Deed::Method(number, args))
+}
+
+// The arguments that a method takes, by their words.
+fn args_named(alloc: Global, method: &Method, arguments: &[&[u8]]) -> Result<Args, Refusal>
+    ensures args { IfOk result (SpellsArgs method.now (texts_of arguments.now)) }
+    ensures none { IfErr result (IsIllTyped ((args : List Values) → ¬ (SpellsArgs method.now (texts_of arguments.now) args))) }
+{
+    let types = method.args.as_slice();
+    if arguments.len() != types.len() {
+        return Err(Refusal::Cause(Cause::IllTyped));
+    }
+    let mut values = Vec::with_capacity(alloc, types.len())?;
+    for (i, argument) in arguments.iter().enumerate() {
+        values.push(value_named(alloc, argument, types[i])?)?;
+    }
+    Ok(Args::of(values))
+}
+
+// The value of a type that a word spells.
+fn value_named(alloc: Global, word: &[u8], t: ValueType) -> Result<Value, Refusal>
+    ensures value { IfOk result (λ v. Fits v t × (text_of v ≡ word.now)) }
+    ensures none { IfErr result (IsIllTyped ((v : Values) → Fits v t → text_of v ≢ word.now)) }
+{
+    match Value::parse(alloc, word, t) {
+        Ok(value) => Ok(value),
+        Err(ValueError::NoMemory) => Err(Refusal::NoMemory),
+        Err(_) => Err(Refusal::Cause(Cause::IllTyped)),
+    }
+}
+
+/// The part of an entity that a deed is for.
+pub fn part_of(t: &TypeDef, deed: &Deed) -> Part
+    ensures { result ≡ part_of_deed t.now deed.now }
+{
+    match deed {
+        Deed::Move(_) => Part::Cell,
+        Deed::Method(number, _) => match t.method(*number) {
+            Some(method) => method.part,
+            None => Part::Cell,
+        },
+    }
+}
