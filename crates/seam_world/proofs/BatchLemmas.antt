@@ -1,5 +1,5 @@
 -- The batch of a book's round, for the flat table.
-use Rattle.std.proofs.Common.{◌≡◌, ℕ, true, false, List, [], ◌∷◌, map, refl, sym, ap, ◌∙◌}
+use Rattle.std.proofs.Common.{◌≡◌, ℕ, Bool, true, List, [], ◌∷◌, map, refl, sym, ap, ◌∙◌, arith}
 use Rattle.std.specs.Prelude.{cond}
 use Rattle.seam_defs.specs.declared.flags.Part.{Part}
 use Rattle.seam_defs.specs.declared.flags.Part.TheVariants as part
@@ -17,10 +17,6 @@ use Rattle.seam_accept.specs.BookView.{BookView}
 use Rattle.seam_accept.specs.Refines.{Refines}
 use Rattle.seam_flat.specs.Tables.{CallsTheMade}
 use Rattle.seam_flat.specs.Batches.{call_of, calls_of_orders, Brings}
-
-call_of_part : (p : Part) (c : Call) (rest : List Call) → calls_of_orders ((node_of c.sender, passes_to p c) ∷ []) ≡ c ∷ []
-call_of_part part.Cell c rest = refl
-call_of_part part.Base c rest = refl
 
 calls_passed : (calls : List Call) → calls_of_orders (map order_of calls) ≡ calls
 calls_passed [] = refl

@@ -1,0 +1,34 @@
+use Rattle.std.proofs.Common.{◌≡◌, [], sym, ◌∙◌, ap, subst, append-nil}
+use Rattle.std.proofs.lemmas.Result.{on_ok_weaker}
+use Rattle.seam_transcript.specs.Standing.{with_book}
+use Rattle.seam_transcript.specs.Book.{with_entry}
+use Rattle.seam_world.specs.Script.{HasAccepted}
+use Rattle.seam_accept.specs.declared.answers.Accepted.{Accepted}
+use Rattle.seam_world.proofs.ScriptLemmas.{synced, sync_ready, kept_ready, kept_last, kept_open}
+use Rattle.seam_world.proofs.script.Script.follow.Goals as goal
+
+pub returns-then-count-eq-MOST_LINES : goal.returns-then-count-eq-MOST_LINES
+returns-then-count-eq-MOST_LINES c = on_ok_weaker c.end_round.result
+    (λ ends h t line accepted.
+    let was = subst (λ (a : Accepted). HasAccepted h t line a c.args.self.now) c.in-Kept.is accepted in
+    let e = ends h (with_book t (with_entry t.book was.answered.0)) (kept_ready h t line c.args.self.now was) in
+    let full = sym (c.count.ensures h (with_entry t.book was.answered.0) was.answered.2) ∙ c.if-count-eq-MOST_LINES.true in
+    (e.0, kept_last h t line c.args.self.now c.end_round.new.self e.0 was full e.1, e.2))
+    c.end_round.ensures
+
+pub returns-else-count-eq-MOST_LINES : goal.returns-else-count-eq-MOST_LINES
+returns-else-count-eq-MOST_LINES c = λ h t line accepted.
+    let was = subst (λ (a : Accepted). HasAccepted h t line a c.args.self.now) c.in-Kept.is accepted in (
+      [],
+      kept_open h t line c.args.self.now was
+          (λ full. c.if-count-eq-MOST_LINES.false (c.count.ensures h (with_entry t.book was.answered.0) was.answered.2 ∙ full)),
+      sym (append-nil c.args.out.now.items),
+    )
+
+pub returns-in-Synced : goal.returns-in-Synced
+returns-in-Synced c = on_ok_weaker c.end_round-in-Synced.result
+    (λ ends h t line accepted.
+    let was = subst (λ (a : Accepted). HasAccepted h t line a c.args.self.now) c.in-Synced.is accepted in
+    let e = ends h t (sync_ready h t line c.args.self.now was) in
+    (e.0, synced h t line c.args.self.now c.end_round-in-Synced.new.self e.0 was e.1, e.2))
+    c.end_round-in-Synced.ensures
