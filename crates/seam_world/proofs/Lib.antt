@@ -1,11 +1,4 @@
-mod Writing
-mod Parts
-mod Books
-mod Executing
-mod Creates
-mod Judging
-mod Starts
-mod Rounds
+mod BatchLemmas
 mod ScriptLemmas
 mod Results
 mod TextLemmas

@@ -6,8 +6,8 @@ use Rattle.std.proofs.lemmas.List.Concat.{flat_map-append}
 use Rattle.std.proofs.lemmas.List.Folds.{flat_map-map}
 use Rattle.seam_defs.specs.declared.types.TypeDef.{TypeDef}
 use Rattle.seam_transcript.specs.Texts.{number_text, done_text, home_text, base_text, round_text}
-use Rattle.seam_world.specs.Text.{done_of, home_of, base_of, round_of}
-use Rattle.seam_world.specs.declared.table.Entity.{Entity}
+use Rattle.seam_flat.specs.Rounds.{done_of, home_of, base_of, round_of}
+use Rattle.seam_flat.specs.declared.entity.FlatEntity.{FlatEntity}
 
 -- lists of lists, one after another
 nested : {X Y L : Type 0} (f : Y → List L) (g : X → List Y) (xs : List X) → flat_map f (flat_map g xs) ≡ flat_map (λ x. flat_map f (g x)) xs
@@ -19,7 +19,7 @@ regroup : (f r d o h b e : List ℕ) → f ++ r ++ d ++ o ++ h ++ b ++ e ≡ f +
 regroup f r d o h b e = simp append_assoc
 
 -- the pieces of a round's text, in their order
-pub pieces_of_round : (defs : List TypeDef) (number : ℕ) (xs : List (ℕ × Entity)) (first did dob homes bases out : List ℕ)
+pub pieces_of_round : (defs : List TypeDef) (number : ℕ) (xs : List (ℕ × FlatEntity)) (first did dob homes bases out : List ℕ)
     → did ≡ first ++ number_text (codes "round ") number →
     dob ≡ did ++ flat_map (λ e. flat_map (done_text (codes "did ") defs) (done_of (λ v. v.cell) e)) xs
     → homes ≡ dob ++ flat_map (λ e. flat_map (done_text (codes "dob ") defs) (done_of (λ v. v.base) e)) xs

@@ -1,6 +1,4 @@
 pub mod Status
-pub mod Table
 pub mod Script
-pub mod Text
 pub mod Ends
 pub mod Histories

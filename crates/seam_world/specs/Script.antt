@@ -3,19 +3,23 @@ use Rattle.std.specs.Prelude.{◌≡◌, ℕ, ◌<◌, List}
 use Rattle.seam_io.specs.Lines.{Line}
 use Rattle.seam_transcript.specs.declared.header.Header.{Header}
 use Rattle.seam_transcript.specs.declared.verdict.Verdict.{Verdict}
-use Rattle.seam_transcript.specs.Book.{open_lines}
+use Rattle.seam_transcript.specs.Book.{open_lines, Judges}
 use Rattle.seam_transcript.specs.Standing.{Standing}
 use Rattle.seam_transcript.specs.InOrder.{in_order, after_round}
 use Rattle.seam_transcript.specs.Round.{IsRound, RoundData}
 use Rattle.seam_transcript.specs.Texts.{round_text}
 use Rattle.seam_transcript.specs.Transcript.{Piece, text_of, Follows, Step, EndsInput}
-use Rattle.seam_world.specs.Table.{TableRefines}
+use Rattle.seam_accept.specs.Refines.{Refines as HoldsBook, LineAccepted}
+use Rattle.seam_accept.specs.declared.answers.Accepted.{Accepted}
+use Rattle.seam_flat.specs.Tables.{Refines as HoldsRounds}
+use Rattle.seam_flat.specs.Batches.{before_round}
 use Rattle.seam_world.specs.declared.script.Script.{Script}
 use Rattle.seam_transcript.specs.declared.limits.TheConstants.{MOST_LINES}
 
--- the script's table and counts are those of the standing, but for the accepted lines of the open round
+-- the script is between two lines, or the open round is to end: its book, its table and its counts are those of the standing
 pub record IsReady (h : Header) (t : Standing) (s : Script) : Type 0 where
-  pub table : TableRefines h t.book s.table
+  pub book : HoldsBook h t.book s.book
+  pub table : HoldsRounds h (before_round t.book) s.table
   pub orders : t.orders ≡ in_order t.book.past
   pub line : s.line ≡ t.lines
   pub round : s.round ≡ t.rounds
@@ -23,7 +27,15 @@ pub record IsReady (h : Header) (t : Standing) (s : Script) : Type 0 where
 -- the script refines the standing
 pub record ScriptRefines (h : Header) (t : Standing) (s : Script) : Type 0 where
   pub ready : IsReady h t s
-  pub accepted : s.accepted ≡ open_lines t.book
+  pub below_most : open_lines t.book < MOST_LINES
+
+-- the book has answered a line that the standing has counted, and nothing has followed
+pub record HasAccepted (h : Header) (t : Standing) (line : Line) (answer : Accepted) (s : Script) : Type 0 where
+  pub answered : LineAccepted h t.book line answer s.book
+  pub table : HoldsRounds h (before_round t.book) s.table
+  pub orders : t.orders ≡ in_order t.book.past
+  pub line_ : s.line ≡ t.lines
+  pub round : s.round ≡ t.rounds
   pub below_most : open_lines t.book < MOST_LINES
 
 -- the open round ended with this text
@@ -32,13 +44,14 @@ pub record RoundEnds (h : Header) (t : Standing) (new : Script) (text : List ℕ
   pub legal : IsRound h t round (after_round t)
   pub whole : text ≡ round_text h.defs round
   pub ready : IsReady h (after_round t) new
-  pub accepted : new.accepted ≡ 0
 
--- a verdict was followed, with this text
-pub record VerdictFollowed (h : Header) (t : Standing) (v : Verdict) (new : Script) (text : List ℕ) : Type 0 where
+-- what a line that the standing has counted asks for was done, with this text
+pub record LineFollowed (h : Header) (t : Standing) (line : Line) (new : Script) (text : List ℕ) : Type 0 where
+  pub verdict : Verdict
+  pub judges : Judges h t.book line verdict
   pub pieces : List Piece
   pub next : Standing
-  pub follows : Follows h t v pieces next
+  pub follows : Follows h t verdict pieces next
   pub whole : text ≡ text_of h.defs pieces
   pub refines : ScriptRefines h next new
 

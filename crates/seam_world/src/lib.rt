@@ -1,11 +1,9 @@
 //! The world server: from commands on a source to the printed rounds on a sink.
 #![tactic(auto)]
 
-mod count;
 mod run;
 mod script;
 mod status;
-mod table;
 mod text;
 
 pub use run::run_seamless;

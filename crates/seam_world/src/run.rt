@@ -62,7 +62,10 @@ fn run_body<S: Source, K: Sink>(alloc: Global, input: &mut S, out: &mut K) -> St
         Ok(header) => header,
         Err(status) => return status,
     };
-    let mut script = Script::new(alloc, header, count);
+    let mut script = match Script::new(alloc, header, count) {
+        Ok(script) => script,
+        Err(_) => return Status::NoMemory,
+    };
     let mut text = Vec::new(alloc);
     run_lines(&mut lines, &mut script, &mut text, input, out)
 }

@@ -1,43 +1,43 @@
 // A script, line by line.
-ghost use Rattle.std.specs.Prelude.{◌≡◌, ◌<◌, ◌≤◌, ◌^◌, ◌++◌, List, ℕ, length, OnOk, IfOk};
+ghost use Rattle.std.specs.Prelude.{◌≡◌, ◌≤◌, ◌++◌, List, ℕ, length, OnOk, IfOk};
 ghost use Rattle.seam_io.specs.Lines.{Line as Lines, Content, Long};
+ghost use Rattle.seam_defs.specs.Settings.{AreInRange};
 ghost use Rattle.seam_transcript.specs.declared.header.Header.{Header as Headers};
-ghost use Rattle.seam_transcript.specs.Book.{Judges};
 ghost use Rattle.seam_transcript.specs.Standing.{Standing, after_header};
-ghost use Rattle.seam_world.specs.Script.{IsReady, ScriptRefines, RoundEnds, VerdictFollowed, LineRead, InputEnded};
+ghost use Rattle.seam_world.specs.Script.{IsReady, ScriptRefines, HasAccepted, RoundEnds, LineFollowed, LineRead, InputEnded};
 
-use crate::count::next_count;
-use crate::table::Table;
 use crate::text::push_round;
-use seam_accept::read_line;
+use seam_accept::{Accepted, Book, Refusal, next_count};
+use seam_flat::FlatTable;
 use seam_io::LONGEST_LINE;
 use seam_report::push_refusal;
-use seam_transcript::{Cause, Header, MOST_LINES, Verdict};
-use seam_words::MOST_WORDS;
+use seam_transcript::{Cause, Header, MOST_LINES};
 use std::alloc::{AllocError, Global};
 
-/// How far a script was read: the world, and the counts of its lines and rounds.
+/// How far a script was read: the book of what was accepted, the world as the last round left it, and the counts of lines and
+/// rounds.
 #[derive(Drop)]
 pub struct Script {
-    table: Table,
+    book: Book,
+    table: FlatTable,
     // the number of the last line
     line: u64,
-    // the number of the last round that ended, and how many lines were accepted since
+    // the number of the last round that ended
     round: u64,
-    accepted: usize,
 }
 
 impl Script {
     /// A script after a header of so many lines.
-    pub fn new(alloc: Global, header: Header, lines: u64) -> Self
-        ensures { ScriptRefines header (after_header lines) result }
+    pub fn new(alloc: Global, header: Header, lines: u64) -> Result<Self, AllocError>
+        requires { AreInRange header.settings }
+        ensures { IfOk result (ScriptRefines header (after_header lines)) }
     {
-        Script {
-            table: Table::new(alloc, header),
+        Ok(Script {
+            book: Book::new(alloc, &header)?,
+            table: FlatTable::new(alloc, header),
             line: lines,
             round: 0,
-            accepted: 0,
-        }
+        })
     }
 
     /// Reads the next line, and appends what is printed for it.
@@ -47,23 +47,10 @@ impl Script {
             → (text : List ℕ) × LineRead h t (Content line.now) self.new text × (out.new.items ≡ out.old.items ++ text)) }
     {
         self.line = next_count(self.line)?;
-        let verdict = self.verdict_on(line)?;
-        self.follow(verdict, out)
-    }
-
-    // The verdict on a line.
-    fn verdict_on(&self, line: &[u8]) -> Result<Verdict, AllocError>
-        requires { length line.now ≤ LONGEST_LINE }
-        ensures { IfOk result (λ v. (h : Headers) (t : Standing) → ScriptRefines h t self.now
-            → Judges h t.book (Content line.now) v) }
-    {
-        let mut table: [&[u8]; MOST_WORDS] = [b""; MOST_WORDS];
-        match read_line(line, &mut table) {
-            Ok(read) => match read {
-                Some(command) => self.table.judge(&command),
-                None => Ok(Verdict::Skipped),
-            },
-            Err(cause) => Ok(Verdict::Refused(cause)),
+        match self.book.accept(line) {
+            Ok(accepted) => self.follow(accepted, out),
+            Err(Refusal::Cause(cause)) => push_refusal(out, self.line, cause),
+            Err(Refusal::NoMemory) => Err(AllocError),
         }
     }
 
@@ -73,26 +60,23 @@ impl Script {
             → (text : List ℕ) × LineRead h t Long self.new text × (out.new.items ≡ out.old.items ++ text)) }
     {
         self.line = next_count(self.line)?;
-        self.follow(Verdict::Refused(Cause::TooLong), out)
+        push_refusal(out, self.line, Cause::TooLong)
     }
 
-    // Does what a verdict on a line asks for, and appends what is printed.
-    fn follow(&mut self, verdict: Verdict, out: &mut Vec<u8>) -> Result<(), AllocError>
-        ensures { OnOk result ((h : Headers) (t : Standing) (line : Lines) → ScriptRefines h t self.old → Judges h t.book line verdict
-            → (text : List ℕ) × VerdictFollowed h t verdict self.new text × (out.new.items ≡ out.old.items ++ text)) }
+    // Does what a line asks for that the book accepted or skipped, and appends what is printed.
+    fn follow(&mut self, accepted: Accepted, out: &mut Vec<u8>) -> Result<(), AllocError>
+        ensures { OnOk result ((h : Headers) (t : Standing) (line : Lines) → HasAccepted h t line accepted self.old
+            → (text : List ℕ) × LineFollowed h t line self.new text × (out.new.items ≡ out.old.items ++ text)) }
     {
-        match verdict {
-            Verdict::Skipped => Ok(()),
-            Verdict::Refused(cause) => push_refusal(out, self.line, cause),
-            Verdict::Accepted(entry) => {
-                self.table.accept(entry)?;
-                if self.accepted >= MOST_LINES - 1 {
+        match accepted {
+            Accepted::Skipped => Ok(()),
+            Accepted::Kept => {
+                if self.book.count() == MOST_LINES {
                     return self.end_round(out);
                 }
-                self.accepted += 1;
                 Ok(())
             }
-            Verdict::Synced => self.end_round(out),
+            Accepted::Synced => self.end_round(out),
         }
     }
 
@@ -102,9 +86,9 @@ impl Script {
             → (text : List ℕ) × RoundEnds h t self.new text × (out.new.items ≡ out.old.items ++ text)) }
     {
         self.round = next_count(self.round)?;
+        self.table.run(self.book.take_batch())?;
         push_round(out, self.round, &self.table)?;
         self.table.start_round();
-        self.accepted = 0;
         Ok(())
     }
 
@@ -113,7 +97,7 @@ impl Script {
         ensures { OnOk result ((h : Headers) (t : Standing) → ScriptRefines h t self.old
             → (text : List ℕ) × InputEnded h t text × (out.new.items ≡ out.old.items ++ text)) }
     {
-        if self.accepted == 0 {
+        if self.book.count() == 0 {
             return Ok(());
         }
         self.end_round(out)

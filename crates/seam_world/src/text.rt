@@ -2,11 +2,11 @@
 ghost use Rattle.std.specs.Prelude.{◌≡◌, ◌++◌, ℕ, List, OnOk, map, codes};
 ghost use Rattle.std.specs.List.{flat_map};
 ghost use Rattle.seam_transcript.specs.Texts.{done_text, home_text, base_text, round_text};
-ghost use Rattle.seam_world.specs.Text.{done_of, home_of, base_of, round_of};
+ghost use Rattle.seam_flat.specs.Rounds.{done_of, home_of, base_of, round_of};
 
-use crate::table::{Entity, Table};
 use seam_call::Call;
 use seam_defs::Defs;
+use seam_flat::{FlatEntity, FlatTable};
 use seam_report::{
     BaseLine, DoneLine, HomeLine, push_base, push_done, push_home, push_number_line,
 };
@@ -14,7 +14,7 @@ use std::alloc::AllocError;
 use std::collections::BTreeMap;
 
 /// Appends the text of a round: the executed calls, the homes and the base parts, each in rising entity number.
-pub fn push_round(out: &mut Vec<u8>, round: u64, table: &Table) -> Result<(), AllocError>
+pub fn push_round(out: &mut Vec<u8>, round: u64, table: &FlatTable) -> Result<(), AllocError>
     ensures { OnOk result (out.new.items ≡ out.old.items ++ round_text table.now.header.defs (round_of round table.now.entities.entries)) }
 {
     let defs = table.defs();
@@ -30,7 +30,7 @@ pub fn push_round(out: &mut Vec<u8>, round: u64, table: &Table) -> Result<(), Al
 fn push_all_did(
     out: &mut Vec<u8>,
     defs: &Defs,
-    entities: &BTreeMap<u32, Entity>,
+    entities: &BTreeMap<u32, FlatEntity>,
 ) -> Result<(), AllocError>
     ensures { OnOk result (out.new.items ≡ out.old.items
         ++ flat_map (λ e. flat_map (done_text (codes "did ") defs.now) (done_of (λ v. v.cell) e)) entities.now.entries) }
@@ -44,7 +44,7 @@ fn push_all_did(
 fn push_all_dob(
     out: &mut Vec<u8>,
     defs: &Defs,
-    entities: &BTreeMap<u32, Entity>,
+    entities: &BTreeMap<u32, FlatEntity>,
 ) -> Result<(), AllocError>
     ensures { OnOk result (out.new.items ≡ out.old.items
         ++ flat_map (λ e. flat_map (done_text (codes "dob ") defs.now) (done_of (λ v. v.base) e)) entities.now.entries) }
@@ -75,7 +75,7 @@ fn push_calls(
 fn push_homes(
     out: &mut Vec<u8>,
     defs: &Defs,
-    entities: &BTreeMap<u32, Entity>,
+    entities: &BTreeMap<u32, FlatEntity>,
 ) -> Result<(), AllocError>
     ensures { OnOk result (out.new.items ≡ out.old.items ++ flat_map (λ e. home_text defs.now (home_of e)) entities.now.entries) }
 {
@@ -95,7 +95,7 @@ fn push_homes(
 fn push_bases(
     out: &mut Vec<u8>,
     defs: &Defs,
-    entities: &BTreeMap<u32, Entity>,
+    entities: &BTreeMap<u32, FlatEntity>,
 ) -> Result<(), AllocError>
     ensures { OnOk result (out.new.items ≡ out.old.items ++ flat_map (λ e. base_text defs.now (base_of e)) entities.now.entries) }
 {

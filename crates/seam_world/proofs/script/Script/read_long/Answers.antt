@@ -1,18 +1,17 @@
 use Rattle.std.proofs.Common.{refl}
+use Rattle.std.proofs.lemmas.Result.{on_ok_weaker}
 use Rattle.seam_io.specs.Lines.{Long}
-use Rattle.seam_transcript.specs.Standing.{with_line}
+use Rattle.seam_transcript.specs.Texts.{refusal}
 use Rattle.seam_transcript.specs.declared.verdict.Cause.TheVariants.{TooLong}
-use Rattle.seam_transcript.specs.declared.verdict.Verdict.TheVariants.{Refused}
 use Rattle.seam_transcript.proofs.Verdicts.{long_is_refused}
-use Rattle.seam_world.proofs.Results.{on_ok}
-use Rattle.seam_world.proofs.ScriptLemmas.{has_counted, line_read}
+use Rattle.seam_world.proofs.ScriptLemmas.{refused}
 use Rattle.seam_world.proofs.script.Script.read_long.Goals as goal
 
 pub returns : goal.returns
-returns c = on_ok c.follow.result
-    (λ followed h t was.
-    let counted = has_counted h t c.args.self.now _ was c.in_ok-self.ensures refl refl refl in
-    let judges = long_is_refused h t.book in
-    let f = followed h (with_line t) Long counted judges in
-    (f.0, line_read h t Long (Refused TooLong) c.follow.new.self f.0 judges f.1, f.2))
-    c.follow.ensures
+returns c = on_ok_weaker c.push_refusal.result
+    (λ text h t was. (
+      refusal c.in_ok-self.field-0 TooLong,
+      refused h t Long TooLong c.args.self.now _ was c.in_ok-self.ensures refl refl refl (long_is_refused h t.book),
+      text,
+    ))
+    c.push_refusal.ensures

@@ -1,0 +1,154 @@
+-- What the table holds after it ran a round's batch.
+use Rattle.std.proofs.Common.{◌≡◌, ◌<◌, ◌+◌, ℕ, List, [], ◌∷◌, ◌++◌, map, length, take, get_or, refl, sym, ◌∙◌, ap, subst, append_assoc}
+use Rattle.std.proofs.Common.{append-nil, Option, Some, None}
+use Rattle.std.specs.Prelude.{MatchOption, filter, find, ◌==◌}
+use Rattle.std.specs.List.{filter_map}
+use Rattle.std.specs.Ordering.{nat_cmp}
+use Rattle.std.specs.BTreeMap.{get}
+use Rattle.std.proofs.lemmas.List.{map-append}
+use Rattle.std.proofs.lemmas.List.Elements.{filter_map-append}
+use Rattle.seam_defs.specs.declared.flags.Part.{Part}
+use Rattle.seam_defs.specs.declared.flags.Part.TheVariants as part
+use Rattle.seam_call.specs.Calls.{is_for}
+use Rattle.seam_call.specs.declared.call.Call.{Call}
+use Rattle.seam_call.specs.declared.create.Create.{Create}
+use Rattle.seam_call.specs.declared.order.Order.{Order}
+use Rattle.seam_call.specs.declared.order.Order.TheVariants as order
+use Rattle.seam_call.specs.declared.order.Batch.{Batch}
+use Rattle.seam_transcript.specs.declared.header.Header.{Header}
+use Rattle.seam_transcript.specs.Book.{Book, entries, created, called, creates_of, calls_of, created_as, with_entry}
+use Rattle.seam_transcript.specs.InOrder.{in_order}
+use Rattle.seam_transcript.specs.declared.verdict.Entry.{Entry}
+use Rattle.seam_transcript.specs.declared.verdict.Entry.TheVariants as entry
+use Rattle.seam_flat.specs.Tables.{Holds, Refines, CallsTheMade, EntityRefines, PartRefines, TableExecutes}
+use Rattle.seam_flat.specs.Batches.{call_of, calls_of_orders, Brings, before_round, with_creates, with_calls}
+use Rattle.seam_flat.specs.declared.entity.FlatPart.{FlatPart}
+use Rattle.seam_flat.specs.declared.entity.FlatEntity.{FlatEntity}
+use Rattle.seam_flat.specs.declared.table.FlatTable.{FlatTable}
+use Rattle.seam_flat.proofs.Executing.{called_holds}
+
+-- ---- one more create, one more call
+
+with_current : Book → List Entry → Book
+with_current b xs = record b { current = xs }
+
+one_more : {A : Type 0} (f : A → Entry) (xs : List Entry) (ys : List A) (y : A) →
+    (xs ++ map f ys) ++ f y ∷ [] ≡ xs ++ map f (ys ++ y ∷ [])
+one_more f xs ys y = append_assoc xs (map f ys) (f y ∷ []) ∙ ap (λ (zs : List Entry). xs ++ zs) (sym (map-append f ys (y ∷ [])))
+
+pub create_made : (h : Header) (b : Book) (done : List Create) (c : Create) (t : FlatTable) →
+    Refines h (with_entry (with_creates b done) (entry.Created c)) t → Refines h (with_creates b (done ++ c ∷ [])) t
+unfolding with_current
+create_made h b done c t = subst (λ (xs : List Entry). Refines h (with_current b xs) t) (one_more entry.Created b.current done c)
+
+call_followed : (h : Header) (b : Book) (done : List Call) (c : Call) (old new : FlatTable) → Holds h (with_calls b done) old →
+    TableExecutes c old new → Holds h (with_calls b (done ++ c ∷ [])) new
+unfolding with_current
+call_followed h b done c old new was step =
+    subst (λ (xs : List Entry). Holds h (with_current b xs) new) (one_more entry.Called b.current done c)
+    (called_holds h (with_calls b done) old new c was step)
+
+calls_with_order : (done : List (ℕ × Order)) (k : ℕ) (o : Order) →
+    calls_of_orders (done ++ (k, o) ∷ []) ≡ calls_of_orders done ++ calls_of_orders ((k, o) ∷ [])
+calls_with_order done k o = filter_map-append (λ (x : ℕ × Order). call_of x.1) done ((k, o) ∷ [])
+
+pub order_followed : (h : Header) (b : Book) (done : List (ℕ × Order)) (k : ℕ) (o : Order) (old new : FlatTable) →
+    Holds h (with_calls b (calls_of_orders done)) old → MatchOption (call_of o) (new ≡ old) (λ call. TableExecutes call old new)
+    → Holds h (with_calls b (calls_of_orders (done ++ (k, o) ∷ []))) new
+order_followed h b done k o old new was step =
+    subst (λ (calls : List Call). Holds h (with_calls b calls) new) (sym (calls_with_order done k o)) (cases o step)
+  where
+    same : new ≡ old → Holds h (with_calls b (calls_of_orders done ++ [])) new
+    same is =
+        subst (λ (calls : List Call). Holds h (with_calls b calls) new) (sym (append-nil (calls_of_orders done)))
+        (subst (Holds h (with_calls b (calls_of_orders done))) (sym is) was)
+    cases : (o : Order) → MatchOption (call_of o) (new ≡ old) (λ call. TableExecutes call old new) →
+        Holds h (with_calls b (calls_of_orders done ++ calls_of_orders ((k, o) ∷ []))) new
+    cases (order.Cell c) step = call_followed h b (calls_of_orders done) c old new was step
+    cases (order.Base c) step = call_followed h b (calls_of_orders done) c old new was step
+    cases order.Tick is = same is
+    cases (order.Reap e) is = same is
+
+-- ---- two books with the same creates and calls
+
+record AreSame (b d : Book) : Type 0 where
+  creates : creates_of (entries b) ≡ creates_of (entries d)
+  calls : calls_of (entries b) ≡ calls_of (entries d)
+  current : calls_of b.current ≡ calls_of d.current
+
+same_created : (b d : Book) (e : ℕ) → AreSame b d → created_as b e ≡ created_as d e
+same_created b d e same = ap (find (λ (c : Create). c.entity == e)) same.creates
+
+same_part : (h : Header) (b d : Book) (p : Part) (c : Create) (e : ℕ) (s : FlatPart) → AreSame b d →
+    PartRefines h p c (in_order (entries b) p e) (in_order b.current p e) s
+    → PartRefines h p c (in_order (entries d) p e) (in_order d.current p e) s
+same_part h b d p c e s same was =
+    subst (λ (xs : List Call). PartRefines h p c (in_order (entries d) p e) (filter (is_for p e) xs) s) same.current
+    (subst (λ (xs : List Call). PartRefines h p c (filter (is_for p e) xs) (in_order b.current p e) s) same.calls was)
+
+same_holds : (h : Header) (b d : Book) (t : FlatTable) → AreSame b d → Holds h b t → Holds h d t
+same_holds h b d t same was = record {
+  header = was.header;
+  each = λ e. cases e (get nat_cmp t.entities e) (was.each e);
+  ordered = was.ordered;
+}
+  where
+    cases : (e : ℕ) (o : Option FlatEntity) → MatchOption o (created_as b e ≡ None) (EntityRefines h b e) →
+        MatchOption o (created_as d e ≡ None) (EntityRefines h d e)
+    cases e None none = sym (same_created b d e same) ∙ none
+    cases e (Some v) here = record {
+      made = here.made;
+      is = sym (same_created b d e same) ∙ here.is;
+      ty = here.ty;
+      cell = same_part h b d part.Cell here.made e v.cell same here.cell;
+      base = same_part h b d part.Base here.made e v.base same here.base;
+    }
+
+-- ---- the batch of a round
+
+creates_of_creates : (creates : List Create) → creates_of (map entry.Created creates) ≡ creates
+creates_of_creates [] = refl
+creates_of_creates (c ∷ cs) = ap (λ (xs : List Create). c ∷ xs) (creates_of_creates cs)
+
+creates_of_calls : (calls : List Call) → creates_of (map entry.Called calls) ≡ []
+creates_of_calls [] = refl
+creates_of_calls (c ∷ cs) = creates_of_calls cs
+
+calls_of_creates : (creates : List Create) → calls_of (map entry.Created creates) ≡ []
+calls_of_creates [] = refl
+calls_of_creates (c ∷ cs) = calls_of_creates cs
+
+calls_of_calls : (calls : List Call) → calls_of (map entry.Called calls) ≡ calls
+calls_of_calls [] = refl
+calls_of_calls (c ∷ cs) = ap (λ (xs : List Call). c ∷ xs) (calls_of_calls cs)
+
+brought : (b : Book) (creates : List Create) (calls : List Call) → creates ≡ creates_of b.current → calls ≡ calls_of b.current →
+    AreSame (with_calls (with_creates (before_round b) creates) calls) b
+brought b creates calls is is' =
+    let made = map entry.Created creates in
+    let asked = map entry.Called calls in
+    let creates_are : creates_of (made ++ asked) ≡ creates_of b.current =
+    filter_map-append created made asked ∙ ap (λ (xs : List Create). xs ++ creates_of asked) (creates_of_creates creates)
+    ∙ ap (λ (xs : List Create). creates ++ xs) (creates_of_calls calls) ∙ append-nil creates ∙ is in
+    let calls_are : calls_of (made ++ asked) ≡ calls_of b.current =
+    filter_map-append called made asked ∙ ap (λ (xs : List Call). xs ++ calls_of asked) (calls_of_creates creates)
+    ∙ calls_of_calls calls ∙ is' in
+    record {
+      creates =
+          filter_map-append created b.past (made ++ asked) ∙ ap (λ (xs : List Create). creates_of b.past ++ xs) creates_are
+          ∙ sym (filter_map-append created b.past b.current);
+      calls =
+          filter_map-append called b.past (made ++ asked) ∙ ap (λ (xs : List Call). calls_of b.past ++ xs) calls_are
+          ∙ sym (filter_map-append called b.past b.current);
+      current = calls_are;
+    }
+
+-- the table after the batch refines the book
+pub batch_ran : (h : Header) (b : Book) (batch : Batch) (t : FlatTable) → Brings b batch → CallsTheMade b →
+    Holds h (with_calls (with_creates (before_round b) batch.creates) (calls_of_orders batch.orders)) t → Refines h b t
+batch_ran h b batch t brings made holds = record {
+  holds =
+      same_holds h (with_calls (with_creates (before_round b) batch.creates) (calls_of_orders batch.orders)) b t
+      (brought b batch.creates (calls_of_orders batch.orders) brings.creates brings.calls) holds;
+  called = made;
+}

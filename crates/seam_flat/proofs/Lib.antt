@@ -1,0 +1,8 @@
+mod Writing
+mod Parts
+mod Books
+mod Executing
+mod Creates
+mod Starts
+mod Batches
+pub mod TableRounds

@@ -1,0 +1,37 @@
+-- What a round's batch brings, beside the book.
+use Rattle.std.specs.Prelude.{◌≡◌, ℕ, List, [], ◌++◌, map, Option, Some, None}
+use Rattle.std.specs.List.{filter_map}
+use Rattle.seam_call.specs.declared.call.Call.{Call}
+use Rattle.seam_call.specs.declared.create.Create.{Create}
+use Rattle.seam_call.specs.declared.order.Order.{Order}
+use Rattle.seam_call.specs.declared.order.Order.TheVariants as order
+use Rattle.seam_call.specs.declared.order.Batch.{Batch}
+use Rattle.seam_transcript.specs.Book.{Book, creates_of, calls_of}
+use Rattle.seam_transcript.specs.declared.verdict.Entry.TheVariants as entry
+
+-- the call of an order
+abbrev pub call_of : Order → Option Call
+call_of (order.Cell c) = Some c
+call_of (order.Base c) = Some c
+call_of order.Tick = None
+call_of (order.Reap e) = None
+
+-- the calls of orders, each with the number of its node
+abbrev pub calls_of_orders : List (ℕ × Order) → List Call
+calls_of_orders orders = filter_map (λ o. call_of o.1) orders
+
+-- the batch has what was accepted in the open round
+pub record Brings (b : Book) (batch : Batch) : Type 0 where
+  pub creates : batch.creates ≡ creates_of b.current
+  pub calls : calls_of_orders batch.orders ≡ calls_of b.current
+
+-- the book as the open round began
+abbrev pub before_round : Book → Book
+before_round b = record b { current = [] }
+
+-- the book with further creates, or calls
+abbrev pub with_creates : Book → List Create → Book
+with_creates b creates = record b { current = b.current ++ map entry.Created creates }
+
+abbrev pub with_calls : Book → List Call → Book
+with_calls b calls = record b { current = b.current ++ map entry.Called calls }

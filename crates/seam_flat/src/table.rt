@@ -1,0 +1,153 @@
+// The table of all entities.
+ghost use Rattle.std.specs.Prelude.{◌≡◌, ℕ, OnOk, IfOk, MatchOption};
+ghost use Rattle.seam_transcript.specs.declared.header.Header.{Header as Headers};
+ghost use Rattle.seam_transcript.specs.Book.{Book, empty_book, with_entry, with_round_ended};
+ghost use Rattle.seam_transcript.specs.declared.verdict.Entry.TheVariants.{Created, Called};
+ghost use Rattle.seam_transcript.specs.FlatTable.{first_state};
+ghost use Rattle.seam_flat.specs.Tables.{Holds, Refines, CallsTheMade, IsNew, TableExecutes};
+ghost use Rattle.seam_flat.specs.Batches.{before_round, Brings, call_of, calls_of_orders, with_creates, with_calls};
+
+use crate::{FlatEntity, FlatPart};
+use seam_call::{Batch, Call, Create, Order};
+use seam_defs::{Defs, Part, State};
+use seam_transcript::Header;
+use std::alloc::{AllocError, Global};
+use std::collections::BTreeMap;
+
+/// The entities of a world, by their numbers.
+#[derive(Drop)]
+pub struct FlatTable {
+    alloc: Global,
+    header: Header,
+    entities: BTreeMap<u32, FlatEntity>,
+}
+
+impl FlatTable {
+    /// A world without entities.
+    pub fn new(alloc: Global, header: Header) -> Self
+        ensures { Refines header empty_book result }
+    {
+        FlatTable {
+            alloc,
+            header,
+            entities: BTreeMap::new(alloc),
+        }
+    }
+
+    /// The definitions of its types.
+    pub fn defs(&self) -> &Defs
+        ensures { result.now ≡ self.now.header.defs }
+    {
+        &self.header.defs
+    }
+
+    /// The entities, in rising number.
+    pub fn entities(&self) -> &BTreeMap<u32, FlatEntity>
+        ensures { result.now ≡ self.now.entities }
+    {
+        &self.entities
+    }
+
+    /// Begins a round, in which no call was executed yet.
+    pub fn start_round(&mut self)
+        ensures { (h : Headers) (b : Book) → Refines h b self.old → Refines h (with_round_ended b) self.new }
+    {
+        let alloc = self.alloc;
+        // Each stays: of the walks over a map's values this one tells its contract what was written.
+        self.entities.retain(|_, entity| {
+            entity.start_round(alloc);
+            true
+        });
+    }
+
+    /// Makes the entities that a round's batch creates, and then executes its calls, in the order of the batch. If allocation
+    /// fails the table has no use.
+    pub fn run(&mut self, batch: Batch) -> Result<(), AllocError>
+        ensures { OnOk result ((h : Headers) (b : Book) → Refines h (before_round b) self.old → Brings b batch → CallsTheMade b
+            → Refines h b self.new) }
+    {
+        self.make_all(batch.creates.as_slice())?;
+        self.execute_all(batch.orders.into_vec())
+    }
+
+    // Makes entities, one after another.
+    fn make_all(&mut self, creates: &[Create]) -> Result<(), AllocError>
+        ensures { OnOk result ((h : Headers) (b : Book) → Refines h b self.old → Refines h (with_creates b creates.now) self.new) }
+    {
+        for create in creates {
+            self.make(*create)?;
+        }
+        Ok(())
+    }
+
+    // Executes the calls of orders, one after another.
+    fn execute_all(&mut self, orders: Vec<(u8, Order)>) -> Result<(), AllocError>
+        ensures { OnOk result ((h : Headers) (b : Book) → Holds h b self.old
+            → Holds h (with_calls b (calls_of_orders orders.items)) self.new) }
+    {
+        for (_, order) in orders {
+            self.follow(order)?;
+        }
+        Ok(())
+    }
+
+    // Executes the call of an order.
+    fn follow(&mut self, order: Order) -> Result<(), AllocError>
+        ensures { OnOk result (MatchOption (call_of order) (self.new ≡ self.old) (λ call. TableExecutes call self.old self.new)) }
+    {
+        match order {
+            Order::Cell(call) => self.execute(call),
+            Order::Base(call) => self.execute(call),
+            Order::Tick => Ok(()),
+            Order::Reap(_) => Ok(()),
+        }
+    }
+
+    // Makes an entity, unless one of its number is there.
+    fn make(&mut self, create: Create) -> Result<(), AllocError>
+        ensures { OnOk result ((h : Headers) (b : Book) → Refines h b self.old → Refines h (with_entry b (Created create)) self.new) }
+    {
+        if self.entities.contains_key(&create.entity) {
+            return Ok(());
+        }
+        let made = self.new_entity(create)?;
+        self.entities.insert(create.entity, made)?;
+        Ok(())
+    }
+
+    fn new_entity(&self, create: Create) -> Result<FlatEntity, AllocError>
+        ensures { IfOk result (IsNew self.now.header create) }
+    {
+        let cell = self.start_state(create, Part::Cell)?;
+        let base = self.start_state(create, Part::Base)?;
+        Ok(FlatEntity {
+            ty: create.ty,
+            cell: FlatPart::new(self.alloc, cell),
+            base: FlatPart::new(self.alloc, base),
+        })
+    }
+
+    fn start_state(&self, create: Create, part: Part) -> Result<State, AllocError>
+        ensures { IfOk result (λ s. s ≡ first_state self.now.header part create) }
+    {
+        let props = self
+            .header
+            .defs
+            .type_at(create.ty)
+            .start_props(part.held())?;
+        Ok(State {
+            pos: create.pos,
+            props,
+        })
+    }
+
+    // Executes a call of an entity that is there.
+    fn execute(&mut self, call: Call) -> Result<(), AllocError>
+        ensures { OnOk result (TableExecutes call self.old self.new) }
+    {
+        if let Some(entity) = self.entities.get_mut(&call.entity) {
+            entity.execute(&self.header.defs, call)?;
+        }
+        Ok(())
+    }
+}
