@@ -10,4 +10,5 @@ mod ScriptLemmas
 mod Results
 mod TextLemmas
 mod Prefixes
+mod PrintLemmas
 mod RunLemmas

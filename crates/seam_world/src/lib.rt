@@ -2,6 +2,7 @@
 #![tactic(auto)]
 
 mod count;
+mod pending;
 mod run;
 mod script;
 mod status;
