@@ -9,3 +9,5 @@ mod plain;
 mod rows;
 #[cfg(test)]
 mod runs;
+#[cfg(test)]
+mod seen;

@@ -6,3 +6,4 @@ mod Creates
 mod Starts
 mod Batches
 pub mod TableRounds
+pub mod BookBatches

@@ -1,6 +1,6 @@
-mod BatchLemmas
 mod ScriptLemmas
 mod Results
 mod TextLemmas
 mod Prefixes
+mod PrintLemmas
 mod RunLemmas

@@ -1,5 +1,5 @@
 -- What has happened since a run began: the private functions of the top call speak of it.
-use Rattle.std.specs.Prelude.{◌≡◌, ℕ, ◌≤◌, List, [], Option, Some, None, length}
+use Rattle.std.specs.Prelude.{◌≡◌, ℕ, ◌≤◌, List, [], length}
 use Rattle.std.specs.Io.KnownBytes.{Consumes, Appends}
 use Rattle.seam_io.specs.Causes.{Rose}
 use Rattle.seam_io.specs.States.{SourceState, SinkState}
@@ -11,7 +11,8 @@ use Rattle.seam_transcript.specs.Standing.{Standing, after_header}
 use Rattle.seam_transcript.specs.Transcript.{Piece, text_of, Step, Run, IsOpen, IsEnded}
 use Rattle.seam_world.specs.Script.{ScriptRefines}
 use Rattle.seam_world.specs.Status.{IsRunEnd}
-use Rattle.seam_world.specs.Ends.{Tells, IsProperPrefix, most_bytes}
+use Rattle.seam_world.specs.Ends.{Tells, most_bytes}
+use Rattle.seam_world.specs.Printing.{Printed}
 use Rattle.seam_world.specs.declared.script.Script.{Script}
 use Rattle.seam_world.specs.declared.status.Status.{Status}
 use Rattle.seam_world.specs.declared.status.Status.TheVariants as status
@@ -25,8 +26,8 @@ pub record HasHeader (began now : SourceState) (reader : Reader) (h : Header) (c
   pub limit : reader.limit ≡ most_bytes
 
 -- The run goes on: since the source was at `began` and the sink at `sink`, the reader gave a header and the lines `rest`, whose
--- text was written, and the script refines the standing after them.
-pub record Going (began now : SourceState) (reader : Reader) (sink now' : SinkState) (script : Script) : Type 0 where
+-- text was printed and is written but for its end `pending`, and the script refines the standing after them.
+pub record Going (began now : SourceState) (reader : Reader) (sink now' : SinkState) (pending : List ℕ) (script : Script) : Type 0 where
   pub header : Header
   pub count : ℕ
   pub given : List ℕ
@@ -37,8 +38,7 @@ pub record Going (began now : SourceState) (reader : Reader) (sink now' : SinkSt
   pub begins : BeginWithHeader read header count rest
   pub reading : Reading began now reader given read
   pub limit : reader.limit ≡ most_bytes
-  pub writing : Appends sink.written now'.written (text_of header.defs pieces)
-  pub later : sink.faults ≤ now'.faults
+  pub printed : Printed sink now' pending (text_of header.defs pieces)
   pub run : Run (Step header) (after_header count) rest pieces standing
   pub refines : ScriptRefines header standing script
 
@@ -53,16 +53,3 @@ pub record Stopped (ended : Status) (began now : SourceState) (sink now' : SinkS
   pub failed : ended ≡ status.WriteFault → Rose sink.faults now'.faults
   pub allowed : IsRunEnd ended
   pub tells : Tells IsOpen IsEnded ended began now given text
-
--- What a call printed: a text with this property; or nothing where an allocation failed, or a proper prefix of such a text where
--- the sink failed.
-abbrev pub Prints : (List ℕ → Type 0) → SinkState → SinkState → Option Status → Type 0
-Prints P old new None = (text : List ℕ) × P text × Appends old.written new.written text
-Prints P old new (Some status.NoMemory) = Appends old.written new.written []
-Prints P old new (Some status.WriteFault) =
-    (text prefix : List ℕ) × P text × IsProperPrefix prefix text × Appends old.written new.written prefix × Rose old.faults new.faults
-Prints P old new (Some status.Done) = ⊥
-Prints P old new (Some status.Usage) = ⊥
-Prints P old new (Some (status.BadHeader k)) = ⊥
-Prints P old new (Some status.ReadFault) = ⊥
-Prints P old new (Some status.Limit) = ⊥

@@ -1,6 +1,7 @@
 //! The world server: from commands on a source to the printed rounds on a sink.
 #![tactic(auto)]
 
+mod pending;
 mod run;
 mod script;
 mod status;

@@ -1,10 +1,10 @@
 // The run of a script, from the bytes of a source to what is written to a sink.
 ghost use Rattle.std.specs.Prelude.{◌≡◌, ◌≢◌, ◌↔◌, ◌∷◌, ◌<◌, ◌≤◌, ◌^◌, ◌⊎◌, ◌++◌, ◌+◌, [], List, ℕ, Option, MatchOption, MatchResult};
-ghost use Rattle.std.specs.Prelude.{IfNone, length, codes};
+ghost use Rattle.std.specs.Prelude.{IfNone, OnOk, length, codes};
 ghost use Rattle.std.specs.Io.KnownBytes.{Appends};
 ghost use Rattle.seam_io.specs.Causes.{Rose};
 ghost use Rattle.seam_io.specs.States.{SourceState, SinkState};
-ghost use Rattle.seam_io.specs.Lines.{Content, Long};
+ghost use Rattle.seam_io.specs.Lines.{Content, Long, HasNoFeed};
 ghost use Rattle.seam_io.specs.Reading.{Reading, budget};
 ghost use Rattle.seam_transcript.specs.declared.header.Header.{Header as Headers};
 ghost use Rattle.seam_transcript.specs.Header.{no_end, too_long};
@@ -13,12 +13,14 @@ ghost use Rattle.seam_transcript.specs.Transcript.{IsOpen, IsEnded};
 ghost use Rattle.seam_world.specs.Status.{IsRunEnd};
 ghost use Rattle.seam_world.specs.Script.{ScriptRefines, LineRead, InputEnded};
 ghost use Rattle.seam_world.specs.Ends.{RunEnds, HasFaultLine, IsPrefix, most_bytes, fault_line as fault_line_of};
-ghost use Rattle.seam_world.specs.Histories.{HasHeader, Going, Stopped, Prints};
+ghost use Rattle.seam_world.specs.Histories.{HasHeader, Going, Stopped};
+ghost use Rattle.seam_world.specs.Printing.{Printed, FailedWithin, StopsBy, Prints};
 
 use crate::Status;
+use crate::pending::Pending;
 use crate::script::Script;
 use seam_accept::{is_separator, standard_header};
-use seam_io::{LONGEST_LINE, Lines, Next, Sink, Source, write_whole};
+use seam_io::{Failed, Lines, Next, Sink, Source, write_whole};
 use seam_transcript::Header;
 use std::alloc::Global;
 
@@ -54,6 +56,10 @@ fn run_body<S: Source, K: Sink>(alloc: Global, input: &mut S, out: &mut K) -> St
     ensures stopped { Stopped result (S.state input.old) (S.state input.new) (K.state out.old) (K.state out.new) }
     ensures later { (S.state input.old).faults ≤ (S.state input.new).faults }
 {
+    let pending = match Pending::new(alloc) {
+        Ok(pending) => pending,
+        Err(_) => return Status::NoMemory,
+    };
     let mut lines = match Lines::new(alloc, LIMIT) {
         Ok(lines) => lines,
         Err(_) => return Status::NoMemory,
@@ -62,12 +68,17 @@ fn run_body<S: Source, K: Sink>(alloc: Global, input: &mut S, out: &mut K) -> St
         Ok(header) => header,
         Err(status) => return status,
     };
-    let mut script = match Script::new(alloc, header, count) {
+    let script = match Script::new(alloc, header, count) {
         Ok(script) => script,
         Err(_) => return Status::NoMemory,
     };
-    let mut text = Vec::new(alloc);
-    run_lines(&mut lines, &mut script, &mut text, input, out)
+    let mut runner = Runner {
+        lines,
+        script,
+        text: Vec::new(alloc),
+        pending,
+    };
+    runner.run(input, out)
 }
 
 // Reads the header, which has to be empty: its first line ends it. Answers what it sets, and of how many lines it is; or the
@@ -102,105 +113,164 @@ fn read_header<S: Source>(
     }
 }
 
-// Reads line by line, until the run ends.
-fn run_lines<S: Source, K: Sink>(
-    lines: &mut Lines,
-    script: &mut Script,
-    text: &mut Vec<u8>,
-    input: &mut S,
-    out: &mut K,
-) -> Status
-    ensures history { (began : SourceState) (sink : SinkState) →
-        Going began (S.state input.old) lines.old sink (K.state out.old) script.old →
-        Stopped result began (S.state input.new) sink (K.state out.new) }
-    ensures later { (S.state input.old).faults ≤ (S.state input.new).faults }
-{
-    loop {
-        match turn(lines, script, text, input, out) {
-            None => {}
-            Some(status) => return status,
+// A run after its header.
+#[derive(Drop)]
+struct Runner {
+    lines: Lines,
+    script: Script,
+    // what is printed for one line
+    text: Vec<u8>,
+    pending: Pending,
+}
+
+impl Runner {
+    // Reads line by line, until the run ends.
+    fn run<S: Source, K: Sink>(&mut self, input: &mut S, out: &mut K) -> Status
+        ensures history { (began : SourceState) (sink : SinkState) →
+            Going began (S.state input.old) self.old.lines sink (K.state out.old) self.old.pending self.old.script →
+            Stopped result began (S.state input.new) sink (K.state out.new) }
+        ensures later { (S.state input.old).faults ≤ (S.state input.new).faults }
+    {
+        loop {
+            match self.turn(input, out) {
+                None => {}
+                Some(status) => return status,
+            }
+        }
+    }
+
+    // One line, before which all that was printed is written where the line may have to be waited for. Answers the status where
+    // the run ends.
+    fn turn<S: Source, K: Sink>(&mut self, input: &mut S, out: &mut K) -> Option<Status>
+        ensures history { (began : SourceState) (sink : SinkState) →
+            Going began (S.state input.old) self.old.lines sink (K.state out.old) self.old.pending self.old.script →
+            MatchOption result
+            (Going began (S.state input.new) self.new.lines sink (K.state out.new) self.new.pending self.new.script)
+            (λ s. Stopped s began (S.state input.new) sink (K.state out.new)) }
+        ensures later { (S.state input.old).faults ≤ (S.state input.new).faults }
+        ensures falls { IfNone result (budget self.new.lines < budget self.old.lines) }
+    {
+        match write_before_wait(&self.lines, &mut self.pending, out) {
+            Ok(()) => self.follow(input, out),
+            Err(Failed) => Some(Status::WriteFault),
+        }
+    }
+
+    // The next line: it is read, the script follows it, and what the script prints is pending.
+    fn follow<S: Source, K: Sink>(&mut self, input: &mut S, out: &mut K) -> Option<Status>
+        ensures history { (began : SourceState) (sink : SinkState) →
+            Going began (S.state input.old) self.old.lines sink (K.state out.old) self.old.pending self.old.script →
+            MatchOption result
+            (Going began (S.state input.new) self.new.lines sink (K.state out.new) self.new.pending self.new.script)
+            (λ s. Stopped s began (S.state input.new) sink (K.state out.new)) }
+        ensures later { (S.state input.old).faults ≤ (S.state input.new).faults }
+        ensures falls { IfNone result (budget self.new.lines < budget self.old.lines) }
+    {
+        match self.lines.next(input) {
+            Next::Line => self.print_line(out),
+            Next::Long => self.print_long(out),
+            Next::End => match self.print_last(out) {
+                None => Some(Status::Done),
+                Some(status) => Some(status),
+            },
+            Next::ReadFault => Some(stop(Status::ReadFault, &mut self.pending, out)),
+            Next::Limit => Some(stop(Status::Limit, &mut self.pending, out)),
+        }
+    }
+
+    // Prints for the line that was read.
+    fn print_line<K: Sink>(&mut self, out: &mut K) -> Option<Status>
+        ensures prints { (h : Headers) (t : Standing) (sink : SinkState) (text : List ℕ) → ScriptRefines h t self.old.script →
+            Printed sink (K.state out.old) self.old.pending text →
+            Prints (LineRead h t (Content self.old.lines.line) self.new.script) sink (K.state out.new) self.new.pending text result }
+        ensures lines { self.new.lines ≡ self.old.lines }
+    {
+        self.text.clear();
+        match self.script.read_line(self.lines.line(), &mut self.text) {
+            Ok(()) => print(&self.text, &mut self.pending, out),
+            Err(_) => Some(stop(Status::NoMemory, &mut self.pending, out)),
+        }
+    }
+
+    // Prints for a line that is too long.
+    fn print_long<K: Sink>(&mut self, out: &mut K) -> Option<Status>
+        ensures prints { (h : Headers) (t : Standing) (sink : SinkState) (text : List ℕ) → ScriptRefines h t self.old.script →
+            Printed sink (K.state out.old) self.old.pending text →
+            Prints (LineRead h t Long self.new.script) sink (K.state out.new) self.new.pending text result }
+        ensures lines { self.new.lines ≡ self.old.lines }
+    {
+        self.text.clear();
+        match self.script.read_long(&mut self.text) {
+            Ok(()) => print(&self.text, &mut self.pending, out),
+            Err(_) => Some(stop(Status::NoMemory, &mut self.pending, out)),
+        }
+    }
+
+    // Prints for the end of the input, and writes all that was printed.
+    fn print_last<K: Sink>(&mut self, out: &mut K) -> Option<Status>
+        ensures { (h : Headers) (t : Standing) (sink : SinkState) (text : List ℕ) → ScriptRefines h t self.old.script →
+            Printed sink (K.state out.old) self.old.pending text →
+            Prints (InputEnded h t) sink (K.state out.new) [] text result }
+    {
+        self.text.clear();
+        match self.script.finish(&mut self.text) {
+            Ok(()) => print_and_write(&self.text, &mut self.pending, out),
+            Err(_) => Some(stop(Status::NoMemory, &mut self.pending, out)),
         }
     }
 }
 
-// One line: it is read, the script follows it, and what is printed for it is written. Answers the status where the run ends.
-fn turn<S: Source, K: Sink>(
-    lines: &mut Lines,
-    script: &mut Script,
-    text: &mut Vec<u8>,
-    input: &mut S,
+// Writes what is pending where the next line may have to be waited for: the answers to a person's lines are seen first.
+fn write_before_wait<K: Sink>(
+    lines: &Lines,
+    pending: &mut Pending,
     out: &mut K,
-) -> Option<Status>
-    ensures history { (began : SourceState) (sink : SinkState) →
-        Going began (S.state input.old) lines.old sink (K.state out.old) script.old →
-        MatchOption result
-        (Going began (S.state input.new) lines.new sink (K.state out.new) script.new)
-        (λ s. Stopped s began (S.state input.new) sink (K.state out.new)) }
-    ensures later { (S.state input.old).faults ≤ (S.state input.new).faults }
-    ensures falls { IfNone result (budget lines.new < budget lines.old) }
+) -> Result<(), Failed>
+    ensures prints { (sink : SinkState) (text : List ℕ) → Printed sink (K.state out.old) pending.old text →
+        MatchResult result
+        (λ _. Printed sink (K.state out.new) pending.new text)
+        (λ _. FailedWithin sink (K.state out.new) text) }
+    ensures none { OnOk result (HasNoFeed lines.now.held → pending.new ≡ []) }
 {
-    match lines.next(input) {
-        Next::Line => print_line(script, lines.line(), text, out),
-        Next::Long => print_long(script, text, out),
-        Next::End => match print_last(script, text, out) {
-            None => Some(Status::Done),
-            Some(status) => Some(status),
-        },
-        Next::ReadFault => Some(Status::ReadFault),
-        Next::Limit => Some(Status::Limit),
+    if lines.has_line() {
+        return Ok(());
     }
+    pending.write(out)
 }
 
-fn print_line<K: Sink>(
-    script: &mut Script,
-    line: &[u8],
-    text: &mut Vec<u8>,
-    out: &mut K,
-) -> Option<Status>
-    requires { length line.now ≤ LONGEST_LINE }
-    ensures prints { (h : Headers) (t : Standing) → ScriptRefines h t script.old →
-        Prints (LineRead h t (Content line.now) script.new) (K.state out.old) (K.state out.new) result }
-    ensures later { (K.state out.old).faults ≤ (K.state out.new).faults }
+// Prints a text.
+fn print<K: Sink>(text: &[u8], pending: &mut Pending, out: &mut K) -> Option<Status>
+    ensures { (sink : SinkState) (before : List ℕ) → Printed sink (K.state out.old) pending.old before →
+        Prints (λ piece. piece ≡ text.now) sink (K.state out.new) pending.new before result }
 {
-    text.clear();
-    match script.read_line(line, text) {
-        Ok(()) => print(out, text),
-        Err(_) => Some(Status::NoMemory),
-    }
-}
-
-fn print_long<K: Sink>(script: &mut Script, text: &mut Vec<u8>, out: &mut K) -> Option<Status>
-    ensures prints { (h : Headers) (t : Standing) → ScriptRefines h t script.old →
-        Prints (LineRead h t Long script.new) (K.state out.old) (K.state out.new) result }
-    ensures later { (K.state out.old).faults ≤ (K.state out.new).faults }
-{
-    text.clear();
-    match script.read_long(text) {
-        Ok(()) => print(out, text),
-        Err(_) => Some(Status::NoMemory),
-    }
-}
-
-fn print_last<K: Sink>(script: &mut Script, text: &mut Vec<u8>, out: &mut K) -> Option<Status>
-    ensures prints { (h : Headers) (t : Standing) → ScriptRefines h t script.old →
-        Prints (InputEnded h t) (K.state out.old) (K.state out.new) result }
-    ensures later { (K.state out.old).faults ≤ (K.state out.new).faults }
-{
-    text.clear();
-    match script.finish(text) {
-        Ok(()) => print(out, text),
-        Err(_) => Some(Status::NoMemory),
-    }
-}
-
-// Writes a text, and answers the status where the sink fails.
-fn print<K: Sink>(out: &mut K, text: &[u8]) -> Option<Status>
-    ensures prints { Prints (λ piece. piece ≡ text.now) (K.state out.old) (K.state out.new) result }
-    ensures later { (K.state out.old).faults ≤ (K.state out.new).faults }
-{
-    match write_whole(out, text) {
+    match pending.push(text, out) {
         Ok(()) => None,
-        Err(_) => Some(Status::WriteFault),
+        Err(Failed) => Some(Status::WriteFault),
+    }
+}
+
+// Prints a text, and writes all that was printed.
+fn print_and_write<K: Sink>(text: &[u8], pending: &mut Pending, out: &mut K) -> Option<Status>
+    ensures { (sink : SinkState) (before : List ℕ) → Printed sink (K.state out.old) pending.old before →
+        Prints (λ piece. piece ≡ text.now) sink (K.state out.new) [] before result }
+{
+    match pending.push(text, out) {
+        Ok(()) => match pending.write(out) {
+            Ok(()) => None,
+            Err(Failed) => Some(Status::WriteFault),
+        },
+        Err(Failed) => Some(Status::WriteFault),
+    }
+}
+
+// Writes what is pending, and answers the status by which the run ends.
+fn stop<K: Sink>(status: Status, pending: &mut Pending, out: &mut K) -> Status
+    ensures { (sink : SinkState) (text : List ℕ) → Printed sink (K.state out.old) pending.old text →
+        StopsBy status sink (K.state out.new) text result }
+{
+    match pending.write(out) {
+        Ok(()) => status,
+        Err(Failed) => Status::WriteFault,
     }
 }
 

@@ -1,6 +1,7 @@
 //! Seamless: runs a script of commands from standard input, and prints its rounds to standard output.
 #![tactic(auto)]
 
+use seam_args::usage_text;
 use seam_io::{RealSink, RealSource};
 use seam_world::{Status, run_seamless};
 use std::alloc::{AllocError, Global};
@@ -18,7 +19,17 @@ fn main(rt: HostRuntime) -> ExitCode {
         }
         Err(AllocError) => Status::NoMemory,
     };
+    explain(&rt, status);
     ExitCode::from(status.code())
+}
+
+// Writes to standard error what a person may do about the end of the run. If that fails, nobody reads it.
+fn explain(rt: &HostRuntime, status: Status) {
+    let _ = match status {
+        Status::Done => Ok(()),
+        Status::Usage => eprint!(rt; "{}", usage_text()),
+        _ => eprintln!(rt; "seamless: {}", status.message()),
+    };
 }
 
 // The words of the command line behind the program's name. Words that are no text are refused like any others, so an empty

@@ -6,12 +6,8 @@ use Rattle.seam_world.proofs.run.run_body.Goals as goal
 pub returns-in-Err-clause-stopped : goal.returns-in-Err-clause-stopped
 returns-in-Err-clause-stopped g c = nothing_judged _ _ _ [] (Consumes-nil _) (omega arith)
 
-pub returns-in-Err-read_header-clause-stopped : goal.returns-in-Err-read_header-clause-stopped
-returns-in-Err-read_header-clause-stopped g c =
-    c.in-Err-read_header.ensures.header _ _ (c.in-Ok.ensures.reads _) (rw c.in-Ok.ensures.fresh refl)
-
 pub returns-clause-stopped : goal.returns-clause-stopped
 returns-clause-stopped g c =
     let has =
-    c.in-Ok-read_header.ensures.header _ (g.K.Sink.state c.args.out.now) (c.in-Ok.ensures.reads _) (rw c.in-Ok.ensures.fresh refl) in
-    c.run_lines.ensures.history _ _ (after_a_header _ _ _ _ _ _ _ has c.new-script.ensures)
+    c.in-Ok-read_header.ensures.header _ (g.K.Sink.state c.args.out.now) (c.in-Ok-new.ensures.reads _) (rw c.in-Ok-new.ensures.fresh refl) in
+    c.run.ensures.history _ _ (after_a_header _ _ _ _ _ _ _ _ has c.in-Ok.ensures c.new-3.ensures)

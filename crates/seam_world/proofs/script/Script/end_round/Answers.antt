@@ -3,7 +3,7 @@ use Rattle.seam_call.specs.declared.order.Batch.{Batch}
 use Rattle.seam_transcript.specs.Texts.{round_text}
 use Rattle.seam_flat.specs.Batches.{Brings}
 use Rattle.seam_flat.specs.Rounds.{round_of}
-use Rattle.seam_world.proofs.BatchLemmas.{batch_brings, book_calls_the_made}
+use Rattle.seam_flat.proofs.BookBatches.{batch_brings, book_calls_the_made}
 use Rattle.seam_world.proofs.ScriptLemmas.{round_ended}
 use Rattle.seam_world.proofs.script.Script.end_round.Goals as goal
 

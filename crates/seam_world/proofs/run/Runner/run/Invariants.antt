@@ -2,15 +2,16 @@ use Rattle.std.proofs.Common.{◌≤◌}
 use Rattle.seam_io.specs.States.{SourceState, SinkState}
 use Rattle.seam_io.specs.Reading.{budget}
 use Rattle.seam_world.specs.Histories.{Going}
-use Rattle.seam_world.proofs.run.run_lines.Given as goal
+use Rattle.seam_world.proofs.run.Runner.run.Given as goal
 
 abbrev pub invariant-loop-status : goal.invariant-loop-status
 invariant-loop-status g l = record {
   later : (g.S.Source.state l.initial.input).faults ≤ (g.S.Source.state l.input).faults;
   history : (began : SourceState) (sink : SinkState) →
-      Going began (g.S.Source.state l.initial.input) l.initial.lines sink (g.K.Sink.state l.initial.out) l.initial.script →
-      Going began (g.S.Source.state l.input) l.lines sink (g.K.Sink.state l.out) l.script;
+      Going began (g.S.Source.state l.initial.input) l.initial.self.lines sink (g.K.Sink.state l.initial.out) l.initial.self.pending
+      l.initial.self.script →
+      Going began (g.S.Source.state l.input) l.self.lines sink (g.K.Sink.state l.out) l.self.pending l.self.script;
 }
 
 abbrev pub decreases-loop-status : goal.decreases-loop-status
-decreases-loop-status g l = budget l.lines
+decreases-loop-status g l = budget l.self.lines

@@ -1,0 +1,87 @@
+// When the answers to lines are written.
+use crate::runs::{GOOD, Streams, run_with};
+use seam_io::{RealSink, RealSource};
+use seam_world::{Status, run_seamless};
+use std::cell::Cell;
+use std::io;
+use std::io::{ErrorKind, Read, Write};
+use std::test::Fail;
+
+// A screen that counts the lines that it shows.
+#[derive(Drop)]
+struct Screen<'a> {
+    shown: &'a Cell<u32>,
+}
+
+impl Write for Screen<'_> {
+    fn write(&mut self, buf: &[u8]) -> io::Result<usize> {
+        for byte in buf {
+            if *byte == b'\n' {
+                self.shown.set(self.shown.get().saturating_add(1));
+            }
+        }
+        Ok(buf.len())
+    }
+
+    fn flush(&mut self) -> io::Result<()> {
+        Ok(())
+    }
+}
+
+// A person who types the end of the header and three lines, each only after all lines before it were answered, and fails otherwise.
+#[derive(Drop)]
+struct Typist<'a> {
+    shown: &'a Cell<u32>,
+    typed: u32,
+}
+
+impl Read for Typist<'_> {
+    fn read(&mut self, buf: &mut [u8]) -> io::Result<usize> {
+        let line = match self.typed {
+            0 => b"%%\n".as_slice(),
+            1 | 2 | 3 => b"tock\n".as_slice(),
+            _ => b"".as_slice(),
+        };
+        if self.shown.get() != self.typed.saturating_sub(1) || buf.len() < line.len() {
+            return Err(ErrorKind::Other.into());
+        }
+        buf[..line.len()].copy_from_slice(line);
+        self.typed = self.typed.saturating_add(1).min(4);
+        Ok(line.len())
+    }
+}
+
+#[test]
+fn an_answer_is_written_before_the_next_read(rt: HostRuntime) -> Result<(), Fail> {
+    let shown = Cell::new(0);
+    let mut input = RealSource::new(Typist {
+        shown: &shown,
+        typed: 0,
+    });
+    let mut out = RealSink::new(Screen { shown: &shown });
+    let words = Vec::new(rt.alloc());
+    assert_eq!(rt;
+        run_seamless(rt.alloc(), &words, &mut input, &mut out),
+        Status::Done
+    );
+    assert_eq!(rt; shown.get(), 3);
+    Ok(())
+}
+
+// The second write would fail.
+#[test]
+fn the_answers_to_the_lines_of_one_read_are_one_write(rt: HostRuntime) -> Result<(), Fail> {
+    let mut script = String::from_str(rt.alloc(), "%%\n")?;
+    for _ in 0..200 {
+        script.push_str("tock\n")?;
+    }
+    let streams = Streams {
+        bad_writes: &[2],
+        ..GOOD
+    };
+    let (status, out) = run_with(rt.alloc(), &script, streams)?;
+    assert_eq!(rt; status, Status::Done);
+    assert!(rt; out.bytes().starts_with(b"line 2 command\nline 3 command\n"));
+    assert_eq!(rt; out.bytes().len(), 8 * 15 + 90 * 16 + 102 * 17);
+    Ok(())
+}
