@@ -2,3 +2,8 @@ mod SettingsLemmas
 mod Counts
 mod Depths
 mod FaultOrder
+mod Eaches
+mod OperationLemmas
+mod Uniqueness
+mod AnswerLemmas
+mod Soundness

@@ -44,7 +44,7 @@ fn headers_have_first_faults(rt: HostRuntime) -> Result<(), Fail> {
         ("[settings]\nghost_distance = 320", None),
     ] {
         let document = read_document(rt.alloc(), text.as_bytes()).map_err(|_| "a document")?;
-        assert!(rt; first_fault(&document) == fault);
+        assert!(rt; first_fault(rt.alloc(), &document)? == fault);
     }
     Ok(())
 }
