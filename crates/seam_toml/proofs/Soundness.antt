@@ -169,7 +169,15 @@ pub is_method : (ps : List Property) (key : List ℕ) (ms : Members) (m : Method
     length m.args ≤ MOST_ARGUMENTS → EachItemUnder (Says ps m.part m.args) (get_member (codes "body") ms) m.body →
     length m.body ≤ MOST_OPERATIONS → DefinesMethod ps key (table ms) m
 is_method ps key ms m name named part exposed args few body few_operations = record {
-  ms = ms; is = refl; name = name; named = named; part = part; exposed = exposed; args = args; few_arguments = few; body = body;
+  ms = ms;
+  is = refl;
+  name = name;
+  named = named;
+  part = part;
+  exposed = exposed;
+  args = args;
+  few_arguments = few;
+  body = body;
   few_operations = few_operations;
 }
 
@@ -193,6 +201,12 @@ pub is_type : (key : List ℕ) (ms : Members) (t : TypeDef) → t.name ≡ key �
     EachUnder (DefinesMethod t.properties) (get_member (codes "methods") ms) t.methods → length t.methods ≤ MOST_METHODS →
     DefinesType key (table ms) t
 is_type key ms t name named properties few methods few_methods = record {
-  ms = ms; is = refl; name = name; named = named; properties = properties; few_properties = few; methods = methods;
+  ms = ms;
+  is = refl;
+  name = name;
+  named = named;
+  properties = properties;
+  few_properties = few;
+  methods = methods;
   few_methods = few_methods;
 }

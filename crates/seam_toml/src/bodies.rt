@@ -56,7 +56,10 @@ fn type_named(value: &Value) -> Option<ValueType>
 }
 
 // The types of the arguments of a method, by its table.
-pub(crate) fn arguments_of(alloc: Global, table: &Table) -> Result<Option<Vec<ValueType>>, AllocError>
+pub(crate) fn arguments_of(
+    alloc: Global,
+    table: &Table,
+) -> Result<Option<Vec<ValueType>>, AllocError>
     ensures { IfOk result (λ read. MatchOption read
         ((ts : List Types) → ¬ (HasArguments (table_view table.now) ts))
         (λ ts. HasArguments (table_view table.now) ts.items)) }

@@ -9,8 +9,8 @@ ghost use Rattle.seam_toml.specs.Faults.{AreTooMany, AreTooNear, FitsType, HasBa
 ghost use Rattle.seam_toml.specs.Faults.{IsTypeName, IsPartName, IsListOf, SetsTooNear, size_of, count, count_items};
 ghost use Rattle.seam_toml.specs.Faults.{IsAtFault, HasFault, HasFaultBelow, TopIsAtFault, HeaderHas, IsFirstFault};
 
-use crate::members::member;
 use crate::bodies::is_bad_type;
+use crate::members::member;
 use crate::properties::type_of;
 use crate::{Role, read_settings};
 use seam_defs::{

@@ -14,8 +14,10 @@ use crate::members::member;
 use crate::operations::{Given, Step, Verb, read_step};
 use crate::properties::short_text;
 use crate::roles::is_method_name;
-use seam_defs::{Listed, MOST_ARGUMENTS, MOST_METHODS, MOST_OPERATIONS, MOST_PROPERTIES};
-use seam_defs::{Method, Operand, Operation, Part, Property};
+use seam_defs::{
+    Listed, MOST_ARGUMENTS, MOST_METHODS, MOST_OPERATIONS, MOST_PROPERTIES, Method, Operand,
+    Operation, Part, Property,
+};
 use seam_value::ValueType;
 use std::alloc::{AllocError, Global};
 use toml::{Table, Value};

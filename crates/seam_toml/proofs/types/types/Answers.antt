@@ -18,9 +18,13 @@ members-preserved c =
     let read : DefinesType (string_bytes e.0) (view e.1) p = rw c.as_str.ensures.value at (rw c.in-Some-2.is at c.in_ok-t.ensures.defines) in
     let more =
     one_more DefinesType (members_view c.args.table.now.entries) (string_bytes e.0) (view e.1) (members_view c.next.new.self)
-    c.members.types.items p read (rw iter at so_far) in
-    (tt, tt, rw c.in_ok-push-in-Some-2.ensures.items more, rw c.in_ok-push-in-Some-2.ensures.items
-    (All-append IsType c.members.types.items (p ∷ []) sound (All-cons IsType p [] (rw c.in-Some-2.is at c.in_ok-t.ensures.sound) (All-nil IsType))))
+    c.members.types.items p read (rw iter at so_far) in (
+      tt,
+      tt,
+      rw c.in_ok-push-in-Some-2.ensures.items more,
+      rw c.in_ok-push-in-Some-2.ensures.items
+          (All-append IsType c.members.types.items (p ∷ []) sound (All-cons IsType p [] (rw c.in-Some-2.is at c.in_ok-t.ensures.sound) (All-nil IsType))),
+    )
 
 pub returns-in-None-2-clause-defines : goal.returns-in-None-2-clause-defines
 returns-in-None-2-clause-defines c xs each few =
