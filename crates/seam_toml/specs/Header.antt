@@ -12,13 +12,19 @@ use Rattle.seam_toml.specs.declared.header.HeaderError.TheVariants as error
 use Rattle.seam_toml.specs.Documents.{IsDocument, IsShort}
 use Rattle.seam_toml.specs.Settings.{Sets}
 use Rattle.seam_toml.specs.Definitions.{DefinesTypes}
-use Rattle.seam_toml.specs.Faults.{HeaderHas, IsFirstFault}
+use Rattle.seam_toml.specs.declared.roles.Role.{Role}
+use Rattle.seam_toml.specs.Faults.{HasFault, HeaderHas, IsFirstFault}
 
 -- what is under the key `settings` of a header sets the settings: where it is missing, they are the standard ones
 abbrev pub SetsUnder : Option Data → Settings → Type 0
 SetsUnder None s = s ≡ standard
 SetsUnder (Some (table ms)) s = Sets ms s
 SetsUnder (Some d) s = ⊥
+
+-- what is under a key, which is for this, has a fault
+abbrev pub HasFaultUnder : Role → Option Data → Type 0
+HasFaultUnder r None = ⊥
+HasFaultUnder r (Some d) = (f : Fault) × HasFault f r d
 
 -- the members of a header's top table set the settings, which are legal, and define the types
 pub record DefinesHeader (ms : Members) (h : Header) : Type 0 where

@@ -1,17 +1,18 @@
 // Headers as their texts say them.
 ghost use Rattle.std.specs.Prelude.{◌≡◌, ℕ, IfOk, IfErr, List, MatchOption, codes};
-ghost use Rattle.toml.specs.Data.{get_member};
+ghost use Rattle.toml.specs.Data.{get_member, table as table_data};
 ghost use Rattle.toml.specs.View.{table_view};
-ghost use Rattle.seam_defs.specs.declared.settings.Settings.{Settings as AnySettings};
-ghost use Rattle.seam_defs.specs.Settings.{AreInRange, AreLegal};
+ghost use Rattle.seam_defs.specs.Settings.{AreLegal};
 ghost use Rattle.seam_defs.specs.Types.{AreDefs};
 ghost use Rattle.seam_toml.specs.Documents.{Refuses as NoDocument};
-ghost use Rattle.seam_toml.specs.declared.header.Header.{Header as Headers};
-ghost use Rattle.seam_toml.specs.Header.{SetsUnder, DefinesHeader, Reads, HasFirstFault, Refuses, number_of};
+ghost use Rattle.seam_toml.specs.declared.faults.Fault.{Fault as Faults};
+ghost use Rattle.seam_toml.specs.Settings.{Sets};
+ghost use Rattle.seam_toml.specs.Faults.{HasFault, HeaderHas};
+ghost use Rattle.seam_toml.specs.Header.{HasFaultUnder, SetsUnder, DefinesHeader, Reads, HasFirstFault, Refuses, number_of};
 
 use crate::members::member;
 use crate::types::definitions;
-use crate::{DocumentError, Fault, first_fault, read_document, read_settings};
+use crate::{DocumentError, Fault, Role, first_fault, read_document, read_settings};
 use seam_defs::{Defs, Settings};
 use std::alloc::{AllocError, Global};
 use toml::Table;
@@ -92,30 +93,15 @@ fn at_fault(fault: Fault) -> HeaderError
     }
 }
 
-// The settings that a header sets.
-fn settings_set(document: &Table) -> Option<Settings>
-    ensures { let under = get_member (codes "settings") (table_view document.now) in MatchOption result
-        ((s : AnySettings) → ¬ (SetsUnder under s))
-        (SetsUnder under) }
+// The settings that a table sets, if they are legal.
+fn legal_settings_in(table: &Table) -> Option<Settings>
+    ensures { MatchOption result
+        ((f : Faults) × HasFault f Role.Settings (table_data (table_view table.now)))
+        (λ s. Sets (table_view table.now) s × AreLegal s) }
 {
-    match member(document, "settings") {
-        Some(value) => match value.as_table() {
-            Some(table) => read_settings(table),
-            None => None,
-        },
-        None => Some(Settings::standard()),
-    }
-}
-
-// The same, if they are legal.
-fn legal_settings(document: &Table) -> Option<Settings>
-    ensures { let under = get_member (codes "settings") (table_view document.now) in MatchOption result
-        ((s : AnySettings) → SetsUnder under s → ¬ (AreLegal s))
-        (λ s. SetsUnder under s × AreLegal s) }
-{
-    match settings_set(document) {
+    match read_settings(table) {
         Some(settings) => {
-            if settings.are_legal() {
+            if settings.ghosts_reach() {
                 Some(settings)
             } else {
                 None
@@ -125,10 +111,25 @@ fn legal_settings(document: &Table) -> Option<Settings>
     }
 }
 
-// The header that a document defines.
+// The settings that a header sets, if they are legal.
+fn legal_settings(document: &Table) -> Option<Settings>
+    ensures { let under = get_member (codes "settings") (table_view document.now) in MatchOption result
+        (HasFaultUnder Role.Settings under)
+        (λ s. SetsUnder under s × AreLegal s) }
+{
+    match member(document, "settings") {
+        Some(value) => match value.as_table() {
+            Some(table) => legal_settings_in(table),
+            None => None,
+        },
+        None => Some(Settings::standard()),
+    }
+}
+
+// The header that a document defines, if it has no fault.
 fn header_of(alloc: Global, document: &Table) -> Result<Option<Header>, AllocError>
-    ensures defines { IfOk result (λ read. MatchOption read
-        ((h : Headers) → ¬ (DefinesHeader (table_view document.now) h))
+    ensures { IfOk result (λ read. MatchOption read
+        (¬ ((f : Faults) → ¬ (HeaderHas (table_view document.now) f)))
         (DefinesHeader (table_view document.now))) }
 {
     let Some(settings) = legal_settings(document) else {
@@ -157,7 +158,8 @@ pub fn read_header(alloc: Global, text: &[u8]) -> Result<Header, HeaderError>
         Ok(Some(fault)) => Err(at_fault(fault)),
         Ok(None) => match header_of(alloc, &document) {
             Ok(Some(header)) => Ok(header),
-            Ok(None) => Err(HeaderError::NoMemory),
+            // Each fault was sought.
+            Ok(None) => unreachable!(),
             Err(_) => Err(HeaderError::NoMemory),
         },
         Err(_) => Err(HeaderError::NoMemory),

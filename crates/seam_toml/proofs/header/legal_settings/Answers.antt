@@ -1,8 +1,10 @@
-use Rattle.std.proofs.lemmas.Bool.{false≢true}
-use Rattle.std.proofs.Common.{sym, ◌∙◌}
-use Rattle.seam_toml.proofs.SettingsLemmas.{illegal}
+use Rattle.seam_toml.proofs.AnswerLemmas.{is_table}
+use Rattle.seam_toml.proofs.Existence.{no_table_is_fault}
 use Rattle.seam_toml.proofs.header.legal_settings.Goals as goal
 
-pub returns-else-are_legal : goal.returns-else-are_legal
-returns-else-are_legal c =
-    illegal _ c.in-Some.settings c.in-Some.ensures (λ legal. false≢true (sym c.if-are_legal.false ∙ c.are_legal.ensures.1 legal))
+pub returns-in-Some-as_table : goal.returns-in-Some-as_table
+returns-in-Some-as_table c =
+    rw (← c.in-Some.ensures, is_table _ _ c.in-Some-as_table.ensures) c.legal_settings_in.ensures
+
+pub returns-in-None-as_table : goal.returns-in-None-as_table
+returns-in-None-as_table c = rw (← c.in-Some.ensures) (no_table_is_fault _ c.in-None-as_table.ensures)
