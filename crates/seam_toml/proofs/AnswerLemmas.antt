@@ -1,5 +1,5 @@
 -- From what is answered of a part to what is answered of the whole.
-use Rattle.std.proofs.Common.{◌≡◌, ◌↔◌, ◌⊎◌, inl, inr, Bool, true, false, not, Option, Some, None, MatchOption, Result, Ok, Err, IfOk, IsTrue, sym, ◌∙◌, codes, refl, List, ℕ}
+use Rattle.std.proofs.Common.{◌≡◌, ◌↔◌, ◌⊎◌, inl, inr, Bool, true, false, not, Option, Some, None, MatchOption, Result, Ok, Err, IfOk, IsTrue, codes, refl, List, ℕ}
 use Rattle.std.specs.Prelude.{is_some}
 use Rattle.std.proofs.lemmas.Option.{same_Some}
 use Rattle.std.proofs.lemmas.Bool.{false≢true}

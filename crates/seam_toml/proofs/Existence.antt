@@ -1,11 +1,11 @@
 -- A header without a fault defines something: no table of it can fail to.
-use Rattle.std.proofs.Common.{◌≡◌, ◌<◌, ◌≤◌, ◌⊎◌, inl, inr, ℕ, Bool, true, false, not, if◌then◌else◌, IsTrue, IsSome, IsNone, List, [], ◌∷◌, length, Option, Some, None, codes, Ordering, Less, Equal, Greater, nat_cmp, refl, sym, ap, ◌∙◌, arith}
+use Rattle.std.proofs.Common.{◌≡◌, ◌<◌, ◌≤◌, inl, inr, ℕ, Bool, true, false, if◌then◌else◌, IsSome, IsNone, List, [], ◌∷◌, length, Option, Some, None, codes, Ordering, Less, Equal, Greater, nat_cmp, refl, sym, ap, ◌∙◌, arith}
 use Rattle.std.specs.Cmp.Lexicographic.{slice_cmp}
 use Rattle.std.specs.Ordering.{match_ordering}
 use Rattle.std.proofs.lemmas.Map.Lookups.{exact_bytes}
 use Rattle.std.proofs.lemmas.Bool.{false≢true, cases_lt}
 use Rattle.std.proofs.lemmas.Option.{none-some, same_Some}
-use Rattle.toml.specs.Data.{Data, string, integer, float, boolean, datetime, array, table, as_table, as_str, as_bool, as_integer}
+use Rattle.toml.specs.Data.{Data, string, integer, float, boolean, datetime, array, table, as_table, as_str, as_bool}
 use Rattle.toml.specs.Data.{Members, no_members, member, get_member, Items, no_items, item}
 use Rattle.seam_value.specs.Types.{name_of}
 use Rattle.seam_value.specs.Values.{Fits}
@@ -21,25 +21,24 @@ use Rattle.seam_defs.specs.declared.types.TypeDef.{TypeDef}
 use Rattle.seam_defs.specs.Names.{flag_name, part_name}
 use Rattle.seam_defs.specs.Types.{is_name}
 use Rattle.seam_defs.specs.Builtin.{builtin}
-use Rattle.seam_defs.specs.declared.limits.TheConstants.{MOST_TYPES, MOST_PROPERTIES, MOST_METHODS, MOST_ARGUMENTS, MOST_OPERATIONS}
+use Rattle.seam_defs.specs.declared.limits.TheConstants.{MOST_PROPERTIES, MOST_METHODS, MOST_ARGUMENTS, MOST_OPERATIONS}
 use Rattle.seam_toml.specs.declared.roles.Role.{Role}
 use Rattle.seam_toml.specs.declared.roles.Role.TheVariants as role
 use Rattle.seam_toml.specs.declared.faults.Fault.{Fault}
 use Rattle.seam_toml.specs.declared.faults.Fault.TheVariants.{NoSuchKey, BadType, BadFlag, BadDefault, BadBody, TooManyNames, GhostTooNear}
 use Rattle.seam_toml.specs.Roles.{role_under, is_method_name}
 use Rattle.seam_toml.specs.Tables.{Each, EachUnder, EachItem, EachItemUnder}
-use Rattle.seam_toml.specs.Operations.{SaysOperation}
-use Rattle.seam_toml.specs.Definitions.{HasType, HasFlag, HasPart, HasArguments, NamesType, Says, data_of, exposed_or_not}
+use Rattle.seam_toml.specs.Definitions.{HasType, HasPart, NamesType, Says, data_of, exposed_or_not}
 use Rattle.seam_toml.specs.Definitions.{DefinesProperty, DefinesMethod, DefinesType, DefinesTypes}
-use Rattle.seam_toml.specs.Faults.{HasStrangeKey, LacksKey, HasWrongKeys, IsTypeName, AreTypeNames, AreTexts, IsPartName, IsOfKind, IsNoFlag}
-use Rattle.seam_toml.specs.Faults.{FitsType, HasBadDefault, IsBadText, HasBadText, AreBadTexts, HasBadBody, IsBadMethod, HasBadMethod, AreBadMethods}
+use Rattle.seam_toml.specs.Faults.{HasStrangeKey, LacksKey, IsTypeName, AreTypeNames, AreTexts, IsPartName, IsOfKind, IsNoFlag}
+use Rattle.seam_toml.specs.Faults.{FitsType, HasBadText, AreBadTexts, HasBadBody, IsBadMethod, HasBadMethod, AreBadMethods}
 use Rattle.seam_defs.specs.declared.settings.Settings.{Settings}
 use Rattle.seam_defs.specs.Settings.{GhostsReach}
 use Rattle.seam_toml.specs.declared.settings.Setting.{Setting}
 use Rattle.seam_toml.specs.declared.settings.Setting.TheVariants as setting
 use Rattle.seam_toml.specs.Settings.{key_of, number_or_standard, Sets, HasBadSetting}
 use Rattle.seam_toml.specs.Header.{HasFaultUnder}
-use Rattle.seam_toml.specs.Faults.{HeaderHas, HasBadBodies, count, count_items, AreTooMany, IsAtFault, HasFault, HasFaultBelow}
+use Rattle.seam_toml.specs.Faults.{HeaderHas, count, count_items, IsAtFault, HasFault, HasFaultBelow}
 
 abbrev Faultless : Role → Data → Type 0
 Faultless r d = (f : Fault) → ¬ (HasFault f r d)
@@ -168,12 +167,24 @@ property_in key ms named none nothing =
     let t = type_in dt.0 names in
     let has_type : HasType ms t.0 = dt.1 ∙ ap Some t.1 in
     flag_in df.0 (kind_of role.Flag df.0 ff) (λ bad. ff BadFlag (at_fault BadFlag role.Flag df.0 bad)) (λ f is_flag.
-    none BadDefault (inl (t.0, dd.0, has_type, dd.1, λ fits.
-    let v = value_in t.0 dd.0 fits in
-    nothing (record { name = key; ty = t.0; flag = f; default = v.0 }) (record {
-      ms = ms; is = refl; name = refl; named = named; ty = has_type; flag = df.1 ∙ ap Some is_flag; default = dd.1 ∙ ap Some v.1;
-      fits = v.2;
-    })))))
+    none BadDefault (inl (
+      t.0,
+      dd.0,
+      has_type,
+      dd.1,
+      λ fits.
+          let v = value_in t.0 dd.0 fits in
+          nothing (record { name = key; ty = t.0; flag = f; default = v.0 }) (record {
+            ms = ms;
+            is = refl;
+            name = refl;
+            named = named;
+            ty = has_type;
+            flag = df.1 ∙ ap Some is_flag;
+            default = dd.1 ∙ ap Some v.1;
+            fits = v.2;
+          }),
+    ))))
 
 property_there : (key : List ℕ) (d : Data) (c : Role) → role_under role.Properties key ≡ Some c → Faultless c d →
     ((p : Property) → ¬ (DefinesProperty key d p)) → ⊥
@@ -263,8 +274,16 @@ method_in ps key ms named none good nothing =
     (λ bad. good (record { part = p.0; has_part = has_part; args = args; has_arguments = has_args; bad = bad }))
     (λ ops says few_ops.
     nothing (record { name = key; part = p.0; exposed = b; args = args; body = ops }) (record {
-      ms = ms; is = refl; name = refl; named = named; part = has_part; exposed = is_exposed; args = has_args; few_arguments = few_args;
-      body = says; few_operations = few_ops;
+      ms = ms;
+      is = refl;
+      name = refl;
+      named = named;
+      part = has_part;
+      exposed = is_exposed;
+      args = has_args;
+      few_arguments = few_args;
+      body = says;
+      few_operations = few_ops;
     })))))
 
 method_there : (ps : List Property) (key : List ℕ) (d : Data) (c : Role) → role_under role.Methods key ≡ Some c → Faultless c d →
@@ -305,8 +324,14 @@ type_in_table key ms named none nothing =
     methods_there ps ms _ refl inside (λ bad. none BadBody (inl (record { ps = ps; properties = each_property; bad = bad })))
     (λ xs each_method few_methods.
     nothing (record { name = key; properties = ps; methods = xs }) (record {
-      ms = ms; is = refl; name = refl; named = named; properties = each_property; few_properties = few_properties;
-      methods = each_method; few_methods = few_methods;
+      ms = ms;
+      is = refl;
+      name = refl;
+      named = named;
+      properties = each_property;
+      few_properties = few_properties;
+      methods = each_method;
+      few_methods = few_methods;
     })))
 
 type_there : (key : List ℕ) (d : Data) (c : Role) → role_under role.Types key ≡ Some c → Faultless c d →

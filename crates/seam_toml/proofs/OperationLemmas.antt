@@ -1,7 +1,7 @@
 -- What the words of an operation say.
-use Rattle.std.proofs.Common.{◌≡◌, ◌≢◌, ◌<◌, ◌≤◌, ℕ, List, [], ◌∷◌, length, map, Option, Some, None, MatchOption, slice_get, slice_index, option_map, refl, sym, ap, ◌∙◌, subst, arith}
-use Rattle.std.proofs.Common.{Result, Ok, Err, IfOk, get_or}
-use Rattle.std.proofs.lemmas.Option.{none-some, same_Some, slice_get-map, slice_get-get_or}
+use Rattle.std.proofs.Common.{◌≡◌, ◌≢◌, ◌≤◌, ℕ, List, [], ◌∷◌, length, Option, Some, None, MatchOption, slice_get, slice_index, option_map, refl, sym, ap, ◌∙◌, arith}
+use Rattle.std.proofs.Common.{Result, Ok, Err, IfOk}
+use Rattle.std.proofs.lemmas.Option.{same_Some, slice_get-map}
 use Rattle.seam_words.specs.Texts.{HasWords}
 use Rattle.seam_words.proofs.WordTexts.{words_are_one_list}
 use Rattle.seam_value.specs.declared.types.ValueType.{ValueType}

@@ -1,13 +1,13 @@
 -- What a header's tables define is well formed.
-use Rattle.std.proofs.Common.{◌≡◌, ◌≢◌, ◌<◌, ◌≤◌, ◌-◌, ℕ, Bool, true, false, not, ◌&&◌, IsTrue, List, [], ◌∷◌, length, All, Option, Some, None, codes, slice_get, refl, sym, ap, ◌∙◌, arith}
+use Rattle.std.proofs.Common.{◌≡◌, ◌≢◌, ◌<◌, ◌≤◌, ◌-◌, ℕ, Bool, true, false, not, IsTrue, List, [], ◌∷◌, length, All, Option, Some, None, codes, refl, sym, arith}
 use Rattle.std.specs.Str.{bytes_eq}
 use Rattle.std.proofs.lemmas.Bool.{false≢true}
 use Rattle.std.proofs.lemmas.List.Elements.{All-cons, All-nil}
 use Rattle.std.proofs.lemmas.Option.{slice_get_within}
-use Rattle.toml.specs.Data.{Data, string, integer, float, boolean, datetime, array, table, Members, no_members, member, get_member, Items, no_items, item}
+use Rattle.toml.specs.Data.{Data, string, array, table, Members, no_members, member, get_member, Items, no_items, item}
 use Rattle.toml.specs.declared.value.Value.{Value}
 use Rattle.toml.proofs.Views.{Entry}
-use Rattle.toml.specs.View.{items_view, members_view, view}
+use Rattle.toml.specs.View.{items_view, members_view}
 use Rattle.seam_value.specs.Values.{Fits}
 use Rattle.seam_value.specs.declared.types.ValueType.{ValueType}
 use Rattle.seam_defs.specs.declared.flags.Part.{Part}
@@ -28,7 +28,7 @@ use Rattle.seam_toml.specs.declared.operations.Given.TheVariants as given
 use Rattle.seam_toml.specs.declared.operations.Step.{Step}
 use Rattle.seam_toml.specs.Roles.{is_method_name}
 use Rattle.seam_toml.specs.Tables.{Each, EachUnder, EachItem, EachItemUnder}
-use Rattle.seam_toml.specs.Operations.{signature, SpellOperation, SaysOperation}
+use Rattle.seam_toml.specs.Operations.{signature, SaysOperation}
 use Rattle.seam_toml.specs.Steps.{made, operand_of, operation_of, IsSmallGiven, IsSmall}
 use Rattle.seam_toml.specs.Definitions.{HasPart, HasArguments, exposed_or_not, Says, DefinesProperty, DefinesMethod, DefinesType}
 use Rattle.seam_toml.proofs.OperationLemmas.{operand_fits}

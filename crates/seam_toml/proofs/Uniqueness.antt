@@ -1,8 +1,8 @@
 -- What a header's tables define is one thing at most.
-use Rattle.std.proofs.Common.{◌≡◌, ℕ, Bool, true, false, if◌then◌else◌, List, [], ◌∷◌, Option, Some, None, codes, refl, sym, ap, ◌∙◌}
+use Rattle.std.proofs.Common.{◌≡◌, ℕ, if◌then◌else◌, List, [], ◌∷◌, Option, Some, None, codes, refl, sym, ap, ◌∙◌}
 use Rattle.std.specs.Str.{bytes_eq}
-use Rattle.std.proofs.lemmas.Option.{none-some, same_Some}
-use Rattle.toml.specs.Data.{Data, string, integer, array, table, Members, no_members, member, get_member, Items, no_items, item}
+use Rattle.std.proofs.lemmas.Option.{same_Some}
+use Rattle.toml.specs.Data.{Data, string, array, table, Members, no_members, member, get_member, Items, no_items, item}
 use Rattle.seam_value.specs.Types.{name_of}
 use Rattle.seam_value.specs.declared.types.ValueType.{ValueType}
 use Rattle.seam_value.specs.declared.types.ValueType.TheVariants as type

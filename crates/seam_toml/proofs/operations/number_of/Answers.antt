@@ -1,5 +1,5 @@
-use Rattle.std.proofs.Common.{◌≡◌, ◌<◌, ℕ, pos, Some, sym, ap, ◌∙◌, rules}
-use Rattle.seam_value.specs.Values.{Fits, decimal_of}
+use Rattle.std.proofs.Common.{◌<◌, ℕ, pos, Some, sym, ap, ◌∙◌, rules}
+use Rattle.seam_value.specs.Values.{Fits}
 use Rattle.seam_value.specs.declared.types.ValueType.TheVariants as type
 use Rattle.seam_value.specs.declared.values.Value.TheVariants.{Number}
 use Rattle.seam_value.proofs.Decimals.{decimal_of-injective}

@@ -1,5 +1,4 @@
-use Rattle.std.proofs.Common.{sym, ◌∙◌}
-use Rattle.seam_words.proofs.WordTexts.{words_are_one_list, no_words_at_fault}
+use Rattle.seam_words.proofs.WordTexts.{no_words_at_fault}
 use Rattle.seam_toml.proofs.OperationLemmas.{three_or_none}
 use Rattle.seam_toml.proofs.operations.three_words.Goals as goal
 

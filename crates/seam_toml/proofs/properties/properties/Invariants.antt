@@ -1,4 +1,3 @@
-use Rattle.std.proofs.Common.{◌≡◌}
 use Rattle.toml.specs.View.{members_view}
 use Rattle.seam_toml.specs.Definitions.{DefinesProperty}
 use Rattle.seam_toml.proofs.Eaches.{IsPartOf}
