@@ -2,3 +2,9 @@ mod SettingsLemmas
 mod Counts
 mod Depths
 mod FaultOrder
+mod Eaches
+mod OperationLemmas
+mod Uniqueness
+mod AnswerLemmas
+mod Soundness
+mod Existence

@@ -1,5 +1,5 @@
 -- What is at fault in the values of a header.
-use Rattle.std.specs.Prelude.{◌≡◌, ◌≢◌, ◌⊎◌, ⊤, ℕ, ◌+◌, ◌<◌, pos, IsTrue, IsSome, IsNone, List, codes, Some, None}
+use Rattle.std.specs.Prelude.{◌≡◌, ◌≢◌, ◌⊎◌, ⊤, ℕ, ◌+◌, ◌<◌, pos, IsTrue, IsSome, IsNone, List, codes, Option, Some, None}
 use Rattle.toml.specs.Data.{Data, string, integer, array}
 use Rattle.toml.specs.Data.{table, Items, no_items, item, Members, no_members, member, get_member, as_str, as_integer, as_bool, as_table}
 use Rattle.seam_value.specs.Types.{name_of}
@@ -15,9 +15,14 @@ use Rattle.seam_defs.specs.Settings.{GhostsReach}
 use Rattle.seam_toml.specs.declared.roles.Role.{Role}
 use Rattle.seam_toml.specs.declared.roles.Role.TheVariants as role
 use Rattle.seam_toml.specs.declared.faults.Fault.{Fault}
-use Rattle.seam_toml.specs.declared.faults.Fault.TheVariants.{NoSuchKey, BadType, BadFlag, BadDefault, TooManyNames, GhostTooNear}
+use Rattle.seam_toml.specs.declared.faults.Fault.TheVariants.{NoSuchKey, BadType, BadFlag, BadDefault, BadBody, TooManyNames, GhostTooNear}
 use Rattle.seam_toml.specs.Settings.{number_of, Sets}
 use Rattle.seam_toml.specs.Roles.{role_under, is_table}
+use Rattle.seam_defs.specs.declared.types.Property.{Property}
+use Rattle.seam_defs.specs.declared.types.Operation.{Operation}
+use Rattle.seam_toml.specs.Tables.{EachUnder}
+use Rattle.seam_toml.specs.Operations.{SaysOperation}
+use Rattle.seam_toml.specs.Definitions.{HasType, HasPart, HasArguments, DefinesProperty}
 
 -- ---- keys
 
@@ -79,7 +84,7 @@ IsOfKind role.Arguments d = IsListOf AreTypeNames d
 IsOfKind role.Body d = IsListOf AreTexts d
 IsOfKind r d = IsSome (as_table d)
 
--- ---- flags, defaults, limits, distances
+-- ---- flags, defaults
 
 -- a text where a flag has to be is the name of none
 abbrev pub IsNoFlag : Role → Data → Type 0
@@ -92,10 +97,6 @@ FitsType t (integer z) = Fits (Number z) t
 FitsType t (string s) = Fits (Text s) t
 FitsType t d = ⊥
 
--- what is under the key `type` of a property names this type of values
-abbrev pub HasType : Members → ValueType → Type 0
-HasType ms t = get_member (codes "type") ms ≡ Some (string (name_of t))
-
 -- a property's default does not fit its type
 abbrev pub HasBadDefault : Members → Type 0
 HasBadDefault ms = (t : ValueType) × (d : Data) × HasType ms t × (get_member (codes "default") ms ≡ Some d) × ¬ (FitsType t d)
@@ -103,6 +104,53 @@ HasBadDefault ms = (t : ValueType) × (d : Data) × HasType ms t × (get_member 
 abbrev pub IsBadProperty : Role → Data → Type 0
 IsBadProperty role.Property (table ms) = HasBadDefault ms
 IsBadProperty r d = ⊥
+
+-- ---- bodies
+
+-- the item is a text that says no operation
+abbrev pub IsBadText : List Property → Part → List ValueType → Data → Type 0
+IsBadText ps part args (string text) = (op : Operation) → ¬ (SaysOperation ps part args text op)
+IsBadText ps part args d = ⊥
+
+abbrev pub HasBadText : List Property → Part → List ValueType → Items → Type 0
+HasBadText ps part args no_items = ⊥
+HasBadText ps part args (item d ds) = IsBadText ps part args d ⊎ HasBadText ps part args ds
+
+abbrev pub AreBadTexts : List Property → Part → List ValueType → Option Data → Type 0
+AreBadTexts ps part args (Some (array ds)) = HasBadText ps part args ds
+AreBadTexts ps part args d = ⊥
+
+-- the table of a method has a part and arguments, and a text in its body that says no operation with them
+pub record HasBadBody (ps : List Property) (ms : Members) : Type 0 where
+  pub part : Part
+  pub has_part : HasPart ms part
+  pub args : List ValueType
+  pub has_arguments : HasArguments ms args
+  pub bad : AreBadTexts ps part args (get_member (codes "body") ms)
+
+abbrev pub IsBadMethod : List Property → Data → Type 0
+IsBadMethod ps (table ms) = HasBadBody ps ms
+IsBadMethod ps d = ⊥
+
+abbrev pub HasBadMethod : List Property → Members → Type 0
+HasBadMethod ps no_members = ⊥
+HasBadMethod ps (member key d ms) = IsBadMethod ps d ⊎ HasBadMethod ps ms
+
+abbrev pub AreBadMethods : List Property → Option Data → Type 0
+AreBadMethods ps (Some (table ms)) = HasBadMethod ps ms
+AreBadMethods ps d = ⊥
+
+-- the table of a type defines properties, and has a method with a body that is bad with them
+pub record HasBadBodies (ms : Members) : Type 0 where
+  pub ps : List Property
+  pub properties : EachUnder DefinesProperty (get_member (codes "properties") ms) ps
+  pub bad : AreBadMethods ps (get_member (codes "methods") ms)
+
+abbrev pub IsBadType : Role → Data → Type 0
+IsBadType role.Type (table ms) = HasBadBodies ms
+IsBadType r d = ⊥
+
+-- ---- limits, distances
 
 -- how many members or items a value has
 abbrev pub count : Members → ℕ
@@ -143,6 +191,7 @@ IsAtFault NoSuchKey r d = HasWrongKeys r d
 IsAtFault BadType r d = ¬ (IsOfKind r d)
 IsAtFault BadFlag r d = IsNoFlag r d
 IsAtFault BadDefault r d = IsBadProperty r d
+IsAtFault BadBody r d = IsBadType r d
 IsAtFault TooManyNames r d = AreTooMany r d
 IsAtFault GhostTooNear r d = AreTooNear r d
 
@@ -166,8 +215,9 @@ order NoSuchKey = 0
 order BadType = 1
 order BadFlag = 2
 order BadDefault = 3
-order TooManyNames = 4
-order GhostTooNear = 5
+order BadBody = 4
+order TooManyNames = 5
+order GhostTooNear = 6
 
 -- the top table of a header, which has these members, is itself at fault
 abbrev pub TopIsAtFault : Members → Fault → Type 0

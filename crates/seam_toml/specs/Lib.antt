@@ -1,4 +1,9 @@
 pub mod Documents
 pub mod Settings
 pub mod Roles
+pub mod Operations
+pub mod Steps
+pub mod Tables
+pub mod Definitions
 pub mod Faults
+pub mod Header

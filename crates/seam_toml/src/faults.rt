@@ -1,19 +1,23 @@
 // What is at fault in the values of a header.
-ghost use Rattle.std.specs.Prelude.{◌≡◌, ◌↔◌, IsTrue, MatchOption};
+ghost use Rattle.std.specs.Prelude.{◌≡◌, ◌↔◌, IsTrue, IfOk, MatchOption};
 ghost use Rattle.seam_value.specs.declared.types.ValueType.{ValueType as Types};
 ghost use Rattle.toml.specs.View.{view, table_view, items_view};
 ghost use Rattle.seam_toml.specs.declared.faults.Fault.{Fault as Faults};
 ghost use Rattle.seam_toml.specs.Faults.{HasStrangeKey, Lacks, LacksKey, HasWrongKeys, AreTypeNames, AreTexts, IsOfKind, IsNoFlag};
-ghost use Rattle.seam_toml.specs.Faults.{AreTooMany, AreTooNear, HasType, FitsType, HasBadDefault, IsBadProperty};
+ghost use Rattle.seam_toml.specs.Definitions.{HasType};
+ghost use Rattle.seam_toml.specs.Faults.{AreTooMany, AreTooNear, FitsType, HasBadDefault, IsBadProperty};
 ghost use Rattle.seam_toml.specs.Faults.{IsTypeName, IsPartName, IsListOf, SetsTooNear, size_of, count, count_items};
 ghost use Rattle.seam_toml.specs.Faults.{IsAtFault, HasFault, HasFaultBelow, TopIsAtFault, HeaderHas, IsFirstFault};
 
+use crate::bodies::is_bad_type;
 use crate::members::member;
+use crate::properties::type_of;
 use crate::{Role, read_settings};
 use seam_defs::{
     Flag, MOST_ARGUMENTS, MOST_METHODS, MOST_OPERATIONS, MOST_PROPERTIES, MOST_TYPES, Part,
 };
 use seam_value::{ShortText, ValueType};
+use std::alloc::{AllocError, Global};
 use toml::{Table, Value};
 
 /// What may be at fault in the values of a header, in the order in which it is sought.
@@ -27,6 +31,8 @@ pub enum Fault {
     BadFlag,
     /// A default does not fit the property's type.
     BadDefault,
+    /// A text in a method's body says no operation.
+    BadBody,
     /// There are more types, properties, methods, arguments or operations than may be.
     TooManyNames,
     /// The ghost distance is less than the view radius, the view hysteresis and the offload hysteresis together.
@@ -228,18 +234,6 @@ fn is_of_kind(role: &Role, value: &Value) -> bool
 
 // ---- defaults
 
-fn type_of(table: &Table) -> Option<ValueType>
-    ensures { MatchOption result ((t : Types) → ¬ (HasType (table_view table.now) t)) (HasType (table_view table.now)) }
-{
-    match member(table, "type") {
-        Some(value) => match value.as_str() {
-            Some(name) => ValueType::named(name),
-            None => None,
-        },
-        None => None,
-    }
-}
-
 fn fits_type(t: ValueType, value: &Value) -> bool
     ensures { IsTrue result ↔ FitsType t (view value.now) }
 {
@@ -273,16 +267,22 @@ fn is_bad_property(role: &Role, value: &Value) -> bool
 // ---- a fault of a value
 
 /// Whether the value, which is for this, is itself at fault in this way.
-pub fn is_at_fault(fault: Fault, role: &Role, value: &Value) -> bool
-    ensures { IsTrue result ↔ IsAtFault fault role.now (view value.now) }
+pub fn is_at_fault(
+    alloc: Global,
+    fault: Fault,
+    role: &Role,
+    value: &Value,
+) -> Result<bool, AllocError>
+    ensures { IfOk result (λ answer. IsTrue answer ↔ IsAtFault fault role.now (view value.now)) }
 {
     match fault {
-        Fault::NoSuchKey => has_wrong_keys(role, value),
-        Fault::BadType => !is_of_kind(role, value),
-        Fault::BadFlag => is_no_flag(role, value),
-        Fault::BadDefault => is_bad_property(role, value),
-        Fault::TooManyNames => are_too_many(role, value),
-        Fault::GhostTooNear => are_too_near(role, value),
+        Fault::NoSuchKey => Ok(has_wrong_keys(role, value)),
+        Fault::BadType => Ok(!is_of_kind(role, value)),
+        Fault::BadFlag => Ok(is_no_flag(role, value)),
+        Fault::BadDefault => Ok(is_bad_property(role, value)),
+        Fault::BadBody => is_bad_type(alloc, role, value),
+        Fault::TooManyNames => Ok(are_too_many(role, value)),
+        Fault::GhostTooNear => Ok(are_too_near(role, value)),
     }
 }
 
@@ -291,28 +291,40 @@ pub fn is_at_fault(fault: Fault, role: &Role, value: &Value) -> bool
 /// Whether the value, which is for this, or one below it is at fault in this way. Only what is under keys that a table may have is
 /// below it.
 #[cycle(has_fault)]
-pub fn has_fault(fault: Fault, role: &Role, value: &Value) -> bool
-    ensures { IsTrue result ↔ HasFault fault role.now (view value.now) }
+pub fn has_fault(
+    alloc: Global,
+    fault: Fault,
+    role: &Role,
+    value: &Value,
+) -> Result<bool, AllocError>
+    ensures { IfOk result (λ answer. IsTrue answer ↔ HasFault fault role.now (view value.now)) }
 {
-    is_at_fault(fault, role, value)
-        || match value.as_table() {
-            Some(table) => has_fault_below(fault, role, table),
-            None => false,
-        }
+    if is_at_fault(alloc, fault, role, value)? {
+        return Ok(true);
+    }
+    match value.as_table() {
+        Some(table) => has_fault_below(alloc, fault, role, table),
+        None => Ok(false),
+    }
 }
 
 #[cycle(has_fault)]
-fn has_fault_below(fault: Fault, role: &Role, table: &Table) -> bool
-    ensures { IsTrue result ↔ HasFaultBelow fault role.now (table_view table.now) }
+fn has_fault_below(
+    alloc: Global,
+    fault: Fault,
+    role: &Role,
+    table: &Table,
+) -> Result<bool, AllocError>
+    ensures { IfOk result (λ answer. IsTrue answer ↔ HasFaultBelow fault role.now (table_view table.now)) }
 {
     'members: for (key, value) in table.iter() {
         if let Some(below) = role.under(key.as_str()) {
-            if has_fault(fault, &below, value) {
-                return true;
+            if has_fault(alloc, fault, &below, value)? {
+                return Ok(true);
             }
         }
     }
-    false
+    Ok(false)
 }
 
 // ---- the first fault of a header
@@ -327,28 +339,34 @@ fn top_is_at_fault(fault: Fault, document: &Table) -> bool
     }
 }
 
-fn header_has(fault: Fault, document: &Table) -> bool
-    ensures { IsTrue result ↔ HeaderHas (table_view document.now) fault }
+fn header_has(alloc: Global, fault: Fault, document: &Table) -> Result<bool, AllocError>
+    ensures { IfOk result (λ answer. IsTrue answer ↔ HeaderHas (table_view document.now) fault) }
 {
-    top_is_at_fault(fault, document) || has_fault_below(fault, &Role::Header, document)
+    if top_is_at_fault(fault, document) {
+        return Ok(true);
+    }
+    has_fault_below(alloc, fault, &Role::Header, document)
 }
 
 /// The first fault of the header whose top table this is: each fault is sought in the whole header before the next one, in the order of
-/// `Fault`. None where the header has none. What the operations of methods say is not looked at.
-pub fn first_fault(document: &Table) -> Option<Fault>
-    ensures { MatchOption result ((f : Faults) → ¬ (HeaderHas (table_view document.now) f)) (IsFirstFault (table_view document.now)) }
+/// `Fault`. None where the header has none.
+pub fn first_fault(alloc: Global, document: &Table) -> Result<Option<Fault>, AllocError>
+    ensures { IfOk result (λ first. MatchOption first
+        ((f : Faults) → ¬ (HeaderHas (table_view document.now) f))
+        (IsFirstFault (table_view document.now))) }
 {
     'faults: for fault in [
         Fault::NoSuchKey,
         Fault::BadType,
         Fault::BadFlag,
         Fault::BadDefault,
+        Fault::BadBody,
         Fault::TooManyNames,
         Fault::GhostTooNear,
     ] {
-        if header_has(fault, document) {
-            return Some(fault);
+        if header_has(alloc, fault, document)? {
+            return Ok(Some(fault));
         }
     }
-    None
+    Ok(None)
 }

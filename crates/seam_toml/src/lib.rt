@@ -3,14 +3,22 @@
 //! of methods say is not looked at yet.
 #![tactic(auto)]
 
+mod bodies;
 mod documents;
 mod faults;
+mod header;
 mod members;
+mod methods;
+mod operations;
+mod properties;
 mod roles;
 mod settings;
+mod types;
 
 pub use documents::{DocumentError, MOST_HEADER_BYTES, read_document};
 pub use faults::{Fault, first_fault, has_fault, is_at_fault};
+pub use header::{Header, HeaderError, read_header};
+pub use operations::LONGEST_OPERATION;
 pub use roles::Role;
 pub use settings::{Setting, read_settings};
 

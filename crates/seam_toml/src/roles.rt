@@ -75,7 +75,7 @@ fn named(role: Role, is_named: bool) -> Option<Role>
     if is_named { Some(role) } else { None }
 }
 
-fn is_method_name(key: &str) -> bool
+pub(crate) fn is_method_name(key: &str) -> bool
     ensures { result ≡ is_method_name key.now }
 {
     is_name(key.as_bytes()) && key != "move"
