@@ -7,3 +7,4 @@ mod OperationLemmas
 mod Uniqueness
 mod AnswerLemmas
 mod Soundness
+mod HeaderLaws
