@@ -1,5 +1,6 @@
 -- What a text that stands for a header says of the header, and that it stands for no other.
-use Rattle.std.proofs.Common.{◌≡◌, ◌≢◌, ℕ, pos, negsuc, Bool, true, false, List, [], ◌∷◌, length, map, All, Option, Some, None, codes, drop, get_or, slice_get, refl, sym, ap, ◌∙◌, subst, arith}
+use Rattle.std.proofs.Common.{◌≡◌, ◌≢◌, ℕ, pos, negsuc, Bool, true, List, [], ◌∷◌, Option, Some, None, codes, drop, get_or}
+use Rattle.std.proofs.Common.{refl, sym, ap, ◌∙◌, arith}
 use Rattle.std.specs.Prelude.{slice_index}
 use Rattle.std.proofs.lemmas.Option.{same_Some}
 use Rattle.std.proofs.lemmas.List.Elements.{recursion_from_All}
@@ -32,9 +33,10 @@ use Rattle.seam_toml.specs.Tables.{Each}
 use Rattle.seam_toml.specs.Operations.{verb_of, word_of, SpellOperation, SaysOperation}
 use Rattle.seam_toml.specs.Definitions.{Says, DefinesMethod, DefinesType, DefinesTypes}
 use Rattle.seam_toml.specs.Header.{Reads}
-use Rattle.seam_toml.proofs.OperationLemmas.{name_at}
+use Rattle.seam_toml.proofs.OperationLemmas.{name_at, letter}
 use Rattle.seam_toml.proofs.SettingsLemmas.{settings_are_one}
-use Rattle.seam_toml.proofs.Uniqueness.{table_is_one, part_is_one, arguments_are_one, properties_are_one, each_is_one, under_is_one, items_under_are_one}
+use Rattle.seam_toml.proofs.Uniqueness.{table_is_one, part_is_one, arguments_are_one, properties_are_one}
+use Rattle.seam_toml.proofs.Uniqueness.{each_is_one, under_is_one, items_under_are_one}
 
 -- the types that a text defines are well formed
 pub reads_defs : (text : List ℕ) (h : Header) → Reads text h → AreDefs h.defs
@@ -70,9 +72,6 @@ operand_is_one (Constant v) (Constant w) e = ap Constant (text_of-injective v w 
 
 -- ---- operations
 
-letter : (xs ys : List ℕ) → xs ≡ ys → slice_index xs 1 ≡ slice_index ys 1
-letter xs ys e = ap (λ (zs : List ℕ). slice_index zs 1) e
-
 same_operation : (a b : Operation) → verb_of a ≡ verb_of b → target a ≡ target b → operand a ≡ operand b → a ≡ b
 same_operation (Put k x) (Put n y) e f g = cc
 same_operation (Put k x) (Add n y) e f g = let l : 101 ≡ 100 = letter _ _ e in absurd (omega (arith, l))
@@ -90,7 +89,8 @@ word k words = get_or words k []
 module _ (ps : List Property) (up : are_rising (names_of_properties ps) ≡ true) where
   module _ (part : Part) (args : List ValueType) where
     -- words spell one operation
-    spelled_is_one : (words : List (List ℕ)) (a b : Operation) → SpellOperation ps part args words a → SpellOperation ps part args words b → a ≡ b
+    spelled_is_one : (words : List (List ℕ)) (a b : Operation) → SpellOperation ps part args words a →
+        SpellOperation ps part args words b → a ≡ b
     unfolding word
     spelled_is_one words a b one other =
         let same = sym one.spelled ∙ other.spelled in
@@ -108,8 +108,8 @@ module _ (ps : List Property) (up : are_rising (names_of_properties ps) ≡ true
 
   -- ---- methods
 
-  same_method : (n o : List ℕ) (p q : Part) (x y : Bool) (a b : List ValueType) (s t : List Operation) → n ≡ o → p ≡ q → x ≡ y → a ≡ b → s ≡ t →
-      ◌≡◌ {A = Method} (record { name = n; part = p; exposed = x; args = a; body = s })
+  same_method : (n o : List ℕ) (p q : Part) (x y : Bool) (a b : List ValueType) (s t : List Operation) → n ≡ o → p ≡ q → x ≡ y →
+      a ≡ b → s ≡ t → ◌≡◌ {A = Method} (record { name = n; part = p; exposed = x; args = a; body = s })
       (record { name = o; part = q; exposed = y; args = b; body = t })
   same_method n o p q x y a b s t e f g h i = rw (e, f, g, h, i) refl
 
@@ -119,9 +119,10 @@ module _ (ps : List Property) (up : are_rising (names_of_properties ps) ≡ true
       let part = part_is_one one.ms m.part n.part one.part (rw (← same) at other.part) in
       let exposed = same_Some _ _ (sym one.exposed ∙ rw (← same) at other.exposed) in
       let args = arguments_are_one one.ms m.args n.args one.args (rw (← same) at other.args) in
-      let body = items_under_are_one (Says ps m.part m.args) (operation_is_one m.part m.args) (get_member (codes "body") one.ms) m.body n.body one.body
-      (rw (part, args) (rw (← same) at other.body)) in
-      same_method m.name n.name m.part n.part m.exposed n.exposed m.args n.args m.body n.body (one.name ∙ sym other.name) part exposed args body
+      let body = items_under_are_one (Says ps m.part m.args) (operation_is_one m.part m.args) (get_member (codes "body") one.ms)
+      m.body n.body one.body (rw (part, args) (rw (← same) at other.body)) in
+      same_method m.name n.name m.part n.part m.exposed n.exposed m.args n.args m.body n.body (one.name ∙ sym other.name)
+      part exposed args body
 
 -- ---- types
 
@@ -142,9 +143,10 @@ sound_each (member key d ms) (t ∷ ts) each all = ((each.0, all.0), sound_each 
 defined_type_is_one : (key : List ℕ) (d : Data) (t u : TypeDef) → DefinesSound key d t → DefinesSound key d u → t ≡ u
 defined_type_is_one key d t u (one, sound) (other, _) =
     let same = table_is_one one.ms other.ms (sym one.is ∙ other.is) in
-    let properties = properties_are_one (get_member (codes "properties") one.ms) t.properties u.properties one.properties (rw (← same) at other.properties) in
-    let methods = under_is_one (DefinesMethod t.properties) (method_is_one t.properties sound.property_names) (get_member (codes "methods") one.ms)
-    t.methods u.methods one.methods (rw properties (rw (← same) at other.methods)) in
+    let properties = properties_are_one (get_member (codes "properties") one.ms) t.properties u.properties one.properties
+    (rw (← same) at other.properties) in
+    let methods = under_is_one (DefinesMethod t.properties) (method_is_one t.properties sound.property_names)
+    (get_member (codes "methods") one.ms) t.methods u.methods one.methods (rw properties (rw (← same) at other.methods)) in
     same_type t.name u.name t.properties u.properties t.methods u.methods (one.name ∙ sym other.name) properties methods
 
 -- what is under the key of the types defines one list of well-formed types
