@@ -75,7 +75,7 @@ fits_here : (ps : List Property) (k : ℕ) (p q : Property) → slice_get ps k �
 fits_here ps k p q one other = same_Some _ _ (sym other ∙ one)
 
 -- the second letter of a verb tells it
-letter : (xs ys : List ℕ) → xs ≡ ys → slice_index xs 1 ≡ slice_index ys 1
+pub letter : (xs ys : List ℕ) → xs ≡ ys → slice_index xs 1 ≡ slice_index ys 1
 letter xs ys e = ap (λ (zs : List ℕ). slice_index zs 1) e
 
 -- a well typed operation may be done by its verb

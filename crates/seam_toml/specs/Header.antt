@@ -3,6 +3,7 @@ use Rattle.std.specs.Prelude.{◌≡◌, ℕ, ◌<◌, List, length, codes, Opti
 use Rattle.toml.specs.Data.{Data, table, Members, get_member}
 use Rattle.seam_defs.specs.declared.settings.Settings.{Settings}
 use Rattle.seam_defs.specs.Settings.{standard, AreLegal}
+use Rattle.seam_defs.specs.Types.{AreDefs}
 use Rattle.seam_toml.specs.declared.documents.TheConstants.{MOST_HEADER_BYTES}
 use Rattle.seam_toml.specs.declared.faults.Fault.{Fault}
 use Rattle.seam_toml.specs.declared.faults.Fault.TheVariants as fault
@@ -26,11 +27,13 @@ abbrev pub HasFaultUnder : Role → Option Data → Type 0
 HasFaultUnder r None = ⊥
 HasFaultUnder r (Some d) = (f : Fault) × HasFault f r d
 
--- the members of a header's top table set the settings, which are legal, and define the types
+-- the members of a header's top table set the settings, which are legal, and define the types, which are well formed: beside what
+-- each of their tables says, names of types, properties and methods come in strictly rising byte order
 pub record DefinesHeader (ms : Members) (h : Header) : Type 0 where
   pub settings : SetsUnder (get_member (codes "settings") ms) h.settings
   pub legal : AreLegal h.settings
   pub types : DefinesTypes (get_member (codes "type") ms) h.defs
+  pub sound : AreDefs h.defs
 
 -- the text stands for the header: it is a document without a fault, whose top table defines the header
 pub record Reads (text : List ℕ) (h : Header) : Type 0 where

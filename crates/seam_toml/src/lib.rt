@@ -1,12 +1,15 @@
 //! Headers: the definitions and settings that the TOML text before a script stands for. So far: the document that a text is, the
 //! grammar of a header's tables, the settings that its table of settings sets, and the first fault of its values. What the operations
 //! of methods say is not looked at yet.
+//!
+//! Of `proofs/`, `HeaderLaws` is for callers: a text stands for one header at most, whose types and settings are well formed.
 #![tactic(auto)]
 
 mod bodies;
 mod documents;
 mod faults;
 mod header;
+mod laws;
 mod members;
 mod methods;
 mod operations;
@@ -18,6 +21,7 @@ mod types;
 pub use documents::{DocumentError, MOST_HEADER_BYTES, read_document};
 pub use faults::{Fault, first_fault, has_fault, is_at_fault};
 pub use header::{Header, HeaderError, read_header};
+pub use laws::header_is_one;
 pub use operations::LONGEST_OPERATION;
 pub use roles::Role;
 pub use settings::{Setting, read_settings};
