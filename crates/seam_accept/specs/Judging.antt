@@ -1,14 +1,11 @@
 -- What a command is judged to be.
-use Rattle.std.specs.Prelude.{◌≡◌, ⊤, ℕ, List}
-use Rattle.seam_value.specs.Values.{Fits, text_of}
-use Rattle.seam_value.specs.declared.types.ValueType.{ValueType}
+use Rattle.std.specs.Prelude.{⊤, ℕ, List}
 use Rattle.seam_value.specs.declared.values.Value.{Value}
 use Rattle.seam_geo.specs.declared.pos.Pos.{Pos}
 use Rattle.seam_defs.specs.Types.{method_of}
 use Rattle.seam_defs.specs.declared.types.TypeDef.{TypeDef}
-use Rattle.seam_defs.specs.declared.types.Method.{Method}
 use Rattle.seam_defs.specs.declared.states.Deed.{Deed}
-use Rattle.seam_transcript.specs.Language.{Word, Command}
+use Rattle.seam_transcript.specs.Language.{Command}
 use Rattle.seam_transcript.specs.declared.header.Header.{Header}
 use Rattle.seam_transcript.specs.Book.{Book, SpellsPosition, NamesMethod, SpellsArgs, NamesDeed, NamesMove, Adds, HoldsAgainst, IsFirst}
 use Rattle.seam_transcript.specs.declared.verdict.Entry.{Entry}
