@@ -1,5 +1,5 @@
 -- What a book holds with one more entry.
-use Rattle.std.proofs.Common.{◌≡◌, ◌≢◌, ◌+◌, ℕ, Bool, true, false, List, [], ◌∷◌, ◌++◌, length, map, refl, sym, ◌∙◌, ap, arith}
+use Rattle.std.proofs.Common.{◌≡◌, ◌≢◌, ◌+◌, ℕ, Bool, true, false, List, [], ◌∷◌, ◌++◌, length, refl, sym, ◌∙◌, ap, arith}
 use Rattle.std.proofs.Common.{Option, Some, None, cond, append_assoc, append-nil, length-append}
 use Rattle.std.specs.Prelude.{find, filter, ◌==◌, ◌&&◌}
 use Rattle.std.specs.Option.{option_or}

@@ -3,16 +3,13 @@ use Rattle.std.proofs.Common.{◌≡◌, ◌+◌, ◌-◌, ℕ, List, length, re
 use Rattle.std.specs.Prelude.{MatchOption, slice_index}
 use Rattle.std.proofs.lemmas.Option.{none-some}
 use Rattle.seam_value.specs.NumberWords.{SpellsPositive}
-use Rattle.seam_value.specs.declared.values.Value.{Value}
 use Rattle.seam_defs.specs.Types.{type_of, method_of, AreDefs}
 use Rattle.seam_defs.specs.Deeds.{part_of_deed}
-use Rattle.seam_defs.specs.declared.types.TypeDef.{TypeDef}
 use Rattle.seam_defs.specs.declared.flags.Part.{Part}
 use Rattle.seam_defs.specs.declared.states.Deed.{Deed}
 use Rattle.seam_call.specs.BaseNodes.{IsBaseNode}
 use Rattle.seam_call.specs.declared.sender.Sender.TheVariants.{Base}
 use Rattle.seam_call.specs.declared.create.Create.{Create}
-use Rattle.seam_transcript.specs.Language.{Call, Move}
 use Rattle.seam_transcript.specs.declared.header.Header.{Header}
 use Rattle.seam_transcript.specs.Book.{Book, entries, creates_of, created_as, live_as, accepted, NamesSender, NamesLive, NamesMethod}
 use Rattle.seam_transcript.specs.Book.{SpellsArgs, HoldsAgainst, IsDead, IsFirst}
@@ -118,28 +115,36 @@ module _ (h : Header) (b : Book) (s e : List ℕ) (n entity : ℕ) (made : Creat
           method_is_one h.defs made.ty m.name.now k asks.0 are (same_method other m.name.now k names has) asks.2 in
           none asks.1 (subst (λ (c : Create). SpellsArgs (method_of (type_of h.defs c.ty) k) (texts_of m.arguments.now) asks.1) (sym same)
           (subst (λ (j : ℕ). SpellsArgs (method_of (type_of h.defs made.ty) j) (texts_of m.arguments.now) asks.1) (sym method) asks.3)));
-      adds = (_, record {
-        sender = named.sender;
-        made = made;
-        live = live;
-        entity_ = sym (found_entity (creates_of (entries b)) entity made is);
-        deed_ = asks;
-        part_ = part;
-        next = next;
-      }, refl);
+      adds = (
+        _,
+        record {
+          sender = named.sender;
+          made = made;
+          live = live;
+          entity_ = sym (found_entity (creates_of (entries b)) entity made is);
+          deed_ = asks;
+          part_ = part;
+          next = next;
+        },
+        refl,
+      );
     }
     call_accepted (words.Move m) asks = record {
       none = against_move h b s e m.x.now m.z.now _ (λ k. k entity named.number) (λ k. k (Base n) named.sender)
           (not_dead b e made live) (λ no. no asks.0 asks.1);
-      adds = (_, record {
-        sender = named.sender;
-        made = made;
-        live = live;
-        entity_ = sym (found_entity (creates_of (entries b)) entity made is);
-        deed_ = asks;
-        part_ = part;
-        next = next;
-      }, refl);
+      adds = (
+        _,
+        record {
+          sender = named.sender;
+          made = made;
+          live = live;
+          entity_ = sym (found_entity (creates_of (entries b)) entity made is);
+          deed_ = asks;
+          part_ = part;
+          next = next;
+        },
+        refl,
+      );
     }
 
 -- the number that comes after the last one kept

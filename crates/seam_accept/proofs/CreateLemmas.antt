@@ -8,7 +8,6 @@ use Rattle.seam_transcript.specs.Language.{Create}
 use Rattle.seam_transcript.specs.declared.header.Header.{Header}
 use Rattle.seam_transcript.specs.Book.{Book, entries, creates_of, created_as, NamesType, HoldsAgainst, IsFirst}
 use Rattle.seam_transcript.specs.declared.verdict.Entry.TheVariants.{Created}
-use Rattle.seam_transcript.specs.declared.verdict.Cause.{Cause}
 use Rattle.seam_transcript.specs.declared.verdict.Cause.TheVariants as cause
 use Rattle.seam_transcript.specs.declared.limits.TheConstants.{MOST_ENTITIES}
 use Rattle.seam_transcript.proofs.Verdicts.{positive_is_one}

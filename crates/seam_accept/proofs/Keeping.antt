@@ -132,8 +132,8 @@ module _ (b : Book) (call : Call) (n : ℕ) (node : IsBaseNode n) (sender_is : c
   }
 
 -- a part that the call is not for
-other_last : (b : Book) (call : Call) (p : Part) (e : ℕ) (last : List ℕ) → ((s : Sender) → is_from p e s call ≡ false) → AreLast b p e last →
-    AreLast (with_entry b (entry.Called call)) p e last
+other_last : (b : Book) (call : Call) (p : Part) (e : ℕ) (last : List ℕ) → ((s : Sender) → is_from p e s call ≡ false)
+    → AreLast b p e last → AreLast (with_entry b (entry.Called call)) p e last
 other_last b call p e last other was = record {
   nodes = was.nodes;
   each = λ k within. was.each k within ∙ ap length (sym (accepted_other b call p e (Base (k + 1)) (other (Base (k + 1)))));

@@ -1,5 +1,5 @@
 -- Lines by the commands that they spell.
-use Rattle.std.proofs.Common.{◌≡◌, ◌+◌, ℕ, List, length, sym, ◌∙◌, ap, subst}
+use Rattle.std.proofs.Common.{◌≡◌, ℕ, List, sym, ◌∙◌, ap, subst}
 use Rattle.seam_io.specs.Lines.{Content}
 use Rattle.seam_defs.specs.declared.states.Deed.{Deed}
 use Rattle.seam_defs.specs.declared.types.TypeDef.{TypeDef}

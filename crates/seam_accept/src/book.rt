@@ -133,7 +133,8 @@ impl Book {
     // Keeps an entity whose number is new.
     fn keep_create(&mut self, create: Create) -> Result<(), AllocError>
         requires { entity_at self.old.entities create.entity ≡ None }
-        ensures kept { OnOk result ((h : Headers) (b : Books) → Refines h b self.old → Refines h (with_entry b (Entry.Created create)) self.new) }
+        ensures kept { OnOk result ((h : Headers) (b : Books) → Refines h b self.old
+            → Refines h (with_entry b (Entry.Created create)) self.new) }
         ensures unchanged { OnErr result (self.new ≡ self.old) }
     {
         self.creates.reserve(1)?;

@@ -4,9 +4,9 @@ ghost use Rattle.seam_value.specs.Values.{Fits, text_of};
 ghost use Rattle.seam_value.specs.declared.values.Value.{Value as Values};
 ghost use Rattle.seam_defs.specs.Types.{IsType, method_of};
 ghost use Rattle.seam_defs.specs.Deeds.{part_of_deed};
-ghost use Rattle.seam_transcript.specs.Book.{SpellsArgs};
+ghost use Rattle.seam_transcript.specs.Book.{SpellsArgs, NamesDeed};
 ghost use Rattle.seam_accept.specs.Commands.{texts_of};
-ghost use Rattle.seam_accept.specs.Judging.{Asks, NoDeed, IsIllTyped};
+ghost use Rattle.seam_accept.specs.Judging.{Asks, NoMethod, NoDeed, IsIllTyped};
 
 use crate::answers::Refusal;
 use crate::command::{DeedWords, MethodWords};
@@ -28,7 +28,7 @@ pub fn deed_named(
     ensures none { IfErr result (NoDeed header.now words.now t.now) }
 {
     match words {
-        DeedWords::Method(words) => method_deed(alloc, header, t, words),
+        DeedWords::Method(words) => method_deed(alloc, t, words),
         DeedWords::Move(words) => match position_named(header, words) {
             Some(to) => Ok(Deed::Move(to)),
             None => Err(Refusal::Cause(Cause::IllTyped)),
@@ -37,15 +37,10 @@ pub fn deed_named(
 }
 
 // A method of the type, with its arguments.
-fn method_deed(
-    alloc: Global,
-    header: &Header,
-    t: &TypeDef,
-    words: &MethodWords,
-) -> Result<Deed, Refusal>
+fn method_deed(alloc: Global, t: &TypeDef, words: &MethodWords) -> Result<Deed, Refusal>
     requires { IsType t.now }
-    ensures deed { IfOk result (Asks header.now (DeedWords.Method words.now) t.now) }
-    ensures none { IfErr result (NoDeed header.now (DeedWords.Method words.now) t.now) }
+    ensures deed { IfOk result (NamesDeed (texts_of words.now.arguments.now) words.now.name.now t.now) }
+    ensures none { IfErr result (NoMethod words.now t.now) }
 {
     let Some(number) = method_named(t, words.name) else {
         return Err(Refusal::Cause(Cause::UnknownMethod));

@@ -16,3 +16,6 @@ pub use answers::{Accepted, Refusal};
 pub use book::Book;
 pub use count::next_count;
 pub use header::{is_separator, standard_header};
+
+#[cfg(test)]
+mod tests;

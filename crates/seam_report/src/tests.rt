@@ -19,12 +19,32 @@ fn lines_have_their_texts(rt: HostRuntime) -> Result<(), Fail> {
     let mut out = Vec::new(rt.alloc());
     push_number_line(&mut out, b"round ", 1)?;
     push_done(&mut out, b"did ", &defs, &DoneLine { ty: 0, call: &call })?;
-    push_refusal(&mut out, 9, Cause::BadWords(WordsError::OpenQuote))?;
-    push_refusal(&mut out, 10, Cause::TooLong)?;
-    push_refusal(&mut out, 11, Cause::NoCommand)?;
     assert_eq!(rt;
         out.as_slice(),
-        b"round 1\ndid 3 c3 1 move 5 6\nline 9 words 2\nline 10 long\nline 11 command\n".as_slice()
+        b"round 1\ndid 3 c3 1 move 5 6\n".as_slice()
     );
+    Ok(())
+}
+
+#[test]
+fn refusals_have_their_texts(rt: HostRuntime) -> Result<(), Fail> {
+    let mut out = Vec::new(rt.alloc());
+    push_refusal(&mut out, 1, Cause::TooLong)?;
+    push_refusal(&mut out, 2, Cause::BadWords(WordsError::OpenQuote))?;
+    push_refusal(&mut out, 3, Cause::NoCommand)?;
+    push_refusal(&mut out, 4, Cause::WrongCount)?;
+    push_refusal(&mut out, 5, Cause::BadNumber)?;
+    push_refusal(&mut out, 6, Cause::Exists)?;
+    push_refusal(&mut out, 7, Cause::NoType)?;
+    push_refusal(&mut out, 8, Cause::Outside)?;
+    push_refusal(&mut out, 9, Cause::Full)?;
+    push_refusal(&mut out, 10, Cause::NoSender)?;
+    push_refusal(&mut out, 11, Cause::Dead)?;
+    push_refusal(&mut out, 12, Cause::UnknownMethod)?;
+    push_refusal(&mut out, 13, Cause::IllTyped)?;
+    let lines =
+        b"line 1 long\nline 2 words 2\nline 3 command\nline 4 count\nline 5 number\nline 6 exists\nline 7 type\n\
+        line 8 outside\nline 9 full\nline 10 sender\nline 11 dead\nline 12 unknown\nline 13 illtyped\n";
+    assert_eq!(rt; out.as_slice(), lines.as_slice());
     Ok(())
 }

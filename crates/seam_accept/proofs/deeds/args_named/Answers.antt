@@ -1,6 +1,6 @@
-use Rattle.std.proofs.Common.{arith, sym, ◌∙◌, ap, length, ◌<◌}
+use Rattle.std.proofs.Common.{arith, length, ◌<◌}
 use Rattle.std.proofs.lemmas.Result.{err_from_is_err_and}
-use Rattle.seam_accept.proofs.ArgLemmas.{SpellFirst, not_as_many, one_is_none, ill_typed, spell_more, spell_all}
+use Rattle.seam_accept.proofs.ArgLemmas.{not_as_many, one_is_none, ill_typed, spell_more}
 use Rattle.seam_accept.proofs.deeds.args_named.Goals as goal
 
 pub returns-then-arguments-types-clause-none : goal.returns-then-arguments-types-clause-none

@@ -1,4 +1,4 @@
-use Rattle.std.proofs.Common.{◌≤◌, ◌∙◌, sym, arith, inl, inr}
+use Rattle.std.proofs.Common.{◌∙◌, sym, arith, inl, inr}
 use Rattle.seam_accept.proofs.CreateLemmas.{none_of_false, new_in_book, no_type_first, outside_first, full_first, create_accepted}
 use Rattle.seam_accept.proofs.judging.judge_create.Goals as goal
 use Rattle.seam_accept.proofs.judging.judge_create.Goals.{then-size-x-via-then-size-x, then-size-x-via-else-size-x+then-size-z}
