@@ -10,7 +10,7 @@ use Rattle.seam_defs.specs.declared.states.Deed.{Deed}
 use Rattle.seam_call.specs.BaseNodes.{IsBaseNode}
 use Rattle.seam_call.specs.declared.sender.Sender.TheVariants.{Base}
 use Rattle.seam_call.specs.declared.create.Create.{Create}
-use Rattle.seam_transcript.specs.declared.header.Header.{Header}
+use Rattle.seam_toml.specs.declared.header.Header.{Header}
 use Rattle.seam_transcript.specs.Book.{Book, entries, creates_of, created_as, live_as, accepted, NamesSender, NamesLive, NamesMethod}
 use Rattle.seam_transcript.specs.Book.{SpellsArgs, HoldsAgainst, IsDead, IsFirst}
 use Rattle.seam_transcript.specs.declared.verdict.Entry.TheVariants.{Called}

@@ -1,7 +1,7 @@
 -- Which causes may hold against a command of each kind: what is so of each of these is so of every one that holds.
 use Rattle.std.proofs.Common.{ℕ, List}
 use Rattle.seam_transcript.specs.Language.{Create, Call, Move}
-use Rattle.seam_transcript.specs.declared.header.Header.{Header}
+use Rattle.seam_toml.specs.declared.header.Header.{Header}
 use Rattle.seam_transcript.specs.Book.{Book, HoldsAgainst}
 use Rattle.seam_transcript.specs.declared.verdict.Cause.{Cause}
 use Rattle.seam_transcript.specs.declared.verdict.Cause.TheVariants as cause

@@ -4,7 +4,7 @@ use Rattle.seam_io.specs.Lines.{Content}
 use Rattle.seam_words.specs.Texts.{HasWords}
 use Rattle.seam_transcript.specs.Language.{IsSkipped}
 use Rattle.seam_transcript.specs.Book.{Book, Judges}
-use Rattle.seam_transcript.specs.declared.header.Header.{Header}
+use Rattle.seam_toml.specs.declared.header.Header.{Header}
 use Rattle.seam_transcript.specs.declared.verdict.Cause.{Cause}
 use Rattle.seam_transcript.specs.declared.verdict.Cause.TheVariants as cause
 use Rattle.seam_transcript.specs.declared.verdict.Verdict.TheVariants.{Refused}

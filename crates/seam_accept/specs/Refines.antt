@@ -1,7 +1,7 @@
 -- A book in code beside the book of a transcript.
 use Rattle.std.specs.Prelude.{◌≡◌, ⊤, map}
 use Rattle.seam_io.specs.Lines.{Line}
-use Rattle.seam_transcript.specs.declared.header.Header.{Header}
+use Rattle.seam_toml.specs.declared.header.Header.{Header}
 use Rattle.seam_transcript.specs.Language.{Command, Sync}
 use Rattle.seam_transcript.specs.Book.{Book, creates_of, calls_of, with_entry, Judges}
 use Rattle.seam_transcript.specs.declared.verdict.Entry.{Entry}

@@ -2,7 +2,7 @@
 ghost use Rattle.std.specs.Prelude.{◌≡◌, ◌≤◌, ℕ, None, length, IfOk, IfErr, OnOk, OnErr};
 ghost use Rattle.seam_io.specs.Lines.{Content};
 ghost use Rattle.seam_defs.specs.Settings.{AreInRange};
-ghost use Rattle.seam_transcript.specs.declared.header.Header.{Header as Headers};
+ghost use Rattle.seam_toml.specs.declared.header.Header.{Header as Headers};
 ghost use Rattle.seam_transcript.specs.Language.{Command as Commands};
 ghost use Rattle.seam_transcript.specs.Book.{Book as Books, empty_book, open_lines, with_entry, with_round_ended, created_as};
 ghost use Rattle.seam_call.specs.declared.sender.Sender.TheVariants as Sender;

@@ -4,7 +4,7 @@ ghost use Rattle.seam_io.specs.Lines.{Content};
 ghost use Rattle.seam_transcript.specs.Language.{IsSkipped, words_of, command_names, NamesCommand};
 ghost use Rattle.seam_transcript.specs.Language.{SpellsCommand, Command as Commands};
 ghost use Rattle.seam_transcript.specs.Book.{Book, Judges};
-ghost use Rattle.seam_transcript.specs.declared.header.Header.{Header};
+ghost use Rattle.seam_toml.specs.declared.header.Header.{Header};
 ghost use Rattle.seam_transcript.specs.declared.verdict.Verdict.TheVariants.{Refused};
 ghost use Rattle.seam_accept.specs.Commands.{texts_of, command_of, IsFaultOfWords};
 

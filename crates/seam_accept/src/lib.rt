@@ -15,7 +15,7 @@ mod naming;
 pub use answers::{Accepted, Refusal};
 pub use book::Book;
 pub use count::next_count;
-pub use header::{is_separator, standard_header};
+pub use header::HeaderLines;
 
 #[cfg(test)]
 mod tests;

@@ -15,7 +15,7 @@ use Rattle.seam_call.specs.declared.create.Create.{Create}
 use Rattle.seam_call.specs.declared.order.Order.{Order}
 use Rattle.seam_call.specs.declared.order.Order.TheVariants as order
 use Rattle.seam_call.specs.declared.order.Batch.{Batch}
-use Rattle.seam_transcript.specs.declared.header.Header.{Header}
+use Rattle.seam_toml.specs.declared.header.Header.{Header}
 use Rattle.seam_transcript.specs.Book.{Book, entries, created, called, creates_of, calls_of, created_as, with_entry}
 use Rattle.seam_transcript.specs.InOrder.{in_order}
 use Rattle.seam_transcript.specs.declared.verdict.Entry.{Entry}

@@ -7,7 +7,7 @@ use Rattle.seam_call.specs.Senders.{same_sender}
 use Rattle.seam_call.specs.declared.sender.Sender.{Sender}
 use Rattle.seam_call.specs.declared.sender.Sender.TheVariants as sender
 use Rattle.seam_call.specs.declared.call.Call.{Call}
-use Rattle.seam_transcript.specs.declared.header.Header.{Header}
+use Rattle.seam_toml.specs.declared.header.Header.{Header}
 use Rattle.seam_transcript.specs.Book.{Book, entries, calls_of}
 use Rattle.seam_transcript.specs.Orders.{of_sender}
 use Rattle.seam_transcript.specs.InOrder.{in_order}

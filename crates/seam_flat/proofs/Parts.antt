@@ -6,7 +6,7 @@ use Rattle.seam_defs.specs.declared.flags.Part.{Part}
 use Rattle.seam_defs.specs.declared.states.State.{State}
 use Rattle.seam_call.specs.declared.call.Call.{Call}
 use Rattle.seam_call.specs.declared.create.Create.{Create}
-use Rattle.seam_transcript.specs.declared.header.Header.{Header}
+use Rattle.seam_toml.specs.declared.header.Header.{Header}
 use Rattle.seam_transcript.proofs.InOrderLemmas.{flat_with_call}
 use Rattle.seam_flat.specs.Tables.{PartRefines, Executes}
 use Rattle.seam_flat.specs.declared.entity.FlatPart.{FlatPart}

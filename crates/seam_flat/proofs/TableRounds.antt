@@ -16,7 +16,7 @@ use Rattle.seam_defs.specs.declared.flags.Part.TheVariants as part
 use Rattle.seam_defs.specs.declared.states.State.{State}
 use Rattle.seam_call.specs.declared.call.Call.{Call}
 use Rattle.seam_call.specs.declared.create.Create.{Create}
-use Rattle.seam_transcript.specs.declared.header.Header.{Header}
+use Rattle.seam_toml.specs.declared.header.Header.{Header}
 use Rattle.seam_transcript.specs.Book.{Book, entries as entries_of, creates_of, created_as}
 use Rattle.seam_transcript.specs.FlatTable.{flat}
 use Rattle.seam_transcript.specs.InOrder.{in_order, round_in_order, after_round}

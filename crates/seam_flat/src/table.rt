@@ -1,6 +1,6 @@
 // The table of all entities.
 ghost use Rattle.std.specs.Prelude.{◌≡◌, ℕ, OnOk, IfOk, MatchOption};
-ghost use Rattle.seam_transcript.specs.declared.header.Header.{Header as Headers};
+ghost use Rattle.seam_toml.specs.declared.header.Header.{Header as Headers};
 ghost use Rattle.seam_transcript.specs.Book.{Book, empty_book, with_entry, with_round_ended};
 ghost use Rattle.seam_transcript.specs.declared.verdict.Entry.TheVariants.{Created, Called};
 ghost use Rattle.seam_transcript.specs.FlatTable.{first_state};

@@ -6,7 +6,7 @@ use Rattle.std.specs.List.{slice_split}
 use Rattle.std.proofs.lemmas.List.{length-map, take_all, take_more, map-append}
 use Rattle.std.proofs.lemmas.List.Concat.{flat_map-append}
 use Rattle.seam_io.specs.Lines.{Line, Long, is_feed, line_of, lines_of, lines_between}
-use Rattle.seam_transcript.specs.declared.header.Header.{Header}
+use Rattle.seam_toml.specs.declared.header.Header.{Header}
 use Rattle.seam_transcript.specs.Header.{Reads, separator, BeginWithHeader}
 use Rattle.seam_transcript.specs.Standing.{Standing, after_header}
 use Rattle.seam_transcript.specs.Transcript.{Piece, piece_text, text_of, Step, Run, EndsInput, IsEnded}

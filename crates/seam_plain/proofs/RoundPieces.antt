@@ -6,7 +6,7 @@ use Rattle.seam_defs.specs.declared.flags.Part.TheVariants as part
 use Rattle.seam_call.specs.Calls.{is_for}
 use Rattle.seam_call.specs.declared.call.Call.{Call}
 use Rattle.seam_call.specs.declared.create.Create.{Create}
-use Rattle.seam_transcript.specs.declared.header.Header.{Header}
+use Rattle.seam_toml.specs.declared.header.Header.{Header}
 use Rattle.seam_transcript.specs.Book.{Book, entries, calls_of}
 use Rattle.seam_transcript.specs.InOrder.{round_in_order}
 use Rattle.seam_transcript.specs.Round.{RoundData, done_lines, home_line, base_line}

@@ -16,7 +16,7 @@ use Rattle.seam_defs.specs.Builtin.{builtin}
 use Rattle.seam_call.specs.declared.sender.Sender.{Sender}
 use Rattle.seam_call.specs.declared.sender.Sender.TheVariants.{Base}
 use Rattle.seam_transcript.specs.Language as language
-use Rattle.seam_transcript.specs.declared.header.Header.{Header}
+use Rattle.seam_toml.specs.declared.header.Header.{Header}
 use Rattle.seam_transcript.specs.Header.{Reads, BeginWithHeader, separator}
 use Rattle.seam_transcript.specs.Book.{Book, empty_book, created_as, open_lines, SpellsNone, Judges}
 use Rattle.seam_transcript.specs.InOrder.{round_in_order, after_round}

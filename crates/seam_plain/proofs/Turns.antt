@@ -10,7 +10,7 @@ use Rattle.seam_io.proofs.LineLemmas.{line_of-long, line_of-short}
 use Rattle.seam_transcript.specs.declared.verdict.Cause.TheVariants as cause
 use Rattle.seam_transcript.proofs.Verdicts.{long_is_refused}
 use Rattle.seam_call.specs.declared.create.Create.{Create}
-use Rattle.seam_transcript.specs.declared.header.Header.{Header}
+use Rattle.seam_toml.specs.declared.header.Header.{Header}
 use Rattle.seam_transcript.specs.declared.verdict.Entry.{Entry}
 use Rattle.seam_transcript.specs.declared.verdict.Cause.{Cause}
 use Rattle.seam_transcript.specs.declared.verdict.Verdict.{Verdict}

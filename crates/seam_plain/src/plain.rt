@@ -5,7 +5,7 @@ ghost use Rattle.std.specs.List.{slice_split};
 ghost use Rattle.std.specs.Str.Lines.{strip_carriage_return};
 ghost use Rattle.seam_io.specs.Lines.{Line, Content, is_feed, line_of, lines_of, lines_between};
 ghost use Rattle.seam_call.specs.declared.call.Call.{Call as Calls};
-ghost use Rattle.seam_transcript.specs.declared.header.Header.{Header as Headers};
+ghost use Rattle.seam_toml.specs.declared.header.Header.{Header as Headers};
 ghost use Rattle.seam_transcript.specs.Header.{separator, BeginWithHeader};
 ghost use Rattle.seam_transcript.specs.Language.{Create as CreateCommand, Call as CallCommand};
 ghost use Rattle.seam_transcript.specs.Book.{entries, creates_of, calls_of, created_as as created_as_of, accepted};

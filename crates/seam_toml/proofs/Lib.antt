@@ -8,4 +8,4 @@ mod Uniqueness
 mod AnswerLemmas
 mod Soundness
 mod Existence
-mod HeaderLaws
+pub mod HeaderLaws

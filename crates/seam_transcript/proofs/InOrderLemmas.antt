@@ -16,7 +16,7 @@ use Rattle.seam_call.specs.Calls.{is_for, is_from}
 use Rattle.seam_call.specs.declared.sender.Sender.{Sender}
 use Rattle.seam_call.specs.declared.call.Call.{Call}
 use Rattle.seam_call.specs.declared.create.Create.{Create}
-use Rattle.seam_transcript.specs.declared.header.Header.{Header}
+use Rattle.seam_toml.specs.declared.header.Header.{Header}
 use Rattle.seam_transcript.specs.Book.{Book, entries, called, calls_of, created_as, accepted, with_entry, with_round_ended}
 use Rattle.seam_transcript.specs.Orders.{Orders, of_sender, IsFull, IsLegal}
 use Rattle.seam_transcript.specs.FlatTable.{flat, first_state}

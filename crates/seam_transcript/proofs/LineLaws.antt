@@ -3,7 +3,7 @@ use Rattle.std.proofs.Common.{◌≡◌, ◌↔◌, ◌+◌, ℕ, List, [], ◌�
 use Rattle.seam_io.specs.Lines.{Line, Content, Long}
 use Rattle.seam_words.specs.Texts.{HasWords}
 use Rattle.seam_transcript.specs.Language.{IsSkipped, NamesCommand}
-use Rattle.seam_transcript.specs.declared.header.Header.{Header}
+use Rattle.seam_toml.specs.declared.header.Header.{Header}
 use Rattle.seam_transcript.specs.Book.{Judges}
 use Rattle.seam_transcript.specs.Standing.{Standing, with_line}
 use Rattle.seam_transcript.specs.Transcript.{Piece, Refusal, Follows, Step}

@@ -14,7 +14,6 @@ use Rattle.seam_defs.specs.declared.states.Deed.{Deed}
 use Rattle.seam_defs.specs.Types.{AreDefs}
 use Rattle.seam_defs.specs.declared.flags.Part.{Part}
 use Rattle.seam_defs.specs.declared.flags.Part.TheVariants as part
-use Rattle.seam_defs.proofs.WellFormed.{builtin-are-defs}
 use Rattle.seam_call.specs.Senders.{same_sender}
 use Rattle.seam_call.specs.Calls.{is_from, same_part}
 use Rattle.seam_call.specs.declared.sender.Sender.{Sender}
@@ -22,8 +21,11 @@ use Rattle.seam_call.specs.declared.sender.Sender.TheVariants as sender
 use Rattle.seam_call.specs.declared.call.Call.{Call}
 use Rattle.seam_call.specs.declared.create.Create.{Create}
 use Rattle.seam_transcript.specs.Language as language
-use Rattle.seam_transcript.specs.declared.header.Header.{Header}
-use Rattle.seam_transcript.specs.Header.{Reads, AreHeaderLines, BeginWithHeader, separator}
+use Rattle.seam_toml.specs.declared.header.Header.{Header}
+use Rattle.seam_transcript.specs.Header.{BeginWithHeader, separator}
+use Rattle.seam_transcript.proofs.HeaderLemmas.{header_lines_are_one}
+use Rattle.seam_toml.specs.Header.{Reads}
+use Rattle.seam_toml.proofs.HeaderLaws.{reads_one, reads_defs}
 use Rattle.seam_transcript.specs.Book.{Book, entries, called, calls_of, created_as, live_as, accepted, open_lines, with_entry, Adds}
 use Rattle.seam_transcript.specs.Book.{NamesDeed, NamesMove, NamesCall, Spells, Judges}
 use Rattle.seam_transcript.specs.Orders.{Orders, of_sender, IsFull}
@@ -272,48 +274,27 @@ last_is_one h one s false xs ys own x y = (end_is_one h one s xs ys x.0 y.0 own 
 
 -- ---- headers
 
--- so far a header has no line but its end
-pub no_header_lines : (head : List Line) (text : List ℕ) → AreHeaderLines head text → head ≡ []
-no_header_lines head text are = are.are ∙ ap (map Content) (none are.contents (ap length (sym are.whole) ∙ omega (arith, are.most)))
-  where
-    none : (contents : List (List ℕ)) → length (flat_map (λ (content : List ℕ). content ++ 10 ∷ []) contents) ≡ 0 → contents ≡ []
-    none [] is = refl
-    none (content ∷ contents) is =
-        let parts = length-append (content ++ 10 ∷ []) (flat_map (λ (c : List ℕ). c ++ 10 ∷ []) contents) in
-        let feed = length-append content (10 ∷ []) in
-        absurd (omega (arith, is, parts, feed))
-
-same_header : (h k : Header) → h.settings ≡ k.settings → h.defs ≡ k.defs → h ≡ k
-same_header h k settings defs = λ i. record { settings = settings i; defs = defs i }
-
 -- what lines with a header begin with is one
 pub header_is_one : (lines : List Line) (h k : Header) (m n : ℕ) (rest more : List Line) → BeginWithHeader lines h m rest →
     BeginWithHeader lines k n more → (h ≡ k) × (m ≡ n) × (rest ≡ more)
 header_is_one lines h k m n rest more x y =
-    let none = no_header_lines x.head x.text x.are in
-    let none' = no_header_lines y.head y.text y.are in
-    let here : lines ≡ separator ∷ rest = x.whole ∙ ap (λ (ls : List Line). ls ++ separator ∷ rest) none in
-    let here' : lines ≡ separator ∷ more = y.whole ∙ ap (λ (ls : List Line). ls ++ separator ∷ more) none' in (
-      same_header h k (x.reads.settings ∙ sym y.reads.settings) (x.reads.defs ∙ sym y.reads.defs),
-      x.number ∙ ap (λ (ls : List Line). length ls + 1) (none ∙ sym none') ∙ sym y.number,
-      ap tail (sym here ∙ here'),
+    let same = header_lines_are_one lines h k m n rest more x y in (
+      reads_one y.text h k (subst (λ (t : List ℕ). Reads t h) same.1 x.reads) y.reads,
+      x.number ∙ ap (λ (ls : List Line). length ls + 1) same.0 ∙ sym y.number,
+      same.2,
     )
-  where
-    tail : List Line → List Line
-    tail [] = []
-    tail (line ∷ ls) = ls
 
--- the types that a header sets are well formed
-pub header_has_defs : (text : List ℕ) (h : Header) → Reads text h → AreDefs h.defs
-header_has_defs text h reads = subst AreDefs (sym reads.defs) builtin-are-defs
+-- what comes after other lines is part of the lines
+All_after : {X : Type 0} (P : X → Type 0) (xs ys : List X) → All P (xs ++ ys) → All P ys
+All_after P [] ys all = all
+All_after P (x ∷ xs) ys all = All_after P xs ys (All-tail P x (xs ++ ys) all)
 
 -- the lines after a header are calls of the same senders
 rest_is_from : (one : ℕ → Sender) (h : Header) (lines rest : List Line) (n : ℕ) → CallsAreFrom one lines → BeginWithHeader lines h n rest →
     CallsAreFrom one rest
 rest_is_from one h lines rest n names begins =
-    let here : lines ≡ separator ∷ rest =
-    begins.whole ∙ ap (λ (ls : List Line). ls ++ separator ∷ rest) (no_header_lines begins.head begins.text begins.are) in
-    All-tail (CallIsFrom one) separator rest (subst (CallsAreFrom one) here names)
+    All-tail (CallIsFrom one) separator rest
+    (All_after (CallIsFrom one) begins.head (separator ∷ rest) (subst (CallsAreFrom one) begins.whole names))
 
 -- an input whose entities have one sender each has one ended transcript
 pub transcript_is_one : (lines : List Line) (one : ℕ → Sender) (x y : List ℕ) → CallsAreFrom one lines → IsEnded lines x → IsEnded lines y →
@@ -324,7 +305,7 @@ transcript_is_one lines one x y names (h, xs, last, t, prints, ends, is) (k, ys,
     subst (λ (ls : List Line). Run (Step h) (after_header prints.count) ls ys u) (sym same.2)
     (subst (λ (n : ℕ). Run (Step h) (after_header n) prints'.rest ys u) (sym same.1)
     (subst (λ (j : Header). Run (Step j) (after_header prints'.count) prints'.rest ys u) (sym same.0) prints'.run)) in
-    let run = run_is_one h one prints.rest (after_header prints.count) t u xs ys (header_has_defs prints.header.text h prints.header.reads)
+    let run = run_is_one h one prints.rest (after_header prints.count) t u xs ys (reads_defs prints.header.text h prints.header.reads)
     (rest_is_from one h lines prints.rest prints.count names prints.header) (All-nil (IsOwn one)) prints.run run' in
     let ends_here : EndsInput h t last' =
     subst (λ (v : Standing). EndsInput h v last') (sym run.1) (subst (λ (j : Header). EndsInput j u last') (sym same.0) ends') in

@@ -30,7 +30,7 @@ use Rattle.seam_call.specs.declared.sender.Sender.TheVariants as sender
 use Rattle.seam_call.specs.declared.call.Call.{Call}
 use Rattle.seam_call.specs.declared.create.Create.{Create}
 use Rattle.seam_transcript.specs.Language as language
-use Rattle.seam_transcript.specs.declared.header.Header.{Header}
+use Rattle.seam_toml.specs.declared.header.Header.{Header}
 use Rattle.seam_transcript.specs.Book.{Book, live_as, accepted, NamesType, NamesMethod, NamesLive, NamesDeed, NamesMove, NamesCreate}
 use Rattle.seam_transcript.specs.Book.{SpellsPosition, NamesCall, Adds, rank, HoldsAgainst, Holds, IsFirst, Spells, Judges}
 use Rattle.seam_transcript.specs.declared.verdict.Entry.{Entry}

@@ -7,7 +7,7 @@ use Rattle.seam_defs.specs.declared.flags.Part.{Part}
 use Rattle.seam_defs.specs.declared.states.State.{State}
 use Rattle.seam_call.specs.declared.call.Call.{Call}
 use Rattle.seam_call.specs.declared.create.Create.{Create}
-use Rattle.seam_transcript.specs.declared.header.Header.{Header}
+use Rattle.seam_toml.specs.declared.header.Header.{Header}
 
 -- the state of a part of a new entity: its first position, and its type's defaults. A base part's position is never shown.
 abbrev pub first_state : Header → Part → Create → State

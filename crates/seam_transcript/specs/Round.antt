@@ -8,7 +8,7 @@ use Rattle.seam_defs.specs.declared.flags.Part.TheVariants as part
 use Rattle.seam_defs.specs.declared.states.State.{State}
 use Rattle.seam_call.specs.declared.call.Call.{Call}
 use Rattle.seam_call.specs.declared.create.Create.{Create}
-use Rattle.seam_transcript.specs.declared.header.Header.{Header}
+use Rattle.seam_toml.specs.declared.header.Header.{Header}
 use Rattle.seam_transcript.specs.Book.{Book, created_as, live_as, accepted, with_round_ended}
 use Rattle.seam_transcript.specs.Orders.{Orders, IsFull}
 use Rattle.seam_transcript.specs.FlatTable.{flat}

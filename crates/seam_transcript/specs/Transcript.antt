@@ -3,7 +3,7 @@ use Rattle.std.specs.Prelude.{◌≡◌, ◌⊎◌, ℕ, List, [], ◌∷◌, �
 use Rattle.std.specs.List.{flat_map}
 use Rattle.seam_io.specs.Lines.{Line}
 use Rattle.seam_defs.specs.declared.types.TypeDef.{TypeDef}
-use Rattle.seam_transcript.specs.declared.header.Header.{Header}
+use Rattle.seam_toml.specs.declared.header.Header.{Header}
 use Rattle.seam_transcript.specs.Header.{BeginWithHeader, AwaitHeader}
 use Rattle.seam_transcript.specs.Book.{open_lines, with_entry, Judges}
 use Rattle.seam_transcript.specs.Standing.{Standing, after_header, with_line, with_book}

@@ -7,15 +7,14 @@
 //! `InOrderLemmas` (calls executed as they were accepted), `RunLemmas`, and `OneSender` (where a transcript is the only one).
 #![tactic(auto)]
 
-mod header;
 mod laws;
 mod limits;
 mod verdict;
 
-pub use header::Header;
 pub use laws::{
     command_is_one, full_order_is_legal, header_is_one, long_line_is_refused,
     one_sender_one_transcript, unknown_command_is_refused, verdict_is_one,
 };
 pub use limits::{MOST_ENTITIES, MOST_LINES};
+pub use seam_toml::Header;
 pub use verdict::{Cause, Entry, Verdict};

@@ -10,7 +10,7 @@ use Rattle.seam_io.specs.States.{SourceState, SinkState}
 use Rattle.seam_io.specs.Lines.{Line, Long, whole_lines_of}
 use Rattle.seam_io.specs.Reading.{Reader, Reading, IsExact}
 use Rattle.seam_io.specs.declared.lines.Next.TheVariants as next
-use Rattle.seam_transcript.specs.declared.header.Header.{Header}
+use Rattle.seam_toml.specs.declared.header.Header.{Header}
 use Rattle.seam_transcript.specs.Header.{Reads, separator, AwaitHeader}
 use Rattle.seam_transcript.specs.Standing.{after_header}
 use Rattle.seam_transcript.specs.Transcript.{Piece, text_of, piece_text, Step, PrintLines, IsOpen, IsEnded}

@@ -5,7 +5,7 @@ use Rattle.std.specs.Prelude.{MatchBool, ◌==◌}
 use Rattle.std.proofs.lemmas.Grind.{common_steps}
 use Rattle.seam_io.specs.Lines.{Line}
 use Rattle.seam_defs.specs.declared.types.TypeDef.{TypeDef}
-use Rattle.seam_transcript.specs.declared.header.Header.{Header}
+use Rattle.seam_toml.specs.declared.header.Header.{Header}
 use Rattle.seam_transcript.specs.Book.{Book, open_lines, with_entry, with_round_ended, empty_book, Judges}
 use Rattle.seam_transcript.specs.Standing.{Standing, after_header, with_line, with_book}
 use Rattle.seam_transcript.specs.InOrder.{after_round}

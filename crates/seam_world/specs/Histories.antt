@@ -5,7 +5,7 @@ use Rattle.seam_io.specs.Causes.{Rose}
 use Rattle.seam_io.specs.States.{SourceState, SinkState}
 use Rattle.seam_io.specs.Lines.{Line}
 use Rattle.seam_io.specs.Reading.{Reader, Reading}
-use Rattle.seam_transcript.specs.declared.header.Header.{Header}
+use Rattle.seam_toml.specs.declared.header.Header.{Header}
 use Rattle.seam_transcript.specs.Header.{BeginWithHeader}
 use Rattle.seam_transcript.specs.Standing.{Standing, after_header}
 use Rattle.seam_transcript.specs.Transcript.{Piece, text_of, Step, Run, IsOpen, IsEnded}

@@ -1,7 +1,7 @@
 -- How far a script was read, beside the standing of a transcript.
 use Rattle.std.specs.Prelude.{◌≡◌, ℕ, ◌<◌, List}
 use Rattle.seam_io.specs.Lines.{Line}
-use Rattle.seam_transcript.specs.declared.header.Header.{Header}
+use Rattle.seam_toml.specs.declared.header.Header.{Header}
 use Rattle.seam_transcript.specs.declared.verdict.Verdict.{Verdict}
 use Rattle.seam_transcript.specs.Book.{open_lines, Judges}
 use Rattle.seam_transcript.specs.Standing.{Standing}

@@ -6,7 +6,7 @@ ghost use Rattle.seam_io.specs.Causes.{Rose};
 ghost use Rattle.seam_io.specs.States.{SourceState, SinkState};
 ghost use Rattle.seam_io.specs.Lines.{Content, Long, HasNoFeed};
 ghost use Rattle.seam_io.specs.Reading.{Reading, budget};
-ghost use Rattle.seam_transcript.specs.declared.header.Header.{Header as Headers};
+ghost use Rattle.seam_toml.specs.declared.header.Header.{Header as Headers};
 ghost use Rattle.seam_transcript.specs.Header.{no_end, too_long};
 ghost use Rattle.seam_transcript.specs.Standing.{Standing};
 ghost use Rattle.seam_transcript.specs.Transcript.{IsOpen, IsEnded};

@@ -2,7 +2,7 @@
 ghost use Rattle.std.specs.Prelude.{◌≡◌, ◌≤◌, ◌++◌, List, ℕ, length, OnOk, IfOk};
 ghost use Rattle.seam_io.specs.Lines.{Line as Lines, Content, Long};
 ghost use Rattle.seam_defs.specs.Settings.{AreInRange};
-ghost use Rattle.seam_transcript.specs.declared.header.Header.{Header as Headers};
+ghost use Rattle.seam_toml.specs.declared.header.Header.{Header as Headers};
 ghost use Rattle.seam_transcript.specs.Standing.{Standing, after_header};
 ghost use Rattle.seam_world.specs.Script.{IsReady, ScriptRefines, HasAccepted, RoundEnds, LineFollowed, LineRead, InputEnded};
 

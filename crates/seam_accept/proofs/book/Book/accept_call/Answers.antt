@@ -1,5 +1,5 @@
 use Rattle.std.proofs.Common.{sym, subst}
-use Rattle.seam_transcript.specs.declared.header.Header.{Header}
+use Rattle.seam_toml.specs.declared.header.Header.{Header}
 use Rattle.seam_transcript.specs.declared.verdict.Entry.TheVariants.{Called}
 use Rattle.seam_accept.specs.Commands.{call_of}
 use Rattle.seam_accept.specs.Judging.{Accepts}

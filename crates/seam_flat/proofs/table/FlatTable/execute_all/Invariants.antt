@@ -1,4 +1,4 @@
-use Rattle.seam_transcript.specs.declared.header.Header.{Header}
+use Rattle.seam_toml.specs.declared.header.Header.{Header}
 use Rattle.seam_transcript.specs.Book.{Book}
 use Rattle.seam_flat.specs.Tables.{Holds}
 use Rattle.seam_flat.specs.Batches.{calls_of_orders, with_calls}

@@ -1,5 +1,5 @@
 use Rattle.std.specs.Prelude.{take}
-use Rattle.seam_transcript.specs.declared.header.Header.{Header}
+use Rattle.seam_toml.specs.declared.header.Header.{Header}
 use Rattle.seam_transcript.specs.Book.{Book}
 use Rattle.seam_flat.specs.Tables.{Refines}
 use Rattle.seam_flat.specs.Batches.{with_creates}
