@@ -4,3 +4,4 @@ mod TextLemmas
 mod Prefixes
 mod PrintLemmas
 mod RunLemmas
+mod HeaderRuns

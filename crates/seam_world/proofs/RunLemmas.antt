@@ -11,11 +11,10 @@ use Rattle.seam_io.specs.Lines.{Line, Long, whole_lines_of}
 use Rattle.seam_io.specs.Reading.{Reader, Reading, IsExact}
 use Rattle.seam_io.specs.declared.lines.Next.TheVariants as next
 use Rattle.seam_toml.specs.declared.header.Header.{Header}
-use Rattle.seam_transcript.specs.Header.{Reads, separator, AwaitHeader}
 use Rattle.seam_transcript.specs.Standing.{after_header}
 use Rattle.seam_transcript.specs.Transcript.{Piece, text_of, piece_text, Step, PrintLines, IsOpen, IsEnded}
 use Rattle.seam_transcript.proofs.RunLemmas.{run_with_line}
-use Rattle.seam_transcript.proofs.HeaderLemmas.{header_of_append, await_at_first, no_line_awaits, header_of_first_line}
+use Rattle.seam_transcript.proofs.HeaderLemmas.{header_of_append}
 use Rattle.seam_world.specs.Script.{ScriptRefines, LineRead, InputEnded}
 use Rattle.seam_world.specs.Status.{IsHeaderEnd, IsRunEnd}
 use Rattle.seam_world.specs.Ends.{AreAll, IsSoFar, Tells, HasFaultLine, RunEnds, most_bytes}
@@ -294,99 +293,3 @@ with_tail st began now old mid new s tail a higher f = record {
     from_start : HasFaultLine st mid new tail → HasFaultLine st old new tail
     from_start (inl e) = inl e
     from_start (inr e) = inr (e.0, let l = s.later in let r = e.1 in omega arith)
-
--- ---- the header
-
--- a line of other bytes does not end the header, and neither does a long one
-pub long_is_no_end : Long ≢ separator
-long_is_no_end e = cc
-
-header_fails_no_write : (st : Status) → IsHeaderEnd st → st ≡ status.WriteFault → ⊥
-header_fails_no_write status.Done h e = absurd h
-header_fails_no_write status.Usage h e = absurd h
-header_fails_no_write (status.BadHeader n) h e = cc
-header_fails_no_write status.ReadFault h e = cc
-header_fails_no_write status.WriteFault h e = absurd h
-header_fails_no_write status.Limit h e = cc
-header_fails_no_write status.NoMemory h e = cc
-
-header_may_end : (st : Status) → IsHeaderEnd st → IsRunEnd st
-header_may_end status.Done h = absurd h
-header_may_end status.Usage h = absurd h
-header_may_end (status.BadHeader n) h = h
-header_may_end status.ReadFault h = tt
-header_may_end status.WriteFault h = absurd h
-header_may_end status.Limit h = tt
-header_may_end status.NoMemory h = tt
-
--- the run ended within the header
-header_stopped : (began now : SourceState) (sink : SinkState) (st : Status) (given : List ℕ) → Consumes began.left now.left given →
-    length given ≤ most_bytes
-    → Tells IsOpen IsEnded st began now given [] → IsHeaderEnd st → Stopped st began now sink sink
-header_stopped began now sink st given took most tells end = record {
-  given = given;
-  text = [];
-  took = took;
-  most = most;
-  writing = Appends-nil sink.written;
-  later = omega arith;
-  failed = λ e. absurd (header_fails_no_write st end e);
-  allowed = header_may_end st end;
-  tells = tells;
-}
-
--- an allocation failed before a line was judged
-pub nothing_judged : (began now : SourceState) (sink : SinkState) (given : List ℕ) → Consumes began.left now.left given →
-    length given ≤ most_bytes → Stopped status.NoMemory began now sink sink
-nothing_judged began now sink given took most =
-    header_stopped began now sink status.NoMemory given took most ([], inl (whole_lines_of given, refl), inl (refl, await_at_first))
-    tt
-
--- nothing was printed for a header of which no line was read
-nothing_open : (given : List ℕ) → whole_lines_of given ≡ [] → IsOpen (whole_lines_of given) []
-nothing_open given none = inl (refl, subst AwaitHeader (sym none) await_at_first)
-
-module _ (began now later : SourceState) (sink : SinkState) (reader after : Reader) (before : Reading began now reader [] [])
-    (given : List ℕ) (limit : after.limit ≡ most_bytes) where
-  -- the first line was another than the header's end
-  pub other_line : (line : Line) → Reading began later after given (line ∷ []) → line ≢ separator →
-      Stopped (status.BadHeader 11) began later sink sink
-  other_line line r other =
-      header_stopped began later sink (status.BadHeader 11) given r.took (within_limit r limit)
-      (refl, inr (refl, [], line, are_first began later after given (line ∷ []) [] r, other, await_at_first, no_line_awaits line))
-      (inr refl)
-
-  -- the input had no line
-  pub no_line : Reading began later after given [] → IsExact next.End after given [] → Stopped (status.BadHeader 10) began later sink sink
-  no_line r exact =
-      let end = exact.ended.0 refl in
-      let at = r.ended end.0 in
-      header_stopped began later sink (status.BadHeader 10) given r.took (within_limit r limit)
-      (refl, inl (refl, [], (at.1, at.0, end.1), await_at_first)) (inl refl)
-
-  pub header_read_fault : Reading began later after given [] → IsExact next.ReadFault after given [] → Rose now.faults later.faults →
-      Stopped status.ReadFault began later sink sink
-  header_read_fault r exact rose =
-      let here = exact.fault refl in
-      let low = here.1 in
-      let count = r.count in
-      header_stopped began later sink status.ReadFault given r.took (within_limit r limit)
-      ((let l = before.faults in omega arith), omega arith, nothing_open given here.2) tt
-
-  pub header_limit : Reading began later after given [] → IsExact next.Limit after given [] → Stopped status.Limit began later sink sink
-  header_limit r exact =
-      let here = exact.full.0 refl in
-      header_stopped began later sink status.Limit given r.took (within_limit r limit) (
-        sym r.count ∙ here.0
-            ∙ limit,
-        nothing_open given here.1,
-      ) tt
-
-  -- the first line was the header's end
-  pub header_ends : (h : Header) (line : Line) → Reading began later after given (line ∷ []) → Reads [] h → line ≡ separator →
-      HasHeader began later after h 1
-  header_ends h line r reads is =
-      record { given = given; read = line ∷ []; begins = header_of_first_line h line reads is; reading = r; limit = limit }
-
-  pub header_no_memory : (line : Line) → Reading began later after given (line ∷ []) → Stopped status.NoMemory began later sink sink
-  header_no_memory line r = nothing_judged began later sink given r.took (within_limit r limit)

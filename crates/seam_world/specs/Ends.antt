@@ -1,11 +1,11 @@
 -- How a run ends: what each status tells of the bytes that were read and of what was written.
-use Rattle.std.specs.Prelude.{◌≡◌, ◌≢◌, ◌⊎◌, ◌<◌, ◌≤◌, ℕ, ◌^◌, List, [], ◌∷◌, ◌++◌, codes, length}
+use Rattle.std.specs.Prelude.{◌≡◌, ◌⊎◌, ◌<◌, ◌≤◌, ℕ, ◌^◌, List, [], ◌∷◌, ◌++◌, codes, length}
 use Rattle.std.specs.Io.KnownBytes.{Appends, Consumes, IsAtEnd}
 use Rattle.seam_io.specs.Causes.{Rose}
 use Rattle.seam_io.specs.States.{SourceState, SinkState}
 use Rattle.seam_io.specs.Lines.{Line, lines_of, whole_lines_of}
 use Rattle.seam_value.specs.Values.{decimal_of}
-use Rattle.seam_transcript.specs.Header.{separator, AwaitHeader, no_end, too_long}
+use Rattle.seam_transcript.specs.Header.{AwaitHeader, RefusesHeader, no_end}
 use Rattle.seam_world.specs.declared.status.Status.{Status}
 use Rattle.seam_world.specs.declared.status.Status.TheVariants as status
 
@@ -30,12 +30,11 @@ AreFirst old new given read =
 abbrev pub AreAll : SourceState → SourceState → List ℕ → List Line → Type 0
 AreAll old new given read = Rose old.ends new.ends × IsAtEnd new.left × (lines_of given ≡ read)
 
--- Why the header is refused: the input ended before it did, or another line than its end came after which no header can be.
+-- Why the header is refused: the input ended before it did, or it is refused at a line.
 abbrev pub IsHeaderFault : SourceState → SourceState → List ℕ → ℕ → Type 0
 IsHeaderFault old new given k =
     ((k ≡ no_end) × (read : List Line) × AreAll old new given read × AwaitHeader read)
-    ⊎ ((k ≡ too_long) × (read : List Line) × (line : Line) × AreFirst old new given (read ++ line ∷ []) × (line ≢ separator)
-    × AwaitHeader read × (AwaitHeader (read ++ line ∷ []) → ⊥))
+    ⊎ ((read : List Line) × (line : Line) × AreFirst old new given (read ++ line ∷ []) × RefusesHeader read line k)
 
 -- the fault line of a status
 abbrev pub fault_line : Status → List ℕ

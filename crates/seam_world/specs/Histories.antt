@@ -1,12 +1,12 @@
 -- What has happened since a run began: the private functions of the top call speak of it.
-use Rattle.std.specs.Prelude.{◌≡◌, ℕ, ◌≤◌, List, [], length}
+use Rattle.std.specs.Prelude.{◌≡◌, ℕ, ◌+◌, ◌≤◌, List, [], ◌∷◌, ◌++◌, length, Option, None, Some, Result, Ok, Err}
 use Rattle.std.specs.Io.KnownBytes.{Consumes, Appends}
 use Rattle.seam_io.specs.Causes.{Rose}
 use Rattle.seam_io.specs.States.{SourceState, SinkState}
 use Rattle.seam_io.specs.Lines.{Line}
 use Rattle.seam_io.specs.Reading.{Reader, Reading}
 use Rattle.seam_toml.specs.declared.header.Header.{Header}
-use Rattle.seam_transcript.specs.Header.{BeginWithHeader}
+use Rattle.seam_transcript.specs.Header.{AreHeaderLines, BeginWithHeader}
 use Rattle.seam_transcript.specs.Standing.{Standing, after_header}
 use Rattle.seam_transcript.specs.Transcript.{Piece, text_of, Step, Run, IsOpen, IsEnded}
 use Rattle.seam_world.specs.Script.{ScriptRefines}
@@ -16,6 +16,14 @@ use Rattle.seam_world.specs.Printing.{Printed}
 use Rattle.seam_world.specs.declared.script.Script.{Script}
 use Rattle.seam_world.specs.declared.status.Status.{Status}
 use Rattle.seam_world.specs.declared.status.Status.TheVariants as status
+
+-- The header goes on: since the source was at `began`, the reader gave these lines, which come before a header's end and make this
+-- text, and no other.
+pub record InHeader (began now : SourceState) (reader : Reader) (text : List ℕ) (read : List Line) : Type 0 where
+  pub given : List ℕ
+  pub are : AreHeaderLines read text
+  pub reading : Reading began now reader given read
+  pub limit : reader.limit ≡ most_bytes
 
 -- A header of so many lines was accepted: since the source was at `began`, the reader gave its lines and no other.
 pub record HasHeader (began now : SourceState) (reader : Reader) (h : Header) (count : ℕ) : Type 0 where
@@ -53,3 +61,9 @@ pub record Stopped (ended : Status) (began now : SourceState) (sink now' : SinkS
   pub failed : ended ≡ status.WriteFault → Rose sink.faults now'.faults
   pub allowed : IsRunEnd ended
   pub tells : Tells IsOpen IsEnded ended began now given text
+
+-- What came of the next line of a header, after these: it goes on, or the line ended it, or the run stopped.
+abbrev pub HeaderLineRead : SourceState → SourceState → Reader → List ℕ → SinkState → List Line → Result (Option Header) Status → Type 0
+HeaderLineRead began now reader text sink read (Ok None) = (line : Line) × InHeader began now reader text (read ++ line ∷ [])
+HeaderLineRead began now reader text sink read (Ok (Some h)) = HasHeader began now reader h (length read + 1)
+HeaderLineRead began now reader text sink read (Err s) = Stopped s began now sink sink

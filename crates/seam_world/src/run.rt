@@ -1,31 +1,35 @@
 // The run of a script, from the bytes of a source to what is written to a sink.
 ghost use Rattle.std.specs.Prelude.{◌≡◌, ◌≢◌, ◌↔◌, ◌∷◌, ◌<◌, ◌≤◌, ◌^◌, ◌⊎◌, ◌++◌, ◌+◌, [], List, ℕ, Option, MatchOption, MatchResult};
-ghost use Rattle.std.specs.Prelude.{IfNone, OnOk, length, codes};
+ghost use Rattle.std.specs.Prelude.{IfNone, IfOk, OnOk, length, codes};
 ghost use Rattle.std.specs.Io.KnownBytes.{Appends};
 ghost use Rattle.seam_io.specs.Causes.{Rose};
 ghost use Rattle.seam_io.specs.States.{SourceState, SinkState};
-ghost use Rattle.seam_io.specs.Lines.{Content, Long, HasNoFeed};
+ghost use Rattle.seam_io.specs.Lines.{Line, Content, Long, HasNoFeed};
 ghost use Rattle.seam_io.specs.Reading.{Reading, budget};
 ghost use Rattle.seam_toml.specs.declared.header.Header.{Header as Headers};
-ghost use Rattle.seam_transcript.specs.Header.{no_end, too_long};
 ghost use Rattle.seam_transcript.specs.Standing.{Standing};
 ghost use Rattle.seam_transcript.specs.Transcript.{IsOpen, IsEnded};
-ghost use Rattle.seam_world.specs.Status.{IsRunEnd};
+ghost use Rattle.seam_world.specs.Status.{IsRunEnd, IsHeaderCause, refusal_of};
 ghost use Rattle.seam_world.specs.Script.{ScriptRefines, LineRead, InputEnded};
 ghost use Rattle.seam_world.specs.Ends.{RunEnds, HasFaultLine, IsPrefix, most_bytes, fault_line as fault_line_of};
-ghost use Rattle.seam_world.specs.Histories.{HasHeader, Going, Stopped};
+ghost use Rattle.seam_world.specs.Histories.{HasHeader, InHeader, HeaderLineRead, Going, Stopped};
 ghost use Rattle.seam_world.specs.Printing.{Printed, FailedWithin, StopsBy, Prints};
 
 use crate::Status;
 use crate::pending::Pending;
 use crate::script::Script;
-use seam_accept::{is_separator, standard_header};
+use seam_accept::{HeaderLines, next_count};
 use seam_io::{Failed, Lines, Next, Sink, Source, write_whole};
+use seam_toml::HeaderError;
 use seam_transcript::Header;
 use std::alloc::Global;
 
 // The most bytes of input.
 const LIMIT: u64 = 1 << 40;
+
+// The causes of a refused header that no text tells: it is too long, or its end is missing.
+const TOO_LONG: u8 = 9;
+const NO_END: u8 = 10;
 
 /// Runs a script: reads a header and commands, and writes for each round what happened in it. With any words it only
 /// answers `Usage`. Every end but `Done` and `WriteFault` writes a fault line last; if that fails, the status stays.
@@ -81,8 +85,7 @@ fn run_body<S: Source, K: Sink>(alloc: Global, input: &mut S, out: &mut K) -> St
     runner.run(input, out)
 }
 
-// Reads the header, which has to be empty: its first line ends it. Answers what it sets, and of how many lines it is; or the
-// status where the run ends there.
+// Reads the header line by line. Answers what it sets, and of how many lines it is; or the status where the run ends there.
 fn read_header<S: Source>(
     alloc: Global,
     lines: &mut Lines,
@@ -95,21 +98,52 @@ fn read_header<S: Source>(
         (λ s. Stopped s began (S.state input.new) sink sink) }
     ensures later { (S.state input.old).faults ≤ (S.state input.new).faults }
 {
-    match lines.next(input) {
-        Next::Line => {
-            if is_separator(lines.line()) {
-                match standard_header(alloc) {
-                    Ok(header) => Ok((header, 1)),
-                    Err(_) => Err(Status::NoMemory),
-                }
-            } else {
-                Err(Status::BadHeader(11))
-            }
+    let mut header = HeaderLines::new(alloc);
+    let mut count = 0;
+    loop {
+        count = match next_count(count) {
+            Ok(count) => count,
+            Err(_) => return Err(Status::NoMemory),
+        };
+        match read_header_line(&mut header, lines, input) {
+            Ok(None) => {}
+            Ok(Some(read)) => return Ok((read, count)),
+            Err(status) => return Err(status),
         }
-        Next::Long => Err(Status::BadHeader(11)),
-        Next::End => Err(Status::BadHeader(10)),
+    }
+}
+
+// Reads the next line of the header: what it sets, where the line ends it.
+fn read_header_line<S: Source>(
+    header: &mut HeaderLines,
+    lines: &mut Lines,
+    input: &mut S,
+) -> Result<Option<Header>, Status>
+    ensures header { (began : SourceState) (sink : SinkState) (read : List Line) →
+        InHeader began (S.state input.old) lines.old header.old read →
+        HeaderLineRead began (S.state input.new) lines.new header.new sink read result }
+    ensures later { (S.state input.old).faults ≤ (S.state input.new).faults }
+    ensures falls { IfOk result (λ h. IfNone h (budget lines.new < budget lines.old)) }
+{
+    match lines.next(input) {
+        Next::Line => match header.read_line(lines.line()) {
+            Ok(read) => Ok(read),
+            Err(error) => Err(refusal(error)),
+        },
+        Next::Long => Err(Status::BadHeader(TOO_LONG)),
+        Next::End => Err(Status::BadHeader(NO_END)),
         Next::ReadFault => Err(Status::ReadFault),
         Next::Limit => Err(Status::Limit),
+    }
+}
+
+// The status of a run whose header is refused.
+fn refusal(error: HeaderError) -> Status
+    ensures { result ≡ refusal_of error }
+{
+    match error.number() {
+        Some(number) => Status::BadHeader(number),
+        None => Status::NoMemory,
     }
 }
 
@@ -309,12 +343,19 @@ fn fault_line(status: Status) -> &'static [u8]
 }
 
 fn header_fault_line(cause: u8) -> &'static [u8]
-    requires { (cause ≡ no_end) ⊎ (cause ≡ too_long) }
+    requires { IsHeaderCause cause }
     ensures { result.now ≡ fault_line_of (Status.BadHeader cause) }
 {
-    if cause == 10 {
-        b"fault header 10\n"
-    } else {
-        b"fault header 11\n"
+    match cause {
+        1 => b"fault header 1\n",
+        2 => b"fault header 2\n",
+        3 => b"fault header 3\n",
+        4 => b"fault header 4\n",
+        5 => b"fault header 5\n",
+        6 => b"fault header 6\n",
+        7 => b"fault header 7\n",
+        8 => b"fault header 8\n",
+        9 => b"fault header 9\n",
+        _ => b"fault header 10\n",
     }
 }

@@ -1,6 +1,7 @@
 use Rattle.std.proofs.Common.{[], refl, arith}
 use Rattle.std.proofs.KnownBytes.{Consumes-nil}
-use Rattle.seam_world.proofs.RunLemmas.{nothing_judged, after_a_header}
+use Rattle.seam_world.proofs.RunLemmas.{after_a_header}
+use Rattle.seam_world.proofs.HeaderRuns.{nothing_judged}
 use Rattle.seam_world.proofs.run.run_body.Goals as goal
 
 pub returns-in-Err-clause-stopped : goal.returns-in-Err-clause-stopped
