@@ -80,8 +80,8 @@ pub cleared_first : (items grown cleared text : List ℕ) → items ≡ grown �
 cleared_first items grown cleared text same appended none = same ∙ appended ∙ ap (λ (xs : List ℕ). xs ++ text) none
 
 -- a piece with the property was printed
-pub gathered_prints : (P : List ℕ → Type 0) (piece : List ℕ) (sink now : SinkState) (pending text : List ℕ) (result : Option Status) → P piece →
-    Prints (λ printed. printed ≡ piece) sink now pending text result → Prints P sink now pending text result
+pub gathered_prints : (P : List ℕ → Type 0) (piece : List ℕ) (sink now : SinkState) (pending text : List ℕ) (result : Option Status) →
+    P piece → Prints (λ printed. printed ≡ piece) sink now pending text result → Prints P sink now pending text result
 gathered_prints P piece sink now pending text None p printed = (printed.0, subst P (sym printed.1) p, printed.2)
 gathered_prints P piece sink now pending text (Some status.NoMemory) p printed = printed
 gathered_prints P piece sink now pending text (Some status.WriteFault) p (inl failed) = inl failed

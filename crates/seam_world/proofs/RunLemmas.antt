@@ -106,7 +106,8 @@ module _ (began : SourceState) (sink : SinkState) (now : SourceState) (reader : 
     text_with : (pieces : List Piece) → text_of g.header.defs (g.pieces ++ pieces) ≡ text ++ text_of g.header.defs pieces
     text_with pieces = flat_map-append (piece_text g.header.defs) g.pieces pieces
 
-    going_on : (line : Line) (got piece pending' : List ℕ) (new : Script) → Reading began later after (g.given ++ got) (g.read ++ line ∷ []) →
+    going_on : (line : Line) (got piece pending' : List ℕ) (new : Script) →
+        Reading began later after (g.given ++ got) (g.read ++ line ∷ []) →
         LineRead g.header g.standing line new piece → Printed sink is pending' (text ++ piece)
         → Going began later after sink is pending' new
     going_on line got piece pending' new r taken p = record {

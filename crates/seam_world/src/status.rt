@@ -46,10 +46,14 @@ impl Status {
             Status::Done => "",
             Status::Usage => "these words are not understood; see docs/FORMATS.md",
             Status::BadHeader(cause) => header_message(cause),
-            Status::ReadFault => "the input could not be read on; what was read until then is answered, so run the rest again",
-            Status::WriteFault => "the output could not be written; see that its disk or its reader has room, and run again",
-            Status::Limit => "the input has 2^40 bytes or more; divide it into scripts that are shorter",
-            Status::NoMemory => "no memory is left; what was written is whole, so run on a larger machine, or with fewer entities",
+            Status::ReadFault =>
+                "the input could not be read on; what was read until then is answered, so run the rest again",
+            Status::WriteFault =>
+                "the output could not be written; see that its disk or its reader has room, and run again",
+            Status::Limit =>
+                "the input has 2^40 bytes or more; divide it into scripts that are shorter",
+            Status::NoMemory =>
+                "no memory is left; what was written is whole, so run on a larger machine, or with fewer entities",
         }
     }
 }
@@ -60,13 +64,18 @@ fn header_message(cause: u8) -> &'static str
 {
     match cause {
         1 => "the header is not in the form of TOML; see docs/FORMATS.md",
-        2 => "the header has a key or a name that it may not have, or lacks one that it needs; see docs/FORMATS.md",
-        3 => "a value in the header has another type than its key, or lies out of range; see docs/FORMATS.md",
-        4 => "a property in the header has a flag that is not one of the eight; see docs/FORMATS.md",
+        2 =>
+            "the header has a key or a name that it may not have, or lacks one that it needs; see docs/FORMATS.md",
+        3 =>
+            "a value in the header has another type than its key, or lies out of range; see docs/FORMATS.md",
+        4 =>
+            "a property in the header has a flag that is not one of the eight; see docs/FORMATS.md",
         5 => "a default in the header does not fit the type of its property; see docs/FORMATS.md",
         6 => "an operation of a method in the header is not one that there is; see docs/FORMATS.md",
-        7 => "the header has more types, properties, methods, arguments or operations than may be; see docs/FORMATS.md",
-        8 => "the header needs a ghost_distance of view_radius + view_hysteresis + offload_hysteresis or more",
+        7 =>
+            "the header has more types, properties, methods, arguments or operations than may be; see docs/FORMATS.md",
+        8 =>
+            "the header needs a ghost_distance of view_radius + view_hysteresis + offload_hysteresis or more",
         9 => "the header has more than 65,536 bytes; see docs/FORMATS.md",
         10 => "the input has no line \"%%\" that ends its header; see docs/FORMATS.md",
         _ => "the first line of the input has to be \"%%\"; see docs/FORMATS.md",

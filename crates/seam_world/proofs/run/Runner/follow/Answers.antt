@@ -38,4 +38,5 @@ returns-in-ReadFault-clause-history g c = λ began sink h.
 pub returns-in-Limit-clause-history : goal.returns-in-Limit-clause-history
 returns-in-Limit-clause-history g c = λ began sink h.
     let r = c.in-Limit.ensures.reads began h.given h.read h.reading in
-    limit_reached began sink _ _ _ _ _ _ h _ _ c.next.ensures.limit r.0 c.stop-in-Limit.result r.1 r.2 (c.stop-in-Limit.ensures sink _ h.printed)
+    limit_reached began sink _ _ _ _ _ _ h _ _ c.next.ensures.limit r.0 c.stop-in-Limit.result r.1 r.2
+    (c.stop-in-Limit.ensures sink _ h.printed)

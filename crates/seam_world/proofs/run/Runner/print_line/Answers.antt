@@ -9,7 +9,9 @@ returns-in-Ok-clause-prints g c = λ h t sink text refines printed.
     let read = c.in-Ok.ensures h t refines in
     let piece : c.deref.result.now ≡ read.0 = cleared_first _ _ _ read.0 c.deref.ensures.value read.2 c.clear.ensures.items in
     gathered_prints _ c.deref.result.now sink _ _ text c.print.result
-    (subst (LineRead h t (Content _) c.read_line.new.self) (sym piece) (rw c.line.ensures.content at read.1)) (c.print.ensures sink text printed)
+    (subst (LineRead h t (Content _) c.read_line.new.self) (sym piece) (rw c.line.ensures.content at read.1))
+    (c.print.ensures sink text printed)
 
 pub returns-in-Err-clause-prints : goal.returns-in-Err-clause-prints
-returns-in-Err-clause-prints g c = λ h t sink text refines printed. nothing_prints _ sink _ c.stop.new.pending text c.stop.result (c.stop.ensures sink text printed)
+returns-in-Err-clause-prints g c = λ h t sink text refines printed.
+    nothing_prints _ sink _ c.stop.new.pending text c.stop.result (c.stop.ensures sink text printed)

@@ -12,4 +12,5 @@ returns-in-Ok-clause-prints g c = λ h t sink text refines printed.
     (subst (LineRead h t Long c.read_long.new.self) (sym piece) read.1) (c.print.ensures sink text printed)
 
 pub returns-in-Err-clause-prints : goal.returns-in-Err-clause-prints
-returns-in-Err-clause-prints g c = λ h t sink text refines printed. nothing_prints _ sink _ c.stop.new.pending text c.stop.result (c.stop.ensures sink text printed)
+returns-in-Err-clause-prints g c = λ h t sink text refines printed.
+    nothing_prints _ sink _ c.stop.new.pending text c.stop.result (c.stop.ensures sink text printed)
