@@ -1,5 +1,6 @@
 -- From what is answered of a part to what is answered of the whole.
-use Rattle.std.proofs.Common.{◌≡◌, ◌↔◌, ◌⊎◌, inl, inr, Bool, true, false, not, Option, Some, None, MatchOption, Result, Ok, Err, IfOk, IsTrue, codes, refl, List, ℕ}
+use Rattle.std.proofs.Common.{◌≡◌, ◌↔◌, ◌⊎◌, inl, inr, Bool, true, false, not, Option, Some, None, MatchOption, Result, Ok, Err, IfOk}
+use Rattle.std.proofs.Common.{IsTrue, codes, refl, List, ℕ}
 use Rattle.std.specs.Prelude.{is_some}
 use Rattle.std.proofs.lemmas.Option.{same_Some}
 use Rattle.std.proofs.lemmas.Bool.{false≢true}
@@ -54,7 +55,8 @@ table_answer r (array ds) ms f own is none h = absurd cc
 
 -- ---- bodies
 
-nothing_said : (b : Bool) (o : Option Step) (P : Type 0) (Q : Step → Type 0) → is_some o ≡ not b → MatchOption o P Q → (P → (s : Step) → ¬ (Q s)) →
+nothing_said : (b : Bool) (o : Option Step) (P : Type 0) (Q : Step → Type 0) → is_some o ≡ not b → MatchOption o P Q → (P →
+    (s : Step) → ¬ (Q s)) →
     IsTrue b ↔ P
 nothing_said true None P Q e h apart = ((λ _. h), λ _. refl)
 nothing_said false (Some s) P Q e h apart = ((λ never. absurd (false≢true never)), λ p. absurd (apart p s h))

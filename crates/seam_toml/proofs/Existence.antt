@@ -1,5 +1,6 @@
 -- A header without a fault defines something: no table of it can fail to.
-use Rattle.std.proofs.Common.{◌≡◌, ◌<◌, ◌≤◌, inl, inr, ℕ, Bool, true, false, if◌then◌else◌, IsSome, IsNone, List, [], ◌∷◌, length, Option, Some, None, codes, Ordering, Less, Equal, Greater, nat_cmp, refl, sym, ap, ◌∙◌, arith}
+use Rattle.std.proofs.Common.{◌≡◌, ◌<◌, ◌≤◌, inl, inr, ℕ, Bool, true, false, if◌then◌else◌, IsSome, IsNone, List, [], ◌∷◌, length, Option}
+use Rattle.std.proofs.Common.{Some, None, codes, Ordering, Less, Equal, Greater, nat_cmp, refl, sym, ap, ◌∙◌, arith}
 use Rattle.std.specs.Cmp.Lexicographic.{slice_cmp}
 use Rattle.std.specs.Ordering.{match_ordering}
 use Rattle.std.proofs.lemmas.Map.Lookups.{exact_bytes}

@@ -1,5 +1,6 @@
 -- What the words of an operation say.
-use Rattle.std.proofs.Common.{◌≡◌, ◌≢◌, ◌≤◌, ℕ, List, [], ◌∷◌, length, Option, Some, None, MatchOption, slice_get, slice_index, option_map, refl, sym, ap, ◌∙◌, arith}
+use Rattle.std.proofs.Common.{◌≡◌, ◌≢◌, ◌≤◌, ℕ, List, [], ◌∷◌, length, Option, Some, None, MatchOption, slice_get, slice_index}
+use Rattle.std.proofs.Common.{option_map, refl, sym, ap, ◌∙◌, arith}
 use Rattle.std.proofs.Common.{Result, Ok, Err, IfOk}
 use Rattle.std.proofs.lemmas.Option.{same_Some, slice_get-map}
 use Rattle.seam_words.specs.Texts.{HasWords}
@@ -79,7 +80,8 @@ pub letter : (xs ys : List ℕ) → xs ≡ ys → slice_index xs 1 ≡ slice_ind
 letter xs ys e = ap (λ (zs : List ℕ). slice_index zs 1) e
 
 -- a well typed operation may be done by its verb
-pub may_do : (ps : List Property) (part : Part) (args : List ValueType) (p : Property) (op : Operation) (v : Verb) → word_of_verb v ≡ verb_of op →
+pub may_do : (ps : List Property) (part : Part) (args : List ValueType) (p : Property) (op : Operation) (v : Verb) →
+    word_of_verb v ≡ verb_of op →
     slice_get ps (target op) ≡ Some p → IsOperation ps (signature part args) op → MayDo v part p
 may_do ps part args p (Put k x) verb.Set e there typed = rw (← fits_here ps k p typed.0 there typed.1) typed.2
 may_do ps part args p (Put k x) verb.Add e there typed = let l : 100 ≡ 101 = letter _ _ e in absurd (omega (arith, l))

@@ -1,5 +1,6 @@
 -- What a header's tables define is well formed.
-use Rattle.std.proofs.Common.{◌≡◌, ◌≢◌, ◌<◌, ◌≤◌, ◌-◌, ℕ, Bool, true, false, not, IsTrue, List, [], ◌∷◌, length, All, Option, Some, None, codes, refl, sym, arith}
+use Rattle.std.proofs.Common.{◌≡◌, ◌≢◌, ◌<◌, ◌≤◌, ◌-◌, ℕ, Bool, true, false, not, IsTrue, List, [], ◌∷◌, length, All, Option, Some, None}
+use Rattle.std.proofs.Common.{codes, refl, sym, arith}
 use Rattle.std.specs.Str.{bytes_eq}
 use Rattle.std.proofs.lemmas.Bool.{false≢true}
 use Rattle.std.proofs.lemmas.List.Elements.{All-cons, All-nil}
@@ -66,7 +67,8 @@ all_typed ps m (item d ds) [] each = absurd each
 all_typed ps m (item d ds) (op ∷ ops) each =
     All-cons (IsOperation ps m) op ops (said_is_typed ps m d op each.0) (all_typed ps m ds ops each.1)
 
-body_is_typed : (ps : List Property) (m : Method) (o : Option Data) → EachItemUnder (Says ps m.part m.args) o m.body → All (IsOperation ps m) m.body
+body_is_typed : (ps : List Property) (m : Method) (o : Option Data) → EachItemUnder (Says ps m.part m.args) o m.body →
+    All (IsOperation ps m) m.body
 body_is_typed ps m None each = rw each (All-nil _)
 body_is_typed ps m (Some (array ds)) each = all_typed ps m ds m.body each
 body_is_typed ps m (Some d) each = absurd each
@@ -81,7 +83,8 @@ operand_made verb.Set k x = refl
 operand_made verb.Add k x = refl
 operand_made verb.Sub k x = refl
 
-small_given : (args : List ValueType) (t : ValueType) (g : Given) → length args ≤ MOST_ARGUMENTS → OperandFits args t (operand_of g) → IsSmallGiven g
+small_given : (args : List ValueType) (t : ValueType) (g : Given) → length args ≤ MOST_ARGUMENTS →
+    OperandFits args t (operand_of g) → IsSmallGiven g
 small_given args t (given.Argument k) few fits =
     let within = slice_get_within args (k - 1) t fits.1 in omega (arith, within, few)
 small_given args t (given.Constant v) few fits = tt
@@ -134,13 +137,15 @@ type_is_sound key d t defines up methods_up = record {
 
 -- ---- as many entries as members
 
-pub as_many : {X : Type 0} (R : List ℕ → Data → X → Type 0) (es : List Entry) (xs : List X) → Each R (members_view es) xs → length xs ≡ length es
+pub as_many : {X : Type 0} (R : List ℕ → Data → X → Type 0) (es : List Entry) (xs : List X) → Each R (members_view es) xs →
+    length xs ≡ length es
 as_many R [] [] each = refl
 as_many R [] (x ∷ xs) each = absurd each
 as_many R (e ∷ es) [] each = absurd each
 as_many R (e ∷ es) (x ∷ xs) each = omega (arith, as_many R es xs each.1)
 
-pub as_many_items : {X : Type 0} (R : Data → X → Type 0) (vs : List Value) (xs : List X) → EachItem R (items_view vs) xs → length xs ≡ length vs
+pub as_many_items : {X : Type 0} (R : Data → X → Type 0) (vs : List Value) (xs : List X) → EachItem R (items_view vs) xs →
+    length xs ≡ length vs
 as_many_items R [] [] each = refl
 as_many_items R [] (x ∷ xs) each = absurd each
 as_many_items R (v ∷ vs) [] each = absurd each

@@ -157,8 +157,10 @@ property_is_one key d p q one other =
     let same = table_is_one one.ms other.ms (sym one.is ∙ other.is) in
     let ty = type_is_one one.ms p.ty q.ty one.ty (rw (← same) at other.ty) in
     let flag = flag_is_one one.ms p.flag q.flag one.flag (rw (← same) at other.flag) in
-    let default = data_of-injective p.default q.default (under_one (codes "default") one.ms _ _ one.default (rw (← same) at other.default)) in
+    let default = data_of-injective p.default q.default (under_one (codes "default") one.ms _ _ one.default (rw (← same) at
+    other.default)) in
     record_is p.name q.name p.ty q.ty p.flag q.flag p.default q.default (one.name ∙ sym other.name) ty flag default
 
-pub properties_are_one : (o : Option Data) (ps qs : List Property) → EachUnder DefinesProperty o ps → EachUnder DefinesProperty o qs → ps ≡ qs
+pub properties_are_one : (o : Option Data) (ps qs : List Property) → EachUnder DefinesProperty o ps →
+    EachUnder DefinesProperty o qs → ps ≡ qs
 properties_are_one o ps qs one other = under_is_one DefinesProperty property_is_one o ps qs one other

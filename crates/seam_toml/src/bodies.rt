@@ -7,7 +7,8 @@ ghost use Rattle.seam_defs.specs.declared.flags.Part.{Part as Parts};
 ghost use Rattle.seam_defs.specs.Types.{are_rising, names_of_properties};
 ghost use Rattle.seam_toml.specs.Tables.{EachItem};
 ghost use Rattle.seam_toml.specs.Definitions.{HasPart, HasArguments, NamesType};
-ghost use Rattle.seam_toml.specs.Faults.{IsBadText, HasBadText, AreBadTexts, HasBadBody, IsBadMethod, HasBadMethod, AreBadMethods, HasBadBodies, IsBadType};
+ghost use Rattle.seam_toml.specs.Faults.{IsBadText, HasBadText, AreBadTexts, HasBadBody};
+ghost use Rattle.seam_toml.specs.Faults.{IsBadMethod, HasBadMethod, AreBadMethods, HasBadBodies, IsBadType};
 
 use crate::Role;
 use crate::members::member;

@@ -1,6 +1,6 @@
-//! Headers: the definitions and settings that the TOML text before a script stands for. So far: the document that a text is, the
-//! grammar of a header's tables, the settings that its table of settings sets, and the first fault of its values. What the operations
-//! of methods say is not looked at yet.
+//! Headers: the settings and types that the TOML text before a script stands for, or the first cause why it stands for nothing.
+//! `read_header` is the whole; the rest are its parts: the document that a text is, the grammar of a header's tables, the settings that
+//! its table of settings sets, and what is at fault in its values.
 //!
 //! Of `proofs/`, `HeaderLaws` is for callers: a text stands for one header at most, whose types and settings are well formed.
 #![tactic(auto)]

@@ -81,7 +81,8 @@ fn operations(
     requires few_properties { length properties.now ≤ MOST_PROPERTIES }
     requires few_arguments { length args.now ≤ MOST_ARGUMENTS }
     ensures says { IfOk result (λ read. MatchOption read
-        ((ops : List Operations) → EachItem (Says properties.now part args.now) (items_view items.now) ops → ¬ (length ops ≤ MOST_OPERATIONS))
+        ((ops : List Operations) → EachItem (Says properties.now part args.now) (items_view items.now) ops →
+        ¬ (length ops ≤ MOST_OPERATIONS))
         (λ ops. EachItem (Says properties.now part args.now) (items_view items.now) ops.items)) }
     ensures few { IfOk result (λ read. IfSome read (λ ops. length ops.items ≤ MOST_OPERATIONS)) }
 {

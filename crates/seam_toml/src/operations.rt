@@ -1,5 +1,6 @@
 // What the text of an operation says.
-ghost use Rattle.std.specs.Prelude.{◌≡◌, ◌≢◌, ◌≤◌, ◌<◌, ◌-◌, ◌^◌, ◌∷◌, ◌↔◌, [], ℕ, List, IsTrue, IfOk, IfSome, MatchOption, Some, length, map, slice_get};
+ghost use Rattle.std.specs.Prelude.{◌≡◌, ◌≢◌, ◌≤◌, ◌<◌, ◌-◌, ◌^◌, ◌∷◌, ◌↔◌, [], ℕ, List, IsTrue, IfOk, IfSome};
+ghost use Rattle.std.specs.Prelude.{MatchOption, Some, length, map, slice_get};
 ghost use Rattle.seam_words.specs.Texts.{HasWords};
 ghost use Rattle.seam_value.specs.Values.{decimal_of};
 ghost use Rattle.seam_defs.specs.declared.types.Operand.{Operand as Operands};

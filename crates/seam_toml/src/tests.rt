@@ -55,43 +55,54 @@ const ROWS: [(&str, Option<HeaderError>); 25] = [
         Some(HeaderError::BadDefault),
     ),
     (
-        "type.A.properties.p = { type = 'INT8', flag = 'BASE', default = 1 }\ntype.A.methods.m = { part = 'cell', body = ['set p 1'] }",
+        "type.A.properties.p = { type = 'INT8', flag = 'BASE', default = 1 }
+         type.A.methods.m = { part = 'cell', body = ['set p 1'] }",
         Some(HeaderError::BadBody),
     ),
     (
-        "type.A.properties.p = { type = 'INT8', flag = 'BASE', default = 1 }\ntype.A.methods.m = { part = 'base', body = ['set p 128'] }",
+        "type.A.properties.p = { type = 'INT8', flag = 'BASE', default = 1 }
+         type.A.methods.m = { part = 'base', body = ['set p 128'] }",
         Some(HeaderError::BadBody),
     ),
     (
-        "type.A.properties.p = { type = 'INT8', flag = 'BASE', default = 1 }\ntype.A.methods.m = { part = 'base', body = ['set p 127'] }",
+        "type.A.properties.p = { type = 'INT8', flag = 'BASE', default = 1 }
+         type.A.methods.m = { part = 'base', body = ['set p 127'] }",
         None,
     ),
     (
-        "type.A.properties.p = { type = 'INT8', flag = 'BASE', default = 1 }\ntype.A.methods.m = { part = 'base', body = ['add p 01'] }",
+        "type.A.properties.p = { type = 'INT8', flag = 'BASE', default = 1 }
+         type.A.methods.m = { part = 'base', body = ['add p 01'] }",
         Some(HeaderError::BadBody),
     ),
     (
-        "type.A.properties.p = { type = 'STRING', flag = 'BASE', default = '' }\ntype.A.methods.m = { part = 'base', body = ['add p \"a\"'] }",
+        "type.A.properties.p = { type = 'STRING', flag = 'BASE', default = '' }
+         type.A.methods.m = { part = 'base', body = ['add p \"a\"'] }",
         Some(HeaderError::BadBody),
     ),
     (
-        "type.A.properties.p = { type = 'STRING', flag = 'BASE', default = '' }\ntype.A.methods.m = { part = 'base', body = ['set p \"a b\"'] }",
+        "type.A.properties.p = { type = 'STRING', flag = 'BASE', default = '' }
+         type.A.methods.m = { part = 'base', body = ['set p \"a b\"'] }",
         None,
     ),
     (
-        "type.A.properties.p = { type = 'INT8', flag = 'BASE', default = 1 }\ntype.A.methods.m = { part = 'base', body = ['set p $1'] }",
+        "type.A.properties.p = { type = 'INT8', flag = 'BASE', default = 1 }
+         type.A.methods.m = { part = 'base', body = ['set p $1'] }",
         Some(HeaderError::BadBody),
     ),
     (
-        "type.A.properties.p = { type = 'INT8', flag = 'BASE', default = 1 }\ntype.A.methods.m = { part = 'base', args = ['INT16'], body = ['set p $1'] }",
+        "type.A.properties.p = { type = 'INT8', flag = 'BASE', default = 1 }
+         type.A.methods.m = { part = 'base', args = ['INT16'], body = ['set p $1'] }",
         Some(HeaderError::BadBody),
     ),
     (
-        "type.A.properties.p = { type = 'INT8', flag = 'BASE', default = 1 }\ntype.A.methods.m = { part = 'base', args = ['INT8'], body = ['set p $1 '] }",
+        "type.A.properties.p = { type = 'INT8', flag = 'BASE', default = 1 }
+         type.A.methods.m = { part = 'base', args = ['INT8'], body = ['set p $1 '] }",
         None,
     ),
     (
-        "type.A.properties.p = { type = 'INT8', flag = 'BASE', default = 1 }\ntype.A.methods.m = { part = 'base', args = ['INT8', 'INT8', 'INT8', 'INT8', 'INT8', 'INT8', 'INT8', 'INT8', 'INT8'], body = ['set p $9'] }",
+        "type.A.properties.p = { type = 'INT8', flag = 'BASE', default = 1 }
+         type.A.methods.m = { part = 'base', args = [
+         'INT8', 'INT8', 'INT8', 'INT8', 'INT8', 'INT8', 'INT8', 'INT8', 'INT8'], body = ['set p $9'] }",
         Some(HeaderError::TooManyNames),
     ),
     (

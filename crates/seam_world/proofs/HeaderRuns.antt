@@ -1,8 +1,9 @@
 -- How a run reads its header.
-use Rattle.std.proofs.Common.{◌≡◌, ◌≢◌, ◌≤◌, ◌+◌, inl, inr, ℕ, List, [], ◌∷◌, ◌++◌, Some, None, length, refl, sym, ap, ◌∙◌, subst, arith}
+use Rattle.std.proofs.Common.{◌≡◌, ◌≢◌, ◌≤◌, ◌+◌, inl, inr, ℕ, List, [], ◌∷◌, ◌++◌, Option, Some, None, Ok, length, refl, sym, ap, ◌∙◌, subst, arith}
 use Rattle.std.proofs.Common.{append-nil}
 use Rattle.std.proofs.KnownBytes.{Appends-nil}
 use Rattle.std.proofs.lemmas.Option.{same_Some, none-some}
+use Rattle.std.specs.Prelude.{MatchOption}
 use Rattle.std.specs.Io.KnownBytes.{Consumes}
 use Rattle.seam_io.specs.Causes.{Rose}
 use Rattle.seam_io.specs.States.{SourceState, SinkState}
@@ -16,9 +17,9 @@ use Rattle.seam_toml.specs.Header.{number_of}
 use Rattle.seam_transcript.specs.Header.{AreHeaderLines, BeginWithHeader, AwaitHeader, RefusesHeader, separator}
 use Rattle.seam_transcript.specs.Transcript.{IsOpen, IsEnded}
 use Rattle.seam_transcript.proofs.HeaderLemmas.{await_at_first, long_line_for_header}
-use Rattle.seam_world.specs.Status.{IsHeaderCause, IsHeaderEnd, IsRunEnd}
+use Rattle.seam_world.specs.Status.{IsHeaderCause, IsHeaderEnd, IsRunEnd, refused_with, refusal_of}
 use Rattle.seam_world.specs.Ends.{Tells, most_bytes}
-use Rattle.seam_world.specs.Histories.{InHeader, HasHeader, Stopped}
+use Rattle.seam_world.specs.Histories.{InHeader, HasHeader, HeaderLineRead, Stopped}
 use Rattle.seam_world.specs.declared.status.Status.{Status}
 use Rattle.seam_world.specs.declared.status.Status.TheVariants as status
 use Rattle.seam_world.proofs.Prefixes.{are_first, within_limit}
@@ -147,3 +148,18 @@ module _ (began now later : SourceState) (sink : SinkState) (reader after : Read
   pub header_no_memory : (line : Line) → Reading began later after (was.given ++ got) (read ++ line ∷ []) →
       Stopped status.NoMemory began later sink sink
   header_no_memory line r = nothing_judged began later sink (was.given ++ got) r.took (within_limit r limit)
+
+  -- what came of a line
+  pub header_line_read : (line : Line) → Reading began later after (was.given ++ got) (read ++ line ∷ []) → (next : List ℕ)
+      (found : Option Header) → MatchOption found (AreHeaderLines (read ++ line ∷ []) next)
+      (λ h. BeginWithHeader (read ++ line ∷ []) h (length read + 1) []) → HeaderLineRead began later after next sink read (Ok found)
+  header_line_read line r next None are = (line, header_goes_on line next r are)
+  header_line_read line r next (Some h) begins = header_ends line h r begins
+
+  pub header_line_refused : (line : Line) → Reading began later after (was.given ++ got) (read ++ line ∷ []) → (e : HeaderError) →
+      ((k : ℕ) → number_of e ≡ Some k → RefusesHeader read line k) → Stopped (refusal_of e) began later sink sink
+  header_line_refused line r e refuses = cases (number_of e) refl
+    where
+      cases : (o : Option ℕ) → number_of e ≡ o → Stopped (refused_with o) began later sink sink
+      cases None is = header_no_memory line r
+      cases (Some k) is = header_refused line k r (number_is_cause e k is) (refuses k is)

@@ -5,4 +5,5 @@ use Rattle.seam_toml.proofs.bodies.has_bad_text.Given as goal
 
 abbrev pub invariant-items : goal.invariant-items
 invariant-items l =
-    HasBadText l.properties l.part l.args (items_view (drop l.value-index l.texts)) ↔ HasBadText l.properties l.part l.args (items_view l.texts)
+    HasBadText l.properties l.part l.args (items_view (drop l.value-index l.texts)) ↔ HasBadText l.properties l.part l.args (items_view
+    l.texts)

@@ -14,9 +14,11 @@ members-preserved c =
     let e : Entry = (c.in-Some.key.now, c.in-Some.value.now) in
     let iter : c.members.key-iterator ≡ e ∷ c.next.new.self = grind (arith, common_steps) in
     let p = c.in-Some-2.method in
-    let read : DefinesMethod c.args.properties.now (string_bytes e.0) (view e.1) p = rw c.as_str.ensures.value at (rw c.in-Some-2.is at c.in_ok-method.ensures) in
+    let read : DefinesMethod c.args.properties.now (string_bytes e.0)
+    (view e.1) p = rw c.as_str.ensures.value at (rw c.in-Some-2.is at c.in_ok-method.ensures) in
     let more =
-    one_more (DefinesMethod c.args.properties.now) (members_view c.args.table.now.entries) (string_bytes e.0) (view e.1) (members_view c.next.new.self)
+    one_more (DefinesMethod c.args.properties.now) (members_view c.args.table.now.entries) (string_bytes e.0) (view e.1)
+    (members_view c.next.new.self)
     c.members.methods.items p read (rw iter at so_far) in
     (tt, tt, rw c.in_ok-push-in-Some-2.ensures.items more)
 
@@ -26,7 +28,8 @@ returns-in-None-2-clause-defines c xs each few =
     let e : Entry = (c.in-Some.key.now, c.in-Some.value.now) in
     let iter : c.members.key-iterator ≡ e ∷ c.next.new.self = grind (arith, common_steps) in
     let none = rw c.as_str.ensures.value at (rw c.in-None-2.is at c.in_ok-method.ensures) in
-    none_more (DefinesMethod c.args.properties.now) (members_view c.args.table.now.entries) (string_bytes e.0) (view e.1) (members_view c.next.new.self)
+    none_more (DefinesMethod c.args.properties.now) (members_view c.args.table.now.entries) (string_bytes e.0) (view e.1)
+    (members_view c.next.new.self)
     c.members.methods.items none (rw iter at so_far) xs each
 
 pub returns-clause-defines : goal.returns-clause-defines
@@ -39,7 +42,8 @@ pub returns-clause-rising : goal.returns-clause-rising
 returns-clause-rising c =
     let (can, finite, so_far) = c.members.invariant in
     let none : c.members.key-iterator ≡ [] = grind (arith, common_steps) in
-    rising_names (DefinesMethod c.args.properties.now) (λ p. p.name) (λ k d p r. (r.name, method_name_is_name k r.named)) c.args.table.now.entries c.members.methods.items
+    rising_names (DefinesMethod c.args.properties.now) (λ p. p.name)
+    (λ k d p r. (r.name, method_name_is_name k r.named)) c.args.table.now.entries c.members.methods.items
     c.len.ensures.ordered
     (all_read (DefinesMethod c.args.properties.now) (members_view c.args.table.now.entries) c.members.methods.items (rw none at so_far))
 

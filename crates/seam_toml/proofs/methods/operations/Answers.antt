@@ -37,7 +37,8 @@ pub returns-clause-says : goal.returns-clause-says
 returns-clause-says c =
     let xs = c.args.items.now in
     let none : drop c.items.value-index xs ≡ [] = grind (arith, common_steps) in
-    all_items_read (Says c.args.properties.now c.args.part c.args.args.now) (items_view xs) c.items.operations.items (rw none at c.items.invariant)
+    all_items_read (Says c.args.properties.now c.args.part c.args.args.now)
+    (items_view xs) c.items.operations.items (rw none at c.items.invariant)
 
 pub returns-clause-few : goal.returns-clause-few
 returns-clause-few c =

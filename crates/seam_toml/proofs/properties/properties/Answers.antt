@@ -12,7 +12,8 @@ members-preserved c =
     let e : Entry = (c.in-Some.key.now, c.in-Some.value.now) in
     let iter : c.members.key-iterator ≡ e ∷ c.next.new.self = grind (arith, common_steps) in
     let p = c.in-Some-2.property in
-    let read : DefinesProperty (string_bytes e.0) (view e.1) p = rw c.as_str.ensures.value at (rw c.in-Some-2.is at c.in_ok-property.ensures) in
+    let read : DefinesProperty (string_bytes e.0) (view e.1) p = rw c.as_str.ensures.value at (rw c.in-Some-2.is at
+    c.in_ok-property.ensures) in
     let more =
     one_more DefinesProperty (members_view c.args.table.now.entries) (string_bytes e.0) (view e.1) (members_view c.next.new.self)
     c.members.properties.items p read (rw iter at so_far) in

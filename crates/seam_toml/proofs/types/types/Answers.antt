@@ -15,7 +15,8 @@ members-preserved c =
     let e : Entry = (c.in-Some.key.now, c.in-Some.value.now) in
     let iter : c.members.key-iterator ≡ e ∷ c.next.new.self = grind (arith, common_steps) in
     let p = c.in-Some-2.t in
-    let read : DefinesType (string_bytes e.0) (view e.1) p = rw c.as_str.ensures.value at (rw c.in-Some-2.is at c.in_ok-t.ensures.defines) in
+    let read : DefinesType (string_bytes e.0) (view e.1) p = rw c.as_str.ensures.value at (rw c.in-Some-2.is at
+    c.in_ok-t.ensures.defines) in
     let more =
     one_more DefinesType (members_view c.args.table.now.entries) (string_bytes e.0) (view e.1) (members_view c.next.new.self)
     c.members.types.items p read (rw iter at so_far) in (
@@ -23,7 +24,8 @@ members-preserved c =
       tt,
       rw c.in_ok-push-in-Some-2.ensures.items more,
       rw c.in_ok-push-in-Some-2.ensures.items
-          (All-append IsType c.members.types.items (p ∷ []) sound (All-cons IsType p [] (rw c.in-Some-2.is at c.in_ok-t.ensures.sound) (All-nil IsType))),
+          (All-append IsType c.members.types.items (p ∷ []) sound (All-cons IsType p [] (rw c.in-Some-2.is at c.in_ok-t.ensures.sound)
+          (All-nil IsType))),
     )
 
 pub returns-in-None-2-clause-defines : goal.returns-in-None-2-clause-defines
