@@ -1,6 +1,6 @@
 -- How a run reads its header.
 use Rattle.std.proofs.Common.{◌≡◌, ◌≢◌, ◌≤◌, ◌+◌, inl, inr, ℕ, List, [], ◌∷◌, ◌++◌, Option, Some, None, Ok, length, refl, sym, ap, ◌∙◌, subst, arith}
-use Rattle.std.proofs.Common.{append-nil}
+use Rattle.std.proofs.Common.{append-nil, length-append}
 use Rattle.std.proofs.KnownBytes.{Appends-nil}
 use Rattle.std.proofs.lemmas.Option.{same_Some, none-some}
 use Rattle.std.specs.Prelude.{MatchOption}
@@ -92,6 +92,16 @@ long_is_no_end e = cc
 pub header_begins : (began now : SourceState) (reader : Reader) → Reading began now reader [] [] → reader.limit ≡ most_bytes →
     AreHeaderLines [] [] → InHeader began now reader [] []
 header_begins began now reader reading limit are = record { given = []; are = are; reading = reading; limit = limit }
+
+-- an allocation failed within the header
+pub header_unread : (began now : SourceState) (sink : SinkState) (reader : Reader) (text : List ℕ) (read : List Line) →
+    InHeader began now reader text read → Stopped status.NoMemory began now sink sink
+header_unread began now sink reader text read was =
+    nothing_judged began now sink was.given was.reading.took (within_limit was.reading was.limit)
+
+-- one more line was counted
+pub counted_line : (m n : ℕ) (read : List Line) (line : Line) → n ≡ m + 1 → m ≡ length read → n ≡ length (read ++ line ∷ [])
+counted_line m n read line more count = let all = length-append read (line ∷ []) in omega (arith, more, count, all)
 
 module _ (began now later : SourceState) (sink : SinkState) (reader after : Reader) (text : List ℕ) (read : List Line)
     (was : InHeader began now reader text read) (got : List ℕ) (limit : after.limit ≡ most_bytes) where

@@ -100,5 +100,6 @@ pub returns-in_default : goal.returns-in_default
 returns-in_default c =
     let low = c.requires.0 in
     let high = c.requires.1 in
-    let is : 10 ≡ c.args.cause = ? in
+    let others = c.in_default in
+    let is : 10 ≡ c.args.cause = omega (arith, low, high, others) in
     subst (λ (n : ℕ). codes "fault header 10\n" ≡ fault_line (status.BadHeader n)) is (line_of 10 (49 ∷ 48 ∷ []) (lit< tt) spelled_10)

@@ -21,7 +21,7 @@ returns-in-Ok-clause-header g c = λ began sink read was.
 pub returns-in-Err-clause-header : goal.returns-in-Err-clause-header
 returns-in-Err-clause-header g c = λ began sink read was.
     let r = c.in-Line.ensures.reads began was.given read was.reading in
-    subst (λ (s : Status). Stopped s began _ sink sink) (sym c.refusal.ensures)
+    rw c.refusal.ensures
     (header_line_refused began _ _ sink _ _ _ read was r.0 (c.next.ensures.limit ∙ was.limit) (Content c.next.new.self.line) r.1 c.in-Err.error
     (λ k is. subst (λ (line : List ℕ). RefusesHeader read (Content line) k) c.line.ensures.content
     (c.in-Err.ensures.refused read k was.are is)))

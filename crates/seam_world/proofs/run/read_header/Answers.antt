@@ -1,0 +1,44 @@
+use Rattle.std.proofs.Common.{◌≡◌, ◌≤◌, ◌+◌, [], ◌∷◌, ◌++◌, List, Option, None, Some, Ok, length, length-append, refl, sym, ap, ◌∙◌, subst, arith}
+use Rattle.seam_io.specs.States.{SinkState}
+use Rattle.seam_io.specs.Lines.{Line}
+use Rattle.seam_toml.specs.declared.header.Header.{Header}
+use Rattle.seam_transcript.proofs.HeaderLemmas.{no_lines_yet}
+use Rattle.seam_world.specs.Histories.{InHeader, HasHeader, HeaderLineRead}
+use Rattle.seam_world.proofs.HeaderRuns.{header_unread, counted_line}
+use Rattle.seam_world.proofs.run.read_header.Goals as goal
+
+-- the state of a sink that nobody asks
+abbrev no_sink : SinkState
+no_sink = record { written = None; faults = 0 }
+
+pub returns-in-Err-clause-header : goal.returns-in-Err-clause-header
+returns-in-Err-clause-header g c = λ began sink reading limit.
+    let was = c.loop-count.invariant.history began reading limit in
+    header_unread began _ sink _ _ was.0 was.1
+
+pub loop-count-preserved : goal.loop-count-preserved
+loop-count-preserved g c =
+    let later = c.loop-count.invariant.later in
+    let more = c.in-Ok-None.ensures.later in
+    record {
+      later = omega (arith, later, more);
+      history = λ began reading limit.
+          let was = c.loop-count.invariant.history began reading limit in
+          let line =
+          subst (λ (h : Option Header). HeaderLineRead began _ c.read_header_line.new.lines c.read_header_line.new.header no_sink was.0 (Ok h))
+          c.in-Ok-None.field-0-is (c.in-Ok-None.ensures.header began no_sink was.0 was.1) in
+          (was.0 ++ line.0 ∷ [], line.1, counted_line _ _ was.0 line.0 c.in-Ok.ensures was.2);
+    }
+
+pub returns-in-Ok-Some-clause-header : goal.returns-in-Ok-Some-clause-header
+returns-in-Ok-Some-clause-header g c = λ began sink reading limit.
+    let was = c.loop-count.invariant.history began reading limit in
+    let ended =
+    subst (λ (h : Option Header). HeaderLineRead began _ c.read_header_line.new.lines c.read_header_line.new.header no_sink was.0 (Ok h))
+    c.in-Ok-Some.field-0-is (c.in-Ok-Some.ensures.header began no_sink was.0 was.1) in
+    subst (HasHeader began _ c.read_header_line.new.lines c.in-Ok-Some.read) (sym (c.in-Ok.ensures ∙ ap (λ (n : _). n + 1) was.2)) ended
+
+pub returns-in-Err-read_header_line-clause-header : goal.returns-in-Err-read_header_line-clause-header
+returns-in-Err-read_header_line-clause-header g c = λ began sink reading limit.
+    let was = c.loop-count.invariant.history began reading limit in
+    c.in-Err-read_header_line.ensures.header began sink was.0 was.1
