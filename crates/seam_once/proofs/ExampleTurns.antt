@@ -27,7 +27,7 @@ use Rattle.seam_steps.specs.Numbers.{limit}
 use Rattle.seam_ones.specs.Burdens.{burden}
 use Rattle.seam_ones.specs.Ones.{real_in}
 use Rattle.seam_ones.specs.Example.{frame}
-use Rattle.seam_ones.proofs.ExampleMet.{EachFrom, each_node, slots, no_mail}
+use Rattle.seam_ones.proofs.ExampleMet.{burden_is, EachFrom, each_node, slots, no_mail}
 use Rattle.seam_once.specs.CellTurns.{from_sender, cell_order_from, real_desk, cell_mail, as_sender, IsCallOf, AreCallsOf, CellCallsInTurn}
 use Rattle.seam_once.specs.Example.{calls_of, from_one}
 
@@ -197,10 +197,6 @@ in_turn s = elim (cases_eq s 1) [
     | inr m ↦ other_turn s n m
   ]
 ]
-
-burden_is : burden 1 world_0 ≡ 11
-unfolding world_0
-burden_is = simp computing
 
 pub has_room : burden 1 world_0 + 1 < limit
 has_room = let h = burden_is in omega (arith, h)

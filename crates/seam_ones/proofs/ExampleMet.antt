@@ -341,7 +341,7 @@ pub no_mail : (a k : ℕ) → (entity_flow 1 world_0).mail a k ≡ []
 unfolding world_0
 no_mail a k = ap (letters_of (mine 1)) (no_link 18 18 a k)
 
-burden_is : burden 1 world_0 ≡ 11
+pub burden_is : burden 1 world_0 ≡ 11
 unfolding world_0
 burden_is = simp computing
 

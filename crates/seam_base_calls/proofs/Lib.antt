@@ -1,0 +1,9 @@
+pub mod PartSteps
+pub mod PartEasing
+pub mod PartSeen
+pub mod PartKept
+pub mod ClientSteps
+pub mod BaseRuns
+pub mod BaseQuiet
+pub mod AloneRuns
+pub mod WitnessSteps
