@@ -57,6 +57,20 @@ unordered e w k os spared at =
     let no = all.0 in
     cc
 
+-- the version of a part has room
+room_by : (e : ℕ) (w : World) (k : ℕ) (p : PartView) (n : Option NodeView) → slice_get w.nodes k ≡ n →
+    (slot_at (has_of e) has_none n).base.part ≡ Some p → part_burden p ≤ base_burden e w
+room_by e w k p None at has = absurd (let z = has in cc)
+room_by e w k p (Some n) at has =
+    let v : Event = record { node = k; from = None } in
+    let o : Occurs w v = record { node = n; input = Task; is_node = at; is_fed = refl } in
+    let a = weight_bounds (node_base_burden e) (mine_base_burden e) w v o in
+    let y = ap (weight_or part_burden) has in
+    omega (arith, a, y)
+
+pub version_room : (e : ℕ) (w : World) (k : ℕ) (p : PartView) → ((entity_flow e w).slot k).base.part ≡ Some p → p.version ≤ base_burden e w
+version_room e w k p has = let few = room_by e w k p (slice_get w.nodes k) refl has in omega (arith, few)
+
 module _ (f : Frame) (e ty : ℕ) (first : ℕ → ℕ) (batch : ℕ → List CallData) where
   abbrev Kept : World → Type 0
   Kept w = HasBaseCalls f e ty first batch w
@@ -64,17 +78,6 @@ module _ (f : Frame) (e ty : ℕ) (first : ℕ → ℕ) (batch : ℕ → List Ca
   module _ (w : World) (h : Kept w) where
     abbrev flow : Flow Has Msg
     flow = entity_flow e w
-
-    -- its version has room
-    room_by : (k : ℕ) (p : PartView) (n : Option NodeView) → slice_get w.nodes k ≡ n →
-        (slot_at (has_of e) has_none n).base.part ≡ Some p → part_burden p ≤ base_burden e w
-    room_by k p None at has = absurd (let z = has in cc)
-    room_by k p (Some n) at has =
-        let v : Event = record { node = k; from = None } in
-        let o : Occurs w v = record { node = n; input = Task; is_node = at; is_fed = refl } in
-        let a = weight_bounds (node_base_burden e) (mine_base_burden e) w v o in
-        let y = ap (weight_or part_burden) has in
-        omega (arith, a, y)
 
     -- ---- what is there is the batch's
 
@@ -158,7 +161,7 @@ module _ (f : Frame) (e ty : ℕ) (first : ℕ → ℕ) (batch : ℕ → List Ca
       pub finds : may_show part.proxy ≡ true → FindsPart f e k (flow.slot k).base c
       finds lines =
           let few = h.room in
-          let its_own = room_by k part (slice_get w.nodes k) refl here in
+          let its_own = version_room e w k part here in
           record {
             home = home;
             part = part;

@@ -7,3 +7,6 @@ pub mod BaseRuns
 pub mod BaseQuiet
 pub mod AloneRuns
 pub mod WitnessSteps
+pub mod BaseSilent
+pub mod ClientTold
+pub mod ClientRuns

@@ -41,10 +41,10 @@ no_ghosts = record { sets = λ e n c. refl; drops = λ e n. refl }
 less_of : (a b : ℕ) → nat_cmp a b ≡ Less → a < b
 less_of a b is = grind (arith, nat_tests)
 
-equal_of : (a b : ℕ) → nat_cmp a b ≡ Equal → a ≡ b
+pub equal_of : (a b : ℕ) → nat_cmp a b ≡ Equal → a ≡ b
 equal_of a b is = grind (arith, nat_tests)
 
-greater_of : (a b : ℕ) → nat_cmp a b ≡ Greater → b < a
+pub greater_of : (a b : ℕ) → nat_cmp a b ≡ Greater → b < a
 greater_of a b is = grind (arith, nat_tests)
 
 -- what an offer leaves

@@ -1,3 +1,4 @@
 pub mod PartMoves
 pub mod WitnessMoves
 pub mod BaseTurns
+pub mod Clients
