@@ -54,7 +54,7 @@ use Rattle.seam_base_calls.proofs.BaseSilent.{SeesNoOrder, base_silent}
 sees_no_update : SeesNoOrder update_in
 sees_no_update = record { calls = λ c. refl; base_calls = λ c. refl; ticks = refl; reaps = λ e. refl }
 
-sees_no_real : SeesNoOrder real_of
+pub sees_no_real : SeesNoOrder real_of
 sees_no_real = record { calls = λ c. refl; base_calls = λ c. refl; ticks = refl; reaps = λ e. refl }
 
 -- ---- what comes
@@ -96,7 +96,7 @@ numbered_there : (b e n j : ℕ) (ss : List Shown) → (j ≡ b → ⊥) → let
 numbered_there b e n j [] other = refl
 numbered_there b e n j (s ∷ ss) other = rw (ne_eqb b j (λ x. other (sym x))) (numbered_there b e (n + 1) j ss other)
 
-numbered_unreal : (b e n : ℕ) (ss : List Shown) → IsSilent real_of (numbered b e n ss)
+pub numbered_unreal : (b e n : ℕ) (ss : List Shown) → IsSilent real_of (numbered b e n ss)
 numbered_unreal b e n [] = tt
 numbered_unreal b e n (s ∷ ss) = (refl, numbered_unreal b e (n + 1) ss)
 

@@ -10,3 +10,4 @@ pub mod WitnessSteps
 pub mod BaseSilent
 pub mod ClientTold
 pub mod ClientRuns
+pub mod ClientLeads

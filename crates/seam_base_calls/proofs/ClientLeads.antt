@@ -1,0 +1,176 @@
+-- Each call to a base part with a client once, over every list of events in which its witness tells no more than there is room for.
+use Rattle.std.proofs.Common.{◌≡◌, ℕ, ◌+◌, ◌≤◌, true, List, [], ◌∷◌, length, Option, None, Some, refl, sym, ap, ◌∙◌, subst, arith}
+use Rattle.std.specs.List.{AllByRecursion}
+use Rattle.seam_machine.specs.Nets.{happens, enabled, run, AllEnabled, LeadsTo}
+use Rattle.seam_machine.specs.Events.{Occurs}
+use Rattle.seam_machine.specs.Sends.{items_to}
+use Rattle.seam_machine.specs.declared.machines.Event.{Event}
+use Rattle.seam_machine.proofs.Occurring.{occurs}
+use Rattle.seam_runs.proofs.Runs.{leads_keeps}
+use Rattle.seam_flows.specs.Flows.{Goes, comes}
+use Rattle.seam_flows.specs.Sent.{IsSilent}
+use Rattle.seam_flows.proofs.Following.{all_append, slots_kept, letters_kept, came}
+use Rattle.seam_call.specs.declared.call.Call.{Call as CallData}
+use Rattle.seam_call.specs.declared.shown.Update.{Update as UpdateData}
+use Rattle.seam_entity.specs.Reals.{RealView}
+use Rattle.seam_entity.specs.declared.message.Msg.{Msg}
+use Rattle.seam_entity.specs.declared.message.Msg.TheVariants.{BaseCall, Hand, Update}
+use Rattle.seam_steps.specs.Bases.{PartView}
+use Rattle.seam_steps.specs.BaseCases.{may_show}
+use Rattle.seam_steps.specs.Nodes.{World, node_steps, node_has_work}
+use Rattle.seam_moves.specs.Frames.{Frame, here_at, IsInFrame}
+use Rattle.seam_moves.specs.Sights.{Has, entity_flow}
+use Rattle.seam_moves.specs.Moves.{Moves, MovesTo, at_a_cell, at_a_base}
+use Rattle.seam_moves.proofs.Classify.{event_moves, frame_happens}
+use Rattle.seam_ones.specs.Ones.{real_in, real_of, IsSpared}
+use Rattle.seam_ones.proofs.OneReal.{one_leads}
+use Rattle.seam_ones.proofs.Sparing.{items_all}
+use Rattle.seam_base_calls.specs.WitnessMoves as witness
+use Rattle.seam_base_calls.specs.WitnessMoves.{sent_of, sent_by, WitnessMoves}
+use Rattle.seam_base_calls.specs.BaseTurns.{FindsPart, HasBaseCalls}
+use Rattle.seam_base_calls.specs.Clients.{EachReal, HasToldAtMost, HasClient, HasRoomFor}
+use Rattle.seam_base_calls.proofs.PartEasing.{base_burden_happens}
+use Rattle.seam_base_calls.proofs.WitnessSteps.{witness_moves}
+use Rattle.seam_base_calls.proofs.BaseSilent.{base_silent}
+use Rattle.seam_base_calls.proofs.ClientTold.{sees_no_real, numbered_unreal}
+use Rattle.seam_base_calls.proofs.BaseRuns.{finds, kept_happens}
+use Rattle.seam_base_calls.proofs.ClientRuns.{one_of, part_may_show, client_happens}
+
+-- ---- what witnesses told never falls
+
+module _ (m : ℕ) where
+  abbrev AtLeast : RealView → Type 0
+  AtLeast r = m ≤ sent_by r
+
+  abbrev OfLetter : Msg → Type 0
+  OfLetter l = (r : RealView) → real_of l ≡ Some r → AtLeast r
+
+  module _ (f : Frame) (e k : ℕ) (s : Has) (i : Option Msg) (t : Has) (sent : List (ℕ × Msg))
+      (here : (r : RealView) → real_in s ≡ Some r → AtLeast r) (comes : (r : RealView) → i ≡ Some (Hand r) → AtLeast r) where
+    record Rises : Type 0 where
+      slot : (r : RealView) → real_in t ≡ Some r → AtLeast r
+      sends : AllByRecursion (λ p. OfLetter p.1) sent
+
+    no_reals : (ps : List (ℕ × Msg)) → IsSilent real_of ps → AllByRecursion (λ p. OfLetter p.1) ps
+    no_reals [] z = tt
+    no_reals (p ∷ ps) z = ((λ r is. let no = sym z.0 ∙ is in absurd cc), no_reals ps z.1)
+
+    as_much : (r q : RealView) → q.witness ≡ r.witness → AtLeast r → AtLeast q
+    as_much r q same le = let a = ap sent_of same in omega (arith, a, le)
+
+    cell_rises : WitnessMoves (here_at f k) e (real_in s) i (real_in t) sent → Rises
+    cell_rises (witness.rests kept a b) = record {
+      slot = λ q has. let was = kept q has in as_much was.0 q was.2 (here was.0 was.1);
+      sends = no_reals sent b;
+    }
+    cell_rises (witness.lands r n now a b) = record {
+      slot = λ q has. let one : r ≡ q = let z = sym now ∙ has in cc in subst AtLeast one (comes r n);
+      sends = no_reals sent b;
+    }
+    cell_rises (witness.leaves r q to told has gone same z a b) = record {
+      slot = λ x now. let no = sym gone ∙ now in absurd cc;
+      sends =
+          subst (AllByRecursion (λ p. OfLetter p.1)) (sym z)
+          (all_append (λ p. OfLetter p.1) told _ (no_reals told b)
+          ((λ x is. let one : q ≡ x = cc in subst AtLeast one (as_much r q same (here r has))), tt));
+    }
+    cell_rises (witness.looks r q w v shown has wit now wit' sum small z) =
+        let le = here r has in
+        let a = ap sent_of wit in
+        let b = ap sent_of wit' in
+        record {
+          slot = λ x is.
+              let one : q ≡ x = let y = sym now ∙ is in cc in
+              let same = ap sent_by one in
+              omega (arith, le, a, b, sum, same);
+          sends = no_reals sent (subst (IsSilent real_of) (sym z) (numbered_unreal _ e w.sent shown));
+        }
+
+    rises : Moves f e k s i t sent → Rises
+    rises (at_a_cell low mv same) = cell_rises (witness_moves f e k s i t sent mv)
+    rises (at_a_base high mv same) = record {
+      slot = λ r has. here r (sym (ap (λ c. c.slot.real) same) ∙ has);
+      sends = no_reals sent (base_silent real_of sees_no_real _ _ e _ i _ sent mv);
+    }
+
+  module _ (f : Frame) (e : ℕ) where
+    record Told (w : World) : Type 0 where
+      frame : IsInFrame f w
+      each : EachReal e AtLeast w
+
+    told_more : (w : World) (v : Event) → Told w → enabled node_has_work w v ≡ true → Told (happens node_steps w v)
+    told_more w v h on =
+        let o = occurs node_has_work w v on in
+        let g = event_moves f w v o h.frame e in
+        let r =
+        rises f e g.k ((entity_flow e w).slot g.k) (comes g.input) ((entity_flow e (happens node_steps w v)).slot g.k) g.moves.sent
+        (h.each.cells g.k) (λ r is. (came (λ a k l. OfLetter l) g (Hand r) is h.each.hands).1 r refl) g.moves.moves in
+        record {
+          frame = frame_happens f w v o h.frame;
+          each = record {
+            cells = slots_kept (λ k s. (r : RealView) → real_in s ≡ Some r → AtLeast r) g h.each.cells r.slot;
+            hands = letters_kept (λ a k l. OfLetter l) g h.each.hands
+                (λ j. subst (AllByRecursion OfLetter) (sym (g.moves.items j)) (items_all OfLetter j g.moves.sent r.sends));
+          };
+        }
+
+    told_leads : (w v : World) (es : List Event) → IsInFrame f w → EachReal e AtLeast w → LeadsTo node_has_work node_steps w es v →
+        EachReal e AtLeast v
+    told_leads w v es q each run =
+        (leads_keeps node_has_work node_steps Told told_more w v es (record { frame = q; each = each }) run).each
+
+weaker : (P Q : RealView → Type 0) (e : ℕ) (w : World) → ((r : RealView) → P r → Q r) → EachReal e P w → EachReal e Q w
+weaker P Q e w g each = record { cells = λ k r has. g r (each.cells k r has); hands = λ a k. all ((entity_flow e w).mail a k) (each.hands a k) }
+  where
+    all : (ms : List Msg) → AllByRecursion (λ m. (r : RealView) → real_of m ≡ Some r → P r) ms →
+        AllByRecursion (λ m. (r : RealView) → real_of m ≡ Some r → Q r) ms
+    all [] h = tt
+    all (m ∷ ms) h = ((λ r is. g r (h.0 r is)), all ms h.1)
+
+-- a witness that told at most n in the end told at most n before
+told_before : (f : Frame) (e ty first n : ℕ) (w v : World) (es : List Event) (h : HasClient f e ty first w) → IsSpared e w →
+    LeadsTo node_has_work node_steps w es v → HasToldAtMost e n v → HasToldAtMost e n w
+told_before f e ty first n w v es h spared run most =
+    let number = first + length h.issued in
+    let one = (one_leads f h.frame e ty h.known w v es h.one spared run).has in
+    let started = one_of (λ r. sent_by r + 1 ≡ number) e w h.one.place h.one.real h.one.one h.told in
+    let least =
+    weaker (λ r. sent_by r + 1 ≡ number) (AtLeast (sent_by h.one.real)) e w (λ r is. omega (arith, is, started)) h.told in
+    let then =
+    one_of (AtLeast (sent_by h.one.real)) e v one.place one.real one.one
+    (told_leads (sent_by h.one.real) f e w v es h.one.fits.frame least run) in
+    let few = one_of (λ r. sent_by r ≤ n) e v one.place one.real one.one most in
+    weaker (λ r. sent_by r + 1 ≡ number) (λ r. sent_by r ≤ n) e w (λ r is. omega (arith, is, started, then, few)) h.told
+
+-- ---- a run
+
+module _ (f : Frame) (e ty : ℕ) (first : ℕ → ℕ) (batch : ℕ → List CallData) (update n : ℕ) where
+  pub record Both (w : World) : Type 0 where
+    pub calls : HasBaseCalls f e ty first batch w
+    pub client : HasClient f e ty update w
+
+  lines : (w : World) (h : Both w) → HasToldAtMost e n w → HasRoomFor e n w → may_show h.calls.part.part.proxy ≡ true
+  lines w h most room = part_may_show f e ty update n w h.client most room h.calls.part.part h.calls.part.here
+
+  pub finds_both : (w : World) (h : Both w) → HasToldAtMost e n w → HasRoomFor e n w → (a k : ℕ) (c : CallData) (ms : List Msg) →
+      (entity_flow e w).mail a k ≡ BaseCall c ∷ ms → FindsPart f e k ((entity_flow e w).slot k).base c
+  finds_both w h most room a k c ms at = finds f e ty first batch w h.calls a k c ms at (lines w h most room)
+
+  both_run : (w : World) (es : List Event) → Both w → HasRoomFor e n w → AllEnabled node_has_work node_steps w es →
+      HasToldAtMost e n (run node_steps w es) → Both (run node_steps w es)
+  both_run w [] h room on most = h
+  both_run w (v ∷ es) h room on most =
+      let o = occurs node_has_work w v on.0 in
+      let now = told_before f e ty update n w (run node_steps w (v ∷ es)) (v ∷ es) h.client h.calls.spared (record { each = on; is_run = refl })
+      most in
+      let less = base_burden_happens f e w v o h.calls.part.frame in
+      both_run (happens node_steps w v) es
+      (record {
+        calls = kept_happens f e ty first batch w v o h.calls (lines w h now room);
+        client = client_happens f e ty update n w v o h.client h.calls.spared now room;
+      }) (omega (arith, less, room)) on.1 most
+
+  pub both_leads : (w v : World) (es : List Event) → Both w → HasRoomFor e n w → LeadsTo node_has_work node_steps w es v →
+      HasToldAtMost e n v → Both v
+  both_leads w v es h room r most =
+      subst Both (sym r.is_run) (both_run w es h room r.each (subst (HasToldAtMost e n) r.is_run most))
