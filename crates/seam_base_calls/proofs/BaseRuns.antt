@@ -4,6 +4,7 @@ use Rattle.std.proofs.Common.{subst, arith}
 use Rattle.std.specs.Prelude.{slice_get}
 use Rattle.std.specs.List.{AllByRecursion}
 use Rattle.std.specs.FinMap as table
+use Rattle.std.proofs.lemmas.List.{length-append}
 use Rattle.seam_table.proofs.Found.{found}
 use Rattle.seam_machine.specs.Nets.{happens}
 use Rattle.seam_machine.specs.Events.{Occurs}
@@ -17,10 +18,12 @@ use Rattle.seam_flows.proofs.Narrowing.{narrow_goes}
 use Rattle.seam_flows.proofs.TokenLemmas.{first_is, sole_here}
 use Rattle.seam_order.specs.Held.{item_at}
 use Rattle.seam_order.specs.Offers.{next_item}
+use Rattle.seam_delivery.specs.Numbered.{number_from}
+use Rattle.seam_delivery.proofs.Numbers.{item_bounds}
 use Rattle.seam_turns.specs.Desks.{Item, desk_of, parcel_of, AreInTurn}
 use Rattle.seam_turns.specs.CallMoves.{Passes}
 use Rattle.seam_turns.proofs.Steps.{turn_goes}
-use Rattle.seam_turns.proofs.Ends.{is_met, never_late, never_held, held_is_due, due_is}
+use Rattle.seam_turns.proofs.Ends.{is_met, never_held, held_is_due, due_is, stored_is_due, stored_is_free}
 use Rattle.seam_call.specs.declared.call.Call.{Call as CallData}
 use Rattle.seam_call.specs.declared.order.Order.{Order}
 use Rattle.seam_call.specs.declared.order.Order.TheVariants as order
@@ -28,7 +31,7 @@ use Rattle.seam_call.specs.Senders.{rank_of}
 use Rattle.seam_entity.specs.Orders.{order_or, order_of}
 use Rattle.seam_entity.specs.declared.message.Msg.{Msg}
 use Rattle.seam_entity.specs.declared.message.Msg.TheVariants.{BaseCall}
-use Rattle.seam_steps.specs.Numbers.{limit}
+use Rattle.seam_steps.specs.Numbers.{limit, may_rise}
 use Rattle.seam_steps.specs.Calls.{order_is_ready, may_offer}
 use Rattle.seam_steps.specs.Bases.{PartView}
 use Rattle.seam_steps.specs.BaseCases.{fits_base_part, may_show}
@@ -40,7 +43,9 @@ use Rattle.seam_moves.proofs.Classify.{event_moves, frame_happens}
 use Rattle.seam_ones.specs.Ones.{reaped_by_order, IsSpared}
 use Rattle.seam_ones.proofs.Holds.{all_two, below_is}
 use Rattle.seam_ones.proofs.OneReal.{spared_happens}
+use Rattle.seam_once.specs.CellTurns.{numbered_from}
 use Rattle.seam_once.proofs.DeskLemmas.{from_same}
+use Rattle.seam_base_calls.specs.PartMoves.{calls_ordered}
 use Rattle.seam_base_calls.specs.BaseTurns.{part_desk, base_post, base_mail, as_base_sender, IsBaseCallOf}
 use Rattle.seam_base_calls.specs.BaseTurns.{BaseCallsInTurn, part_burden, node_base_burden, mine_base_burden, base_burden, home_of}
 use Rattle.seam_base_calls.specs.BaseTurns.{IsHomeward, FindsPart, HasBaseCalls}
@@ -79,6 +84,13 @@ module _ (f : Frame) (e ty : ℕ) (first : ℕ → ℕ) (batch : ℕ → List Ca
     abbrev flow : Flow Has Msg
     flow = entity_flow e w
 
+    -- its version may rise
+    pub version_may_rise : may_rise h.part.part.version ≡ true
+    version_may_rise =
+        let few = h.room in
+        let its_own = version_room e w (home_of f e) h.part.part h.part.here in
+        below_is (h.part.part.version + 1) limit (omega (arith, few, its_own))
+
     -- ---- what is there is the batch's
 
     module _ (k s : ℕ) (p : PartView) (has : (flow.slot k).base.part ≡ Some p) where
@@ -101,33 +113,14 @@ module _ (f : Frame) (e ty : ℕ) (first : ℕ → ℕ) (batch : ℕ → List Ca
         (desk_of_part s p) (desk_there k s p has) (ap (λ y. next_item (order_or y)) there ∙ item) in
         (due_is (IsBaseCallOf f ty s) (first s) (batch s) (as_base_sender s flow) t.place t.desk t.in_turn (h.ours s) _ c due).sender
 
-    -- ---- a call that comes
+    -- ---- a call that is due at the part's node
 
-    module _ (a k : ℕ) (c : CallData) (rest : List Msg) (at : flow.mail a k ≡ BaseCall c ∷ rest) where
+    module _ (k : ℕ) (c : CallData) (home : k ≡ home_of f e) where
       abbrev s : ℕ
       s = rank_of c.sender
 
       abbrev its : AreInTurn (first s) (batch s) (as_base_sender s flow)
       its = h.turns s
-
-      seen : (as_base_sender s flow).mail a k ≡ Item c.number c ∷ letters_of (base_mail s) rest
-      seen =
-          ap (letters_of (base_mail s)) at
-          ∙ ap (λ x. more_letter x (letters_of (base_mail s) rest)) (from_same s c (Item c.number c) refl)
-
-      fact : IsBaseCallOf f ty s c
-      fact =
-          due_is (IsBaseCallOf f ty s) (first s) (batch s) (as_base_sender s flow) its.place its.desk its.in_turn (h.ours s) c.number c
-          (is_met (first s) (batch s) (as_base_sender s flow) its.place its.desk its.in_turn a k c.number c
-          (letters_of (base_mail s) rest) seen).0
-
-      in_time : (its.desk.order.next ≤ c.number) × (c.number < first s + length (batch s))
-      in_time =
-          never_late (first s) (batch s) (as_base_sender s flow) its.place its.desk its.in_turn a k c.number c
-          (letters_of (base_mail s) rest) seen
-
-      home : k ≡ home_of f e
-      home = (subst (AllByRecursion (IsHomeward f e k)) at (h.part.calls a k)).0 c refl
 
       abbrev part : PartView
       part = h.part.part
@@ -135,41 +128,93 @@ module _ (f : Frame) (e ty : ℕ) (first : ℕ → ℕ) (batch : ℕ → List Ca
       here : (flow.slot k).base.part ≡ Some part
       here = ap (λ x. (flow.slot x).base.part) home ∙ h.part.here
 
-      due : (order_of part.orders c.sender).next ≤ c.number
-      due =
-          let same = ap (λ d. d.order.next) (desk_is k s part here) in
-          let low = in_time.0 in
-          omega (arith, same, low)
+      module _ (met : item_at c.number (number_from its.desk.order.next its.in_turn.rest) ≡ Some c)
+          (free : item_at c.number (order_of part.orders c.sender).held ≡ None) where
+        bounds : (its.desk.order.next ≤ c.number) × (c.number < its.desk.order.next + length its.in_turn.rest)
+        bounds = item_bounds c.number its.desk.order.next c its.in_turn.rest met
 
-      fits : fits_base_part (here_at f k) part.ty c ≡ true
-      fits = ap (λ y. fits_base_part (here_at f k) y c) h.part.type ∙ fact.fits
+        due : (order_of part.orders c.sender).next ≤ c.number
+        due =
+            let same = ap (λ d. d.order.next) (desk_is k s part here) in
+            let low = bounds.0 in
+            omega (arith, same, low)
 
-      new : item_at c.number (order_of part.orders c.sender).held ≡ None
-      new =
-          never_held (first s) (batch s) (as_base_sender s flow) its.place its.desk its.in_turn a k c.number c
-          (letters_of (base_mail s) rest) seen (desk_of_part s part) (desk_there k s part here)
+        fits : fits_base_part (here_at f k) part.ty c ≡ true
+        fits =
+            let fact =
+            due_is (IsBaseCallOf f ty s) (first s) (batch s) (as_base_sender s flow) its.place its.desk its.in_turn (h.ours s) c.number c met in
+            ap (λ y. fits_base_part (here_at f k) y c) h.part.type ∙ fact.fits
 
-      may_be_offered : may_offer (order_of part.orders c.sender) c.number ≡ true
-      may_be_offered =
-          let low = in_time.0 in
-          let high = in_time.1 in
-          let one = its.in_turn.in_order.from_one in
-          let few = its.in_turn.small in
-          all_two _ _ (below_is 0 c.number (omega (arith, low, one)))
-          (all_two _ _ (below_is (c.number + 1) limit (omega (arith, high, few))) (ap (λ x. not (is_some x)) new))
+        may_be_offered : may_offer (order_of part.orders c.sender) c.number ≡ true
+        may_be_offered =
+            let low = bounds.0 in
+            let high = bounds.1 in
+            let next = its.in_turn.next in
+            let parts = ap length its.in_turn.parts ∙ length-append its.desk.done its.in_turn.rest in
+            let one = its.in_turn.in_order.from_one in
+            let few = its.in_turn.small in
+            all_two _ _ (below_is 0 c.number (omega (arith, low, one)))
+            (all_two _ _ (below_is (c.number + 1) limit (omega (arith, high, next, parts, few))) (ap (λ x. not (is_some x)) free))
 
-      pub finds : may_show part.proxy ≡ true → FindsPart f e k (flow.slot k).base c
-      finds lines =
-          let few = h.room in
-          let its_own = version_room e w k part here in
-          record {
-            home = home;
-            part = part;
-            here = here;
-            may = all_two _ _ fits (all_two _ _ may_be_offered
-                (all_two _ _ (below_is (part.version + 1) limit (omega (arith, few, its_own))) lines));
-            due = due;
-          }
+        pub finds_due : may_show part.proxy ≡ true → FindsPart f e k (flow.slot k).base c
+        finds_due lines = record {
+          home = home;
+          part = part;
+          here = here;
+          may = all_two _ _ fits (all_two _ _ may_be_offered (all_two _ _ version_may_rise lines));
+          due = due;
+        }
+
+    -- ---- a call that comes
+
+    module _ (a k : ℕ) (c : CallData) (rest : List Msg) (at : flow.mail a k ≡ BaseCall c ∷ rest) where
+      abbrev comes_from : ℕ
+      comes_from = rank_of c.sender
+
+      abbrev turn_of : AreInTurn (first comes_from) (batch comes_from) (as_base_sender comes_from flow)
+      turn_of = h.turns comes_from
+
+      seen : (as_base_sender comes_from flow).mail a k ≡ Item c.number c ∷ letters_of (base_mail comes_from) rest
+      seen =
+          ap (letters_of (base_mail comes_from)) at
+          ∙ ap (λ x. more_letter x (letters_of (base_mail comes_from) rest)) (from_same comes_from c (Item c.number c) refl)
+
+      comes_home : k ≡ home_of f e
+      comes_home = (subst (AllByRecursion (IsHomeward f e k)) at (h.part.calls a k)).0 c refl
+
+      pub finds : may_show h.part.part.proxy ≡ true → FindsPart f e k (flow.slot k).base c
+      finds =
+          let t = turn_of in
+          finds_due k c comes_home
+          (is_met (first comes_from) (batch comes_from) (as_base_sender comes_from flow) t.place t.desk t.in_turn a k c.number c
+          (letters_of (base_mail comes_from) rest) seen).0
+          (never_held (first comes_from) (batch comes_from) (as_base_sender comes_from flow) t.place t.desk t.in_turn a k c.number c
+          (letters_of (base_mail comes_from) rest) seen (desk_of_part comes_from h.part.part)
+          (desk_there k comes_from h.part.part (here k c comes_home)))
+
+    -- ---- a call that is ordered at the part's own node
+
+    module _ (c : CallData) (cs : List CallData) (at : calls_ordered (flow.slot (home_of f e)).base ≡ c ∷ cs) where
+      abbrev ordered_by : ℕ
+      ordered_by = rank_of c.sender
+
+      abbrev turn_at : AreInTurn (first ordered_by) (batch ordered_by) (as_base_sender ordered_by flow)
+      turn_at = h.turns ordered_by
+
+      stored : ((as_base_sender ordered_by flow).slot (home_of f e)).stored ≡ (c.number, c) ∷ letters_of (numbered_from ordered_by) cs
+      stored =
+          ap (letters_of (numbered_from ordered_by)) at
+          ∙ ap (λ o. more_letter o (letters_of (numbered_from ordered_by) cs)) (from_same ordered_by c (c.number, c) refl)
+
+      pub finds_ordered : may_show h.part.part.proxy ≡ true → FindsPart f e (home_of f e) (flow.slot (home_of f e)).base c
+      finds_ordered =
+          let t = turn_at in
+          finds_due (home_of f e) c refl
+          (stored_is_due (first ordered_by) (batch ordered_by) (as_base_sender ordered_by flow) t.place t.desk t.in_turn (home_of f e)
+          c.number c (letters_of (numbered_from ordered_by) cs) stored)
+          (stored_is_free (first ordered_by) (batch ordered_by) (as_base_sender ordered_by flow) t.place t.desk t.in_turn (home_of f e)
+          c.number c (letters_of (numbered_from ordered_by) cs) stored (desk_of_part ordered_by h.part.part)
+          (desk_there (home_of f e) ordered_by h.part.part h.part.here))
 
   -- ---- an event
 

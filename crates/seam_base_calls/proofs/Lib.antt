@@ -11,3 +11,4 @@ pub mod BaseSilent
 pub mod ClientTold
 pub mod ClientRuns
 pub mod ClientLeads
+pub mod RightNodes

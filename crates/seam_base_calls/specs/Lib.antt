@@ -2,3 +2,4 @@ pub mod PartMoves
 pub mod WitnessMoves
 pub mod BaseTurns
 pub mod Clients
+pub mod Strays
