@@ -23,7 +23,7 @@ use Rattle.seam_base_calls.proofs.BaseRuns.{unordered, finds, kept_happens}
 
 module _ (f : Frame) (e ty : ℕ) (first : ℕ → ℕ) (batch : ℕ → List CallData) where
   -- nothing is to be shown
-  no_lines : (w : World) (h : HasBaseCalls f e ty first batch w) → HasNoClient e w → may_show h.part.part.proxy ≡ true
+  pub no_lines : (w : World) (h : HasBaseCalls f e ty first batch w) → HasNoClient e w → may_show h.part.part.proxy ≡ true
   no_lines w h alone = ap may_show (alone (home_of f e) h.part.part h.part.here)
 
   pub finds_alone : (w : World) (h : HasBaseCalls f e ty first batch w) → HasNoClient e w → (a k : ℕ) (c : CallData) (ms : List Msg) →

@@ -12,3 +12,5 @@ pub mod ClientTold
 pub mod ClientRuns
 pub mod ClientLeads
 pub mod RightNodes
+pub mod RoutesKept
+pub mod NoStray
