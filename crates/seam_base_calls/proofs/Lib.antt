@@ -14,3 +14,5 @@ pub mod ClientLeads
 pub mod RightNodes
 pub mod RoutesKept
 pub mod NoStray
+pub mod StrayRuns
+pub mod Reaped

@@ -81,13 +81,22 @@ order_own e w k o os at =
     (slots (λ j s. AreOwn e s) e w (λ j n is. own_orders e n) (λ j. All-nil (λ o. order_concerns e o ≡ true)) k))
 
 module _ (f : Frame) (e ty : ℕ) (first : ℕ → ℕ) (batch : ℕ → List CallData) (update n : ℕ) (w : World)
-    (h : HasBaseCalls f e ty first batch w) (routes : HasRoutes f e w) (room : LinesHaveRoom f e ty update n w) where
+    (h : HasBaseCalls f e ty first batch w) (room : LinesHaveRoom f e ty update n w) where
   lines_by : LinesHaveRoom f e ty update n w → may_show h.part.part.proxy ≡ true
   lines_by (no_client alone) = no_lines f e ty first batch w h alone
   lines_by (client c most few) = part_may_show f e ty update n w c most few h.part.part h.part.here
 
   lines : may_show h.part.part.proxy ≡ true
   lines = lines_by room
+
+  pub call_finds : (a k : ℕ) (c : CallData) (ms : List Msg) → (entity_flow e w).mail a k ≡ BaseCall c ∷ ms →
+      FindsPart f e k ((entity_flow e w).slot k).base c
+  call_finds a k c ms at = finds f e ty first batch w h a k c ms at lines
+
+module _ (f : Frame) (e ty : ℕ) (first : ℕ → ℕ) (batch : ℕ → List CallData) (update n : ℕ) (w : World)
+    (h : HasBaseCalls f e ty first batch w) (routes : HasRoutes f e w) (room : LinesHaveRoom f e ty update n w) where
+  may : may_show h.part.part.proxy ≡ true
+  may = lines f e ty first batch update n w h room
 
   -- ---- letters
 
@@ -106,7 +115,7 @@ module _ (f : Frame) (e ty : ℕ) (first : ℕ → ℕ) (batch : ℕ → List Ca
       strays_at (here_at f k) ((entity_flow e w).slot k).base m ≡ false
   no_letter a k (Call c) ms high at = absurd (misses_cell a k (Call c) ms high at refl)
   no_letter a k (BaseCall c) ms high at =
-      call_is_due f e k ((entity_flow e w).slot k) c (finds f e ty first batch w h a k c ms at lines)
+      call_is_due f e k ((entity_flow e w).slot k) c (call_finds f e ty first batch update n w h room a k c ms at)
   no_letter a k (Hand r) ms high at = absurd (misses_cell a k (Hand r) ms high at refl)
   no_letter a k (Current x j g) ms high at =
       let fit = right a k (Current x j g) ms at in
@@ -136,7 +145,7 @@ module _ (f : Frame) (e ty : ℕ) (first : ℕ → ℕ) (batch : ℕ → List Ca
       subst (λ x. stray_base_call (here_at f x) c ((entity_flow e w).slot x).base.part ≡ false) home
       (call_is_due f e (home_of f e) ((entity_flow e w).slot (home_of f e)) c
       (finds_ordered f e ty first batch w h c (letters_of base_call_of os)
-      (ap (λ x. calls_ordered ((entity_flow e w).slot x).base) home ∙ ap (letters_of base_call_of) at) lines))
+      (ap (λ x. calls_ordered ((entity_flow e w).slot x).base) home ∙ ap (letters_of base_call_of) at) may))
 
   no_order : (k : ℕ) (o : Order) (os : List Order) → ((entity_flow e w).slot k).base.orders ≡ o ∷ os →
       is_stuck (here_at f k) ((entity_flow e w).slot k).base o ≡ false
@@ -153,7 +162,7 @@ module _ (f : Frame) (e ty : ℕ) (first : ℕ → ℕ) (batch : ℕ → List Ca
     | inl is ↦
         let same : h.part.part ≡ p =
         let z = sym h.part.here ∙ (ap (λ x. ((entity_flow e w).slot x).base.part) (sym is) ∙ has) in cc in
-        subst (λ x. may_execute x ≡ true) same (all_two _ _ (version_may_rise f e ty first batch w h) lines)
+        subst (λ x. may_execute x ≡ true) same (all_two _ _ (version_may_rise f e ty first batch w h) may)
     | inr away ↦ absurd (let z = sym (h.part.others k away) ∙ has in cc)
   ]
 

@@ -3,3 +3,4 @@ pub mod WitnessMoves
 pub mod BaseTurns
 pub mod Clients
 pub mod Strays
+pub mod Reaps
