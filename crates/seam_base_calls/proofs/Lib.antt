@@ -16,3 +16,5 @@ pub mod RoutesKept
 pub mod NoStray
 pub mod StrayRuns
 pub mod Reaped
+pub mod ExampleBase
+pub mod ExampleClient

@@ -4,3 +4,4 @@ pub mod BaseTurns
 pub mod Clients
 pub mod Strays
 pub mod Reaps
+pub mod Example
