@@ -1,5 +1,6 @@
 -- In a quiet world nothing of a base part's calls waits: no message, no order, and no held call whose turn it is.
-use Rattle.std.proofs.Common.{◌≡◌, ℕ, Bool, false, is_some, List, [], Option, None, Some, refl, sym, ap, ◌∙◌}
+use Rattle.std.proofs.Common.{◌≡◌, ℕ, Bool, false, is_some, List, [], Option, None, Some, refl, sym, ap, ◌∙◌, subst}
+use Rattle.std.specs.List.{AllByRecursion}
 use Rattle.std.specs.FinMap as table
 use Rattle.seam_machine.specs.Nets.{IsQuiet}
 use Rattle.seam_machine.proofs.Quiet.{quiet_links, quiet_tasks}
@@ -21,9 +22,10 @@ use Rattle.seam_moves.specs.Sights.{Has, mine, has_of, has_none, orders_of, enti
 use Rattle.seam_ones.proofs.ExampleMet.{slots}
 use Rattle.seam_once.specs.CellTurns.{from_sender, numbered_from}
 use Rattle.seam_once.proofs.Quieting.{neither, none_left, none_some, got_fails, no_turn_by}
-use Rattle.seam_base_calls.specs.PartMoves.{base_call_of}
+use Rattle.seam_base_calls.specs.PartMoves.{base_call_in, base_call_of}
 use Rattle.seam_base_calls.specs.BaseTurns.{part_desk, base_mail, as_base_sender, BaseCallsInTurn, home_of}
 use Rattle.seam_base_calls.specs.Clients.{proxy_of, order_in, updates_at, shown_at, tells, HasClient}
+use Rattle.seam_base_calls.specs.Reaps.{HasNoBaseCalls}
 use Rattle.seam_base_calls.proofs.PartSeen.{desk_of_part}
 
 -- no call of a part is ready in a base node without a task
@@ -99,3 +101,12 @@ module _ (f : Frame) (e : ℕ) (w : World) (q : IsInFrame f w) (quiet : IsQuiet 
       all_delivered updates_at shown_at tells (entity_flow e w) (home_of f e) first h.issued h.delivery
       (λ x. ap (letters_of (mine e)) (quiet_links node_has_work w q.sound.square quiet x (home_of f e)))
       (ap (λ o. next_item (order_in (proxy_of o))) h.here ∙ (idle_at (home_of f e)).told h.part h.here)
+
+  -- no call is left
+  pub no_call_left : HasNoBaseCalls e w
+  no_call_left = record {
+    orders = λ k. ap (letters_of base_call_of) (idle_at k).orders;
+    letters = λ a k.
+        subst (AllByRecursion (λ m. base_call_in m ≡ None))
+        (sym (ap (letters_of (mine e)) (quiet_links node_has_work w q.sound.square quiet a k))) tt;
+  }

@@ -1,5 +1,6 @@
 -- After a reap: the base part is gone and stays gone, and no call to it is left.
-use Rattle.std.proofs.Common.{◌≡◌, ℕ, true, is_some, is_none, cond, List, [], ◌∷◌, Option, None, Some, refl, sym, ap, ◌∙◌, subst}
+use Rattle.std.proofs.Common.{◌≡◌, ℕ, zero, suc, Bool, true, false, is_some, is_none, cond, eqb, List, [], ◌∷◌, ◌++◌, map, filter, Option, None, Some, refl, sym, ap, ◌∙◌, subst}
+use Rattle.std.specs.Prelude.{slice_get}
 use Rattle.std.specs.Cmp.{nat_cmp_total, unsigned_tied}
 use Rattle.std.specs.FinMap as table
 use Rattle.std.specs.List.{AllByRecursion}
@@ -11,7 +12,7 @@ use Rattle.seam_machine.specs.declared.machines.Input.TheVariants.{Task}
 use Rattle.seam_machine.specs.declared.machines.Event.{Event}
 use Rattle.seam_machine.proofs.Occurring.{occurs}
 use Rattle.seam_runs.proofs.Runs.{leads_keeps}
-use Rattle.seam_flows.specs.Flows.{comes}
+use Rattle.seam_flows.specs.Flows.{comes, letters_of, more_letter, slot_at}
 use Rattle.seam_flows.specs.Sent.{IsSilent}
 use Rattle.seam_flows.proofs.Following.{slots_kept, letters_kept}
 use Rattle.seam_call.specs.declared.call.Call.{Call as CallData}
@@ -19,15 +20,17 @@ use Rattle.seam_call.specs.declared.order.Order.{Order}
 use Rattle.seam_call.specs.declared.order.Order.TheVariants as order
 use Rattle.seam_entity.specs.declared.message.Msg.{Msg}
 use Rattle.seam_entity.specs.declared.message.Msg.TheVariants.{Reap}
-use Rattle.seam_steps.specs.Here.{Here}
+use Rattle.seam_steps.specs.Here.{Here, base_of}
+use Rattle.seam_steps.specs.Loads.{order_if, reap_ordered_at, with_reap, reaps_loaded}
 use Rattle.seam_steps.specs.Bases.{BaseView, RouteView}
 use Rattle.seam_steps.specs.BaseCases.{unless_stray, on_route, base_task, base_steps}
-use Rattle.seam_steps.specs.Nodes.{World, node_steps, node_has_work}
+use Rattle.seam_steps.specs.Nodes.{NodeView, World, node_steps, node_has_work}
+use Rattle.seam_steps.specs.Nodes.NodeView.{Cell, Base}
 use Rattle.seam_moves.specs.Frames.{Frame, here_at, IsInFrame}
-use Rattle.seam_moves.specs.Sights.{Has, AtBase, entity_flow}
+use Rattle.seam_moves.specs.Sights.{AtBase, order_concerns, at_base, has_of, has_none, entity_flow}
 use Rattle.seam_moves.proofs.Classify.{event_moves, frame_happens}
 use Rattle.seam_ones.proofs.Sparing.{items_all}
-use Rattle.seam_base_calls.specs.PartMoves.{base_call_in, calls_ordered}
+use Rattle.seam_base_calls.specs.PartMoves.{base_call_in, base_call_of, calls_ordered}
 use Rattle.seam_base_calls.specs.PartMoves.{PartMoves, rests, refuses, offers, sends, serves, executes, misses, updates, shows, ends}
 use Rattle.seam_base_calls.specs.Reaps.{HasNoBaseCalls, HasNoPart}
 use Rattle.seam_base_calls.proofs.PartSteps.{part_moves}
@@ -132,3 +135,52 @@ module _ (f : Frame) (e : ℕ) where
       HasNoBaseCalls e v
   no_call_comes w v es q none run =
       (leads_keeps node_has_work node_steps Quiet quiet_more w v es (record { frame = q; none = none }) run).none
+
+-- ---- reaps are loaded into a quiet world
+
+no_call_by : (test : Order → Bool) (x : ℕ) (b : Bool) → test (order.Reap x) ≡ b →
+    letters_of base_call_of (cond b (order.Reap x ∷ []) []) ≡ []
+no_call_by test x true is = refl
+no_call_by test x false is = refl
+
+same_by : (o : Order) (os : List Order) (ls : List CallData) (b : Bool) → letters_of base_call_of os ≡ ls →
+    letters_of base_call_of (cond b (o ∷ os) os) ≡ cond b (more_letter (base_call_of o) ls) ls
+same_by o os ls true is = ap (more_letter (base_call_of o)) is
+same_by o os ls false is = is
+
+split_by : (o : Order) (os : List Order) (b : Bool) →
+    cond b (more_letter (base_call_of o) (letters_of base_call_of os)) (letters_of base_call_of os)
+    ≡ letters_of base_call_of (cond b (o ∷ os) os)
+split_by o os true = refl
+split_by o os false = refl
+
+-- an order to reap is no call
+reap_is_none : (test : Order → Bool) (x : ℕ) (os : List Order) →
+    letters_of base_call_of (filter test (os ++ order.Reap x ∷ [])) ≡ letters_of base_call_of (filter test os)
+reap_is_none test x [] = no_call_by test x (test (order.Reap x)) refl
+reap_is_none test x (o ∷ os) =
+    same_by o (filter test (os ++ order.Reap x ∷ [])) (letters_of base_call_of (filter test os)) (test o) (reap_is_none test x os)
+    ∙ split_by o (filter test os) (test o)
+
+ordered_if : (e x : ℕ) (b : BaseView) (t : Bool) →
+    calls_ordered (at_base e (order_if t b (order.Reap x))) ≡ calls_ordered (at_base e b)
+ordered_if e x b true = reap_is_none (order_concerns e) x b.orders
+ordered_if e x b false = refl
+
+node_ordered : (e x : ℕ) (n : NodeView) → calls_ordered (has_of e (reap_ordered_at x n)).base ≡ calls_ordered (has_of e n).base
+node_ordered e x (Cell c) = refl
+node_ordered e x (Base b) = ordered_if e x b (eqb (base_of b.here x) b.here.me)
+
+slot_ordered : (e x : ℕ) (ns : List NodeView) (k : ℕ) →
+    calls_ordered (slot_at (has_of e) has_none (slice_get (map (reap_ordered_at x) ns) k)).base
+    ≡ calls_ordered (slot_at (has_of e) has_none (slice_get ns k)).base
+slot_ordered e x [] k = refl
+slot_ordered e x (n ∷ ns) zero = node_ordered e x n
+slot_ordered e x (n ∷ ns) (suc k) = slot_ordered e x ns k
+
+one_reap : (e x : ℕ) (w : World) → HasNoBaseCalls e w → HasNoBaseCalls e (with_reap w x)
+one_reap e x w h = record { orders = λ k. slot_ordered e x w.nodes k ∙ h.orders k; letters = h.letters }
+
+pub reaps_without_calls : (e : ℕ) (xs : List ℕ) (w : World) → HasNoBaseCalls e w → HasNoBaseCalls e (reaps_loaded w xs)
+reaps_without_calls e [] w h = h
+reaps_without_calls e (x ∷ xs) w h = reaps_without_calls e xs (with_reap w x) (one_reap e x w h)

@@ -18,7 +18,7 @@
 //! step does with a client's updates) are for callers.
 #![tactic(auto)]
 
-ghost use Rattle.std.specs.Prelude.{◌≡◌, ℕ, ◌+◌, ◌<◌, ◌≤◌, List, ◌∷◌, length, true, None, Some, is_some};
+ghost use Rattle.std.specs.Prelude.{◌≡◌, ℕ, ◌<◌, ◌≤◌, List, [], ◌∷◌, length, true, None, Some, is_some};
 ghost use Rattle.std.specs.FinMap as table;
 ghost use Rattle.seam_machine.specs.Nets.{IsQuiet, LeadsTo};
 ghost use Rattle.seam_machine.specs.declared.machines.Event.{Event};
@@ -32,13 +32,19 @@ ghost use Rattle.seam_entity.specs.declared.message.Msg.{Msg};
 ghost use Rattle.seam_entity.specs.declared.message.Msg.TheVariants.{BaseCall, Update};
 ghost use Rattle.seam_steps.specs.Bases.{BaseView, PartView};
 ghost use Rattle.seam_steps.specs.BaseCases.{base_steps};
+ghost use Rattle.seam_steps.specs.Loads.{loaded, reaps_loaded};
+ghost use Rattle.seam_steps.specs.Rows.{empty_world};
 ghost use Rattle.seam_steps.specs.Nodes.{World, node_steps, node_has_work};
-ghost use Rattle.seam_moves.specs.Frames.{Frame, IsInFrame};
+ghost use Rattle.seam_moves.specs.Frames.{Frame, here_at, IsInFrame};
+ghost use Rattle.seam_moves.specs.BaseMoves.{strays_at};
 ghost use Rattle.seam_moves.specs.Sights.{entity_flow};
+ghost use Rattle.seam_ones.specs.Example.{frame};
 ghost use Rattle.seam_ones.specs.Ones.{IsFrame, IsSpared, HasOne};
 ghost use Rattle.seam_once.specs.CellTurns.{from_sender};
+ghost use Rattle.seam_once.specs.Example.{from_one};
 ghost use Rattle.seam_base_calls.specs.BaseTurns.{base_burden, home_of, FindsPart, HasBaseCalls, HasNoClient};
 ghost use Rattle.seam_base_calls.specs.Clients.{shown_at, HasClient, HasToldAtMost, HasRoomFor, FindsClient};
+ghost use Rattle.seam_base_calls.specs.Example as example;
 ghost use Rattle.seam_base_calls.specs.Reaps.{HasNoBaseCalls, HasNoPart};
 ghost use Rattle.seam_base_calls.specs.Strays.{HasRoutes, LinesHaveRoom, NothingIsStray};
 
@@ -104,13 +110,28 @@ pub fn nothing_is_stray_at_a_base_node()
         LeadsTo node_has_work node_steps w es v → HasToldAtMost e n v → NothingIsStray f e v }
 {}
 
-/// The order to reap an entity leaves no base part at its node, and an entity whose part is gone gets none. A call that came then would
-/// find no part, which is stray input; but where no call is ordered and none is on its way, as in a quiet world, none comes.
+/// The order to reap an entity leaves no base part at its node (`ends`), and an entity whose part is gone gets none (`gone`). A call that
+/// came then would find no part, and be stray (`stray`). But none comes: reaps are loaded into a quiet world, where no call is ordered or
+/// on its way, and without a call none comes from anywhere (`silent`).
 pub fn a_reap_ends_the_base_part()
     ensures ends { (b : BaseView) (e : ℕ) (os : List Order) → b.orders ≡ order.Reap e ∷ os → is_some (table.get b.routes e) ≡ true →
         table.get (base_steps b Task).state.parts e ≡ None }
     ensures gone { (f : Frame) (e : ℕ) (w v : World) (es : List Event) → IsInFrame f w → HasNoPart e w →
         LeadsTo node_has_work node_steps w es v → HasNoPart e v }
-    ensures silent { (f : Frame) (e : ℕ) (w v : World) (es : List Event) → IsInFrame f w → HasNoBaseCalls e w →
-        LeadsTo node_has_work node_steps w es v → HasNoBaseCalls e v }
+    ensures stray { (f : Frame) (e k : ℕ) (c : CallData) (w : World) → HasNoPart e w →
+        strays_at (here_at f k) ((entity_flow e w).slot k).base (BaseCall c) ≡ true }
+    ensures silent { (f : Frame) (e : ℕ) (xs : List ℕ) (w v : World) (es : List Event) → IsInFrame f w → IsQuiet node_has_work w →
+        IsInFrame f (reaps_loaded w xs) → LeadsTo node_has_work node_steps (reaps_loaded w xs) es v → HasNoBaseCalls e v }
+{}
+
+/// What these laws ask of a world is true of loaded ones: of two cells and an entity with calls to its base part of two senders, one at
+/// its own base node and one at another, without a client (`alone`) and with one (`client`).
+pub fn a_loaded_world_has_its_base_calls_in_turn()
+    ensures alone_load { loaded empty_world (example.batch_with []) ≡ example.world_alone }
+    ensures alone { HasBaseCalls frame 1 0 from_one example.calls_of example.world_alone × HasNoClient 1 example.world_alone }
+    ensures alone_routes { HasOne frame 1 0 example.world_alone × HasRoutes frame 1 example.world_alone }
+    ensures client_load { loaded empty_world (example.batch_with (1 ∷ [])) ≡ example.world_shown }
+    ensures client { HasBaseCalls frame 1 0 from_one example.calls_of example.world_shown × HasClient frame 1 0 1 example.world_shown }
+    ensures client_room { HasToldAtMost 1 0 example.world_shown × HasRoomFor 1 0 example.world_shown }
+    ensures client_routes { HasRoutes frame 1 example.world_shown }
 {}
