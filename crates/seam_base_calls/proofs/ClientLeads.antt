@@ -58,7 +58,7 @@ module _ (m : ℕ) where
     as_much : (r q : RealView) → q.witness ≡ r.witness → AtLeast r → AtLeast q
     as_much r q same le = let a = ap sent_of same in omega (arith, a, le)
 
-    cell_rises : WitnessMoves (here_at f k) e (real_in s) i (real_in t) sent → Rises
+    cell_rises : WitnessMoves (here_at f k) e s.cell i (real_in t) sent → Rises
     cell_rises (witness.rests kept a b) = record {
       slot = λ q has. let was = kept q has in as_much was.0 q was.2 (here was.0 was.1);
       sends = no_reals sent b;
@@ -74,7 +74,7 @@ module _ (m : ℕ) where
           (all_append (λ p. OfLetter p.1) told _ (no_reals told b)
           ((λ x is. let one : q ≡ x = cc in subst AtLeast one (as_much r q same (here r has))), tt));
     }
-    cell_rises (witness.looks r q w v shown has wit now wit' sum small z) =
+    cell_rises (witness.looks n r q w v shown at has wit now wit' sum small z) =
         let le = here r has in
         let a = ap sent_of wit in
         let b = ap sent_of wit' in

@@ -217,7 +217,7 @@ module _ (f : Frame) (e k number : ℕ) (s : Has) (i : Option Msg) (t : Has) (se
       abbrev still : IsSilent update_in sent → Its
       still z = pass.rests order_same lines_same none_comes (quiet z)
 
-      cell_told : WitnessMoves (here_at f k) e (real_in s) i (real_in t) sent → Told
+      cell_told : WitnessMoves (here_at f k) e s.cell i (real_in t) sent → Told
       cell_told (witness.rests kept a b) = record {
         passes = still a;
         us = [];
@@ -245,7 +245,7 @@ module _ (f : Frame) (e k number : ℕ) (s : Has) (i : Option Msg) (t : Has) (se
             (all_append (λ p. (x : RealView) → real_of p.1 ≡ Some x → Follows [] x) told _ (no_reals [] told b)
             ((λ x is. let one : q ≡ x = cc in same_number r x (sym (ap (λ y. y.witness) one) ∙ same) (here r has)), tt)));
       }
-      cell_told (witness.looks r q w v shown has wit now wit' sum small z) =
+      cell_told (witness.looks n r q w v shown at has wit now wit' sum small z) =
           let before = here r has in
           let at_first = ap sent_of wit in
           let after = ap sent_of wit' in

@@ -18,3 +18,4 @@ pub mod StrayRuns
 pub mod Reaped
 pub mod ExampleBase
 pub mod ExampleClient
+pub mod NoLooks

@@ -50,7 +50,7 @@ module _ (f : Frame) (e k : ℕ) (s : Has) (i : Option Msg) (t : Has) (sent : Li
   is_now = t.cell.slot.real
 
   abbrev Its : Type 0
-  Its = WitnessMoves (here_at f k) e was i is_now sent
+  Its = WitnessMoves (here_at f k) e s.cell i is_now sent
 
   real_is : (x : SlotStep) (u : AtCell) → Does u x t.cell sent → is_now ≡ (slot_after x.slot u.slot).real
   real_is x u d = ap (λ a. a.slot.real) d.state
@@ -97,7 +97,7 @@ module _ (f : Frame) (e k : ℕ) (s : Has) (i : Option Msg) (t : Has) (sent : Li
       rests (keeps_same was is_now (ap (λ a. a.slot.real) st)) (subst (IsSilent update_in) (sym z) tt) (subst (IsSilent real_of) (sym z) tt)
   witness_moves (move.unlists n h at b d) = still _ (record { slot = s.cell.slot; survey = n; looks = s.cell.looks }) d refl tt tt
   witness_moves (move.looks n r w known h at has own v small d) =
-      looks r _ w _ (shown_of (here_at f k) r w known) has v
+      looks n r _ w _ (shown_of (here_at f k) r w known) at has v
       (real_is _ (record { slot = s.cell.slot; survey = s.cell.survey; looks = n }) d) refl refl
       (lt_of (w.sent + length (shown_of (here_at f k) r w known)) limit small) (d.sends ∙ ap (λ x. numbered (base_of (here_at f k) x) x w.sent (shown_of (here_at f k) r w known)) own)
   witness_moves (move.overlooks n known h at b d) =

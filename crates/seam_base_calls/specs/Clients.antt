@@ -1,9 +1,11 @@
 -- An entity's client: what its witness told, which the proxy at the base node shows it in order.
-use Rattle.std.specs.Prelude.{◌≡◌, ℕ, ◌+◌, ◌<◌, ◌≤◌, false, List, [], length, Option, None, Some, option_map}
+use Rattle.std.specs.Prelude.{◌≡◌, ℕ, ◌+◌, ◌<◌, ◌≤◌, Bool, true, false, List, [], length, Option, None, Some, option_map}
 use Rattle.std.specs.List.{AllByRecursion}
 use Rattle.seam_flows.specs.Flows.{letters_of}
 use Rattle.seam_order.specs.Held.{OrderView}
 use Rattle.seam_delivery.specs.Deliveries.{Delivery}
+use Rattle.seam_call.specs.declared.order.Order.{Order}
+use Rattle.seam_call.specs.declared.order.Order.TheVariants as order
 use Rattle.seam_call.specs.declared.shown.Shown.{Shown}
 use Rattle.seam_call.specs.declared.shown.Line.{Line}
 use Rattle.seam_call.specs.declared.shown.ClientText.{ClientText}
@@ -12,6 +14,7 @@ use Rattle.seam_call.specs.declared.shown.Update.{Update as UpdateData}
 use Rattle.seam_entity.specs.Orders.{new_order}
 use Rattle.seam_entity.specs.Reals.{RealView}
 use Rattle.seam_entity.specs.declared.message.Msg.{Msg}
+use Rattle.seam_entity.specs.declared.message.Msg.TheVariants.{Call, BaseCall, Hand, Current, GhostSet, GhostDrop, Tick, Reap, Update}
 use Rattle.seam_steps.specs.Numbers.{limit}
 use Rattle.seam_steps.specs.Bases.{PartView, ProxyView}
 use Rattle.seam_steps.specs.BaseCases.{stray_update}
@@ -59,20 +62,44 @@ lines_in (Some x) = x.lines
 abbrev pub shown_at : Has → List Shown
 shown_at s = letters_of shown_in (lines_in (proxy_of s.base.part))
 
--- ---- the client
+-- ---- the reals
 
 -- P is true of each real of the entity, in a cell or on its way
 pub record EachReal (e : ℕ) (P : RealView → Type 0) (w : World) : Type 0 where
   pub cells : (k : ℕ) (r : RealView) → real_in ((entity_flow e w).slot k) ≡ Some r → P r
   pub hands : (a k : ℕ) → AllByRecursion (λ m. (r : RealView) → real_of m ≡ Some r → P r) ((entity_flow e w).mail a k)
 
--- the entity's witness has told n updates before the one of number n + 1
-abbrev pub HasTold : ℕ → ℕ → World → Type 0
-HasTold e n w = EachReal e (λ r. sent_by r ≡ n) w
-
--- it told at most n
+-- the entity's witness told at most n updates
 abbrev pub HasToldAtMost : ℕ → ℕ → World → Type 0
 HasToldAtMost e n w = EachReal e (λ r. sent_by r ≤ n) w
+
+-- ---- looks
+
+abbrev pub is_tick_order : Order → Bool
+is_tick_order (order.Cell c) = false
+is_tick_order (order.Base c) = false
+is_tick_order order.Tick = true
+is_tick_order (order.Reap e) = false
+
+-- the tick that a message is
+abbrev pub tick_in : Msg → Option Msg
+tick_in (Call c) = None
+tick_in (BaseCall c) = None
+tick_in (Hand r) = None
+tick_in (Current e j g) = None
+tick_in (GhostSet e n c) = None
+tick_in (GhostDrop e n) = None
+tick_in Tick = Some Tick
+tick_in (Reap e) = None
+tick_in (Update u) = None
+
+-- the entity is in no look list, and no tick is ordered or on its way, as in a round before its looks
+pub record HasNoLooks (e : ℕ) (w : World) : Type 0 where
+  pub cells : (k : ℕ) → ((entity_flow e w).slot k).cell.looks ≡ 0
+  pub orders : (k : ℕ) → AllByRecursion (λ o. is_tick_order o ≡ false) ((entity_flow e w).slot k).base.orders
+  pub letters : (a k : ℕ) → AllByRecursion (λ m. tick_in m ≡ None) ((entity_flow e w).mail a k)
+
+-- ---- the client
 
 -- the client of entity e, of type ty, to which updates were told from number `first` on in this round
 pub record HasClient (f : Frame) (e ty first : ℕ) (w : World) : Type 0 where

@@ -8,6 +8,7 @@ use Rattle.seam_entity.specs.declared.message.Msg.TheVariants.{Hand}
 use Rattle.seam_steps.specs.Numbers.{limit}
 use Rattle.seam_steps.specs.Here.{Here, base_of}
 use Rattle.seam_steps.specs.Looks.{numbered}
+use Rattle.seam_moves.specs.Sights.{AtCell}
 use Rattle.seam_ones.specs.Ones.{real_of}
 use Rattle.seam_base_calls.specs.PartMoves.{update_in}
 
@@ -19,16 +20,17 @@ sent_of (Some w) = w.sent
 abbrev pub sent_by : RealView → ℕ
 sent_by r = sent_of r.witness
 
--- a cell that has the real s of entity e, if it has it, is fed i, has t afterwards and sends this about e
-pub data WitnessMoves (h : Here) (e : ℕ) (s : Option RealView) (i : Option Msg) (t : Option RealView) (sent : List (ℕ × Msg)) : Type 0 where
+-- a cell that has s of entity e is fed i, has the real t of it afterwards, if it has it, and sends this about e
+pub data WitnessMoves (h : Here) (e : ℕ) (s : AtCell) (i : Option Msg) (t : Option RealView) (sent : List (ℕ × Msg)) : Type 0 where
   -- there is no real afterwards that was not there before, with this witness
-  rests : ((q : RealView) → t ≡ Some q → (r : RealView) × (s ≡ Some r) × (q.witness ≡ r.witness)) → IsSilent update_in sent
+  rests : ((q : RealView) → t ≡ Some q → (r : RealView) × (s.slot.real ≡ Some r) × (q.witness ≡ r.witness)) → IsSilent update_in sent
       → IsSilent real_of sent → WitnessMoves h e s i t sent
   -- the real comes with its witness
   lands : (r : RealView) → i ≡ Some (Hand r) → t ≡ Some r → IsSilent update_in sent → IsSilent real_of sent → WitnessMoves h e s i t sent
   -- it goes with it
-  leaves : (r q : RealView) (to : ℕ) (told : List (ℕ × Msg)) → s ≡ Some r → t ≡ None → q.witness ≡ r.witness
+  leaves : (r q : RealView) (to : ℕ) (told : List (ℕ × Msg)) → s.slot.real ≡ Some r → t ≡ None → q.witness ≡ r.witness
       → sent ≡ told ++ (to, Hand q) ∷ [] → IsSilent update_in told → IsSilent real_of told → WitnessMoves h e s i t sent
-  -- the witness tells these
-  looks : (r q : RealView) (w v : WitnessView) (shown : List Shown) → s ≡ Some r → r.witness ≡ Some w → t ≡ Some q → q.witness ≡ Some v
+  -- its entry in the look list is taken, and the witness tells these
+  looks : (n : ℕ) (r q : RealView) (w v : WitnessView) (shown : List Shown) → s.looks ≡ n + 1 → s.slot.real ≡ Some r
+      → r.witness ≡ Some w → t ≡ Some q → q.witness ≡ Some v
       → v.sent ≡ w.sent + length shown → v.sent < limit → sent ≡ numbered (base_of h e) e w.sent shown → WitnessMoves h e s i t sent

@@ -43,7 +43,7 @@ ghost use Rattle.seam_ones.specs.Ones.{IsFrame, IsSpared, HasOne};
 ghost use Rattle.seam_once.specs.CellTurns.{from_sender};
 ghost use Rattle.seam_once.specs.Example.{from_one};
 ghost use Rattle.seam_base_calls.specs.BaseTurns.{base_burden, home_of, FindsPart, HasBaseCalls, HasNoClient};
-ghost use Rattle.seam_base_calls.specs.Clients.{shown_at, HasClient, HasToldAtMost, HasRoomFor, FindsClient};
+ghost use Rattle.seam_base_calls.specs.Clients.{shown_at, HasClient, HasNoLooks, HasToldAtMost, HasRoomFor, FindsClient};
 ghost use Rattle.seam_base_calls.specs.Example as example;
 ghost use Rattle.seam_base_calls.specs.Reaps.{HasNoBaseCalls, HasNoPart};
 ghost use Rattle.seam_base_calls.specs.Strays.{HasRoutes, LinesHaveRoom, NothingIsStray};
@@ -88,6 +88,13 @@ pub fn a_clients_updates_come_in_order()
         FindsClient f e k ((entity_flow e w).slot k).base u }
     ensures all { (f : Frame) (e ty update : ℕ) (w : World) (h : HasClient f e ty update w) → IsQuiet node_has_work w →
         shown_at ((entity_flow e w).slot (home_of f e)) ≡ h.issued }
+{}
+
+/// A witness tells only in looks: where the entity is in no look list and no tick is ordered or on its way, as in a round until its looks
+/// are loaded, the client is told no more, whatever the calls. So the premise on what the witness tells is met by what it told before.
+pub fn a_witness_tells_only_in_looks()
+    ensures { (f : Frame) (e n : ℕ) (w v : World) (es : List Event) → IsInFrame f w → HasNoLooks e w → HasToldAtMost e n w →
+        LeadsTo node_has_work node_steps w es v → HasNoLooks e v × HasToldAtMost e n v }
 {}
 
 /// Each base node has a route to an entity that no one reaps, messages about it go to nodes that have a case for them, and routes on their
