@@ -42,6 +42,7 @@ use Rattle.seam_once.specs.Example.{from_one}
 use Rattle.seam_base_calls.specs.PartMoves.{base_call_of, calls_ordered}
 use Rattle.seam_base_calls.specs.BaseTurns.{part_desk, base_mail, as_base_sender, IsBaseCallOf, AreBaseCallsOf, BaseCallsInTurn, HasPart}
 use Rattle.seam_base_calls.specs.BaseTurns.{base_burden, HasBaseCalls}
+use Rattle.seam_base_calls.specs.Clients.{is_tick_order, HasNoLooks}
 use Rattle.seam_base_calls.specs.Strays.{IsBaseNumber, HasRoutes}
 use Rattle.seam_base_calls.specs.Example.{pay, promote_1, promote_2, calls, calls_of, base_with, world_with}
 
@@ -119,27 +120,33 @@ module _ (r : RealView) (entity : r.entity ≡ 1) (fits : RealFits frame 1 0 0 r
     pub part : (k ≡ 17 → ⊥) → h.base.part ≡ None
     pub orders : (k ≡ 16 → ⊥) → (k ≡ 17 → ⊥) → h.base.orders ≡ []
     pub reaps : HasNoReaps h
+    pub looks : h.cell.looks ≡ 0
+    pub ticks : AllByRecursion (λ o. is_tick_order o ≡ false) h.base.orders
 
   pub there : (k : ℕ) → Has_it k (flow.slot k)
   there =
       slots Has_it 1 w (each_node (λ k s. Has_it k (has_of 1 s)) w.nodes (nodes_of (λ k s. Has_it k (has_of 1 s))
       (at_home r (1 ∷ [])) (base_16 (order.Base pay ∷ []) (0, 0)) (base_with p)
-      (record { real = λ q at. (refl, sym (one_is r q 1 at)); part = λ n. refl; orders = λ n m. refl; reaps = tt })
+      (record { real = λ q at. (refl, sym (one_is r q 1 at)); part = λ n. refl; orders = λ n m. refl; reaps = tt; looks = refl; ticks = tt })
       (λ k low.
-      record { real = λ q at. absurd (none_there 1 q at); part = λ n. refl; orders = λ n m. refl; reaps = tt })
+      record { real = λ q at. absurd (none_there 1 q at); part = λ n. refl; orders = λ n m. refl; reaps = tt; looks = refl; ticks = tt })
       (record {
         real = λ q at. absurd (let z = at in cc);
         part = λ n. table.get-empty nat_cmp 1;
         orders = λ n m. absurd (n refl);
         reaps = (refl, tt);
+        looks = refl;
+        ticks = (refl, tt);
       })
       (record {
         real = λ q at. absurd (let z = at in cc);
         part = λ n. absurd (n refl);
         orders = λ n m. absurd (m refl);
         reaps = (refl, (refl, tt));
+        looks = refl;
+        ticks = (refl, (refl, tt));
       })))
-      (λ k. record { real = λ q at. absurd (let z = at in cc); part = λ n. refl; orders = λ n m. refl; reaps = tt })
+      (λ k. record { real = λ q at. absurd (let z = at in cc); part = λ n. refl; orders = λ n m. refl; reaps = tt; looks = refl; ticks = tt })
 
   real_there : real_in (flow.slot 0) ≡ Some r
   real_there = one_there r 1
@@ -198,6 +205,13 @@ module _ (r : RealView) (entity : r.entity ≡ 1) (fits : RealFits frame 1 0 0 r
 
   pub has_routes : HasRoutes frame 1 w
   has_routes = record { routes = route_at; letters = λ a k. subst (AllByRecursion _) (sym (no_mail a k)) tt }
+
+  pub has_no_looks : HasNoLooks 1 w
+  has_no_looks = record {
+    cells = λ k. (there k).looks;
+    orders = λ k. (there k).ticks;
+    letters = λ a k. subst (AllByRecursion _) (sym (no_mail a k)) tt;
+  }
 
   -- ---- each sender
 

@@ -24,10 +24,10 @@ use Rattle.seam_once.specs.Example.{from_one}
 use Rattle.seam_base_calls.specs.PartMoves.{HasNoProxy}
 use Rattle.seam_base_calls.specs.WitnessMoves.{sent_by}
 use Rattle.seam_base_calls.specs.BaseTurns.{base_burden, home_of, HasBaseCalls, HasNoClient}
-use Rattle.seam_base_calls.specs.Clients.{proxy_of, order_in, updates_at, shown_at, shown_in, lines_in, tells, EachReal, HasToldAtMost, HasClient, HasRoomFor}
+use Rattle.seam_base_calls.specs.Clients.{proxy_of, order_in, updates_at, shown_at, shown_in, lines_in, tells, EachReal, HasNoLooks, HasToldAtMost, HasClient, HasRoomFor}
 use Rattle.seam_base_calls.specs.Strays.{HasRoutes}
 use Rattle.seam_base_calls.specs.Example.{batch_with, calls_of, part_alone, world_alone, real_told, part_shown, world_shown}
-use Rattle.seam_base_calls.proofs.ExampleBase.{has_one, has_routes, has_calls, part_there, there, no_mail}
+use Rattle.seam_base_calls.proofs.ExampleBase.{has_one, has_routes, has_no_looks, has_calls, part_there, there, no_mail}
 
 pub load_alone : loaded empty_world (batch_with []) ≡ world_alone
 unfolding world_alone
@@ -102,6 +102,10 @@ calls_shown = has_calls real_told refl told_fits part_shown refl refl refl (let 
 pub routes_shown : HasRoutes frame 1 world_shown
 unfolding world_shown
 routes_shown = has_routes real_told refl told_fits part_shown refl refl refl
+
+pub no_looks_shown : HasNoLooks 1 world_shown
+unfolding world_shown
+no_looks_shown = has_no_looks real_told refl told_fits part_shown refl refl refl
 
 pub room_shown : HasRoomFor 1 0 world_shown
 room_shown = let h = shown_base_burden in omega (arith, h)

@@ -49,7 +49,8 @@ ghost use Rattle.seam_base_calls.specs.Reaps.{HasNoBaseCalls, HasNoPart};
 ghost use Rattle.seam_base_calls.specs.Strays.{HasRoutes, LinesHaveRoom, NothingIsStray};
 
 /// In a world that has an entity's base part with its calls in turn, no one reaping it, it has so after every list of events: `alone`
-/// where the entity has no client, and `client` where it has one whose witness tells at most n updates in all, for which there is room.
+/// where the entity has no client, `client` where it has one whose witness has told at most n updates in the end, for which there is room,
+/// and `before_looks` where none is to look.
 pub fn each_base_call_waits_once()
     ensures alone { (f : Frame) (e ty : ℕ) (first : ℕ → ℕ) (batch : ℕ → List CallData) (w v : World) (es : List Event) →
         HasBaseCalls f e ty first batch w → HasNoClient e w → LeadsTo node_has_work node_steps w es v →
@@ -57,6 +58,9 @@ pub fn each_base_call_waits_once()
     ensures client { (f : Frame) (e ty : ℕ) (first : ℕ → ℕ) (batch : ℕ → List CallData) (update n : ℕ) (w v : World) (es : List Event) →
         HasBaseCalls f e ty first batch w → HasClient f e ty update w → HasRoomFor e n w → LeadsTo node_has_work node_steps w es v →
         HasToldAtMost e n v → HasBaseCalls f e ty first batch v × HasClient f e ty update v }
+    ensures before_looks { (f : Frame) (e ty : ℕ) (first : ℕ → ℕ) (batch : ℕ → List CallData) (update n : ℕ) (w v : World) (es : List Event) →
+        HasBaseCalls f e ty first batch w → HasClient f e ty update w → HasToldAtMost e n w → HasRoomFor e n w → HasNoLooks e w →
+        LeadsTo node_has_work node_steps w es v → HasBaseCalls f e ty first batch v × HasClient f e ty update v }
 {}
 
 /// A call to a base part that is the first of its link in such a world comes to the entity's base node, where the part is and may be
@@ -139,6 +143,6 @@ pub fn a_loaded_world_has_its_base_calls_in_turn()
     ensures alone_routes { HasOne frame 1 0 example.world_alone × HasRoutes frame 1 example.world_alone }
     ensures client_load { loaded empty_world (example.batch_with (1 ∷ [])) ≡ example.world_shown }
     ensures client { HasBaseCalls frame 1 0 from_one example.calls_of example.world_shown × HasClient frame 1 0 1 example.world_shown }
-    ensures client_room { HasToldAtMost 1 0 example.world_shown × HasRoomFor 1 0 example.world_shown }
+    ensures client_room { HasToldAtMost 1 0 example.world_shown × HasRoomFor 1 0 example.world_shown × HasNoLooks 1 example.world_shown }
     ensures client_routes { HasRoutes frame 1 example.world_shown }
 {}
