@@ -1,5 +1,5 @@
 -- Each call once to the base part of an entity without a client: after every list of events.
-use Rattle.std.proofs.Common.{◌≡◌, ℕ, true, List, ◌∷◌, None, Some, refl, sym, ap, ◌∙◌}
+use Rattle.std.proofs.Common.{◌≡◌, ℕ, true, List, ◌∷◌, ap}
 use Rattle.seam_machine.specs.Nets.{happens, enabled, LeadsTo}
 use Rattle.seam_machine.specs.Events.{Occurs}
 use Rattle.seam_machine.specs.declared.machines.Event.{Event}

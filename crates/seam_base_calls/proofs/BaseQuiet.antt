@@ -1,5 +1,5 @@
 -- In a quiet world nothing of a base part's calls waits: no message, no order, and no held call whose turn it is.
-use Rattle.std.proofs.Common.{◌≡◌, ℕ, Bool, false, is_some, List, [], Option, None, Some, refl, sym, ap, ◌∙◌, subst}
+use Rattle.std.proofs.Common.{◌≡◌, ℕ, false, is_some, List, [], Option, None, Some, refl, sym, ap, ◌∙◌, subst}
 use Rattle.std.specs.List.{AllByRecursion}
 use Rattle.std.specs.FinMap as table
 use Rattle.seam_machine.specs.Nets.{IsQuiet}

@@ -55,7 +55,8 @@ use Rattle.seam_base_calls.proofs.PartSeen.{desk_of_part, HoldsOwnCalls, part_se
 use Rattle.seam_base_calls.proofs.PartKept.{part_goes}
 
 -- an entity that no one reaps has no order to
-pub unordered : (e : ℕ) (w : World) (k : ℕ) (os : List Order) → IsSpared e w → ((entity_flow e w).slot k).base.orders ≡ order.Reap e ∷ os → ⊥
+pub unordered : (e : ℕ) (w : World) (k : ℕ) (os : List Order) → IsSpared e w →
+    ((entity_flow e w).slot k).base.orders ≡ order.Reap e ∷ os → ⊥
 unordered e w k os spared at =
     let all : AllByRecursion (λ o. reaped_by_order o ≡ None) (order.Reap e ∷ os) =
     subst (AllByRecursion (λ o. reaped_by_order o ≡ None)) at (spared.orders k) in
@@ -109,7 +110,8 @@ module _ (f : Frame) (e ty : ℕ) (first : ℕ → ℕ) (batch : ℕ → List Ca
         let s = o.0 in
         let there : table.get p.orders s ≡ Some o.1 = (found order_is_ready p.orders o at).0 in
         let t = h.turns s in
-        let due = held_is_due (first s) (batch s) (as_base_sender s flow) t.place t.desk t.in_turn k (order_or (table.get p.orders s)).next c
+        let due =
+        held_is_due (first s) (batch s) (as_base_sender s flow) t.place t.desk t.in_turn k (order_or (table.get p.orders s)).next c
         (desk_of_part s p) (desk_there k s p has) (ap (λ y. next_item (order_or y)) there ∙ item) in
         (due_is (IsBaseCallOf f ty s) (first s) (batch s) (as_base_sender s flow) t.place t.desk t.in_turn (h.ours s) _ c due).sender
 
@@ -142,7 +144,8 @@ module _ (f : Frame) (e ty : ℕ) (first : ℕ → ℕ) (batch : ℕ → List Ca
         fits : fits_base_part (here_at f k) part.ty c ≡ true
         fits =
             let fact =
-            due_is (IsBaseCallOf f ty s) (first s) (batch s) (as_base_sender s flow) its.place its.desk its.in_turn (h.ours s) c.number c met in
+            due_is (IsBaseCallOf f ty s) (first s) (batch s) (as_base_sender s flow) its.place its.desk its.in_turn (h.ours s) c.number c
+            met in
             ap (λ y. fits_base_part (here_at f k) y c) h.part.type ∙ fact.fits
 
         may_be_offered : may_offer (order_of part.orders c.sender) c.number ≡ true
@@ -236,8 +239,8 @@ module _ (f : Frame) (e ty : ℕ) (first : ℕ → ℕ) (batch : ℕ → List Ca
     turns_happen s =
         turn_goes (first s) (batch s) (as_base_sender s (entity_flow e w)) (as_base_sender s (entity_flow e next))
         (narrow_goes (base_post s) (base_mail s) Passes step
-        (part_seen f e step.k s ((entity_flow e w).slot step.k) (comes step.input) ((entity_flow e next).slot step.k) step.moves.sent step.out
-        step.moves.items comes_due (holds_own w h step.k) (λ os. unordered e w step.k os h.spared)
+        (part_seen f e step.k s ((entity_flow e w).slot step.k) (comes step.input) ((entity_flow e next).slot step.k) step.moves.sent
+        step.out step.moves.items comes_due (holds_own w h step.k) (λ os. unordered e w step.k os h.spared)
         (part_moves f e step.k ((entity_flow e w).slot step.k) (comes step.input) ((entity_flow e next).slot step.k) step.moves.sent
         step.moves.moves))) (h.turns s)
 

@@ -1,5 +1,5 @@
 -- What a base node sends: calls, ticks and reaps alone.
-use Rattle.std.proofs.Common.{◌≡◌, ℕ, List, [], ◌∷◌, Option, None, sym, subst}
+use Rattle.std.proofs.Common.{◌≡◌, ℕ, List, [], Option, None, sym, subst}
 use Rattle.std.specs.List.{range_with_len}
 use Rattle.seam_flows.specs.Sent.{IsSilent}
 use Rattle.seam_call.specs.declared.call.Call.{Call as CallData}

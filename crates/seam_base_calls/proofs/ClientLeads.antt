@@ -1,26 +1,22 @@
 -- Each call to a base part with a client once, over every list of events in which its witness tells no more than there is room for.
-use Rattle.std.proofs.Common.{◌≡◌, ℕ, ◌+◌, ◌≤◌, true, List, [], ◌∷◌, length, Option, None, Some, refl, sym, ap, ◌∙◌, subst, arith}
+use Rattle.std.proofs.Common.{◌≡◌, ℕ, ◌+◌, ◌≤◌, true, List, [], ◌∷◌, length, Option, Some, refl, sym, ap, ◌∙◌, subst, arith}
 use Rattle.std.specs.List.{AllByRecursion}
 use Rattle.seam_machine.specs.Nets.{happens, enabled, run, AllEnabled, LeadsTo}
-use Rattle.seam_machine.specs.Events.{Occurs}
-use Rattle.seam_machine.specs.Sends.{items_to}
 use Rattle.seam_machine.specs.declared.machines.Event.{Event}
 use Rattle.seam_machine.proofs.Occurring.{occurs}
 use Rattle.seam_runs.proofs.Runs.{leads_keeps}
-use Rattle.seam_flows.specs.Flows.{Goes, comes}
+use Rattle.seam_flows.specs.Flows.{comes}
 use Rattle.seam_flows.specs.Sent.{IsSilent}
 use Rattle.seam_flows.proofs.Following.{all_append, slots_kept, letters_kept, came}
 use Rattle.seam_call.specs.declared.call.Call.{Call as CallData}
-use Rattle.seam_call.specs.declared.shown.Update.{Update as UpdateData}
 use Rattle.seam_entity.specs.Reals.{RealView}
 use Rattle.seam_entity.specs.declared.message.Msg.{Msg}
-use Rattle.seam_entity.specs.declared.message.Msg.TheVariants.{BaseCall, Hand, Update}
-use Rattle.seam_steps.specs.Bases.{PartView}
+use Rattle.seam_entity.specs.declared.message.Msg.TheVariants.{BaseCall, Hand}
 use Rattle.seam_steps.specs.BaseCases.{may_show}
 use Rattle.seam_steps.specs.Nodes.{World, node_steps, node_has_work}
 use Rattle.seam_moves.specs.Frames.{Frame, here_at, IsInFrame}
 use Rattle.seam_moves.specs.Sights.{Has, entity_flow}
-use Rattle.seam_moves.specs.Moves.{Moves, MovesTo, at_a_cell, at_a_base}
+use Rattle.seam_moves.specs.Moves.{Moves, at_a_cell, at_a_base}
 use Rattle.seam_moves.proofs.Classify.{event_moves, frame_happens}
 use Rattle.seam_ones.specs.Ones.{real_in, real_of, IsSpared}
 use Rattle.seam_ones.proofs.OneReal.{one_leads}
@@ -120,7 +116,8 @@ module _ (m : ℕ) where
         (leads_keeps node_has_work node_steps Told told_more w v es (record { frame = q; each = each }) run).each
 
 weaker : (P Q : RealView → Type 0) (e : ℕ) (w : World) → ((r : RealView) → P r → Q r) → EachReal e P w → EachReal e Q w
-weaker P Q e w g each = record { cells = λ k r has. g r (each.cells k r has); hands = λ a k. all ((entity_flow e w).mail a k) (each.hands a k) }
+weaker P Q e w g each =
+    record { cells = λ k r has. g r (each.cells k r has); hands = λ a k. all ((entity_flow e w).mail a k) (each.hands a k) }
   where
     all : (ms : List Msg) → AllByRecursion (λ m. (r : RealView) → real_of m ≡ Some r → P r) ms →
         AllByRecursion (λ m. (r : RealView) → real_of m ≡ Some r → Q r) ms
@@ -161,7 +158,8 @@ module _ (f : Frame) (e ty : ℕ) (first : ℕ → ℕ) (batch : ℕ → List Ca
   both_run w [] h room on most = h
   both_run w (v ∷ es) h room on most =
       let o = occurs node_has_work w v on.0 in
-      let now = told_before f e ty update n w (run node_steps w (v ∷ es)) (v ∷ es) h.client h.calls.spared (record { each = on; is_run = refl })
+      let now =
+      told_before f e ty update n w (run node_steps w (v ∷ es)) (v ∷ es) h.client h.calls.spared (record { each = on; is_run = refl })
       most in
       let less = base_burden_happens f e w v o h.calls.part.frame in
       both_run (happens node_steps w v) es

@@ -3,21 +3,21 @@ use Rattle.std.proofs.Common.{◌≡◌, ℕ, ◌+◌, ◌<◌, ◌≤◌, true,
 use Rattle.std.proofs.Common.{sym, ap, ◌∙◌, subst, arith, inl, inr, cond, Bool}
 use Rattle.std.specs.Prelude.{option_map}
 use Rattle.std.specs.List.{AllByRecursion}
-use Rattle.std.specs.Ordering.{nat_cmp, match_ordering}
+use Rattle.std.specs.Ordering.{nat_cmp}
 use Rattle.std.specs.declared.cmp.Ordering.{Ordering}
 use Rattle.std.specs.declared.cmp.Ordering.TheVariants.{Less, Equal, Greater}
 use Rattle.std.proofs.lemmas.Bool.{cases_eq, eq-eqb}
-use Rattle.std.proofs.lemmas.List.{append_assoc, length-append}
+use Rattle.std.proofs.lemmas.List.{length-append}
 use Rattle.seam_machine.specs.Nets.{happens}
 use Rattle.seam_machine.specs.Events.{Occurs}
 use Rattle.seam_machine.specs.declared.machines.Event.{Event}
-use Rattle.seam_flows.specs.Flows.{Flow, Goes, comes, letter_in, letters_of, more_letter}
+use Rattle.seam_flows.specs.Flows.{Flow, Goes, comes, letters_of, more_letter}
 use Rattle.seam_flows.specs.Tokens.{carried_in, Place, In, On, SoleIn, Sole}
-use Rattle.seam_flows.proofs.Following.{slots_kept, letters_kept, came}
+use Rattle.seam_flows.proofs.Following.{letters_kept, came}
 use Rattle.seam_flows.proofs.TokenLemmas.{one_more, first_is, sole_first, sole_here}
 use Rattle.seam_order.specs.Held.{item_at}
 use Rattle.seam_order.specs.Offers.{next_item, after_item}
-use Rattle.seam_delivery.specs.Deliveries.{Delivery, more_issued}
+use Rattle.seam_delivery.specs.Deliveries.{Delivery}
 use Rattle.seam_delivery.specs.Lives.{IsToward, Life}
 use Rattle.seam_delivery.specs.Numbered.{number_from, numbered}
 use Rattle.seam_delivery.proofs.Numbers.{item_bounds}
@@ -28,24 +28,24 @@ use Rattle.seam_call.specs.declared.shown.Shown.{Shown}
 use Rattle.seam_call.specs.declared.shown.Update.{Update as UpdateData}
 use Rattle.seam_entity.specs.Reals.{RealView}
 use Rattle.seam_entity.specs.declared.message.Msg.{Msg}
-use Rattle.seam_entity.specs.declared.message.Msg.TheVariants.{Call, BaseCall, Hand, Current, GhostSet, GhostDrop, Tick, Reap, Update}
+use Rattle.seam_entity.specs.declared.message.Msg.TheVariants.{Hand, Update}
 use Rattle.seam_steps.specs.Numbers.{limit, may_rise}
-use Rattle.seam_steps.specs.Here.{Here, cell_count}
+use Rattle.seam_steps.specs.Here.{Here}
 use Rattle.seam_steps.specs.Calls.{may_offer}
 use Rattle.seam_steps.specs.Bases.{PartView, ProxyView, line_if, base_text}
 use Rattle.seam_steps.specs.BaseCases.{may_show, stray_update, stray_proxy_update, offered_update, shows_next}
 use Rattle.seam_steps.specs.Nodes.{World, node_steps}
 use Rattle.seam_moves.specs.Frames.{Frame, here_at}
-use Rattle.seam_moves.specs.Sights.{Has, AtBase, mine, entity_flow}
+use Rattle.seam_moves.specs.Sights.{Has, AtBase, entity_flow}
 use Rattle.seam_moves.specs.Moves.{MovesTo}
 use Rattle.seam_moves.proofs.Classify.{event_moves}
-use Rattle.seam_ones.specs.Ones.{real_in, real_of, IsSpared, HasOne, IsOne}
+use Rattle.seam_ones.specs.Ones.{real_in, real_of, IsSpared, IsOne}
 use Rattle.seam_ones.proofs.Holds.{all_two, below_is}
-use Rattle.seam_ones.proofs.OneReal.{goes, one_happens, calm_of}
-use Rattle.seam_base_calls.specs.PartMoves.{HasNoProxy, Missed}
+use Rattle.seam_ones.proofs.OneReal.{one_happens, calm_of}
+use Rattle.seam_base_calls.specs.PartMoves.{Missed}
 use Rattle.seam_base_calls.specs.WitnessMoves.{sent_by}
-use Rattle.seam_base_calls.specs.BaseTurns.{part_burden, base_burden, home_of, HasBaseCalls}
-use Rattle.seam_base_calls.specs.Clients.{with_number, tells, proxy_of, order_in, updates_at, shown_in, lines_in, shown_at, EachReal}
+use Rattle.seam_base_calls.specs.BaseTurns.{base_burden, home_of}
+use Rattle.seam_base_calls.specs.Clients.{tells, proxy_of, order_in, updates_at, shown_at, EachReal}
 use Rattle.seam_base_calls.specs.Clients.{HasToldAtMost, HasClient, HasRoomFor, FindsClient}
 use Rattle.seam_base_calls.proofs.PartSteps.{equal_of, greater_of, part_moves}
 use Rattle.seam_base_calls.proofs.ClientSteps.{CallShown, as_it_was, lined, ClientAfter, keeps, calls, misses_it, is_told, is_shown}
@@ -85,7 +85,8 @@ module _ (P : RealView → Type 0) where
 
 -- ---- in a world
 
-module _ (f : Frame) (e ty first n : ℕ) (w : World) (h : HasClient f e ty first w) (most : HasToldAtMost e n w) (room : HasRoomFor e n w) where
+module _ (f : Frame) (e ty first n : ℕ) (w : World) (h : HasClient f e ty first w) (most : HasToldAtMost e n w)
+    (room : HasRoomFor e n w) where
   abbrev flow : Flow Has Msg
   flow = entity_flow e w
 

@@ -1,6 +1,6 @@
 -- Each step of a node is one of the moves of a client's updates: some are issued by the witness, one is offered, or one that was held is
 -- shown; and how many the witness told is known after it.
-use Rattle.std.proofs.Common.{◌≡◌, ℕ, ◌+◌, ◌<◌, ◌≤◌, ◌^◌, cond, is_some, List, [], ◌∷◌, ◌++◌, length, ◌⊎◌, Option, None, Some, refl, sym, ap, ◌∙◌}
+use Rattle.std.proofs.Common.{◌≡◌, ℕ, ◌+◌, ◌<◌, cond, is_some, List, [], ◌∷◌, ◌++◌, length, ◌⊎◌, Option, None, Some, refl, sym, ap, ◌∙◌}
 use Rattle.std.proofs.Common.{subst, arith, inl, inr, true, Bool, false}
 use Rattle.std.specs.Prelude.{option_map}
 use Rattle.std.specs.List.{AllByRecursion}
@@ -11,7 +11,7 @@ use Rattle.std.proofs.lemmas.Bool.{eq-eqb, ne_eqb}
 use Rattle.std.proofs.lemmas.Bool.Decides.{nat_tests}
 use Rattle.std.proofs.lemmas.List.{append-nil}
 use Rattle.seam_machine.specs.Sends.{items_to}
-use Rattle.seam_flows.specs.Flows.{letters_of, more_letter}
+use Rattle.seam_flows.specs.Flows.{letters_of}
 use Rattle.seam_flows.specs.Sent.{IsSilent}
 use Rattle.seam_flows.specs.Tokens.{carried_in, SendsNone}
 use Rattle.seam_flows.proofs.Bridge.{letters_of-append}
@@ -29,9 +29,7 @@ use Rattle.seam_call.specs.declared.shown.Update.{Update as UpdateData}
 use Rattle.seam_entity.specs.Reals.{RealView}
 use Rattle.seam_entity.specs.declared.message.Msg.{Msg}
 use Rattle.seam_entity.specs.declared.message.Msg.TheVariants.{Call, BaseCall, Hand, Current, GhostSet, GhostDrop, Tick, Reap, Update}
-use Rattle.seam_steps.specs.Numbers.{limit}
-use Rattle.seam_steps.specs.Here.{Here, cell_count, base_of}
-use Rattle.seam_steps.specs.Calls.{is_ready}
+use Rattle.seam_steps.specs.Here.{Here, cell_count}
 use Rattle.seam_steps.specs.Bases.{PartView, ProxyView, line_if, base_text}
 use Rattle.seam_steps.specs.BaseCases.{offered_update, shows_next}
 use Rattle.seam_steps.specs.Looks.{numbered}

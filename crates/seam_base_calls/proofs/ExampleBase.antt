@@ -1,12 +1,11 @@
 -- What the laws ask of a world is true of the examples.
-use Rattle.std.proofs.Common.{◌≡◌, ℕ, ◌+◌, ◌<◌, ◌≤◌, ◌^◌, Bool, true, false, cond, eqb, List, [], ◌∷◌, length, Option, None, Some, refl, sym, ap, ◌∙◌}
+use Rattle.std.proofs.Common.{◌≡◌, ℕ, ◌+◌, ◌<◌, ◌^◌, Bool, true, false, eqb, List, [], ◌∷◌, length, Option, None, Some, refl, sym, ap, ◌∙◌}
 use Rattle.std.proofs.Common.{subst, arith, inl, inr}
 use Rattle.std.specs.List.{AllByRecursion}
 use Rattle.std.specs.Ordering.{nat_cmp}
 use Rattle.std.specs.FinMap as table
 use Rattle.std.proofs.lemmas.Bool.{cases_eq, eqb-true, ne_eqb}
 use Rattle.std.proofs.lemmas.List.Elements.{All-replicate}
-use Rattle.seam_machine.specs.Nets.{IsSquare, ArePeers}
 use Rattle.seam_flows.specs.Flows.{Flow, letters_of, more_letter}
 use Rattle.seam_flows.specs.Tokens.{In}
 use Rattle.seam_order.specs.Held.{item_at}
@@ -15,7 +14,6 @@ use Rattle.seam_delivery.proofs.Numbers.{letters_of-number_from}
 use Rattle.seam_turns.specs.Desks.{Desk, AreInTurn}
 use Rattle.seam_turns.proofs.Ends.{loaded_in_turn}
 use Rattle.seam_call.specs.declared.call.Call.{Call as CallData}
-use Rattle.seam_call.specs.declared.order.Order.{Order}
 use Rattle.seam_call.specs.declared.order.Order.TheVariants as order
 use Rattle.seam_call.specs.Senders.{rank_of}
 use Rattle.seam_entity.specs.Orders.{Orders, order_or}
@@ -24,18 +22,17 @@ use Rattle.seam_entity.specs.declared.message.Msg.{Msg}
 use Rattle.seam_steps.specs.Numbers.{limit}
 use Rattle.seam_steps.specs.Bases.{PartView, RouteView}
 use Rattle.seam_steps.specs.BaseCases.{fits_base_part}
-use Rattle.seam_steps.specs.Nodes.{NodeView, World, node_peers}
-use Rattle.seam_steps.specs.Valid.{IsNode}
-use Rattle.seam_steps.specs.Rows.{idle, one}
+use Rattle.seam_steps.specs.Nodes.{World, node_peers}
+use Rattle.seam_steps.specs.Rows.{idle}
 use Rattle.seam_steps.specs.EarlyCall.{two_cells, at_home, base_16}
-use Rattle.seam_steps.proofs.Tables.{computing}
-use Rattle.seam_moves.specs.Frames.{here_at, IsAt, IsInFrame}
-use Rattle.seam_moves.specs.Sights.{Has, kept_if, mine, has_of, has_none, entity_flow}
+use Rattle.seam_moves.specs.Frames.{here_at, IsInFrame}
+use Rattle.seam_moves.specs.Sights.{Has, no_base, kept_if, mine, has_of, has_none, entity_flow}
 use Rattle.seam_ones.specs.Burdens.{burden}
 use Rattle.seam_ones.specs.Example.{frame}
 use Rattle.seam_ones.specs.Fits.{RealFits, IsFitHand}
-use Rattle.seam_ones.specs.Ones.{real_in, reaped_by, HasNoReaps, IsSpared, AllFits, HasOne}
-use Rattle.seam_ones.proofs.ExampleMet.{nodes_of, each_node, slots, no_row, no_link, none_there, one_is, one_there, number_is, route_low}
+use Rattle.seam_ones.specs.Ones.{real_in, real_of, reaped_by, reaped_by_order, HasNoReaps, IsSpared, HasOne}
+use Rattle.seam_ones.proofs.ExampleMet.{EachFrom, nodes_of, each_node, slots, no_row, no_link, none_there, one_is}
+use Rattle.seam_ones.proofs.ExampleMet.{one_there, number_is, route_low}
 use Rattle.seam_ones.proofs.ExampleMet.{peers_from, Q, idle_is}
 use Rattle.seam_once.specs.CellTurns.{from_sender, numbered_from}
 use Rattle.seam_once.specs.Example.{from_one}
@@ -67,8 +64,8 @@ are_calls s = own_all s calls all_fit
 
 -- ---- a world with that real and that base part, which has done nothing
 
-module _ (r : RealView) (entity : r.entity ≡ 1) (fits : RealFits frame 1 0 0 r) (p : PartView) (new : p.orders ≡ table.empty) (idle_yet : p.done ≡ [])
-    (type : p.ty ≡ 0) where
+module _ (r : RealView) (entity : r.entity ≡ 1) (fits : RealFits frame 1 0 0 r) (p : PartView)
+    (new : p.orders ≡ table.empty) (idle_yet : p.done ≡ []) (type : p.ty ≡ 0) where
   abbrev w : World
   w = world_with r p
 
@@ -90,12 +87,10 @@ module _ (r : RealView) (entity : r.entity ≡ 1) (fits : RealFits frame 1 0 0 r
   in_frame : IsInFrame frame w
   in_frame =
       let each =
-      each_node Q w.nodes (nodes_of Q (at_home r (1 ∷ [])) (base_16 (order.Base pay ∷ []) (0, 0)) (base_with p) home_node idle_is
-      (
+      each_node Q w.nodes (nodes_of Q (at_home r (1 ∷ [])) (base_16 (order.Base pay ∷ []) (0, 0)) (base_with p) home_node idle_is (
         record { bases = omega arith; cells = omega arith; routes = route_low 0 },
         record { high = omega arith; here = refl; cells = refl },
-      )
-      (
+      ) (
         record { bases = omega arith; cells = omega arith; routes = route_low 0 },
         record { high = omega arith; here = refl; cells = refl },
       )) in
@@ -103,9 +98,61 @@ module _ (r : RealView) (entity : r.entity ≡ 1) (fits : RealFits frame 1 0 0 r
         sound = record {
           square = record { rows = refl; links = All-replicate (λ l. length l ≡ 18) 18 (no_row 18) refl };
           peers =
-              peers_from (λ s. node_peers s ≡ 18) w.nodes
-              (refl, (refl, (refl, (refl, (refl, (refl, (refl, (refl, (refl, (refl, (refl, (refl, (refl, (refl, (refl, (refl, (refl, (refl,
-              tt))))))))))))))))));
+              peers_from (λ s. node_peers s ≡ 18) w.nodes (
+                refl,
+                (
+                  refl,
+                  (
+                    refl,
+                    (
+                      refl,
+                      (
+                        refl,
+                        (
+                          refl,
+                          (
+                            refl,
+                            (
+                              refl,
+                              (
+                                refl,
+                                (
+                                  refl,
+                                  (
+                                    refl,
+                                    (
+                                      refl,
+                                      (
+                                        refl,
+                                        (
+                                          refl,
+                                          (
+                                            refl,
+                                            (
+                                              refl,
+                                              (
+                                                refl,
+                                                (
+                                                  refl,
+                                                  tt,
+                                                ),
+                                              ),
+                                            ),
+                                          ),
+                                        ),
+                                      ),
+                                    ),
+                                  ),
+                                ),
+                              ),
+                            ),
+                          ),
+                        ),
+                      ),
+                    ),
+                  ),
+                ),
+              );
           states = λ k s at. (each k s at).0;
         };
         nodes = λ k s at. (each k s at).1;
@@ -123,30 +170,47 @@ module _ (r : RealView) (entity : r.entity ≡ 1) (fits : RealFits frame 1 0 0 r
     pub looks : h.cell.looks ≡ 0
     pub ticks : AllByRecursion (λ o. is_tick_order o ≡ false) h.base.orders
 
+  -- a node without a base part and without orders
+  bare : (k : ℕ) (h : Has) → ((q : RealView) → real_in h ≡ Some q → (k ≡ 0) × (q ≡ r)) → h.base ≡ no_base → h.cell.looks ≡ 0 → Has_it k h
+  bare k h real none looks = record {
+    real = real;
+    part = λ n. ap (λ b. b.part) none;
+    orders = λ n m. ap (λ b. b.orders) none;
+    reaps = subst (λ b. AllByRecursion (λ o. reaped_by_order o ≡ None) b.orders) (sym none) tt;
+    looks = looks;
+    ticks = subst (λ b. AllByRecursion (λ o. is_tick_order o ≡ false) b.orders) (sym none) tt;
+  }
+
+  node_16 : Has_it 16 (has_of 1 (base_16 (order.Base pay ∷ []) (0, 0)))
+  node_16 = record {
+    real = λ q at. absurd (let z = at in cc);
+    part = λ n. table.get-empty nat_cmp 1;
+    orders = λ n m. absurd (n refl);
+    reaps = (refl, tt);
+    looks = refl;
+    ticks = (refl, tt);
+  }
+
+  node_17 : Has_it 17 (has_of 1 (base_with p))
+  node_17 = record {
+    real = λ q at. absurd (let z = at in cc);
+    part = λ n. absurd (n refl);
+    orders = λ n m. absurd (m refl);
+    reaps = (refl, (refl, tt));
+    looks = refl;
+    ticks = (refl, (refl, tt));
+  }
+
+  each_has : EachFrom (λ k n. Has_it k (has_of 1 n)) 0 w.nodes
+  each_has =
+      nodes_of (λ k n. Has_it k (has_of 1 n)) (at_home r (1 ∷ [])) (base_16 (order.Base pay ∷ []) (0, 0)) (base_with p)
+      (bare 0 (has_of 1 (at_home r (1 ∷ []))) (λ q at. (refl, sym (one_is r q 1 at))) refl refl)
+      (λ k low. bare k (has_of 1 (idle two_cells k)) (λ q at. absurd (none_there 1 q at)) refl refl) node_16 node_17
+
   pub there : (k : ℕ) → Has_it k (flow.slot k)
   there =
-      slots Has_it 1 w (each_node (λ k s. Has_it k (has_of 1 s)) w.nodes (nodes_of (λ k s. Has_it k (has_of 1 s))
-      (at_home r (1 ∷ [])) (base_16 (order.Base pay ∷ []) (0, 0)) (base_with p)
-      (record { real = λ q at. (refl, sym (one_is r q 1 at)); part = λ n. refl; orders = λ n m. refl; reaps = tt; looks = refl; ticks = tt })
-      (λ k low.
-      record { real = λ q at. absurd (none_there 1 q at); part = λ n. refl; orders = λ n m. refl; reaps = tt; looks = refl; ticks = tt })
-      (record {
-        real = λ q at. absurd (let z = at in cc);
-        part = λ n. table.get-empty nat_cmp 1;
-        orders = λ n m. absurd (n refl);
-        reaps = (refl, tt);
-        looks = refl;
-        ticks = (refl, tt);
-      })
-      (record {
-        real = λ q at. absurd (let z = at in cc);
-        part = λ n. absurd (n refl);
-        orders = λ n m. absurd (m refl);
-        reaps = (refl, (refl, tt));
-        looks = refl;
-        ticks = (refl, (refl, tt));
-      })))
-      (λ k. record { real = λ q at. absurd (let z = at in cc); part = λ n. refl; orders = λ n m. refl; reaps = tt; looks = refl; ticks = tt })
+      slots Has_it 1 w (each_node (λ k n. Has_it k (has_of 1 n)) w.nodes each_has)
+      (λ k. bare k has_none (λ q at. absurd (let z = at in cc)) refl refl)
 
   real_there : real_in (flow.slot 0) ≡ Some r
   real_there = one_there r 1
@@ -188,7 +252,11 @@ module _ (r : RealView) (entity : r.entity ≡ 1) (fits : RealFits frame 1 0 0 r
     };
     place = In 0;
     real = r;
-    one = record { here = real_there; others = λ j n. none_by j (real_in (flow.slot j)) refl n; mail = λ x y. ap (letters_of _) (no_mail x y) };
+    one = record {
+      here = real_there;
+      others = λ j n. none_by j (real_in (flow.slot j)) refl n;
+      mail = λ x y. ap (letters_of real_of) (no_mail x y);
+    };
   }
 
   -- ---- routes

@@ -1,5 +1,5 @@
 -- The two examples, without a client and with one, and that loads make them.
-use Rattle.std.proofs.Common.{◌≡◌, ℕ, ◌+◌, ◌<◌, ◌≤◌, List, [], ◌∷◌, length, Option, None, Some, refl, sym, ap, ◌∙◌}
+use Rattle.std.proofs.Common.{◌≡◌, ℕ, ◌+◌, ◌≤◌, [], ◌∷◌, refl, sym, ap, ◌∙◌}
 use Rattle.std.proofs.Common.{subst, arith, inl, inr}
 use Rattle.std.specs.List.{AllByRecursion}
 use Rattle.std.proofs.lemmas.Bool.{cases_eq}
@@ -7,24 +7,22 @@ use Rattle.seam_flows.specs.Flows.{letters_of}
 use Rattle.seam_delivery.specs.Deliveries.{Delivery}
 use Rattle.seam_delivery.proofs.Delivering.{delivery_starts}
 use Rattle.seam_entity.specs.Reals.{RealView}
-use Rattle.seam_entity.specs.declared.message.Msg.{Msg}
-use Rattle.seam_steps.specs.Numbers.{limit}
-use Rattle.seam_steps.specs.Bases.{PartView, ProxyView, with_line, base_text}
+use Rattle.seam_steps.specs.Bases.{ProxyView, with_line, base_text}
 use Rattle.seam_steps.specs.Loads.{loaded, new_proxy}
 use Rattle.seam_steps.specs.Rows.{empty_world, here}
 use Rattle.seam_steps.specs.EarlyCall.{made}
 use Rattle.seam_steps.proofs.Tables.{computing}
-use Rattle.seam_moves.specs.Sights.{Has, entity_flow}
+use Rattle.seam_moves.specs.Sights.{entity_flow}
 use Rattle.seam_ones.specs.Burdens.{burden}
 use Rattle.seam_ones.specs.Example.{frame}
 use Rattle.seam_ones.specs.Fits.{RealFits}
-use Rattle.seam_ones.specs.Ones.{real_in, HasOne}
+use Rattle.seam_ones.specs.Ones.{HasOne}
 use Rattle.seam_ones.proofs.ExampleMet.{made_fits, frame_is}
 use Rattle.seam_once.specs.Example.{from_one}
-use Rattle.seam_base_calls.specs.PartMoves.{HasNoProxy}
 use Rattle.seam_base_calls.specs.WitnessMoves.{sent_by}
-use Rattle.seam_base_calls.specs.BaseTurns.{base_burden, home_of, HasBaseCalls, HasNoClient}
-use Rattle.seam_base_calls.specs.Clients.{proxy_of, order_in, updates_at, shown_at, shown_in, lines_in, tells, EachReal, HasNoLooks, HasToldAtMost, HasClient, HasRoomFor}
+use Rattle.seam_base_calls.specs.BaseTurns.{base_burden, HasBaseCalls, HasNoClient}
+use Rattle.seam_base_calls.specs.Clients.{proxy_of, order_in, updates_at, shown_at, shown_in, lines_in, tells, EachReal, HasNoLooks}
+use Rattle.seam_base_calls.specs.Clients.{HasToldAtMost, HasClient, HasRoomFor}
 use Rattle.seam_base_calls.specs.Strays.{HasRoutes}
 use Rattle.seam_base_calls.specs.Example.{batch_with, calls_of, part_alone, world_alone, real_told, part_shown, world_shown}
 use Rattle.seam_base_calls.proofs.ExampleBase.{has_one, has_routes, has_no_looks, has_calls, part_there, there, no_mail}

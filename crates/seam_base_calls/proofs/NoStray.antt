@@ -1,6 +1,6 @@
 -- Nothing about the entity is stray at a base node.
-use Rattle.std.proofs.Common.{◌≡◌, ℕ, ◌+◌, ◌<◌, ◌≤◌, Bool, true, false, not, ◌&&◌, is_none, List, [], ◌∷◌, length, Option, None, Some, refl}
-use Rattle.std.proofs.Common.{sym, ap, ◌∙◌, subst, arith, inl, inr, eqb}
+use Rattle.std.proofs.Common.{◌≡◌, ℕ, ◌+◌, ◌<◌, ◌≤◌, Bool, true, false, not, ◌&&◌, is_none, List, ◌∷◌, length, Option, None, Some, refl}
+use Rattle.std.proofs.Common.{sym, ap, ◌∙◌, subst, arith, inl, inr}
 use Rattle.std.specs.Prelude.{slice_get}
 use Rattle.std.specs.List.{All, AllByRecursion}
 use Rattle.std.proofs.lemmas.Bool.{cases_eq, eqb-true}
@@ -14,19 +14,19 @@ use Rattle.seam_call.specs.declared.shown.Update.{Update as UpdateData}
 use Rattle.seam_entity.specs.declared.message.Msg.{Msg}
 use Rattle.seam_entity.specs.declared.message.Msg.TheVariants.{Call, BaseCall, Hand, Current, GhostSet, GhostDrop, Tick, Reap, Update}
 use Rattle.seam_steps.specs.Numbers.{limit}
-use Rattle.seam_steps.specs.Here.{Here, cell_count, peers_of}
+use Rattle.seam_steps.specs.Here.{cell_count, peers_of}
 use Rattle.seam_steps.specs.Bases.{BaseView, PartView, RouteView}
-use Rattle.seam_steps.specs.BaseCases.{may_show, may_execute, stray_base_call, stray_current, stray_update, stray_proxy_update, is_base_node_of}
+use Rattle.seam_steps.specs.BaseCases.{may_show, may_execute, stray_base_call, stray_current, stray_update, stray_proxy_update}
+use Rattle.seam_steps.specs.BaseCases.{is_base_node_of}
 use Rattle.seam_steps.specs.Nodes.{NodeView, World, node_peers}
 use Rattle.seam_steps.specs.Nodes.NodeView.{Cell, Base}
-use Rattle.seam_moves.specs.Frames.{Frame, here_at, IsAt, IsInFrame}
+use Rattle.seam_moves.specs.Frames.{Frame, here_at, IsInFrame}
 use Rattle.seam_moves.specs.Sights.{Has, has_of, has_none, order_concerns, entity_flow}
 use Rattle.seam_moves.specs.BaseMoves.{strays_at, is_stuck}
 use Rattle.seam_ones.proofs.ExampleMet.{slots}
 use Rattle.seam_ones.proofs.Holds.{all_two, below_is}
 use Rattle.seam_base_calls.specs.PartMoves.{base_call_of, calls_ordered, HasNoProxy}
-use Rattle.seam_base_calls.specs.BaseTurns.{home_of, FindsPart, HasBaseCalls, HasNoClient}
-use Rattle.seam_base_calls.specs.Clients.{HasClient}
+use Rattle.seam_base_calls.specs.BaseTurns.{home_of, FindsPart, HasBaseCalls}
 use Rattle.seam_base_calls.specs.Strays.{IsBaseNumber, is_for_cells, IsForNode, HasRoutes, LinesHaveRoom, no_client, client, NothingIsStray}
 use Rattle.seam_base_calls.proofs.BaseRuns.{finds, finds_ordered, version_may_rise}
 use Rattle.seam_base_calls.proofs.AloneRuns.{no_lines}

@@ -134,7 +134,8 @@ input_is e k (From a m) = came_by (mine e m)
 module _ (f : Frame) (e : ℕ) (w : World) (v : Event) (o : Occurs w v) where
   pub base_burden_happens : IsInFrame f w → base_burden e (happens node_steps w v) ≤ base_burden e w
   base_burden_happens q =
-      let a = weight_moves (node_base_burden e) (mine_base_burden e) node_steps w v o q.sound.square (sound_sends node_laws w v o q.sound) in
+      let a =
+      weight_moves (node_base_burden e) (mine_base_burden e) node_steps w v o q.sound.square (sound_sends node_laws w v o q.sound) in
       let b = sent_is e (node_steps o.node o.input).sent in
       let d = input_is e v.node o.input in
       let m =

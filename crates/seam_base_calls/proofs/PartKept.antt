@@ -119,7 +119,8 @@ module _ (f : Frame) (e ty : ℕ) {w v : World} (g : Goes (MovesTo f e) (entity_
     calls = homeward;
   }
     where
-      none_by : (k : ℕ) → (k ≡ home_of f e → ⊥) → Lies f e ty k ((entity_flow e v).slot k).base → ((entity_flow e v).slot k).base.part ≡ None
+      none_by : (k : ℕ) → (k ≡ home_of f e → ⊥) → Lies f e ty k ((entity_flow e v).slot k).base →
+          ((entity_flow e v).slot k).base.part ≡ None
       none_by k n (at_home q is has t) = absurd (n is)
       none_by k n (elsewhere m none) = none
   part_by (elsewhere n none) = absurd (n refl)

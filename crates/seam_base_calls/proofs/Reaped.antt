@@ -1,5 +1,6 @@
 -- After a reap: the base part is gone and stays gone, and no call to it is left.
-use Rattle.std.proofs.Common.{◌≡◌, ℕ, zero, suc, Bool, true, false, is_some, is_none, cond, eqb, List, [], ◌∷◌, ◌++◌, map, filter, Option, None, Some, refl, sym, ap, ◌∙◌, subst}
+use Rattle.std.proofs.Common.{◌≡◌, ℕ, zero, suc, Bool, true, false, is_some, is_none, cond, eqb, List, [], ◌∷◌, ◌++◌, map, filter, Option}
+use Rattle.std.proofs.Common.{None, Some, refl, sym, ap, ◌∙◌, subst}
 use Rattle.std.specs.Prelude.{slice_get}
 use Rattle.std.specs.Cmp.{nat_cmp_total, unsigned_tied}
 use Rattle.std.specs.FinMap as table
@@ -7,7 +8,6 @@ use Rattle.std.specs.List.{AllByRecursion}
 use Rattle.std.proofs.lemmas.Bool.{eq-eqb}
 use Rattle.seam_machine.specs.Nets.{happens, enabled, LeadsTo}
 use Rattle.seam_machine.specs.Events.{Occurs}
-use Rattle.seam_machine.specs.Sends.{items_to}
 use Rattle.seam_machine.specs.declared.machines.Input.TheVariants.{Task}
 use Rattle.seam_machine.specs.declared.machines.Event.{Event}
 use Rattle.seam_machine.proofs.Occurring.{occurs}
@@ -38,8 +38,10 @@ use Rattle.seam_base_calls.proofs.PartSteps.{part_moves}
 -- ---- the order to reap
 
 reap_by : (b : BaseView) (e : ℕ) (os : List Order) (route : Option RouteView) → is_some route ≡ true →
-    table.get (unless_stray (is_none route) b (record { state = record b { orders = os; parts = table.remove b.parts e };
-    sent = on_route route (Reap e) })).state.parts e ≡ None
+    table.get (unless_stray (is_none route) b (record {
+      state = record b { orders = os; parts = table.remove b.parts e };
+      sent = on_route route (Reap e);
+    })).state.parts e ≡ None
 reap_by b e os None is = cc
 reap_by b e os (Some r) is =
     table.get-remove nat_cmp_total b.parts e e
@@ -105,7 +107,8 @@ module _ (f : Frame) (e : ℕ) where
         gone = slots_kept (λ k s. s.base.part ≡ None) g h.gone (no_part (here_at f g.k) e _ _ _ _ (moves w v o h.frame) (h.gone g.k));
       }
 
-  pub part_stays_gone : (w v : World) (es : List Event) → IsInFrame f w → HasNoPart e w → LeadsTo node_has_work node_steps w es v → HasNoPart e v
+  pub part_stays_gone : (w v : World) (es : List Event) → IsInFrame f w → HasNoPart e w →
+      LeadsTo node_has_work node_steps w es v → HasNoPart e v
   part_stays_gone w v es q gone run =
       (leads_keeps node_has_work node_steps Gone gone_more w v es (record { frame = q; gone = gone }) run).gone
 

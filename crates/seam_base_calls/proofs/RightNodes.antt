@@ -1,5 +1,6 @@
 -- Each move sends its messages to nodes that have a case for them, and routes that fit.
-use Rattle.std.proofs.Common.{◌≡◌, ℕ, zero, suc, ◌+◌, ◌<◌, ◌≤◌, Bool, true, false, List, [], ◌∷◌, ◌++◌, map, Option, None, Some, refl, sym, ap, ◌∙◌}
+use Rattle.std.proofs.Common.{◌≡◌, ℕ, zero, suc, ◌+◌, ◌<◌, ◌≤◌, Bool, true, false, List, [], ◌∷◌, map, Option, None, Some, refl, sym, ap}
+use Rattle.std.proofs.Common.{◌∙◌}
 use Rattle.std.proofs.Common.{subst, arith, cond}
 use Rattle.std.specs.Prelude.{filter_map, ◌==◌, ◌||◌}
 use Rattle.std.specs.List.{AllByRecursion, range_with_len, cons_option}
@@ -7,16 +8,16 @@ use Rattle.std.specs.FinSet as set
 use Rattle.std.proofs.lemmas.Nat.{mod_below}
 use Rattle.seam_geo.specs.declared.pos.Pos.{Pos}
 use Rattle.seam_tree.specs.Cells.{Cells}
-use Rattle.seam_tree.specs.Division.{Division, IsTree, leaf_at, cells_of}
+use Rattle.seam_tree.specs.Division.{IsTree, leaf_at, cells_of}
 use Rattle.seam_tree.proofs.Leaves.{leaf_is_cell}
 use Rattle.seam_flows.proofs.Following.{all_append}
 use Rattle.seam_call.specs.declared.shown.GhostCopy.{GhostCopy}
 use Rattle.seam_call.specs.declared.shown.Shown.{Shown}
 use Rattle.seam_entity.specs.Reals.{RealView}
 use Rattle.seam_entity.specs.declared.message.Msg.{Msg}
-use Rattle.seam_entity.specs.declared.message.Msg.TheVariants.{Call, BaseCall, Hand, Current, GhostSet, GhostDrop, Tick, Reap, Update}
+use Rattle.seam_entity.specs.declared.message.Msg.TheVariants.{BaseCall, Hand, Current, GhostSet, GhostDrop, Tick, Update}
 use Rattle.seam_steps.specs.Numbers.{limit}
-use Rattle.seam_steps.specs.Here.{Here, cell_count, cell_numbers, base_numbers, base_of}
+use Rattle.seam_steps.specs.Here.{Here, cell_count, base_of}
 use Rattle.seam_steps.specs.Reals.{copy_of_real}
 use Rattle.seam_steps.specs.Slots.{NextPlace, SlotStep}
 use Rattle.seam_steps.specs.Settle.{told, told_unless, ghost_message, ghost_messages, haunts_at, home_after}
@@ -39,7 +40,8 @@ module _ (P : ℕ → Msg → Type 0) where
   abbrev AllSent : List (ℕ × Msg) → Type 0
   AllSent ps = AllByRecursion (λ p. P p.0 p.1) ps
 
-  cons_all : (o : Option (ℕ × Msg)) (ps : List (ℕ × Msg)) → ((p : ℕ × Msg) → o ≡ Some p → P p.0 p.1) → AllSent ps → AllSent (cons_option o ps)
+  cons_all : (o : Option (ℕ × Msg)) (ps : List (ℕ × Msg)) → ((p : ℕ × Msg) → o ≡ Some p → P p.0 p.1) → AllSent ps →
+      AllSent (cons_option o ps)
   cons_all None ps h more = more
   cons_all (Some p) ps h more = (h p refl, more)
 

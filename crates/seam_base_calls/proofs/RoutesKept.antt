@@ -1,18 +1,13 @@
 -- Each base node keeps a route to the entity, and messages go where they belong, after each event.
-use Rattle.std.proofs.Common.{◌≡◌, ℕ, ◌+◌, ◌<◌, ◌≤◌, List, length, Option, None, Some, refl, sym, ap, ◌∙◌, subst, arith, inl, inr}
-use Rattle.std.specs.Prelude.{slice_get}
+use Rattle.std.proofs.Common.{◌≡◌, ℕ, ◌<◌, ◌≤◌, List, length, Option, Some, sym, ap, ◌∙◌, subst, arith}
 use Rattle.std.specs.List.{AllByRecursion}
-use Rattle.std.proofs.lemmas.Bool.{cases_eq}
 use Rattle.seam_machine.specs.Nets.{happens}
 use Rattle.seam_machine.specs.Events.{Occurs}
-use Rattle.seam_machine.specs.Sends.{items_to}
 use Rattle.seam_machine.specs.declared.machines.Event.{Event}
 use Rattle.seam_flows.specs.Flows.{comes, letter_in}
 use Rattle.seam_flows.proofs.Following.{slots_kept, letters_kept}
-use Rattle.seam_entity.specs.Reals.{RealView}
 use Rattle.seam_entity.specs.declared.message.Msg.{Msg}
-use Rattle.seam_entity.specs.declared.message.Msg.TheVariants.{Hand, Reap}
-use Rattle.seam_steps.specs.Numbers.{limit}
+use Rattle.seam_entity.specs.declared.message.Msg.TheVariants.{Reap}
 use Rattle.seam_steps.specs.Here.{Here, cell_count}
 use Rattle.seam_steps.specs.Slots.{NextPlace}
 use Rattle.seam_steps.specs.Bases.{RouteView}
@@ -91,7 +86,8 @@ module _ (f : Frame) (frame : IsFrame f) (e ty : ℕ) (known : ty < length f.def
   routes_happen h =
       let g = goes f frame e ty known w v o one calm in
       let lead = all_lead f e w one.fits.frame g.k in
-      let some = some_base f v.node o.node (one.fits.frame.sound.states v.node o.node o.is_node) (one.fits.frame.nodes v.node o.node o.is_node) in
+      let q = one.fits.frame in
+      let some = some_base f v.node o.node (q.sound.states v.node o.node o.is_node) (q.nodes v.node o.node o.is_node) in
       let sends =
       sends_right f frame.tree some e g.k ((entity_flow e w).slot g.k) (comes g.input) ((entity_flow e (happens node_steps w v)).slot g.k)
       g.moves.0.sent (λ r is. let few = g.moves.1.0 r is in omega (arith, few)) lead.0 lead.1 g.moves.0.moves in

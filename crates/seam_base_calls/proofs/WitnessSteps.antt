@@ -1,5 +1,5 @@
 -- Each move of a cell is one of the witness's.
-use Rattle.std.proofs.Common.{◌≡◌, ℕ, ◌+◌, ◌<◌, Bool, true, nat_lt, List, [], ◌∷◌, length, Option, None, Some, refl, sym, ap, ◌∙◌, subst, arith}
+use Rattle.std.proofs.Common.{◌≡◌, ℕ, ◌+◌, ◌<◌, Bool, true, nat_lt, List, length, Option, None, Some, refl, sym, ap, ◌∙◌, subst, arith}
 use Rattle.std.specs.FinSet as set
 use Rattle.std.proofs.lemmas.Bool.Decides.{nat_tests}
 use Rattle.seam_flows.specs.Sent.{IsSilent}
@@ -16,7 +16,7 @@ use Rattle.seam_moves.specs.Sights.{Has, AtCell}
 use Rattle.seam_moves.specs.CellMoves as move
 use Rattle.seam_moves.specs.CellMoves.{Does, Acts, surveys, calls, readies, CellMoves}
 use Rattle.seam_ones.specs.Ones.{real_of}
-use Rattle.seam_ones.proofs.Plain.{SeesNoGhost, ghosts_silent, drops_silent, mapped_silent, numbered_silent}
+use Rattle.seam_ones.proofs.Plain.{SeesNoGhost, ghosts_silent, drops_silent, mapped_silent}
 use Rattle.seam_base_calls.specs.PartMoves.{update_in}
 use Rattle.seam_base_calls.specs.WitnessMoves.{WitnessMoves, rests, lands, leaves, looks}
 
@@ -86,7 +86,8 @@ module _ (f : Frame) (e k : ℕ) (s : Has) (i : Option Msg) (t : Has) (sent : Li
   witness_moves (move.passes c p n own has at d) = still _ s.cell d refl (refl, tt) (refl, tt)
   witness_moves (move.lands r n own has may d) =
       lands r n (real_is _ s.cell d)
-      (subst (IsSilent update_in) (sym d.sends) (mapped_silent update_in (current_to (here_at f k) r) (λ b. refl) (base_numbers (here_at f k))))
+      (subst (IsSilent update_in) (sym d.sends)
+      (mapped_silent update_in (current_to (here_at f k) r) (λ b. refl) (base_numbers (here_at f k))))
       (subst (IsSilent real_of) (sym d.sends) (mapped_silent real_of (current_to (here_at f k) r) (λ b. refl) (base_numbers (here_at f k))))
   witness_moves (move.hears_set n c h has d) = still _ s.cell d refl tt tt
   witness_moves (move.ignores_set n c r h has d) = still _ s.cell d refl tt tt
@@ -99,7 +100,8 @@ module _ (f : Frame) (e k : ℕ) (s : Has) (i : Option Msg) (t : Has) (sent : Li
   witness_moves (move.looks n r w known h at has own v small d) =
       looks n r _ w _ (shown_of (here_at f k) r w known) at has v
       (real_is _ (record { slot = s.cell.slot; survey = s.cell.survey; looks = n }) d) refl refl
-      (lt_of (w.sent + length (shown_of (here_at f k) r w known)) limit small) (d.sends ∙ ap (λ x. numbered (base_of (here_at f k) x) x w.sent (shown_of (here_at f k) r w known)) own)
+      (lt_of (w.sent + length (shown_of (here_at f k) r w known)) limit small)
+      (d.sends ∙ ap (λ x. numbered (base_of (here_at f k) x) x w.sent (shown_of (here_at f k) r w known)) own)
   witness_moves (move.overlooks n known h at b d) =
       still _ (record { slot = s.cell.slot; survey = s.cell.survey; looks = n }) d refl tt tt
   witness_moves (move.stuck r h has ready may d) = still _ s.cell d refl tt tt

@@ -8,7 +8,6 @@ use Rattle.seam_defs.specs.declared.states.Deed.TheVariants.{Method}
 use Rattle.seam_flows.specs.Flows.{letters_of}
 use Rattle.seam_call.specs.declared.sender.Sender.TheVariants as sender
 use Rattle.seam_call.specs.declared.call.Call.{Call as CallData}
-use Rattle.seam_call.specs.declared.order.Order.{Order}
 use Rattle.seam_call.specs.declared.order.Order.TheVariants as order
 use Rattle.seam_call.specs.declared.order.Batch.{Batch}
 use Rattle.seam_entity.specs.Reals.{RealView}

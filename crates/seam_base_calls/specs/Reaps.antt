@@ -1,5 +1,5 @@
 -- After a reap: what is left of the calls to a base part.
-use Rattle.std.specs.Prelude.{◌≡◌, ℕ, List, [], None}
+use Rattle.std.specs.Prelude.{◌≡◌, ℕ, [], None}
 use Rattle.std.specs.List.{AllByRecursion}
 use Rattle.seam_steps.specs.Nodes.{World}
 use Rattle.seam_moves.specs.Sights.{entity_flow}

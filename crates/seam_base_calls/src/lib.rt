@@ -58,9 +58,9 @@ pub fn each_base_call_waits_once()
     ensures client { (f : Frame) (e ty : ℕ) (first : ℕ → ℕ) (batch : ℕ → List CallData) (update n : ℕ) (w v : World) (es : List Event) →
         HasBaseCalls f e ty first batch w → HasClient f e ty update w → HasRoomFor e n w → LeadsTo node_has_work node_steps w es v →
         HasToldAtMost e n v → HasBaseCalls f e ty first batch v × HasClient f e ty update v }
-    ensures before_looks { (f : Frame) (e ty : ℕ) (first : ℕ → ℕ) (batch : ℕ → List CallData) (update n : ℕ) (w v : World) (es : List Event) →
-        HasBaseCalls f e ty first batch w → HasClient f e ty update w → HasToldAtMost e n w → HasRoomFor e n w → HasNoLooks e w →
-        LeadsTo node_has_work node_steps w es v → HasBaseCalls f e ty first batch v × HasClient f e ty update v }
+    ensures before_looks { (f : Frame) (e ty : ℕ) (first : ℕ → ℕ) (batch : ℕ → List CallData) (update n : ℕ) (w v : World)
+        (es : List Event) → HasBaseCalls f e ty first batch w → HasClient f e ty update w → HasToldAtMost e n w → HasRoomFor e n w →
+        HasNoLooks e w → LeadsTo node_has_work node_steps w es v → HasBaseCalls f e ty first batch v × HasClient f e ty update v }
 {}
 
 /// A call to a base part that is the first of its link in such a world comes to the entity's base node, where the part is and may be
@@ -109,7 +109,7 @@ pub fn routes_are_kept()
 {}
 
 /// So nothing about the entity is stray at a base node: no message that is the first of its link, no order that is a node's first, and no
-/// part whose turn it is; `now` in such a world, and after every list of events of an entity without (`alone`) and with (`client`) a client.
+/// part whose turn it is: in such a world (`now`), and after every list of events, without a client (`alone`) and with one (`client`).
 pub fn nothing_is_stray_at_a_base_node()
     ensures now { (f : Frame) (e ty : ℕ) (first : ℕ → ℕ) (batch : ℕ → List CallData) (update n : ℕ) (w : World) →
         HasBaseCalls f e ty first batch w → HasRoutes f e w → LinesHaveRoom f e ty update n w → NothingIsStray f e w }

@@ -66,7 +66,9 @@ none_is k = (λ n. refl, λ n m. refl)
 
 nodes_are : EachFrom (λ k s. W k (has_of 1 s)) 0 world_0.nodes
 unfolding world_0
-nodes_are = nodes_of (λ k s. W k (has_of 1 s)) node_0 node_16 node_17 home_is (λ k low. idle_is k) (λ n. refl, λ n m. absurd (n refl)) (λ n. refl, λ n m. absurd (m refl))
+nodes_are =
+    nodes_of (λ k s. W k (has_of 1 s)) node_0 node_16 node_17 home_is (λ k low. idle_is k) (λ n. refl, λ n m. absurd (n refl))
+    (λ n. refl, λ n m. absurd (m refl))
 
 abbrev flow : Flow Has Msg
 flow = entity_flow 1 world_0

@@ -61,7 +61,46 @@ each_node P xs h k s e = let at : k + 0 ≡ k = omega arith in subst (λ j. P j 
 -- what is true of cell 0, of each cell without anything, and of the two base nodes is true of each node of such a world
 pub nodes_of : (P : ℕ → NodeView → Type 0) (home b16 b17 : NodeView) → P 0 home → ((k : ℕ) → k < 16 → P k (idle two_cells k)) → P 16 b16 →
     P 17 b17 → EachFrom P 0 (with_cells home (idle two_cells 1) b16 b17 []).nodes
-nodes_of P home b16 b17 first others sixteen seventeen = (first, (others 1 (omega arith), (others 2 (omega arith), (others 3 (omega arith), (others 4 (omega arith), (others 5 (omega arith), (others 6 (omega arith), (others 7 (omega arith), (others 8 (omega arith), (others 9 (omega arith), (others 10 (omega arith), (others 11 (omega arith), (others 12 (omega arith), (others 13 (omega arith), (others 14 (omega arith), (others 15 (omega arith), (sixteen, (seventeen, tt))))))))))))))))))
+nodes_of P home b16 b17 first others sixteen seventeen = (
+  first,
+  (
+    others 1 (omega arith),
+    (
+      others 2 (omega arith),
+      (
+        others 3 (omega arith),
+        (
+          others 4 (omega arith),
+          (
+            others 5 (omega arith),
+            (
+              others 6 (omega arith),
+              (
+                others 7 (omega arith),
+                (
+                  others 8 (omega arith),
+                  (
+                    others 9 (omega arith),
+                    (
+                      others 10 (omega arith),
+                      (
+                        others 11 (omega arith),
+                        (
+                          others 12 (omega arith),
+                          (others 13 (omega arith), (others 14 (omega arith), (others 15 (omega arith), (sixteen, (seventeen, tt))))),
+                        ),
+                      ),
+                    ),
+                  ),
+                ),
+              ),
+            ),
+          ),
+        ),
+      ),
+    ),
+  ),
+)
 
 -- the nodes of the example that have something
 abbrev pub node_0 : NodeView
@@ -178,12 +217,10 @@ idle_is k lt = (low_of k lt, idle_at k lt)
 nodes_are : EachFrom Q 0 world_0.nodes
 unfolding world_0
 nodes_are =
-    nodes_of Q node_0 node_16 node_17 (home_is, record { low = omega arith; here = refl; tree = refl }) idle_is
-    (
+    nodes_of Q node_0 node_16 node_17 (home_is, record { low = omega arith; here = refl; tree = refl }) idle_is (
       record { bases = omega arith; cells = omega arith; routes = route_low 0 },
       record { high = omega arith; here = refl; cells = refl },
-    )
-    (
+    ) (
       record { bases = omega arith; cells = omega arith; routes = route_low 0 },
       record { high = omega arith; here = refl; cells = refl },
     )
@@ -247,7 +284,8 @@ none_fits k = (λ r at. absurd (let h = at in cc), tt)
 fits_at : EachFrom (λ k s. R k (has_of 1 s)) 0 world_0.nodes
 unfolding world_0
 fits_at =
-    nodes_of (λ k s. R k (has_of 1 s)) node_0 node_16 node_17 home_fits (λ k low. idle_fits k) ((λ r at. absurd (let h = at in cc)), (refl, tt))
+    nodes_of (λ k s. R k (has_of 1 s)) node_0 node_16 node_17 home_fits (λ k low. idle_fits k)
+    ((λ r at. absurd (let h = at in cc)), (refl, tt))
     ((λ r at. absurd (let h = at in cc)), (refl, (refl, tt)))
 
 fit_slots : (k : ℕ) → R k ((entity_flow 1 world_0).slot k)

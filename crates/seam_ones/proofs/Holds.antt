@@ -1,5 +1,6 @@
 -- Calls that are held all fit, whatever becomes of their orders.
-use Rattle.std.proofs.Common.{◌≡◌, ℕ, ◌+◌, ◌<◌, Bool, true, false, not, cond, eqb, ltb, nat_lt, ◌&&◌, List, [], ◌∷◌, find, Option, None, Some, refl, sym, ap}
+use Rattle.std.proofs.Common.{◌≡◌, ℕ, ◌+◌, ◌<◌, Bool, true, false, not, cond, eqb, ltb, nat_lt, ◌&&◌, List, [], ◌∷◌, find, Option, None}
+use Rattle.std.proofs.Common.{Some, refl, sym, ap}
 use Rattle.std.proofs.Common.{◌∙◌, subst, arith}
 use Rattle.std.specs.List.{list_all}
 use Rattle.std.specs.Ordering.{nat_cmp, match_ordering}
