@@ -1,16 +1,20 @@
 -- What a base node sends: calls, ticks and reaps alone.
-use Rattle.std.proofs.Common.{◌≡◌, ℕ, List, [], Option, None, sym, subst}
+use Rattle.std.proofs.Common.{◌≡◌, ℕ, List, [], ◌∷◌, Option, None, sym, subst, ◌+◌, refl}
 use Rattle.std.specs.List.{range_with_len}
 use Rattle.seam_flows.specs.Sent.{IsSilent}
+use Rattle.seam_call.specs.declared.shown.Shown.{Shown}
 use Rattle.seam_call.specs.declared.call.Call.{Call as CallData}
 use Rattle.seam_entity.specs.declared.message.Msg.{Msg}
 use Rattle.seam_entity.specs.declared.message.Msg.TheVariants.{Call, BaseCall, Tick, Reap}
 use Rattle.seam_steps.specs.Here.{Here}
 use Rattle.seam_steps.specs.BaseCases.{tick_to}
+use Rattle.seam_steps.specs.Looks.{numbered}
 use Rattle.seam_moves.specs.Sights.{AtBase}
 use Rattle.seam_moves.specs.BaseMoves as move
 use Rattle.seam_moves.specs.BaseMoves.{BaseMoves}
+use Rattle.seam_ones.specs.Ones.{real_of}
 use Rattle.seam_ones.proofs.Plain.{mapped_silent}
+use Rattle.seam_base_calls.specs.PartMoves.{update_in}
 
 -- eyes that see nothing of what base nodes send
 pub record SeesNoOrder {L : Type 0} (mine : Msg → Option L) : Type 0 where
@@ -18,6 +22,17 @@ pub record SeesNoOrder {L : Type 0} (mine : Msg → Option L) : Type 0 where
   pub base_calls : (c : CallData) → mine (BaseCall c) ≡ None
   pub ticks : mine Tick ≡ None
   pub reaps : (e : ℕ) → mine (Reap e) ≡ None
+
+pub sees_no_update : SeesNoOrder update_in
+sees_no_update = record { calls = λ c. refl; base_calls = λ c. refl; ticks = refl; reaps = λ e. refl }
+
+pub sees_no_real : SeesNoOrder real_of
+sees_no_real = record { calls = λ c. refl; base_calls = λ c. refl; ticks = refl; reaps = λ e. refl }
+
+-- what a look sends carries no real
+pub numbered_unreal : (b e n : ℕ) (ss : List Shown) → IsSilent real_of (numbered b e n ss)
+numbered_unreal b e n [] = tt
+numbered_unreal b e n (s ∷ ss) = (refl, numbered_unreal b e (n + 1) ss)
 
 module _ {L : Type 0} (mine : Msg → Option L) (sees : SeesNoOrder mine) (h : Here) (cells e : ℕ) (s : AtBase) (i : Option Msg) (t : AtBase)
     (sent : List (ℕ × Msg)) where

@@ -26,94 +26,37 @@ use Rattle.seam_base_calls.specs.WitnessMoves.{sent_of, sent_by, WitnessMoves}
 use Rattle.seam_base_calls.specs.BaseTurns.{FindsPart, HasBaseCalls}
 use Rattle.seam_base_calls.specs.Clients.{EachReal, HasToldAtMost, HasClient, HasRoomFor}
 use Rattle.seam_base_calls.proofs.PartEasing.{base_burden_happens}
-use Rattle.seam_base_calls.proofs.WitnessSteps.{witness_moves}
-use Rattle.seam_base_calls.proofs.BaseSilent.{base_silent}
-use Rattle.seam_base_calls.proofs.ClientTold.{sees_no_real, numbered_unreal}
+use Rattle.seam_base_calls.proofs.WitnessKept.{each_happens}
 use Rattle.seam_base_calls.proofs.BaseRuns.{finds, kept_happens}
 use Rattle.seam_base_calls.proofs.ClientRuns.{one_of, part_may_show, client_happens}
 
 -- ---- what witnesses told never falls
 
-module _ (m : ℕ) where
-  abbrev AtLeast : RealView → Type 0
-  AtLeast r = m ≤ sent_by r
+abbrev AtLeast : ℕ → RealView → Type 0
+AtLeast m r = m ≤ sent_by r
 
-  abbrev OfLetter : Msg → Type 0
-  OfLetter l = (r : RealView) → real_of l ≡ Some r → AtLeast r
+module _ (f : Frame) (e m : ℕ) where
+  record Told (w : World) : Type 0 where
+    frame : IsInFrame f w
+    each : EachReal e (AtLeast m) w
 
-  module _ (f : Frame) (e k : ℕ) (s : Has) (i : Option Msg) (t : Has) (sent : List (ℕ × Msg))
-      (here : (r : RealView) → real_in s ≡ Some r → AtLeast r) (comes : (r : RealView) → i ≡ Some (Hand r) → AtLeast r) where
-    record Rises : Type 0 where
-      slot : (r : RealView) → real_in t ≡ Some r → AtLeast r
-      sends : AllByRecursion (λ p. OfLetter p.1) sent
+  told_more : (w : World) (v : Event) → Told w → enabled node_has_work w v ≡ true → Told (happens node_steps w v)
+  told_more w v h on =
+      let o = occurs node_has_work w v on in
+      record {
+        frame = frame_happens f w v o h.frame;
+        each =
+            each_happens (AtLeast m) (λ r q same le. let a = ap sent_of same in omega (arith, a, le)) f e w v o h.frame
+            (λ k n r q x y shown at wit wit' sum le.
+            let a = ap sent_of wit in
+            let b = ap sent_of wit' in
+            omega (arith, le, a, b, sum)) h.each;
+      }
 
-    no_reals : (ps : List (ℕ × Msg)) → IsSilent real_of ps → AllByRecursion (λ p. OfLetter p.1) ps
-    no_reals [] z = tt
-    no_reals (p ∷ ps) z = ((λ r is. let no = sym z.0 ∙ is in absurd cc), no_reals ps z.1)
-
-    as_much : (r q : RealView) → q.witness ≡ r.witness → AtLeast r → AtLeast q
-    as_much r q same le = let a = ap sent_of same in omega (arith, a, le)
-
-    cell_rises : WitnessMoves (here_at f k) e s.cell i (real_in t) sent → Rises
-    cell_rises (witness.rests kept a b) = record {
-      slot = λ q has. let was = kept q has in as_much was.0 q was.2 (here was.0 was.1);
-      sends = no_reals sent b;
-    }
-    cell_rises (witness.lands r n now a b) = record {
-      slot = λ q has. let one : r ≡ q = let z = sym now ∙ has in cc in subst AtLeast one (comes r n);
-      sends = no_reals sent b;
-    }
-    cell_rises (witness.leaves r q to told has gone same z a b) = record {
-      slot = λ x now. let no = sym gone ∙ now in absurd cc;
-      sends =
-          subst (AllByRecursion (λ p. OfLetter p.1)) (sym z)
-          (all_append (λ p. OfLetter p.1) told _ (no_reals told b)
-          ((λ x is. let one : q ≡ x = cc in subst AtLeast one (as_much r q same (here r has))), tt));
-    }
-    cell_rises (witness.looks n r q w v shown at has wit now wit' sum small z) =
-        let le = here r has in
-        let a = ap sent_of wit in
-        let b = ap sent_of wit' in
-        record {
-          slot = λ x is.
-              let one : q ≡ x = let y = sym now ∙ is in cc in
-              let same = ap sent_by one in
-              omega (arith, le, a, b, sum, same);
-          sends = no_reals sent (subst (IsSilent real_of) (sym z) (numbered_unreal _ e w.sent shown));
-        }
-
-    rises : Moves f e k s i t sent → Rises
-    rises (at_a_cell low mv same) = cell_rises (witness_moves f e k s i t sent mv)
-    rises (at_a_base high mv same) = record {
-      slot = λ r has. here r (sym (ap (λ c. c.slot.real) same) ∙ has);
-      sends = no_reals sent (base_silent real_of sees_no_real _ _ e _ i _ sent mv);
-    }
-
-  module _ (f : Frame) (e : ℕ) where
-    record Told (w : World) : Type 0 where
-      frame : IsInFrame f w
-      each : EachReal e AtLeast w
-
-    told_more : (w : World) (v : Event) → Told w → enabled node_has_work w v ≡ true → Told (happens node_steps w v)
-    told_more w v h on =
-        let o = occurs node_has_work w v on in
-        let g = event_moves f w v o h.frame e in
-        let r =
-        rises f e g.k ((entity_flow e w).slot g.k) (comes g.input) ((entity_flow e (happens node_steps w v)).slot g.k) g.moves.sent
-        (h.each.cells g.k) (λ r is. (came (λ a k l. OfLetter l) g (Hand r) is h.each.hands).1 r refl) g.moves.moves in
-        record {
-          frame = frame_happens f w v o h.frame;
-          each = record {
-            cells = slots_kept (λ k s. (r : RealView) → real_in s ≡ Some r → AtLeast r) g h.each.cells r.slot;
-            hands = letters_kept (λ a k l. OfLetter l) g h.each.hands
-                (λ j. subst (AllByRecursion OfLetter) (sym (g.moves.items j)) (items_all OfLetter j g.moves.sent r.sends));
-          };
-        }
-
-    told_leads : (w v : World) (es : List Event) → IsInFrame f w → EachReal e AtLeast w → LeadsTo node_has_work node_steps w es v →
-        EachReal e AtLeast v
-    told_leads w v es q each run =
-        (leads_keeps node_has_work node_steps Told told_more w v es (record { frame = q; each = each }) run).each
+  told_leads : (w v : World) (es : List Event) → IsInFrame f w → EachReal e (AtLeast m) w → LeadsTo node_has_work node_steps w es v →
+      EachReal e (AtLeast m) v
+  told_leads w v es q each run =
+      (leads_keeps node_has_work node_steps Told told_more w v es (record { frame = q; each = each }) run).each
 
 weaker : (P Q : RealView → Type 0) (e : ℕ) (w : World) → ((r : RealView) → P r → Q r) → EachReal e P w → EachReal e Q w
 weaker P Q e w g each =
@@ -135,7 +78,7 @@ told_before f e ty first n w v es h spared run most =
     weaker (λ r. sent_by r + 1 ≡ number) (AtLeast (sent_by h.one.real)) e w (λ r is. omega (arith, is, started)) h.told in
     let then =
     one_of (AtLeast (sent_by h.one.real)) e v one.place one.real one.one
-    (told_leads (sent_by h.one.real) f e w v es h.one.fits.frame least run) in
+    (told_leads f e (sent_by h.one.real) w v es h.one.fits.frame least run) in
     let few = one_of (λ r. sent_by r ≤ n) e v one.place one.real one.one most in
     weaker (λ r. sent_by r + 1 ≡ number) (λ r. sent_by r ≤ n) e w (λ r is. omega (arith, is, started, then, few)) h.told
 

@@ -47,13 +47,8 @@ use Rattle.seam_base_calls.proofs.PartSteps.{equal_of, part_moves}
 use Rattle.seam_base_calls.proofs.ClientSteps.{CallShown, as_it_was, lined, ClientAfter, keeps, calls, misses_it, is_told, is_shown}
 use Rattle.seam_base_calls.proofs.ClientSteps.{client_after}
 use Rattle.seam_base_calls.proofs.WitnessSteps.{witness_moves}
-use Rattle.seam_base_calls.proofs.BaseSilent.{SeesNoOrder, base_silent}
-
-sees_no_update : SeesNoOrder update_in
-sees_no_update = record { calls = λ c. refl; base_calls = λ c. refl; ticks = refl; reaps = λ e. refl }
-
-pub sees_no_real : SeesNoOrder real_of
-sees_no_real = record { calls = λ c. refl; base_calls = λ c. refl; ticks = refl; reaps = λ e. refl }
+use Rattle.seam_base_calls.proofs.WitnessKept.{none_carried}
+use Rattle.seam_base_calls.proofs.BaseSilent.{sees_no_update, sees_no_real, numbered_unreal, base_silent}
 
 -- ---- what comes
 
@@ -93,10 +88,6 @@ numbered_here b e n (s ∷ ss) = rw (eq-eqb b b refl) (ap (λ l. (n + 1, s) ∷ 
 numbered_there : (b e n j : ℕ) (ss : List Shown) → (j ≡ b → ⊥) → letters_of tells (items_to j (numbered b e n ss)) ≡ []
 numbered_there b e n j [] other = refl
 numbered_there b e n j (s ∷ ss) other = rw (ne_eqb b j (λ x. other (sym x))) (numbered_there b e (n + 1) j ss other)
-
-pub numbered_unreal : (b e n : ℕ) (ss : List Shown) → IsSilent real_of (numbered b e n ss)
-numbered_unreal b e n [] = tt
-numbered_unreal b e n (s ∷ ss) = (refl, numbered_unreal b e (n + 1) ss)
 
 -- ---- what an update leaves of a proxy
 
@@ -185,11 +176,6 @@ module _ (f : Frame) (e k number : ℕ) (s : Has) (i : Option Msg) (t : Has) (se
     same_number : (r q : RealView) → q.witness ≡ r.witness → sent_by r + 1 ≡ number → Follows [] q
     same_number r q same is = let a = ap sent_of same in omega (arith, a, is)
 
-    no_reals : (us : List Shown) (ps : List (ℕ × Msg)) → IsSilent real_of ps →
-        AllByRecursion (λ p. (q : RealView) → real_of p.1 ≡ Some q → Follows us q) ps
-    no_reals us [] z = tt
-    no_reals us (p ∷ ps) z = ((λ q is. let no = sym z.0 ∙ is in absurd cc), no_reals us ps z.1)
-
     hands_of : (us : List Shown) → AllByRecursion (λ p. (q : RealView) → real_of p.1 ≡ Some q → Follows us q) sent → (j : ℕ) →
         AllByRecursion (λ m. (q : RealView) → real_of m ≡ Some q → Follows us q) (out j)
     hands_of us h j =
@@ -222,7 +208,7 @@ module _ (f : Frame) (e k number : ℕ) (s : Has) (i : Option Msg) (t : Has) (se
         issued = refl;
         teller = inl refl;
         slot = λ q has. let was = kept q has in same_number was.0 q was.2 (here was.0 was.1);
-        hands = hands_of [] (no_reals [] sent b);
+        hands = hands_of [] (none_carried (Follows []) sent b);
       }
       cell_told (witness.lands r n now a b) = record {
         passes = still a;
@@ -230,7 +216,7 @@ module _ (f : Frame) (e k number : ℕ) (s : Has) (i : Option Msg) (t : Has) (se
         issued = refl;
         teller = inl refl;
         slot = λ q has. let one : r ≡ q = let z = sym now ∙ has in cc in same_number r q (sym (ap (λ x. x.witness) one)) (comes r n);
-        hands = hands_of [] (no_reals [] sent b);
+        hands = hands_of [] (none_carried (Follows []) sent b);
       }
       cell_told (witness.leaves r q to told has gone same z a b) = record {
         passes = still (subst (IsSilent update_in) (sym z) (all_append (λ p. update_in p.1 ≡ None) told _ a (refl, tt)));
@@ -240,7 +226,7 @@ module _ (f : Frame) (e k number : ℕ) (s : Has) (i : Option Msg) (t : Has) (se
         slot = λ x now. let no = sym gone ∙ now in absurd cc;
         hands = hands_of []
             (subst (AllByRecursion (λ p. (x : RealView) → real_of p.1 ≡ Some x → Follows [] x)) (sym z)
-            (all_append (λ p. (x : RealView) → real_of p.1 ≡ Some x → Follows [] x) told _ (no_reals [] told b)
+            (all_append (λ p. (x : RealView) → real_of p.1 ≡ Some x → Follows [] x) told _ (none_carried (Follows []) told b)
             ((λ x is. let one : q ≡ x = cc in same_number r x (sym (ap (λ y. y.witness) one) ∙ same) (here r has)), tt)));
       }
       cell_told (witness.looks n r q w v shown at has wit now wit' sum small z) =
@@ -264,7 +250,7 @@ module _ (f : Frame) (e k number : ℕ) (s : Has) (i : Option Msg) (t : Has) (se
                 omega (arith, before, at_first, after, sum, same);
             hands =
                 hands_of shown
-                (no_reals shown sent (subst (IsSilent real_of) (sym z) (numbered_unreal (home_of f e) e w.sent shown)));
+                (none_carried (Follows shown) sent (subst (IsSilent real_of) (sym z) (numbered_unreal (home_of f e) e w.sent shown)));
           }
 
     -- ---- a base node
@@ -277,7 +263,7 @@ module _ (f : Frame) (e k number : ℕ) (s : Has) (i : Option Msg) (t : Has) (se
         issued = is;
         teller = inl refl;
         slot = λ q has. same_number q q refl (here q (sym (ap (λ c. c.slot.real) same) ∙ has));
-        hands = hands_of [] (no_reals [] sent b);
+        hands = hands_of [] (none_carried (Follows []) sent b);
       }
 
       order_of : (o : Option PartView) → t.base.part ≡ o → updates_at t ≡ order_in (proxy_of o)

@@ -8,6 +8,7 @@ pub mod BaseQuiet
 pub mod AloneRuns
 pub mod WitnessSteps
 pub mod BaseSilent
+pub mod WitnessKept
 pub mod ClientTold
 pub mod ClientRuns
 pub mod ClientLeads

@@ -33,9 +33,7 @@ use Rattle.seam_ones.proofs.Sparing.{items_all}
 use Rattle.seam_base_calls.specs.WitnessMoves as witness
 use Rattle.seam_base_calls.specs.WitnessMoves.{sent_of, sent_by, WitnessMoves}
 use Rattle.seam_base_calls.specs.Clients.{is_tick_order, tick_in, HasToldAtMost, HasNoLooks}
-use Rattle.seam_base_calls.proofs.WitnessSteps.{witness_moves}
-use Rattle.seam_base_calls.proofs.BaseSilent.{base_silent}
-use Rattle.seam_base_calls.proofs.ClientTold.{sees_no_real}
+use Rattle.seam_base_calls.proofs.WitnessKept.{each_happens}
 
 no_tick : SeesNoGhost tick_in
 no_tick = record { sets = λ e n c. refl; drops = λ e n. refl }
@@ -129,47 +127,6 @@ module _ (f : Frame) (e k : ℕ) (s : Has) (i : Option Msg) (t : Has) (sent : Li
   calm_moves none before (at_a_cell low m same) = cell_calm none (subst NoTicks (sym (ap (λ b. b.orders) same)) before) m
   calm_moves none before (at_a_base high m same) = base_calm (ap (λ c. c.looks) same ∙ none) before _ m
 
-  -- ---- what the witness told
-
-  module _ (n : ℕ) (none : s.cell.looks ≡ 0) (here : (r : RealView) → real_in s ≡ Some r → sent_by r ≤ n)
-      (hand : (r : RealView) → i ≡ Some (Hand r) → sent_by r ≤ n) where
-    record AtMost : Type 0 where
-      slot : (r : RealView) → real_in t ≡ Some r → sent_by r ≤ n
-      sends : AllByRecursion (λ p. (r : RealView) → real_of p.1 ≡ Some r → sent_by r ≤ n) sent
-
-    no_reals : (ps : List (ℕ × Msg)) → IsSilent real_of ps →
-        AllByRecursion (λ p. (r : RealView) → real_of p.1 ≡ Some r → sent_by r ≤ n) ps
-    no_reals [] z = tt
-    no_reals (p ∷ ps) z = ((λ r is. let no = sym z.0 ∙ is in absurd cc), no_reals ps z.1)
-
-    as_little : (r q : RealView) → q.witness ≡ r.witness → sent_by r ≤ n → sent_by q ≤ n
-    as_little r q same le = let a = ap sent_of same in omega (arith, a, le)
-
-    cell_tells : WitnessMoves (here_at f k) e s.cell i (real_in t) sent → AtMost
-    cell_tells (witness.rests kept a b) = record {
-      slot = λ q has. let was = kept q has in as_little was.0 q was.2 (here was.0 was.1);
-      sends = no_reals sent b;
-    }
-    cell_tells (witness.lands r n now a b) = record {
-      slot = λ q has. let one : r ≡ q = let z = sym now ∙ has in cc in as_little r q (sym (ap (λ x. x.witness) one)) (hand r n);
-      sends = no_reals sent b;
-    }
-    cell_tells (witness.leaves r q to told has gone same z a b) = record {
-      slot = λ x now. let no = sym gone ∙ now in absurd cc;
-      sends =
-          subst (AllByRecursion (λ p. (x : RealView) → real_of p.1 ≡ Some x → sent_by x ≤ n)) (sym z)
-          (all_append (λ p. (x : RealView) → real_of p.1 ≡ Some x → sent_by x ≤ n) told _ (no_reals told b)
-          ((λ x is. let one : q ≡ x = cc in as_little r x (sym (ap (λ y. y.witness) one) ∙ same) (here r has)), tt));
-    }
-    cell_tells (witness.looks m r q w v shown at has wit now wit' sum small z) = absurd (omega (arith, at, none))
-
-    tells_no_more : Moves f e k s i t sent → AtMost
-    tells_no_more (at_a_cell low m same) = cell_tells (witness_moves f e k s i t sent m)
-    tells_no_more (at_a_base high m same) = record {
-      slot = λ r has. here r (sym (ap (λ c. c.slot.real) same) ∙ has);
-      sends = no_reals sent (base_silent real_of sees_no_real _ _ e _ i _ sent m);
-    }
-
 -- ---- a run
 
 module _ (f : Frame) (e n : ℕ) where
@@ -187,9 +144,6 @@ module _ (f : Frame) (e n : ℕ) where
       let was = (entity_flow e w).slot g.k in
       let now = (entity_flow e (happens node_steps w v)).slot g.k in
       let c = calm_moves f e g.k was (comes g.input) now g.moves.sent calm (h.looks.cells g.k) (h.looks.orders g.k) g.moves.moves in
-      let t =
-      tells_no_more f e g.k was (comes g.input) now g.moves.sent calm n (h.looks.cells g.k) (h.told.cells g.k)
-      (λ r is. (came (λ a k m. (q : RealView) → real_of m ≡ Some q → sent_by q ≤ n) g (Hand r) is h.told.hands).1 r refl) g.moves.moves in
       record {
         frame = frame_happens f w v o h.frame;
         looks = record {
@@ -200,13 +154,9 @@ module _ (f : Frame) (e n : ℕ) where
               (λ j. subst (AllByRecursion (λ m. tick_in m ≡ None)) (sym (g.moves.items j))
               (items_all (λ m. tick_in m ≡ None) j g.moves.sent c.silent));
         };
-        told = record {
-          cells = slots_kept (λ k s. (r : RealView) → real_in s ≡ Some r → sent_by r ≤ n) g h.told.cells t.slot;
-          hands =
-              letters_kept (λ a k m. (r : RealView) → real_of m ≡ Some r → sent_by r ≤ n) g h.told.hands
-              (λ j. subst (AllByRecursion (λ m. (r : RealView) → real_of m ≡ Some r → sent_by r ≤ n)) (sym (g.moves.items j))
-              (items_all (λ m. (r : RealView) → real_of m ≡ Some r → sent_by r ≤ n) j g.moves.sent t.sends));
-        };
+        told =
+            each_happens (λ r. sent_by r ≤ n) (λ r q same le. let a = ap sent_of same in omega (arith, a, le)) f e w v o h.frame
+            (λ k m r q x y shown at wit wit' sum le. let none = h.looks.cells k in absurd (omega (arith, at, none))) h.told;
       }
 
   pub looks_lead : (w v : World) (es : List Event) → IsInFrame f w → HasNoLooks e w → HasToldAtMost e n w →
