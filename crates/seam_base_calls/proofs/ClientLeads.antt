@@ -26,7 +26,7 @@ use Rattle.seam_base_calls.specs.WitnessMoves.{sent_of, sent_by, WitnessMoves}
 use Rattle.seam_base_calls.specs.BaseTurns.{FindsPart, HasBaseCalls}
 use Rattle.seam_base_calls.specs.Clients.{EachReal, HasToldAtMost, HasClient, HasRoomFor}
 use Rattle.seam_base_calls.proofs.PartEasing.{base_burden_happens}
-use Rattle.seam_base_calls.proofs.WitnessKept.{each_happens}
+use Rattle.seam_base_calls.proofs.WitnessKept.{each_weaker, each_happens}
 use Rattle.seam_base_calls.proofs.BaseRuns.{finds, kept_happens}
 use Rattle.seam_base_calls.proofs.ClientRuns.{one_of, part_may_show, client_happens}
 
@@ -58,15 +58,6 @@ module _ (f : Frame) (e m : ℕ) where
   told_leads w v es q each run =
       (leads_keeps node_has_work node_steps Told told_more w v es (record { frame = q; each = each }) run).each
 
-weaker : (P Q : RealView → Type 0) (e : ℕ) (w : World) → ((r : RealView) → P r → Q r) → EachReal e P w → EachReal e Q w
-weaker P Q e w g each =
-    record { cells = λ k r has. g r (each.cells k r has); hands = λ a k. all ((entity_flow e w).mail a k) (each.hands a k) }
-  where
-    all : (ms : List Msg) → AllByRecursion (λ m. (r : RealView) → real_of m ≡ Some r → P r) ms →
-        AllByRecursion (λ m. (r : RealView) → real_of m ≡ Some r → Q r) ms
-    all [] h = tt
-    all (m ∷ ms) h = ((λ r is. g r (h.0 r is)), all ms h.1)
-
 -- a witness that told at most n in the end told at most n before
 told_before : (f : Frame) (e ty first n : ℕ) (w v : World) (es : List Event) (h : HasClient f e ty first w) → IsSpared e w →
     LeadsTo node_has_work node_steps w es v → HasToldAtMost e n v → HasToldAtMost e n w
@@ -75,12 +66,12 @@ told_before f e ty first n w v es h spared run most =
     let one = (one_leads f h.frame e ty h.known w v es h.one spared run).has in
     let started = one_of (λ r. sent_by r + 1 ≡ number) e w h.one.place h.one.real h.one.one h.told in
     let least =
-    weaker (λ r. sent_by r + 1 ≡ number) (AtLeast (sent_by h.one.real)) e w (λ r is. omega (arith, is, started)) h.told in
+    each_weaker (λ r. sent_by r + 1 ≡ number) (AtLeast (sent_by h.one.real)) e w (λ r is. omega (arith, is, started)) h.told in
     let then =
     one_of (AtLeast (sent_by h.one.real)) e v one.place one.real one.one
     (told_leads f e (sent_by h.one.real) w v es h.one.fits.frame least run) in
     let few = one_of (λ r. sent_by r ≤ n) e v one.place one.real one.one most in
-    weaker (λ r. sent_by r + 1 ≡ number) (λ r. sent_by r ≤ n) e w (λ r is. omega (arith, is, started, then, few)) h.told
+    each_weaker (λ r. sent_by r + 1 ≡ number) (λ r. sent_by r ≤ n) e w (λ r is. omega (arith, is, started, then, few)) h.told
 
 -- ---- a run
 

@@ -50,22 +50,20 @@ use Rattle.seam_base_calls.specs.Clients.{HasToldAtMost, HasClient, HasRoomFor, 
 use Rattle.seam_base_calls.proofs.PartSteps.{equal_of, greater_of, part_moves}
 use Rattle.seam_base_calls.proofs.ClientSteps.{CallShown, as_it_was, lined, ClientAfter, keeps, calls, misses_it, is_told, is_shown}
 use Rattle.seam_base_calls.proofs.ClientSteps.{client_after}
+use Rattle.seam_base_calls.proofs.WitnessKept.{OfReal, all_weaker}
 use Rattle.seam_base_calls.proofs.ClientTold.{Told, told_by}
 use Rattle.seam_base_calls.proofs.BaseRuns.{unordered, version_room}
 
 -- ---- the one real is one of the reals
 
 module _ (P : RealView → Type 0) where
-  abbrev OfReal : Msg → Type 0
-  OfReal m = (r : RealView) → real_of m ≡ Some r → P r
-
-  first_by : (m : Msg) (ms : List Msg) (r : RealView) (o : Option RealView) → real_of m ≡ o → OfReal m →
+  first_by : (m : Msg) (ms : List Msg) (r : RealView) (o : Option RealView) → real_of m ≡ o → OfReal P m →
       (letters_of real_of ms ≡ r ∷ [] → P r) → more_letter o (letters_of real_of ms) ≡ r ∷ [] → P r
   first_by m ms r None is h more at = more at
   first_by m ms r (Some q) is h more at = let same : q ≡ r = cc in h r (is ∙ ap Some same)
 
   -- what is true of each real that letters carry is true of the only one
-  only_hand : (ms : List Msg) (r : RealView) → AllByRecursion OfReal ms → letters_of real_of ms ≡ r ∷ [] → P r
+  only_hand : (ms : List Msg) (r : RealView) → AllByRecursion (OfReal P) ms → letters_of real_of ms ≡ r ∷ [] → P r
   only_hand [] r h at = cc
   only_hand (m ∷ ms) r h at = first_by m ms r (real_of m) refl h.0 (only_hand ms r h.1) at
 
@@ -74,14 +72,14 @@ module _ (P : RealView → Type 0) where
   one_of e w (On a b) r one each = only_hand ((entity_flow e w).mail a b) r (each.hands a b) one.here
 
   none_by : (m : Msg) (ms : List Msg) (o : Option RealView) → real_of m ≡ o → more_letter o (letters_of real_of ms) ≡ [] →
-      (letters_of real_of ms ≡ [] → AllByRecursion OfReal ms) → AllByRecursion OfReal (m ∷ ms)
+      (letters_of real_of ms ≡ [] → AllByRecursion (OfReal P) ms) → AllByRecursion (OfReal P) (m ∷ ms)
   none_by m ms None is at more = ((λ r has. let no = sym is ∙ has in absurd cc), more at)
   none_by m ms (Some q) is at more = cc
 
   -- where letters carry none, anything is true of those that they carry
-  none_carried : (ms : List Msg) → letters_of real_of ms ≡ [] → AllByRecursion OfReal ms
-  none_carried [] at = tt
-  none_carried (m ∷ ms) at = none_by m ms (real_of m) refl at (none_carried ms)
+  none_of_them : (ms : List Msg) → letters_of real_of ms ≡ [] → AllByRecursion (OfReal P) ms
+  none_of_them [] at = tt
+  none_of_them (m ∷ ms) at = none_by m ms (real_of m) refl at (none_of_them ms)
 
 -- ---- in a world
 
@@ -313,17 +311,13 @@ module _ (f : Frame) (e ty first n : ℕ) (w : World) (v : Event) (o : Occurs w 
     cells : (k : ℕ) → (k ≡ step.k → ⊥) → (r : RealView) → real_in ((entity_flow e w).slot k) ≡ Some r → Follows r
     hands : (a k : ℕ) → AllByRecursion (λ m. (r : RealView) → real_of m ≡ Some r → Follows r) ((entity_flow e w).mail a k)
 
-  silent_all : (P Q : Msg → Type 0) (ms : List Msg) → ((m : Msg) → P m → Q m) → AllByRecursion P ms → AllByRecursion Q ms
-  silent_all P Q [] g all = tt
-  silent_all P Q (m ∷ ms) g all = (g m all.0, silent_all P Q ms g all.1)
-
   others_by : (told.us ≡ []) ⊎ ((r : RealView) × (real_in before ≡ Some r)) → Others
   others_by (inl none) =
       let same = ap length none in
       record {
         cells = λ k away r is. let was = h.told.cells k r is in omega (arith, was, same);
         hands = λ a k.
-            silent_all (λ m. (r : RealView) → real_of m ≡ Some r → sent_by r + 1 ≡ number) (λ m. (r : RealView) → real_of m ≡ Some r →
+            all_weaker (λ m. (r : RealView) → real_of m ≡ Some r → sent_by r + 1 ≡ number) (λ m. (r : RealView) → real_of m ≡ Some r →
             Follows r) ((entity_flow e w).mail a k) (λ m was r is. let at = was r is in omega (arith, at, same)) (h.told.hands a k);
       }
   others_by (inr p) =
@@ -332,7 +326,7 @@ module _ (f : Frame) (e ty first n : ℕ) (w : World) (v : Event) (o : Occurs w 
       subst (λ z. Sole real_in real_of (entity_flow e w) z h.one.real) at.0 h.one.one in
       record {
         cells = λ k away r is. let z = sym (one.others k away) ∙ is in absurd cc;
-        hands = λ a k. none_carried Follows ((entity_flow e w).mail a k) (one.mail a k);
+        hands = λ a k. none_of_them Follows ((entity_flow e w).mail a k) (one.mail a k);
       }
 
   others : Others
@@ -387,7 +381,7 @@ module _ (f : Frame) (e ty first n : ℕ) (w : World) (v : Event) (o : Occurs w 
             record {
               cells = λ k r has. let is = each_next.cells k r has in omega (arith, is, many);
               hands = λ a k.
-                  silent_all (λ m. (r : RealView) → real_of m ≡ Some r → Follows r) (λ m. (r : RealView) → real_of m ≡ Some r →
+                  all_weaker (λ m. (r : RealView) → real_of m ≡ Some r → Follows r) (λ m. (r : RealView) → real_of m ≡ Some r →
                   sent_by r + 1 ≡ first + length (h.issued ++ told.us)) ((entity_flow e next).mail a k)
                   (λ m was r is. let at = was r is in omega (arith, at, many)) (each_next.hands a k);
             };

@@ -34,6 +34,17 @@ module _ (P : RealView → Type 0) where
   none_carried [] z = tt
   none_carried (p ∷ ps) z = ((λ r is. let no = sym z.0 ∙ is in absurd cc), none_carried ps z.1)
 
+-- what a fact gives of each
+pub all_weaker : {X : Type 0} (P Q : X → Type 0) (xs : List X) → ((x : X) → P x → Q x) → AllByRecursion P xs → AllByRecursion Q xs
+all_weaker P Q [] g all = tt
+all_weaker P Q (x ∷ xs) g all = (g x all.0, all_weaker P Q xs g all.1)
+
+pub each_weaker : (P Q : RealView → Type 0) (e : ℕ) (w : World) → ((r : RealView) → P r → Q r) → EachReal e P w → EachReal e Q w
+each_weaker P Q e w g each = record {
+  cells = λ k r has. g r (each.cells k r has);
+  hands = λ a k. all_weaker (OfReal P) (OfReal Q) ((entity_flow e w).mail a k) (λ m is r has. g r (is r has)) (each.hands a k);
+}
+
 -- P is true of the reals with the same witness, and of one that told something if it may be so
 abbrev pub ByWitness : (RealView → Type 0) → Type 0
 ByWitness P = (r q : RealView) → q.witness ≡ r.witness → P r → P q
