@@ -22,6 +22,7 @@ use Rattle.seam_steps.specs.Nodes.{World, node_steps}
 use Rattle.seam_moves.specs.Frames.{Frame, here_at, IsInFrame}
 use Rattle.seam_moves.specs.Sights.{AtBase, concerns, kept_if, mine, concerning, has_of}
 use Rattle.seam_moves.proofs.Classify.{node_laws, node_moves}
+use Rattle.seam_ones.proofs.Easing.{event_eases}
 use Rattle.seam_ones.proofs.HeldCounts.{turn_counts, early_counts, taken_counts}
 use Rattle.seam_base_calls.specs.PartMoves.{base_call_in, calls_ordered, called, Offered, now, early, late}
 use Rattle.seam_base_calls.specs.PartMoves.{PartMoves, rests, refuses, offers, sends, serves, executes, misses, updates, shows, ends}
@@ -113,36 +114,18 @@ module _ (h : Here) (e : ℕ) (s : AtBase) (i : Option Msg) (t : AtBase) (sent :
 
 -- ---- an event
 
-sent_by : (e : ℕ) (p : ℕ × Msg) (ps : List (ℕ × Msg)) (b : Bool) →
-    total (λ p. mine_base_burden e p.0 p.1) ps ≡ sent_asks (concerning e ps) →
-    weight_or asks (kept_if b p.1) + total (λ p. mine_base_burden e p.0 p.1) ps ≡ sent_asks (cond b (p ∷ concerning e ps) (concerning e ps))
-sent_by e p ps true h = omega (arith, h)
-sent_by e p ps false h = omega (arith, h)
-
-sent_is : (e : ℕ) (ps : List (ℕ × Msg)) → sent_weight (mine_base_burden e) ps ≡ sent_asks (concerning e ps)
-sent_is e [] = refl
-sent_is e (p ∷ ps) = sent_by e p ps (concerns e p.1) (sent_is e ps)
-
 came_by : (o : Option Msg) → weight_or asks o ≡ one_if (called o)
 came_by None = refl
 came_by (Some m) = refl
 
-input_is : (e k : ℕ) (i : Input Msg) → input_weight (mine_base_burden e) k i ≡ one_if (called (letter_in (mine e) i))
-input_is e k Task = refl
-input_is e k (From a m) = came_by (mine e m)
-
 module _ (f : Frame) (e : ℕ) (w : World) (v : Event) (o : Occurs w v) where
   pub base_burden_happens : IsInFrame f w → base_burden e (happens node_steps w v) ≤ base_burden e w
   base_burden_happens q =
-      let a =
-      weight_moves (node_base_burden e) (mine_base_burden e) node_steps w v o q.sound.square (sound_sends node_laws w v o q.sound) in
-      let b = sent_is e (node_steps o.node o.input).sent in
-      let d = input_is e v.node o.input in
-      let m =
-      node_moves f e v.node o.node o.input (q.sound.states v.node o.node o.is_node) (q.nodes v.node o.node o.is_node) in
-      let c =
-      part_eases (here_at f v.node) e (has_of e o.node).base (letter_in (mine e) o.input) (has_of e (node_steps o.node o.input).state).base
-      (concerning e (node_steps o.node o.input).sent)
-      (part_moves f e v.node (has_of e o.node) (letter_in (mine e) o.input) (has_of e (node_steps o.node o.input).state)
-      (concerning e (node_steps o.node o.input).sent) m) in
-      omega (arith, a, b, d, c)
+      let s = has_of e o.node in
+      let i = letter_in (mine e) o.input in
+      let t = has_of e (node_steps o.node o.input).state in
+      let sent = concerning e (node_steps o.node o.input).sent in
+      let m = node_moves f e v.node o.node o.input (q.sound.states v.node o.node o.is_node) (q.nodes v.node o.node o.is_node) in
+      let less = part_eases (here_at f v.node) e s.base i t.base sent (part_moves f e v.node s i t sent m) in
+      let came = came_by i in
+      event_eases (λ h. has_base_burden h.base) asks e f w v o q (omega (arith, less, came))

@@ -9,6 +9,7 @@ use Rattle.seam_steps.specs.Nodes.{World, node_steps, node_has_work}
 use Rattle.seam_moves.specs.Frames.{Frame, IsInFrame}
 use Rattle.seam_moves.proofs.Classify.{frame_happens}
 use Rattle.seam_ones.specs.Ones.{IsFrame, IsSpared, HasOne}
+use Rattle.seam_ones.proofs.Easing.{falls_lead}
 use Rattle.seam_ones.proofs.OneReal.{one_happens, calm_of, spared_happens}
 use Rattle.seam_base_calls.specs.BaseTurns.{base_burden, HasBaseCalls, HasNoClient}
 use Rattle.seam_base_calls.specs.Clients.{HasClient, HasToldAtMost, HasRoomFor}
@@ -44,24 +45,9 @@ module _ (f : Frame) (frame : IsFrame f) (e ty : ℕ) (known : ty < length f.def
 
 -- ---- what is yet to do
 
-record Lighter (f : Frame) (e n : ℕ) (w : World) : Type 0 where
-  frame : IsInFrame f w
-  few : base_burden e w ≤ n
-
-lighter_more : (f : Frame) (e n : ℕ) (w : World) (v : Event) → Lighter f e n w → enabled node_has_work w v ≡ true →
-    Lighter f e n (happens node_steps w v)
-lighter_more f e n w v h on =
-    let o = occurs node_has_work w v on in
-    let less = base_burden_happens f e w v o h.frame in
-    let few = h.few in
-    record { frame = frame_happens f w v o h.frame; few = omega (arith, less, few) }
-
--- after every list of events
 pub base_burden_leads : (f : Frame) (e : ℕ) (w v : World) (es : List Event) → IsInFrame f w → LeadsTo node_has_work node_steps w es v →
     base_burden e v ≤ base_burden e w
-base_burden_leads f e w v es q run =
-    (leads_keeps node_has_work node_steps (Lighter f e (base_burden e w)) (lighter_more f e (base_burden e w)) w v es
-    (record { frame = q; few = omega arith }) run).few
+base_burden_leads f e w v es q run = falls_lead f (base_burden e) (base_burden_happens f e) w v es q run
 
 -- ---- nothing is stray
 
