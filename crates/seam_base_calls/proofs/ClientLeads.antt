@@ -1,28 +1,21 @@
 -- Each call to a base part with a client once, over every list of events in which its witness tells no more than there is room for.
-use Rattle.std.proofs.Common.{◌≡◌, ℕ, ◌+◌, ◌≤◌, true, List, [], ◌∷◌, length, Option, Some, refl, sym, ap, ◌∙◌, subst, arith}
-use Rattle.std.specs.List.{AllByRecursion}
+use Rattle.std.proofs.Common.{◌≡◌, ℕ, ◌+◌, ◌≤◌, true, List, [], ◌∷◌, length, refl, sym, ap, subst, arith}
 use Rattle.seam_machine.specs.Nets.{happens, enabled, run, AllEnabled, LeadsTo}
 use Rattle.seam_machine.specs.declared.machines.Event.{Event}
 use Rattle.seam_machine.proofs.Occurring.{occurs}
 use Rattle.seam_runs.proofs.Runs.{leads_keeps}
-use Rattle.seam_flows.specs.Flows.{comes}
-use Rattle.seam_flows.specs.Sent.{IsSilent}
-use Rattle.seam_flows.proofs.Following.{all_append, slots_kept, letters_kept, came}
 use Rattle.seam_call.specs.declared.call.Call.{Call as CallData}
 use Rattle.seam_entity.specs.Reals.{RealView}
 use Rattle.seam_entity.specs.declared.message.Msg.{Msg}
-use Rattle.seam_entity.specs.declared.message.Msg.TheVariants.{BaseCall, Hand}
+use Rattle.seam_entity.specs.declared.message.Msg.TheVariants.{BaseCall}
 use Rattle.seam_steps.specs.BaseCases.{may_show}
 use Rattle.seam_steps.specs.Nodes.{World, node_steps, node_has_work}
-use Rattle.seam_moves.specs.Frames.{Frame, here_at, IsInFrame}
-use Rattle.seam_moves.specs.Sights.{Has, entity_flow}
-use Rattle.seam_moves.specs.Moves.{Moves, at_a_cell, at_a_base}
-use Rattle.seam_moves.proofs.Classify.{event_moves, frame_happens}
-use Rattle.seam_ones.specs.Ones.{real_in, real_of, IsSpared}
+use Rattle.seam_moves.specs.Frames.{Frame, IsInFrame}
+use Rattle.seam_moves.specs.Sights.{entity_flow}
+use Rattle.seam_moves.proofs.Classify.{frame_happens}
+use Rattle.seam_ones.specs.Ones.{IsSpared}
 use Rattle.seam_ones.proofs.OneReal.{one_leads}
-use Rattle.seam_ones.proofs.Sparing.{items_all}
-use Rattle.seam_base_calls.specs.WitnessMoves as witness
-use Rattle.seam_base_calls.specs.WitnessMoves.{sent_of, sent_by, WitnessMoves}
+use Rattle.seam_base_calls.specs.WitnessMoves.{sent_of, sent_by}
 use Rattle.seam_base_calls.specs.BaseTurns.{FindsPart, HasBaseCalls}
 use Rattle.seam_base_calls.specs.Clients.{EachReal, HasToldAtMost, HasClient, HasRoomFor}
 use Rattle.seam_base_calls.proofs.PartEasing.{base_burden_happens}

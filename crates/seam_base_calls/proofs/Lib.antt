@@ -20,3 +20,4 @@ pub mod Reaped
 pub mod ExampleBase
 pub mod ExampleClient
 pub mod NoLooks
+pub mod NodeStray

@@ -13,7 +13,7 @@ use Rattle.seam_call.specs.declared.order.Order.{Order}
 use Rattle.seam_call.specs.declared.order.Order.TheVariants as order
 use Rattle.seam_entity.specs.Reals.{RealView}
 use Rattle.seam_entity.specs.declared.message.Msg.{Msg}
-use Rattle.seam_entity.specs.declared.message.Msg.TheVariants.{Hand, Tick}
+use Rattle.seam_entity.specs.declared.message.Msg.TheVariants.{Tick}
 use Rattle.seam_steps.specs.Here.{base_numbers}
 use Rattle.seam_steps.specs.Slots.{SlotStep}
 use Rattle.seam_steps.specs.Settle.{haunts_at, ghost_messages}
@@ -27,11 +27,9 @@ use Rattle.seam_moves.specs.BaseMoves as base_move
 use Rattle.seam_moves.specs.BaseMoves.{BaseMoves}
 use Rattle.seam_moves.specs.Moves.{Moves, at_a_cell, at_a_base}
 use Rattle.seam_moves.proofs.Classify.{event_moves, frame_happens}
-use Rattle.seam_ones.specs.Ones.{real_in, real_of}
 use Rattle.seam_ones.proofs.Plain.{SeesNoGhost, ghosts_silent, drops_silent, mapped_silent}
 use Rattle.seam_ones.proofs.Sparing.{items_all}
-use Rattle.seam_base_calls.specs.WitnessMoves as witness
-use Rattle.seam_base_calls.specs.WitnessMoves.{sent_of, sent_by, WitnessMoves}
+use Rattle.seam_base_calls.specs.WitnessMoves.{sent_of, sent_by}
 use Rattle.seam_base_calls.specs.Clients.{is_tick_order, tick_in, HasToldAtMost, HasNoLooks}
 use Rattle.seam_base_calls.proofs.WitnessKept.{each_happens}
 

@@ -1,15 +1,10 @@
 -- No move raises what the base part has yet to do.
-use Rattle.std.proofs.Common.{◌≡◌, ℕ, ◌+◌, ◌≤◌, Bool, true, false, cond, List, [], ◌∷◌, length, Option, None, Some, refl, ap, arith}
+use Rattle.std.proofs.Common.{◌≡◌, ℕ, ◌+◌, ◌≤◌, List, [], ◌∷◌, length, Option, None, Some, refl, ap, arith}
 use Rattle.seam_machine.specs.Nets.{happens}
 use Rattle.seam_machine.specs.Events.{Occurs}
 use Rattle.seam_machine.specs.Totals.{total}
-use Rattle.seam_machine.specs.declared.machines.Input.{Input}
-use Rattle.seam_machine.specs.declared.machines.Input.TheVariants.{Task, From}
 use Rattle.seam_machine.specs.declared.machines.Event.{Event}
 use Rattle.seam_runs.specs.Sums.{weight_or}
-use Rattle.seam_runs.specs.Weights.{input_weight, sent_weight}
-use Rattle.seam_runs.proofs.Soundness.{sound_sends}
-use Rattle.seam_runs.proofs.Weighing.{weight_moves}
 use Rattle.seam_flows.specs.Flows.{letter_in}
 use Rattle.seam_flows.specs.Sent.{IsSilent}
 use Rattle.seam_flows.specs.Tokens.{one_if}
@@ -20,13 +15,13 @@ use Rattle.seam_steps.specs.Bases.{PartView}
 use Rattle.seam_steps.specs.Here.{Here}
 use Rattle.seam_steps.specs.Nodes.{World, node_steps}
 use Rattle.seam_moves.specs.Frames.{Frame, here_at, IsInFrame}
-use Rattle.seam_moves.specs.Sights.{AtBase, concerns, kept_if, mine, concerning, has_of}
-use Rattle.seam_moves.proofs.Classify.{node_laws, node_moves}
+use Rattle.seam_moves.specs.Sights.{AtBase, mine, concerning, has_of}
+use Rattle.seam_moves.proofs.Classify.{node_moves}
 use Rattle.seam_ones.proofs.Easing.{event_eases}
 use Rattle.seam_ones.proofs.HeldCounts.{turn_counts, early_counts, taken_counts}
 use Rattle.seam_base_calls.specs.PartMoves.{base_call_in, calls_ordered, called, Offered, now, early, late}
 use Rattle.seam_base_calls.specs.PartMoves.{PartMoves, rests, refuses, offers, sends, serves, executes, misses, updates, shows, ends}
-use Rattle.seam_base_calls.specs.BaseTurns.{part_burden, has_base_burden, asks, mine_base_burden, node_base_burden, base_burden}
+use Rattle.seam_base_calls.specs.BaseTurns.{part_burden, has_base_burden, asks, base_burden}
 use Rattle.seam_base_calls.proofs.PartSteps.{part_moves}
 
 abbrev sent_asks : List (ℕ × Msg) → ℕ

@@ -1,16 +1,19 @@
 -- No stray input at a base node: what a world has of all that comes to its base nodes about an entity.
 use Rattle.std.specs.Prelude.{◌≡◌, ℕ, ◌+◌, ◌<◌, ◌≤◌, Bool, true, false, List, ◌∷◌, Some}
 use Rattle.std.specs.List.{AllByRecursion}
+use Rattle.std.specs.FinMap as table
+use Rattle.seam_machine.specs.Nets.{link}
 use Rattle.seam_call.specs.declared.order.Order.{Order}
 use Rattle.seam_entity.specs.declared.message.Msg.{Msg}
 use Rattle.seam_entity.specs.declared.message.Msg.TheVariants.{Call, BaseCall, Hand, Current, GhostSet, GhostDrop, Tick, Reap, Update}
 use Rattle.seam_steps.specs.Numbers.{limit}
 use Rattle.seam_steps.specs.Here.{cell_count}
-use Rattle.seam_steps.specs.Bases.{PartView, RouteView}
-use Rattle.seam_steps.specs.BaseCases.{may_execute}
+use Rattle.seam_steps.specs.CellCases.{about}
+use Rattle.seam_steps.specs.Bases.{BaseView, PartView, RouteView}
+use Rattle.seam_steps.specs.BaseCases.{may_execute, is_stray, stray_order}
 use Rattle.seam_steps.specs.Nodes.{World}
 use Rattle.seam_moves.specs.Frames.{Frame, here_at}
-use Rattle.seam_moves.specs.Sights.{entity_flow}
+use Rattle.seam_moves.specs.Sights.{order_about, entity_flow}
 use Rattle.seam_moves.specs.BaseMoves.{strays_at, is_stuck}
 use Rattle.seam_base_calls.specs.BaseTurns.{HasNoClient}
 use Rattle.seam_base_calls.specs.Clients.{HasClient, HasToldAtMost, HasRoomFor}
@@ -61,3 +64,12 @@ pub record NothingIsStray (f : Frame) (e : ℕ) (w : World) : Type 0 where
       is_stuck (here_at f k) ((entity_flow e w).slot k).base o ≡ false
   -- a part whose turn it is may execute a call, and its client be shown a line
   pub parts : (k : ℕ) (p : PartView) → ((entity_flow e w).slot k).base.part ≡ Some p → may_execute p ≡ true
+
+-- the same by the tests of base node b, which is node k
+pub record NoneIsStray (e : ℕ) (w : World) (k : ℕ) (b : BaseView) : Type 0 where
+  -- no message about the entity that is the first of its link
+  pub messages : (a : ℕ) (m : Msg) (ms : List Msg) → link w.rows a k ≡ m ∷ ms → about m ≡ Some e → is_stray b m ≡ false
+  -- no order about it that is the first
+  pub orders : (o : Order) (os : List Order) → b.orders ≡ o ∷ os → order_about o ≡ Some e → stray_order b o ≡ false
+  -- its part may execute a call, and its client be shown a line
+  pub parts : (p : PartView) → table.get b.parts e ≡ Some p → may_execute p ≡ true

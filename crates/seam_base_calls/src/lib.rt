@@ -1,6 +1,6 @@
 //! Each call once, over every list of events: calls to base parts; and nothing that comes to a base node is stray.
 //!
-//! An entity's base part stands at its base node and never travels. Any sender's calls to it wait among the orders of the sender's node, on
+//! An entity's base part is at its base node and never travels. Any sender's calls to it wait among the orders of the sender's node, on
 //! the link to the base node, or with the part, which holds what came early; a call that is ordered at the base node itself comes to the
 //! part without a link. Of each sender's calls the part has executed the first ones, in the order of their numbers, and each of the others
 //! waits at one place alone (BigWorld Server Overview, base entities and proxies; Server Programming Guide, messages to an entity arrive
@@ -18,7 +18,7 @@
 //! step does with a client's updates) are for callers.
 #![tactic(auto)]
 
-ghost use Rattle.std.specs.Prelude.{◌≡◌, ℕ, ◌<◌, ◌≤◌, List, [], ◌∷◌, length, true, None, Some, is_some};
+ghost use Rattle.std.specs.Prelude.{◌≡◌, ℕ, ◌<◌, ◌≤◌, List, [], ◌∷◌, length, true, None, Some, is_some, slice_get};
 ghost use Rattle.std.specs.FinMap as table;
 ghost use Rattle.seam_machine.specs.Nets.{IsQuiet, LeadsTo};
 ghost use Rattle.seam_machine.specs.declared.machines.Event.{Event};
@@ -35,6 +35,7 @@ ghost use Rattle.seam_steps.specs.BaseCases.{base_steps};
 ghost use Rattle.seam_steps.specs.Loads.{loaded, reaps_loaded};
 ghost use Rattle.seam_steps.specs.Rows.{empty_world};
 ghost use Rattle.seam_steps.specs.Nodes.{World, node_steps, node_has_work};
+ghost use Rattle.seam_steps.specs.Nodes.NodeView.{Base};
 ghost use Rattle.seam_moves.specs.Frames.{Frame, here_at, IsInFrame};
 ghost use Rattle.seam_moves.specs.BaseMoves.{strays_at};
 ghost use Rattle.seam_moves.specs.Sights.{entity_flow};
@@ -46,7 +47,7 @@ ghost use Rattle.seam_base_calls.specs.BaseTurns.{base_burden, home_of, FindsPar
 ghost use Rattle.seam_base_calls.specs.Clients.{shown_at, HasClient, HasNoLooks, HasToldAtMost, HasRoomFor, FindsClient};
 ghost use Rattle.seam_base_calls.specs.Example as example;
 ghost use Rattle.seam_base_calls.specs.Reaps.{HasNoBaseCalls, HasNoPart};
-ghost use Rattle.seam_base_calls.specs.Strays.{HasRoutes, LinesHaveRoom, NothingIsStray};
+ghost use Rattle.seam_base_calls.specs.Strays.{HasRoutes, LinesHaveRoom, NoneIsStray, NothingIsStray};
 
 /// In a world that has an entity's base part with its calls in turn, no one reaping it, it has so after every list of events: `alone`
 /// where the entity has no client, `client` where it has one whose witness has told at most n updates in the end, for which there is room,
@@ -109,7 +110,8 @@ pub fn routes_are_kept()
 {}
 
 /// So nothing about the entity is stray at a base node: no message that is the first of its link, no order that is a node's first, and no
-/// part whose turn it is: in such a world (`now`), and after every list of events, without a client (`alone`) and with one (`client`).
+/// part whose turn it is: in such a world (`now`), and after every list of events, without a client (`alone`) and with one (`client`);
+/// by what the node has of the entity, and so by the node's own tests (`node`).
 pub fn nothing_is_stray_at_a_base_node()
     ensures now { (f : Frame) (e ty : ℕ) (first : ℕ → ℕ) (batch : ℕ → List CallData) (update n : ℕ) (w : World) →
         HasBaseCalls f e ty first batch w → HasRoutes f e w → LinesHaveRoom f e ty update n w → NothingIsStray f e w }
@@ -119,6 +121,8 @@ pub fn nothing_is_stray_at_a_base_node()
     ensures client { (f : Frame) (e ty : ℕ) (first : ℕ → ℕ) (batch : ℕ → List CallData) (update n : ℕ) (w v : World) (es : List Event) →
         HasBaseCalls f e ty first batch w → HasRoutes f e w → HasClient f e ty update w → HasRoomFor e n w →
         LeadsTo node_has_work node_steps w es v → HasToldAtMost e n v → NothingIsStray f e v }
+    ensures node { (f : Frame) (e : ℕ) (w : World) → IsInFrame f w → NothingIsStray f e w → (k : ℕ) (b : BaseView) →
+        slice_get w.nodes k ≡ Some (Base b) → NoneIsStray e w k b }
 {}
 
 /// The order to reap an entity leaves no base part at its node (`ends`), and an entity whose part is gone gets none (`gone`). A call that

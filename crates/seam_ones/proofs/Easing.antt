@@ -62,22 +62,22 @@ module _ (F : Has → ℕ) (G : Msg → ℕ) (e : ℕ) where
 
 -- what no event raises, no list of events does
 module _ (f : Frame) (n : World → ℕ) (falls : (w : World) (v : Event) (o : Occurs w v) → IsInFrame f w → n (happens node_steps w v) ≤ n w)
-    where
-  record Lighter (most : ℕ) (w : World) : Type 0 where
-    frame : IsInFrame f w
-    few : n w ≤ most
+  where
+    record Lighter (most : ℕ) (w : World) : Type 0 where
+      frame : IsInFrame f w
+      few : n w ≤ most
 
-  lighter_more : (most : ℕ) (w : World) (v : Event) → Lighter most w → enabled node_has_work w v ≡ true →
-      Lighter most (happens node_steps w v)
-  lighter_more most w v h on =
-      let o = occurs node_has_work w v on in
-      let less = falls w v o h.frame in
-      let few = h.few in
-      record { frame = frame_happens f w v o h.frame; few = omega (arith, less, few) }
+    lighter_more : (most : ℕ) (w : World) (v : Event) → Lighter most w → enabled node_has_work w v ≡ true →
+        Lighter most (happens node_steps w v)
+    lighter_more most w v h on =
+        let o = occurs node_has_work w v on in
+        let less = falls w v o h.frame in
+        let few = h.few in
+        record { frame = frame_happens f w v o h.frame; few = omega (arith, less, few) }
 
-  pub falls_lead : (w v : World) (es : List Event) → IsInFrame f w → LeadsTo node_has_work node_steps w es v → n v ≤ n w
-  falls_lead w v es q run =
-      (leads_keeps node_has_work node_steps (Lighter (n w)) (lighter_more (n w)) w v es (record { frame = q; few = omega arith }) run).few
+    pub falls_lead : (w v : World) (es : List Event) → IsInFrame f w → LeadsTo node_has_work node_steps w es v → n v ≤ n w
+    falls_lead w v es q run =
+        (leads_keeps node_has_work node_steps (Lighter (n w)) (lighter_more (n w)) w v es (record { frame = q; few = omega arith }) run).few
 
 -- ---- what is yet to do
 
