@@ -2,16 +2,21 @@
 use Rattle.std.proofs.Common.{◌≡◌, ℕ, ◌+◌, ◌≤◌, [], ◌∷◌, refl, sym, ap, ◌∙◌}
 use Rattle.std.proofs.Common.{subst, arith, inl, inr}
 use Rattle.std.specs.List.{AllByRecursion}
+use Rattle.std.specs.Ordering.{nat_cmp}
+use Rattle.std.specs.FinMap as table
 use Rattle.std.proofs.lemmas.Bool.{cases_eq}
 use Rattle.seam_flows.specs.Flows.{letters_of}
 use Rattle.seam_delivery.specs.Deliveries.{Delivery}
 use Rattle.seam_delivery.proofs.Delivering.{delivery_starts}
 use Rattle.seam_entity.specs.Reals.{RealView}
+use Rattle.seam_call.specs.declared.order.Order.TheVariants as order
 use Rattle.seam_steps.specs.Bases.{ProxyView, with_line, base_text}
+use Rattle.seam_steps.specs.BaseCases.{stray_base_call}
 use Rattle.seam_steps.specs.Loads.{loaded, new_proxy}
 use Rattle.seam_steps.specs.Rows.{empty_world, here}
 use Rattle.seam_steps.specs.EarlyCall.{made}
 use Rattle.seam_steps.proofs.Tables.{computing}
+use Rattle.seam_moves.specs.Frames.{here_at}
 use Rattle.seam_moves.specs.Sights.{entity_flow}
 use Rattle.seam_ones.specs.Burdens.{burden}
 use Rattle.seam_ones.specs.Example.{frame}
@@ -23,7 +28,8 @@ use Rattle.seam_base_calls.specs.WitnessMoves.{sent_by}
 use Rattle.seam_base_calls.specs.BaseTurns.{base_burden, HasBaseCalls, HasNoClient}
 use Rattle.seam_base_calls.specs.Clients.{proxy_of, order_in, updates_at, shown_at, shown_in, lines_in, tells, EachReal, HasNoLooks}
 use Rattle.seam_base_calls.specs.Clients.{HasToldAtMost, HasClient, HasRoomFor}
-use Rattle.seam_base_calls.specs.Strays.{HasRoutes}
+use Rattle.seam_base_calls.specs.Strays.{HasRoutes, NothingIsStray}
+use Rattle.seam_base_calls.specs.Example.{promote_1, world_bare}
 use Rattle.seam_base_calls.specs.Example.{batch_with, calls_of, part_alone, world_alone, real_told, part_shown, world_shown}
 use Rattle.seam_base_calls.proofs.ExampleBase.{has_one, has_routes, has_no_looks, has_calls, part_there, there, no_mail}
 
@@ -155,3 +161,12 @@ client_shown = record {
   told = each_told (λ r. sent_by r + 1 ≡ 1) refl;
   delivery = delivered;
 }
+
+-- ---- a world in which a call is stray
+
+pub bare_is_stray : NothingIsStray frame 1 world_bare → ⊥
+bare_is_stray h =
+    let fine = h.orders 17 (order.Base promote_1) [] refl in
+    let none = ap (stray_base_call (here_at frame 17) promote_1) (table.get-empty nat_cmp 1) in
+    let both = sym none ∙ fine in
+    cc

@@ -15,7 +15,7 @@ use Rattle.seam_steps.specs.Bases.{PartView}
 use Rattle.seam_steps.specs.Nodes.{NodeView, World}
 use Rattle.seam_steps.specs.Nodes.NodeView.{Base}
 use Rattle.seam_steps.specs.Loads.{new_part, with_proxy, with_witness}
-use Rattle.seam_steps.specs.Rows.{one, here, idle}
+use Rattle.seam_steps.specs.Rows.{no, one, here, idle}
 use Rattle.seam_steps.specs.EarlyCall as early
 use Rattle.seam_steps.specs.EarlyCall.{two_cells, made, at_home, base_16, with_cells}
 use Rattle.seam_once.specs.CellTurns.{from_sender}
@@ -76,3 +76,16 @@ part_shown = with_proxy (here 17) (new_part (here 17) 0)
 
 unfoldable pub world_shown : World
 world_shown = world_with real_told part_shown
+
+-- a world where the entity's base node is to execute a call of a part that is not there
+abbrev pub base_bare : NodeView
+base_bare = Base (record {
+  here = here 17;
+  cells = 2;
+  orders = order.Base promote_1 ∷ [];
+  routes = one (record { cell = 0; generation = 0 });
+  parts = no;
+})
+
+abbrev pub world_bare : World
+world_bare = with_cells (at_home made (1 ∷ [])) (idle two_cells 1) (base_16 [] (0, 0)) base_bare []

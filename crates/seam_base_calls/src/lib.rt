@@ -140,7 +140,8 @@ pub fn a_reap_ends_the_base_part()
 {}
 
 /// What these laws ask of a world is true of loaded ones: of two cells and an entity with calls to its base part of two senders, one at
-/// its own base node and one at another, without a client (`alone`) and with one (`client`).
+/// its own base node and one at another, without a client (`alone`) and with one (`client`). Where the part is not there, the call that its
+/// base node is to execute is stray (`stray`).
 pub fn a_loaded_world_has_its_base_calls_in_turn()
     ensures alone_load { loaded empty_world (example.batch_with []) ≡ example.world_alone }
     ensures alone { HasBaseCalls frame 1 0 from_one example.calls_of example.world_alone × HasNoClient 1 example.world_alone }
@@ -149,4 +150,5 @@ pub fn a_loaded_world_has_its_base_calls_in_turn()
     ensures client { HasBaseCalls frame 1 0 from_one example.calls_of example.world_shown × HasClient frame 1 0 1 example.world_shown }
     ensures client_room { HasToldAtMost 1 0 example.world_shown × HasRoomFor 1 0 example.world_shown × HasNoLooks 1 example.world_shown }
     ensures client_routes { HasRoutes frame 1 example.world_shown }
+    ensures stray { NothingIsStray frame 1 example.world_bare → ⊥ }
 {}
