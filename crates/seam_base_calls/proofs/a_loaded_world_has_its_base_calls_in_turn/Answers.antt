@@ -1,5 +1,6 @@
 use Rattle.seam_base_calls.proofs.ExampleClient.{load_alone, load_shown, one_alone, calls_alone, routes_alone, no_client_alone}
-use Rattle.seam_base_calls.proofs.ExampleClient.{calls_shown, routes_shown, client_shown, told_none, room_shown, no_looks_shown, bare_is_stray}
+use Rattle.seam_base_calls.proofs.ExampleClient.{calls_shown, routes_shown, client_shown, told_none, room_shown, no_looks_shown}
+use Rattle.seam_base_calls.proofs.ExampleClient.{bare_is_stray}
 use Rattle.seam_base_calls.proofs.a_loaded_world_has_its_base_calls_in_turn.Goals as goal
 
 pub returns-clause-alone_load : goal.returns-clause-alone_load
