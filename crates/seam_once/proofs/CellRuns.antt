@@ -1,10 +1,9 @@
 -- Each call to a cell part once: after an event, and after every list of events.
-use Rattle.std.proofs.Common.{◌≡◌, ℕ, ◌+◌, ◌<◌, ◌≤◌, true, not, nat_lt, is_some, List, ◌∷◌, length, Option, None, Some}
+use Rattle.std.proofs.Common.{◌≡◌, ℕ, ◌+◌, ◌<◌, ◌≤◌, true, not, is_some, List, ◌∷◌, length, Option, None, Some}
 use Rattle.std.proofs.Common.{refl}
 use Rattle.std.proofs.Common.{ap, ◌∙◌, arith}
 use Rattle.std.specs.Prelude.{slice_get}
 use Rattle.std.specs.FinMap as table
-use Rattle.std.proofs.lemmas.Bool.Decides.{nat_tests}
 use Rattle.seam_table.proofs.Found.{found}
 use Rattle.seam_machine.specs.Nets.{happens, enabled, LeadsTo}
 use Rattle.seam_machine.specs.Events.{Occurs}
@@ -40,7 +39,7 @@ use Rattle.seam_moves.specs.Frames.{Frame, here_at, IsInFrame}
 use Rattle.seam_moves.specs.Sights.{Has, mine, has_of, has_none, entity_flow}
 use Rattle.seam_ones.specs.Burdens.{real_burden, node_burden, mine_burden, burden}
 use Rattle.seam_ones.specs.Ones.{real_in, IsSpared, IsFrame, HasOne}
-use Rattle.seam_ones.proofs.Holds.{all_two}
+use Rattle.seam_ones.proofs.Holds.{all_two, below_is}
 use Rattle.seam_ones.proofs.Easing.{burden_happens}
 use Rattle.seam_ones.proofs.OneReal.{goes, room, one_happens, calm_of, spared_happens}
 use Rattle.seam_ways.specs.Ways.{is_visited, AllLead}
@@ -51,9 +50,6 @@ use Rattle.seam_once.specs.CellTurns.{desk_for, real_desk, cell_post, cell_mail,
 use Rattle.seam_once.specs.CellTurns.{FindsTurn}
 use Rattle.seam_once.proofs.DeskLemmas.{from_same}
 use Rattle.seam_once.proofs.CellSeen.{HoldsOwn, calls_seen}
-
-below_is : (a b : ℕ) → a < b → nat_lt a b ≡ true
-below_is a b lt = grind (arith, nat_tests)
 
 -- a node where the real is or was is a cell
 visited_by : (f : Frame) (e : ℕ) (w : World) (k : ℕ) → IsInFrame f w → (o : Option NodeView) → slice_get w.nodes k ≡ o →

@@ -1,5 +1,5 @@
 -- Each step of a node is, for one sender, one or two of the moves of its calls to the entity's cell part.
-use Rattle.std.proofs.Common.{◌≡◌, ℕ, ◌+◌, ◌<◌, ◌≤◌, Bool, true, false, not, ◌||◌, is_some, List, [], ◌∷◌, ◌++◌, Option, None, Some, refl}
+use Rattle.std.proofs.Common.{◌≡◌, ℕ, ◌+◌, ◌<◌, ◌≤◌, Bool, true, ◌||◌, is_some, List, [], ◌∷◌, ◌++◌, Option, None, Some, refl}
 use Rattle.std.proofs.Common.{sym, ap, ◌∙◌}
 use Rattle.std.proofs.Common.{subst, arith, inl, inr}
 use Rattle.std.specs.List.{range_with_len}
@@ -41,6 +41,7 @@ use Rattle.seam_moves.specs.BaseMoves as base_move
 use Rattle.seam_moves.specs.BaseMoves.{BaseMoves}
 use Rattle.seam_moves.specs.Moves.{Moves, at_a_cell, at_a_base}
 use Rattle.seam_ones.specs.Ones.{real_in}
+use Rattle.seam_ones.proofs.Holds.{not_both}
 use Rattle.seam_ones.proofs.Plain.{SeesNoGhost, ghosts_silent, mapped_silent, numbered_silent}
 use Rattle.seam_ones.proofs.Handling.{FindsRoom}
 use Rattle.seam_once.specs.CellTurns.{desk_for, cell_order_from, real_desk, cell_post, cell_mail, FindsTurn}
@@ -50,10 +51,6 @@ use Rattle.seam_once.proofs.DeskLemmas.{from_same, from_other, desk_executes, de
 abbrev pub HoldsOwn : Has → Type 0
 HoldsOwn h = (r : RealView) (o : ℕ × OrderView CallData) (c : CallData) → real_in h ≡ Some r → ready_order r.orders ≡ Some o →
     next_item o.1 ≡ Some c → rank_of c.sender ≡ o.0
-
-not_both : (b : Bool) → b ≡ true → not b ≡ true → ⊥
-not_both true h k = cc
-not_both false h k = cc
 
 call_not_stray : (h : Here) (c : CallData) (o : Option RealView) (n : Option NextPlace) →
     ((r : RealView) → o ≡ Some r → may_call h r c ≡ true) → (is_some o || is_some n) ≡ true → stray_call h c o n ≡ true → ⊥

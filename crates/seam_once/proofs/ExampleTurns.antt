@@ -27,7 +27,7 @@ use Rattle.seam_steps.specs.Numbers.{limit}
 use Rattle.seam_ones.specs.Burdens.{burden}
 use Rattle.seam_ones.specs.Ones.{real_in}
 use Rattle.seam_ones.specs.Example.{frame}
-use Rattle.seam_ones.proofs.ExampleMet.{EachFrom, each_node, slots, no_mail}
+use Rattle.seam_ones.proofs.ExampleMet.{burden_is, EachFrom, nodes_of, node_0, node_16, node_17, each_node, slots, no_mail}
 use Rattle.seam_once.specs.CellTurns.{from_sender, cell_order_from, real_desk, cell_mail, as_sender, IsCallOf, AreCallsOf, CellCallsInTurn}
 use Rattle.seam_once.specs.Example.{calls_of, from_one}
 
@@ -66,46 +66,9 @@ none_is k = (λ n. refl, λ n m. refl)
 
 nodes_are : EachFrom (λ k s. W k (has_of 1 s)) 0 world_0.nodes
 unfolding world_0
-nodes_are = (
-  home_is,
-  (
-    idle_is 1,
-    (
-      idle_is 2,
-      (
-        idle_is 3,
-        (
-          idle_is 4,
-          (
-            idle_is 5,
-            (
-              idle_is 6,
-              (
-                idle_is 7,
-                (
-                  idle_is 8,
-                  (
-                    idle_is 9,
-                    (
-                      idle_is 10,
-                      (
-                        idle_is 11,
-                        (
-                          idle_is 12,
-                          (idle_is 13, (idle_is 14, (idle_is 15, ((λ n. refl, λ n m. absurd (n refl)), ((λ n. refl, λ n m. absurd (m refl)), tt))))),
-                        ),
-                      ),
-                    ),
-                  ),
-                ),
-              ),
-            ),
-          ),
-        ),
-      ),
-    ),
-  ),
-)
+nodes_are =
+    nodes_of (λ k s. W k (has_of 1 s)) node_0 node_16 node_17 home_is (λ k low. idle_is k) (λ n. refl, λ n m. absurd (n refl))
+    (λ n. refl, λ n m. absurd (m refl))
 
 abbrev flow : Flow Has Msg
 flow = entity_flow 1 world_0
@@ -197,10 +160,6 @@ in_turn s = elim (cases_eq s 1) [
     | inr m ↦ other_turn s n m
   ]
 ]
-
-burden_is : burden 1 world_0 ≡ 11
-unfolding world_0
-burden_is = simp computing
 
 pub has_room : burden 1 world_0 + 1 < limit
 has_room = let h = burden_is in omega (arith, h)

@@ -30,15 +30,15 @@ use Rattle.seam_ones.proofs.ExampleMet.{slots}
 use Rattle.seam_ones.proofs.Holds.{got_passes}
 use Rattle.seam_once.specs.CellTurns.{from_sender, desk_for, cell_order_from, real_desk, cell_mail, as_sender, CellCallsInTurn}
 
-neither : (a b : Bool) → (a || b) ≡ false → (a ≡ false) × (b ≡ false)
+pub neither : (a b : Bool) → (a || b) ≡ false → (a ≡ false) × (b ≡ false)
 neither true b h = cc
 neither false b h = (refl, h)
 
-none_left : {A : Type 0} (xs : List A) → has_any xs ≡ false → xs ≡ []
+pub none_left : {A : Type 0} (xs : List A) → has_any xs ≡ false → xs ≡ []
 none_left [] h = refl
 none_left (x ∷ xs) h = cc
 
-none_some : {A : Type 0} (o : Option A) → is_some o ≡ false → o ≡ None
+pub none_some : {A : Type 0} (o : Option A) → is_some o ≡ false → o ≡ None
 none_some None h = refl
 none_some (Some x) h = cc
 
@@ -69,7 +69,7 @@ module _ {X : Type 0} (test : ℕ × X → Bool) where
   got_fails by_value m k x h at =
       not_false (test (k, x)) (got_passes fails by_value m k x (all_fail (table.entries m) h) at)
 
-no_turn_by : (os : Orders) (s : ℕ) (o : Option (OrderView CallData)) → has_ready os ≡ false → table.get os s ≡ o →
+pub no_turn_by : (os : Orders) (s : ℕ) (o : Option (OrderView CallData)) → has_ready os ≡ false → table.get os s ≡ o →
     next_item (order_or o) ≡ None
 no_turn_by os s None h at = refl
 no_turn_by os s (Some o) h at =

@@ -8,7 +8,8 @@
 //!
 //! What a world is to one sender is in `specs/CellTurns`: each step of a node is one or two of the moves of `seam_turns`, for each sender.
 //!
-//! Of `proofs/`, `CellRuns` (an event and a list of events) and `Quieting` (what is not there in a quiet world) are for callers.
+//! Of `proofs/`, `CellRuns` (an event and a list of events), `DeskLemmas` (one sender's desk after an offer and after a taking) and
+//! `Quieting` (what is not there in a quiet world) are for callers.
 #![tactic(auto)]
 
 ghost use Rattle.std.specs.Prelude.{◌≡◌, ℕ, ◌+◌, ◌<◌, List, ◌∷◌, length, Some};

@@ -19,6 +19,7 @@ use Rattle.seam_machine.specs.Nets.{link, run, AllEnabled, LeadsTo, IsSquare, Ar
 use Rattle.seam_machine.specs.Events.{EachNode}
 use Rattle.seam_machine.specs.declared.machines.Event.{Event}
 use Rattle.seam_flows.specs.Flows.{slot_at, letters_of}
+use Rattle.seam_call.specs.declared.order.Order.TheVariants as order
 use Rattle.seam_entity.specs.declared.message.Msg.{Msg}
 use Rattle.seam_steps.specs.Maps.{Map}
 use Rattle.seam_steps.specs.Here.{properties}
@@ -29,7 +30,7 @@ use Rattle.seam_steps.specs.Valid.{IsNode}
 use Rattle.seam_steps.specs.Holders.{holders}
 use Rattle.seam_steps.specs.Bases.{RouteView}
 use Rattle.seam_steps.specs.Rows.{idle, one, IsRow}
-use Rattle.seam_steps.specs.EarlyCall.{two_cells, made, world_0, at_home}
+use Rattle.seam_steps.specs.EarlyCall.{two_cells, made, world_0, at_home, with_cells, base_16, base_17, the_move, hit_1, hit_2}
 use Rattle.seam_steps.proofs.Tables.{computing}
 use Rattle.seam_moves.specs.Frames.{here_at, IsAt, IsInFrame}
 use Rattle.seam_moves.specs.Sights.{Has, mine, has_of, has_none, entity_flow}
@@ -57,6 +58,60 @@ each_at P (x ∷ xs) i (suc k) s h e =
 pub each_node : {N : Type 0} (P : ℕ → N → Type 0) (xs : List N) → EachFrom P 0 xs → EachNode P xs
 each_node P xs h k s e = let at : k + 0 ≡ k = omega arith in subst (λ j. P j s) at (each_at P xs 0 k s h e)
 
+-- what is true of cell 0, of each cell without anything, and of the two base nodes is true of each node of such a world
+pub nodes_of : (P : ℕ → NodeView → Type 0) (home b16 b17 : NodeView) → P 0 home → ((k : ℕ) → k < 16 → P k (idle two_cells k)) → P 16 b16 →
+    P 17 b17 → EachFrom P 0 (with_cells home (idle two_cells 1) b16 b17 []).nodes
+nodes_of P home b16 b17 first others sixteen seventeen = (
+  first,
+  (
+    others 1 (omega arith),
+    (
+      others 2 (omega arith),
+      (
+        others 3 (omega arith),
+        (
+          others 4 (omega arith),
+          (
+            others 5 (omega arith),
+            (
+              others 6 (omega arith),
+              (
+                others 7 (omega arith),
+                (
+                  others 8 (omega arith),
+                  (
+                    others 9 (omega arith),
+                    (
+                      others 10 (omega arith),
+                      (
+                        others 11 (omega arith),
+                        (
+                          others 12 (omega arith),
+                          (others 13 (omega arith), (others 14 (omega arith), (others 15 (omega arith), (sixteen, (seventeen, tt))))),
+                        ),
+                      ),
+                    ),
+                  ),
+                ),
+              ),
+            ),
+          ),
+        ),
+      ),
+    ),
+  ),
+)
+
+-- the nodes of the example that have something
+abbrev pub node_0 : NodeView
+node_0 = at_home made (1 ∷ [])
+
+abbrev pub node_16 : NodeView
+node_16 = base_16 (order.Cell the_move ∷ []) (0, 0)
+
+abbrev pub node_17 : NodeView
+node_17 = base_17 (order.Cell hit_1 ∷ order.Cell hit_2 ∷ []) (0, 0)
+
 slot_by : (P : ℕ → Has → Type 0) (e k : ℕ) (o : Option NodeView) → ((s : NodeView) → o ≡ Some s → P k (has_of e s)) → P k has_none →
     P k (slot_at (has_of e) has_none o)
 slot_by P e k None h n = n
@@ -66,7 +121,7 @@ pub slots : (P : ℕ → Has → Type 0) (e : ℕ) (w : World) → EachNode (λ 
     P k ((entity_flow e w).slot k)
 slots P e w each none k = slot_by P e k (slice_get w.nodes k) (each k) (none k)
 
-abbrev no_row : ℕ → List (List Msg)
+abbrev pub no_row : ℕ → List (List Msg)
 no_row m = replicate m []
 
 row_empty : (m k : ℕ) → slice_index_or (no_row m) k [] ≡ []
@@ -120,7 +175,7 @@ idle_at : (k : ℕ) → k < 16 → IsAt frame k (idle two_cells k)
 idle_at k lt = record { low = lt; here = refl; tree = refl }
 
 -- one value alone
-one_there : {X : Type 0} (x : X) (q : ℕ) → table.get (one x) q ≡ cond (eqb q 1) (Some x) None
+pub one_there : {X : Type 0} (x : X) (q : ℕ) → table.get (one x) q ≡ cond (eqb q 1) (Some x) None
 one_there {X = X} x q =
     let none : Map X = table.empty in
     table.get-insert nat_cmp_total none 1 x q
@@ -138,7 +193,7 @@ number_by : {X : Type 0} (x y : X) (q : ℕ) (b : Bool) → eqb q 1 ≡ b → co
 number_by x y q true is h = eqb-true q 1 is
 number_by x y q false is h = cc
 
-number_is : {X : Type 0} (x y : X) (q : ℕ) → table.get (one x) q ≡ Some y → q ≡ 1
+pub number_is : {X : Type 0} (x y : X) (q : ℕ) → table.get (one x) q ≡ Some y → q ≡ 1
 number_is x y q at = number_by x y q (eqb q 1) refl (sym (one_there x q) ∙ at)
 
 home_is : IsNode (at_home made (1 ∷ []))
@@ -150,80 +205,27 @@ home_is = record {
   keys = λ e r at. sym (ap (λ x. x.entity) (one_is made r e at)) ∙ sym (number_is made r e at);
 }
 
-route_low : (g q : ℕ) (x : RouteView) → table.get (one (record { cell = 0; generation = g })) q ≡ Some x → x.cell < 16
+pub route_low : (g q : ℕ) (x : RouteView) → table.get (one (record { cell = 0; generation = g })) q ≡ Some x → x.cell < 16
 route_low g q x at = let same = ap (λ y. y.cell) (one_is (record { cell = 0; generation = g }) x q at) in omega (arith, same)
 
-abbrev Q : ℕ → NodeView → Type 0
+abbrev pub Q : ℕ → NodeView → Type 0
 Q k s = IsNode s × IsAt frame k s
 
-idle_is : (k : ℕ) → k < 16 → Q k (idle two_cells k)
+pub idle_is : (k : ℕ) → k < 16 → Q k (idle two_cells k)
 idle_is k lt = (low_of k lt, idle_at k lt)
 
 nodes_are : EachFrom Q 0 world_0.nodes
 unfolding world_0
-nodes_are = (
-  (home_is, record { low = omega arith; here = refl; tree = refl }),
-  (
-    idle_is 1 (omega arith),
-    (
-      idle_is 2 (omega arith),
-      (
-        idle_is 3 (omega arith),
-        (
-          idle_is 4 (omega arith),
-          (
-            idle_is 5 (omega arith),
-            (
-              idle_is 6 (omega arith),
-              (
-                idle_is 7 (omega arith),
-                (
-                  idle_is 8 (omega arith),
-                  (
-                    idle_is 9 (omega arith),
-                    (
-                      idle_is 10 (omega arith),
-                      (
-                        idle_is 11 (omega arith),
-                        (
-                          idle_is 12 (omega arith),
-                          (
-                            idle_is 13 (omega arith),
-                            (
-                              idle_is 14 (omega arith),
-                              (
-                                idle_is 15 (omega arith),
-                                (
-                                  (
-                                    record { bases = omega arith; cells = omega arith; routes = route_low 0 },
-                                    record { high = omega arith; here = refl; cells = refl },
-                                  ),
-                                  (
-                                    (
-                                      record { bases = omega arith; cells = omega arith; routes = route_low 0 },
-                                      record { high = omega arith; here = refl; cells = refl },
-                                    ),
-                                    tt,
-                                  ),
-                                ),
-                              ),
-                            ),
-                          ),
-                        ),
-                      ),
-                    ),
-                  ),
-                ),
-              ),
-            ),
-          ),
-        ),
-      ),
-    ),
-  ),
-)
+nodes_are =
+    nodes_of Q node_0 node_16 node_17 (home_is, record { low = omega arith; here = refl; tree = refl }) idle_is (
+      record { bases = omega arith; cells = omega arith; routes = route_low 0 },
+      record { high = omega arith; here = refl; cells = refl },
+    ) (
+      record { bases = omega arith; cells = omega arith; routes = route_low 0 },
+      record { high = omega arith; here = refl; cells = refl },
+    )
 
-peers_from : {N : Type 0} (P : N → Type 0) (xs : List N) → AllByRecursion P xs → All P xs
+pub peers_from : {N : Type 0} (P : N → Type 0) (xs : List N) → AllByRecursion P xs → All P xs
 peers_from P [] h = All-nil P
 peers_from P (x ∷ xs) h = All-cons P x xs h.0 (peers_from P xs h.1)
 
@@ -256,7 +258,7 @@ values_are = simp computing
 none_held : all_held (fits_cell_part (here_at frame 0) 1 0) made.orders ≡ true
 none_held = simp computing
 
-made_fits : RealFits frame 1 0 0 made
+pub made_fits : RealFits frame 1 0 0 made
 made_fits = record {
   entity = refl;
   type = refl;
@@ -281,58 +283,10 @@ none_fits k = (λ r at. absurd (let h = at in cc), tt)
 
 fits_at : EachFrom (λ k s. R k (has_of 1 s)) 0 world_0.nodes
 unfolding world_0
-fits_at = (
-  home_fits,
-  (
-    idle_fits 1,
-    (
-      idle_fits 2,
-      (
-        idle_fits 3,
-        (
-          idle_fits 4,
-          (
-            idle_fits 5,
-            (
-              idle_fits 6,
-              (
-                idle_fits 7,
-                (
-                  idle_fits 8,
-                  (
-                    idle_fits 9,
-                    (
-                      idle_fits 10,
-                      (
-                        idle_fits 11,
-                        (
-                          idle_fits 12,
-                          (
-                            idle_fits 13,
-                            (
-                              idle_fits 14,
-                              (
-                                idle_fits 15,
-                                (
-                                  ((λ r at. absurd (let h = at in cc)), (refl, tt)),
-                                  (((λ r at. absurd (let h = at in cc)), (refl, (refl, tt))), tt),
-                                ),
-                              ),
-                            ),
-                          ),
-                        ),
-                      ),
-                    ),
-                  ),
-                ),
-              ),
-            ),
-          ),
-        ),
-      ),
-    ),
-  ),
-)
+fits_at =
+    nodes_of (λ k s. R k (has_of 1 s)) node_0 node_16 node_17 home_fits (λ k low. idle_fits k)
+    ((λ r at. absurd (let h = at in cc)), (refl, tt))
+    ((λ r at. absurd (let h = at in cc)), (refl, (refl, tt)))
 
 fit_slots : (k : ℕ) → R k ((entity_flow 1 world_0).slot k)
 fit_slots = slots R 1 world_0 (each_node (λ k s. R k (has_of 1 s)) world_0.nodes fits_at) none_fits
@@ -341,7 +295,7 @@ pub no_mail : (a k : ℕ) → (entity_flow 1 world_0).mail a k ≡ []
 unfolding world_0
 no_mail a k = ap (letters_of (mine 1)) (no_link 18 18 a k)
 
-burden_is : burden 1 world_0 ≡ 11
+pub burden_is : burden 1 world_0 ≡ 11
 unfolding world_0
 burden_is = simp computing
 

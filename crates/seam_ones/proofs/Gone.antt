@@ -1,8 +1,7 @@
 -- A Reap that finds the real takes it out of the world, and an entity that no one has stays gone.
-use Rattle.std.proofs.Common.{◌≡◌, ℕ, ◌+◌, ◌<◌, Bool, true, false, not, nat_lt, List, Option, None, Some, refl, sym, ap, ◌∙◌}
+use Rattle.std.proofs.Common.{◌≡◌, ℕ, ◌+◌, Bool, true, false, not, List, Option, None, Some, refl, sym, ap, ◌∙◌}
 use Rattle.std.proofs.Common.{subst, arith}
 use Rattle.std.specs.List.{AllByRecursion}
-use Rattle.std.proofs.lemmas.Bool.Decides.{nat_tests}
 use Rattle.seam_machine.specs.Nets.{happens, enabled, LeadsTo}
 use Rattle.seam_machine.specs.Events.{Occurs}
 use Rattle.seam_machine.specs.declared.machines.Event.{Event}
@@ -28,6 +27,7 @@ use Rattle.seam_moves.specs.Moves.{Moves, at_a_cell, at_a_base, MovesTo}
 use Rattle.seam_moves.proofs.Classify.{frame_happens, event_moves, event_moves_with}
 use Rattle.seam_ones.specs.Replays.{Replays}
 use Rattle.seam_ones.specs.Ones.{real_in, real_of, IsFrame, HasOne}
+use Rattle.seam_ones.proofs.Holds.{below_is}
 use Rattle.seam_ones.proofs.Plain.{drops_silent}
 use Rattle.seam_ones.proofs.Handling.{reals_unseen, handled}
 use Rattle.seam_ones.proofs.Easing.{reaped_small}
@@ -130,9 +130,6 @@ module _ (f : Frame) (e k : ℕ) (s : Has) (i : Option Msg) (t : Has) (sent : Li
   takes (move.looks n p x known h at q own g small d) = never h
   takes (move.overlooks n known h at b d) = never h
   takes (move.stuck p h q ready m d) = never h
-
-below_is : (a b : ℕ) → a < b → nat_lt a b ≡ true
-below_is a b lt = grind (arith, nat_tests)
 
 module _ (f : Frame) (frame : IsFrame f) (e ty : ℕ) (w : World) (v : Event) (o : Occurs w v) (has : HasOne f e ty w) (r : RealView)
     (fed : letter_in (mine e) o.input ≡ Some (Reap e)) (here : real_in (has_of e o.node) ≡ Some r) where

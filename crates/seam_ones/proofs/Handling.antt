@@ -1,5 +1,5 @@
 -- What each move does with the entity's real: it stays as it is, is turned into what calls make of it, lands, or leaves.
-use Rattle.std.proofs.Common.{◌≡◌, ℕ, ◌+◌, ◌<◌, ◌≤◌, Bool, true, false, not, List, [], ◌∷◌, Option, None, Some, refl, sym, ap, ◌∙◌}
+use Rattle.std.proofs.Common.{◌≡◌, ℕ, ◌+◌, ◌<◌, ◌≤◌, Bool, true, List, [], ◌∷◌, Option, None, Some, refl, sym, ap, ◌∙◌}
 use Rattle.std.proofs.Common.{subst, arith, inl, inr}
 use Rattle.std.specs.List.{range_with_len}
 use Rattle.std.specs.FinSet as set
@@ -25,11 +25,12 @@ use Rattle.seam_moves.specs.Sights.{Has, AtCell}
 use Rattle.seam_moves.specs.CellMoves as move
 use Rattle.seam_moves.specs.CellMoves.{Does, Acts, surveys, calls, readies, CellMoves}
 use Rattle.seam_moves.specs.BaseMoves as base_move
-use Rattle.seam_moves.specs.BaseMoves.{BaseMoves, strays_at}
+use Rattle.seam_moves.specs.BaseMoves.{BaseMoves}
 use Rattle.seam_moves.specs.Moves.{Moves, at_a_cell, at_a_base}
 use Rattle.seam_ones.specs.Replays.{Replays}
 use Rattle.seam_ones.specs.Fits.{RealFits}
 use Rattle.seam_ones.specs.Ones.{real_in, real_of}
+use Rattle.seam_ones.proofs.Holds.{not_both}
 use Rattle.seam_ones.proofs.Plain.{SeesNoGhost, ghosts_silent, mapped_silent, numbered_silent}
 use Rattle.seam_ones.proofs.Replaying.{acts_replays}
 use Rattle.seam_ones.proofs.RealsKept.{executed_fits, held_fits, ready_fits, settled_fits, home_is_low}
@@ -42,10 +43,6 @@ pub record FindsRoom (f : Frame) (k : ℕ) (s : Has) (r : RealView) : Type 0 whe
   pub cell : k < cell_count
   pub free : real_in s ≡ None
   pub may : may_come (here_at f k) f.tree r ≡ true
-
-not_both : (b : Bool) → b ≡ true → not b ≡ true → ⊥
-not_both true h k = cc
-not_both false h k = cc
 
 module _ (f : Frame) (defs : AreDefs f.defs) (e ty k : ℕ) (s : Has) (i : Option Msg) (t : Has) (sent : List (ℕ × Msg)) (out : ℕ →
     List Msg) (items : (j : ℕ) → out j ≡ items_to j sent) where

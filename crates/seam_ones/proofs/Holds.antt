@@ -1,6 +1,7 @@
 -- Calls that are held all fit, whatever becomes of their orders.
-use Rattle.std.proofs.Common.{◌≡◌, ℕ, ◌+◌, Bool, true, false, cond, eqb, ltb, ◌&&◌, List, [], ◌∷◌, find, Option, None, Some, refl, sym, ap}
-use Rattle.std.proofs.Common.{◌∙◌, subst}
+use Rattle.std.proofs.Common.{◌≡◌, ℕ, ◌+◌, ◌<◌, Bool, true, false, not, cond, eqb, ltb, nat_lt, ◌&&◌, List, [], ◌∷◌, find, Option, None}
+use Rattle.std.proofs.Common.{Some, refl, sym, ap}
+use Rattle.std.proofs.Common.{◌∙◌, subst, arith}
 use Rattle.std.specs.List.{list_all}
 use Rattle.std.specs.Ordering.{nat_cmp, match_ordering}
 use Rattle.std.specs.declared.cmp.Ordering.{Ordering}
@@ -8,6 +9,7 @@ use Rattle.std.specs.declared.cmp.Ordering.TheVariants.{Less, Equal, Greater}
 use Rattle.std.specs.Cmp.{nat_cmp_total}
 use Rattle.std.specs.FinMap as table
 use Rattle.std.specs.FinMap.Entries.{put, find as key_find}
+use Rattle.std.proofs.lemmas.Bool.Decides.{nat_tests}
 use Rattle.seam_order.specs.Held.{OrderView, item_at, with_item, without}
 use Rattle.seam_order.specs.Offers.{next_item, after_offer, after_taking, after_item}
 use Rattle.seam_call.specs.declared.call.Call.{Call}
@@ -21,6 +23,13 @@ both false b h = cc
 pub all_two : (a b : Bool) → a ≡ true → b ≡ true → (a && b) ≡ true
 all_two true b h k = k
 all_two false b h k = cc
+
+pub not_both : (b : Bool) → b ≡ true → not b ≡ true → ⊥
+not_both true h k = cc
+not_both false h k = cc
+
+pub below_is : (a b : ℕ) → a < b → nat_lt a b ≡ true
+below_is a b lt = grind (arith, nat_tests)
 
 module _ {X : Type 0} (test : ℕ × X → Bool) (by_value : (a b : ℕ) (x : X) → test (a, x) ≡ test (b, x)) where
   put_by : (k : ℕ) (x : X) (e : ℕ × X) (es : List (ℕ × X)) (o : Ordering) → list_all test (e ∷ es) ≡ true → test (k, x) ≡ true →

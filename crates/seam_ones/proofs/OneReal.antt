@@ -1,10 +1,9 @@
 -- Exactly one real: each event leaves the one real at a place that is known, and it replays its calls.
-use Rattle.std.proofs.Common.{◌≡◌, ℕ, ◌<◌, Bool, true, false, ◌&&◌, nat_lt, is_some, List, [], ◌∷◌, length, ◌⊎◌, Option}
+use Rattle.std.proofs.Common.{◌≡◌, ℕ, ◌<◌, Bool, true, false, ◌&&◌, is_some, List, [], ◌∷◌, length, ◌⊎◌, Option}
 use Rattle.std.proofs.Common.{None, Some, refl, sym, ap, ◌∙◌, subst, arith, inl, inr}
 use Rattle.std.specs.List.{AllByRecursion, list_all}
 use Rattle.std.specs.FinSet as set
 use Rattle.std.proofs.lemmas.Bool.{cases_eq}
-use Rattle.std.proofs.lemmas.Bool.Decides.{nat_tests}
 use Rattle.seam_tree.specs.Division.{cells_of}
 use Rattle.seam_defs.specs.declared.flags.Group.TheVariants as group
 use Rattle.seam_defs.specs.Types.{AreDefs}
@@ -36,16 +35,13 @@ use Rattle.seam_ones.specs.Replays.{Replays}
 use Rattle.seam_ones.specs.Fits.{RealFits, IsFitReal, IsFitHand}
 use Rattle.seam_ones.specs.Burdens.{real_burden}
 use Rattle.seam_ones.specs.Ones.{real_in, real_of, reaped_by, HasNoReaps, IsSpared, AllFits, IsFrame, HasOne, OneFrom, reaps, NoReapComes}
-use Rattle.seam_ones.proofs.Holds.{all_two}
+use Rattle.seam_ones.proofs.Holds.{all_two, below_is}
 use Rattle.seam_ones.proofs.Replaying.{replays_none, replays_on}
 use Rattle.seam_ones.proofs.Handling.{FindsRoom, StillFits, Handled, handled}
 use Rattle.seam_ones.proofs.Sparing.{items_all, orders_spared, sent_spared}
 use Rattle.seam_ones.proofs.Easing.{burden_happens, came_small}
 
 -- ---- a real that fits may come
-
-below_is : (a b : ℕ) → a < b → nat_lt a b ≡ true
-below_is a b lt = grind (arith, nat_tests)
 
 haunt_by : (f : Frame) (r : RealView) (j : ℕ) (b : Bool) → set.contains r.haunts j ≡ b →
     ((j : ℕ) → set.contains r.haunts j ≡ true → j < cells_of f.tree) → is_cell_if b f.tree j ≡ true

@@ -7,7 +7,7 @@ use Rattle.seam_steps.specs.Rows.{idle, one}
 use Rattle.seam_steps.specs.EarlyCall.{two_cells, made, world_0, at_home}
 use Rattle.seam_steps.proofs.Tables.{computing}
 use Rattle.seam_moves.specs.Sights.{Has, has_of, has_none, entity_flow}
-use Rattle.seam_ones.proofs.ExampleMet.{EachFrom, each_node, slots, no_mail, one_is}
+use Rattle.seam_ones.proofs.ExampleMet.{EachFrom, nodes_of, node_0, node_16, node_17, each_node, slots, no_mail, one_is}
 use Rattle.seam_ways.specs.Ways.{AllLead}
 use Rattle.seam_ways.proofs.Finding.{starts_leading}
 
@@ -28,49 +28,7 @@ base_is r h = sym (ap (λ x. x.cell) (one_is (record { cell = 0; generation = 0 
 
 nodes_are : EachFrom (λ k s. W k (has_of 1 s)) 0 world_0.nodes
 unfolding world_0
-nodes_are = (
-  home_is,
-  (
-    idle_is 1,
-    (
-      idle_is 2,
-      (
-        idle_is 3,
-        (
-          idle_is 4,
-          (
-            idle_is 5,
-            (
-              idle_is 6,
-              (
-                idle_is 7,
-                (
-                  idle_is 8,
-                  (
-                    idle_is 9,
-                    (
-                      idle_is 10,
-                      (
-                        idle_is 11,
-                        (
-                          idle_is 12,
-                          (
-                            idle_is 13,
-                            (idle_is 14, (idle_is 15, ((refl, base_is), ((refl, base_is), tt)))),
-                          ),
-                        ),
-                      ),
-                    ),
-                  ),
-                ),
-              ),
-            ),
-          ),
-        ),
-      ),
-    ),
-  ),
-)
+nodes_are = nodes_of (λ k s. W k (has_of 1 s)) node_0 node_16 node_17 home_is (λ k low. idle_is k) (refl, base_is) (refl, base_is)
 
 there : (k : ℕ) → W k ((entity_flow 1 world_0).slot k)
 there = slots W 1 world_0 (each_node (λ k s. W k (has_of 1 s)) world_0.nodes nodes_are) none_is

@@ -1,5 +1,5 @@
 -- What each move does with what leads to the entity's real.
-use Rattle.std.proofs.Common.{◌≡◌, ℕ, ◌+◌, ◌≤◌, ◌⊎◌, Bool, true, false, not, cond, ◌||◌, nat_lt, is_some, List, [], ◌∷◌, ◌++◌, map}
+use Rattle.std.proofs.Common.{◌≡◌, ℕ, ◌+◌, ◌≤◌, ◌⊎◌, Bool, true, false, cond, ◌||◌, nat_lt, is_some, List, [], ◌∷◌, ◌++◌, map}
 use Rattle.std.proofs.Common.{Option, None, Some, refl, sym, ap, ◌∙◌, subst, arith, inl, inr}
 use Rattle.std.specs.List.{range_with_len}
 use Rattle.std.specs.FinSet as set
@@ -20,8 +20,9 @@ use Rattle.seam_moves.specs.Sights.{Has, AtCell}
 use Rattle.seam_moves.specs.CellMoves as move
 use Rattle.seam_moves.specs.CellMoves.{Does, Acts, surveys, calls, readies, CellMoves}
 use Rattle.seam_moves.specs.BaseMoves as base_move
-use Rattle.seam_moves.specs.BaseMoves.{BaseMoves, newer}
+use Rattle.seam_moves.specs.BaseMoves.{BaseMoves}
 use Rattle.seam_moves.specs.Moves.{Moves, at_a_cell, at_a_base}
+use Rattle.seam_ones.proofs.Holds.{not_both}
 use Rattle.seam_ones.proofs.Plain.{SeesNoGhost, ghosts_silent, mapped_silent, numbered_silent}
 use Rattle.seam_ones.proofs.Handling.{FindsRoom}
 use Rattle.seam_ways.specs.Ways.{is_visited, is_call}
@@ -73,10 +74,6 @@ pub record Leads (k : ℕ) (s : Has) (i : Option Msg) (t : Has) (sent : List (�
 
 abbrev seen : Slot → Bool
 seen a = is_some a.real || is_some a.next
-
-not_both : (b : Bool) → b ≡ true → not b ≡ true → ⊥
-not_both true h k = cc
-not_both false h k = cc
 
 module _ (f : Frame) (e k : ℕ) (s : Has) (i : Option Msg) (t : Has) (sent : List (ℕ × Msg))
     (room : (r : RealView) → i ≡ Some (Hand r) → FindsRoom f k s r) (unreaped : i ≡ Some (Reap e) → ⊥) where
