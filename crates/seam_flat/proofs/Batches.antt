@@ -62,6 +62,7 @@ order_followed h b done k o old new was step =
     same is =
         subst (λ (calls : List Call). Holds h (with_calls b calls) new) (sym (append-nil (calls_of_orders done)))
         (subst (Holds h (with_calls b (calls_of_orders done))) (sym is) was)
+
     cases : (o : Order) → MatchOption (call_of o) (new ≡ old) (λ call. TableExecutes call old new) →
         Holds h (with_calls b (calls_of_orders done ++ calls_of_orders ((k, o) ∷ []))) new
     cases (order.Cell c) step = call_followed h b (calls_of_orders done) c old new was step

@@ -94,18 +94,19 @@ created_refines h b t c v m was none split fresh updates ordered =
     let next : Book = with_entry b (entry.Created c) in
     record {
       holds = record {
-      header = was.holds.header;
-      each = λ e. elim (eqb_tells c.entity e) [
-        | inl is ↦ subst (λ (y : ℕ). MatchOption (get nat_cmp m y) (created_as next y ≡ None) (EntityRefines h next y)) is.1
-            (subst (λ (o : Option FlatEntity). MatchOption o (created_as next c.entity ≡ None) (EntityRefines h next c.entity)) (sym updates.1)
-            (entity_made h t.header b c v was.holds.header none (λ p. was.called p c.entity none)
-            (λ p. none_current (in_order b.past p c.entity) (in_order b.current p c.entity) (sym (split p c.entity)
-            ∙ was.called p c.entity none)) fresh))
-        | inr other ↦ subst (λ (o : Option FlatEntity). MatchOption o (created_as next e ≡ None) (EntityRefines h next e))
-            (sym (updates.2 e (apart c.entity e (λ s. other.1 (sym s)))))
-            (entity_kept h b c e (get nat_cmp t.entities e) other.1 (was.holds.each e))
-      ];
-      ordered = ordered;
+        header = was.holds.header;
+        each = λ e. elim (eqb_tells c.entity e) [
+          | inl is ↦ subst (λ (y : ℕ). MatchOption (get nat_cmp m y) (created_as next y ≡ None) (EntityRefines h next y)) is.1
+              (subst (λ (o : Option FlatEntity). MatchOption o (created_as next c.entity ≡ None) (EntityRefines h next c.entity))
+              (sym updates.1)
+              (entity_made h t.header b c v was.holds.header none (λ p. was.called p c.entity none)
+              (λ p. none_current (in_order b.past p c.entity) (in_order b.current p c.entity) (sym (split p c.entity)
+              ∙ was.called p c.entity none)) fresh))
+          | inr other ↦ subst (λ (o : Option FlatEntity). MatchOption o (created_as next e ≡ None) (EntityRefines h next e))
+              (sym (updates.2 e (apart c.entity e (λ s. other.1 (sym s)))))
+              (entity_kept h b c e (get nat_cmp t.entities e) other.1 (was.holds.each e))
+        ];
+        ordered = ordered;
       };
       called = λ p e not. order_with_create b c p e ∙ was.called p e (not_before b c e not);
     }

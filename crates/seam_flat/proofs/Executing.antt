@@ -116,7 +116,8 @@ executed_here h b old new call was step =
     next = with_entry b (entry.Called call)
 
     cases : (o : Option FlatEntity) → MatchOption o (created_as b call.entity ≡ None) (EntityRefines h b call.entity)
-        → MatchOption o (get nat_cmp new.entities call.entity ≡ None) (λ v. (w : FlatEntity) × (get nat_cmp new.entities call.entity ≡ Some w) × EntityExecutes old.header.defs call v w)
+        → MatchOption o (get nat_cmp new.entities call.entity ≡ None) (λ v. (w : FlatEntity)
+        × (get nat_cmp new.entities call.entity ≡ Some w) × EntityExecutes old.header.defs call v w)
         → MatchOption (get nat_cmp new.entities call.entity) (created_as next call.entity ≡ None) (EntityRefines h next call.entity)
     cases None none here =
         subst (λ (o : Option FlatEntity). MatchOption o (created_as next call.entity ≡ None) (EntityRefines h next call.entity)) (sym here)

@@ -96,7 +96,8 @@ contained_made f xs x (k, within, is) =
     (k, rw (length-map xs f) within, get_or-map f xs k x ∙ ap f is)
 
 created_live : (h : Header) (b : Book) (t : FlatTable) → Holds h b t → (c : Create) → created_as b c.entity ≡ Some c
-    → (o : Option FlatEntity) → get nat_cmp t.entities c.entity ≡ o → MatchOption o (created_as b c.entity ≡ None) (EntityRefines h b c.entity)
+    → (o : Option FlatEntity) → get nat_cmp t.entities c.entity ≡ o →
+    MatchOption o (created_as b c.entity ≡ None) (EntityRefines h b c.entity)
     → Contains (live_of b t.entities.entries) c
 created_live h b t was c is None found here = absurd (none_some (sym here ∙ is))
   where

@@ -39,7 +39,8 @@ written old new call v w header writes found step =
       ordered = λ o. writes.4;
       others = λ other ne. updates.2 other (apart call.entity other ne);
       here =
-          subst (λ (o : Option FlatEntity). MatchOption o (get nat_cmp new.entities call.entity ≡ None) (λ x. (y : FlatEntity) × (get nat_cmp new.entities call.entity ≡ Some y)
+          subst (λ (o : Option FlatEntity). MatchOption o (get nat_cmp new.entities call.entity ≡ None) (λ x. (y : FlatEntity)
+          × (get nat_cmp new.entities call.entity ≡ Some y)
           × EntityExecutes old.header.defs call x y))
           found (w, updates.1, step);
     }

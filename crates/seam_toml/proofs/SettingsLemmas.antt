@@ -33,12 +33,24 @@ of_fields : (a0 a1 a2 a3 a4 a5 a6 a7 b0 b1 b2 b3 b4 b5 b6 b7 : ℕ) → a0 ≡ b
     a7 ≡ b7 →
     ◌≡◌ {A = Settings}
     (record {
-      size = a0; view_radius = a1; view_hysteresis = a2; offload_hysteresis = a3; ghost_distance = a4; ghost_hysteresis = a5;
-      balance_shift = a6; bases = a7
+      size = a0;
+      view_radius = a1;
+      view_hysteresis = a2;
+      offload_hysteresis = a3;
+      ghost_distance = a4;
+      ghost_hysteresis = a5;
+      balance_shift = a6;
+      bases = a7;
     })
     (record {
-      size = b0; view_radius = b1; view_hysteresis = b2; offload_hysteresis = b3; ghost_distance = b4; ghost_hysteresis = b5;
-      balance_shift = b6; bases = b7
+      size = b0;
+      view_radius = b1;
+      view_hysteresis = b2;
+      offload_hysteresis = b3;
+      ghost_distance = b4;
+      ghost_hysteresis = b5;
+      balance_shift = b6;
+      bases = b7;
     })
 of_fields a0 a1 a2 a3 a4 a5 a6 a7 b0 b1 b2 b3 b4 b5 b6 b7 e0 e1 e2 e3 e4 e5 e6 e7 = rw (e0, e1, e2, e3, e4, e5, e6, e7) refl
 

@@ -16,7 +16,10 @@ returns c = λ h b was.
     let iterator = c.into_iter-order-iterator in
     let gives : iterator.result.rest.items ≡ c.args.orders.items = iterator.ensures.into_iter_gives.0 in
     let all : c.loop-order.yielded ≡ c.args.orders.items =
-    All-taken iterator.result c.loop-order.yielded (c.next.new.self, (c.loop-order.order-iterator, c.loop-order.yielded_by, c.in-None.ensures.steps))
+    All-taken iterator.result c.loop-order.yielded (
+      c.next.new.self,
+      (c.loop-order.order-iterator, c.loop-order.yielded_by, c.in-None.ensures.steps),
+    )
     ∙ gives in
     subst (λ (orders : List (ℕ × Order)). Holds h (with_calls b (calls_of_orders orders)) c.loop-order.self) all
     (c.loop-order.invariant h b was)

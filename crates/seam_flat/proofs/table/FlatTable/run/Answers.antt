@@ -14,6 +14,7 @@ returns c = on_ok_weaker c.execute_all.result
     subst (λ (creates : List Create). Refines h (with_creates (before_round b) creates) c.make_all.new.self) c.as_slice.ensures
     (c.in_ok-make_all.ensures h (before_round b) was) in
     batch_ran h b c.args.batch c.execute_all.new.self brings made
-    (subst (λ (orders : List (ℕ × Order)). Holds h (with_calls (with_creates (before_round b) c.args.batch.creates) (calls_of_orders orders))
+    (subst (λ (orders : List (ℕ × Order)). Holds h (with_calls (with_creates (before_round b) c.args.batch.creates)
+    (calls_of_orders orders))
     c.execute_all.new.self) c.into_vec.ensures (ran h (with_creates (before_round b) c.args.batch.creates) first.holds)))
     c.execute_all.ensures
