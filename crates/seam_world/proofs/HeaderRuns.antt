@@ -99,6 +99,12 @@ pub header_unread : (began now : SourceState) (sink : SinkState) (reader : Reade
 header_unread began now sink reader text read was =
     nothing_judged began now sink was.given was.reading.took (within_limit was.reading was.limit)
 
+-- an allocation failed after the header
+pub header_alone : (began now : SourceState) (sink : SinkState) (reader : Reader) (h : Header) (count : ℕ) →
+    HasHeader began now reader h count → Stopped status.NoMemory began now sink sink
+header_alone began now sink reader h count has =
+    nothing_judged began now sink has.given has.reading.took (within_limit has.reading has.limit)
+
 -- one more line was counted
 pub counted_line : (m n : ℕ) (read : List Line) (line : Line) → n ≡ m + 1 → m ≡ length read → n ≡ length (read ++ line ∷ [])
 counted_line m n read line more count = let all = length-append read (line ∷ []) in omega (arith, more, count, all)

@@ -25,7 +25,8 @@ loop-count-preserved g c =
       history = λ began reading limit.
           let was = c.loop-count.invariant.history began reading limit in
           let line =
-          subst (λ (h : Option Header). HeaderLineRead began _ c.read_header_line.new.lines c.read_header_line.new.header no_sink was.0 (Ok h))
+          subst (λ (h : Option Header). HeaderLineRead began (g.S.Source.state c.read_header_line.new.input) c.read_header_line.new.lines
+          c.read_header_line.new.header no_sink was.0 (Ok h))
           c.in-Ok-None.field-0-is (c.in-Ok-None.ensures.header began no_sink was.0 was.1) in
           (was.0 ++ line.0 ∷ [], line.1, counted_line _ _ was.0 line.0 c.in-Ok.ensures was.2);
     }
@@ -34,9 +35,10 @@ pub returns-in-Ok-Some-clause-header : goal.returns-in-Ok-Some-clause-header
 returns-in-Ok-Some-clause-header g c = λ began sink reading limit.
     let was = c.loop-count.invariant.history began reading limit in
     let ended =
-    subst (λ (h : Option Header). HeaderLineRead began _ c.read_header_line.new.lines c.read_header_line.new.header no_sink was.0 (Ok h))
+    subst (λ (h : Option Header). HeaderLineRead began (g.S.Source.state c.read_header_line.new.input) c.read_header_line.new.lines
+          c.read_header_line.new.header no_sink was.0 (Ok h))
     c.in-Ok-Some.field-0-is (c.in-Ok-Some.ensures.header began no_sink was.0 was.1) in
-    subst (HasHeader began _ c.read_header_line.new.lines c.in-Ok-Some.read) (sym (c.in-Ok.ensures ∙ ap (λ (n : _). n + 1) was.2)) ended
+    subst (HasHeader began (g.S.Source.state c.read_header_line.new.input) c.read_header_line.new.lines c.in-Ok-Some.read) (sym (c.in-Ok.ensures ∙ ap (λ (n : _). n + 1) was.2)) ended
 
 pub returns-in-Err-read_header_line-clause-header : goal.returns-in-Err-read_header_line-clause-header
 returns-in-Err-read_header_line-clause-header g c = λ began sink reading limit.
