@@ -37,7 +37,7 @@ use Rattle.seam_between.specs.Between.{next_from, numbers_of, IsSettled, IsBetwe
 use Rattle.seam_between.proofs.Loading.{node_loaded, loaded_is}
 use Rattle.seam_between.proofs.Staying.{Kept, Becomes, node_becomes}
 use Rattle.seam_between.proofs.Making.{AreOthers, Creation, nowhere, once, creation_of, middle, Made, until, node_made, node_after, made_fits}
-use Rattle.seam_between.proofs.Ready.{one_holder}
+use Rattle.seam_between.proofs.Ready.{one_holder, quiet_home}
 
 kept_none : (o p : Option RealView) → Kept real_begins o p → o ≡ None → p ≡ None
 kept_none None p k is = k
@@ -310,23 +310,9 @@ module _ (f : Frame) (w : World) (b : Batch) (between : IsBetweenRounds f w) (fi
 
   -- ---- holders
 
-  -- in a quiet world the one real is at a node
-  pub record Home (e : ℕ) : Type 0 where
-    pub node : ℕ
-    pub real : RealView
-    pub here : real_in ((entity_flow e w).slot node) ≡ Some real
-
-  home_by : (e : ℕ) (p : Place) (r : RealView) → IsOne e w p r → Home e
-  home_by e (In k) r one = record { node = k; real = r; here = one.here }
-  home_by e (On x y) r one =
-      let none =
-      ap (λ l. letters_of real_of (letters_of (mine e) l)) (quiet_links node_has_work w between.nodes.sound.square between.quiet x y) in
-      absurd (let z = sym none ∙ one.here in cc)
-
   pub holds_kept : (e : ℕ) → holders w e ≡ 1 → holders (loaded w b) e ≡ 1
   holds_kept e one =
-      let o = counted_one w e one in
-      let h = home_by e o.0 o.1 o.2 in
+      let h = quiet_home f w between e one in
       let others = others_of f w b between fits e b.creates fits.creates h.node h.real h.here in
       counted f w b between fits e h.node h.real (entity_flow e w).slot (was_there f w b between fits e others h.node h.real h.here)
 

@@ -5,25 +5,26 @@ use Rattle.std.specs.Prelude.{slice_get}
 use Rattle.std.specs.List.{AllByRecursion}
 use Rattle.std.proofs.lemmas.Bool.{cases_eq}
 use Rattle.std.proofs.lemmas.Option.{slice_get_within}
+use Rattle.seam_machine.proofs.Quiet.{quiet_links}
 use Rattle.seam_flows.specs.Flows.{Flow, slot_at, letters_of}
-use Rattle.seam_flows.specs.Tokens.{In}
+use Rattle.seam_flows.specs.Tokens.{Place, In, On}
 use Rattle.seam_entity.specs.Reals.{RealView}
 use Rattle.seam_entity.specs.declared.message.Msg.{Msg}
 use Rattle.seam_steps.specs.Numbers.{limit}
 use Rattle.seam_steps.specs.Holders.{holders}
 use Rattle.seam_steps.specs.Here.{cell_count}
 use Rattle.seam_steps.specs.Bases.{RouteView}
-use Rattle.seam_steps.specs.Nodes.{NodeView, World}
+use Rattle.seam_steps.specs.Nodes.{NodeView, World, node_has_work}
 use Rattle.seam_steps.specs.Nodes.NodeView.{Cell, Base}
 use Rattle.seam_moves.specs.Frames.{Frame, IsInFrame}
-use Rattle.seam_moves.specs.Sights.{Has, has_of, has_none, entity_flow}
+use Rattle.seam_moves.specs.Sights.{Has, mine, has_of, has_none, entity_flow}
 use Rattle.seam_ones.specs.Fits.{RealFits, IsFitReal, IsFitHand}
 use Rattle.seam_ones.specs.Burdens.{burden}
 use Rattle.seam_ones.specs.Ones.{real_in, real_of, IsOne, reaped_by, HasNoReaps, IsSpared, HasOne}
-use Rattle.seam_ones.proofs.Counting.{one_counts}
+use Rattle.seam_ones.proofs.Counting.{counted_one, one_counts}
 use Rattle.seam_ways.specs.Ways.{AllLead}
 use Rattle.seam_ways.proofs.Finding.{starts_leading}
-use Rattle.seam_between.specs.Between.{IsSettled}
+use Rattle.seam_between.specs.Between.{IsSettled, IsBetweenRounds}
 
 module _ (f : Frame) (w : World) (e home : ℕ) (r : RealView) (settled : IsSettled f e home r w)
     (still : (x y : ℕ) → (entity_flow e w).mail x y ≡ []) where
@@ -83,3 +84,21 @@ module _ (f : Frame) (w : World) (e home : ℕ) (r : RealView) (settled : IsSett
     pub all_lead : ((k : ℕ) → (flow.slot k).cell.slot.next ≡ None) → AllLead flow
     all_lead nexts = starts_leading flow still nexts (λ k x at.
         ap (λ j. is_some (real_in (flow.slot j))) (route_leads k x at) ∙ ap is_some settled.here)
+
+-- ---- in a quiet world the one real is at a node
+
+pub record Home (w : World) (e : ℕ) : Type 0 where
+  pub node : ℕ
+  pub real : RealView
+  pub here : real_in ((entity_flow e w).slot node) ≡ Some real
+
+module _ (f : Frame) (w : World) (between : IsBetweenRounds f w) (e : ℕ) where
+  home_by : (p : Place) (r : RealView) → IsOne e w p r → Home w e
+  home_by (In k) r one = record { node = k; real = r; here = one.here }
+  home_by (On x y) r one =
+      let none =
+      ap (λ l. letters_of real_of (letters_of (mine e) l)) (quiet_links node_has_work w between.nodes.sound.square between.quiet x y) in
+      absurd (let z = sym none ∙ one.here in cc)
+
+  pub quiet_home : holders w e ≡ 1 → Home w e
+  quiet_home one = let o = counted_one w e one in home_by o.0 o.1 o.2

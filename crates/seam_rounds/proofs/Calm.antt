@@ -1,5 +1,5 @@
 -- A calm entity: its real stays where it is until its Reap comes, and no one calls it.
-use Rattle.std.proofs.Common.{◌≡◌, ℕ, ◌+◌, ◌<◌, ◌≤◌, Bool, true, false, cond, List, [], ◌∷◌, Option, None, Some}
+use Rattle.std.proofs.Common.{◌≡◌, ℕ, ◌+◌, ◌≤◌, Bool, cond, Option, None, Some}
 use Rattle.std.specs.List.{AllByRecursion}
 use Rattle.seam_machine.specs.Totals.{total}
 use Rattle.seam_runs.specs.Sums.{weight_or}

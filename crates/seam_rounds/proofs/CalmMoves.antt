@@ -1,5 +1,5 @@
 -- What a move does with a calm entity.
-use Rattle.std.proofs.Common.{◌≡◌, ℕ, ◌+◌, ◌<◌, ◌≤◌, Bool, true, false, not, List, [], ◌∷◌, ◌++◌, map, filter_map, Option, None, Some, refl, sym}
+use Rattle.std.proofs.Common.{◌≡◌, ℕ, ◌+◌, ◌<◌, ◌≤◌, Bool, true, false, not, List, [], ◌∷◌, map, filter_map, Option, None, Some, refl, sym}
 use Rattle.std.proofs.Common.{ap, ◌∙◌, subst, arith}
 use Rattle.std.specs.List.{AllByRecursion, range_with_len}
 use Rattle.std.specs.FinMap as table
@@ -17,10 +17,10 @@ use Rattle.seam_entity.specs.Reals.{RealView, WitnessView}
 use Rattle.seam_entity.specs.declared.message.Msg.{Msg}
 use Rattle.seam_entity.specs.declared.message.Msg.TheVariants.{Call, BaseCall, Hand, Current, GhostSet, GhostDrop, Tick, Reap, Update}
 use Rattle.seam_steps.specs.Numbers.{may_rise}
-use Rattle.seam_steps.specs.Here.{Here, cell_count, cell_numbers, base_of}
-use Rattle.seam_steps.specs.Calls.{order_is_ready, has_ready, ready_order}
+use Rattle.seam_steps.specs.Here.{cell_count, cell_numbers, base_of}
+use Rattle.seam_steps.specs.Calls.{order_is_ready, ready_order}
 use Rattle.seam_steps.specs.Slots.{SlotStep, slot_after}
-use Rattle.seam_steps.specs.CellCases.{is_stray, drop_if, drop_at, drops}
+use Rattle.seam_steps.specs.CellCases.{is_stray, drop_at}
 use Rattle.seam_steps.specs.BaseCases.{tick_to}
 use Rattle.seam_steps.specs.Bases.{RouteView}
 use Rattle.seam_steps.specs.Looks.{numbered, shown_of, looks_with}
@@ -49,8 +49,13 @@ none_ready os none o c at item =
     let z = sym item ∙ no in
     cc
 
-abbrev sent_reaps : List (ℕ × Msg) → ℕ
+abbrev pub sent_reaps : List (ℕ × Msg) → ℕ
 sent_reaps ps = total (λ p. letter_reaps p.1) ps
+
+-- what comes to node k, which has s of the entity, is calm, and a Reap finds the real
+pub record Comes (home : ℕ) (r : RealView) (k : ℕ) (s : Has) (i : Option Msg) : Type 0 where
+  pub letter : (m : Msg) → i ≡ Some m → IsCalmTo home r k m
+  pub found : (x : ℕ) → i ≡ Some (Reap x) → (q : RealView) × (real_in s ≡ Some q) × (may_rise q.beat ≡ true)
 
 module _ (f : Frame) (e home : ℕ) (r : RealView) (was : World) (none : (s : ℕ) → (order_or (table.get r.orders s)).held ≡ [])
     (leads : (k : ℕ) (x : RouteView) → ((entity_flow e was).slot k).base.route ≡ Some x → x.cell ≡ home) (k : ℕ) (s : Has) (i : Option Msg)
@@ -72,16 +77,11 @@ module _ (f : Frame) (e home : ℕ) (r : RealView) (was : World) (none : (s : �
     pub reaps : has_reaps t + sent_reaps sent ≡ has_reaps s
     pub real : real_in t ≡ None
 
-  -- what comes is calm, and a Reap finds the real
-  pub record Comes : Type 0 where
-    pub letter : (m : Msg) → i ≡ Some m → IsCalmTo home r k m
-    pub found : (x : ℕ) → i ≡ Some (Reap x) → (q : RealView) × (real_in s ≡ Some q) × (may_rise q.beat ≡ true)
-
   pub data Calmed : Type 0 where
     stays : (i ≡ Some (Reap e) → ⊥) → Stays → Calmed
     ends : i ≡ Some (Reap e) → Ends → Calmed
 
-  module _ (here : IsCalmAt e home r was k s) (come : Comes) where
+  module _ (here : IsCalmAt e home r was k s) (come : Comes home r k s i) where
     -- ---- at a cell
 
     no_letter : (m : Msg) → i ≡ Some m → (IsCalmTo home r k m → ⊥) → ⊥
@@ -103,7 +103,7 @@ module _ (f : Frame) (e home : ℕ) (r : RealView) (was : World) (none : (s : �
     }
 
     same_reaps : t.base ≡ s.base → sent_reaps sent ≡ 0 → has_reaps t + sent_reaps sent ≡ has_reaps s
-    same_reaps base no = let a = ap (λ (b : AtBase). total order_reaps b.orders) base in omega (arith, a, no)
+    same_reaps base light = let a = ap (λ (b : AtBase). total order_reaps b.orders) base in omega (arith, a, light)
 
     unchanged : (i ≡ Some (Reap e) → ⊥) → real_in t ≡ real_in s → t.cell.survey ≡ 0 → t.base ≡ s.base → sent ≡ [] → Calmed
     unchanged n same survey base z =
@@ -143,7 +143,7 @@ module _ (f : Frame) (e home : ℕ) (r : RealView) (was : World) (none : (s : �
     drop_by : (q : RealView) (j : ℕ) (b : Bool) (js : List ℕ) → q.beat ≡ r.beat →
         AllByRecursion To (filter_map (drop_at q) js) × (sent_reaps (filter_map (drop_at q) js) ≡ 0) →
         set.contains q.haunts j ≡ b → AllByRecursion To (filter_map (drop_at q) (j ∷ js)) × (sent_reaps (filter_map (drop_at q) (j ∷ js)) ≡ 0)
-    drop_by q j true js beat more is = rw is ((omega (arith, beat), more.0), more.1)
+    drop_by q j true js beat more is = let none = more.1 in rw is ((omega (arith, beat), more.0), omega (arith, none))
     drop_by q j false js beat more is = rw is more
 
     drops_calm : (q : RealView) (js : List ℕ) → q.beat ≡ r.beat →
@@ -153,7 +153,7 @@ module _ (f : Frame) (e home : ℕ) (r : RealView) (was : World) (none : (s : �
 
     updates_calm : (b x n : ℕ) (ss : List Shown) → cell_count ≤ b → AllByRecursion To (numbered b x n ss) × (sent_reaps (numbered b x n ss) ≡ 0)
     updates_calm b x n [] high = (tt, refl)
-    updates_calm b x n (y ∷ ys) high = let more = updates_calm b x (n + 1) ys high in ((high, more.0), more.1)
+    updates_calm b x n (y ∷ ys) high = let more = updates_calm b x (n + 1) ys high in let none = more.1 in ((high, more.0), omega (arith, none))
 
     real_after : (x : SlotStep) (u : AtCell) → Does u x t.cell sent → (slot_after x.slot u.slot).real ≡ real_in s → real_in t ≡ real_in s
     real_after x u d is = ap (λ a. a.slot.real) d.state ∙ is
@@ -243,8 +243,8 @@ module _ (f : Frame) (e home : ℕ) (r : RealView) (was : World) (none : (s : �
           calm = subst (AllByRecursion To) (sym z) tt;
           reaps =
               let one = ap (λ (x : AtBase). total order_reaps x.orders) a ∙ ap (total order_reaps) orders in
-              let no = ap sent_reaps z in
-              omega (arith, one, no);
+              let light = ap sent_reaps z in
+              omega (arith, one, light);
           real = ap (λ (c : AtCell). one_if c.slot.real) cell;
         })
 
@@ -273,7 +273,7 @@ module _ (f : Frame) (e home : ℕ) (r : RealView) (was : World) (none : (s : �
 
     ticks_calm : (js : List ℕ) → AllByRecursion To (map tick_to js) × (sent_reaps (map tick_to js) ≡ 0)
     ticks_calm [] = (tt, refl)
-    ticks_calm (j ∷ js) = let more = ticks_calm js in ((tt, more.0), more.1)
+    ticks_calm (j ∷ js) = let more = ticks_calm js in let none = more.1 in ((tt, more.0), omega (arith, none))
 
     base_calmed : home < cell_count → cell_count ≤ k → (cells : ℕ) → t.cell ≡ s.cell →
         BaseMoves (here_at f k) cells e s.base i t.base sent → Calmed

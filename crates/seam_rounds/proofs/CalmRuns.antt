@@ -1,11 +1,10 @@
 -- A calm entity stays calm after each event, and its real goes when its Reap comes.
 use Rattle.std.proofs.Common.{◌≡◌, ℕ, ◌+◌, ◌<◌, ◌≤◌, Bool, true, false, cond, eqb, List, [], ◌∷◌, Option, None, Some, refl, sym, ap, ◌∙◌}
 use Rattle.std.proofs.Common.{subst, arith, inl, inr}
-use Rattle.std.specs.Prelude.{slice_get}
 use Rattle.std.specs.List.{AllByRecursion}
 use Rattle.std.specs.FinMap as table
 use Rattle.std.proofs.lemmas.Bool.{cases_eq, eqb-true}
-use Rattle.seam_machine.specs.Nets.{link, letter, input_from, happens, enabled, LeadsTo}
+use Rattle.seam_machine.specs.Nets.{link, letter, input_from, happens}
 use Rattle.seam_machine.specs.Events.{Occurs}
 use Rattle.seam_machine.specs.Sends.{items_to}
 use Rattle.seam_machine.specs.Totals.{total}
@@ -25,14 +24,13 @@ use Rattle.seam_entity.specs.declared.message.Msg.TheVariants.{Call, BaseCall, H
 use Rattle.seam_steps.specs.Numbers.{may_rise}
 use Rattle.seam_steps.specs.Here.{cell_count}
 use Rattle.seam_steps.specs.Bases.{RouteView}
-use Rattle.seam_steps.specs.Nodes.{World, node_steps, node_has_work}
+use Rattle.seam_steps.specs.Nodes.{World, node_steps}
 use Rattle.seam_moves.specs.Frames.{Frame}
 use Rattle.seam_moves.specs.Sights.{Has, concerns, kept_if, mine, concerning, has_of, has_none, entity_flow}
 use Rattle.seam_moves.specs.Moves.{MovesTo}
 use Rattle.seam_moves.proofs.Classify.{node_laws, node_moves, frame_happens, event_moves_with}
 use Rattle.seam_ones.specs.Ones.{real_in}
-use Rattle.seam_ones.proofs.Sparing.{items_all}
-use Rattle.seam_rounds.proofs.Calm.{IsSame, IsCalmAt, IsCalmTo, letter_reaps, node_reaps, mine_reaps, reaps_of, one_if, IsCalm}
+use Rattle.seam_rounds.proofs.Calm.{IsCalmAt, IsCalmTo, letter_reaps, node_reaps, mine_reaps, reaps_of, one_if, IsCalm}
 use Rattle.seam_rounds.proofs.CalmMoves.{sent_reaps, Calmed, stays, ends, Comes, calmed}
 
 -- ---- weights
@@ -95,9 +93,9 @@ module _ (P : Msg → Type 0) (e : ℕ) where
       absurd (let z : None ≡ Some m = ap (letter_in (mine e)) same ∙ is in cc)
   fed_by w k (Some a) i fed all m is = first_by a (link w.rows a k) i fed (all a) m is
 
-module _ (f : Frame) (e home : ℕ) (r : RealView) (low : home < cell_count) (small : may_rise r.beat ≡ true)
-    (none : (s : ℕ) → (order_or (table.get r.orders s)).held ≡ []) (was : World)
-    (leads : (k : ℕ) (x : RouteView) → ((entity_flow e was).slot k).base.route ≡ Some x → x.cell ≡ home) (told : Bool) where
+module _ (f : Frame) (e home : ℕ) (r : RealView) (low : home < cell_count) (none : (s : ℕ) → (order_or (table.get r.orders s)).held ≡ [])
+    (was : World) (leads : (k : ℕ) (x : RouteView) → ((entity_flow e was).slot k).base.route ≡ Some x → x.cell ≡ home) (told : Bool)
+    (small : told ≡ true → may_rise r.beat ≡ true) where
   module _ (w : World) (v : Event) (o : Occurs w v) (c : IsCalm f e home r was told w) where
     abbrev flow : Flow Has Msg
     flow = entity_flow e w
@@ -126,11 +124,15 @@ module _ (f : Frame) (e home : ℕ) (r : RealView) (low : home < cell_count) (sm
     found_home x is =
         let q = waits_by told (real_in (flow.slot home)) (reaps_of e w) (reap_waits x is) c.reaps in
         let same = ((c.nodes home).real q.0 q.1).1 in
-        (q.0, q.1, ap (λ (y : RealView). may_rise y.beat) (sym same.1) ∙ small)
+        (q.0, q.1, ap (λ (y : RealView). may_rise y.beat) (sym same.1) ∙ small q.2)
+
+    -- one that was not told has no Reap that comes
+    pub told_by : (x : ℕ) → fed ≡ Some (Reap x) → told ≡ true
+    told_by x is = (waits_by told (real_in (flow.slot home)) (reaps_of e w) (reap_waits x is) c.reaps).2
 
     -- what comes to node k, if it has s of the entity and the letter is that which is fed
     comes_to : (k : ℕ) → ((m : Msg) → fed ≡ Some m → IsCalmTo home r k m) → (s : Has) → s ≡ flow.slot k → (i : Option Msg) → i ≡ fed →
-        Comes f e home r was none leads k s i
+        Comes home r k s i
     comes_to k letter s there i is = record {
       letter = λ m at. letter m (sym is ∙ at);
       found = λ x at.

@@ -1,28 +1,25 @@
 -- A calm entity that is still there at the end is settled, and no call to it waits.
-use Rattle.std.proofs.Common.{◌≡◌, ℕ, ◌+◌, ◌<◌, ◌≤◌, Bool, List, [], ◌∷◌, ◌++◌, length, Option, None, Some, refl, sym, ap, ◌∙◌, subst, arith, inl, inr}
+use Rattle.std.proofs.Common.{◌≡◌, ℕ, Bool, List, [], ◌∷◌, ◌++◌, Option, None, Some, refl, sym, ap, ◌∙◌, subst, inl, inr}
 use Rattle.std.specs.List.{AllByRecursion}
 use Rattle.std.specs.FinMap as table
 use Rattle.std.proofs.lemmas.Bool.{cases_eq}
 use Rattle.seam_flows.specs.Flows.{letters_of, more_letter}
-use Rattle.seam_flows.specs.Tokens.{Place, In, Sole, Nobody}
+use Rattle.seam_flows.specs.Tokens.{In, Nobody}
 use Rattle.seam_order.specs.Held.{item_at}
-use Rattle.seam_turns.specs.Desks.{Post, Mail, held_in, kept_at, packed, keeps, bears, WaitsOnce}
+use Rattle.seam_turns.specs.Desks.{held_in, packed, bears}
 use Rattle.seam_delivery.specs.Numbered.{of_number}
-use Rattle.seam_call.specs.declared.call.Call.{Call as CallData}
 use Rattle.seam_call.specs.declared.order.Order.{Order}
 use Rattle.seam_call.specs.declared.order.Order.TheVariants as order
 use Rattle.seam_entity.specs.Orders.{order_or}
 use Rattle.seam_entity.specs.Reals.{RealView, WitnessView}
 use Rattle.seam_entity.specs.declared.message.Msg.{Msg}
 use Rattle.seam_entity.specs.declared.message.Msg.TheVariants.{Call, BaseCall, Hand, Current, GhostSet, GhostDrop, Tick, Reap, Update}
-use Rattle.seam_steps.specs.Here.{cell_count}
 use Rattle.seam_steps.specs.Nodes.{World}
 use Rattle.seam_moves.specs.Frames.{Frame}
-use Rattle.seam_moves.specs.Sights.{Has, entity_flow}
-use Rattle.seam_ones.specs.Fits.{RealFits}
+use Rattle.seam_moves.specs.Sights.{entity_flow}
 use Rattle.seam_ones.specs.Ones.{real_in, real_of, IsOne}
-use Rattle.seam_once.specs.CellTurns.{cell_order_from, real_desk, desk_for, cell_mail, as_sender}
-use Rattle.seam_between.specs.Between.{next_from, IsSettled}
+use Rattle.seam_once.specs.CellTurns.{cell_order_from, real_desk, cell_mail}
+use Rattle.seam_between.specs.Between.{IsSettled}
 use Rattle.seam_rounds.specs.Rounds.{HasNoCalls}
 use Rattle.seam_rounds.proofs.Calm.{IsSame, IsCalmOrder, IsCalmTo, IsCalm}
 

@@ -1,10 +1,10 @@
 -- What the loads of reaps and looks give to a node.
-use Rattle.std.proofs.Common.{◌≡◌, ℕ, ◌+◌, ◌<◌, ◌≤◌, Bool, true, false, cond, eqb, nat_lt, List, [], ◌∷◌, ◌++◌, Option, None, Some, refl, sym, ap}
+use Rattle.std.proofs.Common.{◌≡◌, ℕ, ◌+◌, ◌≤◌, Bool, true, false, cond, eqb, List, [], ◌∷◌, ◌++◌, Option, None, Some, refl, sym, ap}
 use Rattle.std.proofs.Common.{◌∙◌, subst, arith, inl, inr}
-use Rattle.std.specs.Prelude.{slice_get}
+use Rattle.std.specs.Prelude.{option_map, slice_get}
+use Rattle.std.proofs.lemmas.Option.{slice_get-map}
 use Rattle.std.specs.List.{AllByRecursion}
 use Rattle.std.proofs.lemmas.Bool.{cases_eq, eq-eqb, ne_eqb}
-use Rattle.std.proofs.lemmas.Bool.Decides.{nat_tests}
 use Rattle.std.proofs.lemmas.List.{append-nil}
 use Rattle.std.proofs.lemmas.List.Elements.{filter-append}
 use Rattle.seam_machine.specs.Totals.{total}
@@ -14,7 +14,7 @@ use Rattle.seam_flows.proofs.Following.{all_append}
 use Rattle.seam_call.specs.declared.order.Order.{Order}
 use Rattle.seam_call.specs.declared.order.Order.TheVariants as order
 use Rattle.seam_entity.specs.Reals.{RealView}
-use Rattle.seam_steps.specs.Here.{cell_count, base_of}
+use Rattle.seam_steps.specs.Here.{base_of}
 use Rattle.seam_steps.specs.Cells.{CellView}
 use Rattle.seam_steps.specs.Bases.{BaseView}
 use Rattle.seam_steps.specs.Nodes.{NodeView, World, node_has_work}
@@ -26,7 +26,7 @@ use Rattle.seam_moves.specs.Sights.{order_concerns, orders_of, times, has_of, ha
 use Rattle.seam_ones.specs.Ones.{real_in}
 use Rattle.seam_between.proofs.Loading.{each, each_keeps, Any, any}
 use Rattle.seam_between.proofs.Framing.{frame_turns}
-use Rattle.seam_rounds.proofs.Calm.{IsCalmOrder, order_reaps, has_reaps}
+use Rattle.seam_rounds.proofs.Calm.{IsCalmOrder, order_reaps}
 use Rattle.seam_rounds.proofs.Starting.{Given, idle_orders}
 
 -- ---- a world stays in its frame
@@ -71,6 +71,9 @@ module _ (f : Frame) (u : World) (q : IsInFrame f u) where
   some_base e home r here = bases_by e home r (slice_get u.nodes home) refl here
 
 -- ---- the orders about an entity
+
+nothing : (n : ℕ) → 0 + n ≡ n
+nothing n = omega arith
 
 module _ (e : ℕ) where
   orders_if : (b : BaseView) (o : Order) (d : Bool) →
@@ -125,7 +128,7 @@ module _ (e : ℕ) where
     reap_by n s b q d same g = elim (cases_eq q e) [
       | inr other ↦
           let none : cond {A = ℕ} (eqb k base) (cond {A = ℕ} (eqb q e) 1 0) 0 ≡ 0 =
-              ap (λ x. cond {A = ℕ} (eqb k base) (cond {A = ℕ} x 1 0) 0) (ne_eqb q e other) ∙ zero_by (eqb k base) in
+          ap (λ x. cond {A = ℕ} (eqb k base) (cond {A = ℕ} x 1 0) 0) (ne_eqb q e other) ∙ zero_by (eqb k base) in
           as_many (n + 0) _ s _ (ap (λ m. n + m) (sym none))
           (given_more n 0 s b (order.Reap q) d [] (none_if d (order.Reap q) (ne_eqb q e other)) tt refl g)
       | inl is ↦ its_by d (eqb k base) (same is) is
@@ -191,7 +194,8 @@ module _ (e : ℕ) where
         let zero = ap (λ x. cond {A = ℕ} x (times e es) 0) (ne_eqb k base (λ is. omega (arith, is, low))) in
         subst (Given e (cond (eqb k base) (times e es) 0) (Cell c)) (sym (same_cell c es))
         (as_many 0 _ (Cell c) (Cell c) (sym zero) (idle_given (Cell c) h))
-    reaps_given es (Base b) at h = reaps_by es 0 (Base b) b at (idle_given (Base b) h)
+    reaps_given es (Base b) at h =
+        as_many _ _ (Base b) _ (nothing (cond (eqb k base) (times e es) 0)) (reaps_by es 0 (Base b) b at (idle_given (Base b) h))
 
     -- ---- a look
 
@@ -202,3 +206,28 @@ module _ (e : ℕ) where
         tick_by : (d : Bool) → Given e 0 (Base b) (Base (order_if d b order.Tick))
         tick_by true = given_more 0 0 (Base b) b order.Tick true (order.Tick ∷ []) refl (tt, tt) refl (idle_given (Base b) h)
         tick_by false = idle_given (Base b) h
+
+-- ---- reals stay where they are
+
+cell_if : (e : ℕ) (q : ℕ) (s : NodeView) → (has_of e (reap_ordered_at q s)).cell ≡ (has_of e s).cell
+cell_if e q (Cell c) = refl
+cell_if e q (Base b) = refl
+
+pub reaps_cell : (e : ℕ) (es : List ℕ) (s : NodeView) → (has_of e (each reap_ordered_at es s)).cell ≡ (has_of e s).cell
+reaps_cell e es s =
+    each_keeps reap_ordered_at (λ t. (has_of e t).cell ≡ (has_of e s).cell) Any (λ q t any h. cell_if e q t ∙ h) es (any es) s refl
+
+pub look_cell : (e : ℕ) (o : ℕ × Order) (s : NodeView) → (has_of e (ordered_at o s)).cell ≡ (has_of e s).cell
+look_cell e o (Cell c) = refl
+look_cell e o (Base b) = refl
+
+cell_by : (e : ℕ) (turn : NodeView → NodeView) → ((s : NodeView) → (has_of e (turn s)).cell ≡ (has_of e s).cell) → (o : Option NodeView) →
+    (slot_at (has_of e) has_none (option_map turn o)).cell ≡ (slot_at (has_of e) has_none o).cell
+cell_by e turn same None = refl
+cell_by e turn same (Some s) = same s
+
+pub reals_stay : (e : ℕ) (turn : NodeView → NodeView) → ((s : NodeView) → (has_of e (turn s)).cell ≡ (has_of e s).cell) → (u : World) (k : ℕ) →
+    real_in ((entity_flow e (with_nodes u turn)).slot k) ≡ real_in ((entity_flow e u).slot k)
+reals_stay e turn same u k =
+    ap (λ o. real_in (slot_at (has_of e) has_none o)) (slice_get-map turn u.nodes k)
+    ∙ ap (λ c. c.slot.real) (cell_by e turn same (slice_get u.nodes k))

@@ -1,46 +1,33 @@
 -- A quiet world that is told to reap some entities, or that witnesses look, is calm for each entity that is there.
-use Rattle.std.proofs.Common.{◌≡◌, ℕ, zero, suc, ◌+◌, ◌<◌, ◌≤◌, ◌%◌, Bool, true, false, cond, eqb, nat_lt, List, [], ◌∷◌, ◌++◌, map, length, Option}
+use Rattle.std.proofs.Common.{◌≡◌, ℕ, zero, suc, ◌+◌, ◌<◌, ◌≤◌, Bool, true, false, cond, eqb, List, [], ◌∷◌, length, Option}
 use Rattle.std.proofs.Common.{None, Some, refl, sym, ap, ◌∙◌, subst, arith, inl, inr}
-use Rattle.std.specs.Prelude.{slice_get, filter}
+use Rattle.std.specs.Prelude.{option_map, slice_get}
+use Rattle.std.proofs.lemmas.List.{length-map}
 use Rattle.std.specs.List.{AllByRecursion, IsDistinct}
-use Rattle.std.specs.FinMap as table
-use Rattle.std.proofs.lemmas.Bool.{cases_eq, cases_lt, eqb-true, eq-eqb, ne_eqb}
-use Rattle.std.proofs.lemmas.List.Elements.{filter-append}
+use Rattle.std.proofs.lemmas.Bool.{cases_eq, eqb-true, eq-eqb, ne_eqb}
 use Rattle.std.proofs.Math.Nat.{mod-lt}
-use Rattle.std.proofs.lemmas.Option.{slice_get-map, slice_get_cases}
-use Rattle.seam_machine.specs.Nets.{link}
+use Rattle.std.proofs.lemmas.Option.{slice_get-map}
 use Rattle.seam_machine.specs.Totals.{total}
-use Rattle.seam_machine.proofs.Totals.{total-append}
 use Rattle.seam_machine.proofs.Quiet.{quiet_links, quiet_tasks}
 use Rattle.seam_flows.specs.Flows.{letters_of, slot_at}
-use Rattle.seam_flows.proofs.Following.{all_append}
-use Rattle.seam_call.specs.declared.order.Order.{Order}
-use Rattle.seam_call.specs.declared.order.Order.TheVariants as order
-use Rattle.seam_entity.specs.Orders.{order_or}
 use Rattle.seam_entity.specs.Reals.{RealView}
-use Rattle.seam_steps.specs.Maps.{has_any}
-use Rattle.seam_steps.specs.Here.{cell_count, base_of}
-use Rattle.seam_steps.specs.Cells.{CellView}
-use Rattle.seam_steps.specs.Bases.{BaseView, RouteView}
+use Rattle.seam_steps.specs.Here.{base_of}
 use Rattle.seam_steps.specs.Nodes.{NodeView, World, node_has_work}
 use Rattle.seam_steps.specs.Nodes.NodeView.{Cell, Base}
-use Rattle.seam_steps.specs.Loads.{with_nodes, order_if, ordered_at, reap_ordered_at, reaps_loaded, look_loaded}
-use Rattle.seam_steps.specs.Valid.{IsBase, IsNode}
-use Rattle.seam_moves.specs.Frames.{Frame, here_at, IsBaseAt, IsAt, IsInFrame}
-use Rattle.seam_moves.specs.Sights.{Has, mine, order_concerns, orders_of, times, has_of, has_none, entity_flow}
+use Rattle.seam_steps.specs.Loads.{with_nodes}
+use Rattle.seam_moves.specs.Frames.{Frame, here_at, IsInFrame}
+use Rattle.seam_moves.specs.Sights.{mine, orders_of, times, has_of, has_none, entity_flow}
 use Rattle.seam_ones.specs.Ones.{real_in}
-use Rattle.seam_ones.proofs.ExampleMet.{slots}
 use Rattle.seam_between.specs.Between.{IsSettled, IsBetweenRounds}
-use Rattle.seam_between.proofs.Loading.{each, nodes_after, node_there}
-use Rattle.seam_between.proofs.Framing.{frame_turns}
+use Rattle.seam_between.proofs.Loading.{each, node_there}
 use Rattle.seam_between.proofs.Loaded.{no_items}
 use Rattle.seam_between.proofs.Room.{rows_none}
-use Rattle.seam_rounds.proofs.Calm.{IsCalmOrder, IsCalmAt, IsCalmTo, order_reaps, has_reaps, node_reaps, mine_reaps, reaps_of, one_if, IsCalm}
+use Rattle.seam_rounds.proofs.Calm.{IsCalmOrder, IsCalmAt, IsCalmTo, has_reaps, node_reaps, mine_reaps, one_if, IsCalm}
 
 -- ---- lists
 
 -- where one element weighs n and each other nothing, all weigh n
-none_weighs : {N : Type 0} (g : N → ℕ) (xs : List N) → ((k : ℕ) (x : N) → slice_get xs k ≡ Some x → g x ≡ 0) → total g xs ≡ 0
+pub none_weighs : {N : Type 0} (g : N → ℕ) (xs : List N) → ((k : ℕ) (x : N) → slice_get xs k ≡ Some x → g x ≡ 0) → total g xs ≡ 0
 none_weighs g [] each = refl
 none_weighs g (x ∷ xs) each =
     let here = each 0 x refl in
@@ -65,26 +52,26 @@ one_weighs g (x ∷ xs) (suc j) n lt each =
       | inr n ↦ ne_eqb (suc k) (suc j) (λ is. n (omega (arith, is))) ∙ sym (ne_eqb k j n)
     ]
 
+none_by : (e x n : ℕ) (b : Bool) → eqb x e ≡ b → eqb e x ≡ false → n ≡ 0 → cond {A = ℕ} b (n + 1) n ≡ 0
+none_by e x n true is apart none = absurd (let z = sym (eq-eqb e x (sym (eqb-true x e is))) ∙ apart in cc)
+none_by e x n false is apart none = none
+
 others_none : (e : ℕ) (xs : List ℕ) → AllByRecursion (λ x. eqb e x ≡ false) xs → times e xs ≡ 0
 others_none e [] h = refl
-others_none e (x ∷ xs) h = none_by (eqb x e) refl
-  where
-    none_by : (b : Bool) → eqb x e ≡ b → cond {A = ℕ} b (times e xs + 1) (times e xs) ≡ 0
-    none_by true is = absurd (let z = sym (eq-eqb e x (sym (eqb-true x e is))) ∙ h.0 in cc)
-    none_by false is = others_none e xs h.1
+others_none e (x ∷ xs) h = none_by e x (times e xs) (eqb x e) refl h.0 (others_none e xs h.1)
+
+one_by : (e x : ℕ) (xs : List ℕ) (b : Bool) → eqb x e ≡ b → AllByRecursion (λ y. eqb x y ≡ false) xs → times e xs ≤ 1 →
+    cond {A = ℕ} b (times e xs + 1) (times e xs) ≤ 1
+one_by e x xs true is apart more =
+    let none = others_none e xs (subst (λ y. AllByRecursion (λ z. eqb y z ≡ false) xs) (eqb-true x e is) apart) in
+    omega (arith, none)
+one_by e x xs false is apart more = more
 
 -- how often it is in a list without repeats
 pub times_at_most_one : (e : ℕ) (xs : List ℕ) → IsDistinct eqb xs → times e xs ≤ 1
 unfolding IsDistinct
 times_at_most_one e [] h = omega arith
-times_at_most_one e (x ∷ xs) h = one_by (eqb x e) refl
-  where
-    one_by : (b : Bool) → eqb x e ≡ b → cond {A = ℕ} b (times e xs + 1) (times e xs) ≤ 1
-    one_by true is =
-        let same = eqb-true x e is in
-        let none = others_none e xs (subst (λ y. AllByRecursion (λ z. eqb y z ≡ false) xs) same h.0) in
-        omega (arith, none)
-    one_by false is = times_at_most_one e xs h.1
+times_at_most_one e (x ∷ xs) h = one_by e x xs (eqb x e) refl h.0 (times_at_most_one e xs h.1)
 
 -- ---- a load that only gives orders
 
@@ -99,13 +86,14 @@ idle_survey : (e : ℕ) (s : NodeView) → node_has_work s ≡ false → (has_of
 idle_survey e (Cell c) h = ap (times e) (no_items c.survey _ h)
 idle_survey e (Base n) h = refl
 
-idle_orders : (e : ℕ) (s : NodeView) → node_has_work s ≡ false → (has_of e s).base.orders ≡ []
+pub idle_orders : (e : ℕ) (s : NodeView) → node_has_work s ≡ false → (has_of e s).base.orders ≡ []
 idle_orders e (Cell c) h = refl
 idle_orders e (Base n) h = ap (orders_of e) (no_items n.orders _ h)
 
 module _ (f : Frame) (u : World) (between : IsBetweenRounds f u) (e home : ℕ) (r : RealView)
     (here : real_in ((entity_flow e u).slot home) ≡ Some r) (turn : NodeView → NodeView) (told : Bool)
-    (frame : IsInFrame f (with_nodes u turn)) where
+    (frame : IsInFrame f (with_nodes u turn))
+    (stay : (k : ℕ) → real_in ((entity_flow e (with_nodes u turn)).slot k) ≡ real_in ((entity_flow e u).slot k)) where
   abbrev base : ℕ
   base = base_of (here_at f 0) e
 
@@ -165,22 +153,13 @@ module _ (f : Frame) (u : World) (between : IsBetweenRounds f u) (e home : ℕ) 
     low : base < length then.nodes
     low =
         let many = length-map u.nodes turn ∙ between.many in
-        let lt = mod-lt e {f.settings.bases} (omega (arith, bases)) in
+        let lt = mod-lt e {m = f.settings.bases} (omega (arith, bases)) in
         omega (arith, many, lt)
 
     total_is : total (node_reaps e) then.nodes ≡ cond told 1 0
     total_is = one_weighs (node_reaps e) then.nodes base (cond told 1 0) low (λ k t at.
         let n = there k t at in
         subst (λ x. node_reaps e x ≡ cond (eqb k base) (cond told 1 0) 0) n.2 (given k n.0 n.1).reaps)
-
-    real_then : real_in ((entity_flow e then).slot home) ≡ Some r
-    real_then = then_by (slice_get u.nodes home) refl
-      where
-        then_by : (o : Option NodeView) → slice_get u.nodes home ≡ o → real_in ((entity_flow e then).slot home) ≡ Some r
-        then_by None at = absurd (let z = sym (ap (λ o. real_in (slot_at (has_of e) has_none o)) at) ∙ here in cc)
-        then_by (Some s) at =
-            ap (λ o. real_in (slot_at (has_of e) has_none o)) (slice_get-map turn u.nodes home ∙ ap (option_map turn) at)
-            ∙ (ap (λ c. c.slot.real) (given home s at).cell ∙ (ap real_in (was home s at) ∙ here))
 
     pub starts_calm : IsCalm f e home r u told then
     starts_calm = record {
@@ -190,6 +169,6 @@ module _ (f : Frame) (u : World) (between : IsBetweenRounds f u) (e home : ℕ) 
       reaps =
           let links = rows_none (mine_reaps e) u.rows (quiet_links node_has_work u between.nodes.sound.square between.quiet) in
           let nodes = total_is in
-          let real = ap (λ o. cond {A = ℕ} told (one_if o) 0) real_then in
+          let real = ap (λ o. cond {A = ℕ} told (one_if o) 0) (stay home ∙ here) in
           omega (arith, links, nodes, real);
     }

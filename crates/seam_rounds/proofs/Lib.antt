@@ -1,0 +1,10 @@
+pub mod Shape
+pub mod Calm
+pub mod CalmMoves
+pub mod CalmRuns
+pub mod Starting
+pub mod Giving
+pub mod Ending
+pub mod Phases
+pub mod Reaping
+pub mod Looking
