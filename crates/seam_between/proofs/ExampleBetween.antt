@@ -182,6 +182,7 @@ one_settled k r at =
       others = λ j n. none_of (real_in ((entity_flow 1 world_12).slot j)) (λ x is. n (((there 1 j).1 x is).0 ∙ sym mine.0));
       type = omega (arith, type);
       fits = subst (λ t. RealFits frame 1 t k r) (sym type) q;
+      public = subst (λ (x : RealView). x.public ≤ x.version) mine.1 (omega arith);
       routes = λ j high low.
           routes_to j high low
           ∙ (ap (λ c. route_to c 1) (sym mine.0) ∙ ap (λ (x : RealView). route_to k x.generation) mine.1);

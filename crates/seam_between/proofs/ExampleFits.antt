@@ -5,6 +5,7 @@ use Rattle.std.specs.List.{IsDistinct}
 use Rattle.std.proofs.lemmas.Bool.{cases_eq, ne_eqb}
 use Rattle.seam_delivery.specs.Numbered.{number_from}
 use Rattle.seam_steps.specs.Reals.{fits_cell_part}
+use Rattle.seam_steps.specs.Holders.{holders}
 use Rattle.seam_steps.specs.Loads.{real_begins, loaded}
 use Rattle.seam_steps.specs.EarlyCall.{world_12, hit_twice}
 use Rattle.seam_steps.proofs.Tables.{computing}
@@ -22,6 +23,10 @@ use Rattle.seam_between.proofs.ExampleBetween.{is_first, is_hit_twice, next_low,
 
 call_fits : fits_cell_part (here_at frame 0) 1 0 third_call ≡ true
 call_fits = refl
+
+holder_is : holders (loaded world_12 next_batch) 1 ≡ 1
+unfolding world_12
+holder_is = simp computing
 
 numbered_second : AreNumbered frame next_batch 1 2 (next_from 2 hit_twice)
 numbered_second = subst (AreNumbered frame next_batch 1 2) (sym next_of_second) (record {
@@ -76,6 +81,7 @@ fits = record {
   creates = tt;
   once = tt;
   spares = (refl, tt);
+  known = (λ e is. let same : 1 ≡ e = cc in subst (λ x. holders (loaded world_12 next_batch) x ≡ 1) same holder_is, tt);
   calls = λ e k r at.
       let q = was e k r at in
       subst (λ x. IsForReal frame next_batch x r) (sym q.0)

@@ -114,6 +114,7 @@ module _ (f : Frame) (w : World) (b : Batch) (between : IsBetweenRounds f w) (fi
     others : (j : ℕ) → (j ≡ home → ⊥) → real_in (g j) ≡ None
     type : r.ty < length f.defs
     fit : RealFits (framed f b) e r.ty home r
+    public : r.public ≤ r.version
     routes : (k : ℕ) → cell_count ≤ k → k < cell_count + f.settings.bases →
         (g k).base.route ≡ Some (record { cell = home; generation = r.generation })
     none_held : (s : ℕ) → (order_or (table.get r.orders s)).held ≡ []
@@ -153,6 +154,7 @@ module _ (f : Frame) (w : World) (b : Batch) (between : IsBetweenRounds f w) (fi
               home = q.home;
               haunts = q.haunts;
             };
+        public = o.public;
         routes = λ k high low. (o.becomes k).route ∙ o.routes k high low;
         none_held = o.none_held;
         from_one = o.from_one;
@@ -194,6 +196,7 @@ module _ (f : Frame) (w : World) (b : Batch) (between : IsBetweenRounds f w) (fi
           home = let low = q.fits.home in omega (arith, low, more);
           haunts = λ j h. let low = q.fits.haunts j h in omega (arith, low, more);
         };
+        public = q.public;
         routes = q.routes;
         none_held = q.none_held;
         from_one = q.from_one;
@@ -283,6 +286,7 @@ module _ (f : Frame) (w : World) (b : Batch) (between : IsBetweenRounds f w) (fi
     others = λ j n. other_by j (slice_get w.nodes j) refl n;
     type = may.type;
     fit = made_fits f between.frame.defs b w x leaf may leaf_low;
+    public = omega arith;
     routes = λ k. routes_by k (slice_get w.nodes k) refl;
     none_held = λ s. ap (λ o. o.held) (fresh s);
     from_one = λ s. let one = ap (λ o. o.next) (fresh s) in omega (arith, one);

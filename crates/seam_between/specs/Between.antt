@@ -18,10 +18,11 @@ use Rattle.seam_steps.specs.Numbers.{limit}
 use Rattle.seam_steps.specs.Fitting.{is_inside}
 use Rattle.seam_steps.specs.Here.{cell_count}
 use Rattle.seam_steps.specs.Reals.{fits_cell_part}
+use Rattle.seam_steps.specs.Holders.{holders}
 use Rattle.seam_steps.specs.Nodes.{World, node_has_work}
 use Rattle.seam_steps.specs.Loads.{loaded}
 use Rattle.seam_moves.specs.Frames.{Frame, here_at, IsInFrame}
-use Rattle.seam_moves.specs.Sights.{has_none, orders_of, entity_flow}
+use Rattle.seam_moves.specs.Sights.{has_none, order_about, orders_of, entity_flow}
 use Rattle.seam_ones.specs.Fits.{RealFits}
 use Rattle.seam_ones.specs.Ones.{real_in, reaped_by_order, IsFrame}
 use Rattle.seam_once.specs.CellTurns.{from_sender, cell_order_from}
@@ -40,6 +41,8 @@ pub record IsSettled (f : Frame) (e home : ℕ) (r : RealView) (w : World) : Typ
   pub type : r.ty < length f.defs
   -- it fits its type, the space and the tree
   pub fits : RealFits f e r.ty home r
+  -- its public version is at most its version
+  pub public : r.public ≤ r.version
   -- each base node has the route to it
   pub routes : (k : ℕ) → cell_count ≤ k → k < cell_count + f.settings.bases →
       ((entity_flow e w).slot k).base.route ≡ Some (record { cell = home; generation = r.generation })
@@ -137,7 +140,9 @@ pub record IsFitting (f : Frame) (w : World) (b : Batch) : Type 0 where
   pub once : IsDistinct eqb (map created_entity b.creates)
   -- none of its orders is a reap: these are loaded after the round's calls
   pub spares : AllByRecursion (λ o. reaped_by_order o.1 ≡ None) b.orders
-  -- its calls fit the entities that are there once it is loaded
+  -- each of its orders is about an entity that is there once it is loaded
+  pub known : AllByRecursion (λ o. (e : ℕ) → order_about o.1 ≡ Some e → holders (loaded w b) e ≡ 1) b.orders
+  -- and its calls fit those entities
   pub calls : (e k : ℕ) (r : RealView) → real_in ((entity_flow e (loaded w b)).slot k) ≡ Some r → IsForReal f b e r
   -- it has few orders
   pub few : length b.orders ≤ most_orders

@@ -75,6 +75,7 @@ module _ (f : Frame) (e home : ℕ) (r : RealView) (u : World) (settled : IsSett
           home = q.home;
           haunts = q.haunts;
         };
+    public = settled.public;
     routes = λ k high low. (calm.nodes k).route ∙ settled.routes k high low;
     none_held = settled.none_held;
     from_one = settled.from_one;
