@@ -42,10 +42,10 @@ module _ (f : Frame) (w : World) (b : Batch) (between : IsBetweenRounds f w) (fi
   home_of e one = let o = counted_one (loaded w b) e one in home_by e o.0 o.1 o.2
 
   module _ (e home : ℕ) (r : RealView) (here : real_in ((entity_flow e (loaded w b)).slot home) ≡ Some r) where
-    abbrev its : Loaded f w b between fits e home r
+    abbrev pub its : Loaded f w b between fits e home r
     its = real_loaded f w b between fits e home r here
 
-    pub settled_loaded : IsSettled (framed f b) e home r (loaded w b)
+    abbrev pub settled_loaded : IsSettled (framed f b) e home r (loaded w b)
     settled_loaded = its.settled
 
     pub room_loaded : burden e (loaded w b) + 1 < limit

@@ -14,7 +14,6 @@ use Rattle.seam_tree.proofs.Leaves.{leaf_is_cell}
 use Rattle.seam_machine.specs.Nets.{link}
 use Rattle.seam_machine.proofs.Quiet.{quiet_links, quiet_tasks}
 use Rattle.seam_flows.specs.Flows.{Flow, slot_at, letters_of}
-use Rattle.seam_flows.specs.Tokens.{Place, In, On}
 use Rattle.seam_call.specs.declared.create.Create.{Create}
 use Rattle.seam_call.specs.declared.order.Batch.{Batch}
 use Rattle.seam_entity.specs.Orders.{order_or}
@@ -30,8 +29,8 @@ use Rattle.seam_steps.specs.Loads.{real_begins, loaded}
 use Rattle.seam_moves.specs.Frames.{Frame, here_at}
 use Rattle.seam_moves.specs.Sights.{Has, mine, has_of, has_none, entity_flow}
 use Rattle.seam_ones.specs.Fits.{RealFits}
-use Rattle.seam_ones.specs.Ones.{real_in, real_of, reaped_by_order, HasNoReaps, IsOne}
-use Rattle.seam_ones.proofs.Counting.{counted_one, counted_none, none_counts}
+use Rattle.seam_ones.specs.Ones.{real_in, real_of, reaped_by_order, HasNoReaps}
+use Rattle.seam_ones.proofs.Counting.{counted_none, none_counts}
 use Rattle.seam_ones.proofs.ExampleMet.{slots}
 use Rattle.seam_between.specs.Between.{next_from, numbers_of, IsSettled, IsBetweenRounds, MayBeMade, IsFitting, framed}
 use Rattle.seam_between.proofs.Loading.{node_loaded, loaded_is}

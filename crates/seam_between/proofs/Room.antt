@@ -56,7 +56,7 @@ times_none e x (p ∷ ps) low h =
     let apart : p.0 ≡ e → ⊥ = λ is. omega (arith, is, lt, low) in
     ap (λ b. one_more_if b (times e (map (λ p. p.0) ps))) (ne_eqb p.0 e apart) ∙ times_none e x ps low two.1
 
-abbrev one_if : {X : Type 0} → Option X → ℕ
+abbrev pub one_if : {X : Type 0} → Option X → ℕ
 one_if None = 0
 one_if (Some x) = 1
 
@@ -81,7 +81,7 @@ keys_once : {X : Type 0} (e : ℕ) (m : table.FinMap nat_cmp X) → times e (tab
 keys_once e m =
     subst (λ o. times e (table.keys m) ≤ one_if o) (sym (table.get-entries m e)) (times_once e (table.entries m) (table.entries_sorted m))
 
-abbrev Surveys : ℕ → NodeView → Type 0
+abbrev pub Surveys : ℕ → NodeView → Type 0
 Surveys e n = (has_of e n).cell.survey ≤ one_if (real_in (has_of e n))
 
 begun_one : (o : Option RealView) → one_if (option_map real_begins o) ≡ one_if o
@@ -98,7 +98,7 @@ ordered_surveys : (e : ℕ) (o : ℕ × Order) (n : NodeView) → Any o → Surv
 ordered_surveys e o (Cell c) u h = h
 ordered_surveys e o (Base n) u h = omega arith
 
-loaded_surveys : (e : ℕ) (b : Batch) (s : NodeView) → Surveys e (node_loaded b s)
+pub loaded_surveys : (e : ℕ) (b : Batch) (s : NodeView) → Surveys e (node_loaded b s)
 loaded_surveys e b s =
     each_keeps ordered_at (Surveys e) Any (ordered_surveys e) b.orders (any b.orders) (cell_round b.tree (made b s))
     (round_surveys e b (made b s))

@@ -1,5 +1,5 @@
 -- A calm entity: its real stays where it is until its Reap comes, and no one calls it.
-use Rattle.std.proofs.Common.{◌≡◌, ℕ, ◌+◌, ◌≤◌, Bool, cond, Option, None, Some}
+use Rattle.std.proofs.Common.{◌≡◌, ℕ, ◌+◌, ◌≤◌, Bool, cond, Option, None, Some, true}
 use Rattle.std.specs.List.{AllByRecursion}
 use Rattle.seam_machine.specs.Totals.{total}
 use Rattle.seam_runs.specs.Sums.{weight_or}
@@ -33,16 +33,16 @@ pub record IsCalmAt (e home : ℕ) (r : RealView) (u : World) (k : ℕ) (h : Has
   pub route : h.base.route ≡ ((entity_flow e u).slot k).base.route
 
 -- what is on its way to node k
-abbrev pub IsCalmTo : ℕ → RealView → ℕ → Msg → Type 0
-IsCalmTo home r k (Call c) = ⊥
-IsCalmTo home r k (BaseCall c) = ⊥
-IsCalmTo home r k (Hand q) = ⊥
-IsCalmTo home r k (Current e j g) = ⊥
-IsCalmTo home r k (GhostSet e n c) = ⊥
-IsCalmTo home r k (GhostDrop e n) = n ≤ r.beat + 1
-IsCalmTo home r k Tick = Unit {0}
-IsCalmTo home r k (Reap e) = k ≡ home
-IsCalmTo home r k (Update u) = cell_count ≤ k
+abbrev pub IsCalmTo : Bool → ℕ → RealView → ℕ → Msg → Type 0
+IsCalmTo told home r k (Call c) = ⊥
+IsCalmTo told home r k (BaseCall c) = ⊥
+IsCalmTo told home r k (Hand q) = ⊥
+IsCalmTo told home r k (Current e j g) = ⊥
+IsCalmTo told home r k (GhostSet e n c) = ⊥
+IsCalmTo told home r k (GhostDrop e n) = (told ≡ true) × (n ≤ r.beat + 1)
+IsCalmTo told home r k Tick = Unit {0}
+IsCalmTo told home r k (Reap e) = k ≡ home
+IsCalmTo told home r k (Update u) = cell_count ≤ k
 
 -- ---- how many reaps of it wait
 
@@ -83,5 +83,5 @@ one_if (Some r) = 1
 pub record IsCalm (f : Frame) (e home : ℕ) (r : RealView) (u : World) (is_told : Bool) (w : World) : Type 0 where
   pub frame : IsInFrame f w
   pub nodes : (k : ℕ) → IsCalmAt e home r u k ((entity_flow e w).slot k)
-  pub mail : (a k : ℕ) → AllByRecursion (IsCalmTo home r k) ((entity_flow e w).mail a k)
+  pub mail : (a k : ℕ) → AllByRecursion (IsCalmTo is_told home r k) ((entity_flow e w).mail a k)
   pub reaps : reaps_of e w ≡ cond is_told (one_if (real_in ((entity_flow e w).slot home))) 0

@@ -40,7 +40,7 @@ not_yes true h k = cc
 not_yes false h k = cc
 
 -- where no call is held, none is ready
-none_ready : (os : Orders) → ((s : ℕ) → (order_or (table.get os s)).held ≡ []) → (o : ℕ × OrderView CallData) (c : CallData) →
+pub none_ready : (os : Orders) → ((s : ℕ) → (order_or (table.get os s)).held ≡ []) → (o : ℕ × OrderView CallData) (c : CallData) →
     ready_order os ≡ Some o → next_item o.1 ≡ Some c → ⊥
 none_ready os none o c at item =
     let two = found order_is_ready os o at in
@@ -53,15 +53,15 @@ abbrev pub sent_reaps : List (ℕ × Msg) → ℕ
 sent_reaps ps = total (λ p. letter_reaps p.1) ps
 
 -- what comes to node k, which has s of the entity, is calm, and a Reap finds the real
-pub record Comes (home : ℕ) (r : RealView) (k : ℕ) (s : Has) (i : Option Msg) : Type 0 where
-  pub letter : (m : Msg) → i ≡ Some m → IsCalmTo home r k m
-  pub found : (x : ℕ) → i ≡ Some (Reap x) → (q : RealView) × (real_in s ≡ Some q) × (may_rise q.beat ≡ true)
+pub record Comes (told : Bool) (home : ℕ) (r : RealView) (k : ℕ) (s : Has) (i : Option Msg) : Type 0 where
+  pub letter : (m : Msg) → i ≡ Some m → IsCalmTo told home r k m
+  pub found : (x : ℕ) → i ≡ Some (Reap x) → (q : RealView) × (real_in s ≡ Some q) × (may_rise q.beat ≡ true) × (told ≡ true)
 
 module _ (f : Frame) (e home : ℕ) (r : RealView) (was : World) (none : (s : ℕ) → (order_or (table.get r.orders s)).held ≡ [])
-    (leads : (k : ℕ) (x : RouteView) → ((entity_flow e was).slot k).base.route ≡ Some x → x.cell ≡ home) (k : ℕ) (s : Has) (i : Option Msg)
-    (t : Has) (sent : List (ℕ × Msg)) where
+    (leads : (k : ℕ) (x : RouteView) → ((entity_flow e was).slot k).base.route ≡ Some x → x.cell ≡ home) (told : Bool) (k : ℕ) (s : Has)
+    (i : Option Msg) (t : Has) (sent : List (ℕ × Msg)) where
   abbrev To : ℕ × Msg → Type 0
-  To p = IsCalmTo home r p.0 p.1
+  To p = IsCalmTo told home r p.0 p.1
 
   -- the entity is calm at the node afterwards, what is sent is calm, and what waits of reaps waits still, but for one that came
   pub record Stays : Type 0 where
@@ -81,10 +81,10 @@ module _ (f : Frame) (e home : ℕ) (r : RealView) (was : World) (none : (s : �
     stays : (i ≡ Some (Reap e) → ⊥) → Stays → Calmed
     ends : i ≡ Some (Reap e) → Ends → Calmed
 
-  module _ (here : IsCalmAt e home r was k s) (come : Comes home r k s i) where
+  module _ (here : IsCalmAt e home r was k s) (come : Comes told home r k s i) where
     -- ---- at a cell
 
-    no_letter : (m : Msg) → i ≡ Some m → (IsCalmTo home r k m → ⊥) → ⊥
+    no_letter : (m : Msg) → i ≡ Some m → (IsCalmTo told home r k m → ⊥) → ⊥
     no_letter m is n = n (come.letter m is)
 
     none_reaps : i ≡ None → i ≡ Some (Reap e) → ⊥
@@ -140,16 +140,16 @@ module _ (f : Frame) (e home : ℕ) (r : RealView) (was : World) (none : (s : �
     stray_by (Reap x) is b same survey base z = absurd (stray_reap x is b)
     stray_by (Update u) is b same survey base z = unchanged (other_reaps (Update u) is (λ h. cc)) same survey base z
 
-    drop_by : (q : RealView) (j : ℕ) (b : Bool) (js : List ℕ) → q.beat ≡ r.beat →
+    drop_by : told ≡ true → (q : RealView) (j : ℕ) (b : Bool) (js : List ℕ) → q.beat ≡ r.beat →
         AllByRecursion To (filter_map (drop_at q) js) × (sent_reaps (filter_map (drop_at q) js) ≡ 0) →
         set.contains q.haunts j ≡ b → AllByRecursion To (filter_map (drop_at q) (j ∷ js)) × (sent_reaps (filter_map (drop_at q) (j ∷ js)) ≡ 0)
-    drop_by q j true js beat more is = let none = more.1 in rw is ((omega (arith, beat), more.0), omega (arith, none))
-    drop_by q j false js beat more is = rw is more
+    drop_by it q j true js beat more is = let none = more.1 in rw is (((it, omega (arith, beat)), more.0), omega (arith, none))
+    drop_by it q j false js beat more is = rw is more
 
-    drops_calm : (q : RealView) (js : List ℕ) → q.beat ≡ r.beat →
+    drops_calm : told ≡ true → (q : RealView) (js : List ℕ) → q.beat ≡ r.beat →
         AllByRecursion To (filter_map (drop_at q) js) × (sent_reaps (filter_map (drop_at q) js) ≡ 0)
-    drops_calm q [] beat = (tt, refl)
-    drops_calm q (j ∷ js) beat = drop_by q j (set.contains q.haunts j) js beat (drops_calm q js beat) refl
+    drops_calm is q [] beat = (tt, refl)
+    drops_calm is q (j ∷ js) beat = drop_by is q j (set.contains q.haunts j) js beat (drops_calm is q js beat) refl
 
     updates_calm : (b x n : ℕ) (ss : List Shown) → cell_count ≤ b → AllByRecursion To (numbered b x n ss) × (sent_reaps (numbered b x n ss) ≡ 0)
     updates_calm b x n [] high = (tt, refl)
@@ -189,7 +189,7 @@ module _ (f : Frame) (e home : ℕ) (r : RealView) (was : World) (none : (s : �
     cell_calmed base (move.reaped q n has own may d) =
         let same = (here.real q has).1 in
         let beat : q.beat ≡ r.beat = sym (ap (λ (y : RealView). y.beat) same.1) in
-        let gone = drops_calm q cell_numbers beat in
+        let gone = drops_calm (come.found e n).3 q cell_numbers beat in
         ends n (record {
           at = record {
             survey = survey_after _ s.cell d refl;
@@ -206,7 +206,7 @@ module _ (f : Frame) (e home : ℕ) (r : RealView) (was : World) (none : (s : �
     cell_calmed base (move.unlists n h at b d) = absurd (let zero = here.survey in omega (arith, at, zero))
     cell_calmed base (move.looks n q w known h at has own is small d) =
         let step = looks_with (here_at f k) s.cell.slot q w known (shown_of (here_at f k) q w known) in
-        let told = updates_calm (base_of (here_at f k) q.entity) q.entity w.sent (shown_of (here_at f k) q w known) (omega arith) in
+        let new = updates_calm (base_of (here_at f k) q.entity) q.entity w.sent (shown_of (here_at f k) q w known) (omega arith) in
         let same = here.real q has in
         stays (none_reaps h) (record {
           at = record {
@@ -217,8 +217,8 @@ module _ (f : Frame) (e home : ℕ) (r : RealView) (was : World) (none : (s : �
             orders = subst (λ (b : AtBase). AllByRecursion (IsCalmOrder e) b.orders) (sym base) here.orders;
             route = ap (λ (b : AtBase). b.route) base ∙ here.route;
           };
-          calm = subst (AllByRecursion To) (sym d.sends) told.0;
-          reaps = same_reaps base (ap sent_reaps d.sends ∙ told.1);
+          calm = subst (AllByRecursion To) (sym d.sends) new.0;
+          reaps = same_reaps base (ap sent_reaps d.sends ∙ new.1);
           real = ap (λ a. one_if a.slot.real) d.state ∙ sym (ap one_if has);
         })
     cell_calmed base (move.overlooks n known h at b d) = idles (none_reaps h) _ _ d base refl here.survey refl
@@ -287,8 +287,8 @@ module _ (f : Frame) (e home : ℕ) (r : RealView) (was : World) (none : (s : �
     base_calmed low high cells cell (base_move.orders_base_call c os n at is b a z) = absurd (tail_of (order.Base c) os at).0
     base_calmed low high cells cell (base_move.offers_own c os p n at is b has may a z) = absurd (tail_of (order.Base c) os at).0
     base_calmed low high cells cell (base_move.orders_tick os n at a z) =
-        let told = ticks_calm (range_with_len 0 cells) in
-        takes (none_reaps n) cell order.Tick os at _ a refl refl (subst (AllByRecursion To) (sym z) told.0) (ap sent_reaps z ∙ told.1)
+        let all = ticks_calm (range_with_len 0 cells) in
+        takes (none_reaps n) cell order.Tick os at _ a refl refl (subst (AllByRecursion To) (sym z) all.0) (ap sent_reaps z ∙ all.1)
     base_calmed low high cells cell (base_move.orders_reap os x n at has a z) =
         takes (none_reaps n) cell (order.Reap e) os at _ a refl refl (subst (AllByRecursion To) (sym z) (leads k x (sym here.route ∙ has), tt))
         (ap sent_reaps z)

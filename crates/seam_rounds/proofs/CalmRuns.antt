@@ -6,7 +6,6 @@ use Rattle.std.specs.FinMap as table
 use Rattle.std.proofs.lemmas.Bool.{cases_eq, eqb-true}
 use Rattle.seam_machine.specs.Nets.{link, letter, input_from, happens}
 use Rattle.seam_machine.specs.Events.{Occurs}
-use Rattle.seam_machine.specs.Sends.{items_to}
 use Rattle.seam_machine.specs.Totals.{total}
 use Rattle.seam_machine.specs.declared.machines.Input.{Input}
 use Rattle.seam_machine.specs.declared.machines.Input.TheVariants.{Task, From}
@@ -30,6 +29,7 @@ use Rattle.seam_moves.specs.Sights.{Has, concerns, kept_if, mine, concerning, ha
 use Rattle.seam_moves.specs.Moves.{MovesTo}
 use Rattle.seam_moves.proofs.Classify.{node_laws, node_moves, frame_happens, event_moves_with}
 use Rattle.seam_ones.specs.Ones.{real_in}
+use Rattle.seam_rounds.proofs.Shape.{items_each}
 use Rattle.seam_rounds.proofs.Calm.{IsCalmAt, IsCalmTo, letter_reaps, node_reaps, mine_reaps, reaps_of, one_if, IsCalm}
 use Rattle.seam_rounds.proofs.CalmMoves.{sent_reaps, Calmed, stays, ends, Comes, calmed}
 
@@ -120,25 +120,26 @@ module _ (f : Frame) (e home : ℕ) (r : RealView) (low : home < cell_count) (no
         let d = ap (weight_or letter_reaps) is in
         omega (arith, a, b, d)
 
-    found_home : (x : ℕ) → fed ≡ Some (Reap x) → (q : RealView) × (real_in (flow.slot home) ≡ Some q) × (may_rise q.beat ≡ true)
+    pub found_home : (x : ℕ) → fed ≡ Some (Reap x) → (q : RealView) × (real_in (flow.slot home) ≡ Some q) × (may_rise q.beat ≡ true)
+        × (told ≡ true)
     found_home x is =
         let q = waits_by told (real_in (flow.slot home)) (reaps_of e w) (reap_waits x is) c.reaps in
         let same = ((c.nodes home).real q.0 q.1).1 in
-        (q.0, q.1, ap (λ (y : RealView). may_rise y.beat) (sym same.1) ∙ small q.2)
+        (q.0, q.1, ap (λ (y : RealView). may_rise y.beat) (sym same.1) ∙ small q.2, q.2)
 
     -- one that was not told has no Reap that comes
     pub told_by : (x : ℕ) → fed ≡ Some (Reap x) → told ≡ true
     told_by x is = (waits_by told (real_in (flow.slot home)) (reaps_of e w) (reap_waits x is) c.reaps).2
 
     -- what comes to node k, if it has s of the entity and the letter is that which is fed
-    comes_to : (k : ℕ) → ((m : Msg) → fed ≡ Some m → IsCalmTo home r k m) → (s : Has) → s ≡ flow.slot k → (i : Option Msg) → i ≡ fed →
-        Comes home r k s i
+    comes_to : (k : ℕ) → ((m : Msg) → fed ≡ Some m → IsCalmTo told home r k m) → (s : Has) → s ≡ flow.slot k → (i : Option Msg) → i ≡ fed →
+        Comes told home r k s i
     comes_to k letter s there i is = record {
       letter = λ m at. letter m (sym is ∙ at);
       found = λ x at.
           let q = found_home x (sym is ∙ at) in
           let same : k ≡ home = letter (Reap x) (sym is ∙ at) in
-          (q.0, ap real_in (there ∙ ap flow.slot same) ∙ q.1, q.2);
+          (q.0, ap real_in (there ∙ ap flow.slot same) ∙ q.1, q.2, q.3);
     }
 
     -- ---- the step as the flow sees it
@@ -146,51 +147,41 @@ module _ (f : Frame) (e home : ℕ) (r : RealView) (low : home < cell_count) (no
     goes : Goes (λ k s i t out. MovesTo f e k s i t out × (i ≡ fed)) flow (entity_flow e next)
     goes = event_moves_with f w v o c.frame e (λ s i. i ≡ fed) refl
 
-    came_to : (m : Msg) → fed ≡ Some m → IsCalmTo home r goes.k m
-    came_to m is = (came (λ a k m. IsCalmTo home r k m) goes m (goes.moves.1 ∙ is) c.mail).1
+    came_to : (m : Msg) → fed ≡ Some m → IsCalmTo told home r goes.k m
+    came_to m is = (came (λ a k m. IsCalmTo told home r k m) goes m (goes.moves.1 ∙ is) c.mail).1
 
-    what : Calmed f e home r was none leads goes.k (flow.slot goes.k) (comes goes.input) ((entity_flow e next).slot goes.k) goes.moves.0.sent
+    what : Calmed f e home r was none leads told goes.k (flow.slot goes.k) (comes goes.input) ((entity_flow e next).slot goes.k) goes.moves.0.sent
     what =
-        calmed f e home r was none leads goes.k (flow.slot goes.k) (comes goes.input) ((entity_flow e next).slot goes.k) goes.moves.0.sent
+        calmed f e home r was none leads told goes.k (flow.slot goes.k) (comes goes.input) ((entity_flow e next).slot goes.k) goes.moves.0.sent
         (c.nodes goes.k) (comes_to goes.k came_to (flow.slot goes.k) refl (comes goes.input) goes.moves.1) low goes.moves.0.moves
 
-    at_of : Calmed f e home r was none leads goes.k (flow.slot goes.k) (comes goes.input) ((entity_flow e next).slot goes.k) goes.moves.0.sent →
+    at_of : Calmed f e home r was none leads told goes.k (flow.slot goes.k) (comes goes.input) ((entity_flow e next).slot goes.k) goes.moves.0.sent →
         IsCalmAt e home r was goes.k ((entity_flow e next).slot goes.k)
     at_of (stays n x) = x.at
     at_of (ends n x) = x.at
 
-    calm_of : Calmed f e home r was none leads goes.k (flow.slot goes.k) (comes goes.input) ((entity_flow e next).slot goes.k) goes.moves.0.sent →
-        AllByRecursion (λ p. IsCalmTo home r p.0 p.1) goes.moves.0.sent
+    calm_of : Calmed f e home r was none leads told goes.k (flow.slot goes.k) (comes goes.input) ((entity_flow e next).slot goes.k) goes.moves.0.sent →
+        AllByRecursion (λ p. IsCalmTo told home r p.0 p.1) goes.moves.0.sent
     calm_of (stays n x) = x.calm
     calm_of (ends n x) = x.calm
-
-    to_by : (j : ℕ) (p : ℕ × Msg) (ms : List Msg) (b : Bool) → eqb p.0 j ≡ b → IsCalmTo home r p.0 p.1 →
-        AllByRecursion (IsCalmTo home r j) ms → AllByRecursion (IsCalmTo home r j) (cond b (p.1 ∷ ms) ms)
-    to_by j p ms true is h more = (subst (λ x. IsCalmTo home r x p.1) (eqb-true p.0 j is) h, more)
-    to_by j p ms false is h more = more
-
-    items_calm : (j : ℕ) (ps : List (ℕ × Msg)) → AllByRecursion (λ p. IsCalmTo home r p.0 p.1) ps →
-        AllByRecursion (IsCalmTo home r j) (items_to j ps)
-    items_calm j [] h = tt
-    items_calm j (p ∷ ps) h = to_by j p (items_to j ps) (eqb p.0 j) refl h.0 (items_calm j ps h.1)
 
     -- ---- the step as the node makes it
 
     node_is : has_of e o.node ≡ flow.slot v.node
     node_is = sym (ap (slot_at (has_of e) has_none) o.is_node)
 
-    fed_to : (m : Msg) → fed ≡ Some m → IsCalmTo home r v.node m
-    fed_to m is = fed_by (IsCalmTo home r v.node) e w v.node v.from o.input o.is_fed (λ a. c.mail a v.node) m is
+    fed_to : (m : Msg) → fed ≡ Some m → IsCalmTo told home r v.node m
+    fed_to m is = fed_by (IsCalmTo told home r v.node) e w v.node v.from o.input o.is_fed (λ a. c.mail a v.node) m is
 
-    node_what : Calmed f e home r was none leads v.node (has_of e o.node) fed (has_of e (node_steps o.node o.input).state)
+    node_what : Calmed f e home r was none leads told v.node (has_of e o.node) fed (has_of e (node_steps o.node o.input).state)
         (concerning e (node_steps o.node o.input).sent)
     node_what =
-        calmed f e home r was none leads v.node (has_of e o.node) fed (has_of e (node_steps o.node o.input).state)
+        calmed f e home r was none leads told v.node (has_of e o.node) fed (has_of e (node_steps o.node o.input).state)
         (concerning e (node_steps o.node o.input).sent) (subst (IsCalmAt e home r was v.node) (sym node_is) (c.nodes v.node))
         (comes_to v.node fed_to (has_of e o.node) node_is fed refl) low
         (node_moves f e v.node o.node o.input (c.frame.sound.states v.node o.node o.is_node) (c.frame.nodes v.node o.node o.is_node))
 
-    weighs_by : Calmed f e home r was none leads v.node (has_of e o.node) fed (has_of e (node_steps o.node o.input).state)
+    weighs_by : Calmed f e home r was none leads told v.node (has_of e o.node) fed (has_of e (node_steps o.node o.input).state)
         (concerning e (node_steps o.node o.input).sent) →
         node_reaps e (node_steps o.node o.input).state + sent_reaps (concerning e (node_steps o.node o.input).sent) ≡ node_reaps e o.node
     weighs_by (stays n x) = x.reaps
@@ -210,7 +201,7 @@ module _ (f : Frame) (e home : ℕ) (r : RealView) (low : home < cell_count) (no
       alive : (fed ≡ Some (Reap e) → ⊥) → one_if (real_in ((entity_flow e next).slot home)) ≡ one_if (real_in (flow.slot home)) → Left
       dead : fed ≡ Some (Reap e) → real_in ((entity_flow e next).slot home) ≡ None → Left
 
-    left_by : Calmed f e home r was none leads goes.k (flow.slot goes.k) (comes goes.input) ((entity_flow e next).slot goes.k) goes.moves.0.sent → Left
+    left_by : Calmed f e home r was none leads told goes.k (flow.slot goes.k) (comes goes.input) ((entity_flow e next).slot goes.k) goes.moves.0.sent → Left
     left_by (stays n x) = alive (λ is. n (goes.moves.1 ∙ is)) (elim (cases_eq home goes.k) [
       | inl is ↦
           ap (λ j. one_if (real_in ((entity_flow e next).slot j))) is ∙ (x.real ∙ sym (ap (λ j. one_if (real_in (flow.slot j))) is))
@@ -243,7 +234,7 @@ module _ (f : Frame) (e home : ℕ) (r : RealView) (low : home < cell_count) (no
     calm_happens = record {
       frame = frame_happens f w v o c.frame;
       nodes = slots_kept (λ k h. IsCalmAt e home r was k h) goes c.nodes (at_of what);
-      mail = letters_kept (λ a k m. IsCalmTo home r k m) goes c.mail (λ j.
-          subst (AllByRecursion (IsCalmTo home r j)) (sym (goes.moves.0.items j)) (items_calm j goes.moves.0.sent (calm_of what)));
+      mail = letters_kept (λ a k m. IsCalmTo told home r k m) goes c.mail (λ j.
+          subst (AllByRecursion (IsCalmTo told home r j)) (sym (goes.moves.0.items j)) (items_each (IsCalmTo told home r) j goes.moves.0.sent (calm_of what)));
       reaps = reaps_by left;
     }

@@ -27,7 +27,7 @@ module _ (f : Frame) (e home : ℕ) (r : RealView) (u : World) (settled : IsSett
     (calm : IsCalm f e home r u told v) where
   -- ---- its real
 
-  no_hands : (k : ℕ) (ms : List Msg) → AllByRecursion (IsCalmTo home r k) ms → letters_of real_of ms ≡ []
+  no_hands : (k : ℕ) (ms : List Msg) → AllByRecursion (IsCalmTo told home r k) ms → letters_of real_of ms ≡ []
   no_hands k [] h = refl
   no_hands k (Call c ∷ ms) h = absurd h.0
   no_hands k (BaseCall c ∷ ms) h = absurd h.0
@@ -97,7 +97,7 @@ module _ (f : Frame) (e home : ℕ) (r : RealView) (u : World) (settled : IsSett
   no_orders s (order.Tick ∷ os) h = no_orders s os h.1
   no_orders s (order.Reap x ∷ os) h = no_orders s os h.1
 
-  no_letters : (s k : ℕ) (ms : List Msg) → AllByRecursion (IsCalmTo home r k) ms → letters_of (cell_mail s) ms ≡ []
+  no_letters : (s k : ℕ) (ms : List Msg) → AllByRecursion (IsCalmTo told home r k) ms → letters_of (cell_mail s) ms ≡ []
   no_letters s k [] h = refl
   no_letters s k (Call c ∷ ms) h = absurd h.0
   no_letters s k (BaseCall c ∷ ms) h = absurd h.0

@@ -27,7 +27,7 @@ use Rattle.seam_rounds.proofs.Giving.{look_framed, some_base, look_given, look_c
 use Rattle.seam_rounds.proofs.Ending.{calls_none}
 use Rattle.seam_rounds.proofs.Phases.{calm_leads, stays_alive, between_again}
 
-abbrev tick : ℕ × Order
+abbrev pub tick : ℕ × Order
 tick = (cell_count, order.Tick)
 
 zero_by : (b : Bool) → 0 ≡ cond {A = ℕ} b 0 0
@@ -38,11 +38,11 @@ module _ (f : Frame) (u : World) (between : IsBetweenRounds f u) where
   stay : (e k : ℕ) → real_in ((entity_flow e (look_loaded u)).slot k) ≡ real_in ((entity_flow e u).slot k)
   stay e k = reals_stay e (ordered_at tick) (look_cell e tick) u k
 
-  small : (r : RealView) → false ≡ true → may_rise r.beat ≡ true
+  pub small : (r : RealView) → false ≡ true → may_rise r.beat ≡ true
   small r h = cc
 
   module _ (e home : ℕ) (r : RealView) (here : real_in ((entity_flow e u).slot home) ≡ Some r) where
-    calm : IsCalm f e home r u false (look_loaded u)
+    pub calm : IsCalm f e home r u false (look_loaded u)
     calm =
         starts_calm f u between e home r here (ordered_at tick) false (look_framed f u between.nodes tick)
         (reals_stay e (ordered_at tick) (look_cell e tick) u) (some_base f u between.nodes e home r here) (λ k s at.

@@ -68,13 +68,13 @@ reap_fed e (From a m) h =
 
 module _ (f : Frame) (frame : IsFrame f) (u : World) (between : IsBetweenRounds f u) (e home : ℕ) (r : RealView)
     (here : real_in ((entity_flow e u).slot home) ≡ Some r) (told : Bool) (small : told ≡ true → may_rise r.beat ≡ true) where
-  settled : IsSettled f e home r u
+  pub settled : IsSettled f e home r u
   settled = between.settled e home r here
 
-  low : home < cell_count
+  pub low : home < cell_count
   low = let a = settled.fits.home in let b = frame.tree.cells_to in omega (arith, a, b)
 
-  leads : (k : ℕ) (x : RouteView) → ((entity_flow e u).slot k).base.route ≡ Some x → x.cell ≡ home
+  pub leads : (k : ℕ) (x : RouteView) → ((entity_flow e u).slot k).base.route ≡ Some x → x.cell ≡ home
   leads =
       route_leads f u e home r settled (λ x y. ap (letters_of (mine e)) (quiet_links node_has_work u between.nodes.sound.square between.quiet x y))
       between.nodes between.many

@@ -30,14 +30,14 @@ use Rattle.seam_rounds.proofs.Giving.{reaps_framed, some_base, reaps_given, reap
 use Rattle.seam_rounds.proofs.Ending.{calls_none}
 use Rattle.seam_rounds.proofs.Phases.{calm_leads, counted_until, stays_alive, told_is_gone, between_again}
 
-is_told : ℕ → List ℕ → Bool
+abbrev pub is_told : ℕ → List ℕ → Bool
 is_told e es = nat_lt 0 (times e es)
 
 once_by : (n : ℕ) (b : Bool) → nat_lt 0 n ≡ b → n ≤ 1 → n ≡ cond {A = ℕ} b 1 0
 once_by n true is most = let few : 0 < n = grind (arith, nat_tests, is) in omega (arith, few, most)
 once_by n false is most = grind (arith, nat_tests, is)
 
-never_by : (e : ℕ) (es : List ℕ) → AllByRecursion (λ x. x ≡ e → ⊥) es → times e es ≡ 0
+pub never_by : (e : ℕ) (es : List ℕ) → AllByRecursion (λ x. x ≡ e → ⊥) es → times e es ≡ 0
 never_by e [] h = refl
 never_by e (x ∷ es) h = ap (λ b. cond {A = ℕ} b (times e es + 1) (times e es)) (ne_eqb x e h.0) ∙ never_by e es h.1
 
@@ -61,15 +61,14 @@ module _ (f : Frame) (u : World) (between : IsBetweenRounds f u) (es : List ℕ)
   abbrev turn : NodeView → NodeView
   turn = each reap_ordered_at es
 
-  loaded_is : reaps_loaded u es ≡ with_nodes u turn
+  pub loaded_is : reaps_loaded u es ≡ with_nodes u turn
   loaded_is = nodes_after reap_ordered_at u es
 
   stay : (e k : ℕ) → real_in ((entity_flow e (reaps_loaded u es)).slot k) ≡ real_in ((entity_flow e u).slot k)
   stay e k = ap (λ w. real_in ((entity_flow e w).slot k)) loaded_is ∙ reals_stay e turn (reaps_cell e es) u k
 
   module _ (e home : ℕ) (r : RealView) (here : real_in ((entity_flow e u).slot home) ≡ Some r) where
-    calm : IsCalm f e home r u (is_told e es) (reaps_loaded u es)
-    unfolding is_told
+    pub calm : IsCalm f e home r u (is_told e es) (reaps_loaded u es)
     calm =
         subst (IsCalm f e home r u (is_told e es)) (sym loaded_is)
         (starts_calm f u between e home r here turn (is_told e es) (reaps_framed f u between.nodes es) (reals_stay e turn (reaps_cell e es) u)
@@ -78,7 +77,7 @@ module _ (f : Frame) (u : World) (between : IsBetweenRounds f u) (es : List ℕ)
         (once_by (times e es) (nat_lt 0 (times e es)) refl (times_at_most_one e es may.once))
         (reaps_given e f k es s (between.nodes.nodes k s at) (quiet_tasks node_has_work u between.quiet k s at))))
 
-    small : is_told e es ≡ true → may_rise r.beat ≡ true
+    pub small : is_told e es ≡ true → may_rise r.beat ≡ true
     small told = may.small e home r here
 
     alive : one_if (real_in ((entity_flow e (reaps_loaded u es)).slot home)) ≡ 1
@@ -101,7 +100,6 @@ module _ (f : Frame) (u : World) (between : IsBetweenRounds f u) (es : List ℕ)
         (reaps_loaded u es) (calm e h.node h.real h.here) (alive e h.node h.real h.here) run.each
 
     pub others_stay : (e : ℕ) → holders u e ≡ 1 → AllByRecursion (λ x. x ≡ e → ⊥) es → holders v e ≡ 1
-    unfolding is_told
     others_stay e one others =
         let h = quiet_home f u between e one in
         stays_alive f between.frame u between e h.node h.real h.here (is_told e es) (small e h.node h.real h.here)
@@ -122,7 +120,6 @@ module _ (f : Frame) (u : World) (between : IsBetweenRounds f u) (es : List ℕ)
 
     module _ (quiet : IsQuiet node_has_work v) where
       ended : (e : ℕ) (first later : List ℕ) → es ≡ first ++ e ∷ later → holders u e ≡ 1 → holders v e ≡ 0
-      unfolding is_told
       ended e first later is one =
           let h = quiet_home f u between e one in
           let c = calm_leads f between.frame u between e h.node h.real h.here (is_told e es) (small e h.node h.real h.here)

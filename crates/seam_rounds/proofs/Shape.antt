@@ -1,12 +1,16 @@
 -- Every list of events keeps the frame and the number of nodes; and an entity's real is somewhere, or nowhere.
-use Rattle.std.proofs.Common.{◌≡◌, ℕ, zero, suc, ◌⊎◌, List, [], ◌∷◌, length, Option, None, Some, refl, ◌∙◌, inl, inr}
+use Rattle.std.proofs.Common.{◌≡◌, ℕ, zero, suc, ◌⊎◌, List, [], ◌∷◌, length, Option, None, Some, refl, ◌∙◌, inl, inr, Bool, true, false, cond, eqb, subst}
 use Rattle.std.specs.Prelude.{slice_get}
 use Rattle.seam_machine.specs.Nets.{LeadsTo}
 use Rattle.seam_machine.specs.declared.machines.Event.{Event}
 use Rattle.seam_machine.proofs.Occurring.{occurs, length-happens}
 use Rattle.seam_runs.proofs.Runs.{leads_keeps}
 use Rattle.seam_flows.specs.Flows.{slot_at}
+use Rattle.seam_machine.specs.Sends.{items_to}
+use Rattle.std.specs.List.{AllByRecursion}
+use Rattle.std.proofs.lemmas.Bool.{eqb-true}
 use Rattle.seam_entity.specs.Reals.{RealView}
+use Rattle.seam_entity.specs.declared.message.Msg.{Msg}
 use Rattle.seam_steps.specs.Nodes.{NodeView, World, node_steps, node_has_work}
 use Rattle.seam_moves.specs.Frames.{Frame, IsInFrame}
 use Rattle.seam_moves.specs.Sights.{has_of, has_none, entity_flow}
@@ -51,3 +55,15 @@ module _ (e : ℕ) where
 
   pub search_real : (w : World) → Somewhere e w ⊎ Nowhere e w
   search_real w = search_in w.nodes
+
+-- ---- what is sent, by the node to which it goes
+
+module _ (P : ℕ → Msg → Type 0) where
+  item_by : (j : ℕ) (p : ℕ × Msg) (ms : List Msg) (b : Bool) → eqb p.0 j ≡ b → P p.0 p.1 → AllByRecursion (P j) ms →
+      AllByRecursion (P j) (cond b (p.1 ∷ ms) ms)
+  item_by j p ms true is h more = (subst (λ x. P x p.1) (eqb-true p.0 j is) h, more)
+  item_by j p ms false is h more = more
+
+  pub items_each : (j : ℕ) (ps : List (ℕ × Msg)) → AllByRecursion (λ p. P p.0 p.1) ps → AllByRecursion (P j) (items_to j ps)
+  items_each j [] h = tt
+  items_each j (p ∷ ps) h = item_by j p (items_to j ps) (eqb p.0 j) refl h.0 (items_each j ps h.1)

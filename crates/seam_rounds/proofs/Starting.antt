@@ -165,7 +165,7 @@ module _ (f : Frame) (u : World) (between : IsBetweenRounds f u) (e home : ℕ) 
     starts_calm = record {
       frame = frame;
       nodes = λ k. none_at k (slice_get then.nodes k) refl;
-      mail = λ a k. subst (AllByRecursion (IsCalmTo home r k)) (sym (no_mail a k)) tt;
+      mail = λ a k. subst (AllByRecursion (IsCalmTo told home r k)) (sym (no_mail a k)) tt;
       reaps =
           let links = rows_none (mine_reaps e) u.rows (quiet_links node_has_work u between.nodes.sound.square between.quiet) in
           let nodes = total_is in
