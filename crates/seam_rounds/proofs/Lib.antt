@@ -8,3 +8,5 @@ pub mod Ending
 pub mod Phases
 pub mod Reaping
 pub mod Looking
+pub mod RoadMoves
+pub mod RoadRuns
