@@ -1,4 +1,5 @@
 pub mod Shape
+pub mod Publics
 pub mod Calm
 pub mod CalmMoves
 pub mod CalmRuns
@@ -10,3 +11,5 @@ pub mod Reaping
 pub mod Looking
 pub mod RoadMoves
 pub mod RoadRuns
+pub mod CallsEnd
+pub mod Opened

@@ -4,13 +4,21 @@ use Rattle.std.specs.List.{AllByRecursion, IsDistinct}
 use Rattle.seam_machine.specs.Nets.{input_from, happens}
 use Rattle.seam_machine.specs.declared.machines.Event.{Event}
 use Rattle.seam_turns.specs.Desks.{WaitsOnce}
+use Rattle.seam_defs.specs.declared.settings.Settings.{Settings}
+use Rattle.seam_defs.specs.declared.types.TypeDef.{TypeDef}
 use Rattle.seam_entity.specs.Reals.{RealView}
 use Rattle.seam_steps.specs.Numbers.{may_rise}
 use Rattle.seam_steps.specs.Holders.{holders}
 use Rattle.seam_steps.specs.Nodes.{World, node_steps}
+use Rattle.seam_steps.specs.Loads.{one_cell}
+use Rattle.seam_moves.specs.Frames.{Frame}
 use Rattle.seam_moves.specs.Sights.{entity_flow}
 use Rattle.seam_ones.specs.Ones.{real_in, reaps}
 use Rattle.seam_once.specs.CellTurns.{as_sender}
+
+-- what the nodes of a world go by as it is opened: the tree of one cell
+abbrev pub first_frame : List TypeDef → Settings → Frame
+first_frame defs settings = record { defs = defs; settings = settings; tree = one_cell settings.size }
 
 -- entities that a quiet world may be told to reap: each is there, is once in the list, and its beat may rise
 pub record AreReapable (w : World) (es : List ℕ) : Type 0 where

@@ -30,6 +30,7 @@ use Rattle.seam_ones.specs.Ones.{real_in, real_of, IsSpared, IsFrame, OneFrom}
 use Rattle.seam_ones.proofs.Replaying.{replays_on}
 use Rattle.seam_ones.proofs.OneReal.{goes, one_happens, calm_of, spared_happens}
 use Rattle.seam_rounds.proofs.Shape.{items_each}
+use Rattle.seam_rounds.proofs.Publics.{public_low}
 use Rattle.seam_strays.proofs.Sending.{FitsNode, sends_fit}
 use Rattle.seam_strays.proofs.Listing.{IsListed, stays_listed}
 
@@ -52,22 +53,6 @@ module _ (f : Frame) (e : ℕ) where
 
   pub listed_leads : (w v : World) (es : List Event) → AreListed w → LeadsTo node_has_work node_steps w es v → AreListed v
   listed_leads w v es a run = leads_keeps node_has_work node_steps AreListed listed_more w v es a run
-
--- ---- the public version stays at most the version
-
-after_low : (b : Bool) (v p : ℕ) → p ≤ v → public_after b (v + 1) p ≤ v + 1
-after_low true v p low = omega arith
-after_low false v p low = omega (arith, low)
-
-calls_low : (t : TypeDef) (a : Account) (ks : List CallData) → a.public ≤ a.version →
-    (after_calls t a ks).public ≤ (after_calls t a ks).version
-calls_low t a [] low = low
-calls_low t a (k ∷ ks) low = calls_low t (after_call t a k) ks (after_low _ a.version a.public low)
-
-pub public_low : (f : Frame) (start r : RealView) → start.public ≤ start.version → Replays f start r → r.public ≤ r.version
-public_low f start r low q =
-    subst (λ (a : Account). a.public ≤ a.version) (sym q.account)
-    (calls_low (type_of f.defs start.ty) (account_of start) q.further low)
 
 -- ---- numbers are small
 
