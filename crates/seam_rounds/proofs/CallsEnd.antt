@@ -49,22 +49,22 @@ others_by e w (In x) r k one is j n = one.others j (λ at. n (let same : x ≡ k
 others_by e w (On x y) r k one is j n = cc
 
 module _ (f : Frame) (w : World) (b : Batch) (between : IsBetweenRounds f w) (fits : IsFitting f w b) where
-  abbrev g : Frame
+  abbrev pub g : Frame
   g = framed f b
 
   -- ---- routes
 
   module _ (e home : ℕ) (r : RealView) (here : real_in ((entity_flow e (loaded w b)).slot home) ≡ Some r) where
-    abbrev settled : IsSettled g e home r (loaded w b)
+    abbrev pub settled : IsSettled g e home r (loaded w b)
     settled = settled_loaded f w b between fits e home r here
 
-    abbrev then : Flow Has Msg
+    abbrev pub then : Flow Has Msg
     then = entity_flow e (loaded w b)
 
-    entry_is : (k : ℕ) → cell_count ≤ k → k < cell_count + f.settings.bases → entry (then.slot k) ≡ (r.generation, home)
+    pub entry_is : (k : ℕ) → cell_count ≤ k → k < cell_count + f.settings.bases → entry (then.slot k) ≡ (r.generation, home)
     entry_is k high low = ap entry_of (settled.routes k high low)
 
-    routed_loaded : IsRouted g e (loaded w b)
+    abbrev pub routed_loaded : IsRouted g e (loaded w b)
     routed_loaded = record {
       place = In home;
       real = r;

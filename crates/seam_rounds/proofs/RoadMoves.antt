@@ -78,10 +78,13 @@ not_both false h k = cc
 module _ (f : Frame) (e k : ℕ) (s : Has) (i : Option Msg) (t : Has) (sent : List (ℕ × Msg)) where
   -- the real stays or is nowhere here; it comes; or it goes
   pub data Roads : Type 0 where
-    plain : ((r : RealView) → i ≡ Some (Hand r) → ⊥) → generation_in t ≡ generation_in s → IsSilent road_of sent → Roads
-    arrives : (r : RealView) → i ≡ Some (Hand r) → k < cell_count → real_in t ≡ Some r → sent ≡ currents (here_at f k) r → Roads
+    plain : ((r : RealView) → i ≡ Some (Hand r) → ⊥) → generation_in t ≡ generation_in s → t.cell.slot.next ≡ s.cell.slot.next
+        → IsSilent road_of sent → Roads
+    arrives : (r : RealView) → i ≡ Some (Hand r) → k < cell_count → real_in s ≡ None → real_in t ≡ Some r → t.cell.slot.next ≡ None
+        → sent ≡ currents (here_at f k) r → Roads
     departs : (r q : RealView) (j : ℕ) (first : List (ℕ × Msg)) → ((x : RealView) → i ≡ Some (Hand x) → ⊥) → real_in s ≡ Some r
-        → real_in t ≡ None → q.generation ≡ r.generation + 1 → IsSilent road_of first → sent ≡ first ++ (j, Hand q) ∷ [] → Roads
+        → real_in t ≡ None → q.generation ≡ r.generation + 1 → t.cell.slot.next ≡ Some (record { cell = j; generation = q.generation })
+        → IsSilent road_of first → sent ≡ first ++ (j, Hand q) ∷ [] → Roads
 
   no_hand : i ≡ None → (r : RealView) → i ≡ Some (Hand r) → ⊥
   no_hand n r is = let z = sym n ∙ is in cc
@@ -112,6 +115,10 @@ module _ (f : Frame) (e k : ℕ) (s : Has) (i : Option Msg) (t : Has) (sent : Li
       ap (λ a. option_map generation_of a.slot.real) d.state
       ∙ (ap (option_map generation_of) is ∙ (ap Some gen ∙ sym (ap (option_map generation_of) has)))
 
+  next_of : (x : SlotStep) (u : AtCell) → Does u x t.cell sent → (slot_after x.slot u.slot).next ≡ s.cell.slot.next →
+      t.cell.slot.next ≡ s.cell.slot.next
+  next_of x u d is = ap (λ a. a.slot.next) d.state ∙ is
+
   module _ (room : (r : RealView) → i ≡ Some (Hand r) → FindsRoom f k s r) (spared : i ≡ Some (Reap e) → ⊥) where
     stray_hand : (r : RealView) → i ≡ Some (Hand r) → is_stray (here_at f k) f.tree s.cell.slot (Hand r) ≡ true → ⊥
     stray_hand r is b =
@@ -121,42 +128,45 @@ module _ (f : Frame) (e k : ℕ) (s : Has) (i : Option Msg) (t : Has) (sent : Li
         ∙ b)
 
     cell_roads : k < cell_count → CellMoves (here_at f k) f.tree e s.cell i t.cell sent → Roads
-    cell_roads low (move.rests n d) = plain (no_hand n) (same _ s.cell d refl) (silent_of [] d.sends tt)
+    cell_roads low (move.rests n d) = plain (no_hand n) (same _ s.cell d refl) (next_of _ s.cell d refl) (silent_of [] d.sends tt)
     cell_roads low (move.strays m n b d) =
         plain (λ r is. stray_hand r is (ap (is_stray (here_at f k) f.tree s.cell.slot) (let z : Hand r ≡ m = let y = sym is ∙ n in cc in z) ∙ b))
-        (same _ s.cell d refl) (silent_of [] d.sends tt)
+        (same _ s.cell d refl) (next_of _ s.cell d refl) (silent_of [] d.sends tt)
     cell_roads low (move.stays u r q changed has own acts at d) =
-        plain (acts_hand u r q changed acts) (turned _ u r _ d has refl (acts_same u r q changed acts))
+        plain (acts_hand u r q changed acts) (turned _ u r _ d has refl (acts_same u r q changed acts)) (next_of _ u d refl)
         (silent_of _ d.sends (ghosts_silent road_of no_ghosts (here_at f k) q k (haunts_at (here_at f k) f.tree q.state.pos k q.haunts) changed))
     cell_roads low (move.goes u r q changed j has own acts at n d) =
         let haunts = haunts_at (here_at f k) f.tree q.state.pos j (set.insert q.haunts k) in
         departs r (settled_to q haunts (q.beat + 1) (q.generation + 1)) j (ghost_messages (here_at f k) q j haunts changed)
         (acts_hand u r q changed acts) has (ap (λ a. a.slot.real) d.state) (ap (λ x. x + 1) (acts_same u r q changed acts))
+        (ap (λ a. a.slot.next) d.state)
         (ghosts_silent road_of no_ghosts (here_at f k) q j haunts changed) d.sends
-    cell_roads low (move.late c r n has may lt d) = plain (other _ n (λ x z. cc)) (same _ s.cell d refl) (silent_of [] d.sends tt)
+    cell_roads low (move.late c r n has may lt d) = plain (other _ n (λ x z. cc)) (same _ s.cell d refl) (next_of _ s.cell d refl) (silent_of [] d.sends tt)
     cell_roads low (move.holds c r n own has mine may lt d) =
-        plain (other _ n (λ x z. cc)) (turned _ s.cell r _ d has refl refl) (silent_of [] d.sends tt)
-    cell_roads low (move.passes c p n own has at d) = plain (other _ n (λ x z. cc)) (same _ s.cell d refl) (silent_of _ d.sends (refl, tt))
-    cell_roads low (move.lands r n own has may d) = arrives r n low (ap (λ a. a.slot.real) d.state) d.sends
-    cell_roads low (move.hears_set n c is has d) = plain (other _ is (λ x z. cc)) (same _ s.cell d refl) (silent_of [] d.sends tt)
-    cell_roads low (move.ignores_set n c r is has d) = plain (other _ is (λ x z. cc)) (same _ s.cell d refl) (silent_of [] d.sends tt)
-    cell_roads low (move.hears_drop n is d) = plain (other _ is (λ x z. cc)) (same _ s.cell d refl) (silent_of [] d.sends tt)
+        plain (other _ n (λ x z. cc)) (turned _ s.cell r _ d has refl refl) (next_of _ s.cell d refl) (silent_of [] d.sends tt)
+    cell_roads low (move.passes c p n own has at d) = plain (other _ n (λ x z. cc)) (same _ s.cell d refl) (next_of _ s.cell d refl) (silent_of _ d.sends (refl, tt))
+    cell_roads low (move.lands r n own has may d) = arrives r n low has (ap (λ a. a.slot.real) d.state) (ap (λ a. a.slot.next) d.state) d.sends
+    cell_roads low (move.hears_set n c is has d) = plain (other _ is (λ x z. cc)) (same _ s.cell d refl) (next_of _ s.cell d refl) (silent_of [] d.sends tt)
+    cell_roads low (move.ignores_set n c r is has d) = plain (other _ is (λ x z. cc)) (same _ s.cell d refl) (next_of _ s.cell d refl) (silent_of [] d.sends tt)
+    cell_roads low (move.hears_drop n is d) = plain (other _ is (λ x z. cc)) (same _ s.cell d refl) (next_of _ s.cell d refl) (silent_of [] d.sends tt)
     cell_roads low (move.reaped r n has own may d) = absurd (spared n)
     cell_roads low (move.ticks n st z) =
-        plain (other _ n (λ x y. cc)) (ap (λ a. option_map generation_of a.slot.real) st) (silent_of [] z tt)
-    cell_roads low (move.unlists n is at b d) = plain (no_hand is) (same _ _ d refl) (silent_of [] d.sends tt)
+        plain (other _ n (λ x y. cc)) (ap (λ a. option_map generation_of a.slot.real) st) (ap (λ a. a.slot.next) st) (silent_of [] z tt)
+    cell_roads low (move.unlists n is at b d) = plain (no_hand is) (same _ _ d refl) (next_of _ _ d refl) (silent_of [] d.sends tt)
     cell_roads low (move.looks n r w known is at has own v small d) =
         plain (no_hand is) (turned (looks_with (here_at f k) s.cell.slot r w known (shown_of (here_at f k) r w known)) _ r _ d has refl refl)
+        (next_of (looks_with (here_at f k) s.cell.slot r w known (shown_of (here_at f k) r w known)) _ d refl)
         (silent_of _ d.sends (numbered_silent road_of (base_of (here_at f k) r.entity) r.entity w.sent _ (λ u. refl)))
-    cell_roads low (move.overlooks n known is at b d) = plain (no_hand is) (same _ _ d refl) (silent_of [] d.sends tt)
-    cell_roads low (move.stuck r is has ready may d) = plain (no_hand is) (same _ s.cell d refl) (silent_of [] d.sends tt)
+    cell_roads low (move.overlooks n known is at b d) = plain (no_hand is) (same _ _ d refl) (next_of _ _ d refl) (silent_of [] d.sends tt)
+    cell_roads low (move.stuck r is has ready may d) = plain (no_hand is) (same _ s.cell d refl) (next_of _ s.cell d refl) (silent_of [] d.sends tt)
 
     hand_at_base : cell_count ≤ k → (r : RealView) → i ≡ Some (Hand r) → ⊥
     hand_at_base high r is = let low = (room r is).cell in omega (arith, low, high)
 
     base_roads : cell_count ≤ k → t.cell ≡ s.cell → (cells : ℕ) → BaseMoves (here_at f k) cells e s.base i t.base sent → Roads
     base_roads high cell cells m =
-        plain (hand_at_base high) (ap (λ (c : AtCell). option_map generation_of c.slot.real) cell) (base_silent m)
+        plain (hand_at_base high) (ap (λ (c : AtCell). option_map generation_of c.slot.real) cell)
+        (ap (λ (c : AtCell). c.slot.next) cell) (base_silent m)
       where
         one : (l : List (ℕ × Msg)) → sent ≡ l → IsSilent road_of l → IsSilent road_of sent
         one l is h = subst (IsSilent road_of) (sym is) h

@@ -134,23 +134,23 @@ module _ (f : Frame) (e : ℕ) where
       (current_good k r.entity r.generation low small, told_good k r few low js)
 
   -- what is known of the letter that comes
-  abbrev Came : Option Msg → Type 0
+  abbrev pub Came : Option Msg → Type 0
   Came i = ((r : RealView) → i ≡ Some (Hand r) → real_burden r < limit) × (i ≡ Some (Reap e) → ⊥)
 
   -- ---- a step
 
   module _ (w v : World) (g : Goes (λ k s i t out. MovesTo f e k s i t out × Came i) (entity_flow e w) (entity_flow e v))
       (room : (r : RealView) → comes g.input ≡ Some (Hand r) → FindsRoom f g.k ((entity_flow e w).slot g.k) r) (h : IsRouted w) where
-    abbrev before : Flow Had Msg
+    abbrev pub before : Flow Had Msg
     before = entity_flow e w
 
-    abbrev after : Flow Had Msg
+    abbrev pub after : Flow Had Msg
     after = entity_flow e v
 
-    abbrev sent : List (ℕ × Msg)
+    abbrev pub sent : List (ℕ × Msg)
     sent = g.moves.0.sent
 
-    road : Roads f e g.k (before.slot g.k) (comes g.input) (after.slot g.k) sent
+    pub road : Roads f e g.k (before.slot g.k) (comes g.input) (after.slot g.k) sent
     road = roads f e g.k (before.slot g.k) (comes g.input) (after.slot g.k) sent room g.moves.1.1 g.moves.0.moves
 
     letter_good : (m : Msg) → comes g.input ≡ Some m → IsGoodRoute m
@@ -200,22 +200,26 @@ module _ (f : Frame) (e : ℕ) where
     abbrev Handles_it : Type 0
     Handles_it = Handles real_in real_of Any (before.slot g.k) (comes g.input) (after.slot g.k) g.out
 
+    -- what is routed then, the generation of the real, and where it is
+    abbrev pub Grows : ℕ → Place → Type 0
+    Grows n p = (x : IsRouted v) × (x.real.generation ≡ n) × (x.place ≡ p)
+
     -- the real stays
     plain_by : (x y : Option RealView) → real_in (before.slot g.k) ≡ x → real_in (after.slot g.k) ≡ y →
         option_map generation_of y ≡ option_map generation_of x → carried_in real_of (comes g.input) ≡ None → IsSilent road_of sent →
-        IsRouted v
-    plain_by None None was is gen none silent = record {
+        Grows h.real.generation h.place
+    plain_by None None was is gen none silent = (record {
       place = h.place;
       real = h.real;
       one = sole_goes real_in real_of Any g h.place h.real h.one (still (is ∙ sym was) none (sends_none silent));
       good = good_then (all_good sent silent);
       there = there_then;
       known = λ b high low. known_stays b high low h.place h.real (h.known b high low) (no_routes sent silent);
-    }
+    }, refl, refl)
     plain_by (Some r) (Some q) was is gen none silent =
         let same = (sole_here real_in real_of before h.place h.real r g.k h.one was).1 in
         let rise : q.generation ≡ h.real.generation = (let z : q.generation ≡ r.generation = let y = gen in cc in z) ∙ ap generation_of same in
-        record {
+        (record {
           place = h.place;
           real = q;
           one = sole_goes real_in real_of Any g h.place h.real h.one (turns r q was is (inr tt) none (sends_none silent));
@@ -223,7 +227,7 @@ module _ (f : Frame) (e : ℕ) where
           there = there_then;
           known = λ b high low.
               known_stays b high low h.place q (same_known h.place h.real q before b rise (h.known b high low)) (no_routes sent silent);
-        }
+        }, rise, refl)
     plain_by None (Some q) was is gen none silent = cc
     plain_by (Some r) None was is gen none silent = cc
 
@@ -234,7 +238,7 @@ module _ (f : Frame) (e : ℕ) where
     key_by (In x) a b is n = cc
 
     arrives_by : (r : RealView) → comes g.input ≡ Some (Hand r) → g.k < cell_count → real_in (after.slot g.k) ≡ Some r →
-        sent ≡ currents (here_at f g.k) r → IsRouted v
+        sent ≡ currents (here_at f g.k) r → Grows h.real.generation (In g.k)
     arrives_by r is low at z =
         let carried = ap (carried_in real_of) is in
         let from = sole_came real_in real_of g h.place h.real r h.one carried in
@@ -242,7 +246,7 @@ module _ (f : Frame) (e : ℕ) where
             subst (IsSilent real_of) (sym z) (mapped_silent real_of (current_to (here_at f g.k) r) (λ b. refl) (base_numbers (here_at f g.k))) in
         let none : SendsNone real_of g.out =
             λ j. ap (letters_of real_of) (g.moves.0.items j) ∙ sees_none real_of j sent no_hands in
-        record {
+        (record {
           place = In g.k;
           real = r;
           one = sole_goes real_in real_of Any g h.place h.real h.one (lands r r carried at (inl refl) none);
@@ -256,7 +260,7 @@ module _ (f : Frame) (e : ℕ) where
               (λ same. absurd (omega (arith, same, low, high)))
               (subst (AllBring brings (NotAbove r.generation g.k)) (sym out) (inr (refl, refl), tt))
               (inr (subst (Has brings (r.generation, g.k)) (sym out) (inl refl)));
-        }
+        }, ap generation_of from.2, refl)
 
     -- the real goes
     at_by : (p : Place) (b : ℕ) → p ≡ In g.k → IsKnownAt p h.real before b → Newest entry brings before b h.real.generation g.k
@@ -265,7 +269,7 @@ module _ (f : Frame) (e : ℕ) where
 
     departs_by : (r q : RealView) (j : ℕ) (first : List (ℕ × Msg)) → ((x : RealView) → comes g.input ≡ Some (Hand x) → ⊥) →
         real_in (before.slot g.k) ≡ Some r → real_in (after.slot g.k) ≡ None → q.generation ≡ r.generation + 1 → IsSilent road_of first →
-        sent ≡ first ++ (j, Hand q) ∷ [] → IsRouted v
+        sent ≡ first ++ (j, Hand q) ∷ [] → Grows (h.real.generation + 1) (On g.k j)
     departs_by r q j first no_hand was gone gen silent z =
         let at = sole_here real_in real_of before h.place h.real r g.k h.one was in
         let one : SendsOne real_of g.out j q = record {
@@ -277,7 +281,7 @@ module _ (f : Frame) (e : ℕ) where
               ∙ (sees_after_silent real_of x first ((j, Hand q) ∷ []) (no_reals first silent) ∙ sees_one_there real_of j x (Hand q) n);
         } in
         let rise : h.real.generation < q.generation = let same = ap generation_of at.1 in omega (arith, gen, same) in
-        record {
+        (record {
           place = On g.k j;
           real = q;
           one = sole_goes real_in real_of Any g h.place h.real h.one (leaves r q j was gone (inr tt) (no_carried (comes g.input) no_hand) one);
@@ -291,16 +295,27 @@ module _ (f : Frame) (e : ℕ) where
             stays_new b high low h.real.generation g.k (at_by h.place b at.0 (h.known b high low)) (first ++ (j, Hand q) ∷ [])
             (all_append (λ p. brings p.1 ≡ None) first ((j, Hand q) ∷ []) (no_routes first silent) (refl, tt)) z,
           );
-        }
+        }, gen ∙ ap (λ x. generation_of x + 1) at.1, refl)
 
-    routed_by : Roads f e g.k (before.slot g.k) (comes g.input) (after.slot g.k) sent → IsRouted v
-    routed_by (plain no_hand gen silent) =
+    -- the generation after the step: it rises by one where the real is handed over
+    abbrev pub grown : Roads f e g.k (before.slot g.k) (comes g.input) (after.slot g.k) sent → ℕ
+    grown (plain no_hand gen next silent) = h.real.generation
+    grown (arrives r is low free at next z) = h.real.generation
+    grown (departs r q j first no_hand was gone gen next silent z) = h.real.generation + 1
+
+    abbrev pub place_then : Roads f e g.k (before.slot g.k) (comes g.input) (after.slot g.k) sent → Place
+    place_then (plain no_hand gen next silent) = h.place
+    place_then (arrives r is low free at next z) = In g.k
+    place_then (departs r q j first no_hand was gone gen next silent z) = On g.k j
+
+    pub routed_by : (x : Roads f e g.k (before.slot g.k) (comes g.input) (after.slot g.k) sent) → Grows (grown x) (place_then x)
+    routed_by (plain no_hand gen next silent) =
         plain_by (real_in (before.slot g.k)) (real_in (after.slot g.k)) refl refl gen (no_carried (comes g.input) no_hand) silent
-    routed_by (arrives r is low at z) = arrives_by r is low at z
-    routed_by (departs r q j first no_hand was gone gen silent z) = departs_by r q j first no_hand was gone gen silent z
+    routed_by (arrives r is low free at next z) = arrives_by r is low at z
+    routed_by (departs r q j first no_hand was gone gen next silent z) = departs_by r q j first no_hand was gone gen silent z
 
     pub routed_goes : IsRouted v
-    routed_goes = routed_by road
+    routed_goes = (routed_by road).0
 
   -- ---- every list of events
 
