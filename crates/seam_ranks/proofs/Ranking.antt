@@ -19,16 +19,14 @@ use Rattle.seam_entity.specs.Reals.{RealView}
 use Rattle.seam_entity.specs.declared.message.Msg.{Msg}
 use Rattle.seam_entity.specs.declared.message.Msg.TheVariants.{Call, BaseCall, Hand, Current, GhostSet, GhostDrop, Tick, Reap, Update}
 use Rattle.seam_steps.specs.Slots.{NextPlace}
-use Rattle.seam_steps.specs.CellCases.{currents}
 use Rattle.seam_steps.specs.Nodes.{World, node_steps, node_has_work}
-use Rattle.seam_moves.specs.Frames.{Frame, here_at}
+use Rattle.seam_moves.specs.Frames.{Frame}
 use Rattle.seam_moves.specs.Sights.{Has, entity_flow}
 use Rattle.seam_moves.specs.Moves.{MovesTo}
-use Rattle.seam_ones.specs.Ones.{real_in, real_of, IsOne, IsSpared, IsFrame, HasOne}
-use Rattle.seam_ones.specs.Burdens.{real_burden}
+use Rattle.seam_ones.specs.Ones.{real_in, real_of, IsSpared, IsFrame, HasOne}
 use Rattle.seam_ones.proofs.Handling.{FindsRoom}
 use Rattle.seam_ones.proofs.OneReal.{goes, room, one_happens, calm_of, spared_happens}
-use Rattle.seam_rounds.proofs.RoadMoves.{road_of, generation_of, generation_in, Roads, plain, arrives, departs, roads}
+use Rattle.seam_rounds.proofs.RoadMoves.{generation_of, generation_in, Roads, plain, arrives, departs}
 use Rattle.seam_rounds.proofs.RoadRuns.{IsRouted, Came, road, grown, place_then, routed_by}
 use Rattle.seam_ranks.specs.Ranks.{rank_by, rank_of, is_hand_from, has_hand_from, ComesTo, AreRanked, is_handed_over, Climbs}
 
@@ -242,9 +240,9 @@ module _ (f : Frame) (e : ℕ) (w v : World)
   more_by q j first l m z is (none no_ nil) = absurd (no_ refl)
   more_by q j first l m z is (own same out) =
       let items : m ≡ items_to j first ++ Hand q ∷ [] =
-          out
-          ∙ (g.moves.0.items j
-          ∙ (ap (items_to j) z ∙ (items_to-append j first ((j, Hand q) ∷ []) ∙ ap (λ y. items_to j first ++ y) (one_here j (Hand q))))) in
+      out
+      ∙ (g.moves.0.items j
+      ∙ (ap (items_to j) z ∙ (items_to-append j first ((j, Hand q) ∷ []) ∙ ap (λ y. items_to j first ++ y) (one_here j (Hand q))))) in
       ap (has_hand_from q.generation) is
       ∙ from_right q.generation l m
       (ap (has_hand_from q.generation) items

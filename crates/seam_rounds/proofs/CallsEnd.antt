@@ -1,5 +1,5 @@
 -- Where the calls of a batch leave the world quiet, the record between rounds holds again.
-use Rattle.std.proofs.Common.{◌≡◌, ℕ, ◌+◌, ◌<◌, ◌≤◌, ◌⊎◌, Bool, cond, is_some, List, [], ◌∷◌, ◌++◌, length, Option, None, Some, refl, sym, ap}
+use Rattle.std.proofs.Common.{◌≡◌, ℕ, ◌+◌, ◌<◌, ◌≤◌, ◌⊎◌, cond, is_some, List, [], ◌∷◌, None, Some, refl, sym, ap}
 use Rattle.std.proofs.Common.{◌∙◌, subst, arith, inl, inr}
 use Rattle.std.specs.List.{AllByRecursion}
 use Rattle.std.specs.FinMap as table
@@ -10,7 +10,7 @@ use Rattle.seam_machine.specs.declared.machines.Event.{Event}
 use Rattle.seam_machine.proofs.Quiet.{quiet_links}
 use Rattle.seam_flows.specs.Flows.{Flow, letters_of}
 use Rattle.seam_flows.specs.Newest.{NotAbove, AllBring}
-use Rattle.seam_flows.specs.Tokens.{Place, In, On, Sole, Nobody}
+use Rattle.seam_flows.specs.Tokens.{Place, In, On}
 use Rattle.seam_flows.proofs.TokenLemmas.{sole_here}
 use Rattle.seam_delivery.specs.Numbered.{number_from}
 use Rattle.seam_order.specs.Held.{item_at}
@@ -22,13 +22,12 @@ use Rattle.seam_entity.specs.Orders.{order_or}
 use Rattle.seam_entity.specs.Reals.{RealView}
 use Rattle.seam_entity.specs.declared.message.Msg.{Msg}
 use Rattle.seam_steps.specs.Here.{cell_count}
-use Rattle.seam_steps.specs.Bases.{RouteView}
 use Rattle.seam_steps.specs.Nodes.{World, node_steps, node_has_work}
 use Rattle.seam_steps.specs.Loads.{loaded}
 use Rattle.seam_moves.specs.Frames.{Frame}
 use Rattle.seam_moves.specs.Sights.{Has, mine, entity_flow}
 use Rattle.seam_ones.specs.Fits.{RealFits}
-use Rattle.seam_ones.specs.Ones.{real_in, real_of, IsOne, HasOne, OneFrom}
+use Rattle.seam_ones.specs.Ones.{real_in, real_of, IsOne, OneFrom}
 use Rattle.seam_ones.proofs.Gone.{gone_leads}
 use Rattle.seam_ones.proofs.OneReal.{one_leads}
 use Rattle.seam_once.specs.CellTurns.{desk_for, real_desk, as_sender}
@@ -114,7 +113,7 @@ module _ (f : Frame) (w : World) (b : Batch) (between : IsBetweenRounds f w) (fi
         none_by [] is = refl
         none_by (p ∷ ps) is =
             let first : item_at p.0 (order_or (table.get q.orders s)).held ≡ Some p.1 =
-                ap (item_at p.0) is ∙ ap (λ c. cond c (Some p.1) (item_at p.0 ps)) (eq-eqb p.0 p.0 refl) in
+            ap (item_at p.0) is ∙ ap (λ c. cond c (Some p.1) (item_at p.0 ps)) (eq-eqb p.0 p.0 refl) in
             let due =
             held_is_due (next_from s r) (calls_of b e s) (as_sender s (entity_flow e v)) turn.place turn.desk turn.in_turn k p.0 p.1
             (desk_for s q.orders q.done) desk_there first in

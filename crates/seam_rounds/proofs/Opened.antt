@@ -1,36 +1,31 @@
 -- A world as it is opened keeps the record between rounds.
-use Rattle.std.proofs.Common.{◌≡◌, ℕ, zero, suc, ◌+◌, ◌<◌, ◌≤◌, Bool, true, false, ◌||◌, is_some, List, [], ◌∷◌, ◌++◌, map, find, length, replicate, Option}
+use Rattle.std.proofs.Common.{◌≡◌, ℕ, zero, suc, ◌+◌, ◌<◌, ◌≤◌, false, ◌||◌, is_some, List, [], ◌++◌, map, find, length, replicate}
 use Rattle.std.proofs.Common.{None, Some, refl, sym, ap, ◌∙◌, subst, arith}
 use Rattle.std.specs.Prelude.{option_map, slice_get, slice_index_or}
-use Rattle.std.specs.List.{All, range_with_len}
+use Rattle.std.specs.List.{range_with_len}
 use Rattle.std.specs.Ordering.{nat_cmp}
 use Rattle.std.specs.FinMap as table
 use Rattle.std.proofs.lemmas.List.{append-nil, length-append, length-replicate}
 use Rattle.std.proofs.lemmas.List.Elements.{All-replicate}
 use Rattle.std.proofs.lemmas.List.FromFn.{length-map-range_with_len}
 use Rattle.std.proofs.lemmas.Option.{slice_get-get_or}
-use Rattle.seam_tree.specs.Division.{Division}
 use Rattle.seam_defs.specs.declared.settings.Settings.{Settings}
 use Rattle.seam_defs.specs.declared.types.TypeDef.{TypeDef}
-use Rattle.seam_machine.specs.Nets.{link, IsSquare, ArePeers}
-use Rattle.seam_machine.specs.Events.{EachNode}
+use Rattle.seam_machine.specs.Nets.{IsSquare, ArePeers}
 use Rattle.seam_machine.proofs.Quiet.{quiet_from}
-use Rattle.seam_flows.specs.Flows.{slot_at}
-use Rattle.seam_entity.specs.Reals.{RealView}
 use Rattle.seam_steps.specs.Maps.{number_of}
-use Rattle.seam_steps.specs.Here.{cell_count, cell_numbers, base_numbers}
+use Rattle.seam_steps.specs.Here.{cell_count, cell_numbers}
 use Rattle.seam_steps.specs.Cells.{real_is_ready}
 use Rattle.seam_steps.specs.BaseCases.{part_is_ready, client_is_ready}
 use Rattle.seam_steps.specs.Nodes.{NodeView, World, node_peers, node_has_work}
-use Rattle.seam_steps.specs.Nodes.NodeView.{Cell, Base}
 use Rattle.seam_steps.specs.Valid.{IsNode}
-use Rattle.seam_steps.specs.Loads.{one_cell, empty_cell, empty_base, opened}
+use Rattle.seam_steps.specs.Loads.{empty_cell, empty_base, opened}
 use Rattle.seam_steps.proofs.Tables.{entries_empty}
 use Rattle.seam_moves.specs.Frames.{Frame, IsAt}
-use Rattle.seam_moves.specs.Sights.{has_of, has_none, entity_flow}
+use Rattle.seam_moves.specs.Sights.{has_of, entity_flow}
 use Rattle.seam_ones.specs.Ones.{real_in, IsFrame}
 use Rattle.seam_ones.proofs.ExampleMet.{no_link, slots}
-use Rattle.seam_between.specs.Between.{IsSettled, IsBetweenRounds}
+use Rattle.seam_between.specs.Between.{IsBetweenRounds}
 use Rattle.seam_rounds.specs.Rounds.{first_frame}
 
 -- what is true of each that is made for a range of numbers, and of what comes after

@@ -1,5 +1,5 @@
 -- The public version stays at most the version.
-use Rattle.std.proofs.Common.{◌≡◌, ℕ, ◌+◌, ◌≤◌, Bool, true, false, List, [], ◌∷◌, sym, subst, arith}
+use Rattle.std.proofs.Common.{ℕ, ◌+◌, ◌≤◌, Bool, true, false, List, [], ◌∷◌, sym, subst, arith}
 use Rattle.seam_defs.specs.Types.{type_of}
 use Rattle.seam_defs.specs.declared.types.TypeDef.{TypeDef}
 use Rattle.seam_call.specs.declared.call.Call.{Call as CallData}

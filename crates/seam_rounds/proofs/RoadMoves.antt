@@ -14,7 +14,6 @@ use Rattle.seam_steps.specs.Numbers.{limit, is_small}
 use Rattle.seam_steps.specs.Here.{cell_count, base_of}
 use Rattle.seam_steps.specs.Slots.{SlotStep, slot_after}
 use Rattle.seam_steps.specs.Settle.{haunts_at, ghost_messages, settled_to}
-use Rattle.seam_steps.specs.Settle as settle
 use Rattle.seam_steps.specs.CellCases.{currents, is_stray, may_come}
 use Rattle.seam_steps.specs.Looks.{shown_of, looks_with}
 use Rattle.seam_steps.specs.Bases.{RouteView}

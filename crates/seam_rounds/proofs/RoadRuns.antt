@@ -1,5 +1,5 @@
 -- Over every list of events each base node's newest route, among the one that it has and those on their way, leads to the real.
-use Rattle.std.proofs.Common.{◌≡◌, ℕ, zero, suc, ◌+◌, ◌<◌, ◌≤◌, ◌⊎◌, Bool, true, false, cond, eqb, is_some, List, [], ◌∷◌, ◌++◌, map, length, Option}
+use Rattle.std.proofs.Common.{◌≡◌, ℕ, zero, suc, ◌+◌, ◌<◌, ◌≤◌, true, is_some, List, [], ◌∷◌, ◌++◌, map, length, Option}
 use Rattle.std.proofs.Common.{None, Some, refl, sym, ap, ◌∙◌, subst, arith, inl, inr}
 use Rattle.std.specs.Prelude.{option_map}
 use Rattle.std.specs.List.{AllByRecursion, range_with_len}
@@ -12,8 +12,8 @@ use Rattle.seam_runs.proofs.Runs.{leads_keeps}
 use Rattle.seam_flows.specs.Flows.{Flow, Goes, comes, letters_of}
 use Rattle.seam_flows.specs.Newest.{NotAbove, OfEntry, AllBring, Has, entry_in, greater_entry, Newest}
 use Rattle.seam_flows.specs.Sent.{IsSilent}
-use Rattle.seam_flows.specs.Tokens.{carried_in, Place, In, On, Sole, SendsNone, SendsOne, Handles, still, turns, lands, leaves}
-use Rattle.seam_flows.proofs.Following.{all_append, slots_kept, letters_kept, came}
+use Rattle.seam_flows.specs.Tokens.{carried_in, Place, In, On, SendsNone, SendsOne, Handles, still, turns, lands, leaves}
+use Rattle.seam_flows.proofs.Following.{all_append, letters_kept, came}
 use Rattle.seam_flows.proofs.NewestLemmas.{newest_stays, newest_rises, newest_rests}
 use Rattle.seam_flows.proofs.SendLists.{sees_none, sees_after_silent, sees_one_here, sees_one_there}
 use Rattle.seam_flows.proofs.TokenLemmas.{sole_here, sole_came, sole_goes}
@@ -34,7 +34,7 @@ use Rattle.seam_ones.proofs.Sparing.{items_all}
 use Rattle.seam_ones.proofs.OneReal.{goes, room, one_happens, calm_of, spared_happens}
 use Rattle.seam_ones.proofs.Handling.{FindsRoom}
 use Rattle.seam_moves.specs.Moves.{MovesTo}
-use Rattle.seam_rounds.proofs.RoadMoves.{road_of, generation_of, generation_in, entry_of, entry, brings, IsGoodRoute, Roads, plain, arrives, departs}
+use Rattle.seam_rounds.proofs.RoadMoves.{road_of, generation_of, entry_of, entry, brings, IsGoodRoute, Roads, plain, arrives, departs}
 use Rattle.seam_rounds.proofs.RoadMoves.{roads, Reroutes, reroutes}
 
 -- ---- letters that bring no route and carry no real
@@ -208,26 +208,33 @@ module _ (f : Frame) (e : ℕ) where
     plain_by : (x y : Option RealView) → real_in (before.slot g.k) ≡ x → real_in (after.slot g.k) ≡ y →
         option_map generation_of y ≡ option_map generation_of x → carried_in real_of (comes g.input) ≡ None → IsSilent road_of sent →
         Grows h.real.generation h.place
-    plain_by None None was is gen none silent = (record {
-      place = h.place;
-      real = h.real;
-      one = sole_goes real_in real_of Any g h.place h.real h.one (still (is ∙ sym was) none (sends_none silent));
-      good = good_then (all_good sent silent);
-      there = there_then;
-      known = λ b high low. known_stays b high low h.place h.real (h.known b high low) (no_routes sent silent);
-    }, refl, refl)
+    plain_by None None was is gen none silent = (
+      record {
+        place = h.place;
+        real = h.real;
+        one = sole_goes real_in real_of Any g h.place h.real h.one (still (is ∙ sym was) none (sends_none silent));
+        good = good_then (all_good sent silent);
+        there = there_then;
+        known = λ b high low. known_stays b high low h.place h.real (h.known b high low) (no_routes sent silent);
+      },
+      refl,
+      refl,
+    )
     plain_by (Some r) (Some q) was is gen none silent =
         let same = (sole_here real_in real_of before h.place h.real r g.k h.one was).1 in
-        let rise : q.generation ≡ h.real.generation = (let z : q.generation ≡ r.generation = let y = gen in cc in z) ∙ ap generation_of same in
-        (record {
-          place = h.place;
-          real = q;
-          one = sole_goes real_in real_of Any g h.place h.real h.one (turns r q was is (inr tt) none (sends_none silent));
-          good = good_then (all_good sent silent);
-          there = there_then;
-          known = λ b high low.
-              known_stays b high low h.place q (same_known h.place h.real q before b rise (h.known b high low)) (no_routes sent silent);
-        }, rise, refl)
+        let rise : q.generation ≡ h.real.generation = (let z : q.generation ≡ r.generation = let y = gen in cc in z) ∙ ap generation_of same in (
+          record {
+            place = h.place;
+            real = q;
+            one = sole_goes real_in real_of Any g h.place h.real h.one (turns r q was is (inr tt) none (sends_none silent));
+            good = good_then (all_good sent silent);
+            there = there_then;
+            known = λ b high low.
+                known_stays b high low h.place q (same_known h.place h.real q before b rise (h.known b high low)) (no_routes sent silent);
+          },
+          rise,
+          refl,
+        )
     plain_by None (Some q) was is gen none silent = cc
     plain_by (Some r) None was is gen none silent = cc
 
@@ -243,24 +250,27 @@ module _ (f : Frame) (e : ℕ) where
         let carried = ap (carried_in real_of) is in
         let from = sole_came real_in real_of g h.place h.real r h.one carried in
         let no_hands : IsSilent real_of sent =
-            subst (IsSilent real_of) (sym z) (mapped_silent real_of (current_to (here_at f g.k) r) (λ b. refl) (base_numbers (here_at f g.k))) in
+        subst (IsSilent real_of) (sym z) (mapped_silent real_of (current_to (here_at f g.k) r) (λ b. refl) (base_numbers (here_at f g.k))) in
         let none : SendsNone real_of g.out =
-            λ j. ap (letters_of real_of) (g.moves.0.items j) ∙ sees_none real_of j sent no_hands in
-        (record {
-          place = In g.k;
-          real = r;
-          one = sole_goes real_in real_of Any g h.place h.real h.one (lands r r carried at (inl refl) none);
-          good = good_then (subst (AllByRecursion (λ p. IsGoodRoute p.1)) (sym z) (told_good g.k r (g.moves.1.0 r is) low (base_numbers (here_at f g.k))));
-          there = there_then;
-          known = λ b high below.
-              let n = key_by h.place from.0 b from.1 (h.known b high below) in
-              let out : g.out b ≡ Current r.entity g.k r.generation ∷ [] =
-                  g.moves.0.items b ∙ (ap (items_to b) z ∙ told_here (Current r.entity g.k r.generation) cell_count f.settings.bases b high below) in
-              newest_rises brings entry g b n.0 r.generation n.1 g.k n.3 (let lt = n.2 in let gen = ap generation_of from.2 in omega (arith, lt, gen))
-              (λ same. absurd (omega (arith, same, low, high)))
-              (subst (AllBring brings (NotAbove r.generation g.k)) (sym out) (inr (refl, refl), tt))
-              (inr (subst (Has brings (r.generation, g.k)) (sym out) (inl refl)));
-        }, ap generation_of from.2, refl)
+        λ j. ap (letters_of real_of) (g.moves.0.items j) ∙ sees_none real_of j sent no_hands in (
+          record {
+            place = In g.k;
+            real = r;
+            one = sole_goes real_in real_of Any g h.place h.real h.one (lands r r carried at (inl refl) none);
+            good = good_then (subst (AllByRecursion (λ p. IsGoodRoute p.1)) (sym z) (told_good g.k r (g.moves.1.0 r is) low (base_numbers (here_at f g.k))));
+            there = there_then;
+            known = λ b high below.
+                let n = key_by h.place from.0 b from.1 (h.known b high below) in
+                let out : g.out b ≡ Current r.entity g.k r.generation ∷ [] =
+                g.moves.0.items b ∙ (ap (items_to b) z ∙ told_here (Current r.entity g.k r.generation) cell_count f.settings.bases b high below) in
+                newest_rises brings entry g b n.0 r.generation n.1 g.k n.3 (let lt = n.2 in let gen = ap generation_of from.2 in omega (arith, lt, gen))
+                (λ same. absurd (omega (arith, same, low, high)))
+                (subst (AllBring brings (NotAbove r.generation g.k)) (sym out) (inr (refl, refl), tt))
+                (inr (subst (Has brings (r.generation, g.k)) (sym out) (inl refl)));
+          },
+          ap generation_of from.2,
+          refl,
+        )
 
     -- the real goes
     at_by : (p : Place) (b : ℕ) → p ≡ In g.k → IsKnownAt p h.real before b → Newest entry brings before b h.real.generation g.k
@@ -280,22 +290,25 @@ module _ (f : Frame) (e : ℕ) where
               ap (letters_of real_of) (g.moves.0.items x ∙ ap (items_to x) z)
               ∙ (sees_after_silent real_of x first ((j, Hand q) ∷ []) (no_reals first silent) ∙ sees_one_there real_of j x (Hand q) n);
         } in
-        let rise : h.real.generation < q.generation = let same = ap generation_of at.1 in omega (arith, gen, same) in
-        (record {
-          place = On g.k j;
-          real = q;
-          one = sole_goes real_in real_of Any g h.place h.real h.one (leaves r q j was gone (inr tt) (no_carried (comes g.input) no_hand) one);
-          good = good_then (subst (AllByRecursion (λ p. IsGoodRoute p.1)) (sym z)
-              (all_append (λ p. IsGoodRoute p.1) first ((j, Hand q) ∷ []) (all_good first silent) (hand_good q, tt)));
-          there = there_then;
-          known = λ b high low. (
-            h.real.generation,
-            g.k,
-            rise,
-            stays_new b high low h.real.generation g.k (at_by h.place b at.0 (h.known b high low)) (first ++ (j, Hand q) ∷ [])
-            (all_append (λ p. brings p.1 ≡ None) first ((j, Hand q) ∷ []) (no_routes first silent) (refl, tt)) z,
-          );
-        }, gen ∙ ap (λ x. generation_of x + 1) at.1, refl)
+        let rise : h.real.generation < q.generation = let same = ap generation_of at.1 in omega (arith, gen, same) in (
+          record {
+            place = On g.k j;
+            real = q;
+            one = sole_goes real_in real_of Any g h.place h.real h.one (leaves r q j was gone (inr tt) (no_carried (comes g.input) no_hand) one);
+            good = good_then (subst (AllByRecursion (λ p. IsGoodRoute p.1)) (sym z)
+                (all_append (λ p. IsGoodRoute p.1) first ((j, Hand q) ∷ []) (all_good first silent) (hand_good q, tt)));
+            there = there_then;
+            known = λ b high low. (
+              h.real.generation,
+              g.k,
+              rise,
+              stays_new b high low h.real.generation g.k (at_by h.place b at.0 (h.known b high low)) (first ++ (j, Hand q) ∷ [])
+                  (all_append (λ p. brings p.1 ≡ None) first ((j, Hand q) ∷ []) (no_routes first silent) (refl, tt)) z,
+            );
+          },
+          gen ∙ ap (λ x. generation_of x + 1) at.1,
+          refl,
+        )
 
     -- the generation after the step: it rises by one where the real is handed over
     abbrev pub grown : Roads f e g.k (before.slot g.k) (comes g.input) (after.slot g.k) sent → ℕ

@@ -1,10 +1,8 @@
 -- Over every list of events an entity that has its real is in lists only where that is, and what is on its way fits.
-use Rattle.std.proofs.Common.{◌≡◌, ℕ, ◌+◌, ◌<◌, ◌≤◌, Bool, true, false, List, [], ◌∷◌, length, Option, None, Some, refl}
+use Rattle.std.proofs.Common.{◌≡◌, ℕ, ◌<◌, ◌≤◌, true, List, length, Option, None, Some, refl}
 use Rattle.std.proofs.Common.{sym, ap, subst, arith}
 use Rattle.std.specs.Prelude.{slice_get}
 use Rattle.std.specs.List.{AllByRecursion}
-use Rattle.seam_defs.specs.Types.{type_of}
-use Rattle.seam_defs.specs.declared.types.TypeDef.{TypeDef}
 use Rattle.seam_machine.specs.Nets.{happens, enabled, LeadsTo}
 use Rattle.seam_machine.specs.Events.{Occurs}
 use Rattle.seam_machine.specs.declared.machines.Input.TheVariants.{Task}
@@ -16,16 +14,13 @@ use Rattle.seam_runs.proofs.Weighing.{weight_bounds}
 use Rattle.seam_flows.specs.Flows.{comes, slot_at}
 use Rattle.seam_flows.proofs.Following.{slots_kept, letters_kept}
 use Rattle.seam_flows.proofs.TokenLemmas.{sole_here}
-use Rattle.seam_call.specs.declared.call.Call.{Call as CallData}
 use Rattle.seam_entity.specs.Reals.{RealView}
 use Rattle.seam_steps.specs.Numbers.{limit}
-use Rattle.seam_steps.specs.Reals.{public_after}
 use Rattle.seam_steps.specs.Nodes.{NodeView, World, node_steps, node_has_work}
 use Rattle.seam_moves.specs.Frames.{Frame, IsInFrame}
 use Rattle.seam_moves.specs.Sights.{has_of, has_none, entity_flow}
 use Rattle.seam_moves.proofs.Classify.{frame_happens, event_moves}
 use Rattle.seam_ones.specs.Burdens.{real_burden, has_burden, node_burden, mine_burden, burden}
-use Rattle.seam_ones.specs.Replays.{Account, account_of, after_call, after_calls, Replays}
 use Rattle.seam_ones.specs.Ones.{real_in, real_of, IsSpared, IsFrame, OneFrom}
 use Rattle.seam_ones.proofs.Replaying.{replays_on}
 use Rattle.seam_ones.proofs.OneReal.{goes, one_happens, calm_of, spared_happens}
