@@ -68,7 +68,8 @@ module _ (f : Frame) (w : World) (b : Batch) (between : IsBetweenRounds f w) (fi
     -- what a run keeps
     abbrev pub Keeps : World → Type 0
     Keeps v =
-        Kept (framed f b) frame_loaded e r.ty its.settled.type (λ s. next_from s r) (calls_of b e) (are_calls f w b between fits e home r here)
+        Kept (framed f b) frame_loaded e r.ty its.settled.type (λ s. next_from s r) (calls_of b e)
+        (are_calls f w b between fits e home r here)
         v
 
     pub kept_loaded : Keeps (loaded w b)

@@ -35,7 +35,8 @@ use Rattle.seam_ones.proofs.ExampleMet.{slots}
 use Rattle.seam_between.specs.Between.{next_from, numbers_of, IsSettled, IsBetweenRounds, MayBeMade, IsFitting, framed}
 use Rattle.seam_between.proofs.Loading.{node_loaded, loaded_is}
 use Rattle.seam_between.proofs.Staying.{Kept, Becomes, node_becomes}
-use Rattle.seam_between.proofs.Making.{AreOthers, Creation, nowhere, once, creation_of, middle, Made, until, node_made, node_after, made_fits}
+use Rattle.seam_between.proofs.Making.{AreOthers, Creation, nowhere, once, creation_of, middle, Made, until, node_made, node_after}
+use Rattle.seam_between.proofs.Making.{made_fits}
 use Rattle.seam_between.proofs.Ready.{one_holder, quiet_home}
 
 kept_none : (o p : Option RealView) → Kept real_begins o p → o ≡ None → p ≡ None

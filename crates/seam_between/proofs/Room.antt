@@ -1,5 +1,6 @@
 -- What a loaded world has yet to do of an entity leaves room in its numbers.
-use Rattle.std.proofs.Common.{◌≡◌, ℕ, suc, ◌+◌, ◌*◌, ◌^◌, ◌<◌, ◌≤◌, Bool, true, false, cond, T, eqb, ◌&&◌, nat_lt, List, [], ◌∷◌, map, length}
+use Rattle.std.proofs.Common.{◌≡◌, ℕ, suc, ◌+◌, ◌*◌, ◌^◌, ◌<◌, ◌≤◌, Bool, true, false, cond, T, eqb, ◌&&◌, nat_lt, List, [], ◌∷◌, map}
+use Rattle.std.proofs.Common.{length}
 use Rattle.std.proofs.Common.{Option, None, Some, refl, sym, ap, ◌∙◌, subst, arith, inl, inr, is_lt}
 use Rattle.std.specs.Prelude.{find, option_map, slice_get, slice_index_or}
 use Rattle.std.specs.Ordering.{nat_cmp}
@@ -198,7 +199,8 @@ module _ (home a : ℕ) (os : List (ℕ × Order)) where
   most i = cond {A = ℕ} (eqb i home) a 0 + 3 * length (items_to i os)
 
   sum_by : (i x rest : ℕ) (here past later : Bool) → eqb i home ≡ here → nat_lt home i ≡ past → nat_lt home (i + 1) ≡ later →
-      (n : ℕ) → x ≤ cond {A = ℕ} here a 0 + 3 * n → (m : ℕ) → rest ≤ cond {A = ℕ} later 0 a + 3 * m → x + rest ≤ cond {A = ℕ} past 0 a + 3 * (n + m)
+      (n : ℕ) → x ≤ cond {A = ℕ} here a 0 + 3 * n → (m : ℕ) → rest ≤ cond {A = ℕ} later 0 a + 3 * m →
+      x + rest ≤ cond {A = ℕ} past 0 a + 3 * (n + m)
   sum_by i x rest true true later h p l n at m more = absurd (grind (arith, nat_tests, h, p))
   sum_by i x rest true false true h p l n at m more = omega (arith, at, more)
   sum_by i x rest true false false h p l n at m more = absurd (grind (arith, nat_tests, h, l))

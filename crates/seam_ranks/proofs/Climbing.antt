@@ -46,7 +46,8 @@ module _ (f : Frame) (w : World) (b : Batch) (between : IsBetweenRounds f w) (fi
     | inr n ↦ absurd (let z = sym ((settled_loaded f w b between fits e home r here).others k n) ∙ at in cc)
   ]
 
-  ranked_loaded : Ranked (framed f b) (frame_loaded f w b between fits) e r.ty (settled_loaded f w b between fits e home r here).type (loaded w b)
+  ranked_loaded : Ranked (framed f b) (frame_loaded f w b between fits) e r.ty (settled_loaded f w b between fits e home r here).type
+      (loaded w b)
   ranked_loaded = record {
     has = one_loaded f w b between fits e home r here;
     spared = spared_loaded f w b between fits e home r here;
@@ -62,5 +63,6 @@ module _ (f : Frame) (w : World) (b : Batch) (between : IsBetweenRounds f w) (fi
     pub each_event_climbs : (x : Event) → enabled node_has_work v x ≡ true → Climbs e v (happens node_steps v x)
     each_event_climbs x on =
         climbs (framed f b) (frame_loaded f w b between fits) e r.ty (settled_loaded f w b between fits e home r here).type v x
-        (ranked_leads (framed f b) (frame_loaded f w b between fits) e r.ty (settled_loaded f w b between fits e home r here).type (loaded w b) v
+        (ranked_leads (framed f b) (frame_loaded f w b between fits) e r.ty (settled_loaded f w b between fits e home r here).type
+        (loaded w b) v
         es ranked_loaded run) on

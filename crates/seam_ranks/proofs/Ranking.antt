@@ -1,5 +1,6 @@
 -- No event lowers a rank, and each next place has a higher one.
-use Rattle.std.proofs.Common.{◌≡◌, ℕ, ◌+◌, ◌-◌, ◌<◌, ◌≤◌, ◌⊎◌, Bool, true, false, cond, ◌||◌, nat_le, List, [], ◌∷◌, ◌++◌, length, Option, None, Some}
+use Rattle.std.proofs.Common.{◌≡◌, ℕ, ◌+◌, ◌-◌, ◌<◌, ◌≤◌, ◌⊎◌, Bool, true, false, cond, ◌||◌, nat_le, List, [], ◌∷◌, ◌++◌, length}
+use Rattle.std.proofs.Common.{Option, None, Some}
 use Rattle.std.proofs.Common.{refl, sym, ap, ◌∙◌, subst, arith, inl, inr}
 use Rattle.std.specs.Prelude.{option_map}
 use Rattle.std.proofs.lemmas.Bool.{cases_eq}
@@ -220,7 +221,8 @@ module _ (f : Frame) (e : ℕ) (w v : World)
       has_hand_from n (before.mail k j) ≡ true → ComesTo after k j n
   rest_by x k j n l m is (whole same no_) h =
       inr (ap (has_hand_from n) is ∙ from_left n l m (ap (has_hand_from n) same ∙ h))
-  rest_by x k j n l m is (tail p at from to same) h = head_by (either (is_hand_from n p.1) (has_hand_from n l) (sym (ap (has_hand_from n) same) ∙ h))
+  rest_by x k j n l m is (tail p at from to same) h = head_by (either (is_hand_from n p.1) (has_hand_from n l) (sym (ap
+      (has_hand_from n) same) ∙ h))
     where
       head_by : (is_hand_from n p.1 ≡ true) ⊎ (has_hand_from n l ≡ true) → ComesTo after k j n
       head_by (inr more) = inr (ap (has_hand_from n) is ∙ from_left n l m more)

@@ -167,7 +167,8 @@ module _ (f : Frame) (w : World) (b : Batch) (between : IsBetweenRounds f w) (fi
             from_one = next_one;
           }
 
-    settled_by : (e k : ℕ) (q : RealView) → real_in ((entity_flow e v).slot k) ≡ Some q → Somewhere e (loaded w b) ⊎ Nowhere e (loaded w b) →
+    settled_by : (e k : ℕ) (q : RealView) → real_in ((entity_flow e v).slot k) ≡ Some q → Somewhere e (loaded w b) ⊎ Nowhere e
+        (loaded w b) →
         IsSettled g e k q v
     settled_by e k q at (inl p) = settled_then e p.0 p.1 p.2 k q at
     settled_by e k q at (inr n) =

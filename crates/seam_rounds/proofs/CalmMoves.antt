@@ -125,7 +125,8 @@ module _ (f : Frame) (e home : ℕ) (r : RealView) (was : World) (none : (s : �
     stray_reap x is stray =
         let q = come.found x is in
         not_yes (may_rise q.0.beat) q.2
-        (sym (ap (λ o. is_stray (here_at f k) f.tree (record { real = o; next = s.cell.slot.next; ghost = s.cell.slot.ghost }) (Reap x)) q.1)
+        (sym (ap (λ o. is_stray (here_at f k) f.tree (record { real = o; next = s.cell.slot.next; ghost = s.cell.slot.ghost })
+        (Reap x)) q.1)
         ∙ stray)
 
     stray_by : (m : Msg) → i ≡ Some m → is_stray (here_at f k) f.tree s.cell.slot m ≡ true → real_in t ≡ real_in s → t.cell.survey ≡ 0 →
@@ -142,7 +143,8 @@ module _ (f : Frame) (e home : ℕ) (r : RealView) (was : World) (none : (s : �
 
     drop_by : told ≡ true → (q : RealView) (j : ℕ) (b : Bool) (js : List ℕ) → q.beat ≡ r.beat →
         AllByRecursion To (filter_map (drop_at q) js) × (sent_reaps (filter_map (drop_at q) js) ≡ 0) →
-        set.contains q.haunts j ≡ b → AllByRecursion To (filter_map (drop_at q) (j ∷ js)) × (sent_reaps (filter_map (drop_at q) (j ∷ js)) ≡ 0)
+        set.contains q.haunts j ≡ b → AllByRecursion To (filter_map (drop_at q) (j ∷ js)) × (sent_reaps (filter_map (drop_at q)
+        (j ∷ js)) ≡ 0)
     drop_by it q j true js beat more is = let none = more.1 in rw is (((it, omega (arith, beat)), more.0), omega (arith, none))
     drop_by it q j false js beat more is = rw is more
 
@@ -151,9 +153,14 @@ module _ (f : Frame) (e home : ℕ) (r : RealView) (was : World) (none : (s : �
     drops_calm is q [] beat = (tt, refl)
     drops_calm is q (j ∷ js) beat = drop_by is q j (set.contains q.haunts j) js beat (drops_calm is q js beat) refl
 
-    updates_calm : (b x n : ℕ) (ss : List Shown) → cell_count ≤ b → AllByRecursion To (numbered b x n ss) × (sent_reaps (numbered b x n ss) ≡ 0)
+    updates_calm : (b x n : ℕ) (ss : List Shown) → cell_count ≤ b → AllByRecursion To (numbered b x n ss) × (sent_reaps
+        (numbered b x n ss) ≡ 0)
     updates_calm b x n [] high = (tt, refl)
-    updates_calm b x n (y ∷ ys) high = let more = updates_calm b x (n + 1) ys high in let none = more.1 in ((high, more.0), omega (arith, none))
+    updates_calm b x n (y ∷ ys) high = let more = updates_calm b x (n + 1) ys high in let none = more.1 in (
+      (high, more.0),
+      omega
+          (arith, none),
+    )
 
     real_after : (x : SlotStep) (u : AtCell) → Does u x t.cell sent → (slot_after x.slot u.slot).real ≡ real_in s → real_in t ≡ real_in s
     real_after x u d is = ap (λ a. a.slot.real) d.state ∙ is
@@ -290,7 +297,11 @@ module _ (f : Frame) (e home : ℕ) (r : RealView) (was : World) (none : (s : �
         let all = ticks_calm (range_with_len 0 cells) in
         takes (none_reaps n) cell order.Tick os at _ a refl refl (subst (AllByRecursion To) (sym z) all.0) (ap sent_reaps z ∙ all.1)
     base_calmed low high cells cell (base_move.orders_reap os x n at has a z) =
-        takes (none_reaps n) cell (order.Reap e) os at _ a refl refl (subst (AllByRecursion To) (sym z) (leads k x (sym here.route ∙ has), tt))
+        takes (none_reaps n) cell (order.Reap e) os at _ a refl refl (subst (AllByRecursion To) (sym z) (
+          leads k x (sym here.route
+              ∙ has),
+          tt,
+        ))
         (ap sent_reaps z)
     base_calmed low high cells cell (base_move.stuck_order o os n at b a z) = keeps (none_reaps n) cell s.base a refl refl z
     base_calmed low high cells cell (base_move.executes p o c n has may at item a z) = keeps (none_reaps n) cell _ a refl refl z

@@ -150,17 +150,21 @@ module _ (f : Frame) (e home : ℕ) (r : RealView) (low : home < cell_count) (no
     came_to : (m : Msg) → fed ≡ Some m → IsCalmTo told home r goes.k m
     came_to m is = (came (λ a k m. IsCalmTo told home r k m) goes m (goes.moves.1 ∙ is) c.mail).1
 
-    what : Calmed f e home r was none leads told goes.k (flow.slot goes.k) (comes goes.input) ((entity_flow e next).slot goes.k) goes.moves.0.sent
+    what : Calmed f e home r was none leads told goes.k (flow.slot goes.k) (comes goes.input)
+        ((entity_flow e next).slot goes.k) goes.moves.0.sent
     what =
-        calmed f e home r was none leads told goes.k (flow.slot goes.k) (comes goes.input) ((entity_flow e next).slot goes.k) goes.moves.0.sent
+        calmed f e home r was none leads told goes.k (flow.slot goes.k) (comes goes.input)
+        ((entity_flow e next).slot goes.k) goes.moves.0.sent
         (c.nodes goes.k) (comes_to goes.k came_to (flow.slot goes.k) refl (comes goes.input) goes.moves.1) low goes.moves.0.moves
 
-    at_of : Calmed f e home r was none leads told goes.k (flow.slot goes.k) (comes goes.input) ((entity_flow e next).slot goes.k) goes.moves.0.sent →
+    at_of : Calmed f e home r was none leads told goes.k (flow.slot goes.k) (comes goes.input)
+        ((entity_flow e next).slot goes.k) goes.moves.0.sent →
         IsCalmAt e home r was goes.k ((entity_flow e next).slot goes.k)
     at_of (stays n x) = x.at
     at_of (ends n x) = x.at
 
-    calm_of : Calmed f e home r was none leads told goes.k (flow.slot goes.k) (comes goes.input) ((entity_flow e next).slot goes.k) goes.moves.0.sent →
+    calm_of : Calmed f e home r was none leads told goes.k (flow.slot goes.k) (comes goes.input)
+        ((entity_flow e next).slot goes.k) goes.moves.0.sent →
         AllByRecursion (λ p. IsCalmTo told home r p.0 p.1) goes.moves.0.sent
     calm_of (stays n x) = x.calm
     calm_of (ends n x) = x.calm
@@ -189,7 +193,8 @@ module _ (f : Frame) (e home : ℕ) (r : RealView) (low : home < cell_count) (no
 
     weighs : reaps_of e next + input_weight (mine_reaps e) v.node o.input ≡ reaps_of e w
     weighs =
-        let a = weight_moves (node_reaps e) (mine_reaps e) node_steps w v o c.frame.sound.square (sound_sends node_laws w v o c.frame.sound) in
+        let a = weight_moves (node_reaps e) (mine_reaps e) node_steps w v o c.frame.sound.square
+        (sound_sends node_laws w v o c.frame.sound) in
         let b = sent_is e (node_steps o.node o.input).sent in
         let d = weighs_by node_what in
         omega (arith, a, b, d)
@@ -201,7 +206,8 @@ module _ (f : Frame) (e home : ℕ) (r : RealView) (low : home < cell_count) (no
       alive : (fed ≡ Some (Reap e) → ⊥) → one_if (real_in ((entity_flow e next).slot home)) ≡ one_if (real_in (flow.slot home)) → Left
       dead : fed ≡ Some (Reap e) → real_in ((entity_flow e next).slot home) ≡ None → Left
 
-    left_by : Calmed f e home r was none leads told goes.k (flow.slot goes.k) (comes goes.input) ((entity_flow e next).slot goes.k) goes.moves.0.sent → Left
+    left_by : Calmed f e home r was none leads told goes.k (flow.slot goes.k) (comes goes.input)
+        ((entity_flow e next).slot goes.k) goes.moves.0.sent → Left
     left_by (stays n x) = alive (λ is. n (goes.moves.1 ∙ is)) (elim (cases_eq home goes.k) [
       | inl is ↦
           ap (λ j. one_if (real_in ((entity_flow e next).slot j))) is ∙ (x.real ∙ sym (ap (λ j. one_if (real_in (flow.slot j))) is))
@@ -235,6 +241,7 @@ module _ (f : Frame) (e home : ℕ) (r : RealView) (low : home < cell_count) (no
       frame = frame_happens f w v o c.frame;
       nodes = slots_kept (λ k h. IsCalmAt e home r was k h) goes c.nodes (at_of what);
       mail = letters_kept (λ a k m. IsCalmTo told home r k m) goes c.mail (λ j.
-          subst (AllByRecursion (IsCalmTo told home r j)) (sym (goes.moves.0.items j)) (items_each (IsCalmTo told home r) j goes.moves.0.sent (calm_of what)));
+          subst (AllByRecursion (IsCalmTo told home r j)) (sym (goes.moves.0.items j)) (items_each
+          (IsCalmTo told home r) j goes.moves.0.sent (calm_of what)));
       reaps = reaps_by left;
     }

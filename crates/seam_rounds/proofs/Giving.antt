@@ -51,7 +51,8 @@ module _ (f : Frame) (u : World) (q : IsInFrame f u) where
   pub reaps_framed : (es : List ℕ) → IsInFrame f (with_nodes u (each reap_ordered_at es))
   reaps_framed es =
       frame_turns f f refl (each reap_ordered_at es)
-      (λ k s node at. each_keeps reap_ordered_at (λ t. IsNode t × IsAt f k t) Any (λ x t any h. reap_goes f k x t h) es (any es) s (node, at)) u
+      (λ k s node at. each_keeps reap_ordered_at (λ t. IsNode t × IsAt f k t) Any (λ x t any h. reap_goes f k x t h) es (any es) s
+      (node, at)) u
       q
 
   pub look_framed : (o : ℕ × Order) → IsInFrame f (with_nodes u (ordered_at o))
@@ -141,7 +142,8 @@ module _ (e : ℕ) where
         its_by : (d x : Bool) → d ≡ x → q ≡ e → Given e (n + cond x (cond (eqb q e) 1 0) 0) s (Base (order_if d b (order.Reap q)))
         its_by true true h is =
             as_many (n + 1) _ s _ (ap (λ y. n + cond {A = ℕ} y 1 0) (sym (eq-eqb q e is)))
-            (given_more n 1 s b (order.Reap q) true (order.Reap q ∷ []) (ap (λ y. cond y (order.Reap q ∷ []) []) (eq-eqb q e is)) (is, tt) refl g)
+            (given_more n 1 s b (order.Reap q) true (order.Reap q ∷ []) (ap (λ y. cond y (order.Reap q ∷ []) []) (eq-eqb q e is))
+            (is, tt) refl g)
         its_by false false h is = given_more n 0 s b (order.Reap q) false [] refl tt refl g
         its_by true false h is = cc
         its_by false true h is = cc
@@ -226,7 +228,8 @@ cell_by : (e : ℕ) (turn : NodeView → NodeView) → ((s : NodeView) → (has_
 cell_by e turn same None = refl
 cell_by e turn same (Some s) = same s
 
-pub reals_stay : (e : ℕ) (turn : NodeView → NodeView) → ((s : NodeView) → (has_of e (turn s)).cell ≡ (has_of e s).cell) → (u : World) (k : ℕ) →
+pub reals_stay : (e : ℕ) (turn : NodeView → NodeView) → ((s : NodeView) → (has_of e (turn s)).cell ≡ (has_of e s).cell) → (u : World)
+    (k : ℕ) →
     real_in ((entity_flow e (with_nodes u turn)).slot k) ≡ real_in ((entity_flow e u).slot k)
 reals_stay e turn same u k =
     ap (λ o. real_in (slot_at (has_of e) has_none o)) (slice_get-map turn u.nodes k)

@@ -96,7 +96,8 @@ module _ (defs : List TypeDef) (settings : Settings) (frame : IsFrame (first_fra
       (each_range IsOpen (empty_cell defs settings) 0 cell_count (map (empty_base defs settings) (range_with_len cell_count settings.bases))
       (λ j high low. cell_open j low) (λ i x there. bases_open i x there) k s at)
     where
-      bases_open : (i : ℕ) (x : NodeView) → slice_get (map (empty_base defs settings) (range_with_len cell_count settings.bases)) i ≡ Some x →
+      bases_open : (i : ℕ) (x : NodeView) → slice_get (map (empty_base defs settings)
+          (range_with_len cell_count settings.bases)) i ≡ Some x →
           IsOpen (i + cell_count) x
       bases_open i x there =
           each_range IsOpen (empty_base defs settings) cell_count settings.bases [] (λ j high low. base_open j high)
@@ -104,7 +105,8 @@ module _ (defs : List TypeDef) (settings : Settings) (frame : IsFrame (first_fra
 
   many_is : length w.nodes ≡ many
   many_is =
-      length-append (map (empty_cell defs settings) cell_numbers) (map (empty_base defs settings) (range_with_len cell_count settings.bases))
+      length-append (map (empty_cell defs settings) cell_numbers) (map (empty_base defs settings)
+      (range_with_len cell_count settings.bases))
       ∙ ap (λ n. cell_count + n) (length-map-range_with_len (empty_base defs settings) cell_count settings.bases)
 
   square : IsSquare w

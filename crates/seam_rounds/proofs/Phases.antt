@@ -76,7 +76,8 @@ module _ (f : Frame) (frame : IsFrame f) (u : World) (between : IsBetweenRounds 
 
   pub leads : (k : ℕ) (x : RouteView) → ((entity_flow e u).slot k).base.route ≡ Some x → x.cell ≡ home
   leads =
-      route_leads f u e home r settled (λ x y. ap (letters_of (mine e)) (quiet_links node_has_work u between.nodes.sound.square between.quiet x y))
+      route_leads f u e home r settled (λ x y. ap (letters_of (mine e))
+      (quiet_links node_has_work u between.nodes.sound.square between.quiet x y))
       between.nodes between.many
 
   abbrev Calm : World → Type 0
@@ -176,11 +177,13 @@ module _ (f : Frame) (frame : IsFrame f) (u : World) (between : IsBetweenRounds 
 
 -- ---- the record holds again, where each entity that was there is calm
 
-module _ (f : Frame) (u : World) (between : IsBetweenRounds f u) (w : World) (frame : IsInFrame f w) (many : length w.nodes ≡ length u.nodes)
+module _ (f : Frame) (u : World) (between : IsBetweenRounds f u) (w : World) (frame : IsInFrame f w)
+    (many : length w.nodes ≡ length u.nodes)
     (none : (e : ℕ) → Nobody real_in real_of (entity_flow e u) → Nobody real_in real_of (entity_flow e w))
     (told : (e : ℕ) → Bool)
     (calm : (e home : ℕ) (r : RealView) → real_in ((entity_flow e u).slot home) ≡ Some r → IsCalm f e home r u (told e) w)
-    (small : (e k : ℕ) (r : RealView) → real_in ((entity_flow e u).slot k) ≡ Some r → told e ≡ true → may_rise r.beat ≡ true) (v : World) (es : List Event)
+    (small : (e k : ℕ) (r : RealView) → real_in ((entity_flow e u).slot k) ≡ Some r → told e ≡ true → may_rise r.beat ≡ true)
+    (v : World) (es : List Event)
     (run : LeadsTo node_has_work node_steps w es v) (quiet : IsQuiet node_has_work v) where
   nobody : (e : ℕ) → Nowhere e u → Nobody real_in real_of (entity_flow e u)
   nobody e n = record {

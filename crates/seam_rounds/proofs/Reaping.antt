@@ -71,7 +71,8 @@ module _ (f : Frame) (u : World) (between : IsBetweenRounds f u) (es : List ℕ)
     pub calm : IsCalm f e home r u (is_told e es) (reaps_loaded u es)
     calm =
         subst (IsCalm f e home r u (is_told e es)) (sym loaded_is)
-        (starts_calm f u between e home r here turn (is_told e es) (reaps_framed f u between.nodes es) (reals_stay e turn (reaps_cell e es) u)
+        (starts_calm f u between e home r here turn (is_told e es) (reaps_framed f u between.nodes es) (reals_stay e turn
+        (reaps_cell e es) u)
         (some_base f u between.nodes e home r here) (λ k s at.
         subst (λ n. Given e (cond {A = ℕ} (eqb k (base_of (here_at f 0) e)) n 0) s (turn s))
         (once_by (times e es) (nat_lt 0 (times e es)) refl (times_at_most_one e es may.once))

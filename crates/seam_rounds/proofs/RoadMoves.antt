@@ -1,5 +1,6 @@
 -- What each move does with the generation of the real, and with the routes to it.
-use Rattle.std.proofs.Common.{◌≡◌, ℕ, ◌+◌, ◌<◌, ◌≤◌, Bool, true, false, cond, not, ◌&&◌, nat_lt, is_some, List, [], ◌∷◌, ◌++◌, Option, None, Some, refl}
+use Rattle.std.proofs.Common.{◌≡◌, ℕ, ◌+◌, ◌<◌, ◌≤◌, Bool, true, false, cond, not, ◌&&◌, nat_lt, is_some, List, [], ◌∷◌, ◌++◌, Option}
+use Rattle.std.proofs.Common.{None, Some, refl}
 use Rattle.std.proofs.Common.{sym, ap, ◌∙◌, subst, arith}
 use Rattle.std.specs.Prelude.{option_map}
 use Rattle.std.specs.List.{range_with_len}
@@ -105,10 +106,12 @@ module _ (f : Frame) (e k : ℕ) (s : Has) (i : Option Msg) (t : Has) (sent : Li
   acts_same u r q changed (calls c a b d g) = refl
   acts_same u r q changed (readies o c a b d g) = refl
 
-  same : (x : SlotStep) (u : AtCell) → Does u x t.cell sent → (slot_after x.slot u.slot).real ≡ real_in s → generation_in t ≡ generation_in s
+  same : (x : SlotStep) (u : AtCell) → Does u x t.cell sent → (slot_after x.slot u.slot).real ≡ real_in s →
+      generation_in t ≡ generation_in s
   same x u d is = ap (λ a. option_map generation_of a.slot.real) d.state ∙ ap (option_map generation_of) is
 
-  turned : (x : SlotStep) (u : AtCell) (r q : RealView) → Does u x t.cell sent → real_in s ≡ Some r → (slot_after x.slot u.slot).real ≡ Some q →
+  turned : (x : SlotStep) (u : AtCell) (r q : RealView) → Does u x t.cell sent → real_in s ≡ Some r →
+      (slot_after x.slot u.slot).real ≡ Some q →
       q.generation ≡ r.generation → generation_in t ≡ generation_in s
   turned x u r q d has is gen =
       ap (λ a. option_map generation_of a.slot.real) d.state
@@ -123,41 +126,52 @@ module _ (f : Frame) (e k : ℕ) (s : Has) (i : Option Msg) (t : Has) (sent : Li
     stray_hand r is b =
         let p = room r is in
         not_both (may_come (here_at f k) f.tree r) p.may
-        (sym (ap (λ o. is_stray (here_at f k) f.tree (record { real = o; next = s.cell.slot.next; ghost = s.cell.slot.ghost }) (Hand r)) p.free)
+        (sym (ap (λ o. is_stray (here_at f k) f.tree (record { real = o; next = s.cell.slot.next; ghost = s.cell.slot.ghost })
+        (Hand r)) p.free)
         ∙ b)
 
     cell_roads : k < cell_count → CellMoves (here_at f k) f.tree e s.cell i t.cell sent → Roads
     cell_roads low (move.rests n d) = plain (no_hand n) (same _ s.cell d refl) (next_of _ s.cell d refl) (silent_of [] d.sends tt)
     cell_roads low (move.strays m n b d) =
-        plain (λ r is. stray_hand r is (ap (is_stray (here_at f k) f.tree s.cell.slot) (let z : Hand r ≡ m = let y = sym is ∙ n in cc in z) ∙ b))
+        plain (λ r is. stray_hand r is (ap (is_stray (here_at f k) f.tree s.cell.slot) (let z : Hand r ≡ m = let y = sym is
+        ∙ n in cc in z) ∙ b))
         (same _ s.cell d refl) (next_of _ s.cell d refl) (silent_of [] d.sends tt)
     cell_roads low (move.stays u r q changed has own acts at d) =
         plain (acts_hand u r q changed acts) (turned _ u r _ d has refl (acts_same u r q changed acts)) (next_of _ u d refl)
-        (silent_of _ d.sends (ghosts_silent road_of no_ghosts (here_at f k) q k (haunts_at (here_at f k) f.tree q.state.pos k q.haunts) changed))
+        (silent_of _ d.sends (ghosts_silent road_of no_ghosts (here_at f k) q k (haunts_at
+        (here_at f k) f.tree q.state.pos k q.haunts) changed))
     cell_roads low (move.goes u r q changed j has own acts at n d) =
         let haunts = haunts_at (here_at f k) f.tree q.state.pos j (set.insert q.haunts k) in
         departs r (settled_to q haunts (q.beat + 1) (q.generation + 1)) j (ghost_messages (here_at f k) q j haunts changed)
         (acts_hand u r q changed acts) has (ap (λ a. a.slot.real) d.state) (ap (λ x. x + 1) (acts_same u r q changed acts))
         (ap (λ a. a.slot.next) d.state)
         (ghosts_silent road_of no_ghosts (here_at f k) q j haunts changed) d.sends
-    cell_roads low (move.late c r n has may lt d) = plain (other _ n (λ x z. cc)) (same _ s.cell d refl) (next_of _ s.cell d refl) (silent_of [] d.sends tt)
+    cell_roads low (move.late c r n has may lt d) = plain (other _ n (λ x z. cc)) (same _ s.cell d refl) (next_of _ s.cell d refl)
+        (silent_of [] d.sends tt)
     cell_roads low (move.holds c r n own has mine may lt d) =
         plain (other _ n (λ x z. cc)) (turned _ s.cell r _ d has refl refl) (next_of _ s.cell d refl) (silent_of [] d.sends tt)
-    cell_roads low (move.passes c p n own has at d) = plain (other _ n (λ x z. cc)) (same _ s.cell d refl) (next_of _ s.cell d refl) (silent_of _ d.sends (refl, tt))
-    cell_roads low (move.lands r n own has may d) = arrives r n low has (ap (λ a. a.slot.real) d.state) (ap (λ a. a.slot.next) d.state) d.sends
-    cell_roads low (move.hears_set n c is has d) = plain (other _ is (λ x z. cc)) (same _ s.cell d refl) (next_of _ s.cell d refl) (silent_of [] d.sends tt)
-    cell_roads low (move.ignores_set n c r is has d) = plain (other _ is (λ x z. cc)) (same _ s.cell d refl) (next_of _ s.cell d refl) (silent_of [] d.sends tt)
-    cell_roads low (move.hears_drop n is d) = plain (other _ is (λ x z. cc)) (same _ s.cell d refl) (next_of _ s.cell d refl) (silent_of [] d.sends tt)
+    cell_roads low (move.passes c p n own has at d) = plain (other _ n (λ x z. cc)) (same _ s.cell d refl) (next_of _ s.cell d refl)
+        (silent_of _ d.sends (refl, tt))
+    cell_roads low (move.lands r n own has may d) = arrives r n low has (ap (λ a. a.slot.real) d.state) (ap
+        (λ a. a.slot.next) d.state) d.sends
+    cell_roads low (move.hears_set n c is has d) = plain (other _ is (λ x z. cc)) (same _ s.cell d refl) (next_of _ s.cell d refl)
+        (silent_of [] d.sends tt)
+    cell_roads low (move.ignores_set n c r is has d) = plain (other _ is (λ x z. cc)) (same _ s.cell d refl) (next_of _ s.cell d refl)
+        (silent_of [] d.sends tt)
+    cell_roads low (move.hears_drop n is d) = plain (other _ is (λ x z. cc)) (same _ s.cell d refl) (next_of _ s.cell d refl)
+        (silent_of [] d.sends tt)
     cell_roads low (move.reaped r n has own may d) = absurd (spared n)
     cell_roads low (move.ticks n st z) =
         plain (other _ n (λ x y. cc)) (ap (λ a. option_map generation_of a.slot.real) st) (ap (λ a. a.slot.next) st) (silent_of [] z tt)
     cell_roads low (move.unlists n is at b d) = plain (no_hand is) (same _ _ d refl) (next_of _ _ d refl) (silent_of [] d.sends tt)
     cell_roads low (move.looks n r w known is at has own v small d) =
-        plain (no_hand is) (turned (looks_with (here_at f k) s.cell.slot r w known (shown_of (here_at f k) r w known)) _ r _ d has refl refl)
+        plain (no_hand is) (turned (looks_with (here_at f k) s.cell.slot r w known (shown_of
+        (here_at f k) r w known)) _ r _ d has refl refl)
         (next_of (looks_with (here_at f k) s.cell.slot r w known (shown_of (here_at f k) r w known)) _ d refl)
         (silent_of _ d.sends (numbered_silent road_of (base_of (here_at f k) r.entity) r.entity w.sent _ (λ u. refl)))
     cell_roads low (move.overlooks n known is at b d) = plain (no_hand is) (same _ _ d refl) (next_of _ _ d refl) (silent_of [] d.sends tt)
-    cell_roads low (move.stuck r is has ready may d) = plain (no_hand is) (same _ s.cell d refl) (next_of _ s.cell d refl) (silent_of [] d.sends tt)
+    cell_roads low (move.stuck r is has ready may d) = plain (no_hand is) (same _ s.cell d refl) (next_of _ s.cell d refl)
+        (silent_of [] d.sends tt)
 
     hand_at_base : cell_count ≤ k → (r : RealView) → i ≡ Some (Hand r) → ⊥
     hand_at_base high r is = let low = (room r is).cell in omega (arith, low, high)
@@ -227,7 +241,8 @@ module _ (f : Frame) (e k : ℕ) (s : Has) (i : Option Msg) (t : Has) (sent : Li
   stray_by (Some r) h j g p b =
       let low = p.0 in
       let few = p.1 in
-      not_both (nat_lt j cell_count && is_small g) (both_are (nat_lt j cell_count) (is_small g) (grind (arith, nat_tests, low)) (grind (arith, nat_tests, few))) b
+      not_both (nat_lt j cell_count && is_small g) (both_are (nat_lt j cell_count) (is_small g) (grind (arith, nat_tests, low)) (grind
+      (arith, nat_tests, few))) b
     where
       both_are : (a b : Bool) → a ≡ true → b ≡ true → (a && b) ≡ true
       both_are true b x y = y
@@ -254,7 +269,8 @@ module _ (f : Frame) (e k : ℕ) (s : Has) (i : Option Msg) (t : Has) (sent : Li
         takes =
             ap entry_of now
             ∙ (newer_by r new (nat_lt r.generation new.generation)
-            ∙ sym (ap (λ o. greater_entry (entry_of o) (entry_in brings i)) has ∙ ap (greater_entry (r.generation, r.cell)) (ap (entry_in brings) n)));
+            ∙ sym (ap (λ o. greater_entry (entry_of o) (entry_in brings i)) has ∙ ap (greater_entry (r.generation, r.cell)) (ap
+            (entry_in brings) n)));
       }
   base_reroutes cells (base_move.offers c p n own has may a z) = kept _ a refl (by_other _ n refl)
   base_reroutes cells (base_move.updates u n own b a z) = kept _ a refl (by_other _ n refl)

@@ -178,7 +178,8 @@ module _ (f : Frame) (e : ℕ) where
           AllBring brings (NotAbove key c) (g.out b)
       no_out ps none is key c =
           bring_none (NotAbove key c) (g.out b)
-          (subst (AllByRecursion (λ m. brings m ≡ None)) (sym (g.moves.0.items b ∙ ap (items_to b) is)) (items_all (λ m. brings m ≡ None) b ps none))
+          (subst (AllByRecursion (λ m. brings m ≡ None)) (sym (g.moves.0.items b ∙ ap (items_to b) is)) (items_all
+          (λ m. brings m ≡ None) b ps none))
 
       stays_new : (key c : ℕ) → Newest entry brings before b key c → (ps : List (ℕ × Msg)) → AllByRecursion (λ p. brings p.1 ≡ None) ps →
           sent ≡ ps → Newest entry brings after b key c
@@ -222,7 +223,8 @@ module _ (f : Frame) (e : ℕ) where
     )
     plain_by (Some r) (Some q) was is gen none silent =
         let same = (sole_here real_in real_of before h.place h.real r g.k h.one was).1 in
-        let rise : q.generation ≡ h.real.generation = (let z : q.generation ≡ r.generation = let y = gen in cc in z) ∙ ap generation_of same in (
+        let rise : q.generation ≡ h.real.generation = (let z : q.generation ≡ r.generation = let y = gen in cc in z)
+        ∙ ap generation_of same in (
           record {
             place = h.place;
             real = q;
@@ -250,20 +252,24 @@ module _ (f : Frame) (e : ℕ) where
         let carried = ap (carried_in real_of) is in
         let from = sole_came real_in real_of g h.place h.real r h.one carried in
         let no_hands : IsSilent real_of sent =
-        subst (IsSilent real_of) (sym z) (mapped_silent real_of (current_to (here_at f g.k) r) (λ b. refl) (base_numbers (here_at f g.k))) in
+        subst (IsSilent real_of) (sym z) (mapped_silent real_of (current_to (here_at f g.k) r) (λ b. refl) (base_numbers
+        (here_at f g.k))) in
         let none : SendsNone real_of g.out =
         λ j. ap (letters_of real_of) (g.moves.0.items j) ∙ sees_none real_of j sent no_hands in (
           record {
             place = In g.k;
             real = r;
             one = sole_goes real_in real_of Any g h.place h.real h.one (lands r r carried at (inl refl) none);
-            good = good_then (subst (AllByRecursion (λ p. IsGoodRoute p.1)) (sym z) (told_good g.k r (g.moves.1.0 r is) low (base_numbers (here_at f g.k))));
+            good = good_then (subst (AllByRecursion (λ p. IsGoodRoute p.1)) (sym z) (told_good g.k r (g.moves.1.0 r is) low
+                (base_numbers (here_at f g.k))));
             there = there_then;
             known = λ b high below.
                 let n = key_by h.place from.0 b from.1 (h.known b high below) in
                 let out : g.out b ≡ Current r.entity g.k r.generation ∷ [] =
-                g.moves.0.items b ∙ (ap (items_to b) z ∙ told_here (Current r.entity g.k r.generation) cell_count f.settings.bases b high below) in
-                newest_rises brings entry g b n.0 r.generation n.1 g.k n.3 (let lt = n.2 in let gen = ap generation_of from.2 in omega (arith, lt, gen))
+                g.moves.0.items b ∙ (ap (items_to b) z ∙ told_here
+                (Current r.entity g.k r.generation) cell_count f.settings.bases b high below) in
+                newest_rises brings entry g b n.0 r.generation n.1 g.k n.3 (let lt = n.2 in let gen = ap generation_of from.2 in omega
+                (arith, lt, gen))
                 (λ same. absurd (omega (arith, same, low, high)))
                 (subst (AllBring brings (NotAbove r.generation g.k)) (sym out) (inr (refl, refl), tt))
                 (inr (subst (Has brings (r.generation, g.k)) (sym out) (inl refl)));
@@ -294,7 +300,8 @@ module _ (f : Frame) (e : ℕ) where
           record {
             place = On g.k j;
             real = q;
-            one = sole_goes real_in real_of Any g h.place h.real h.one (leaves r q j was gone (inr tt) (no_carried (comes g.input) no_hand) one);
+            one = sole_goes real_in real_of Any g h.place h.real h.one (leaves r q j was gone (inr tt) (no_carried
+                (comes g.input) no_hand) one);
             good = good_then (subst (AllByRecursion (λ p. IsGoodRoute p.1)) (sym z)
                 (all_append (λ p. IsGoodRoute p.1) first ((j, Hand q) ∷ []) (all_good first silent) (hand_good q, tt)));
             there = there_then;
@@ -357,7 +364,8 @@ module _ (f : Frame) (e : ℕ) where
 
   -- ---- where nothing is on its way
 
-  route_by : (o : Option RouteView) (key c : ℕ) → is_some o ≡ true → entry_of o ≡ (key, c) → o ≡ Some (record { cell = c; generation = key })
+  route_by : (o : Option RouteView) (key c : ℕ) → is_some o ≡ true → entry_of o ≡ (key, c) → o ≡ Some
+      (record { cell = c; generation = key })
   route_by None key c some is = cc
   route_by (Some x) key c some is =
       let a : x.generation ≡ key = ap (λ p. p.0) is in

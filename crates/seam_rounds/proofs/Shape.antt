@@ -1,5 +1,6 @@
 -- Every list of events keeps the frame and the number of nodes; and an entity's real is somewhere, or nowhere.
-use Rattle.std.proofs.Common.{◌≡◌, ℕ, zero, suc, ◌⊎◌, List, [], ◌∷◌, length, Option, None, Some, refl, ◌∙◌, inl, inr, Bool, true, false, cond, eqb, subst}
+use Rattle.std.proofs.Common.{◌≡◌, ℕ, zero, suc, ◌⊎◌, List, [], ◌∷◌, length, Option, None, Some, refl, ◌∙◌, inl, inr, Bool, true, false}
+use Rattle.std.proofs.Common.{cond, eqb, subst}
 use Rattle.std.specs.Prelude.{slice_get}
 use Rattle.seam_machine.specs.Nets.{LeadsTo}
 use Rattle.seam_machine.specs.declared.machines.Event.{Event}

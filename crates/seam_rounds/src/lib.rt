@@ -1,7 +1,8 @@
 //! A round's last phases, and the record between rounds again at the end of each phase.
 //!
-//! A round is loaded and runs until the world is quiet; then entities are reaped, and then witnesses look, each with a load and a run of its
-//! own. In the last two no call is made and no real is handed over: an entity is calm, and its real stays where it is until its Reap comes.
+//! A round is loaded and runs until the world is quiet; then entities are reaped, and then witnesses look, each with a load and a run of
+//! its own. In the last two no call is made and no real is handed over: an entity is calm, and its real stays where it is until its Reap
+//! comes.
 //!
 //! Crates above cite these modules of `proofs`: `Shape` (the frame and the nodes stay; where a real is; what is sent, by node), `Publics`
 //! (public versions), `Calm`, `CalmMoves` and `CalmRuns` (a calm entity), `Starting` and `Giving` (what a load gives it), `Phases` (calm

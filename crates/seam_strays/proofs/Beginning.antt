@@ -1,5 +1,6 @@
 -- What a loaded world has in its lists, and of entities that are not there.
-use Rattle.std.proofs.Common.{◌≡◌, ℕ, ◌≤◌, Bool, true, false, cond, eqb, is_some, ◌||◌, List, [], ◌∷◌, Option, None, Some, refl, sym, ap, ◌∙◌, subst}
+use Rattle.std.proofs.Common.{◌≡◌, ℕ, ◌≤◌, Bool, true, false, cond, eqb, is_some, ◌||◌, List, [], ◌∷◌, Option, None, Some, refl, sym}
+use Rattle.std.proofs.Common.{ap, ◌∙◌, subst}
 use Rattle.std.proofs.Common.{arith, inl, inr}
 use Rattle.std.specs.Prelude.{option_map, slice_get}
 use Rattle.std.specs.List.{AllByRecursion}
@@ -149,7 +150,8 @@ module _ (f : Frame) (w : World) (b : Batch) (between : IsBetweenRounds f w) (fi
     orders_at k None at = tt
     orders_at k (Some s) at = elim (cases_lt k cell_count) [
       | inl low ↦ subst (AllByRecursion IsTickOrder) (sym (node_none f w b between fits.tree e k s at low)) tt
-      | inr high ↦ subst (AllByRecursion IsTickOrder) (sym (node_orders f w b between fits.tree e k s at high)) (ticks_only k b.orders fits.known)
+      | inr high ↦ subst (AllByRecursion IsTickOrder) (sym (node_orders f w b between fits.tree e k s at high))
+          (ticks_only k b.orders fits.known)
     ]
 
     pub unknown_loaded : IsUnknown (framed f b) e (loaded w b)

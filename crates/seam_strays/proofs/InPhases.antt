@@ -52,7 +52,8 @@ module _ (f : Frame) (e home : ℕ) (r : RealView) (cell : home < cell_count) (n
   kind_by (GhostDrop x n) ms at is h = not_true (is_small n) (small_to n r.beat h.1 (small h.0))
   kind_by Tick ms at is h = refl
   kind_by (Reap x) ms at is h =
-      let q = found_home f e home r cell none was leads told small v (record { node = k; from = Some a }) (feeds v a k s (Reap x) ms node at)
+      let q = found_home f e home r cell none was leads told small v (record { node = k; from = Some a }) (feeds v a k s
+      (Reap x) ms node at)
       calm x (mine_is e (Reap x) is) in
       reap_by ((entity_flow e v).slot k).cell.slot.real q.0 (ap (λ j. real_in ((entity_flow e v).slot j)) h ∙ q.1) q.2
   kind_by (Update u) ms at is h = absurd (omega (arith, h, low))

@@ -133,7 +133,8 @@ module _ (f : Frame) (w : World) (b : Batch) (between : IsBetweenRounds f w) (fi
       is_stray (here_at g k) g.tree ((entity_flow e v).slot k).cell.slot m ≡ false
   free_by_place a k c m ms e node at is low (inl p) = present_free e p.0 p.1 p.2 a k (Cell c) node low m ms at is
   free_by_place a k c m ms e node at is low (inr n) =
-      absurd (unknown_gets_none g e v (unknown_leads g e (loaded w b) v es (unknown_loaded f w b between fits e (nobody e n)) run) a k m ms at is)
+      absurd (unknown_gets_none g e v (unknown_leads g e (loaded w b) v es (unknown_loaded f w b between fits e
+      (nobody e n)) run) a k m ms at is)
 
 -- what is said of a cell by its entity's flow, said of the cell
 pub of_cell : (g : Frame) (v : World) (k : ℕ) (c : CellView) (e : ℕ) (m : Msg) → slice_get v.nodes k ≡ Some (Cell c) →

@@ -68,7 +68,8 @@ module _ (e : ℕ) (w : World) where
 
 -- ---- an entity that no one reaps
 
-module _ (f : Frame) (frame : IsFrame f) (e ty : ℕ) (known : ty < length f.defs) (start : RealView) (low : start.public ≤ start.version) where
+module _ (f : Frame) (frame : IsFrame f) (e ty : ℕ) (known : ty < length f.defs) (start : RealView)
+    (low : start.public ≤ start.version) where
   pub record IsFair (w : World) : Type 0 where
     pub one : OneFrom f e ty start w
     pub spared : IsSpared e w
@@ -99,7 +100,8 @@ module _ (f : Frame) (frame : IsFrame f) (e ty : ℕ) (known : ty < length f.def
         letters = letters_kept (λ a k m. FitsNode f k m) g h.letters (λ j.
             subst (AllByRecursion (FitsNode f j)) (sym (g.moves.0.items j))
             (items_each (FitsNode f) j g.moves.0.sent
-            (sends_fit f frame.defs e ty g.k known ((entity_flow e w).slot g.k) (comes g.input) ((entity_flow e (happens node_steps w v)).slot g.k)
+            (sends_fit f frame.defs e ty g.k known ((entity_flow e w).slot g.k) (comes g.input) ((entity_flow e
+            (happens node_steps w v)).slot g.k)
             g.moves.0.sent (has.fits.reals g.k) (numbers w h g.k) g.moves.0.moves)));
       }
 

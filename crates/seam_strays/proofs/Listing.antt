@@ -80,7 +80,12 @@ module _ (f : Frame) (e k : ℕ) (s : Has) (i : Option Msg) (t : Has) (sent : Li
   cell_listed (move.holds c r n own has mine may lt d) = turned _ s.cell r _ d (omega arith) (omega arith) refl has refl refl
   cell_listed (move.passes c p n own has at d) = same _ s.cell d (omega arith) (omega arith) refl refl
   cell_listed (move.lands r n own has may d) =
-      listed _ s.cell d (omega arith) (omega arith) (inr (refl, (λ one. refl), (λ one. absurd (let z = sym (ap has_witness has) ∙ one in cc))))
+      listed _ s.cell d (omega arith) (omega arith) (inr (
+        refl,
+        (λ one. refl),
+        (λ one. absurd (let z = sym (ap has_witness has)
+            ∙ one in cc)),
+      ))
   cell_listed (move.hears_set n c is has d) = same _ s.cell d (omega arith) (omega arith) refl refl
   cell_listed (move.ignores_set n c r is has d) = same _ s.cell d (omega arith) (omega arith) refl refl
   cell_listed (move.hears_drop n is d) = same _ s.cell d (omega arith) (omega arith) refl refl

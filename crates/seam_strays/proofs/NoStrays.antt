@@ -87,7 +87,8 @@ module _ (v : World) (k : ℕ) (c : CellView) (node : slice_get v.nodes k ≡ So
     (lists : (e : ℕ) → IsListed ((entity_flow e v).slot k).cell)
     (settles : (e : ℕ) (r : RealView) → 1 ≤ ((entity_flow e v).slot k).cell.survey → real_in ((entity_flow e v).slot k) ≡ Some r →
     may_settle r ≡ true)
-    (executes : (e : ℕ) (r : RealView) → real_in ((entity_flow e v).slot k) ≡ Some r → has_ready r.orders ≡ true → may_execute r ≡ true) where
+    (executes : (e : ℕ) (r : RealView) → real_in ((entity_flow e v).slot k) ≡ Some r → has_ready r.orders ≡ true →
+    may_execute r ≡ true) where
   has_is : (e : ℕ) → (entity_flow e v).slot k ≡ has_of e (Cell c)
   has_is e = ap (slot_at (has_of e) has_none) node
 

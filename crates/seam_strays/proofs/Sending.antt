@@ -1,5 +1,6 @@
 -- What is sent fits where it comes: a copy fits the definitions, and each number is small.
-use Rattle.std.proofs.Common.{◌≡◌, ℕ, zero, suc, ◌+◌, ◌<◌, ◌≤◌, Bool, true, false, ◌||◌, eqb, nat_lt, List, [], ◌∷◌, map, length, Option, None, Some}
+use Rattle.std.proofs.Common.{◌≡◌, ℕ, zero, suc, ◌+◌, ◌<◌, ◌≤◌, Bool, true, false, ◌||◌, eqb, nat_lt, List, [], ◌∷◌, map, length}
+use Rattle.std.proofs.Common.{Option, None, Some}
 use Rattle.std.proofs.Common.{refl, sym, subst, arith}
 use Rattle.std.specs.List.{AllByRecursion, filter_map, range_with_len}
 use Rattle.std.specs.FinSet as set
@@ -93,7 +94,8 @@ module _ (f : Frame) where
     ghost_by false k e now was changed p is = told_by k e now was changed p is
 
   ghosts_fit : (h : Here) (r : RealView) (j : ℕ) (haunts : Cells) (changed : Bool) → is_small (r.beat + 1) ≡ true →
-      is_small r.public ≡ true → fits_copy (here_at f 0) (copy_of_real h r) ≡ true → AllByRecursion FitsTo (ghost_messages h r j haunts changed)
+      is_small r.public ≡ true → fits_copy (here_at f 0) (copy_of_real h r) ≡ true → AllByRecursion FitsTo
+      (ghost_messages h r j haunts changed)
   ghosts_fit h r j haunts changed beat version fits =
       chosen_all FitsTo (ghost_message h r j haunts changed) (λ k p is.
       ghost_by (r.beat + 1) (copy_of_real h r) beat version fits ((eqb k h.me) || (eqb k j)) k r.entity (set.contains haunts k)
@@ -153,7 +155,8 @@ module _ (f : Frame) where
     public_by true v p low lt = lt
     public_by false v p low lt = omega (arith, low, lt)
 
-    executes : (r : RealView) (b : Bool) → may_execute r ≡ true → r.public ≤ r.version → is_small (public_after b (r.version + 1) r.public) ≡ true
+    executes : (r : RealView) (b : Bool) → may_execute r ≡ true → r.public ≤ r.version → is_small (public_after b
+        (r.version + 1) r.public) ≡ true
     executes r b may low =
         small_is _ (public_by b r.version r.public low (small_of (r.version + 1) (both (may_rise r.version) _ may).0))
 
@@ -167,7 +170,8 @@ module _ (f : Frame) where
           copy = copy_fits e ty k r known (fit r has);
         }
     tells u r q changed has (calls c a b d g) =
-        let may = (both (may_offer (order_of r.orders c.sender) c.number) (may_execute r) (both (fits_cell_part h r.entity r.ty c) _ d).1).1 in
+        let may = (both (may_offer (order_of r.orders c.sender) c.number) (may_execute r) (both
+        (fits_cell_part h r.entity r.ty c) _ d).1).1 in
         record {
           beat = settles r (both (may_rise r.version) _ may).1;
           version = executes r (shows h r c) may (public r has).0;

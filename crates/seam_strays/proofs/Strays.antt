@@ -48,7 +48,8 @@ pub seen_first : (e : ℕ) (w : World) (a k : ℕ) (m : Msg) (ms : List Msg) →
 seen_first e w a k m ms at h = ap (letters_of (mine e)) at ∙ ap (λ o. more_letter o (letters_of (mine e) ms)) (mine_is e m h)
 
 -- the event that feeds it
-abbrev pub feeds : (w : World) (a k : ℕ) (s : NodeView) (m : Msg) (ms : List Msg) → slice_get w.nodes k ≡ Some s → link w.rows a k ≡ m ∷ ms →
+abbrev pub feeds : (w : World) (a k : ℕ) (s : NodeView) (m : Msg) (ms : List Msg) → slice_get w.nodes k ≡ Some s →
+    link w.rows a k ≡ m ∷ ms →
     Occurs w (record { node = k; from = Some a })
 feeds w a k s m ms node at =
     record { node = s; input = From a m; is_node = node; is_fed = ap (letter a) at }

@@ -1,8 +1,8 @@
 //! No input of a cell is stray, in any phase of a round, over every list of events.
 //!
-//! A cell's step tests each input first, and does nothing where a test fails (`seam_steps`: *is_stray*, *stray_survey*, *stray_ready_call*).
-//! In a world that keeps the record between rounds, and that was given a fitting batch, entities to reap, or a look, no test ever fails:
-//! each message finds what it is for, fits, and brings small numbers, and each entity in a list has its real there.
+//! A cell's step tests each input first, and does nothing where a test fails (`seam_steps`: *is_stray*, *stray_survey*,
+//! *stray_ready_call*). In a world that keeps the record between rounds, and that was given a fitting batch, entities to reap, or a look,
+//! no test ever fails: each message finds what it is for, fits, and brings small numbers, and each entity in a list has its real there.
 //!
 //! A copy that comes where the real is changes nothing; that its beat is not greater is left to the laws of ghosts, and that the updates of
 //! a look have numbers to those of what clients are shown.
