@@ -6,7 +6,8 @@
 //!
 //! Crates above cite these modules of `proofs`: `Loading` (a load node by node), `Framing` (the frame), `Staying` (what a load leaves of
 //! an entity at a node), `Making` (what it makes of one that the batch creates), `Loaded` (and in the world), `Ready` (what the laws ask of
-//! a settled entity), `Turns` (its calls), `Going` (every list of events).
+//! a settled entity), `Turns` (its calls), `Room` (room in its numbers, and sums over nodes), `Going` (every list of events),
+//! `ExampleBetween` (the worked world).
 #![tactic(auto)]
 
 ghost use Rattle.std.specs.Prelude.{◌≡◌, ℕ, ◌+◌, ◌<◌, List, Some};

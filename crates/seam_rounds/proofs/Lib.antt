@@ -13,3 +13,4 @@ pub mod RoadMoves
 pub mod RoadRuns
 pub mod CallsEnd
 pub mod Opened
+pub mod ExampleReaped

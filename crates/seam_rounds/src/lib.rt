@@ -9,13 +9,14 @@
 //! over every list of events), `Reaping`, `Looking`, `RoadMoves` and `RoadRuns` (generations and routes).
 #![tactic(auto)]
 
-ghost use Rattle.std.specs.Prelude.{◌≡◌, ℕ, ◌≤◌, List, if◌then◌else◌};
+ghost use Rattle.std.specs.Prelude.{◌≡◌, ℕ, ◌≤◌, List, [], ◌∷◌, if◌then◌else◌};
 ghost use Rattle.std.specs.List.{AllByRecursion};
 ghost use Rattle.seam_machine.specs.Nets.{IsQuiet, LeadsTo};
 ghost use Rattle.seam_machine.specs.declared.machines.Event.{Event};
 ghost use Rattle.seam_defs.specs.declared.settings.Settings.{Settings};
 ghost use Rattle.seam_defs.specs.declared.types.TypeDef.{TypeDef};
 ghost use Rattle.seam_call.specs.declared.order.Batch.{Batch};
+ghost use Rattle.seam_steps.specs.EarlyCall as early;
 ghost use Rattle.seam_steps.specs.Holders.{holders};
 ghost use Rattle.seam_steps.specs.Nodes.{World, node_steps, node_has_work};
 ghost use Rattle.seam_steps.specs.Loads.{opened, loaded, reaps_loaded, look_loaded};
@@ -67,4 +68,9 @@ pub fn a_round_goes_from_record_to_record()
         LeadsTo node_has_work node_steps (reaps_loaded u es) vs v → IsQuiet node_has_work v → IsBetweenRounds f v }
     ensures looks { (f : Frame) (u : World) → IsBetweenRounds f u → (vs : List Event) (v : World) →
         LeadsTo node_has_work node_steps (look_loaded u) vs v → IsQuiet node_has_work v → IsBetweenRounds f v }
+{}
+
+/// What the laws of reaps ask is true of the world at the end of the worked run of `seam_between` and its entity.
+pub fn the_worked_entity_may_be_reaped()
+    ensures { AreReapable early.world_12 (1 ∷ []) }
 {}
