@@ -1,5 +1,6 @@
 -- The end of a worked row is a world between rounds.
-use Rattle.std.proofs.Common.{◌≡◌, ℕ, ◌≤◌, Bool, true, false, cond, [], Option, None, Some, refl, sym, ap, ◌∙◌, subst}
+use Rattle.std.proofs.Common.{◌≡◌, ℕ, ◌<◌, ◌≤◌, ◌+◌, Bool, true, false, cond, [], length, Option, None, Some, refl, sym, ap}
+use Rattle.std.proofs.Common.{◌∙◌, subst}
 use Rattle.std.proofs.Common.{arith, inl, inr}
 use Rattle.std.specs.Ordering.{nat_cmp, eq_by_cmp}
 use Rattle.std.specs.Cmp.{nat_cmp_total, unsigned_tied}
@@ -15,6 +16,7 @@ use Rattle.seam_steps.specs.Bases.{RouteView}
 use Rattle.seam_steps.specs.Rows.{idle, one, orders}
 use Rattle.seam_steps.specs.Rows.{order as in_order}
 use Rattle.seam_steps.specs.EarlyCall.{two_cells, world_0, world_12, steps, hit_twice, left, away}
+use Rattle.seam_steps.proofs.Tables.{computing}
 use Rattle.seam_steps.proofs.Early.{row, quiet}
 use Rattle.seam_moves.specs.Sights.{Has, has_of, has_none, entity_flow}
 use Rattle.seam_ones.specs.Fits.{RealFits}
@@ -34,29 +36,22 @@ other_none {X = X} x e n =
     ∙ (ap (λ b. cond b (Some x) (table.get none e)) (unsigned_tied e 1 ∙ ne_eqb e 1 n)
     ∙ table.get-empty nat_cmp e)
 
--- the node has no real of another entity; the real of entity 1 is at node 1, and each route to it goes there
+-- the node has no real of another entity; the real of entity 1 is at node 1
 abbrev W : ℕ → ℕ → Has → Type 0
 W e k h = ((e ≡ 1 → ⊥) → real_in h ≡ None) × ((r : RealView) → real_in h ≡ Some r → (k ≡ 1) × (hit_twice ≡ r))
-    × ((x : RouteView) → h.base.route ≡ Some x → x.cell ≡ 1)
 
 module _ (e : ℕ) where
-  no_route : (x : RouteView) → None ≡ Some x → x.cell ≡ 1
-  no_route x h = absurd (let z = h in cc)
-
   empty_is : (k : ℕ) → W e k (has_of e (idle two_cells k))
-  empty_is k = (λ n. table.get-empty nat_cmp e, λ r h. absurd (none_there e r h), no_route)
+  empty_is k = (λ n. table.get-empty nat_cmp e, λ r h. absurd (none_there e r h))
 
   left_is : W e 0 (has_of e left)
-  left_is = (λ n. table.get-empty nat_cmp e, λ r h. absurd (none_there e r h), no_route)
+  left_is = (λ n. table.get-empty nat_cmp e, λ r h. absurd (none_there e r h))
 
   away_is : W e 1 (has_of e (away hit_twice))
-  away_is = (λ n. other_none hit_twice e n, λ r h. (refl, one_is hit_twice r e h), no_route)
+  away_is = (λ n. other_none hit_twice e n, λ r h. (refl, one_is hit_twice r e h))
 
   none_is : (k : ℕ) → W e k has_none
-  none_is k = (λ n. refl, λ r h. absurd (let z = h in cc), no_route)
-
-  base_is : (x : RouteView) → table.get (one (record { cell = 1; generation = 1 })) e ≡ Some x → x.cell ≡ 1
-  base_is x is = sym (ap (λ y. y.cell) (one_is (record { cell = 1; generation = 1 }) x e is))
+  none_is k = (λ n. refl, λ r h. absurd (let z = h in cc))
 
   no_real : (r : RealView) (k : ℕ) → None ≡ Some r → (k ≡ 1) × (hit_twice ≡ r)
   no_real r k h = absurd (let z = h in cc)
@@ -95,7 +90,7 @@ module _ (e : ℕ) where
                                 empty_is 14,
                                 (
                                   empty_is 15,
-                                  ((λ n. refl, λ r h. no_real r 16 h, base_is), ((λ n. refl, λ r h. no_real r 17 h, base_is), tt)),
+                                  ((λ n. refl, λ r h. no_real r 16 h), ((λ n. refl, λ r h. no_real r 17 h), tt)),
                                 ),
                               ),
                             ),
@@ -160,6 +155,23 @@ none_of : (o : Option RealView) → ((r : RealView) → o ≡ Some r → ⊥) �
 none_of None h = refl
 none_of (Some r) h = absurd (h r refl)
 
+abbrev route_to : ℕ → ℕ → Option RouteView
+route_to cell generation = Some (record { cell = cell; generation = generation })
+
+route_first : ((entity_flow 1 world_12).slot 16).base.route ≡ route_to 1 1
+unfolding world_12
+route_first = simp computing
+
+route_second : ((entity_flow 1 world_12).slot 17).base.route ≡ route_to 1 1
+unfolding world_12
+route_second = simp computing
+
+routes_to : (k : ℕ) → 16 ≤ k → k < 18 → ((entity_flow 1 world_12).slot k).base.route ≡ route_to 1 1
+routes_to k high low = elim (cases_eq k 16) [
+  | inl is ↦ ap (λ j. ((entity_flow 1 world_12).slot j).base.route) is ∙ route_first
+  | inr n ↦ let is : k ≡ 17 = omega (arith, high, low, n) in ap (λ j. ((entity_flow 1 world_12).slot j).base.route) is ∙ route_second
+]
+
 one_settled : (k : ℕ) (r : RealView) → real_in ((entity_flow 1 world_12).slot k) ≡ Some r → IsSettled frame 1 k r world_12
 one_settled k r at =
     let q = after.has.fits.reals k r at in
@@ -170,7 +182,10 @@ one_settled k r at =
       others = λ j n. none_of (real_in ((entity_flow 1 world_12).slot j)) (λ x is. n (((there 1 j).1 x is).0 ∙ sym mine.0));
       type = omega (arith, type);
       fits = subst (λ t. RealFits frame 1 t k r) (sym type) q;
-      routes = λ j x is. (there 1 j).2 x is ∙ sym mine.0;
+      public = subst (λ (x : RealView). x.public ≤ x.version) mine.1 (omega arith);
+      routes = λ j high low.
+          routes_to j high low
+          ∙ (ap (λ c. route_to c 1) (sym mine.0) ∙ ap (λ (x : RealView). route_to k x.generation) mine.1);
       none_held = λ s. subst (λ (x : RealView). (order_or (table.get x.orders s)).held ≡ []) mine.1 (fresh s).0;
       from_one = λ s. subst (λ (x : RealView). 1 ≤ next_from s x) mine.1 (fresh s).1;
     }
@@ -182,8 +197,12 @@ settled_by e k r at = elim (cases_eq e 1) [
   | inr n ↦ absurd (let z = sym ((there e k).0 n) ∙ at in cc)
 ]
 
+many : length world_12.nodes ≡ 16 + frame.settings.bases
+unfolding world_12
+many = refl
+
 pub between : IsBetweenRounds frame world_12
-between = record { frame = frame_is; nodes = after.has.fits.frame; quiet = quiet; settled = settled_by }
+between = record { frame = frame_is; nodes = after.has.fits.frame; many = many; quiet = quiet; settled = settled_by }
 
 -- ---- for a batch that fits it
 

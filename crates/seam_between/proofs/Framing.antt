@@ -1,5 +1,5 @@
 -- A loaded world goes by the batch's tree.
-use Rattle.std.proofs.Common.{◌≡◌, ℕ, ◌+◌, ◌<◌, Bool, true, false, length, Option, None, Some, refl, sym, ap, ◌∙◌, subst}
+use Rattle.std.proofs.Common.{◌≡◌, ℕ, ◌+◌, ◌<◌, Bool, true, false, List, length, Option, None, Some, refl, sym, ap, ◌∙◌, subst}
 use Rattle.std.proofs.Common.{arith}
 use Rattle.std.specs.Prelude.{option_map, slice_get, slice_index_or}
 use Rattle.std.specs.List.{All}
@@ -41,16 +41,16 @@ same_entity g same e (Some x) h r at = let is : g x ≡ r = cc in ap (λ y. y.en
 
 module _ (f : Frame) (b : Batch) (tree : IsTree b.tree) (k : ℕ) where
   -- while a batch is loaded, base nodes go by the new tree already, and cells by none
-  record CellWhile (c : CellView) : Type 0 where
-    is : IsCell c
-    low : k < cell_count
-    here : c.here ≡ here_at f k
+  pub record CellWhile (c : CellView) : Type 0 where
+    pub is : IsCell c
+    pub low : k < cell_count
+    pub here : c.here ≡ here_at f k
 
-  record BaseWhile (n : BaseView) : Type 0 where
-    is : IsBase n
-    at : IsBaseAt (framed f b) k n
+  pub record BaseWhile (n : BaseView) : Type 0 where
+    pub is : IsBase n
+    pub at : IsBaseAt (framed f b) k n
 
-  abbrev While : NodeView → Type 0
+  abbrev pub While : NodeView → Type 0
   While (Cell c) = CellWhile c
   While (Base n) = BaseWhile n
 
@@ -156,12 +156,18 @@ module _ (f : Frame) (b : Batch) (tree : IsTree b.tree) (k : ℕ) where
   orders o (Cell c) any h = h
   orders o (Base n) any h = order_more _ n o.1 h
 
+  -- while entities are created
+  pub while_created : (xs : List Create) (s : NodeView) → IsNode s → IsAt f k s →
+      While (each (created_at b.tree) xs (base_round (cells_of b.tree) s))
+  while_created xs s is at =
+      each_keeps (created_at b.tree) While Any creates xs (any xs) (base_round (cells_of b.tree) s) (begins s is at)
+
   -- before the orders
   pub node_begun : (s : NodeView) → IsNode s → IsAt f k s → Goes (cell_round b.tree (made b s))
   node_begun s is at =
       rounds (made b s)
       (each_keeps attached While Any joins b.clients (any b.clients) (each (created_at b.tree) b.creates (base_round (cells_of b.tree) s))
-      (each_keeps (created_at b.tree) While Any creates b.creates (any b.creates) (base_round (cells_of b.tree) s) (begins s is at)))
+      (while_created b.creates s is at))
 
   pub node_goes : (s : NodeView) → IsNode s → IsAt f k s → Goes (node_loaded b s)
   node_goes s is at =
@@ -173,35 +179,44 @@ pub peers_at : (f : Frame) (k : ℕ) (s : NodeView) → IsAt f k s → node_peer
 peers_at f k (Cell c) h = ap (λ x. cell_count + x.settings.bases) h.here
 peers_at f k (Base n) h = ap (λ x. cell_count + x.settings.bases) h.here
 
-module _ (f : Frame) (w : World) (b : Batch) (r : IsBetweenRounds f w) (fits : IsFitting f w b) where
-  goes_at : (k : ℕ) (t : NodeView) → slice_get (with_nodes w (node_loaded b)).nodes k ≡ Some t → IsNode t × IsAt (framed f b) k t
+pub many_loaded : (f : Frame) (w : World) (b : Batch) → IsBetweenRounds f w →
+    length (loaded w b).nodes ≡ cell_count + f.settings.bases
+many_loaded f w b r = ap (λ v. length v.nodes) (loaded_is w b) ∙ (length-map w.nodes (node_loaded b) ∙ r.many)
+
+-- a world whose nodes all change by themselves, each into one of the other frame
+module _ (f g : Frame) (bases : g.settings.bases ≡ f.settings.bases) (turn : NodeView → NodeView)
+    (turns : (k : ℕ) (s : NodeView) → IsNode s → IsAt f k s → IsNode (turn s) × IsAt g k (turn s)) (w : World) (q : IsInFrame f w) where
+  goes_at : (k : ℕ) (t : NodeView) → slice_get (with_nodes w turn).nodes k ≡ Some t → IsNode t × IsAt g k t
   goes_at k t at =
-      let n = node_there (slice_get w.nodes k) (node_loaded b) t (sym (slice_get-map (node_loaded b) w.nodes k) ∙ at) in
-      subst (λ s. IsNode s × IsAt (framed f b) k s) n.2
-      (node_goes f b fits.tree k n.0 (r.nodes.sound.states k n.0 n.1) (r.nodes.nodes k n.0 n.1))
+      let n = node_there (slice_get w.nodes k) turn t (sym (slice_get-map turn w.nodes k) ∙ at) in
+      subst (λ s. IsNode s × IsAt g k s) n.2 (turns k n.0 (q.sound.states k n.0 n.1) (q.nodes k n.0 n.1))
 
-  many : length (with_nodes w (node_loaded b)).nodes ≡ length w.nodes
-  many = length-map w.nodes (node_loaded b)
+  many : length (with_nodes w turn).nodes ≡ length w.nodes
+  many = length-map w.nodes turn
 
-  square : IsSquare (with_nodes w (node_loaded b))
+  square : IsSquare (with_nodes w turn)
   square = record {
-    rows = r.nodes.sound.square.rows ∙ sym many;
-    links = subst (λ n. All (λ l. length l ≡ n) w.rows) (sym many) r.nodes.sound.square.links;
+    rows = q.sound.square.rows ∙ sym many;
+    links = subst (λ n. All (λ l. length l ≡ n) w.rows) (sym many) q.sound.square.links;
   }
 
-  peers_of_each : (s : NodeView) (k : ℕ) → slice_get w.nodes k ≡ Some s → node_peers (node_loaded b s) ≡ node_peers s
+  peers_of_each : (s : NodeView) (k : ℕ) → slice_get w.nodes k ≡ Some s → node_peers (turn s) ≡ node_peers s
   peers_of_each s k at =
-      peers_at (framed f b) k (node_loaded b s)
-      (node_goes f b fits.tree k s (r.nodes.sound.states k s at) (r.nodes.nodes k s at)).1
-      ∙ sym (peers_at f k s (r.nodes.nodes k s at))
+      peers_at g k (turn s) (turns k s (q.sound.states k s at) (q.nodes k s at)).1
+      ∙ (ap (λ n. cell_count + n) bases ∙ sym (peers_at f k s (q.nodes k s at)))
 
-  peers : ArePeers node_peers (with_nodes w (node_loaded b))
+  peers : ArePeers node_peers (with_nodes w turn)
   peers =
-      All-map (λ s. node_peers s ≡ length (with_nodes w (node_loaded b)).nodes) (node_loaded b) w.nodes
-      (λ k d lt. peers_of_each (slice_index_or w.nodes k d) k (slice_get-get_or w.nodes k d lt) ∙ r.nodes.sound.peers k d lt ∙ sym many)
+      All-map (λ s. node_peers s ≡ length (with_nodes w turn).nodes) turn w.nodes
+      (λ k d lt. peers_of_each (slice_index_or w.nodes k d) k (slice_get-get_or w.nodes k d lt) ∙ q.sound.peers k d lt ∙ sym many)
 
-  pub in_frame : IsInFrame (framed f b) (loaded w b)
-  in_frame = subst (IsInFrame (framed f b)) (sym (loaded_is w b)) (record {
+  pub frame_turns : IsInFrame g (with_nodes w turn)
+  frame_turns = record {
     sound = record { square = square; peers = peers; states = λ k t at. (goes_at k t at).0 };
     nodes = λ k t at. (goes_at k t at).1;
-  })
+  }
+
+pub in_frame : (f : Frame) (w : World) (b : Batch) → IsBetweenRounds f w → IsFitting f w b → IsInFrame (framed f b) (loaded w b)
+in_frame f w b r fits =
+    subst (IsInFrame (framed f b)) (sym (loaded_is w b))
+    (frame_turns f (framed f b) refl (node_loaded b) (node_goes f b fits.tree) w r.nodes)

@@ -34,7 +34,7 @@ abbrev pub Kept : (RealView → RealView) → Option RealView → Option RealVie
 Kept turn None p = p ≡ None
 Kept turn (Some r) p = (x : Option WitnessView) × (p ≡ Some (record (turn r) { witness = x }))
 
-abbrev same : RealView → RealView
+abbrev pub same : RealView → RealView
 same r = r
 
 kept_all : (o : Option RealView) → Kept same o o
@@ -55,10 +55,13 @@ pub record Stays (turn : RealView → RealView) (g h : Has) : Type 0 where
   pub route : h.base.route ≡ g.base.route
   pub orders : h.base.orders ≡ g.base.orders
 
+pub stays_as : (g : Has) → Stays same g g
+stays_as g = record { real = kept_all (real_in g); route = refl; orders = refl }
+
 module _ (e : ℕ) where
   -- ---- the base nodes begin the round
 
-  base_stays : (n : ℕ) (s : NodeView) → Stays same (has_of e s) (has_of e (base_round n s))
+  pub base_stays : (n : ℕ) (s : NodeView) → Stays same (has_of e s) (has_of e (base_round n s))
   base_stays n (Cell c) = record { real = kept_all (table.get c.reals e); route = refl; orders = refl }
   base_stays n (Base b) = record { real = refl; route = refl; orders = refl }
 
@@ -185,24 +188,69 @@ module _ (e : ℕ) where
     spared = λ none. subst (AllByRecursion Spares) (sym s.orders) none;
   }
 
-  module _ (b : Batch) (others : AllByRecursion (λ x. x.entity ≡ e → ⊥) b.creates) where
-    -- before the orders
-    pub node_stays : (s : NodeView) → Stays real_begins (has_of e s) (has_of e (cell_round b.tree (made b s)))
-        × ((has_of e (cell_round b.tree (made b s))).cell.slot.next ≡ None)
-    node_stays s =
-        let g = has_of e s in
-        let begun = base_round (cells_of b.tree) s in
-        let created = each (created_at b.tree) b.creates begun in
-        let P : NodeView → Type 0 = λ n. Stays same g (has_of e n) in
-        let first = each_keeps (created_at b.tree) P (λ x. x.entity ≡ e → ⊥) (λ x n other h. created_stays b.tree x other g n h) b.creates
-        others begun (base_stays (cells_of b.tree) s) in
-        let second = each_keeps attached P Any (λ q n u h. joined_stays g q n h) b.clients (any b.clients) created first in
-        round_stays g b.tree (made b s) second
+  -- where the entities that are created are others, it stays while they are
+  pub creates_stay : (t : Division) (xs : List Create) → AllByRecursion (λ x. x.entity ≡ e → ⊥) xs → (g : Has) (s : NodeView) →
+      Stays same g (has_of e s) → Stays same g (has_of e (each (created_at t) xs s))
+  creates_stay t xs others g s h =
+      each_keeps (created_at t) (λ n. Stays same g (has_of e n)) (λ x. x.entity ≡ e → ⊥) (λ x n other h. created_stays t x other g n h) xs
+      others s h
 
-    pub node_becomes : AllByRecursion (λ o. Spares o.1) b.orders → (s : NodeView) → Becomes (has_of e s) (has_of e (node_loaded b s))
-    node_becomes spares s =
-        let g = has_of e s in
-        let begun = cell_round b.tree (made b s) in
-        let two = node_stays s in
-        each_keeps ordered_at (λ n. Becomes g (has_of e n)) (λ o. Spares o.1) (λ o n h k. order_becomes g o n h k) b.orders spares
-        begun (becomes_of g (has_of e begun) two.0 two.1)
+  -- and so it does while clients are attached and cells begin the round
+  pub begun_stays : (b : Batch) (g : Has) (s : NodeView) → Stays same g (has_of e s) →
+      Stays real_begins g (has_of e (cell_round b.tree (each attached b.clients s)))
+      × ((has_of e (cell_round b.tree (each attached b.clients s))).cell.slot.next ≡ None)
+  begun_stays b g s h =
+      round_stays g b.tree (each attached b.clients s)
+      (each_keeps attached (λ n. Stays same g (has_of e n)) Any (λ q n u h. joined_stays g q n h) b.clients (any b.clients) s h)
+
+  pub becomes_after : (b : Batch) → AllByRecursion (λ o. Spares o.1) b.orders → (g : Has) (s : NodeView) → Stays same g (has_of e s) →
+      Becomes g (has_of e (each ordered_at b.orders (cell_round b.tree (each attached b.clients s))))
+  becomes_after b spares g s h =
+      let begun = cell_round b.tree (each attached b.clients s) in
+      let two = begun_stays b g s h in
+      each_keeps ordered_at (λ n. Becomes g (has_of e n)) (λ o. Spares o.1) (λ o n h k. order_becomes g o n h k) b.orders spares
+      begun (becomes_of g (has_of e begun) two.0 two.1)
+
+  -- all of it
+  pub node_becomes : (b : Batch) → AllByRecursion (λ x. x.entity ≡ e → ⊥) b.creates → AllByRecursion (λ o. Spares o.1) b.orders →
+      (s : NodeView) → Becomes (has_of e s) (has_of e (node_loaded b s))
+  node_becomes b others spares s =
+      let begun = base_round (cells_of b.tree) s in
+      becomes_after b spares (has_of e s) (each (created_at b.tree) b.creates begun)
+      (creates_stay b.tree b.creates others (has_of e s) begun (base_stays (cells_of b.tree) s))
+
+  -- ---- the orders before the batch's are given
+
+  abbrev HasOrders : List Order → NodeView → Type 0
+  HasOrders os n = (has_of e n).base.orders ≡ os
+
+  created_orders : (t : Division) (x : Create) (os : List Order) (s : NodeView) → HasOrders os s → HasOrders os (created_at t x s)
+  created_orders t x os (Cell c) h = h
+  created_orders t x os (Base n) h = base_by (eqb (base_of n.here x.entity) n.here.me)
+    where
+      base_by : (b : Bool) → HasOrders os (Base (part_if b (with_route n x.entity (leaf_at t x.pos)) x))
+      base_by true = h
+      base_by false = h
+
+  joined_orders : (q : ℕ) (os : List Order) (s : NodeView) → HasOrders os s → HasOrders os (attached q s)
+  joined_orders q os (Cell c) h = h
+  joined_orders q os (Base n) h = h
+
+  begun_orders : (n : ℕ) (s : NodeView) → HasOrders (has_of e s).base.orders (base_round n s)
+  begun_orders n (Cell c) = refl
+  begun_orders n (Base b) = refl
+
+  round_orders : (t : Division) (os : List Order) (s : NodeView) → HasOrders os s → HasOrders os (cell_round t s)
+  round_orders t os (Cell c) h = h
+  round_orders t os (Base n) h = h
+
+  pub made_orders : (b : Batch) (s : NodeView) → HasOrders (has_of e s).base.orders (cell_round b.tree (made b s))
+  made_orders b s =
+      let os = (has_of e s).base.orders in
+      let begun = base_round (cells_of b.tree) s in
+      let first =
+      each_keeps (created_at b.tree) (HasOrders os) Any (λ x n u h. created_orders b.tree x os n h) b.creates (any b.creates) begun
+      (begun_orders (cells_of b.tree) s) in
+      round_orders b.tree os (made b s)
+      (each_keeps attached (HasOrders os) Any (λ q n u h. joined_orders q os n h) b.clients (any b.clients)
+      (each (created_at b.tree) b.creates begun) first)

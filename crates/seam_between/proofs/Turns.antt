@@ -1,5 +1,5 @@
--- Each sender's calls of a batch are in turn in a loaded world, for an entity that was there.
-use Rattle.std.proofs.Common.{◌≡◌, ℕ, ◌+◌, ◌<◌, ◌≤◌, Bool, true, false, cond, eqb, List, [], ◌∷◌, ◌++◌, map, length, Option, None, Some}
+-- Each sender's calls of a batch are in turn in a loaded world, for each entity of it.
+use Rattle.std.proofs.Common.{◌≡◌, ℕ, ◌<◌, ◌≤◌, Bool, true, false, cond, eqb, List, [], ◌∷◌, ◌++◌, map, Option, None, Some}
 use Rattle.std.proofs.Common.{refl}
 use Rattle.std.proofs.Common.{sym, ap, ◌∙◌, subst, arith, inl, inr}
 use Rattle.std.specs.Prelude.{option_map, slice_get}
@@ -7,10 +7,9 @@ use Rattle.std.specs.List.{AllByRecursion}
 use Rattle.std.proofs.lemmas.Bool.{eqb-true, cases_lt}
 use Rattle.std.proofs.lemmas.List.{append_assoc, append-nil}
 use Rattle.std.proofs.lemmas.List.Elements.{filter-append}
-use Rattle.std.proofs.lemmas.Option.{slice_get-map, slice_get_within, slice_get_cases, get_or_from_slice_get}
-use Rattle.seam_machine.specs.Nets.{IsQuiet, LeadsTo}
+use Rattle.std.proofs.lemmas.Option.{slice_get_cases}
+use Rattle.seam_tree.specs.Division.{IsTree}
 use Rattle.seam_machine.specs.Sends.{items_to}
-use Rattle.seam_machine.specs.declared.machines.Event.{Event}
 use Rattle.seam_machine.proofs.Quiet.{quiet_tasks}
 use Rattle.seam_flows.specs.Flows.{Flow, slot_at, letters_of, more_letter}
 use Rattle.seam_delivery.specs.Numbered.{number_from, of_number}
@@ -23,12 +22,14 @@ use Rattle.seam_call.specs.declared.order.Order.{Order}
 use Rattle.seam_call.specs.declared.order.Order.TheVariants as order
 use Rattle.seam_call.specs.declared.order.Batch.{Batch}
 use Rattle.seam_call.specs.Senders.{rank_of}
+use Rattle.std.specs.FinMap as table
+use Rattle.seam_entity.specs.Orders.{order_or}
 use Rattle.seam_entity.specs.Reals.{RealView}
 use Rattle.seam_entity.specs.declared.message.Msg.{Msg}
 use Rattle.seam_steps.specs.Here.{cell_count}
 use Rattle.seam_steps.specs.Reals.{fits_cell_part}
 use Rattle.seam_steps.specs.Bases.{BaseView}
-use Rattle.seam_steps.specs.Nodes.{NodeView, World, node_has_work, node_peers, node_steps}
+use Rattle.seam_steps.specs.Nodes.{NodeView, World, node_has_work}
 use Rattle.seam_steps.specs.Nodes.NodeView.{Cell, Base}
 use Rattle.seam_steps.specs.Loads.{cell_round, order_if, ordered_at, loaded}
 use Rattle.seam_moves.specs.Frames.{Frame, here_at, IsAt}
@@ -36,14 +37,12 @@ use Rattle.seam_moves.specs.Sights.{Has, kept_if, has_of, has_none, order_concer
 use Rattle.seam_ones.specs.Ones.{real_in}
 use Rattle.seam_once.specs.CellTurns.{is_from, from_sender, cell_order_from, real_desk, cell_mail, as_sender, IsCallOf, AreCallsOf}
 use Rattle.seam_once.specs.CellTurns.{CellCallsInTurn}
-use Rattle.seam_once.proofs.CellRuns.{Kept, kept_leads}
-use Rattle.seam_once.proofs.Quieting.{all_executed}
 use Rattle.seam_between.specs.Between.{order_in, cell_call_from, calls_of, calls_at, AreNumbered, IsFitOrder, next_from}
-use Rattle.seam_between.specs.Between.{IsSettled, IsBetweenRounds, IsFitting, framed}
-use Rattle.seam_between.proofs.Loading.{each, made, node_loaded, loaded_is}
-use Rattle.seam_between.proofs.Framing.{node_begun, node_goes, peers_at}
-use Rattle.seam_between.proofs.Staying.{node_stays}
-use Rattle.seam_between.proofs.Loaded.{no_items, others, after, no_mail, kept, elsewhere, one_loaded, spared_loaded, lead_loaded}
+use Rattle.seam_between.specs.Between.{IsBetweenRounds, IsFitting, framed}
+use Rattle.seam_between.proofs.Loading.{each, made, node_loaded}
+use Rattle.seam_between.proofs.Framing.{node_begun, node_goes}
+use Rattle.seam_between.proofs.Staying.{made_orders}
+use Rattle.seam_between.proofs.Loaded.{no_items, after, no_mail, slot_is, Loaded, real_loaded}
 
 -- ---- the calls fit
 
@@ -125,31 +124,30 @@ idle_orders : (e : ℕ) (s : NodeView) → node_has_work s ≡ false → (has_of
 idle_orders e (Cell c) h = refl
 idle_orders e (Base n) h = ap (orders_of e) (no_items n.orders _ h)
 
-module _ (f : Frame) (w : World) (b : Batch) (between : IsBetweenRounds f w) (fits : IsFitting f w b) (e home : ℕ) (r : RealView)
-    (here : real_in ((entity_flow e w).slot home) ≡ Some r) where
-  abbrev then : Flow Has Msg
-  then = after f w b between fits e home r here
-
-  node_orders : (k : ℕ) (s : NodeView) → slice_get w.nodes k ≡ Some s → cell_count ≤ k →
+-- what a loaded node has of orders that concern the entity
+module _ (f : Frame) (w : World) (b : Batch) (between : IsBetweenRounds f w) (tree : IsTree b.tree) (e : ℕ) where
+  pub node_orders : (k : ℕ) (s : NodeView) → slice_get w.nodes k ≡ Some s → cell_count ≤ k →
       (has_of e (node_loaded b s)).base.orders ≡ orders_of e (items_to k b.orders)
   node_orders k s at high =
       let q = between.nodes in
-      let begun = node_begun f b fits.tree k s (q.sound.states k s at) (q.nodes k s at) in
-      let goes = node_goes f b fits.tree k s (q.sound.states k s at) (q.nodes k s at) in
-      let none = (node_stays e b (others f w b between fits e home r here) s).0.orders
-      ∙ idle_orders e s (quiet_tasks node_has_work w between.quiet k s at) in
+      let begun = node_begun f b tree k s (q.sound.states k s at) (q.nodes k s at) in
+      let goes = node_goes f b tree k s (q.sound.states k s at) (q.nodes k s at) in
+      let none = made_orders e b s ∙ idle_orders e s (quiet_tasks node_has_work w between.quiet k s at) in
       at_base_is (framed f b) e k (orders_of e (items_to k b.orders)) (node_loaded b s) goes.1 high
       (orders_given (framed f b) e k b.orders (cell_round b.tree (made b s)) begun.1 none high)
 
-  node_none : (k : ℕ) (s : NodeView) → slice_get w.nodes k ≡ Some s → k < cell_count → (has_of e (node_loaded b s)).base.orders ≡ []
+  pub node_none : (k : ℕ) (s : NodeView) → slice_get w.nodes k ≡ Some s → k < cell_count → (has_of e (node_loaded b s)).base.orders ≡ []
   node_none k s at low =
       at_cell_none (framed f b) e k (node_loaded b s)
-      (node_goes f b fits.tree k s (between.nodes.sound.states k s at) (between.nodes.nodes k s at)).1 low
+      (node_goes f b tree k s (between.nodes.sound.states k s at) (between.nodes.nodes k s at)).1 low
 
-  slot_is : (k : ℕ) → then.slot k ≡ slot_at (has_of e) has_none (option_map (node_loaded b) (slice_get w.nodes k))
-  slot_is k =
-      ap (λ v. (entity_flow e v).slot k) (loaded_is w b)
-      ∙ ap (slot_at (has_of e) has_none) (slice_get-map (node_loaded b) w.nodes k)
+module _ (f : Frame) (w : World) (b : Batch) (between : IsBetweenRounds f w) (fits : IsFitting f w b) (e home : ℕ) (r : RealView)
+    (here : real_in ((entity_flow e (loaded w b)).slot home) ≡ Some r) where
+  abbrev then : Flow Has Msg
+  then = after f w b between fits e
+
+  abbrev its : Loaded f w b between fits e home r
+  its = real_loaded f w b between fits e home r here
 
   -- what a node has of a sender's calls is what the batch gives it, or nothing
   module _ (s : ℕ) where
@@ -160,29 +158,20 @@ module _ (f : Frame) (w : World) (b : Batch) (between : IsBetweenRounds f w) (fi
         stored k ≡ letters_of (cell_order_from s) (slot_at (has_of e) has_none (option_map (node_loaded b) o)).base.orders
     stored_is k o at =
         ap (λ h. letters_of (cell_order_from s) h.base.orders)
-        (slot_is k ∙ ap (λ x. slot_at (has_of e) has_none (option_map (node_loaded b) x)) at)
+        (slot_is w b e k ∙ ap (λ x. slot_at (has_of e) has_none (option_map (node_loaded b) x)) at)
 
     there_by : (k : ℕ) (n : NodeView) → slice_get w.nodes k ≡ Some n → cell_count ≤ k → stored k ≡ calls_at b e s k
     there_by k n at high =
         stored_is k (Some n) at
-        ∙ ap (letters_of (cell_order_from s)) (node_orders k n at high)
+        ∙ ap (letters_of (cell_order_from s)) (node_orders f w b between fits.tree e k n at high)
 
     none_by : (k : ℕ) (o : Option NodeView) → slice_get w.nodes k ≡ o → calls_at b e s k ≡ [] → stored k ≡ []
     none_by k None at none = stored_is k None at
     none_by k (Some n) at none = elim (cases_lt k cell_count) [
       | inr high ↦ there_by k n at high ∙ none
       | inl low ↦
-          stored_is k (Some n) at ∙ ap (letters_of (cell_order_from s)) (node_none k n at low)
+          stored_is k (Some n) at ∙ ap (letters_of (cell_order_from s)) (node_none f w b between fits.tree e k n at low)
     ]
-
-    -- ---- how many nodes there are
-
-    many_by : (o : Option NodeView) → slice_get w.nodes home ≡ o → length w.nodes ≡ cell_count + f.settings.bases
-    many_by None at = absurd (let z = sym (ap (λ o. real_in (slot_at (has_of e) has_none o)) at) ∙ here in cc)
-    many_by (Some n) at =
-        let lt = slice_get_within w.nodes home n at in
-        let same = get_or_from_slice_get w.nodes home n n at in
-        sym (between.nodes.sound.peers home n lt) ∙ ap node_peers same ∙ peers_at f home n (between.nodes.nodes home n at)
 
     -- ---- in turn
 
@@ -192,16 +181,13 @@ module _ (f : Frame) (w : World) (b : Batch) (between : IsBetweenRounds f w) (fi
     abbrev numbers : AreNumbered f b e s first
     numbers = (fits.calls e home r here).numbered s
 
-    settled : IsSettled f e home r w
-    settled = between.settled e home r here
-
     abbrev desk_at : List (ℕ × CallData) → Desk CallData
     desk_at held = record { order = record { next = first; held = held }; done = [] }
 
     store_by : (n : ℕ) (o : Option NodeView) → slice_get w.nodes numbers.node ≡ o →
         letters_of (of_number n) (stored numbers.node) ≡ more_letter (item_at n (number_from first (calls_of b e s))) []
     store_by n None at =
-        let many = many_by (slice_get w.nodes home) refl in
+        let many = between.many in
         let is_there = numbers.is_there in
         elim (slice_get_cases w.nodes numbers.node).1 [
           | inl p ↦ absurd (let z = sym at ∙ p.2 in cc)
@@ -216,12 +202,15 @@ module _ (f : Frame) (w : World) (b : Batch) (between : IsBetweenRounds f w) (fi
 
     pub sender_in_turn : AreInTurn first (calls_of b e s) (as_sender s then)
     sender_in_turn = loaded_in_turn first (calls_of b e s) (as_sender s then) numbers.node home (record {
-      mail = λ x y. ap (letters_of (cell_mail s)) (no_mail f w b between fits e home r here x y);
+      mail = λ x y. ap (letters_of (cell_mail s)) (no_mail f w b between fits e x y);
       store = store;
       stores = λ j n. none_by j (slice_get w.nodes j) refl (numbers.others j n);
-      here = ap (real_desk s) (kept f w b between fits e home r here).1 ∙ ap (λ h. Some (desk_at h)) (settled.none_held s);
-      others = λ j n. ap (real_desk s) (elsewhere f w b between fits e home r here j n);
-      from_one = settled.from_one s;
+      here =
+          ap (real_desk s) here
+          ∙ (ap (λ d. Some (record { order = order_or (table.get r.orders s); done = letters_of (from_sender s) d })) its.idle
+          ∙ ap (λ h. Some (desk_at h)) (its.settled.none_held s));
+      others = λ j n. ap (real_desk s) (its.settled.others j n);
+      from_one = its.settled.from_one s;
       small = numbers.room;
     })
 
@@ -230,28 +219,3 @@ module _ (f : Frame) (w : World) (b : Batch) (between : IsBetweenRounds f w) (fi
 
   pub are_calls : AreCallsOf (framed f b) e r.ty (calls_of b e)
   are_calls s = ours (framed f b) e r.ty s b.orders (fits.calls e home r here).fit
-
--- ---- over every list of events
-
-module _ (f : Frame) (w : World) (b : Batch) (between : IsBetweenRounds f w) (fits : IsFitting f w b) (e home : ℕ) (r : RealView)
-    (here : real_in ((entity_flow e w).slot home) ≡ Some r) (v : World) (es : List Event)
-    (run : LeadsTo node_has_work node_steps (loaded w b) es v) where
-  kept_after : Kept (framed f b) (record { defs = between.frame.defs; tree = fits.tree }) e r.ty (between.settled e home r here).type
-      (λ s. next_from s r) (calls_of b e) (are_calls f w b between fits e home r here) v
-  kept_after =
-      kept_leads (framed f b) (record { defs = between.frame.defs; tree = fits.tree }) e r.ty (between.settled e home r here).type
-      (λ s. next_from s r) (calls_of b e) (are_calls f w b between fits e home r here) (loaded w b) v es (record {
-        has = one_loaded f w b between fits e home r here;
-        spared = spared_loaded f w b between fits e home r here;
-        lead = lead_loaded f w b between fits e home r here;
-        turns = calls_in_turn f w b between fits e home r here;
-        room = fits.room e home r here;
-      }) run
-
-  pub each_waits_once : CellCallsInTurn e (λ s. next_from s r) (calls_of b e) v
-  each_waits_once = kept_after.turns
-
-  pub all_were_executed : IsQuiet node_has_work v → (k : ℕ) (q : RealView) → real_in ((entity_flow e v).slot k) ≡ Some q → (s : ℕ) →
-      letters_of (from_sender s) q.done ≡ calls_of b e s
-  all_were_executed quiet k q there s =
-      all_executed (framed f b) e v kept_after.has.fits.frame quiet (λ x. next_from x r) (calls_of b e) kept_after.turns k q there s

@@ -1,4 +1,4 @@
-use Rattle.seam_between.proofs.Turns.{each_waits_once, all_were_executed}
+use Rattle.seam_between.proofs.Going.{each_waits_once, all_were_executed}
 use Rattle.seam_between.proofs.calls_of_a_batch_are_executed_once.Goals as goal
 
 pub returns-clause-once : goal.returns-clause-once

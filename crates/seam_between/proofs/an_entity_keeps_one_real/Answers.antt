@@ -1,5 +1,5 @@
-use Rattle.seam_between.proofs.Loaded.{keeps_one, keeps_leading}
-use Rattle.seam_between.proofs.an_entity_that_was_there_keeps_one_real.Goals as goal
+use Rattle.seam_between.proofs.Going.{keeps_one, keeps_leading}
+use Rattle.seam_between.proofs.an_entity_keeps_one_real.Goals as goal
 
 pub returns-clause-one : goal.returns-clause-one
 returns-clause-one c = keeps_one

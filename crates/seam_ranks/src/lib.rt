@@ -1,0 +1,40 @@
+//! A call is passed on at most as often as its entity was handed over, by ranks.
+//!
+//! A node's rank is the generation of the entity's real where that is here; where it was here, the generation with which it left. No event
+//! lowers a rank. A call that is passed on comes to a node of higher rank: the next place has it, or the hand-over that brings it is on its
+//! way before the call. No rank is above the generation of the real, and that rises by one with each hand-over, and with nothing else. So
+//! from where a call first comes to a cell, it is passed on at most as often as the entity was handed over in the round.
+//!
+//! Crates above cite these modules of `proofs`: `Ranking` (a step, and every list of events).
+#![tactic(auto)]
+
+ghost use Rattle.std.specs.Prelude.{◌≡◌, ℕ, ◌+◌, true, List, None, Some};
+ghost use Rattle.seam_machine.specs.Nets.{happens, enabled, LeadsTo};
+ghost use Rattle.seam_machine.specs.declared.machines.Event.{Event};
+ghost use Rattle.seam_flows.specs.Flows.{Flow};
+ghost use Rattle.seam_call.specs.declared.order.Batch.{Batch};
+ghost use Rattle.seam_entity.specs.Reals.{RealView};
+ghost use Rattle.seam_entity.specs.declared.message.Msg.{Msg};
+ghost use Rattle.seam_steps.specs.Slots.{NextPlace};
+ghost use Rattle.seam_steps.specs.Nodes.{World, node_steps, node_has_work};
+ghost use Rattle.seam_steps.specs.Loads.{loaded};
+ghost use Rattle.seam_moves.specs.Frames.{Frame};
+ghost use Rattle.seam_moves.specs.Sights.{Has, entity_flow};
+ghost use Rattle.seam_ones.specs.Ones.{real_in};
+ghost use Rattle.seam_between.specs.Between.{IsBetweenRounds, IsFitting};
+ghost use Rattle.seam_ranks.specs.Ranks.{rank_of, ComesTo, AreRanked, Climbs};
+
+/// What a node that has the next place alone passes on comes to a node of higher rank.
+pub fn a_call_that_is_passed_on_climbs()
+    ensures { (w : Flow Has Msg) (top : ℕ) → AreRanked w top → (k : ℕ) (n : NextPlace) → real_in (w.slot k) ≡ None →
+        (w.slot k).cell.slot.next ≡ Some n → (rank_of (w.slot k) + 1 ≡ n.generation) × ComesTo w k n.cell n.generation }
+{}
+
+/// After every list of events of a round, each further event lowers no rank; no rank is above the generation of the one real, before it and
+/// after it; and that generation rises by one where the real is handed over, and not else.
+pub fn ranks_rise_with_hand_overs_alone()
+    ensures { (f : Frame) (w : World) (b : Batch) → IsBetweenRounds f w → IsFitting f w b → (e k : ℕ) (r : RealView) →
+        real_in ((entity_flow e (loaded w b)).slot k) ≡ Some r → (v : World) (es : List Event) →
+        LeadsTo node_has_work node_steps (loaded w b) es v → (x : Event) → enabled node_has_work v x ≡ true →
+        Climbs e v (happens node_steps v x) }
+{}

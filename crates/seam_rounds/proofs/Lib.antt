@@ -1,0 +1,16 @@
+pub mod Shape
+pub mod Publics
+pub mod Calm
+pub mod CalmMoves
+pub mod CalmRuns
+pub mod Starting
+pub mod Giving
+pub mod Ending
+pub mod Phases
+pub mod Reaping
+pub mod Looking
+pub mod RoadMoves
+pub mod RoadRuns
+pub mod CallsEnd
+pub mod Opened
+pub mod ExampleReaped
