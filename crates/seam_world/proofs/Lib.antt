@@ -5,3 +5,4 @@ mod Prefixes
 mod PrintLemmas
 mod RunLemmas
 mod HeaderRuns
+mod Completing

@@ -49,7 +49,8 @@ round_ended h t old new ran ready holds round line book table =
       round = round_of (t.rounds + 1) ran.entities.entries;
       legal = table_round h t ran holds ready.orders;
       whole =
-          ap (λ (ds : List TypeDef). round_text ds (round_of new.round ran.entities.entries)) (ap (λ (k : Header). k.defs) holds.holds.header)
+          ap (λ (ds : List TypeDef). round_text ds (round_of new.round ran.entities.entries)) (ap (λ
+          (k : Header). k.defs) holds.holds.header)
           ∙ ap (λ (n : ℕ). round_text h.defs (round_of n ran.entities.entries)) number;
       ready = record { book = book; table = table; orders = refl; line = line ∙ ready.line; round = number };
     }

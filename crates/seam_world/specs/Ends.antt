@@ -1,11 +1,12 @@
 -- How a run ends: what each status tells of the bytes that were read and of what was written.
-use Rattle.std.specs.Prelude.{◌≡◌, ◌⊎◌, ◌<◌, ◌≤◌, ℕ, ◌^◌, List, [], ◌∷◌, ◌++◌, codes, length}
+use Rattle.std.specs.Prelude.{◌≡◌, ◌⊎◌, ◌<◌, ◌≤◌, ℕ, ◌^◌, List, [], ◌∷◌, ◌++◌, codes, length, Some}
 use Rattle.std.specs.Io.KnownBytes.{Appends, Consumes, IsAtEnd}
 use Rattle.seam_io.specs.Causes.{Rose}
 use Rattle.seam_io.specs.States.{SourceState, SinkState}
 use Rattle.seam_io.specs.Lines.{Line, lines_of, whole_lines_of}
 use Rattle.seam_value.specs.Values.{decimal_of}
-use Rattle.seam_transcript.specs.Header.{AwaitHeader, RefusesHeader, no_end}
+use Rattle.seam_transcript.specs.Header.{BeginWithHeader, AwaitHeader, RefusesHeader, no_end}
+use Rattle.seam_toml.specs.declared.header.Header.{Header}
 use Rattle.seam_world.specs.declared.status.Status.{Status}
 use Rattle.seam_world.specs.declared.status.Status.TheVariants as status
 
@@ -86,3 +87,16 @@ module _ (Open Ended : List Line → List ℕ → Type 0) where
     pub wrote : Appends sink.written sink'.written (text ++ tail)
     pub tells : Tells ended old new given text
     pub last : HasFaultLine ended sink sink' tail
+
+-- The input and the sink allow a complete run: the source tells all its bytes, which are fewer than may be taken and begin with a
+-- header, and neither count of faults rose.
+pub record MayComplete (old new : SourceState) (sink sink' : SinkState) : Type 0 where
+  pub bytes : List ℕ
+  pub left : old.left ≡ Some bytes
+  pub few : length bytes < most_bytes
+  pub header : Header
+  pub count : ℕ
+  pub rest : List Line
+  pub begins : BeginWithHeader (lines_of bytes) header count rest
+  pub reads : ¬ (Rose old.faults new.faults)
+  pub writes : ¬ (Rose sink.faults sink'.faults)

@@ -11,7 +11,7 @@ ghost use Rattle.seam_transcript.specs.Standing.{Standing};
 ghost use Rattle.seam_transcript.specs.Transcript.{IsOpen, IsEnded};
 ghost use Rattle.seam_world.specs.Status.{IsRunEnd, IsHeaderCause, refusal_of};
 ghost use Rattle.seam_world.specs.Script.{ScriptRefines, LineRead, InputEnded};
-ghost use Rattle.seam_world.specs.Ends.{RunEnds, HasFaultLine, IsPrefix, most_bytes, fault_line as fault_line_of};
+ghost use Rattle.seam_world.specs.Ends.{RunEnds, MayComplete, HasFaultLine, IsPrefix, most_bytes, fault_line as fault_line_of};
 ghost use Rattle.seam_world.specs.Histories.{HasHeader, InHeader, HeaderLineRead, Going, Stopped};
 ghost use Rattle.seam_world.specs.Printing.{Printed, FailedWithin, StopsBy, Prints};
 
@@ -29,6 +29,7 @@ const LIMIT: u64 = 1 << 40;
 
 // The causes of a refused header that no text tells: it is too long, or its end is missing.
 const TOO_LONG: u8 = 9;
+
 const NO_END: u8 = 10;
 
 /// Runs a script: reads a header and commands, and writes for each round what happened in it. With any words it only
@@ -45,6 +46,9 @@ pub fn run_seamless<S: Source, K: Sink>(
     ensures read { result ≡ Status.ReadFault → Rose (S.state input.old).faults (S.state input.new).faults }
     ensures write { result ≡ Status.WriteFault → Rose (K.state out.old).faults (K.state out.new).faults }
     ensures later { ((S.state input.old).faults ≤ (S.state input.new).faults) × ((K.state out.old).faults ≤ (K.state out.new).faults) }
+    // A run that may be complete is, unless an allocation fails.
+    ensures complete { words.now ≡ [] → MayComplete (S.state input.old) (S.state input.new) (K.state out.old) (K.state out.new)
+        → (result ≡ Status.Done) ⊎ (result ≡ Status.NoMemory) }
 {
     if !words.is_empty() {
         put_fault(out, Status::Usage);

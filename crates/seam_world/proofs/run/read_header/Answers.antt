@@ -1,4 +1,5 @@
-use Rattle.std.proofs.Common.{◌≡◌, ◌≤◌, ◌+◌, [], ◌∷◌, ◌++◌, List, Option, None, Some, Ok, length, length-append, refl, sym, ap, ◌∙◌, subst, arith}
+use Rattle.std.proofs.Common.{◌≡◌, ◌≤◌, ◌+◌, [], ◌∷◌, ◌++◌, List, Option, None, Some, Ok, length, length-append, refl, sym, ap, ◌∙◌}
+use Rattle.std.proofs.Common.{subst, arith}
 use Rattle.seam_io.specs.States.{SinkState}
 use Rattle.seam_io.specs.Lines.{Line}
 use Rattle.seam_toml.specs.declared.header.Header.{Header}
@@ -36,9 +37,10 @@ returns-in-Ok-Some-clause-header g c = λ began sink reading limit.
     let was = c.loop-count.invariant.history began reading limit in
     let ended =
     subst (λ (h : Option Header). HeaderLineRead began (g.S.Source.state c.read_header_line.new.input) c.read_header_line.new.lines
-          c.read_header_line.new.header no_sink was.0 (Ok h))
+    c.read_header_line.new.header no_sink was.0 (Ok h))
     c.in-Ok-Some.field-0-is (c.in-Ok-Some.ensures.header began no_sink was.0 was.1) in
-    subst (HasHeader began (g.S.Source.state c.read_header_line.new.input) c.read_header_line.new.lines c.in-Ok-Some.read) (sym (c.in-Ok.ensures ∙ ap (λ (n : _). n + 1) was.2)) ended
+    subst (HasHeader began (g.S.Source.state c.read_header_line.new.input) c.read_header_line.new.lines c.in-Ok-Some.read) (sym
+    (c.in-Ok.ensures ∙ ap (λ (n : _). n + 1) was.2)) ended
 
 pub returns-in-Err-read_header_line-clause-header : goal.returns-in-Err-read_header_line-clause-header
 returns-in-Err-read_header_line-clause-header g c = λ began sink reading limit.

@@ -7,13 +7,15 @@ use Rattle.seam_toml.specs.Header.{number_of}
 use Rattle.seam_transcript.specs.Header.{AreHeaderLines, BeginWithHeader, RefusesHeader}
 use Rattle.seam_world.specs.Histories.{InHeader, HeaderLineRead, Stopped}
 use Rattle.seam_world.specs.declared.status.Status.{Status}
-use Rattle.seam_world.proofs.HeaderRuns.{header_line_read, header_line_refused, long_header, header_without_end, header_read_fault, header_limit}
+use Rattle.seam_world.proofs.HeaderRuns.{header_line_read, header_line_refused, long_header, header_without_end, header_read_fault}
+use Rattle.seam_world.proofs.HeaderRuns.{header_limit}
 use Rattle.seam_world.proofs.run.read_header_line.Goals as goal
 
 pub returns-in-Ok-clause-header : goal.returns-in-Ok-clause-header
 returns-in-Ok-clause-header g c = λ began sink read was.
     let r = c.in-Line.ensures.reads began was.given read was.reading in
-    header_line_read began _ _ sink _ _ _ read was r.0 (c.next.ensures.limit ∙ was.limit) (Content c.next.new.self.line) r.1 c.read_line.new.self
+    header_line_read began _ _ sink _ _ _ read was r.0 (c.next.ensures.limit
+    ∙ was.limit) (Content c.next.new.self.line) r.1 c.read_line.new.self
     c.in-Ok.read
     (subst (λ (line : List ℕ). MatchOption c.in-Ok.read (AreHeaderLines (read ++ Content line ∷ []) c.read_line.new.self)
     (λ h. BeginWithHeader (read ++ Content line ∷ []) h (length read + 1) [])) c.line.ensures.content (c.in-Ok.ensures.reads read was.are))
@@ -22,7 +24,8 @@ pub returns-in-Err-clause-header : goal.returns-in-Err-clause-header
 returns-in-Err-clause-header g c = λ began sink read was.
     let r = c.in-Line.ensures.reads began was.given read was.reading in
     rw c.refusal.ensures
-    (header_line_refused began _ _ sink _ _ _ read was r.0 (c.next.ensures.limit ∙ was.limit) (Content c.next.new.self.line) r.1 c.in-Err.error
+    (header_line_refused began _ _ sink _ _ _ read was r.0 (c.next.ensures.limit
+    ∙ was.limit) (Content c.next.new.self.line) r.1 c.in-Err.error
     (λ k is. subst (λ (line : List ℕ). RefusesHeader read (Content line) k) c.line.ensures.content
     (c.in-Err.ensures.refused read k was.are is)))
 

@@ -5,7 +5,12 @@ use Rattle.seam_world.proofs.script.Script.finish.Goals as goal
 
 pub returns-then-count-eq0 : goal.returns-then-count-eq0
 returns-then-count-eq0 c =
-    λ h t was. ([], nothing_open h t (sym (c.count.ensures h t.book was.ready.book) ∙ c.if-count-eq0.true), sym (append-nil c.args.out.now.items))
+    λ h t was. (
+      [],
+      nothing_open h t (sym (c.count.ensures h t.book was.ready.book)
+          ∙ c.if-count-eq0.true),
+      sym (append-nil c.args.out.now.items),
+    )
 
 pub returns : goal.returns
 returns c = on_ok_weaker c.end_round.result
