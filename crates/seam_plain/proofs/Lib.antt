@@ -1,10 +1,7 @@
-mod Rows
-mod FirstPath
-mod TwoSenders
 mod LiveLemmas
 mod Walks
 mod Results
-mod Judging
 mod Turns
 mod RoundPieces
+mod HeaderLines
 mod InputLines
