@@ -70,8 +70,13 @@ next_is : (xs ys : List (List ℕ)) (line : Line) (rest more : List Line) → No
     map Content xs ++ line ∷ rest ≡ map Content ys ++ separator ∷ more → NextIs xs ys line
 next_is [] [] line rest more none none' same = inl (same_first line separator rest more same, refl)
 next_is [] (y ∷ ys) line rest more none none' same =
-    inr (y, ys, same_first line (Content y) rest (map Content ys ++ separator ∷ more) same,
-    All-head (λ content. Content content ≢ separator) y ys none', refl)
+    inr (
+      y,
+      ys,
+      same_first line (Content y) rest (map Content ys ++ separator ∷ more) same,
+      All-head (λ content. Content content ≢ separator) y ys none',
+      refl,
+    )
 next_is (x ∷ xs) [] line rest more none none' same =
     absurd (All-head (λ content. Content content ≢ separator) x xs none
     (same_first (Content x) separator (map Content xs ++ line ∷ rest) more same))

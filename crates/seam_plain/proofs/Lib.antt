@@ -5,3 +5,8 @@ mod Turns
 mod RoundPieces
 mod HeaderLines
 mod InputLines
+mod EmptyHeader
+mod Rows
+mod Commands
+mod FirstPath
+mod TwoSenders

@@ -105,7 +105,12 @@ impl Plain {
     }
 
     // Does what a line asks for that the book accepted or skipped, and appends what is printed.
-    fn follow(&mut self, header: &Header, accepted: Accepted, out: &mut Vec<u8>) -> Result<(), AllocError>
+    fn follow(
+        &mut self,
+        header: &Header,
+        accepted: Accepted,
+        out: &mut Vec<u8>,
+    ) -> Result<(), AllocError>
         ensures { OnOk result ((t : Standing) (line : Lines) → HasAccepted header.now t line accepted self.old
             → (printed : List ℕ) × LineFollowed header.now t line self.new printed × (out.new.items ≡ out.old.items ++ printed)) }
     {
