@@ -1,9 +1,12 @@
-use crate::{Accepted, Book, Refusal, is_separator, next_count, standard_header};
+ghost use Rattle.std.specs.Prelude.{IfOk};
+ghost use Rattle.seam_defs.specs.Settings.{AreInRange};
+
+use crate::{Accepted, Book, HeaderLines, Refusal, next_count};
 use seam_call::{Batch, Create, Order};
-use seam_defs::Part;
+use seam_defs::{Defs, Part, Settings};
 use seam_geo::Pos;
 use seam_io::LONGEST_LINE;
-use seam_transcript::Cause;
+use seam_transcript::{Cause, Header};
 use seam_words::WordsError;
 use std::alloc::{AllocError, Global};
 use std::ops::Range;
@@ -52,6 +55,16 @@ const ROWS: &[(&str, Result<Accepted, Refusal>)] = &[
     ("\t# a note", Ok(Accepted::Skipped)),
     ("sync", Ok(Accepted::Synced)),
 ];
+
+// The standard settings and the built-in types, which a test's proof does not compute.
+fn standard_header(alloc: Global) -> Result<Header, AllocError>
+    ensures { IfOk result (λ h. AreInRange h.settings) }
+{
+    Ok(Header {
+        settings: Settings::standard(),
+        defs: Defs::builtin(alloc)?,
+    })
+}
 
 #[test]
 fn lines_are_judged(rt: HostRuntime) -> Result<(), Fail> {
@@ -180,8 +193,12 @@ fn a_count_ends_at_its_type(rt: HostRuntime) -> Result<(), Fail> {
 
 #[test]
 fn two_percent_signs_end_a_header(rt: HostRuntime) -> Result<(), Fail> {
-    assert!(rt; is_separator(b"%%"));
-    assert!(rt; !is_separator(b"%% "));
-    assert!(rt; !is_separator(b"%"));
+    let mut lines = HeaderLines::new(rt.alloc());
+    assert!(rt; matches!(lines.read_line(b"[settings]"), Ok(None)));
+    assert!(rt; matches!(lines.read_line(b"bases = 3 # %%"), Ok(None)));
+    match lines.read_line(b"%%") {
+        Ok(Some(header)) => assert_eq!(rt; header.settings.bases, 3),
+        _ => panic!(rt; "no header"),
+    }
     Ok(())
 }

@@ -1,6 +1,6 @@
 -- A small input with calls: an avatar is made, hit and healed.
-use Rattle.std.proofs.Common.{◌≡◌, ◌↔◌, ap, ◌∙◌, ◌+◌, ◌<◌, ℕ, pos, Bool, true, false, List, [], ◌∷◌, ◌++◌, length, get_or, refl, sym, subst}
-use Rattle.std.proofs.Common.{arith, rules, lit≤, Some, None, cond, zero, suc}
+use Rattle.std.proofs.Common.{◌≡◌, ◌↔◌, ◌∙◌, ◌+◌, ◌<◌, ℕ, pos, Bool, true, false, List, [], ◌∷◌, ◌++◌, length, get_or, refl, sym, subst}
+use Rattle.std.proofs.Common.{arith, rules, lit≤, inl, inr, Some, None, cond, zero, suc}
 use Rattle.std.specs.Prelude.{codes, Contains, ◌==◌, nat_lt}
 use Rattle.std.specs.Str.{IsUtf8}
 use Rattle.std.specs.List.{list_all}
@@ -12,6 +12,7 @@ use Rattle.std.proofs.lemmas.Str.{IsUtf8-from_ascii}
 use Rattle.std.proofs.lemmas.Str.Ascii.{IsAscii-from_all}
 use Rattle.seam_value.specs.Values.{Fits, text_of as value_text, decimal_of}
 use Rattle.seam_value.specs.NumberWords.{SpellsNumber, SpellsPositive}
+use Rattle.seam_value.proofs.NumberWords.{spells_one_number}
 use Rattle.seam_value.specs.Texts.{quoted}
 use Rattle.seam_value.specs.declared.types.ValueType.TheVariants as type
 use Rattle.seam_value.specs.declared.values.Value.TheVariants.{Number}
@@ -27,8 +28,12 @@ use Rattle.seam_call.specs.declared.call.Call.{Call}
 use Rattle.seam_call.specs.declared.create.Create.{Create}
 use Rattle.seam_transcript.specs.Language as language
 use Rattle.seam_transcript.specs.Header.{separator}
-use Rattle.seam_defs.specs.Types.{type_of}
-use Rattle.seam_transcript.specs.Book.{Book, empty_book, created_as, with_entry, IsBuilt, Means}
+use Rattle.seam_defs.specs.Types.{type_of, method_of}
+use Rattle.seam_defs.specs.Deeds.{part_of_deed}
+use Rattle.seam_defs.proofs.WellFormed.{builtin-are-defs}
+use Rattle.seam_call.specs.BaseNodes.{IsBaseNodeOf}
+use Rattle.seam_transcript.specs.Book.{Book, empty_book, created_as, live_as, accepted, with_entry, Adds, HoldsAgainst, Judges}
+use Rattle.seam_transcript.specs.Book.{NamesType, NamesCall, NamesDeed, NamesMethod, SpellsArgs}
 use Rattle.seam_transcript.specs.InOrder.{round_in_order, after_round}
 use Rattle.seam_transcript.specs.Standing.{Standing, after_header}
 use Rattle.seam_transcript.specs.Round.{Lists, RoundData, IsRound}
@@ -38,9 +43,13 @@ use Rattle.seam_transcript.specs.declared.verdict.Entry.TheVariants as entry
 use Rattle.seam_transcript.specs.declared.verdict.Verdict.TheVariants as verdict
 use Rattle.seam_transcript.proofs.SkipLemmas.{has_words_after_gap}
 use Rattle.seam_transcript.proofs.InOrderLemmas.{round_in_order_is_legal}
-use Rattle.seam_transcript.proofs.Verdicts.{line_spells_one}
+use Rattle.seam_transcript.specs.declared.verdict.Cause.{Cause}
+use Rattle.seam_transcript.specs.declared.verdict.Cause.TheVariants as cause
+use Rattle.seam_transcript.proofs.Verdicts.{command_is_accepted}
 use Rattle.seam_transcript.proofs.OneSender.{transcript_is_one}
-use Rattle.seam_plain.proofs.Rows.{plain_header, ended_after, from_one, header_from, sync_from, other_command, sync_judged}
+use Rattle.seam_plain.proofs.EmptyHeader.{plain_header}
+use Rattle.seam_plain.proofs.Commands.{named_is_not_refused}
+use Rattle.seam_plain.proofs.Rows.{ended_after, from_one, header_from, sync_from, command_from, sync_judged}
 
 -- ---- words
 
@@ -207,12 +216,6 @@ with_hit = with_entry with_avatar (entry.Called (call (Base 1) 1 3 30))
 abbrev with_heal : Book
 with_heal = with_entry with_hit (entry.Called (call (Base 1) 2 2 5))
 
-is_hit : IsBuilt (type_of builtin 0) 3
-is_hit = record { has = lit≤ tt; on_cell = refl; args = refl }
-
-pub is_heal : IsBuilt (type_of builtin 0) 2
-is_heal = record { has = lit≤ tt; on_cell = refl; args = refl }
-
 pub spells_1 : SpellsPositive (codes "1") 1
 unfolding decimal_of
 spells_1 = record { some = lit≤ tt; number = record { whole = lit≤ tt; spelled = refl } }
@@ -221,22 +224,42 @@ spells_100 : SpellsNumber (codes "100") 100
 unfolding decimal_of
 spells_100 = record { whole = lit≤ tt; spelled = refl }
 
-means_create : Means plain_header empty_book create (entry.Created avatar)
-means_create = (
+names_avatar : NamesType builtin (codes "Avatar") 0
+names_avatar = record { has = lit≤ tt; named = refl }
+
+adds_create : Adds plain_header empty_book create (entry.Created avatar)
+adds_create = (
   avatar,
   record {
     number = spells_1;
-    spelled_x = spells_100;
-    spelled_z = spells_100;
-    type_ = record { has = lit≤ tt; named = refl; takes_calls = (3, is_hit) };
-    in_x = lit≤ tt;
-    in_z = lit≤ tt;
+    type_ = names_avatar;
+    position = record { spelled_x = spells_100; spelled_z = spells_100; in_x = lit≤ tt; in_z = lit≤ tt };
   },
-  record { is_new = refl; room = lit≤ tt },
   refl,
 )
 
-base_one : language.sender_text (Base 1) ≡ codes "b1"
+-- no cause holds against it
+create_unrefused : (k : Cause) → ¬ (HoldsAgainst plain_header empty_book create k)
+create_unrefused cause.TooLong holds = holds
+create_unrefused (cause.BadWords f) holds = holds
+create_unrefused cause.NoCommand holds = holds
+create_unrefused cause.WrongCount holds = holds
+create_unrefused cause.BadNumber (inl none) = none 1 spells_1
+create_unrefused cause.BadNumber (inr (inl none)) = none 100 spells_100
+create_unrefused cause.BadNumber (inr (inr none)) = none 100 spells_100
+create_unrefused cause.Exists (e, spells, some) = cc
+create_unrefused cause.NoType none = none 0 names_avatar
+create_unrefused cause.Outside (n, inl spells, out) =
+    let same = spells_one_number (codes "100") n 100 spells spells_100 in omega (arith, same, out)
+create_unrefused cause.Outside (n, inr spells, out) =
+    let same = spells_one_number (codes "100") n 100 spells spells_100 in omega (arith, same, out)
+create_unrefused cause.Full full = omega (arith, full)
+create_unrefused cause.NoSender holds = holds
+create_unrefused cause.Dead holds = holds
+create_unrefused cause.UnknownMethod holds = holds
+create_unrefused cause.IllTyped holds = holds
+
+pub base_one : language.sender_text (Base 1) ≡ codes "b1"
 unfolding decimal_of
 base_one = refl
 
@@ -254,35 +277,34 @@ pub spelled_5 : value_text (Number (pos 5)) ∷ [] ≡ codes "5" ∷ []
 unfolding decimal_of
 spelled_5 = refl
 
-pub means_hit : Means plain_header with_avatar hit (entry.Called (call (Base 1) 1 3 30))
-means_hit = (
-  call (Base 1) 1 3 30,
-  record {
-    sender = record { there = record { node = record { from_one = lit≤ tt; most = lit≤ tt }; within = lit≤ tt }; spelled = base_one };
-    number = spells_1;
-    made = avatar;
-    lives = refl;
-    deed = (3, Number (pos 30) ∷ [], refl, record { built = is_hit; named = refl; takes = (fits_30, tt); spelled = spelled_30 });
-    part = refl;
-    next = refl;
-  },
-  refl,
-)
+-- the call of a base node, by the words that name it
+pub names_call : (b : Book) (node number m n : ℕ) (name method word : List ℕ) → IsBaseNodeOf 2 node → language.sender_text (Base node) ≡ name →
+    live_as b 1 ≡ Some avatar → NamesMethod (type_of builtin 0) method m
+    → SpellsArgs (method_of (type_of builtin 0) m) (word ∷ []) (Number (pos n) ∷ [])
+    → part.Cell ≡ part_of_deed (type_of builtin 0) (Method m (Number (pos n) ∷ []))
+    → number ≡ length (accepted b part.Cell 1 (Base node)) + 1
+    → NamesCall plain_header b name (codes "1") (NamesDeed (word ∷ []) method) (call (Base node) number m n)
+names_call b node number m n name method word there spelled lives method_ args on_cell next = record {
+  sender = record { there = there; spelled = spelled };
+  made = avatar;
+  live = record { number = spells_1; lives = lives };
+  entity_ = refl;
+  deed_ = (m, Number (pos n) ∷ [], method_, args, refl);
+  part_ = on_cell;
+  next = next;
+}
 
-means_heal : Means plain_header with_hit heal (entry.Called (call (Base 1) 2 2 5))
-means_heal = (
-  call (Base 1) 2 2 5,
-  record {
-    sender = record { there = record { node = record { from_one = lit≤ tt; most = lit≤ tt }; within = lit≤ tt }; spelled = base_one };
-    number = spells_1;
-    made = avatar;
-    lives = refl;
-    deed = (2, Number (pos 5) ∷ [], refl, record { built = is_heal; named = refl; takes = (fits_5, tt); spelled = spelled_5 });
-    part = refl;
-    next = refl;
-  },
-  refl,
-)
+names_hit : NamesCall plain_header with_avatar (codes "b1") (codes "1") (NamesDeed (codes "30" ∷ []) (codes "hit")) (call (Base 1) 1 3 30)
+names_hit =
+    names_call with_avatar 1 1 3 30 (codes "b1") (codes "hit") (codes "30")
+    (record { node = record { from_one = lit≤ tt; most = lit≤ tt }; within = lit≤ tt })
+    base_one refl (record { has = lit≤ tt; named = refl }) (record { takes = (fits_30, tt); spelled = spelled_30 }) refl refl
+
+names_heal : NamesCall plain_header with_hit (codes "b1") (codes "1") (NamesDeed (codes "5" ∷ []) (codes "heal")) (call (Base 1) 2 2 5)
+names_heal =
+    names_call with_hit 1 2 2 5 (codes "b1") (codes "heal") (codes "5")
+    (record { node = record { from_one = lit≤ tt; most = lit≤ tt }; within = lit≤ tt })
+    base_one refl (record { has = lit≤ tt; named = refl }) (record { takes = (fits_5, tt); spelled = spelled_5 }) refl refl
 
 -- ---- lines
 
@@ -293,24 +315,34 @@ begins_with_c rest = has_words_after_gap [] 99 rest refl refl (λ e. absurd (ome
 abbrev pub after_lines : ℕ → Book → Standing
 after_lines lines b = record (after_header 1) { lines = lines; book = b }
 
+pub call_judged : (b : Book) (line s e n : List ℕ) (arguments : List (List ℕ)) (c : Call) → ¬ (language.IsSkipped line) →
+    language.SpellsCommand line (language.Call s e n arguments) → NamesCall plain_header b s e (NamesDeed arguments n) c
+    → Judges plain_header b (Content line) (verdict.Accepted (entry.Called c))
+call_judged b line s e n arguments c not spells names =
+    command_is_accepted plain_header b line (language.Call s e n arguments) (entry.Called c) not spells
+    (named_is_not_refused plain_header b s e n arguments c builtin-are-defs names) (c, names, refl)
+
 pub create_step : Step plain_header (after_header 1) (Content (codes "create 1 Avatar 100 100")) [] (after_lines 2 with_avatar)
 create_step = (
   verdict.Accepted (entry.Created avatar),
-  (begins_with_c (codes "reate 1 Avatar 100 100"), create, create_words, means_create),
+  command_is_accepted plain_header empty_book (codes "create 1 Avatar 100 100") create (entry.Created avatar)
+      (begins_with_c (codes "reate 1 Avatar 100 100")) create_words create_unrefused adds_create,
   (refl, refl),
 )
 
 pub hit_step : Step plain_header (after_lines 2 with_avatar) (Content (codes "call b1 1 hit 30")) [] (after_lines 3 with_hit)
 hit_step = (
   verdict.Accepted (entry.Called (call (Base 1) 1 3 30)),
-  (begins_with_c (codes "all b1 1 hit 30"), hit, hit_words, means_hit),
+  call_judged with_avatar (codes "call b1 1 hit 30") (codes "b1") (codes "1") (codes "hit") (codes "30" ∷ []) (call (Base 1) 1 3 30)
+      (begins_with_c (codes "all b1 1 hit 30")) hit_words names_hit,
   (refl, refl),
 )
 
 heal_step : Step plain_header (after_lines 3 with_hit) (Content (codes "call b1 1 heal 5")) [] (after_lines 4 with_heal)
 heal_step = (
   verdict.Accepted (entry.Called (call (Base 1) 2 2 5)),
-  (begins_with_c (codes "all b1 1 heal 5"), heal, heal_words, means_heal),
+  call_judged with_hit (codes "call b1 1 heal 5") (codes "b1") (codes "1") (codes "heal") (codes "5" ∷ []) (call (Base 1) 2 2 5)
+      (begins_with_c (codes "all b1 1 heal 5")) heal_words names_heal,
   (refl, refl),
 )
 
@@ -401,25 +433,14 @@ first_ended =
 
 -- ---- its sender
 
--- the sender that a command names
-abbrev sender_of : language.Command → List ℕ
-sender_of (language.Create e name x z) = []
-sender_of (language.Call who e name arguments) = who
-sender_of language.Sync = []
-
 create_from : CallIsFrom from_one (Content (codes "create 1 Avatar 100 100"))
-create_from = other_command (codes "create 1 Avatar 100 100") create create_words (λ s e n a is. absurd (not_call s e n a is))
-  where
-    not_call : (s e n : List ℕ) (a : List (List ℕ)) → create ≡ language.Call s e n a → ⊥
-    not_call s e n a is = cc
+create_from = command_from (codes "create 1 Avatar 100 100") create create_words (λ s e asks. absurd asks)
 
 hit_from : CallIsFrom from_one (Content (codes "call b1 1 hit 30"))
-hit_from s e n a k spells number =
-    sym (ap sender_of (line_spells_one (codes "call b1 1 hit 30") hit (language.Call s e n a) hit_words spells)) ∙ sym base_one
+hit_from = command_from (codes "call b1 1 hit 30") hit hit_words (λ s e asks. sym asks.0 ∙ sym base_one)
 
 heal_from : CallIsFrom from_one (Content (codes "call b1 1 heal 5"))
-heal_from s e n a k spells number =
-    sym (ap sender_of (line_spells_one (codes "call b1 1 heal 5") heal (language.Call s e n a) heal_words spells)) ∙ sym base_one
+heal_from = command_from (codes "call b1 1 heal 5") heal heal_words (λ s e asks. sym asks.0 ∙ sym base_one)
 
 first_sender : CallsAreFrom from_one first_input
 first_sender =

@@ -1,19 +1,17 @@
 -- The lines of an input, and what is printed for all of them.
-use Rattle.std.proofs.Common.{◌≡◌, ◌≢◌, ◌+◌, ◌-◌, ◌<◌, ◌≤◌, ℕ, Bool, true, false, List, [], ◌∷◌, ◌++◌, length, take, drop, get_or, map}
+use Rattle.std.proofs.Common.{◌≡◌, ◌+◌, ◌-◌, ◌<◌, ◌≤◌, ℕ, Bool, true, false, List, [], ◌∷◌, ◌++◌, length, take, drop, get_or, map}
 use Rattle.std.proofs.Common.{refl, sym, ap, ◌∙◌, subst, arith, append-nil, Bor}
 use Rattle.std.specs.Prelude.{◌==◌, if◌then◌else◌}
 use Rattle.std.specs.List.{slice_split}
-use Rattle.std.proofs.lemmas.List.{length-map, take_all, take_more, map-append}
+use Rattle.std.proofs.lemmas.List.{take_all, take_more, take_rest, map-append}
 use Rattle.std.proofs.lemmas.List.Concat.{flat_map-append}
-use Rattle.seam_io.specs.Lines.{Line, Long, is_feed, line_of, lines_of, lines_between}
+use Rattle.seam_io.specs.Lines.{Line, is_feed, line_of, lines_of, lines_between}
 use Rattle.seam_toml.specs.declared.header.Header.{Header}
-use Rattle.seam_transcript.specs.Header.{Reads, separator, BeginWithHeader}
+use Rattle.seam_transcript.specs.Header.{BeginWithHeader}
 use Rattle.seam_transcript.specs.Standing.{Standing, after_header}
 use Rattle.seam_transcript.specs.Transcript.{Piece, piece_text, text_of, Step, Run, EndsInput, IsEnded}
 use Rattle.seam_transcript.proofs.RunLemmas.{run_with_line}
-use Rattle.seam_transcript.proofs.HeaderLemmas.{no_lines_yet}
-use Rattle.seam_transcript.proofs.OneSender.{no_header_lines}
-use Rattle.seam_plain.specs.Plain.{standing_of, IsBetween, LineRead}
+use Rattle.seam_plain.specs.Plain.{Refines, LineRead, InputEnded}
 use Rattle.seam_plain.specs.declared.plain.Plain.{Plain}
 
 -- ---- the lines among the texts
@@ -62,59 +60,52 @@ full_last texts d some full =
 -- ---- what is printed for them
 
 -- the first texts were read, with this output
-pub record TextsRead (h : Header) (texts : List (Bor (List ℕ))) (i : ℕ) (out : List ℕ) (p : Plain) : Type 0 where
+pub record TextsRead (h : Header) (s : Standing) (texts : List (Bor (List ℕ))) (i : ℕ) (out : List ℕ) (p : Plain) : Type 0 where
   pub pieces : List Piece
-  pub run : Run (Step h) (after_header 1) (map (λ text. line_of text.now) (take i texts)) pieces (standing_of p)
+  pub t : Standing
+  pub run : Run (Step h) s (map (λ text. line_of text.now) (take i texts)) pieces t
   pub whole : out ≡ text_of h.defs pieces
-  pub between : IsBetween p
-  pub lines : p.lines ≡ i + 1
+  pub refines : Refines h t p
 
 -- none was read
-pub none_read : (h : Header) (texts : List (Bor (List ℕ))) (p : Plain) (out : List ℕ) → IsBetween p → standing_of p ≡ after_header 1 →
-    out ≡ [] → TextsRead h texts 0 out p
-none_read h texts p out was start none = record {
-  pieces = [];
-  run = (refl, start);
-  whole = none;
-  between = was;
-  lines = ap (λ (s : Standing). s.lines) start;
-}
+pub none_read : (h : Header) (s : Standing) (texts : List (Bor (List ℕ))) (p : Plain) (out : List ℕ) → Refines h s p → out ≡ [] →
+    TextsRead h s texts 0 out p
+none_read h s texts p out was none = record { pieces = []; t = s; run = (refl, refl); whole = none; refines = was }
 
 -- one more text was read
-pub text_read : (h : Header) (texts : List (Bor (List ℕ))) (i : ℕ) (d : Bor (List ℕ)) (old new : Plain) (out printed after : List ℕ) →
-    i < length texts
-    → TextsRead h texts i out old → LineRead h (line_of (get_or texts i d).now) old new printed → after ≡ out ++ printed →
-    TextsRead h texts (i + 1) after new
-text_read h texts i d old new out printed after within was read is =
+pub text_read : (h : Header) (s : Standing) (texts : List (Bor (List ℕ))) (i : ℕ) (d : Bor (List ℕ)) (old new : Plain) (out after : List ℕ) →
+    i < length texts → (was : TextsRead h s texts i out old)
+    → (printed : List ℕ) × LineRead h was.t (line_of (get_or texts i d).now) new printed × (after ≡ out ++ printed) →
+    TextsRead h s texts (i + 1) after new
+text_read h s texts i d old new out after within was (printed, read, is) =
     let text : Bor (List ℕ) = get_or texts i d in
     let lines : map line_at (take (i + 1) texts) ≡ map line_at (take i texts) ++ line_at text ∷ [] =
     ap (map line_at) (take_more texts i d within) ∙ map-append line_at (take i texts) (text ∷ []) in
     record {
       pieces = was.pieces ++ read.pieces;
-      run = subst (λ (ls : List Line). Run (Step h) (after_header 1) ls (was.pieces ++ read.pieces) (standing_of new)) (sym lines)
-          (run_with_line (Step h) (after_header 1) (map line_at (take i texts)) was.pieces (standing_of old) (line_at text) read.pieces
-          (standing_of new) was.run read.step);
+      t = read.next;
+      run = subst (λ (ls : List Line). Run (Step h) s ls (was.pieces ++ read.pieces) read.next) (sym lines)
+          (run_with_line (Step h) s (map line_at (take i texts)) was.pieces was.t (line_at text) read.pieces
+          read.next was.run read.step);
       whole =
           is ∙ ap (λ (xs : List ℕ). xs ++ printed) was.whole ∙ ap (λ (xs : List ℕ). text_of h.defs was.pieces ++ xs) read.whole
           ∙ sym (flat_map-append (piece_text h.defs) was.pieces read.pieces);
-      between = read.between;
-      lines = read.lines ∙ ap (λ (n : ℕ). n + 1) was.lines;
+      refines = read.refines;
     }
 
 -- all texts were read, and the input ended
-pub all_read : (h : Header) (texts : List (Bor (List ℕ))) (i : ℕ) (p : Plain) (out after : List ℕ) → length texts ≤ i →
-    TextsRead h texts i out p
-    → ((last : List Piece) × EndsInput h (standing_of p) last × (after ≡ out ++ text_of h.defs last))
-    → (q : Plain) × (pieces last : List Piece) × Run (Step h) (after_header 1) (map (λ text. line_of text.now) texts) pieces (standing_of q)
-    × EndsInput h (standing_of q) last × (after ≡ text_of h.defs (pieces ++ last))
-all_read h texts i p out after all was (last, ends, is) = (
-  p,
+pub all_read : (h : Header) (s : Standing) (texts : List (Bor (List ℕ))) (i : ℕ) (p : Plain) (out after : List ℕ) → length texts ≤ i →
+    (was : TextsRead h s texts i out p) → (printed : List ℕ) × InputEnded h was.t printed × (after ≡ out ++ printed)
+    → (t : Standing) × (pieces last : List Piece) × Run (Step h) s (map (λ text. line_of text.now) texts) pieces t
+    × EndsInput h t last × (after ≡ text_of h.defs (pieces ++ last))
+all_read h s texts i p out after all was (printed, ended, is) = (
+  was.t,
   was.pieces,
-  last,
-  subst (λ (ts : List (Bor (List ℕ))). Run (Step h) (after_header 1) (map (λ t. line_of t.now) ts) was.pieces (standing_of p))
-      (take_all i texts all) was.run,
-  ends,
-  is ∙ ap (λ (xs : List ℕ). xs ++ text_of h.defs last) was.whole ∙ sym (flat_map-append (piece_text h.defs) was.pieces last),
+  ended.pieces,
+  subst (λ (ts : List (Bor (List ℕ))). Run (Step h) s (map (λ t. line_of t.now) ts) was.pieces was.t) (take_all i texts all) was.run,
+  ended.ends,
+  is ∙ ap (λ (xs : List ℕ). xs ++ printed) was.whole ∙ ap (λ (xs : List ℕ). text_of h.defs was.pieces ++ xs) ended.whole
+      ∙ sym (flat_map-append (piece_text h.defs) was.pieces ended.pieces),
 )
 
 -- ---- the whole input
@@ -127,57 +118,25 @@ unfolding lines_of
 input_lines input items texts among split same lines =
     ap lines_between (sym split) ∙ ap (λ (ts : List (Bor (List ℕ))). lines_between (map (λ text. text.now) ts)) (sym same) ∙ lines
 
--- the first text, and those after it
-headed : (among : List (Bor (List ℕ))) (d : Bor (List ℕ)) → 1 ≤ length among →
-    map line_at among ≡ line_at (get_or among 0 d) ∷ map line_at (take (length among - 1) (drop 1 among))
-headed [] d some = absurd (omega arith)
-headed (text ∷ texts) d some =
-    ap (λ (ts : List (Bor (List ℕ))). line_at text ∷ map line_at ts) (sym (take_all (length (text ∷ texts) - 1) texts (omega arith)))
-
-pub whole_transcript : (input : List ℕ) (among : List (Bor (List ℕ))) (d : Bor (List ℕ)) (h : Header) (out : List ℕ) → Reads [] h →
-    1 ≤ length among
-    → lines_of input ≡ map line_at among → line_at (get_or among 0 d) ≡ separator
-    → ((p : Plain) × (pieces last : List Piece)
-    × Run (Step h) (after_header 1) (map line_at (take (length among - 1) (drop 1 among))) pieces (standing_of p)
-    × EndsInput h (standing_of p) last × (out ≡ text_of h.defs (pieces ++ last)))
+-- the lines after a header were printed
+pub whole_transcript : (input : List ℕ) (among : List (Bor (List ℕ))) (h : Header) (count : ℕ) (out : List ℕ) →
+    lines_of input ≡ map line_at among → BeginWithHeader (map line_at among) h count (map line_at (drop count among))
+    → ((t : Standing) × (pieces last : List Piece)
+    × Run (Step h) (after_header count) (map line_at (take (length among - count) (drop count among))) pieces t
+    × EndsInput h t last × (out ≡ text_of h.defs (pieces ++ last)))
     → IsEnded (lines_of input) out
-whole_transcript input among d h out reads some lines header (p, pieces, last, run, ends, whole) =
-    let rest : List Line = map line_at (take (length among - 1) (drop 1 among)) in (
-      h,
-      pieces,
-      last,
-      standing_of p,
-      record {
-        count = 1;
-        rest = rest;
-        header = record {
-          head = [];
-          text = [];
-          are = no_lines_yet;
-          reads = reads;
-          number = refl;
-          whole = lines ∙ headed among d some ∙ ap (λ (line : Line). line ∷ rest) header;
-        };
-        run = run;
-      },
-      ends,
-      whole,
-    )
-
-begins_with_end : (lines : List Line) (h : Header) (count : ℕ) (rest : List Line) → BeginWithHeader lines h count rest →
-    lines ≡ separator ∷ rest
-begins_with_end lines h count rest begins =
-    begins.whole ∙ ap (λ (ls : List Line). ls ++ separator ∷ rest) (no_header_lines begins.head begins.text begins.are)
-
-pub other_header : (input : List ℕ) (among : List (Bor (List ℕ))) (d : Bor (List ℕ)) → 1 ≤ length among →
-    lines_of input ≡ map line_at among → line_at (get_or among 0 d) ≢ separator
-    → (h : Header) (count : ℕ) (rest : List Line) → BeginWithHeader (lines_of input) h count rest → ⊥
-other_header input among d some lines other h count rest begins =
-    other (ap (λ (ls : List Line). get_or ls 0 Long) (sym (headed among d some) ∙ sym lines
-    ∙ begins_with_end (lines_of input) h count rest begins))
-
-pub no_header : (input : List ℕ) (among : List (Bor (List ℕ))) → length among < 1 → lines_of input ≡ map line_at among
-    → (h : Header) (count : ℕ) (rest : List Line) → BeginWithHeader (lines_of input) h count rest → ⊥
-no_header input among none lines h count rest begins =
-    let long = ap (λ (ls : List Line). length ls) (sym lines ∙ begins_with_end (lines_of input) h count rest begins) in
-    absurd (omega (arith, long, length-map among line_at))
+whole_transcript input among h count out lines begins (t, pieces, last, run, ends, whole) = (
+  h,
+  pieces,
+  last,
+  t,
+  record {
+    count = count;
+    rest = map line_at (drop count among);
+    header = subst (λ (ls : List Line). BeginWithHeader ls h count (map line_at (drop count among))) (sym lines) begins;
+    run =
+        subst (λ (ts : List (Bor (List ℕ))). Run (Step h) (after_header count) (map line_at ts) pieces t) (take_rest among count) run;
+  },
+  ends,
+  whole,
+)

@@ -1,10 +1,12 @@
-mod Rows
-mod FirstPath
-mod TwoSenders
 mod LiveLemmas
 mod Walks
 mod Results
-mod Judging
 mod Turns
 mod RoundPieces
+mod HeaderLines
 mod InputLines
+mod EmptyHeader
+mod Rows
+mod Commands
+mod FirstPath
+mod TwoSenders

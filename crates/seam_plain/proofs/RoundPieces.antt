@@ -7,11 +7,9 @@ use Rattle.seam_call.specs.Calls.{is_for}
 use Rattle.seam_call.specs.declared.call.Call.{Call}
 use Rattle.seam_call.specs.declared.create.Create.{Create}
 use Rattle.seam_toml.specs.declared.header.Header.{Header}
-use Rattle.seam_transcript.specs.Book.{Book, entries, calls_of}
-use Rattle.seam_transcript.specs.InOrder.{round_in_order}
-use Rattle.seam_transcript.specs.Round.{RoundData, done_lines, home_line, base_line}
+use Rattle.seam_transcript.specs.Round.{done_lines, home_line, base_line}
 use Rattle.seam_transcript.specs.Texts.{number_text, done_text, home_text, base_text, round_text}
-use Rattle.seam_plain.specs.Plain.{word_of}
+use Rattle.seam_plain.specs.Plain.{word_of, round_of}
 
 -- one text after others
 regroup : (first a b c d e f : List ℕ) → first ++ a ++ b ++ c ++ d ++ e ++ f ≡ first ++ (a ++ b ++ c ++ d ++ e ++ f)
@@ -28,26 +26,14 @@ six first a b c d e f w1 w2 w3 w4 w5 w6 h1 h2 h3 h4 h5 h6 =
     let five : w5 ≡ first ++ a ++ b ++ c ++ d ++ e = h5 ∙ ap (λ (w : List ℕ). w ++ e) four in
     h6 ∙ ap (λ (w : List ℕ). w ++ f) five ∙ regroup first a b c d e f
 
--- the round of these calls
-abbrev round_of : Header → ℕ → List Create → List Call → List Call → RoundData
-round_of h number live done calls = record {
-  number = number;
-  did = done_lines (λ e. filter (is_for part.Cell e) done) live;
-  dob = done_lines (λ e. filter (is_for part.Base e) done) live;
-  homes = map (λ c. home_line h (filter (is_for part.Cell c.entity) calls) c) live;
-  bases = map (λ c. base_line h (filter (is_for part.Base c.entity) calls) c) live;
-}
-
-pub round_pushed : (h : Header) (number : ℕ) (b : Book) (live : List Create) (done calls : List Call) (first w1 w2 w3 w4 w5 w6 : List ℕ) →
-    done ≡ calls_of b.current → calls ≡ calls_of (entries b)
-    → w1 ≡ first ++ number_text (codes "round ") number
+pub round_pushed : (h : Header) (number : ℕ) (live : List Create) (done calls last all : List Call) (first w1 w2 w3 w4 w5 w6 : List ℕ) →
+    done ≡ last → calls ≡ all → w1 ≡ first ++ number_text (codes "round ") number
     → w2 ≡ w1 ++ flat_map (done_text (word_of part.Cell) h.defs) (done_lines (λ e. filter (is_for part.Cell e) done) live)
     → w3 ≡ w2 ++ flat_map (done_text (word_of part.Base) h.defs) (done_lines (λ e. filter (is_for part.Base e) done) live)
     → w4 ≡ w3 ++ flat_map (home_text h.defs) (map (λ c. home_line h (filter (is_for part.Cell c.entity) calls) c) live)
     → w5 ≡ w4 ++ flat_map (base_text h.defs) (map (λ c. base_line h (filter (is_for part.Base c.entity) calls) c) live)
-    → w6 ≡ w5 ++ number_text (codes "end ") number
-    → w6 ≡ first ++ round_text h.defs (round_in_order h number b live)
-round_pushed h number b live done calls first w1 w2 w3 w4 w5 w6 done_are calls_are h1 h2 h3 h4 h5 h6 =
+    → w6 ≡ w5 ++ number_text (codes "end ") number → w6 ≡ first ++ round_text h.defs (round_of h number live last all)
+round_pushed h number live done calls last all first w1 w2 w3 w4 w5 w6 done_are calls_are h1 h2 h3 h4 h5 h6 =
     six first (number_text (codes "round ") number) _ _ _ _ (number_text (codes "end ") number) w1 w2 w3 w4 w5 w6 h1 h2 h3 h4 h5 h6
     ∙ ap (λ (cs : List Call). first ++ round_text h.defs (round_of h number live cs calls)) done_are
-    ∙ ap (λ (cs : List Call). first ++ round_text h.defs (round_of h number live (calls_of b.current) cs)) calls_are
+    ∙ ap (λ (cs : List Call). first ++ round_text h.defs (round_of h number live last cs)) calls_are

@@ -1,6 +1,6 @@
 -- Small inputs.
 use Rattle.std.proofs.Common.{◌≡◌, ◌↔◌, false, ℕ, ◌-◌, ◌≤◌, List, [], ◌∷◌, ◌++◌, length, get_or, refl, sym, ap, ◌∙◌, subst, arith, rules}
-use Rattle.std.proofs.Common.{lit≤, append-nil}
+use Rattle.std.proofs.Common.{lit≤, append-nil, zero, suc}
 use Rattle.std.specs.Prelude.{codes, MatchBool, ◌==◌}
 use Rattle.std.specs.Str.{IsUtf8}
 use Rattle.std.proofs.lemmas.List.{take_all}
@@ -11,14 +11,13 @@ use Rattle.seam_words.specs.Words.{IsPlainWord}
 use Rattle.seam_words.specs.Texts.{HasWords}
 use Rattle.seam_words.proofs.WordTexts.{words_are_one_list}
 use Rattle.seam_io.specs.Lines.{Line, Content, lines_of}
-use Rattle.seam_defs.specs.Settings.{standard}
 use Rattle.seam_defs.specs.Builtin.{builtin}
 use Rattle.seam_call.specs.declared.sender.Sender.{Sender}
 use Rattle.seam_call.specs.declared.sender.Sender.TheVariants.{Base}
 use Rattle.seam_transcript.specs.Language as language
 use Rattle.seam_toml.specs.declared.header.Header.{Header}
-use Rattle.seam_transcript.specs.Header.{Reads, BeginWithHeader, separator}
-use Rattle.seam_transcript.specs.Book.{Book, empty_book, created_as, open_lines, SpellsNone, Judges}
+use Rattle.seam_transcript.specs.Header.{BeginWithHeader, separator}
+use Rattle.seam_transcript.specs.Book.{Book, empty_book, created_as, open_lines, Judges}
 use Rattle.seam_transcript.specs.InOrder.{round_in_order, after_round}
 use Rattle.seam_transcript.specs.Standing.{Standing, after_header, with_line}
 use Rattle.seam_transcript.specs.Round.{Lists, RoundData, IsRound}
@@ -31,16 +30,10 @@ use Rattle.seam_transcript.proofs.LineLaws.{unknown_command}
 use Rattle.seam_transcript.proofs.SkipLemmas.{has_words_after_gap}
 use Rattle.seam_transcript.proofs.Verdicts.{line_spells_one}
 use Rattle.seam_transcript.proofs.OneSender.{header_is_one, transcript_is_one}
-use Rattle.seam_transcript.specs.Senders.{CallIsFrom, CallsAreFrom}
+use Rattle.seam_transcript.specs.Senders.{AsksFor, CallIsFrom, CallsAreFrom}
+use Rattle.seam_plain.proofs.EmptyHeader.{plain_header, reads_nothing}
 
 -- ---- headers
-
--- what the empty header sets
-abbrev pub plain_header : Header
-plain_header = record { settings = standard; defs = builtin }
-
-pub reads_nothing : Reads [] plain_header
-reads_nothing = record { empty = refl; settings = refl; defs = refl }
 
 -- an input whose first line ends the header
 pub begins_at_once : (lines rest : List Line) → lines ≡ separator ∷ rest → BeginWithHeader lines plain_header 1 rest
@@ -118,10 +111,12 @@ one_word line text good = record {
 tick_word : HasWords (codes "tick") (codes "tick" ∷ [])
 tick_word = one_word (codes "tick") (IsUtf8-from_ascii (codes "tick") (search rules)) (record { some = omega arith; plain = refl })
 
-spells_none : (h : Header) (b : Book) → SpellsNone h b (codes "tick" ∷ [])
-spells_none h b (language.Create e n x z) is = let long = ap (λ (ws : List (List ℕ)). length ws) is in absurd (omega (arith, long))
-spells_none h b (language.Call s e n a) is = let long = ap (λ (ws : List (List ℕ)). length ws) is in absurd (omega (arith, long))
-spells_none h b language.Sync is = let first = ap (λ (ws : List (List ℕ)). get_or (get_or ws 0 []) 0 0) is in absurd (omega (arith, first))
+tick_is_no_command : ¬ (language.NamesCommand (codes "tick" ∷ []))
+tick_is_no_command (zero, within, is) = let first = ap (λ (w : List ℕ). get_or w 0 0) is in absurd (omega (arith, first))
+tick_is_no_command (suc zero, within, is) = let first = ap (λ (w : List ℕ). get_or w 0 0) is in absurd (omega (arith, first))
+tick_is_no_command (suc (suc zero), within, is) = let first = ap (λ (w : List ℕ). get_or w 0 0) is in absurd (omega (arith, first))
+tick_is_no_command (suc (suc (suc zero)), within, is) = let first = ap (λ (w : List ℕ). get_or w 0 0) is in absurd (omega (arith, first))
+tick_is_no_command (suc (suc (suc (suc k))), within, is) = absurd (omega (arith, within))
 
 tick_refused : (pieces : List Piece) (t : Standing) →
     Step plain_header (after_header 1) (Content (codes "tick")) pieces t
@@ -129,7 +124,7 @@ tick_refused : (pieces : List Piece) (t : Standing) →
 tick_refused pieces t =
     unknown_command plain_header (after_header 1) t (codes "tick") (codes "tick" ∷ []) pieces
     (has_words_after_gap [] 116 (codes "ick") refl refl (λ e. absurd (omega (arith, e)))) tick_word
-    (spells_none plain_header empty_book)
+    tick_is_no_command
 
 pub one_unknown : (text : List ℕ) → IsEnded (lines_of (codes "%%\ntick\n")) text ↔ (text ≡ codes "line 2 command\n")
 one_unknown text = (
@@ -196,18 +191,24 @@ bare_is_round = round_in_order_is_legal plain_header synced [] none_lists refl
 abbrev pub from_one : ℕ → Sender
 from_one e = Base 1
 
--- a line of few words spells no call
-pub no_call : (line : List ℕ) (words : List (List ℕ)) → HasWords line words → length words ≤ 3 → CallIsFrom from_one (Content line)
-no_call line words has few s e n a k spells number =
+-- a line of few words spells no call and no move
+no_call : (line : List ℕ) (words : List (List ℕ)) → HasWords line words → length words ≤ 3 → CallIsFrom from_one (Content line)
+no_call line words has few (language.Create e n x z) s w k spells asks number = absurd asks
+no_call line words has few (language.Call s e n a) other w k spells asks number =
     let long =
     ap (λ (ws : List (List ℕ)). length ws) (words_are_one_list line words (language.words_of (language.Call s e n a)) has spells) in
     absurd (omega (arith, few, long))
+no_call line words has few (language.Move s e x z) other w k spells asks number =
+    let long =
+    ap (λ (ws : List (List ℕ)). length ws) (words_are_one_list line words (language.words_of (language.Move s e x z)) has spells) in
+    absurd (omega (arith, few, long))
+no_call line words has few language.Sync s w k spells asks number = absurd asks
 
--- nor does one that spells another command
-pub other_command : (line : List ℕ) (c : language.Command) → language.SpellsCommand line c →
-    ((s e n : List ℕ) (a : List (List ℕ)) → c ≡ language.Call s e n a → ⊥) → CallIsFrom from_one (Content line)
-other_command line c spells other s e n a k says number =
-    absurd (other s e n a (line_spells_one line c (language.Call s e n a) spells says))
+-- nor does one of a command that asks for nobody else
+pub command_from : (line : List ℕ) (c : language.Command) → language.SpellsCommand line c →
+    ((s e : List ℕ) → AsksFor c s e → s ≡ language.sender_text (Base 1)) → CallIsFrom from_one (Content line)
+command_from line c spells from d s e k says asks number =
+    from s e (subst (λ (x : language.Command). AsksFor x s e) (line_spells_one line d c says spells) asks)
 
 header_word : HasWords (codes "%%") (codes "%%" ∷ [])
 header_word = one_word (codes "%%") (IsUtf8-from_ascii (codes "%%") (search rules)) (record { some = omega arith; plain = refl })

@@ -1,9 +1,8 @@
 -- Two senders: each order of their calls has a transcript.
-use Rattle.std.proofs.Common.{◌≡◌, ℕ, pos, Bool, true, false, List, [], ◌∷◌, map, refl, sym, subst, arith, lit≤}
+use Rattle.std.proofs.Common.{◌≡◌, ℕ, Bool, true, false, List, [], ◌∷◌, map, refl, sym, subst, arith, lit≤}
 use Rattle.std.specs.Prelude.{codes, MatchBool, ◌==◌, ◌&&◌, if◌then◌else◌}
 use Rattle.seam_value.specs.Values.{decimal_of}
 use Rattle.seam_value.specs.Texts.{quoted}
-use Rattle.seam_value.specs.declared.values.Value.TheVariants.{Number}
 use Rattle.seam_io.specs.Lines.{Line, Content, lines_of}
 use Rattle.seam_defs.specs.Builtin.{builtin}
 use Rattle.seam_defs.specs.declared.flags.Part.{Part}
@@ -15,7 +14,7 @@ use Rattle.seam_call.specs.declared.sender.Sender.TheVariants.{Base, Client}
 use Rattle.seam_call.specs.declared.call.Call.{Call}
 use Rattle.seam_transcript.specs.Language as language
 use Rattle.seam_transcript.specs.Header.{separator}
-use Rattle.seam_transcript.specs.Book.{Book, accepted, created_as, open_lines, with_entry, Means}
+use Rattle.seam_transcript.specs.Book.{Book, accepted, created_as, open_lines, with_entry, NamesCall, NamesDeed}
 use Rattle.seam_transcript.specs.Orders.{of_sender, IsFull}
 use Rattle.seam_transcript.specs.InOrder.{in_order, round_in_order, after_round}
 use Rattle.seam_transcript.specs.Standing.{Standing}
@@ -25,12 +24,10 @@ use Rattle.seam_transcript.specs.declared.verdict.Entry.{Entry}
 use Rattle.seam_transcript.specs.declared.verdict.Entry.TheVariants as entry
 use Rattle.seam_transcript.specs.declared.verdict.Verdict.TheVariants as verdict
 use Rattle.seam_transcript.proofs.InOrderLemmas.{round_in_order_is_legal}
-use Rattle.seam_plain.proofs.Rows.{plain_header, ended_after, sync_judged}
-use Rattle.seam_plain.proofs.FirstPath.{heal2_words, avatar, call, with_avatar, with_hit, is_heal, spells_1, fits_5, spelled_5}
+use Rattle.seam_plain.proofs.EmptyHeader.{plain_header}
+use Rattle.seam_plain.proofs.Rows.{ended_after, sync_judged}
+use Rattle.seam_plain.proofs.FirstPath.{heal2_words, avatar, call, with_avatar, with_hit, names_call, call_judged, fits_5, spelled_5}
 use Rattle.seam_plain.proofs.FirstPath.{begins_with_c, after_lines, create_step, hit_step, avatar_alone}
-
-abbrev heal2 : language.Command
-heal2 = language.Call (codes "b2") (codes "1") (codes "heal") (codes "5" ∷ [])
 
 -- what base node 1 and base node 2 call
 abbrev hit_call : Call
@@ -46,24 +43,19 @@ base_two : language.sender_text (Base 2) ≡ codes "b2"
 unfolding decimal_of
 base_two = refl
 
-means_heal2 : Means plain_header with_hit heal2 (entry.Called heal_call)
-means_heal2 = (
-  heal_call,
-  record {
-    sender = record { there = record { node = record { from_one = lit≤ tt; most = lit≤ tt }; within = lit≤ tt }; spelled = base_two };
-    number = spells_1;
-    made = avatar;
-    lives = refl;
-    deed = (2, Number (pos 5) ∷ [], refl, record { built = is_heal; named = refl; takes = (fits_5, tt); spelled = spelled_5 });
-    part = refl;
-    next = refl;
-  },
-  refl,
-)
+names_heal2 : NamesCall plain_header with_hit (codes "b2") (codes "1") (NamesDeed (codes "5" ∷ []) (codes "heal")) heal_call
+names_heal2 =
+    names_call with_hit 2 1 2 5 (codes "b2") (codes "heal") (codes "5")
+    (record { node = record { from_one = lit≤ tt; most = lit≤ tt }; within = lit≤ tt })
+    base_two refl (record { has = lit≤ tt; named = refl }) (record { takes = (fits_5, tt); spelled = spelled_5 }) refl refl
 
 heal2_step : Step plain_header (after_lines 3 with_hit) (Content (codes "call b2 1 heal 5")) [] (after_lines 4 with_both)
-heal2_step =
-    (verdict.Accepted (entry.Called heal_call), (begins_with_c (codes "all b2 1 heal 5"), heal2, heal2_words, means_heal2), (refl, refl))
+heal2_step = (
+  verdict.Accepted (entry.Called heal_call),
+  call_judged with_hit (codes "call b2 1 heal 5") (codes "b2") (codes "1") (codes "heal") (codes "5" ∷ []) heal_call
+      (begins_with_c (codes "all b2 1 heal 5")) heal2_words names_heal2,
+  (refl, refl),
+)
 
 -- ---- the two orders
 

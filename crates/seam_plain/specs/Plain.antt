@@ -1,66 +1,86 @@
--- What the plain program holds and prints, by what was accepted.
-use Rattle.std.specs.Prelude.{◌≡◌, ℕ, ◌+◌, ◌<◌, ◌≤◌, ◌^◌, List, length, map, find, codes, ◌==◌}
+-- What the plain program holds and prints, beside the standing of a transcript.
+use Rattle.std.specs.Prelude.{◌≡◌, ℕ, ◌<◌, List, map, find, filter, codes, ◌==◌}
 use Rattle.std.specs.List.{filter_map}
 use Rattle.seam_io.specs.Lines.{Line}
 use Rattle.seam_defs.specs.declared.flags.Part.{Part}
 use Rattle.seam_defs.specs.declared.flags.Part.TheVariants as part
+use Rattle.seam_call.specs.Calls.{is_for}
 use Rattle.seam_call.specs.declared.call.Call.{Call}
 use Rattle.seam_call.specs.declared.create.Create.{Create}
 use Rattle.seam_toml.specs.declared.header.Header.{Header}
 use Rattle.seam_transcript.specs.declared.verdict.Verdict.{Verdict}
-use Rattle.seam_transcript.specs.Book.{Book}
-use Rattle.seam_transcript.specs.Standing.{Standing}
-use Rattle.seam_transcript.specs.InOrder.{in_order}
-use Rattle.seam_transcript.specs.Round.{DoneLine, RoundData, IsRound}
-use Rattle.seam_transcript.specs.Texts.{round_text}
-use Rattle.seam_transcript.specs.Transcript.{Piece, text_of, Follows, Step}
-use Rattle.seam_plain.specs.declared.plain.Plain.{Plain}
 use Rattle.seam_transcript.specs.declared.limits.TheConstants.{MOST_LINES}
+use Rattle.seam_transcript.specs.Header.{BeginWithHeader}
+use Rattle.seam_transcript.specs.Book.{open_lines, creates_of, calls_of, Judges}
+use Rattle.seam_transcript.specs.Standing.{Standing}
+use Rattle.seam_transcript.specs.InOrder.{in_order, after_round}
+use Rattle.seam_transcript.specs.Round.{DoneLine, RoundData, IsRound, done_lines, home_line, base_line}
+use Rattle.seam_transcript.specs.Texts.{round_text}
+use Rattle.seam_transcript.specs.Transcript.{Piece, text_of, Follows, Step, EndsInput}
+use Rattle.seam_accept.specs.Refines.{Refines as HoldsBook, LineAccepted}
+use Rattle.seam_accept.specs.declared.answers.Accepted.{Accepted}
+use Rattle.seam_plain.specs.declared.plain.Plain.{Plain}
+
+-- the lines begin with no header
+abbrev pub HaveNoHeader : List Line → Type 0
+HaveNoHeader lines = (h : Header) (count : ℕ) (rest : List Line) → ¬ (BeginWithHeader lines h count rest)
 
 -- ---- what it holds
 
-abbrev pub book_of : Plain → Book
-book_of p = record { past = p.past.items; current = p.current.items }
+-- its lists are what the rounds that ended brought, and its counts are those of the standing
+pub record HoldsRounds (t : Standing) (p : Plain) : Type 0 where
+  pub creates : p.creates.items ≡ creates_of t.book.past
+  pub calls : p.calls.items ≡ calls_of t.book.past
+  pub orders : t.orders ≡ in_order t.book.past
+  pub rounds : p.rounds ≡ t.rounds
+  pub lines : p.lines ≡ t.lines
 
--- the standing of a transcript in which each call was executed as it was accepted
-abbrev pub standing_of : Plain → Standing
-standing_of p = record { lines = p.lines; rounds = p.rounds; book = book_of p; orders = in_order p.past.items }
+-- it is between two lines, or the open round is to end
+pub record IsReady (h : Header) (t : Standing) (p : Plain) : Type 0 where
+  pub book : HoldsBook h t.book p.book
+  pub holds : HoldsRounds t p
 
--- it is between two lines: its round is not full, and no more rounds ended than lines were read
-pub record IsBetween (p : Plain) : Type 0 where
-  pub unfilled : length p.current.items < MOST_LINES
-  pub rounds : p.rounds ≤ p.lines
+-- it refines the standing
+pub record Refines (h : Header) (t : Standing) (p : Plain) : Type 0 where
+  pub ready : IsReady h t p
+  pub below_most : open_lines t.book < MOST_LINES
 
--- it counted a line, of which nothing has followed
-pub record HasCounted (p : Plain) : Type 0 where
-  pub unfilled : length p.current.items < MOST_LINES
-  pub rounds : p.rounds < p.lines
-  pub lines : p.lines ≤ 2 ^ 61
+-- the book has answered a line that the standing has counted, and nothing has followed
+pub record HasAccepted (h : Header) (t : Standing) (line : Line) (answer : Accepted) (p : Plain) : Type 0 where
+  pub answered : LineAccepted h t.book line answer p.book
+  pub holds : HoldsRounds t p
+  pub below_most : open_lines t.book < MOST_LINES
 
 -- the open round ended with this text
-pub record RoundEnds (h : Header) (old new : Plain) (text : List ℕ) : Type 0 where
+pub record RoundEnds (h : Header) (t : Standing) (new : Plain) (text : List ℕ) : Type 0 where
   pub round : RoundData
-  pub legal : IsRound h (standing_of old) round (standing_of new)
+  pub legal : IsRound h t round (after_round t)
   pub whole : text ≡ round_text h.defs round
-  pub emptied : length new.current.items ≡ 0
-  pub rounds : new.rounds ≡ old.rounds + 1
-  pub lines : new.lines ≡ old.lines
+  pub ready : IsReady h (after_round t) new
 
--- a verdict was followed, with this text
-pub record VerdictFollowed (h : Header) (v : Verdict) (old new : Plain) (text : List ℕ) : Type 0 where
+-- what a line that the standing has counted asks for was done, with this text
+pub record LineFollowed (h : Header) (t : Standing) (line : Line) (new : Plain) (text : List ℕ) : Type 0 where
+  pub verdict : Verdict
+  pub judges : Judges h t.book line verdict
   pub pieces : List Piece
-  pub follows : Follows h (standing_of old) v pieces (standing_of new)
+  pub next : Standing
+  pub follows : Follows h t verdict pieces next
   pub whole : text ≡ text_of h.defs pieces
-  pub between : IsBetween new
-  pub lines : new.lines ≡ old.lines
+  pub refines : Refines h next new
 
 -- a line was read, with this text
-pub record LineRead (h : Header) (line : Line) (old new : Plain) (text : List ℕ) : Type 0 where
+pub record LineRead (h : Header) (t : Standing) (line : Line) (new : Plain) (text : List ℕ) : Type 0 where
   pub pieces : List Piece
-  pub step : Step h (standing_of old) line pieces (standing_of new)
+  pub next : Standing
+  pub step : Step h t line pieces next
   pub whole : text ≡ text_of h.defs pieces
-  pub between : IsBetween new
-  pub lines : new.lines ≡ old.lines + 1
+  pub refines : Refines h next new
+
+-- the input ended, with this text
+pub record InputEnded (h : Header) (t : Standing) (text : List ℕ) : Type 0 where
+  pub pieces : List Piece
+  pub ends : EndsInput h t pieces
+  pub whole : text ≡ text_of h.defs pieces
 
 -- ---- what it prints
 
@@ -76,3 +96,13 @@ done_of ty calls = map (λ x. record { ty = ty; call = x }) calls
 -- the entities of these numbers
 abbrev pub live_among : List Create → List ℕ → List Create
 live_among creates numbers = filter_map (λ e. find (λ c. c.entity == e) creates) numbers
+
+-- the round of this number with these live entities, in which the calls `done` were executed, the last of all calls
+abbrev pub round_of : Header → ℕ → List Create → List Call → List Call → RoundData
+round_of h number live done calls = record {
+  number = number;
+  did = done_lines (λ e. filter (is_for part.Cell e) done) live;
+  dob = done_lines (λ e. filter (is_for part.Base e) done) live;
+  homes = map (λ c. home_line h (filter (is_for part.Cell c.entity) calls) c) live;
+  bases = map (λ c. base_line h (filter (is_for part.Base c.entity) calls) c) live;
+}

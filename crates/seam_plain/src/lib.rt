@@ -2,7 +2,9 @@
 //! The tests of the server compare it with what the server prints.
 #![tactic(auto)]
 
+mod header;
 mod laws;
+mod lines;
 mod plain;
 mod round;
 

@@ -3,66 +3,17 @@ ghost use Rattle.std.specs.Prelude.{◌≡◌, ◌==◌, ◌≤◌, ◌<◌, ◌
 ghost use Rattle.std.specs.Prelude.{OnOk, IfOk, Contains};
 ghost use Rattle.std.specs.List.{flat_map, cons_option};
 ghost use Rattle.std.specs.List.Sorted.{IsStrictlyIncreasing};
-ghost use Rattle.seam_call.specs.Calls.{is_for, is_from};
-ghost use Rattle.seam_transcript.specs.Book.{creates_of, calls_of};
+ghost use Rattle.seam_call.specs.Calls.{is_for};
 ghost use Rattle.seam_transcript.specs.FlatTable.{flat};
-ghost use Rattle.seam_transcript.specs.InOrder.{in_order};
 ghost use Rattle.seam_transcript.specs.Round.{Lists, done_lines, home_line, base_line};
 ghost use Rattle.seam_transcript.specs.Texts.{done_text, home_text, base_text};
 ghost use Rattle.seam_plain.specs.Plain.{done_of, live_among, word_of as word_of_part};
 
-use seam_call::{Call, Create, Sender};
+use seam_call::{Call, Create};
 use seam_defs::{Part, State};
 use seam_report::{BaseLine, DoneLine, HomeLine, push_base, push_done, push_home};
-use seam_transcript::{Entry, Header};
+use seam_transcript::Header;
 use std::alloc::{AllocError, Global};
-
-// Adds the entities that entries made.
-pub(crate) fn add_creates(creates: &mut Vec<Create>, entries: &[Entry]) -> Result<(), AllocError>
-    ensures { OnOk result (creates.new.items ≡ creates.old.items ++ creates_of entries.now) }
-{
-    for entry in entries {
-        add_create(creates, entry)?;
-    }
-    Ok(())
-}
-
-fn add_create(creates: &mut Vec<Create>, entry: &Entry) -> Result<(), AllocError>
-    ensures { OnOk result (creates.new.items ≡ creates.old.items ++ creates_of (entry.now ∷ [])) }
-{
-    match entry {
-        Entry::Created(create) => {
-            creates.push(*create)?;
-            Ok(())
-        }
-        Entry::Called(_) => Ok(()),
-    }
-}
-
-// Adds the calls of entries.
-pub(crate) fn add_calls<'a>(
-    calls: &mut Vec<&'a Call>,
-    entries: &'a [Entry],
-) -> Result<(), AllocError>
-    ensures { OnOk result (map (λ c. c.now) calls.new.items ≡ map (λ c. c.now) calls.old.items ++ calls_of entries.now) }
-{
-    for entry in entries {
-        add_call(calls, entry)?;
-    }
-    Ok(())
-}
-
-fn add_call<'a>(calls: &mut Vec<&'a Call>, entry: &'a Entry) -> Result<(), AllocError>
-    ensures { OnOk result (map (λ c. c.now) calls.new.items ≡ map (λ c. c.now) calls.old.items ++ calls_of (entry.now ∷ [])) }
-{
-    match entry {
-        Entry::Created(_) => Ok(()),
-        Entry::Called(call) => {
-            calls.push(call)?;
-            Ok(())
-        }
-    }
-}
 
 // The `create` that made an entity.
 pub(crate) fn created_as(creates: &[Create], entity: u32) -> Option<&Create>
@@ -97,38 +48,6 @@ fn add_own<'a>(
 {
     if call.is_for(part, entity) {
         own.push(call)?;
-    }
-    Ok(())
-}
-
-// The calls that are from a sender for the cell part of an entity.
-pub(crate) fn calls_from<'a>(
-    alloc: Global,
-    calls: &[&'a Call],
-    entity: u32,
-    sender: &Sender,
-) -> Result<Vec<&'a Call>, AllocError>
-    ensures { IfOk result (λ sent. map (λ c. c.now) sent.items
-        ≡ filter (is_from Part.Cell entity sender.now) (map (λ c. c.now) calls.now)) }
-{
-    let mut sent = Vec::new(alloc);
-    for call in calls {
-        add_sent(&mut sent, call, entity, sender)?;
-    }
-    Ok(sent)
-}
-
-fn add_sent<'a>(
-    sent: &mut Vec<&'a Call>,
-    call: &'a Call,
-    entity: u32,
-    sender: &Sender,
-) -> Result<(), AllocError>
-    ensures { OnOk result (map (λ c. c.now) sent.new.items
-        ≡ map (λ c. c.now) sent.old.items ++ filter (is_from Part.Cell entity sender.now) (call.now ∷ [])) }
-{
-    if call.is_from(Part::Cell, entity, *sender) {
-        sent.push(call)?;
     }
     Ok(())
 }

@@ -209,7 +209,8 @@ within_bytes old new bytes given is took =
     omega (arith, size, parts)
 
 pub is_complete : (st : Status) (old new : SourceState) (sink sink' : SinkState) → RunEnds IsOpen IsEnded st old new sink sink' →
-    MayComplete old new sink sink' → (st ≡ status.Usage → ⊥) → (st ≡ status.WriteFault → Rose sink.faults sink'.faults) → (st ≡ status.Done) ⊎ (st ≡ status.NoMemory)
+    MayComplete old new sink sink' → (st ≡ status.Usage → ⊥) → (st ≡ status.WriteFault → Rose sink.faults sink'.faults) →
+    (st ≡ status.Done) ⊎ (st ≡ status.NoMemory)
 is_complete status.Done old new sink sink' ends may usage failed = inl refl
 is_complete status.NoMemory old new sink sink' ends may usage failed = inr refl
 is_complete status.Usage old new sink sink' ends may usage failed = absurd (usage refl)

@@ -1,14 +1,17 @@
-use Rattle.std.proofs.Common.{◌∙◌, ◌++◌, ap, arith, List, ℕ}
-use Rattle.seam_plain.proofs.Results.{on_ok}
-use Rattle.seam_plain.proofs.Turns.{last_round, some_open}
+use Rattle.std.proofs.Common.{[], sym, ◌∙◌, append-nil}
+use Rattle.std.proofs.lemmas.Result.{on_ok_weaker}
+use Rattle.seam_plain.proofs.Turns.{last_round, nothing_open}
 use Rattle.seam_plain.proofs.plain.Plain.finish.Goals as goal
 
+pub returns-then-count-eq0 : goal.returns-then-count-eq0
+returns-then-count-eq0 c = λ t was.
+    let h = c.args.header.now in
+    ([], nothing_open h t (sym (c.count.ensures h t.book was.ready.book) ∙ c.if-count-eq0.true), sym (append-nil c.args.out.now.items))
+
 pub returns : goal.returns
-returns c = on_ok c.end_round.result
-    (λ ends.
-    let last =
-    last_round c.args.header.now c.args.self.now c.end_round.new.self ends.0
-    (some_open c.args.self.now.current.items c.args.self.now.current.len (omega (arith, c.args.self.now.current.ok.0))
-    c.if-is_empty.ensures) ends.2 in
-    (last.0, last.1, ends.1 ∙ ap (λ (t : List ℕ). c.args.out.now.items ++ t) last.2))
+returns c = on_ok_weaker c.end_round.result
+    (λ ends t was.
+    let h = c.args.header.now in
+    let e = ends t was.ready in
+    (e.0, last_round h t c.end_round.new.self e.0 (λ none. c.if-count-eq0.false (c.count.ensures h t.book was.ready.book ∙ none)) e.1, e.2))
     c.end_round.ensures

@@ -1,39 +1,43 @@
-use Rattle.std.proofs.Common.{refl, arith}
-use Rattle.seam_transcript.specs.Texts.{refusal}
-use Rattle.seam_plain.specs.declared.plain.Plain.{Plain}
-use Rattle.seam_plain.proofs.Results.{on_ok}
-use Rattle.seam_plain.proofs.Turns.{verdict_named, refused, synced, kept_last}
+use Rattle.std.proofs.Common.{[], sym, ◌∙◌, subst, append-nil}
+use Rattle.std.proofs.lemmas.Result.{on_ok_weaker}
+use Rattle.seam_transcript.specs.Standing.{with_book}
+use Rattle.seam_transcript.specs.Book.{with_entry}
+use Rattle.seam_accept.specs.declared.answers.Accepted.{Accepted}
+use Rattle.seam_plain.specs.Plain.{HasAccepted}
+use Rattle.seam_plain.proofs.Turns.{skipped, synced, sync_ready, kept_ready, kept_last, kept_open}
 use Rattle.seam_plain.proofs.plain.Plain.follow.Goals as goal
 
-pub returns-then-len-eq-MOST_LINES : goal.returns-then-len-eq-MOST_LINES
-returns-then-len-eq-MOST_LINES c = on_ok c.end_round.result
-    (λ ends.
-    let was = c.args.self.now in
-    let mid : Plain = record was { current = c.push.new.self } in (
-      ends.0,
-      ends.1,
-      verdict_named c.args.header.now _ _ _ _ _ c.in-Accepted.is
-          (kept_last c.args.header.now was mid c.end_round.new.self c.in-Accepted.entry ends.0 c.requires refl
-          c.in_ok-push-in-Accepted.ensures.items refl refl
-          (omega (arith, c.push.new.self.ok.0, c.len.ensures, c.if-len-eq-MOST_LINES.true)) ends.2),
-    ))
+pub returns-then-count-eq-MOST_LINES : goal.returns-then-count-eq-MOST_LINES
+returns-then-count-eq-MOST_LINES c = on_ok_weaker c.end_round.result
+    (λ ends t line accepted.
+    let h = c.args.header.now in
+    let was = subst (λ (a : Accepted). HasAccepted h t line a c.args.self.now) c.in-Kept.is accepted in
+    let e = ends (with_book t (with_entry t.book was.answered.0)) (kept_ready h t line c.args.self.now was) in
+    let full = sym (c.count.ensures h (with_entry t.book was.answered.0) was.answered.2) ∙ c.if-count-eq-MOST_LINES.true in
+    (e.0, kept_last h t line c.args.self.now c.end_round.new.self e.0 was full e.1, e.2))
     c.end_round.ensures
 
-pub returns-in-Refused : goal.returns-in-Refused
-returns-in-Refused c = on_ok c.push_refusal.result
-    (λ text. (
-      refusal c.args.self.now.lines c.in-Refused.cause,
-      text,
-      verdict_named c.args.header.now _ _ _ _ _ c.in-Refused.is (refused c.args.header.now c.args.self.now c.in-Refused.cause c.requires),
-    ))
-    c.push_refusal.ensures
+pub returns-else-count-eq-MOST_LINES : goal.returns-else-count-eq-MOST_LINES
+returns-else-count-eq-MOST_LINES c = λ t line accepted.
+    let h = c.args.header.now in
+    let was = subst (λ (a : Accepted). HasAccepted h t line a c.args.self.now) c.in-Kept.is accepted in (
+      [],
+      kept_open h t line c.args.self.now was
+          (λ full. c.if-count-eq-MOST_LINES.false (c.count.ensures h (with_entry t.book was.answered.0) was.answered.2 ∙ full)),
+      sym (append-nil c.args.out.now.items),
+    )
 
 pub returns-in-Synced : goal.returns-in-Synced
-returns-in-Synced c = on_ok c.end_round-in-Synced.result
-    (λ ends. (
-      ends.0,
-      ends.1,
-      verdict_named c.args.header.now _ _ _ _ _ c.in-Synced.is
-          (synced c.args.header.now c.args.self.now c.end_round-in-Synced.new.self ends.0 c.requires ends.2),
-    ))
+returns-in-Synced c = on_ok_weaker c.end_round-in-Synced.result
+    (λ ends t line accepted.
+    let h = c.args.header.now in
+    let was = subst (λ (a : Accepted). HasAccepted h t line a c.args.self.now) c.in-Synced.is accepted in
+    let e = ends t (sync_ready h t line c.args.self.now was) in
+    (e.0, synced h t line c.args.self.now c.end_round-in-Synced.new.self e.0 was e.1, e.2))
     c.end_round-in-Synced.ensures
+
+pub returns-in-Skipped : goal.returns-in-Skipped
+returns-in-Skipped c = λ t line accepted.
+    let h = c.args.header.now in
+    let was = subst (λ (a : Accepted). HasAccepted h t line a c.args.self.now) c.in-Skipped.is accepted in
+    ([], skipped h t line c.args.self.now was, sym (append-nil c.args.out.now.items))

@@ -1,24 +1,53 @@
-use Rattle.seam_plain.proofs.Results.{on_ok}
-use Rattle.seam_plain.proofs.Turns.{long_line_read, short_line_read}
+use Rattle.std.proofs.Common.{refl, sym, subst, ap, ◌∙◌}
+use Rattle.std.proofs.lemmas.Result.{on_ok_weaker}
+use Rattle.seam_io.specs.Lines.{Line, Content, line_of}
+use Rattle.seam_io.proofs.LineLemmas.{line_of-long, line_of-short}
+use Rattle.seam_transcript.specs.Standing.{with_line}
+use Rattle.seam_transcript.specs.Texts.{refusal}
+use Rattle.seam_transcript.specs.declared.verdict.Cause.TheVariants.{TooLong}
+use Rattle.seam_transcript.specs.declared.verdict.Verdict.TheVariants as verdict
+use Rattle.seam_transcript.specs.Book.{Judges}
+use Rattle.seam_transcript.proofs.Verdicts.{long_is_refused}
+use Rattle.seam_accept.specs.Refines.{LineAccepted, LineRefused}
+use Rattle.seam_plain.proofs.Turns.{has_accepted, line_read, refused}
 use Rattle.seam_plain.proofs.plain.Plain.read.Goals as goal
 
 pub returns-then-text-gt-MOST_BYTES : goal.returns-then-text-gt-MOST_BYTES
-returns-then-text-gt-MOST_BYTES c = on_ok c.follow.result
-    (λ f. (
-      f.0,
-      f.1,
-      long_line_read c.args.header.now c.args.self.now c.follow.new.self c.args.text.now f.0 c.if-text-gt-MOST_BYTES.true
-          f.2,
+returns-then-text-gt-MOST_BYTES c = on_ok_weaker c.push_refusal.result
+    (λ printed t was.
+    let h = c.args.header.now in (
+      refusal c.in_ok-self.field-0 TooLong,
+      refused h t (line_of c.args.text.now) TooLong c.args.self.now _ was refl refl refl c.in_ok-self.ensures refl
+          (subst (λ (l : Line). Judges h t.book l (verdict.Refused TooLong)) (sym (line_of-long c.args.text.now c.if-text-gt-MOST_BYTES.true))
+          (long_is_refused h t.book)),
+      printed,
     ))
+    c.push_refusal.ensures
+
+pub returns-in-Ok : goal.returns-in-Ok
+returns-in-Ok c = on_ok_weaker c.follow.result
+    (λ followed t was.
+    let h = c.args.header.now in
+    let line = line_of c.args.text.now in
+    let answered = subst (λ (l : Line). LineAccepted h t.book l c.in-Ok.accepted c.accept.new.self)
+    (ap Content c.without_return.ensures ∙ sym (line_of-short c.args.text.now c.if-text-gt-MOST_BYTES.false))
+    (c.in-Ok.ensures.accepted h t.book was.ready.book) in
+    let accepted = has_accepted h t line c.in-Ok.accepted c.args.self.now _ was refl refl refl c.in_ok-self.ensures answered in
+    let f = followed (with_line t) line accepted in
+    (f.0, line_read h t line c.follow.new.self f.0 f.1, f.2))
     c.follow.ensures
 
-pub returns : goal.returns
-returns c = on_ok c.follow-2.result
-    (λ f. (
-      f.0,
-      f.1,
-      short_line_read c.args.header.now c.args.self.now c.follow-2.new.self c.args.text.now c.without_return.result.now
-          c.in_ok-verdict.verdict f.0 c.if-text-gt-MOST_BYTES.false
-          c.without_return.ensures c.in_ok-verdict.ensures f.2,
+pub returns-in-Err-Cause : goal.returns-in-Err-Cause
+returns-in-Err-Cause c = on_ok_weaker c.push_refusal-in-Err-Cause.result
+    (λ printed t was.
+    let h = c.args.header.now in
+    let cause = c.in-Err-Cause.cause in (
+      refusal c.in_ok-self.field-0 cause,
+      refused h t (line_of c.args.text.now) cause c.args.self.now _ was refl refl refl c.in_ok-self.ensures c.in-Err-Cause.ensures.unchanged
+          (subst (λ (l : Line). Judges h t.book l (verdict.Refused cause))
+          (ap Content c.without_return.ensures ∙ sym (line_of-short c.args.text.now c.if-text-gt-MOST_BYTES.false))
+          (subst (LineRefused h t.book (Content c.without_return.result.now)) c.in-Err-Cause.field-0-is
+          (c.in-Err-Cause.ensures.refused h t.book was.ready.book))),
+      printed,
     ))
-    c.follow-2.ensures
+    c.push_refusal-in-Err-Cause.ensures
