@@ -15,8 +15,8 @@ pub struct Row {
 
 const FIRST_PATH: &str = "%%\ncreate 1 Avatar 100 100\ncall b1 1 hit 30\ncall b1 1 heal 5\nsync\n";
 
-const FIRST_ROUND: &str =
-    "round 1\ndid 1 b1 1 hit 30\ndid 1 b1 2 heal 5\nhome 1 0 2 100 100 hp=75 mana=50 mood=0 note=\"\" scent=0 xp=0\nbase 1 0 gold=0 rank=1\nend 1\n";
+const FIRST_ROUND: &str = "round 1\ndid 1 b1 1 hit 30\ndid 1 b1 2 heal 5\n\
+    home 1 0 2 100 100 hp=75 mana=50 mood=0 note=\"\" scent=0 xp=0\nbase 1 0 gold=0 rank=1\nend 1\n";
 
 pub static ROWS: [Row; 12] = [
     Row {
