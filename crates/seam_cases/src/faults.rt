@@ -41,7 +41,8 @@ fn a_later_read_that_fails_comes_after_the_round(rt: HostRuntime) -> Result<(), 
         rt.alloc(),
         streams,
         Status::ReadFault,
-        b"line 3 command\nround 1\nhome 1 0 0 100 100 hp=100 mana=50 mood=0 note=\"\" scent=0 xp=0\nbase 1 0 gold=0 rank=1\nend 1\nfault read\n",
+        b"line 3 dead\nround 1\nhome 1 0 0 100 100 hp=100 mana=50 mood=0 note=\"\" scent=0 xp=0\nbase 1 0 gold=0 rank=1\nend 1\n\
+            fault read\n",
     )
 }
 
@@ -56,12 +57,12 @@ fn a_first_write_that_fails_writes_nothing(rt: HostRuntime) -> Result<(), Fail> 
 
 #[test]
 fn a_full_sink_ends_the_run(rt: HostRuntime) -> Result<(), Fail> {
-    let streams = Streams { limit: 23, ..GOOD };
+    let streams = Streams { limit: 20, ..GOOD };
     check(
         &rt,
         rt.alloc(),
         streams,
         Status::WriteFault,
-        b"line 3 command\nround 1\n",
+        b"line 3 dead\nround 1\n",
     )
 }
