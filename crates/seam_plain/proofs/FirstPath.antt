@@ -278,8 +278,8 @@ unfolding decimal_of
 spelled_5 = refl
 
 -- the call of a base node, by the words that name it
-pub names_call : (b : Book) (node number m n : ℕ) (name method word : List ℕ) → IsBaseNodeOf 2 node → language.sender_text (Base node) ≡ name →
-    live_as b 1 ≡ Some avatar → NamesMethod (type_of builtin 0) method m
+pub names_call : (b : Book) (node number m n : ℕ) (name method word : List ℕ) → IsBaseNodeOf 2 node →
+    language.sender_text (Base node) ≡ name → live_as b 1 ≡ Some avatar → NamesMethod (type_of builtin 0) method m
     → SpellsArgs (method_of (type_of builtin 0) m) (word ∷ []) (Number (pos n) ∷ [])
     → part.Cell ≡ part_of_deed (type_of builtin 0) (Method m (Number (pos n) ∷ []))
     → number ≡ length (accepted b part.Cell 1 (Base node)) + 1

@@ -117,7 +117,8 @@ await_next lines rest more text line h count are other begins = go (next_of_head
         let most = begins.are.most in
         let before : length text ≡ length (text_of_contents are.contents) = ap length are.whole in
         let all : length begins.text ≡ length (text_of_contents are.contents ++ (c ++ 10 ∷ [] ++ text_of_contents zs)) =
-        ap length (begins.are.whole ∙ ap text_of_contents is ∙ flat_map-append (λ (content : List ℕ). content ++ 10 ∷ []) are.contents (c ∷ zs)) in
+        ap length (begins.are.whole ∙ ap text_of_contents is
+        ∙ flat_map-append (λ (content : List ℕ). content ++ 10 ∷ []) are.contents (c ∷ zs)) in
         let one = length-append (text_of_contents are.contents) (c ++ 10 ∷ [] ++ text_of_contents zs) in
         let two = length-append (c ++ 10 ∷ []) (text_of_contents zs) in
         let three = length-append c (10 ∷ []) in
@@ -183,13 +184,6 @@ lines_around texts i d within =
     ∙ ap (λ (ls : List Line). ls ++ map line_at (drop (i + 1) texts)) (map-append line_at (take i texts) (get_or texts i d ∷ []))
     ∙ append_assoc (map line_at (take i texts)) (line_at (get_or texts i d) ∷ []) (map line_at (drop (i + 1) texts))
 
--- one more line of the header
-pub goes_on : (texts : List (Bor (List ℕ))) (i : ℕ) (d : Bor (List ℕ)) (text : List ℕ) → i < length texts →
-    AreHeaderLines (map line_at (take i texts) ++ line_at (get_or texts i d) ∷ []) text → AreHeaderLines (map line_at (take (i + 1) texts)) text
-goes_on texts i d text within are =
-    subst (λ (ls : List Line). AreHeaderLines ls text)
-    (sym (ap (map line_at) (take_more texts i d within) ∙ map-append line_at (take i texts) (get_or texts i d ∷ []))) are
-
 -- the line that ends it
 pub begun_at : (texts : List (Bor (List ℕ))) (i count : ℕ) (d : Bor (List ℕ)) (h : Header) → i < length texts → count ≡ i + 1 →
     BeginWithHeader (map line_at (take i texts) ++ line_at (get_or texts i d) ∷ []) h (length (map line_at (take i texts)) + 1) []
@@ -199,7 +193,8 @@ begun_at texts i count d h within is begins =
     let lines = lines_around texts i d within in
     let number : length (map line_at (take i texts)) + 1 ≡ count =
     ap (λ (n : ℕ). n + 1) (length-map (take i texts) line_at ∙ length-take-le i texts (omega arith)) ∙ sym is in
-    let whole : BeginWithHeader (map line_at (take i texts) ++ line_at (get_or texts i d) ∷ [] ++ rest) h (length (map line_at (take i texts)) + 1) rest =
+    let whole : BeginWithHeader (map line_at (take i texts) ++ line_at (get_or texts i d) ∷ [] ++ rest) h
+    (length (map line_at (take i texts)) + 1) rest =
     header_of_append _ h _ [] rest begins in
     let all : BeginWithHeader (map line_at texts) h (length (map line_at (take i texts)) + 1) rest =
     subst (λ (ls : List Line). BeginWithHeader ls h (length (map line_at (take i texts)) + 1) rest)
@@ -234,8 +229,8 @@ pub none_at : (texts : List (Bor (List ℕ))) (i : ℕ) (d : Bor (List ℕ)) →
 none_at texts i d within none = subst HaveNoHeader (sym (lines_around texts i d within)) none
 
 -- at the end of them
-pub none_at_end : (texts : List (Bor (List ℕ))) (i : ℕ) (text : List ℕ) → length texts ≤ i → AreHeaderLines (map line_at (take i texts)) text →
-    HaveNoHeader (map line_at texts)
+pub none_at_end : (texts : List (Bor (List ℕ))) (i : ℕ) (text : List ℕ) → length texts ≤ i →
+    AreHeaderLines (map line_at (take i texts)) text → HaveNoHeader (map line_at texts)
 none_at_end texts i text all are =
     none_without_end (map line_at texts) text
     (subst (λ (ts : List (Bor (List ℕ))). AreHeaderLines (map line_at ts) text) (take_all i texts all) are)

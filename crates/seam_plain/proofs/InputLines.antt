@@ -67,14 +67,9 @@ pub record TextsRead (h : Header) (s : Standing) (texts : List (Bor (List ℕ)))
   pub whole : out ≡ text_of h.defs pieces
   pub refines : Refines h t p
 
--- none was read
-pub none_read : (h : Header) (s : Standing) (texts : List (Bor (List ℕ))) (p : Plain) (out : List ℕ) → Refines h s p → out ≡ [] →
-    TextsRead h s texts 0 out p
-none_read h s texts p out was none = record { pieces = []; t = s; run = (refl, refl); whole = none; refines = was }
-
 -- one more text was read
-pub text_read : (h : Header) (s : Standing) (texts : List (Bor (List ℕ))) (i : ℕ) (d : Bor (List ℕ)) (old new : Plain) (out after : List ℕ) →
-    i < length texts → (was : TextsRead h s texts i out old)
+pub text_read : (h : Header) (s : Standing) (texts : List (Bor (List ℕ))) (i : ℕ) (d : Bor (List ℕ)) (old new : Plain)
+    (out after : List ℕ) → i < length texts → (was : TextsRead h s texts i out old)
     → (printed : List ℕ) × LineRead h was.t (line_of (get_or texts i d).now) new printed × (after ≡ out ++ printed) →
     TextsRead h s texts (i + 1) after new
 text_read h s texts i d old new out after within was (printed, read, is) =

@@ -1,13 +1,12 @@
 -- What the plain program's walks over its lists find.
-use Rattle.std.proofs.Common.{◌≡◌, ◌+◌, ◌<◌, ℕ, Bool, true, false, List, [], ◌∷◌, ◌++◌, length, map, take, get_or, refl, sym, ◌∙◌, ap}
+use Rattle.std.proofs.Common.{◌≡◌, ℕ, Bool, true, false, List, [], ◌∷◌, map, refl, sym, ◌∙◌, ap}
 use Rattle.std.proofs.Common.{subst, arith, inl, inr, Option, Some, None}
 use Rattle.std.specs.Prelude.{filter, find, ◌==◌, Contains, is_some, cond, All}
 use Rattle.std.specs.List.{cons_option}
 use Rattle.std.specs.Ordering.{nat_cmp}
 use Rattle.std.specs.List.Sorted.{IsStrictlyIncreasing, IsPermutation, IsSorted}
 use Rattle.std.specs.List.Retain.{IsFiltered, DiffersFromLast}
-use Rattle.std.proofs.lemmas.List.{take_more}
-use Rattle.std.proofs.lemmas.List.Elements.{filter_map-append, All-cons, All-nil}
+use Rattle.std.proofs.lemmas.List.Elements.{All-cons, All-nil}
 use Rattle.std.proofs.lemmas.List.Kept.{IsStrictlyIncreasing-filter, Contains-dedup_nat}
 use Rattle.std.proofs.lemmas.List.Filters.{dedup_is}
 use Rattle.std.proofs.lemmas.List.Sorted.{Contains-permutation}
@@ -100,11 +99,3 @@ lists_live creates numbers rise = record {
     (λ is. live_has creates numbers c.entity c (rise.1 c.entity (found_among creates c.entity c is)) is),
   );
 }
-
--- one more number
-pub live_more : (creates : List Create) (numbers : List ℕ) (i d : ℕ) → i < length numbers
-    → live_among creates (take (i + 1) numbers) ≡ live_among creates (take i numbers)
-    ++ cons_option (find (λ c. c.entity == get_or numbers i d) creates) []
-live_more creates numbers i d within =
-    ap (live_among creates) (take_more numbers i d within)
-    ∙ filter_map-append (λ e. find (λ c. c.entity == e) creates) (take i numbers) (get_or numbers i d ∷ [])

@@ -60,8 +60,8 @@ all_calls b before brought all was brings is =
     ∙ sym (filter_map-append called b.past b.current)
 
 -- those of the last round are the last ones
-last_calls : (before brought all : List Call) (begun : ℕ) → begun ≡ length before → all ≡ before ++ brought → drop begun all ≡ brought
-last_calls before brought all begun count is =
+last_calls : (before brought all : List Call) (earlier : ℕ) → earlier ≡ length before → all ≡ before ++ brought → drop earlier all ≡ brought
+last_calls before brought all earlier count is =
     ap (λ (n : ℕ). drop n all) count ∙ ap (drop (length before)) is ∙ drop-append_seam before brought
 
 round_named : (h : Header) (n k : ℕ) (b : Book) (live : List Create) (done calls : List Call) → n ≡ k → done ≡ calls_of b.current →
@@ -72,27 +72,27 @@ round_named h n k b live done calls number done_are calls_are =
     ∙ ap (λ (cs : List Call). round_text h.defs (round_of h k live (calls_of b.current) cs)) calls_are
 
 -- a batch was appended to the lists, and the round of the lists printed
-pub round_ended : (h : Header) (t : Standing) (old new : Plain) (batch : Batch) (live : List Create) (begun : ℕ) → IsReady h t old →
+pub round_ended : (h : Header) (t : Standing) (old new : Plain) (batch : Batch) (live : List Create) (earlier : ℕ) → IsReady h t old →
     Brings t.book batch → new.creates.items ≡ old.creates.items ++ batch.creates →
-    new.calls.items ≡ old.calls.items ++ calls_of_orders batch.orders → begun ≡ length old.calls.items → new.rounds ≡ old.rounds + 1 →
+    new.calls.items ≡ old.calls.items ++ calls_of_orders batch.orders → earlier ≡ length old.calls.items → new.rounds ≡ old.rounds + 1 →
     new.lines ≡ old.lines → HoldsBook h (with_round_ended t.book) new.book →
     Lists (λ e. find (λ c. c.entity == e) new.creates.items) live
-    → RoundEnds h t new (round_text h.defs (round_of h new.rounds live (drop begun new.calls.items) new.calls.items))
-round_ended h t old new batch live begun ready brings creates calls count rounds lines book listed =
+    → RoundEnds h t new (round_text h.defs (round_of h new.rounds live (drop earlier new.calls.items) new.calls.items))
+round_ended h t old new batch live earlier ready brings creates calls count rounds lines book listed =
     let was = ready.holds in
     let made : new.creates.items ≡ creates_of (entries t.book) =
     all_creates t.book old.creates.items batch.creates new.creates.items was.creates brings.creates creates in
     let called_ : new.calls.items ≡ calls_of (entries t.book) =
     all_calls t.book old.calls.items (calls_of_orders batch.orders) new.calls.items was.calls brings.calls calls in
-    let done : drop begun new.calls.items ≡ calls_of t.book.current =
-    last_calls old.calls.items (calls_of_orders batch.orders) new.calls.items begun count calls ∙ brings.calls in
+    let done : drop earlier new.calls.items ≡ calls_of t.book.current =
+    last_calls old.calls.items (calls_of_orders batch.orders) new.calls.items earlier count calls ∙ brings.calls in
     let number : new.rounds ≡ t.rounds + 1 = rounds ∙ ap (λ (n : ℕ). n + 1) was.rounds in
     let live_are : Lists (created_as t.book) live =
     subst (λ (cs : List Create). Lists (λ e. find (λ c. c.entity == e) cs) live) made listed in
     record {
       round = round_in_order h (t.rounds + 1) t.book live;
       legal = round_in_order_is_legal h t live live_are was.orders;
-      whole = round_named h new.rounds (t.rounds + 1) t.book live (drop begun new.calls.items) new.calls.items number done called_;
+      whole = round_named h new.rounds (t.rounds + 1) t.book live (drop earlier new.calls.items) new.calls.items number done called_;
       ready = record {
         book = book;
         holds = record { creates = made; calls = called_; orders = refl; rounds = number; lines = lines ∙ was.lines };
@@ -271,5 +271,6 @@ nothing_open h t none =
 pub order_added : (first now new : List Call) (done : List (ℕ × Order)) (k : ℕ) (o : Order) → now ≡ first ++ calls_of_orders done →
     new ≡ now ++ cons_option (call_of o) [] → new ≡ first ++ calls_of_orders (done ++ (k, o) ∷ [])
 order_added first now new done k o was is =
-    is ∙ ap (λ (cs : List Call). cs ++ cons_option (call_of o) []) was ∙ append_assoc first (calls_of_orders done) (cons_option (call_of o) [])
+    is ∙ ap (λ (cs : List Call). cs ++ cons_option (call_of o) []) was
+    ∙ append_assoc first (calls_of_orders done) (cons_option (call_of o) [])
     ∙ ap (λ (cs : List Call). first ++ cs) (sym (filter_map-append (λ (x : ℕ × Order). call_of x.1) done ((k, o) ∷ [])))

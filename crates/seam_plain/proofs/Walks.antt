@@ -1,12 +1,10 @@
 -- Walks that append what each item gives.
-use Rattle.std.proofs.Common.{◌≡◌, ◌+◌, ◌<◌, ℕ, Bool, List, [], ◌∷◌, ◌++◌, length, map, take, get_or, sym, ◌∙◌, ap, append_assoc}
+use Rattle.std.proofs.Common.{◌≡◌, ◌+◌, ◌<◌, ℕ, List, [], ◌∷◌, ◌++◌, length, map, take, get_or, sym, ◌∙◌, ap, append_assoc}
 use Rattle.std.proofs.Common.{append-nil, refl, subst, zero, suc, Bor}
-use Rattle.std.specs.Prelude.{filter}
 use Rattle.std.specs.List.{flat_map}
-use Rattle.std.proofs.lemmas.List.{take_more, map-append, length-map}
+use Rattle.std.proofs.lemmas.List.{take_more, length-map}
 use Rattle.std.proofs.lemmas.List.Sums.{fold_more}
 use Rattle.std.proofs.lemmas.List.Concat.{flat_map-append}
-use Rattle.std.proofs.lemmas.List.Elements.{filter-append}
 use Rattle.seam_defs.specs.Types.{type_of}
 use Rattle.seam_defs.specs.Deeds.{after}
 use Rattle.seam_defs.specs.declared.types.TypeDef.{TypeDef}
@@ -27,17 +25,9 @@ appended {A} {B} F splits xs i d within first out new before step =
     ∙ ap (λ (bs : List B). first ++ bs) (sym (splits (take i xs) (get_or xs i d ∷ [])) ∙ ap F (sym (take_more xs i d within)))
 
 -- lists that are mapped and then joined split
-pub joined_splits : {A B C : Type 0} (f : B → List C) (g : A → B) (xs ys : List A) →
-    flat_map f (map g (xs ++ ys)) ≡ flat_map f (map g xs) ++ flat_map f (map g ys)
-joined_splits f g xs ys = ap (flat_map f) (map-append g xs ys) ∙ flat_map-append f (map g xs) (map g ys)
-
 pub nested_splits : {A B C : Type 0} (f : B → List C) (g : A → List B) (xs ys : List A) →
     flat_map f (flat_map g (xs ++ ys)) ≡ flat_map f (flat_map g xs) ++ flat_map f (flat_map g ys)
 nested_splits f g xs ys = ap (flat_map f) (flat_map-append g xs ys) ∙ flat_map-append f (flat_map g xs) (flat_map g ys)
-
-pub kept_splits : {A B : Type 0} (g : A → B) (p : B → Bool) (xs ys : List A) →
-    filter p (map g (xs ++ ys)) ≡ filter p (map g xs) ++ filter p (map g ys)
-kept_splits g p xs ys = ap (filter p) (map-append g xs ys) ∙ filter-append p (map g xs) (map g ys)
 
 -- one more entity's calls
 pub own_pushed : (text : DoneLine → List ℕ) (own : ℕ → List Call) (xs : List Create) (i : ℕ) (d : Create) → i < length xs →

@@ -132,23 +132,28 @@ impl Plain {
             → (printed : List ℕ) × RoundEnds header.now t self.new printed × (out.new.items ≡ out.old.items ++ printed)) }
     {
         self.rounds = next_count(self.rounds)?;
-        let begun = self.calls.len();
+        let earlier = self.calls.len();
         let batch = self.book.take_batch();
         self.creates.extend_from_slice(batch.creates.as_slice())?;
         add_calls(&mut self.calls, batch.orders.into_vec())?;
-        self.push_round(header, begun, out)
+        self.push_round(header, earlier, out)
     }
 
-    // Appends the text of the last round, in which the calls from `begun` on were executed.
-    fn push_round(&self, header: &Header, begun: usize, out: &mut Vec<u8>) -> Result<(), AllocError>
-        requires { begun ≤ length self.now.calls.items }
+    // Appends the text of the last round, before which so many calls were executed.
+    fn push_round(
+        &self,
+        header: &Header,
+        earlier: usize,
+        out: &mut Vec<u8>,
+    ) -> Result<(), AllocError>
+        requires { earlier ≤ length self.now.calls.items }
         ensures { OnOk result ((live : List Creates) × Lists (λ e. find (λ c. c.entity == e) self.now.creates.items) live
             × (out.new.items ≡ out.old.items ++ round_text header.now.defs
-            (round_of header.now self.now.rounds live (drop begun self.now.calls.items) self.now.calls.items))) }
+            (round_of header.now self.now.rounds live (drop earlier self.now.calls.items) self.now.calls.items))) }
     {
         let live = live_of(self.alloc, &self.creates)?;
         let calls = references(self.alloc, &self.calls)?;
-        let done = references(self.alloc, &self.calls[begun..])?;
+        let done = references(self.alloc, &self.calls[earlier..])?;
         let (live, calls, done) = (live.as_slice(), calls.as_slice(), done.as_slice());
         push_number_line(out, b"round ", self.rounds)?;
         push_all_calls(out, header, Part::Cell, live, done)?;

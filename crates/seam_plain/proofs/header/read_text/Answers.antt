@@ -9,5 +9,6 @@ returns-then-text-gt-MOST_BYTES-clause-refused c =
 pub returns-clause-refused : goal.returns-clause-refused
 returns-clause-refused c = if_err c.read_line.result
     (λ error refuses.
-    refused_text c.args.text.now c.without_return.result.now c.args.reader.now error c.if-text-gt-MOST_BYTES.false c.without_return.ensures refuses)
+    refused_text c.args.text.now c.without_return.result.now c.args.reader.now error c.if-text-gt-MOST_BYTES.false
+    c.without_return.ensures refuses)
     c.read_line.ensures.refused

@@ -15,6 +15,7 @@ returns c =
     let iterator = c.into_iter-order-iterator in
     let gives : iterator.result.rest.items ≡ c.args.orders.items = iterator.ensures.into_iter_gives.0 in
     let all : c.loop-order.yielded ≡ c.args.orders.items =
-    All-taken iterator.result c.loop-order.yielded (c.next.new.self, (c.loop-order.order-iterator, c.loop-order.yielded_by, c.in-None.ensures.steps))
+    All-taken iterator.result c.loop-order.yielded
+    (c.next.new.self, (c.loop-order.order-iterator, c.loop-order.yielded_by, c.in-None.ensures.steps))
     ∙ gives in
     c.loop-order.invariant ∙ ap (λ (orders : List (ℕ × Order)). c.args.calls.now.items ++ calls_of_orders orders) all

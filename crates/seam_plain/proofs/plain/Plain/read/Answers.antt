@@ -18,7 +18,8 @@ returns-then-text-gt-MOST_BYTES c = on_ok_weaker c.push_refusal.result
     let h = c.args.header.now in (
       refusal c.in_ok-self.field-0 TooLong,
       refused h t (line_of c.args.text.now) TooLong c.args.self.now _ was refl refl refl c.in_ok-self.ensures refl
-          (subst (λ (l : Line). Judges h t.book l (verdict.Refused TooLong)) (sym (line_of-long c.args.text.now c.if-text-gt-MOST_BYTES.true))
+          (subst (λ (l : Line). Judges h t.book l (verdict.Refused TooLong))
+          (sym (line_of-long c.args.text.now c.if-text-gt-MOST_BYTES.true))
           (long_is_refused h t.book)),
       printed,
     ))
