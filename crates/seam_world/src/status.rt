@@ -8,8 +8,8 @@ pub enum Status {
     Done,
     /// The words of the command line were refused.
     Usage,
-    /// The header was refused, with the number of the cause: 10 where the input has no line, 11 where it begins with
-    /// another line than `%%`.
+    /// The header was refused, with the number of the cause: 1 to 9 as `HeaderError` of `seam_toml` has them, 9 also where a line
+    /// of it is too long, and 10 where the input ended before it did.
     BadHeader(u8),
     /// The source failed.
     ReadFault,
@@ -76,8 +76,8 @@ fn header_message(cause: u8) -> &'static str
             "the header has more types, properties, methods, arguments or operations than may be; see docs/FORMATS.md",
         8 =>
             "the header needs a ghost_distance of view_radius + view_hysteresis + offload_hysteresis or more",
-        9 => "the header has more than 65,536 bytes; see docs/FORMATS.md",
-        10 => "the input has no line \"%%\" that ends its header; see docs/FORMATS.md",
-        _ => "the first line of the input has to be \"%%\"; see docs/FORMATS.md",
+        9 =>
+            "the header has more than 65,536 bytes, or a line of more than 4,096; see docs/FORMATS.md",
+        _ => "the input has no line \"%%\" that ends its header; see docs/FORMATS.md",
     }
 }
