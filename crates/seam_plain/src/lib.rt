@@ -13,3 +13,6 @@ pub use laws::{
     one_unknown_command, two_senders_have_both_orders,
 };
 pub use plain::transcript_of;
+
+#[cfg(test)]
+mod tests;
