@@ -28,8 +28,8 @@ use Rattle.seam_accept.specs.Batches.{order_of}
 use Rattle.seam_accept.specs.BookView.{BookView}
 use Rattle.seam_accept.specs.Refines.{Refines}
 use Rattle.seam_accept.specs.declared.entity.Entity.{Entity}
-use Rattle.seam_accept.proofs.Books.{same, differ, creates_with_call, created_with_call, accepted_own, accepted_other, from_other_entity}
-use Rattle.seam_accept.proofs.Books.{accepted_with_create, count_with_create, created_here, created_other, not_before}
+use Rattle.seam_transcript.proofs.BookEntries.{same, differ, creates_with_call, created_with_call, created_here, created_other, not_before}
+use Rattle.seam_accept.proofs.Books.{accepted_own, accepted_other, from_other_entity, accepted_with_create, count_with_create}
 
 -- another number is not at the query of a number
 pub apart : (e other : ℕ) → other ≢ e → is_at (nat_cmp e) other ≡ false

@@ -1,5 +1,5 @@
 -- The batch of a book's round, for the flat table.
-use Rattle.std.proofs.Common.{◌≡◌, ℕ, Bool, true, List, [], ◌∷◌, map, refl, sym, ap, ◌∙◌, arith}
+use Rattle.std.proofs.Common.{◌≡◌, Bool, true, List, [], ◌∷◌, map, refl, sym, ap, ◌∙◌, arith}
 use Rattle.std.specs.Prelude.{cond}
 use Rattle.seam_defs.specs.declared.flags.Part.{Part}
 use Rattle.seam_defs.specs.declared.flags.Part.TheVariants as part
@@ -16,7 +16,7 @@ use Rattle.seam_accept.specs.Batches.{batch_of, order_of, passes_to, node_of}
 use Rattle.seam_accept.specs.BookView.{BookView}
 use Rattle.seam_accept.specs.Refines.{Refines}
 use Rattle.seam_flat.specs.Tables.{CallsTheMade}
-use Rattle.seam_flat.specs.Batches.{call_of, calls_of_orders, Brings}
+use Rattle.seam_flat.specs.Batches.{calls_of_orders, Brings}
 
 calls_passed : (calls : List Call) → calls_of_orders (map order_of calls) ≡ calls
 calls_passed [] = refl

@@ -15,12 +15,13 @@ use Rattle.seam_transcript.specs.Book.{Book, entries, created_as, with_entry}
 use Rattle.seam_transcript.specs.FlatTable.{first_state}
 use Rattle.seam_transcript.specs.InOrder.{in_order}
 use Rattle.seam_transcript.specs.declared.verdict.Entry.TheVariants as entry
-use Rattle.seam_flat.specs.Tables.{Holds, Refines, EntityRefines, PartRefines, IsNew, IsFresh}
+use Rattle.seam_flat.specs.Tables.{Refines, EntityRefines, PartRefines, IsNew, IsFresh}
 use Rattle.seam_flat.specs.declared.entity.FlatPart.{FlatPart}
 use Rattle.seam_flat.specs.declared.entity.FlatEntity.{FlatEntity}
 use Rattle.seam_flat.specs.declared.table.FlatTable.{FlatTable}
 use Rattle.seam_flat.proofs.Writing.{apart, with_entities}
-use Rattle.seam_flat.proofs.Books.{order_with_create, current_with_create, created_here, created_other, created_before, not_before}
+use Rattle.seam_transcript.proofs.BookEntries.{created_here, created_other, created_before, not_before}
+use Rattle.seam_flat.proofs.Books.{order_with_create, current_with_create}
 
 -- an entity that is not in the table is not in the book
 pub new_in_book : (h : Header) (b : Book) (t : FlatTable) (e : ℕ) → Refines h b t → get nat_cmp t.entities e ≡ None → created_as b e ≡ None

@@ -1,5 +1,5 @@
 -- What the table holds after it executed a call.
-use Rattle.std.proofs.Common.{◌≡◌, ◌≢◌, ◌+◌, ℕ, Bool, true, false, List, [], ◌∷◌, ◌++◌, length, refl, sym, ◌∙◌, ap, subst, inl}
+use Rattle.std.proofs.Common.{◌≡◌, ◌≢◌, ℕ, Bool, true, false, List, [], ◌∷◌, ◌++◌, refl, sym, ◌∙◌, ap, subst, inl}
 use Rattle.std.proofs.Common.{inr, Option, Some, None}
 use Rattle.std.specs.Prelude.{MatchOption, ◌==◌, ◌&&◌}
 use Rattle.std.specs.Ordering.{nat_cmp}
@@ -18,9 +18,9 @@ use Rattle.seam_flat.specs.Tables.{Holds, EntityRefines, PartRefines, Executes, 
 use Rattle.seam_flat.specs.declared.entity.FlatPart.{FlatPart}
 use Rattle.seam_flat.specs.declared.entity.FlatEntity.{FlatEntity}
 use Rattle.seam_flat.specs.declared.table.FlatTable.{FlatTable}
-use Rattle.seam_flat.proofs.Writing.{same}
 use Rattle.seam_flat.proofs.Parts.{part_with_call}
-use Rattle.seam_flat.proofs.Books.{created_with_call, order_with_own, current_with_own, order_with_other}
+use Rattle.seam_transcript.proofs.BookEntries.{same, created_with_call}
+use Rattle.seam_flat.proofs.Books.{order_with_own, current_with_own, order_with_other}
 use Rattle.seam_flat.proofs.Books.{current_with_other, not_for_other}
 
 -- a part with other names of its order and of its calls of the open round

@@ -1,7 +1,7 @@
 -- What the table holds when a round begins.
 use Rattle.std.proofs.Common.{◌≡◌, ℕ, Bool, true, false, List, [], ◌∷◌, length, refl, sym, ◌∙◌, ap, subst, suc, Option, Some, None}
 use Rattle.std.proofs.Common.{cond}
-use Rattle.std.specs.Prelude.{MatchOption, slice_index, find, ◌==◌}
+use Rattle.std.specs.Prelude.{MatchOption, find, ◌==◌}
 use Rattle.std.specs.Ordering.{nat_cmp}
 use Rattle.std.specs.BTreeMap.{get, is_at, IsOrdered, BTreeMap}
 use Rattle.std.specs.Map.{lookup}

@@ -1,20 +1,13 @@
 -- What the table holds after it wrote to one entity.
-use Rattle.std.proofs.Common.{◌≡◌, ◌≢◌, ℕ, true, false, refl, subst, arith, Option, Some, None}
-use Rattle.std.specs.Prelude.{◌==◌, MatchOption, IsSome}
+use Rattle.std.proofs.Common.{◌≡◌, ◌≢◌, ℕ, false, refl, subst, arith, Option, Some, None}
+use Rattle.std.specs.Prelude.{MatchOption, IsSome}
 use Rattle.std.specs.Ordering.{nat_cmp}
 use Rattle.std.specs.BTreeMap.{get, is_at, WritesThrough, BTreeMap}
-use Rattle.std.proofs.lemmas.Bool.Decides.{eqb_tells, nat_tests}
+use Rattle.std.proofs.lemmas.Bool.Decides.{nat_tests}
 use Rattle.seam_call.specs.declared.call.Call.{Call}
 use Rattle.seam_flat.specs.Tables.{EntityExecutes, TableExecutes}
 use Rattle.seam_flat.specs.declared.entity.FlatEntity.{FlatEntity}
 use Rattle.seam_flat.specs.declared.table.FlatTable.{FlatTable}
-
--- a number is itself, and no other
-pub same : (m : ℕ) → (m == m) ≡ true
-same m = grind arith
-
-pub differ : (a b : ℕ) → a ≢ b → (a == b) ≡ false
-differ a b ne = grind (arith, eqb_tells)
 
 -- the table with these entities
 abbrev pub with_entities : FlatTable → BTreeMap ℕ FlatEntity → FlatTable

@@ -11,7 +11,8 @@ use Rattle.seam_transcript.specs.Header.{BeginWithHeader}
 use Rattle.seam_transcript.specs.Standing.{Standing, after_header}
 use Rattle.seam_transcript.specs.Transcript.{Piece, piece_text, text_of, Step, Run, EndsInput, IsEnded}
 use Rattle.seam_transcript.proofs.RunLemmas.{run_with_line}
-use Rattle.seam_plain.specs.Plain.{Refines, LineRead, InputEnded}
+use Rattle.seam_transcript.specs.Following.{LineRead, InputEnded}
+use Rattle.seam_plain.specs.Plain.{Refines}
 use Rattle.seam_plain.specs.declared.plain.Plain.{Plain}
 
 -- ---- the lines among the texts
@@ -70,7 +71,7 @@ pub record TextsRead (h : Header) (s : Standing) (texts : List (Bor (List ℕ)))
 -- one more text was read
 pub text_read : (h : Header) (s : Standing) (texts : List (Bor (List ℕ))) (i : ℕ) (d : Bor (List ℕ)) (old new : Plain)
     (out after : List ℕ) → i < length texts → (was : TextsRead h s texts i out old)
-    → (printed : List ℕ) × LineRead h was.t (line_of (get_or texts i d).now) new printed × (after ≡ out ++ printed) →
+    → (printed : List ℕ) × LineRead h was.t (line_of (get_or texts i d).now) (λ s. Refines h s new) printed × (after ≡ out ++ printed) →
     TextsRead h s texts (i + 1) after new
 text_read h s texts i d old new out after within was (printed, read, is) =
     let text : Bor (List ℕ) = get_or texts i d in
@@ -85,7 +86,7 @@ text_read h s texts i d old new out after within was (printed, read, is) =
       whole =
           is ∙ ap (λ (xs : List ℕ). xs ++ printed) was.whole ∙ ap (λ (xs : List ℕ). text_of h.defs was.pieces ++ xs) read.whole
           ∙ sym (flat_map-append (piece_text h.defs) was.pieces read.pieces);
-      refines = read.refines;
+      refines = read.after;
     }
 
 -- all texts were read, and the input ended

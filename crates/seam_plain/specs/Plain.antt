@@ -8,15 +8,12 @@ use Rattle.seam_call.specs.Calls.{is_for}
 use Rattle.seam_call.specs.declared.call.Call.{Call}
 use Rattle.seam_call.specs.declared.create.Create.{Create}
 use Rattle.seam_toml.specs.declared.header.Header.{Header}
-use Rattle.seam_transcript.specs.declared.verdict.Verdict.{Verdict}
 use Rattle.seam_transcript.specs.declared.limits.TheConstants.{MOST_LINES}
 use Rattle.seam_transcript.specs.Header.{BeginWithHeader}
-use Rattle.seam_transcript.specs.Book.{open_lines, creates_of, calls_of, Judges}
+use Rattle.seam_transcript.specs.Book.{open_lines, creates_of, calls_of}
 use Rattle.seam_transcript.specs.Standing.{Standing}
-use Rattle.seam_transcript.specs.InOrder.{in_order, after_round}
-use Rattle.seam_transcript.specs.Round.{DoneLine, RoundData, IsRound, done_lines, home_line, base_line}
-use Rattle.seam_transcript.specs.Texts.{round_text}
-use Rattle.seam_transcript.specs.Transcript.{Piece, text_of, Follows, Step, EndsInput}
+use Rattle.seam_transcript.specs.InOrder.{in_order}
+use Rattle.seam_transcript.specs.Round.{DoneLine, RoundData, done_lines, home_line, base_line}
 use Rattle.seam_accept.specs.Refines.{Refines as HoldsBook, LineAccepted}
 use Rattle.seam_accept.specs.declared.answers.Accepted.{Accepted}
 use Rattle.seam_plain.specs.declared.plain.Plain.{Plain}
@@ -50,37 +47,6 @@ pub record HasAccepted (h : Header) (t : Standing) (line : Line) (answer : Accep
   pub answered : LineAccepted h t.book line answer p.book
   pub holds : HoldsRounds t p
   pub below_most : open_lines t.book < MOST_LINES
-
--- the open round ended with this text
-pub record RoundEnds (h : Header) (t : Standing) (new : Plain) (text : List ℕ) : Type 0 where
-  pub round : RoundData
-  pub legal : IsRound h t round (after_round t)
-  pub whole : text ≡ round_text h.defs round
-  pub ready : IsReady h (after_round t) new
-
--- what a line that the standing has counted asks for was done, with this text
-pub record LineFollowed (h : Header) (t : Standing) (line : Line) (new : Plain) (text : List ℕ) : Type 0 where
-  pub verdict : Verdict
-  pub judges : Judges h t.book line verdict
-  pub pieces : List Piece
-  pub next : Standing
-  pub follows : Follows h t verdict pieces next
-  pub whole : text ≡ text_of h.defs pieces
-  pub refines : Refines h next new
-
--- a line was read, with this text
-pub record LineRead (h : Header) (t : Standing) (line : Line) (new : Plain) (text : List ℕ) : Type 0 where
-  pub pieces : List Piece
-  pub next : Standing
-  pub step : Step h t line pieces next
-  pub whole : text ≡ text_of h.defs pieces
-  pub refines : Refines h next new
-
--- the input ended, with this text
-pub record InputEnded (h : Header) (t : Standing) (text : List ℕ) : Type 0 where
-  pub pieces : List Piece
-  pub ends : EndsInput h t pieces
-  pub whole : text ≡ text_of h.defs pieces
 
 -- ---- what it prints
 

@@ -11,7 +11,8 @@ ghost use Rattle.seam_transcript.specs.Standing.{Standing, after_header};
 ghost use Rattle.seam_transcript.specs.Texts.{round_text};
 ghost use Rattle.seam_transcript.specs.Transcript.{Piece, text_of as text_of_pieces, Step, Run, EndsInput, IsEnded};
 ghost use Rattle.seam_flat.specs.Batches.{call_of, calls_of_orders};
-ghost use Rattle.seam_plain.specs.Plain.{HaveNoHeader, IsReady, Refines, HasAccepted, RoundEnds, LineFollowed, LineRead, InputEnded};
+ghost use Rattle.seam_transcript.specs.Following.{RoundEnds, LineFollowed, LineRead, InputEnded};
+ghost use Rattle.seam_plain.specs.Plain.{HaveNoHeader, IsReady, Refines, HasAccepted};
 ghost use Rattle.seam_plain.specs.Plain.{round_of};
 
 use crate::header::begun_by;
@@ -91,7 +92,8 @@ impl Plain {
     // Reads the text of the next line, and appends what is printed for it.
     fn read(&mut self, header: &Header, text: &[u8], out: &mut Vec<u8>) -> Result<(), AllocError>
         ensures { OnOk result ((t : Standing) → Refines header.now t self.old
-            → (printed : List ℕ) × LineRead header.now t (line_of text.now) self.new printed × (out.new.items ≡ out.old.items ++ printed)) }
+            → (printed : List ℕ) × LineRead header.now t (line_of text.now) (λ s. Refines header.now s self.new) printed
+            × (out.new.items ≡ out.old.items ++ printed)) }
     {
         self.lines = next_count(self.lines)?;
         if text.len() > MOST_BYTES {
@@ -112,7 +114,8 @@ impl Plain {
         out: &mut Vec<u8>,
     ) -> Result<(), AllocError>
         ensures { OnOk result ((t : Standing) (line : Lines) → HasAccepted header.now t line accepted self.old
-            → (printed : List ℕ) × LineFollowed header.now t line self.new printed × (out.new.items ≡ out.old.items ++ printed)) }
+            → (printed : List ℕ) × LineFollowed header.now t line (λ s. Refines header.now s self.new) printed
+            × (out.new.items ≡ out.old.items ++ printed)) }
     {
         match accepted {
             Accepted::Skipped => Ok(()),
@@ -129,7 +132,7 @@ impl Plain {
     // Ends the open round, whose text is appended.
     fn end_round(&mut self, header: &Header, out: &mut Vec<u8>) -> Result<(), AllocError>
         ensures { OnOk result ((t : Standing) → IsReady header.now t self.old
-            → (printed : List ℕ) × RoundEnds header.now t self.new printed × (out.new.items ≡ out.old.items ++ printed)) }
+            → (printed : List ℕ) × RoundEnds header.now t (λ s. Refines header.now s self.new) printed × (out.new.items ≡ out.old.items ++ printed)) }
     {
         self.rounds = next_count(self.rounds)?;
         let earlier = self.calls.len();

@@ -4,6 +4,8 @@ pub mod Names
 pub mod RunLemmas
 pub mod SkipLemmas
 pub mod InOrderLemmas
+pub mod BookEntries
+pub mod Following
 pub mod Verdicts
 pub mod OneSender
 pub mod HeaderLemmas

@@ -1,13 +1,12 @@
 -- Where each entity has one sender, an input has one ended transcript.
 use Rattle.std.proofs.Common.{◌≡◌, ◌+◌, ℕ, Bool, true, false, List, [], ◌∷◌, ◌++◌, map, length, refl, sym, ◌∙◌, ap, subst, arith}
 use Rattle.std.specs.Prelude.{All, filter, cond, ◌&&◌, ◌==◌, MatchBool}
-use Rattle.std.specs.List.{flat_map}
 use Rattle.std.proofs.Math.Bool.{and-false}
 use Rattle.std.proofs.Math.Path.{fun_ext}
 use Rattle.std.proofs.lemmas.List.{append_cancel_left}
 use Rattle.std.proofs.lemmas.List.Elements.{All-nil, All-head, All-tail, All-push, filter_map-append}
-use Rattle.std.proofs.Common.{append-nil, append_assoc, length-append}
-use Rattle.seam_io.specs.Lines.{Line, Content}
+use Rattle.std.proofs.Common.{append-nil, append_assoc}
+use Rattle.seam_io.specs.Lines.{Line}
 use Rattle.seam_value.specs.NumberWords.{SpellsPositive}
 use Rattle.seam_defs.specs.declared.types.TypeDef.{TypeDef}
 use Rattle.seam_defs.specs.declared.states.Deed.{Deed}

@@ -16,7 +16,7 @@ use Rattle.seam_words.specs.Texts.{HasWords}
 use Rattle.seam_words.specs.declared.words.WordsError.{WordsError}
 use Rattle.seam_words.specs.declared.words.WordsError.TheVariants.{NotUtf8}
 use Rattle.seam_words.proofs.WordTexts.{words_are_one_list, no_words_at_fault, fault_is_first}
-use Rattle.seam_defs.specs.Types.{type_of, method_of, AreDefs}
+use Rattle.seam_defs.specs.Types.{type_of, AreDefs}
 use Rattle.seam_defs.specs.Deeds.{part_of_deed}
 use Rattle.seam_defs.specs.declared.types.TypeDef.{TypeDef}
 use Rattle.seam_defs.specs.declared.types.Method.{Method as Methods}

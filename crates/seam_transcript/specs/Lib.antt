@@ -7,5 +7,6 @@ pub mod Standing
 pub mod Round
 pub mod Texts
 pub mod Transcript
+pub mod Following
 pub mod Senders
 pub mod InOrder

@@ -4,7 +4,8 @@
 //!
 //! Of `proofs/`, these are for callers: `Verdicts`, `SkipLemmas` and `LineLaws` (a line has one verdict; lines without words, and lines
 //! that change nothing), `Names` (places of names among types and methods), `HeaderLemmas`, `Lists` (entities in rising number),
-//! `InOrderLemmas` (calls executed as they were accepted), `RunLemmas`, and `OneSender` (where a transcript is the only one).
+//! `InOrderLemmas` (calls executed as they were accepted), `BookEntries`, `Following` and `RunLemmas` (what a program holds and prints line
+//! by line), and `OneSender` (where a transcript is the only one).
 #![tactic(auto)]
 
 mod laws;

@@ -1,5 +1,5 @@
 -- When a run is complete.
-use Rattle.std.proofs.Common.{◌≡◌, ◌≢◌, ◌≤◌, ◌<◌, inl, inr, ℕ, List, [], ◌∷◌, ◌++◌, Option, Some, None, map, length, refl, sym, ap, ◌∙◌}
+use Rattle.std.proofs.Common.{◌≡◌, ◌≢◌, ◌≤◌, inl, inr, ℕ, List, [], ◌∷◌, ◌++◌, Option, Some, None, map, length, refl, sym, ap, ◌∙◌}
 use Rattle.std.proofs.Common.{subst, arith, append_assoc, append-nil, length-append}
 use Rattle.std.specs.Prelude.{All, ◌⊎◌}
 use Rattle.std.specs.Io.KnownBytes.{Consumes, IsAtEnd}
@@ -8,7 +8,7 @@ use Rattle.std.proofs.lemmas.List.Elements.{All-nil, All-head, All-tail, All-con
 use Rattle.std.proofs.lemmas.List.Concat.{flat_map-append}
 use Rattle.seam_io.specs.Causes.{Rose}
 use Rattle.seam_io.specs.States.{SourceState, SinkState}
-use Rattle.seam_io.specs.Lines.{Line, Content, lines_of, whole_lines_of}
+use Rattle.seam_io.specs.Lines.{Line, Content, lines_of}
 use Rattle.seam_io.proofs.LineLemmas.{lines_of-append}
 use Rattle.seam_toml.specs.declared.header.Header.{Header}
 use Rattle.seam_toml.specs.declared.header.HeaderError.{HeaderError}
@@ -19,7 +19,7 @@ use Rattle.seam_toml.specs.Faults.{HeaderHas}
 use Rattle.seam_transcript.specs.Header.{AreHeaderLines, BeginWithHeader, AwaitHeader, RefusesHeader, separator, text_of_contents}
 use Rattle.seam_transcript.specs.Transcript.{IsOpen, IsEnded}
 use Rattle.seam_transcript.proofs.HeaderLemmas.{text_is_one, end_for_header}
-use Rattle.seam_world.specs.Ends.{AreFirst, IsPrefix, IsHeaderFault, RunEnds, MayComplete, most_bytes}
+use Rattle.seam_world.specs.Ends.{AreFirst, IsHeaderFault, RunEnds, MayComplete}
 use Rattle.seam_world.specs.declared.status.Status.{Status}
 use Rattle.seam_world.specs.declared.status.Status.TheVariants as status
 

@@ -1,13 +1,13 @@
 -- How a run goes on, and how it stops.
-use Rattle.std.proofs.Common.{◌≡◌, ◌≢◌, inl, inr, ℕ, ◌≤◌, List, [], ◌∷◌, ◌++◌, Option, None, Some, refl, sym}
-use Rattle.std.proofs.Common.{ap, ◌∙◌, subst, arith, append-nil, length}
-use Rattle.std.proofs.KnownBytes.{Appends-trans, Appends-nil}
+use Rattle.std.proofs.Common.{◌≡◌, inl, inr, ℕ, ◌≤◌, List, [], ◌∷◌, ◌++◌, Option, None, Some, refl, sym}
+use Rattle.std.proofs.Common.{ap, ◌∙◌, subst, arith, append-nil}
+use Rattle.std.proofs.KnownBytes.{Appends-trans}
 use Rattle.std.proofs.lemmas.List.Concat.{flat_map-append}
 use Rattle.std.specs.Prelude.{MatchOption}
-use Rattle.std.specs.Io.KnownBytes.{Consumes, Appends}
+use Rattle.std.specs.Io.KnownBytes.{Appends}
 use Rattle.seam_io.specs.Causes.{Rose}
 use Rattle.seam_io.specs.States.{SourceState, SinkState}
-use Rattle.seam_io.specs.Lines.{Line, Long, whole_lines_of}
+use Rattle.seam_io.specs.Lines.{Line, whole_lines_of}
 use Rattle.seam_io.specs.Reading.{Reader, Reading, IsExact}
 use Rattle.seam_io.specs.declared.lines.Next.TheVariants as next
 use Rattle.seam_toml.specs.declared.header.Header.{Header}
@@ -15,8 +15,9 @@ use Rattle.seam_transcript.specs.Standing.{after_header}
 use Rattle.seam_transcript.specs.Transcript.{Piece, text_of, piece_text, Step, PrintLines, IsOpen, IsEnded}
 use Rattle.seam_transcript.proofs.RunLemmas.{run_with_line}
 use Rattle.seam_transcript.proofs.HeaderLemmas.{header_of_append}
-use Rattle.seam_world.specs.Script.{ScriptRefines, LineRead, InputEnded}
-use Rattle.seam_world.specs.Status.{IsHeaderEnd, IsRunEnd}
+use Rattle.seam_transcript.specs.Following.{LineRead, InputEnded}
+use Rattle.seam_world.specs.Script.{ScriptRefines}
+use Rattle.seam_world.specs.Status.{IsRunEnd}
 use Rattle.seam_world.specs.Ends.{AreAll, IsSoFar, Tells, HasFaultLine, RunEnds, most_bytes}
 use Rattle.seam_world.specs.Histories.{HasHeader, Going, Stopped}
 use Rattle.seam_world.specs.Printing.{Printed, FailedWithin, StopsBy, Prints}
@@ -108,7 +109,7 @@ module _ (began : SourceState) (sink : SinkState) (now : SourceState) (reader : 
 
     going_on : (line : Line) (got piece pending' : List ℕ) (new : Script) →
         Reading began later after (g.given ++ got) (g.read ++ line ∷ []) →
-        LineRead g.header g.standing line new piece → Printed sink is pending' (text ++ piece)
+        LineRead g.header g.standing line (λ s. ScriptRefines g.header s new) piece → Printed sink is pending' (text ++ piece)
         → Going began later after sink is pending' new
     going_on line got piece pending' new r taken p = record {
       header = g.header;
@@ -124,10 +125,10 @@ module _ (began : SourceState) (sink : SinkState) (now : SourceState) (reader : 
       printed = subst (Printed sink is pending')
           (ap (λ (x : List ℕ). text ++ x) taken.whole ∙ sym (text_with taken.pieces)) p;
       run = run_with_line (Step g.header) (after_header g.count) g.rest g.pieces g.standing line taken.pieces taken.next g.run taken.step;
-      refines = taken.refines;
+      refines = taken.after;
     }
 
-    open_more : (line : Line) (piece : List ℕ) (new : Script) → LineRead g.header g.standing line new piece →
+    open_more : (line : Line) (piece : List ℕ) (new : Script) → LineRead g.header g.standing line (λ s. ScriptRefines g.header s new) piece →
         IsOpen (g.read ++ line ∷ []) (text ++ piece)
     open_more line piece new taken = inr (
       g.header,
@@ -167,7 +168,7 @@ module _ (began : SourceState) (sink : SinkState) (now : SourceState) (reader : 
     -- one more line, whatever the call that printed it answered
     pub line_printed : (line : Line) (got pending' : List ℕ) (new : Script) (result : Option Status) →
         Reading began later after (g.given ++ got) (g.read ++ line ∷ [])
-        → Prints (LineRead g.header g.standing line new) sink is pending' (text_of g.header.defs g.pieces) result
+        → Prints (LineRead g.header g.standing line (λ s. ScriptRefines g.header s new)) sink is pending' (text_of g.header.defs g.pieces) result
         → MatchOption result (Going began later after sink is pending' new) (λ st. Stopped st began later sink is)
     line_printed line got pending' new None r p = going_on line got p.0 pending' new r p.1 p.2
     line_printed line got pending' new (Some status.NoMemory) r p = no_memory got (line ∷ []) r p

@@ -10,7 +10,8 @@ ghost use Rattle.seam_toml.specs.declared.header.Header.{Header as Headers};
 ghost use Rattle.seam_transcript.specs.Standing.{Standing};
 ghost use Rattle.seam_transcript.specs.Transcript.{IsOpen, IsEnded};
 ghost use Rattle.seam_world.specs.Status.{IsRunEnd, IsHeaderCause, refusal_of};
-ghost use Rattle.seam_world.specs.Script.{ScriptRefines, LineRead, InputEnded};
+ghost use Rattle.seam_transcript.specs.Following.{LineRead, InputEnded};
+ghost use Rattle.seam_world.specs.Script.{ScriptRefines};
 ghost use Rattle.seam_world.specs.Ends.{RunEnds, MayComplete, HasFaultLine, IsPrefix, most_bytes, fault_line as fault_line_of};
 ghost use Rattle.seam_world.specs.Histories.{HasHeader, InHeader, HeaderLineRead, Going, Stopped};
 ghost use Rattle.seam_world.specs.Printing.{Printed, FailedWithin, StopsBy, Prints};
@@ -220,7 +221,8 @@ impl Runner {
     fn print_line<K: Sink>(&mut self, out: &mut K) -> Option<Status>
         ensures prints { (h : Headers) (t : Standing) (sink : SinkState) (text : List ℕ) → ScriptRefines h t self.old.script →
             Printed sink (K.state out.old) self.old.pending text →
-            Prints (LineRead h t (Content self.old.lines.line) self.new.script) sink (K.state out.new) self.new.pending text result }
+            Prints (LineRead h t (Content self.old.lines.line) (λ s. ScriptRefines h s self.new.script)) sink (K.state out.new)
+            self.new.pending text result }
         ensures lines { self.new.lines ≡ self.old.lines }
     {
         self.text.clear();
@@ -234,7 +236,7 @@ impl Runner {
     fn print_long<K: Sink>(&mut self, out: &mut K) -> Option<Status>
         ensures prints { (h : Headers) (t : Standing) (sink : SinkState) (text : List ℕ) → ScriptRefines h t self.old.script →
             Printed sink (K.state out.old) self.old.pending text →
-            Prints (LineRead h t Long self.new.script) sink (K.state out.new) self.new.pending text result }
+            Prints (LineRead h t Long (λ s. ScriptRefines h s self.new.script)) sink (K.state out.new) self.new.pending text result }
         ensures lines { self.new.lines ≡ self.old.lines }
     {
         self.text.clear();

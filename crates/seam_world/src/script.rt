@@ -4,7 +4,8 @@ ghost use Rattle.seam_io.specs.Lines.{Line as Lines, Content, Long};
 ghost use Rattle.seam_defs.specs.Settings.{AreInRange};
 ghost use Rattle.seam_toml.specs.declared.header.Header.{Header as Headers};
 ghost use Rattle.seam_transcript.specs.Standing.{Standing, after_header};
-ghost use Rattle.seam_world.specs.Script.{IsReady, ScriptRefines, HasAccepted, RoundEnds, LineFollowed, LineRead, InputEnded};
+ghost use Rattle.seam_transcript.specs.Following.{RoundEnds, LineFollowed, LineRead, InputEnded};
+ghost use Rattle.seam_world.specs.Script.{IsReady, ScriptRefines, HasAccepted};
 
 use crate::text::push_round;
 use seam_accept::{Accepted, Book, Refusal, next_count};
@@ -44,7 +45,7 @@ impl Script {
     pub fn read_line(&mut self, line: &[u8], out: &mut Vec<u8>) -> Result<(), AllocError>
         requires { length line.now ≤ LONGEST_LINE }
         ensures { OnOk result ((h : Headers) (t : Standing) → ScriptRefines h t self.old
-            → (text : List ℕ) × LineRead h t (Content line.now) self.new text × (out.new.items ≡ out.old.items ++ text)) }
+            → (text : List ℕ) × LineRead h t (Content line.now) (λ s. ScriptRefines h s self.new) text × (out.new.items ≡ out.old.items ++ text)) }
     {
         self.line = next_count(self.line)?;
         match self.book.accept(line) {
@@ -57,7 +58,7 @@ impl Script {
     /// Reads a line that is too long.
     pub fn read_long(&mut self, out: &mut Vec<u8>) -> Result<(), AllocError>
         ensures { OnOk result ((h : Headers) (t : Standing) → ScriptRefines h t self.old
-            → (text : List ℕ) × LineRead h t Long self.new text × (out.new.items ≡ out.old.items ++ text)) }
+            → (text : List ℕ) × LineRead h t Long (λ s. ScriptRefines h s self.new) text × (out.new.items ≡ out.old.items ++ text)) }
     {
         self.line = next_count(self.line)?;
         push_refusal(out, self.line, Cause::TooLong)
@@ -66,7 +67,7 @@ impl Script {
     // Does what a line asks for that the book accepted or skipped, and appends what is printed.
     fn follow(&mut self, accepted: Accepted, out: &mut Vec<u8>) -> Result<(), AllocError>
         ensures { OnOk result ((h : Headers) (t : Standing) (line : Lines) → HasAccepted h t line accepted self.old
-            → (text : List ℕ) × LineFollowed h t line self.new text × (out.new.items ≡ out.old.items ++ text)) }
+            → (text : List ℕ) × LineFollowed h t line (λ s. ScriptRefines h s self.new) text × (out.new.items ≡ out.old.items ++ text)) }
     {
         match accepted {
             Accepted::Skipped => Ok(()),
@@ -83,7 +84,7 @@ impl Script {
     // Ends the open round, whose text is appended.
     fn end_round(&mut self, out: &mut Vec<u8>) -> Result<(), AllocError>
         ensures { OnOk result ((h : Headers) (t : Standing) → IsReady h t self.old
-            → (text : List ℕ) × RoundEnds h t self.new text × (out.new.items ≡ out.old.items ++ text)) }
+            → (text : List ℕ) × RoundEnds h t (λ s. ScriptRefines h s self.new) text × (out.new.items ≡ out.old.items ++ text)) }
     {
         self.round = next_count(self.round)?;
         self.table.run(self.book.take_batch())?;

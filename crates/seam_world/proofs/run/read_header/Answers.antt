@@ -1,10 +1,8 @@
-use Rattle.std.proofs.Common.{◌≡◌, ◌≤◌, ◌+◌, [], ◌∷◌, ◌++◌, List, Option, None, Some, Ok, length, length-append, refl, sym, ap, ◌∙◌}
+use Rattle.std.proofs.Common.{◌+◌, [], ◌∷◌, ◌++◌, Option, None, Ok, sym, ap, ◌∙◌}
 use Rattle.std.proofs.Common.{subst, arith}
 use Rattle.seam_io.specs.States.{SinkState}
-use Rattle.seam_io.specs.Lines.{Line}
 use Rattle.seam_toml.specs.declared.header.Header.{Header}
-use Rattle.seam_transcript.proofs.HeaderLemmas.{no_lines_yet}
-use Rattle.seam_world.specs.Histories.{InHeader, HasHeader, HeaderLineRead}
+use Rattle.seam_world.specs.Histories.{HasHeader, HeaderLineRead}
 use Rattle.seam_world.proofs.HeaderRuns.{header_unread, counted_line}
 use Rattle.seam_world.proofs.run.read_header.Goals as goal
 

@@ -1,12 +1,7 @@
-use Rattle.std.proofs.Common.{◌≡◌, ◌+◌, ◌++◌, ◌∷◌, [], ℕ, List, Option, None, Some, length, sym, ap, ◌∙◌, subst, refl}
+use Rattle.std.proofs.Common.{◌+◌, ◌++◌, ◌∷◌, [], ℕ, List, length, ◌∙◌, subst, refl}
 use Rattle.std.specs.Prelude.{MatchOption}
-use Rattle.seam_io.specs.Lines.{Line, Content}
-use Rattle.seam_toml.specs.declared.header.Header.{Header}
-use Rattle.seam_toml.specs.declared.header.HeaderError.{HeaderError}
-use Rattle.seam_toml.specs.Header.{number_of}
+use Rattle.seam_io.specs.Lines.{Content}
 use Rattle.seam_transcript.specs.Header.{AreHeaderLines, BeginWithHeader, RefusesHeader}
-use Rattle.seam_world.specs.Histories.{InHeader, HeaderLineRead, Stopped}
-use Rattle.seam_world.specs.declared.status.Status.{Status}
 use Rattle.seam_world.proofs.HeaderRuns.{header_line_read, header_line_refused, long_header, header_without_end, header_read_fault}
 use Rattle.seam_world.proofs.HeaderRuns.{header_limit}
 use Rattle.seam_world.proofs.run.read_header_line.Goals as goal

@@ -1,6 +1,6 @@
-use Rattle.std.proofs.Common.{◌≡◌, ◌<◌, ◌≤◌, ◌+◌, ◌++◌, ◌∷◌, [], ℕ, List, length, length-append, sym, ap, subst, arith, inl, inr, Some}
+use Rattle.std.proofs.Common.{◌≡◌, ◌<◌, ◌≤◌, ◌++◌, ◌∷◌, [], length, length-append, sym, ap, subst, arith, inl}
 use Rattle.std.proofs.lemmas.Option.{same_Some}
-use Rattle.seam_io.specs.Lines.{Line, Content}
+use Rattle.seam_io.specs.Lines.{Content}
 use Rattle.seam_toml.specs.declared.documents.TheConstants.{MOST_HEADER_BYTES}
 use Rattle.seam_transcript.specs.Header.{AreHeaderLines}
 use Rattle.seam_transcript.proofs.HeaderLemmas.{with_line, too_long_for_header}

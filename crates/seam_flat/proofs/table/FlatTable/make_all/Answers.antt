@@ -1,4 +1,4 @@
-use Rattle.std.proofs.Common.{◌∷◌, [], ◌++◌, take, get_or, subst, sym, ◌∙◌, ap, arith, List}
+use Rattle.std.proofs.Common.{take, subst, sym, List}
 use Rattle.std.proofs.Math.Seq.{take-suc}
 use Rattle.std.proofs.Common.{add-one}
 use Rattle.std.proofs.lemmas.List.{take_all}

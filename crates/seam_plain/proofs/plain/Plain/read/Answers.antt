@@ -9,7 +9,9 @@ use Rattle.seam_transcript.specs.declared.verdict.Verdict.TheVariants as verdict
 use Rattle.seam_transcript.specs.Book.{Judges}
 use Rattle.seam_transcript.proofs.Verdicts.{long_is_refused}
 use Rattle.seam_accept.specs.Refines.{LineAccepted, LineRefused}
-use Rattle.seam_plain.proofs.Turns.{has_accepted, line_read, refused}
+use Rattle.seam_transcript.proofs.Following.{line_read}
+use Rattle.seam_plain.specs.Plain.{Refines}
+use Rattle.seam_plain.proofs.Turns.{has_accepted, refused_line}
 use Rattle.seam_plain.proofs.plain.Plain.read.Goals as goal
 
 pub returns-then-text-gt-MOST_BYTES : goal.returns-then-text-gt-MOST_BYTES
@@ -17,7 +19,7 @@ returns-then-text-gt-MOST_BYTES c = on_ok_weaker c.push_refusal.result
     (λ printed t was.
     let h = c.args.header.now in (
       refusal c.in_ok-self.field-0 TooLong,
-      refused h t (line_of c.args.text.now) TooLong c.args.self.now _ was refl refl refl c.in_ok-self.ensures refl
+      refused_line h t (line_of c.args.text.now) TooLong c.args.self.now _ was refl refl refl c.in_ok-self.ensures refl
           (subst (λ (l : Line). Judges h t.book l (verdict.Refused TooLong))
           (sym (line_of-long c.args.text.now c.if-text-gt-MOST_BYTES.true))
           (long_is_refused h t.book)),
@@ -35,7 +37,7 @@ returns-in-Ok c = on_ok_weaker c.follow.result
     (c.in-Ok.ensures.accepted h t.book was.ready.book) in
     let accepted = has_accepted h t line c.in-Ok.accepted c.args.self.now _ was refl refl refl c.in_ok-self.ensures answered in
     let f = followed (with_line t) line accepted in
-    (f.0, line_read h t line c.follow.new.self f.0 f.1, f.2))
+    (f.0, line_read h t line (λ s. Refines h s c.follow.new.self) f.0 f.1, f.2))
     c.follow.ensures
 
 pub returns-in-Err-Cause : goal.returns-in-Err-Cause
@@ -44,7 +46,7 @@ returns-in-Err-Cause c = on_ok_weaker c.push_refusal-in-Err-Cause.result
     let h = c.args.header.now in
     let cause = c.in-Err-Cause.cause in (
       refusal c.in_ok-self.field-0 cause,
-      refused h t (line_of c.args.text.now) cause c.args.self.now _ was refl refl refl c.in_ok-self.ensures c.in-Err-Cause.ensures.unchanged
+      refused_line h t (line_of c.args.text.now) cause c.args.self.now _ was refl refl refl c.in_ok-self.ensures c.in-Err-Cause.ensures.unchanged
           (subst (λ (l : Line). Judges h t.book l (verdict.Refused cause))
           (ap Content c.without_return.ensures ∙ sym (line_of-short c.args.text.now c.if-text-gt-MOST_BYTES.false))
           (subst (LineRefused h t.book (Content c.without_return.result.now)) c.in-Err-Cause.field-0-is

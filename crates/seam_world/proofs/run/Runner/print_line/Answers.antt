@@ -1,6 +1,7 @@
 use Rattle.std.proofs.Common.{◌≡◌, subst, sym}
 use Rattle.seam_io.specs.Lines.{Content}
-use Rattle.seam_world.specs.Script.{LineRead}
+use Rattle.seam_transcript.specs.Following.{LineRead}
+use Rattle.seam_world.specs.Script.{ScriptRefines}
 use Rattle.seam_world.proofs.PrintLemmas.{cleared_first, gathered_prints, nothing_prints}
 use Rattle.seam_world.proofs.run.Runner.print_line.Goals as goal
 
@@ -9,7 +10,7 @@ returns-in-Ok-clause-prints g c = λ h t sink text refines printed.
     let read = c.in-Ok.ensures h t refines in
     let piece : c.deref.result.now ≡ read.0 = cleared_first _ _ _ read.0 c.deref.ensures.value read.2 c.clear.ensures.items in
     gathered_prints _ c.deref.result.now sink _ _ text c.print.result
-    (subst (LineRead h t (Content _) c.read_line.new.self) (sym piece) (rw c.line.ensures.content at read.1))
+    (subst (LineRead h t (Content _) (λ s. ScriptRefines h s c.read_line.new.self)) (sym piece) (rw c.line.ensures.content at read.1))
     (c.print.ensures sink text printed)
 
 pub returns-in-Err-clause-prints : goal.returns-in-Err-clause-prints

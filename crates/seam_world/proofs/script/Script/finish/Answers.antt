@@ -1,6 +1,7 @@
 use Rattle.std.proofs.Common.{[], sym, ◌∙◌, append-nil}
 use Rattle.std.proofs.lemmas.Result.{on_ok_weaker}
-use Rattle.seam_world.proofs.ScriptLemmas.{last_round, nothing_open}
+use Rattle.seam_transcript.proofs.Following.{last_round, nothing_open}
+use Rattle.seam_world.specs.Script.{ScriptRefines}
 use Rattle.seam_world.proofs.script.Script.finish.Goals as goal
 
 pub returns-then-count-eq0 : goal.returns-then-count-eq0
@@ -15,6 +16,10 @@ returns-then-count-eq0 c =
 pub returns : goal.returns
 returns c = on_ok_weaker c.end_round.result
     (λ ends h t was.
-    let e = ends h t was.ready in
-    (e.0, last_round h t c.end_round.new.self e.0 (λ none. c.if-count-eq0.false (c.count.ensures h t.book was.ready.book ∙ none)) e.1, e.2))
+    let e = ends h t was.ready in (
+      e.0,
+      last_round h t (λ s. ScriptRefines h s c.end_round.new.self) e.0
+          (λ none. c.if-count-eq0.false (c.count.ensures h t.book was.ready.book ∙ none)) e.1,
+      e.2,
+    ))
     c.end_round.ensures

@@ -4,14 +4,14 @@ use Rattle.seam_io.specs.Lines.{Long}
 use Rattle.seam_transcript.specs.Texts.{refusal}
 use Rattle.seam_transcript.specs.declared.verdict.Cause.TheVariants.{TooLong}
 use Rattle.seam_transcript.proofs.Verdicts.{long_is_refused}
-use Rattle.seam_world.proofs.ScriptLemmas.{refused}
+use Rattle.seam_world.proofs.ScriptLemmas.{refused_line}
 use Rattle.seam_world.proofs.script.Script.read_long.Goals as goal
 
 pub returns : goal.returns
 returns c = on_ok_weaker c.push_refusal.result
     (λ text h t was. (
       refusal c.in_ok-self.field-0 TooLong,
-      refused h t Long TooLong c.args.self.now _ was c.in_ok-self.ensures refl refl refl (long_is_refused h t.book),
+      refused_line h t Long TooLong c.args.self.now _ was c.in_ok-self.ensures refl refl refl (long_is_refused h t.book),
       text,
     ))
     c.push_refusal.ensures

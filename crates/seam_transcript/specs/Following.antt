@@ -1,0 +1,42 @@
+-- What a program prints for a line, beside the standing of a transcript: `refines` says which standings the program holds after it.
+use Rattle.std.specs.Prelude.{◌≡◌, ℕ, List}
+use Rattle.seam_io.specs.Lines.{Line}
+use Rattle.seam_toml.specs.declared.header.Header.{Header}
+use Rattle.seam_transcript.specs.Book.{Judges}
+use Rattle.seam_transcript.specs.Standing.{Standing}
+use Rattle.seam_transcript.specs.InOrder.{after_round}
+use Rattle.seam_transcript.specs.Round.{RoundData, IsRound}
+use Rattle.seam_transcript.specs.Texts.{round_text}
+use Rattle.seam_transcript.specs.Transcript.{Piece, text_of, Follows, Step, EndsInput}
+use Rattle.seam_transcript.specs.declared.verdict.Verdict.{Verdict}
+
+-- the open round ended with this text
+pub record RoundEnds (h : Header) (t : Standing) (refines : Standing → Type 0) (text : List ℕ) : Type 0 where
+  pub round : RoundData
+  pub legal : IsRound h t round (after_round t)
+  pub whole : text ≡ round_text h.defs round
+  pub after : refines (after_round t)
+
+-- what a line that the standing has counted asks for was done, with this text
+pub record LineFollowed (h : Header) (t : Standing) (line : Line) (refines : Standing → Type 0) (text : List ℕ) : Type 0 where
+  pub verdict : Verdict
+  pub judges : Judges h t.book line verdict
+  pub pieces : List Piece
+  pub next : Standing
+  pub follows : Follows h t verdict pieces next
+  pub whole : text ≡ text_of h.defs pieces
+  pub after : refines next
+
+-- a line was read, with this text
+pub record LineRead (h : Header) (t : Standing) (line : Line) (refines : Standing → Type 0) (text : List ℕ) : Type 0 where
+  pub pieces : List Piece
+  pub next : Standing
+  pub step : Step h t line pieces next
+  pub whole : text ≡ text_of h.defs pieces
+  pub after : refines next
+
+-- the input ended, with this text
+pub record InputEnded (h : Header) (t : Standing) (text : List ℕ) : Type 0 where
+  pub pieces : List Piece
+  pub ends : EndsInput h t pieces
+  pub whole : text ≡ text_of h.defs pieces
