@@ -132,7 +132,8 @@ impl Plain {
     // Ends the open round, whose text is appended.
     fn end_round(&mut self, header: &Header, out: &mut Vec<u8>) -> Result<(), AllocError>
         ensures { OnOk result ((t : Standing) → IsReady header.now t self.old
-            → (printed : List ℕ) × RoundEnds header.now t (λ s. Refines header.now s self.new) printed × (out.new.items ≡ out.old.items ++ printed)) }
+            → (printed : List ℕ) × RoundEnds header.now t (λ s. Refines header.now s self.new) printed
+            × (out.new.items ≡ out.old.items ++ printed)) }
     {
         self.rounds = next_count(self.rounds)?;
         let earlier = self.calls.len();

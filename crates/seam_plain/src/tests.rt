@@ -17,7 +17,9 @@ const ROWS: &[(&str, Option<&str>)] = &[
     (
         "%%\ncreate 1 Avatar 100 100\ncall b1 1 hit 30\r\nsync\nmove b2 1 7 8\n",
         Some(
-            "round 1\ndid 1 b1 1 hit 30\nhome 1 0 1 100 100 hp=70 mana=50 mood=0 note=\"\" scent=0 xp=0\nbase 1 0 gold=0 rank=1\nend 1\nround 2\ndid 1 b2 1 move 7 8\nhome 1 0 2 7 8 hp=70 mana=50 mood=0 note=\"\" scent=0 xp=0\nbase 1 0 gold=0 rank=1\nend 2\n",
+            "round 1\ndid 1 b1 1 hit 30\nhome 1 0 1 100 100 hp=70 mana=50 mood=0 note=\"\" scent=0 xp=0\nbase 1 0 gold=0 rank=1\n\
+            end 1\nround 2\ndid 1 b2 1 move 7 8\nhome 1 0 2 7 8 hp=70 mana=50 mood=0 note=\"\" scent=0 xp=0\n\
+            base 1 0 gold=0 rank=1\nend 2\n",
         ),
     ),
 ];

@@ -128,8 +128,8 @@ module _ (began : SourceState) (sink : SinkState) (now : SourceState) (reader : 
       refines = taken.after;
     }
 
-    open_more : (line : Line) (piece : List ℕ) (new : Script) → LineRead g.header g.standing line (λ s. ScriptRefines g.header s new) piece →
-        IsOpen (g.read ++ line ∷ []) (text ++ piece)
+    open_more : (line : Line) (piece : List ℕ) (new : Script) →
+        LineRead g.header g.standing line (λ s. ScriptRefines g.header s new) piece → IsOpen (g.read ++ line ∷ []) (text ++ piece)
     open_more line piece new taken = inr (
       g.header,
       g.pieces ++ taken.pieces,
@@ -168,7 +168,8 @@ module _ (began : SourceState) (sink : SinkState) (now : SourceState) (reader : 
     -- one more line, whatever the call that printed it answered
     pub line_printed : (line : Line) (got pending' : List ℕ) (new : Script) (result : Option Status) →
         Reading began later after (g.given ++ got) (g.read ++ line ∷ [])
-        → Prints (LineRead g.header g.standing line (λ s. ScriptRefines g.header s new)) sink is pending' (text_of g.header.defs g.pieces) result
+        → Prints (LineRead g.header g.standing line (λ s. ScriptRefines g.header s new)) sink is pending'
+        (text_of g.header.defs g.pieces) result
         → MatchOption result (Going began later after sink is pending' new) (λ st. Stopped st began later sink is)
     line_printed line got pending' new None r p = going_on line got p.0 pending' new r p.1 p.2
     line_printed line got pending' new (Some status.NoMemory) r p = no_memory got (line ∷ []) r p

@@ -45,7 +45,8 @@ impl Script {
     pub fn read_line(&mut self, line: &[u8], out: &mut Vec<u8>) -> Result<(), AllocError>
         requires { length line.now ≤ LONGEST_LINE }
         ensures { OnOk result ((h : Headers) (t : Standing) → ScriptRefines h t self.old
-            → (text : List ℕ) × LineRead h t (Content line.now) (λ s. ScriptRefines h s self.new) text × (out.new.items ≡ out.old.items ++ text)) }
+            → (text : List ℕ) × LineRead h t (Content line.now) (λ s. ScriptRefines h s self.new) text
+            × (out.new.items ≡ out.old.items ++ text)) }
     {
         self.line = next_count(self.line)?;
         match self.book.accept(line) {

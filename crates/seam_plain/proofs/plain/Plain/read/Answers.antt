@@ -46,7 +46,8 @@ returns-in-Err-Cause c = on_ok_weaker c.push_refusal-in-Err-Cause.result
     let h = c.args.header.now in
     let cause = c.in-Err-Cause.cause in (
       refusal c.in_ok-self.field-0 cause,
-      refused_line h t (line_of c.args.text.now) cause c.args.self.now _ was refl refl refl c.in_ok-self.ensures c.in-Err-Cause.ensures.unchanged
+      refused_line h t (line_of c.args.text.now) cause c.args.self.now _ was refl refl refl c.in_ok-self.ensures
+          c.in-Err-Cause.ensures.unchanged
           (subst (λ (l : Line). Judges h t.book l (verdict.Refused cause))
           (ap Content c.without_return.ensures ∙ sym (line_of-short c.args.text.now c.if-text-gt-MOST_BYTES.false))
           (subst (LineRefused h t.book (Content c.without_return.result.now)) c.in-Err-Cause.field-0-is
