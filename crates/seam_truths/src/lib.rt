@@ -1,0 +1,29 @@
+//! Ghosts are true, over every list of events.
+//!
+//! Each copy of an entity, in a cell's book or on its way there, is what others may see of the state that the entity's real had at the
+//! copy's version (BigWorld Server Overview: a ghost is a copy of the relevant data of an entity from a nearby cell). What was told is a
+//! table from beats to copies, which only grows at its end along the events; copies that were there at the start keep their places in it.
+//!
+//! Crates above cite these modules of `proofs`: `Steps` (each move is one of those of what ghosts are told), `Making` (what a move makes
+//! of the real, and what it writes and sends), `Present` (what others may see now), `Telling` (an event, and every list of events).
+#![tactic(auto)]
+
+ghost use Rattle.std.specs.Prelude.{◌≡◌, ℕ, ◌<◌, ◌≤◌, List, length, Some};
+ghost use Rattle.seam_machine.specs.Nets.{LeadsTo};
+ghost use Rattle.seam_machine.specs.declared.machines.Event.{Event};
+ghost use Rattle.seam_flows.specs.Newest.{AllBring};
+ghost use Rattle.seam_call.specs.declared.shown.GhostCopy.{GhostCopy};
+ghost use Rattle.seam_steps.specs.Nodes.{World, node_steps, node_has_work};
+ghost use Rattle.seam_moves.specs.Frames.{Frame};
+ghost use Rattle.seam_moves.specs.Sights.{entity_flow};
+ghost use Rattle.seam_ones.specs.Ones.{IsFrame, IsSpared, HasOne};
+ghost use Rattle.seam_truths.specs.Entries.{book_entry};
+ghost use Rattle.seam_truths.specs.Truths.{IsTable, IsTrue};
+
+/// Where the copies of an entity are those of a table at the start, they are those of one after every list of events. It is the same for
+/// the beats of the start; for each later one it has what others may see of the state that the real had at the copy's version.
+pub fn ghosts_are_true()
+    ensures { (f : Frame) (e ty : ℕ) (w v : World) (es : List Event) → IsFrame f → ty < length f.defs → (h : HasOne f e ty w) →
+        IsSpared e w → h.real.public ≤ h.real.version → (first : ℕ → GhostCopy) → IsTable e w h.real first →
+        LeadsTo node_has_work node_steps w es v → IsTrue f e ty h.real first v }
+{}
