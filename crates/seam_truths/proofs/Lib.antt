@@ -2,3 +2,4 @@ pub mod Steps
 pub mod Making
 pub mod Present
 pub mod Telling
+pub mod Books

@@ -27,3 +27,16 @@ pub fn ghosts_are_true()
         IsSpared e w → h.real.public ≤ h.real.version → (first : ℕ → GhostCopy) → IsTable e w h.real first →
         LeadsTo node_has_work node_steps w es v → IsTrue f e ty h.real first v }
 {}
+
+/// A book's beat of an entity never falls, over drops of the copy too; so of two copies of it in a cell the later one is never of an older
+/// version. Since the world after the events has a table too, it is so between any two moments.
+pub fn copies_never_grow_older()
+    ensures beats { (f : Frame) (e ty : ℕ) (w v : World) (es : List Event) → IsFrame f → ty < length f.defs → (h : HasOne f e ty w) →
+        IsSpared e w → h.real.public ≤ h.real.version → (first : ℕ → GhostCopy) → IsTable e w h.real first →
+        LeadsTo node_has_work node_steps w es v → (k : ℕ) →
+        (book_entry ((entity_flow e w).slot k)).0 ≤ (book_entry ((entity_flow e v).slot k)).0 }
+    ensures versions { (f : Frame) (e ty : ℕ) (w v : World) (es : List Event) → IsFrame f → ty < length f.defs → (h : HasOne f e ty w) →
+        IsSpared e w → h.real.public ≤ h.real.version → (first : ℕ → GhostCopy) → IsTable e w h.real first →
+        LeadsTo node_has_work node_steps w es v → (k : ℕ) (c d : GhostCopy) → (book_entry ((entity_flow e w).slot k)).1 ≡ Some c →
+        (book_entry ((entity_flow e v).slot k)).1 ≡ Some d → c.version ≤ d.version }
+{}
