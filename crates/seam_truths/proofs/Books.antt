@@ -21,23 +21,9 @@ use Rattle.seam_truths.specs.Entries.{Entry, book_entry}
 use Rattle.seam_truths.specs.GhostMoves.{GhostMoves}
 use Rattle.seam_truths.specs.GhostMoves as ghost
 use Rattle.seam_truths.specs.Truths.{IsTable, IsTrue}
+use Rattle.seam_truths.proofs.Greater.{greater_up}
 use Rattle.seam_truths.proofs.Steps.{ghost_moves}
 use Rattle.seam_truths.proofs.Telling.{true_happens}
-
-greater_up_by : (a : Entry) (p : Entry) (t : Bool) → ltb a.0 p.0 ≡ t → a.0 ≤ (cond t p a).0
-greater_up_by a p true is = let lt : a.0 < p.0 = grind (arith, nat_tests) in omega (arith, lt)
-greater_up_by a p false is = omega arith
-
-greater_up : (a p : Entry) → a.0 ≤ (greater_entry a (Some p)).0
-greater_up a p = greater_up_by a p (ltb a.0 p.0) refl
-
--- an entry comes to the book: it has at least its beat then
-greater_has_by : (a : Entry) (p : Entry) (t : Bool) → ltb a.0 p.0 ≡ t → p.0 ≤ (cond t p a).0
-greater_has_by a p true is = omega arith
-greater_has_by a p false is = let le : p.0 ≤ a.0 = grind (arith, nat_tests) in omega (arith, le)
-
-pub greater_has : (a p : Entry) → p.0 ≤ (greater_entry a (Some p)).0
-greater_has a p = greater_has_by a p (ltb a.0 p.0) refl
 
 module _ (f : Frame) (e k : ℕ) (s : Has) (i : Option Msg) (t : Has) (sent : List (ℕ × Msg)) where
   kept : book_entry t ≡ book_entry s → (book_entry s).0 ≤ (book_entry t).0

@@ -1,9 +1,10 @@
 -- What a move makes of the real, and what it writes and sends to books.
-use Rattle.std.proofs.Common.{◌≡◌, ℕ, ◌+◌, ◌⊎◌, Bool, true, false, ltb, cond, eqb, ◌||◌, List, [], ◌∷◌, ◌++◌, Option, None, Some, refl, sym, ap, ◌∙◌}
+use Rattle.std.proofs.Common.{◌≡◌, ℕ, ◌+◌, ◌≤◌, ◌⊎◌, Bool, true, false, ltb, cond, eqb, ◌||◌, List, [], ◌∷◌, ◌++◌, Option, None, Some, refl, sym, ap, ◌∙◌}
 use Rattle.std.proofs.Common.{subst, inl, inr}
 use Rattle.std.specs.Prelude.{filter_map}
 use Rattle.std.specs.List.{AllByRecursion}
 use Rattle.std.specs.FinSet as set
+use Rattle.std.proofs.lemmas.Bool.{eqb-true, eqb-false}
 use Rattle.seam_tree.specs.Cells.{Cells}
 use Rattle.seam_machine.specs.Sends.{items_to}
 use Rattle.seam_defs.specs.declared.flags.Part.TheVariants as part
@@ -35,6 +36,7 @@ use Rattle.seam_truths.specs.GhostMoves.{Executes, nothing, executes, haunts_sta
 use Rattle.seam_truths.specs.GhostMoves.{left_entry, GhostMoves}
 use Rattle.seam_truths.specs.GhostMoves as ghost
 use Rattle.seam_truths.specs.Truths.{shown_at}
+use Rattle.seam_truths.proofs.Greater.{greater_has}
 
 -- ---- what became of the real
 
@@ -145,6 +147,35 @@ ghosts_fresh f P k q j haunts changed some none =
     ghost_by P (q.beat + 1) (copy_of_real (here_at f k) q) some none ((eqb x k) || (eqb x j)) x q.entity (set.contains haunts x)
     (set.contains q.haunts x) changed p is) cell_numbers
 
+-- ---- a cell tells itself nothing
+
+item_by : (k : ℕ) (p : ℕ × Msg) (ms : List Msg) (t : Bool) → eqb p.0 k ≡ t → (p.0 ≡ k → ⊥) → ms ≡ [] → cond t (p.1 ∷ ms) ms ≡ []
+item_by k p ms true is apart more = absurd (apart (eqb-true p.0 k is))
+item_by k p ms false is apart more = more
+
+items_apart : (k : ℕ) (ps : List (ℕ × Msg)) → AllByRecursion (λ p. p.0 ≡ k → ⊥) ps → items_to k ps ≡ []
+items_apart k [] h = refl
+items_apart k (p ∷ ps) h = item_by k p (items_to k ps) (eqb p.0 k) refl h.0 (items_apart k ps h.1)
+
+addressed_to : (x : ℕ) (m : Option Msg) (p : ℕ × Msg) → told_unless false x m ≡ Some p → x ≡ p.0
+addressed_to x None p is = cc
+addressed_to x (Some m) p is = let is_same : (x, m) ≡ p = cc in ap (λ q. q.0) is_same
+
+not_own : (k j x : ℕ) (m : Option Msg) (p : ℕ × Msg) (a : Bool) → eqb x k ≡ a → told_unless (a || eqb x j) x m ≡ Some p → p.0 ≡ k → ⊥
+not_own k j x m p true h is at = cc
+not_own k j x m p false h is at = not_own_by (eqb x j) is
+  where
+    not_own_by : (b : Bool) → told_unless b x m ≡ Some p → ⊥
+    not_own_by true is = cc
+    not_own_by false is = eqb-false x k h (addressed_to x m p is ∙ at)
+
+none_here : (f : Frame) (k : ℕ) (q : RealView) (j : ℕ) (haunts : Cells) (changed : Bool) →
+    items_to k (ghost_messages (here_at f k) q j haunts changed) ≡ []
+none_here f k q j haunts changed =
+    items_apart k (ghost_messages (here_at f k) q j haunts changed)
+    (chosen_all (λ p. p.0 ≡ k → ⊥) (ghost_message (here_at f k) q j haunts changed)
+    (λ x p is. not_own k j x _ p (eqb x k) refl is) cell_numbers)
+
 module _ (f : Frame) (e k : ℕ) (s : Has) (i : Option Msg) (t : Has) (sent : List (ℕ × Msg)) (out : ℕ → List Msg)
     (items : (j : ℕ) → out j ≡ items_to j sent) where
   abbrev pub Does_it : Type 0
@@ -152,8 +183,8 @@ module _ (f : Frame) (e k : ℕ) (s : Has) (i : Option Msg) (t : Has) (sent : Li
 
   abbrev pub TellsBy : Does_it → Type 0
   TellsBy (still a b c) = Makes NoEntry s i t out
-  TellsBy (turns r q a b c d o) = Tells f r q s i t out
-  TellsBy (lands r q a b c o) = (q ≡ r) × Makes NoEntry s i t out
+  TellsBy (turns r q a b c d o) = Tells f r q s i t out × AllBring brings NoEntry (out k)
+  TellsBy (lands r q a b c o) = (q ≡ r) × Makes NoEntry s i t out × (r.beat ≤ (book_entry t).0)
   TellsBy (leaves r q to a b c d o) = Tells f r q s i t out
   TellsBy (relays r q to a b c o) = ⊥
 
@@ -189,7 +220,10 @@ module _ (f : Frame) (e k : ℕ) (s : Has) (i : Option Msg) (t : Has) (sent : Li
     turns r (settled_to q (haunts_staying f k q) q.beat q.generation) has real
         (inr (settled_did f r q changed (haunts_staying f k q) q.beat q.generation acts)) (none_carried i none)
         (sends_none (subst (IsSilent real_of) (sym z) tt)),
-    silent (executes_beat f r q changed acts) (makes_none (subst (IsSilent brings) (sym z) tt) (inl book)),
+    (
+      silent (executes_beat f r q changed acts) (makes_none (subst (IsSilent brings) (sym z) tt) (inl book)),
+      all_sent NoEntry (subst (AllByRecursion (λ p. Brings NoEntry p.1)) (sym z) tt) k,
+    ),
   )
   stays_by r q changed (m ∷ ms) is none has acts real book z =
       let after = settled_to q (haunts_staying f k q) (q.beat + 1) q.generation in
@@ -200,11 +234,15 @@ module _ (f : Frame) (e k : ℕ) (s : Has) (i : Option Msg) (t : Has) (sent : Li
             (inr (settled_did f r q changed (haunts_staying f k q) (q.beat + 1) q.generation acts)) (none_carried i none)
             (sends_none (subst (IsSilent real_of) (is ∙ sym z)
             (ghosts_silent real_of reals_unseen (here_at f k) q k (haunts_staying f k q) changed))),
-        fresh (ap (λ n. n + 1) (executes_beat f r q changed acts))
-            (record {
-              book = inl book;
-              sent = all_sent (IsFresh f after) (subst (AllByRecursion (λ p. Brings (IsFresh f after) p.1)) (is ∙ sym z) all);
-            }),
+        (
+          fresh (ap (λ n. n + 1) (executes_beat f r q changed acts))
+              (record {
+                book = inl book;
+                sent = all_sent (IsFresh f after) (subst (AllByRecursion (λ p. Brings (IsFresh f after) p.1)) (is ∙ sym z) all);
+              }),
+          subst (AllBring brings NoEntry)
+              (sym (items k ∙ (ap (items_to k) (z ∙ sym is) ∙ none_here f k q k (haunts_staying f k q) changed))) tt,
+        ),
       )
 
   kept_copy : (b : Bool) (c d : GhostCopy) → copy_if b c ≡ Some d → d ≡ c
@@ -258,14 +296,18 @@ module _ (f : Frame) (e k : ℕ) (s : Has) (i : Option Msg) (t : Has) (sent : Li
   told_of spared (ghost.rests none real book z) = nothing_told real (none_carried i none) z (inl book)
   told_of spared (ghost.touches r q none has real alike account book z) = (
     turns r q has real (inr (same alike.entity alike.type account)) (none_carried i none) (sends_none (all_unseen sent z)),
-    silent alike.beat (makes_none z (inl book)),
+    (silent alike.beat (makes_none z (inl book)), all_sent NoEntry (none_brought NoEntry sent z) k),
   )
   told_of spared (ghost.misses m h none missed real book z) = nothing_told real (ap (carried_in real_of) h ∙ none) z (inl book)
   told_of spared (ghost.ignores n c r h has real book z) = nothing_told real (ap (carried_in real_of) h) z (inl book)
   told_of spared (ghost.hears p h none real book z) = nothing_told real none z (heard_book p h book)
   told_of spared (ghost.lands r h has real book z) = (
     lands r r (ap (carried_in real_of) h) real (inl refl) (sends_none (all_unseen sent z)),
-    (refl, makes_none z (heard_book (r.beat, None) (ap (entry_in brings) h) book)),
+    (
+      refl,
+      makes_none z (heard_book (r.beat, None) (ap (entry_in brings) h) book),
+      subst (λ p. r.beat ≤ p.0) (sym book) (greater_has (book_entry s) (r.beat, None)),
+    ),
   )
   told_of spared (ghost.stays r q changed none has acts real book z) =
       stays_by r q changed (told_staying f k q changed) refl none has acts real book z

@@ -142,7 +142,7 @@ module _ (f : Frame) (e ty : ℕ) (start : RealView) (first : ℕ → GhostCopy)
       TellsTo before (token_after m before)
   tells_by (still a b c) made = silent refl made
   tells_by (turns r q a b c d o) made =
-      subst (λ y. TellsTo y q) (sole_here real_in real_of (entity_flow e w) x.one.has.place before r g.k x.one.has.one a).1 made
+      subst (λ y. TellsTo y q) (sole_here real_in real_of (entity_flow e w) x.one.has.place before r g.k x.one.has.one a).1 made.0
   tells_by (lands r q a b c o) made =
       let one = (sole_came real_in real_of g x.one.has.place before r x.one.has.one a).2 in
       silent (ap (λ y. y.beat) (made.0 ∙ one)) made.1
@@ -229,6 +229,16 @@ module _ (f : Frame) (e ty : ℕ) (start : RealView) (first : ℕ → GhostCopy)
   pub true_after : IsTrue f e ty start first next
   true_after = true_by (tells_by h.0 h.1)
 
+  place_by : (told : TellsTo before after) → (true_by told).one.has.place ≡ place_after g.k h.0 x.one.has.place
+  unfolding true_by
+  place_by (silent beat made) = refl
+  place_by (fresh beat made) = refl
+
+  -- and the real is where the move put it
+  pub place_then : true_after.one.has.place ≡ place_after g.k h.0 x.one.has.place
+  unfolding true_after
+  place_then = place_by (tells_by h.0 h.1)
+
 -- ---- an event, and every list of events
 
 module _ (f : Frame) (frame : IsFrame f) (e ty : ℕ) (known : ty < length f.defs) (start : RealView) (first : ℕ → GhostCopy) where
@@ -272,3 +282,9 @@ true_first f e ty w h first low told = record {
   true_copies = λ b lo hi. absurd (omega (arith, lo, hi));
   present = present_first f h.real low;
 }
+
+pub first_place : (f : Frame) (e ty : ℕ) (w : World) (h : HasOne f e ty w) (first : ℕ → GhostCopy)
+    (low : h.real.public ≤ h.real.version) (told : IsTable e w h.real first) →
+    (true_first f e ty w h first low told).one.has.place ≡ h.place
+unfolding true_first
+first_place f e ty w h first low told = refl

@@ -4,6 +4,7 @@ use Rattle.seam_defs.specs.declared.states.State.{State}
 use Rattle.seam_defs.specs.Deeds.{ghost_of}
 use Rattle.seam_defs.specs.Types.{type_of}
 use Rattle.seam_flows.specs.Newest.{AllBring}
+use Rattle.seam_flows.specs.Tokens.{Place, In, On}
 use Rattle.seam_call.specs.declared.call.Call.{Call}
 use Rattle.seam_call.specs.declared.shown.GhostCopy.{GhostCopy}
 use Rattle.seam_entity.specs.Reals.{RealView}
@@ -50,3 +51,8 @@ pub record IsTrue (f : Frame) (e ty : ℕ) (start : RealView) (first : ℕ → G
   pub true_copies : (b : ℕ) → start.beat < b → b ≤ one.has.real.beat → IsTrueCopy f start one.replays.further (table b)
   -- what others may see of the real now is true, too
   pub present : IsTrueCopy f start one.replays.further (shown_at f one.has.real.ty one.has.real.public one.has.real.state)
+
+-- where the real is in a cell, nothing on its way there has a beat above that of the cell's book
+abbrev pub IsHushed : ℕ → World → Place → Type 0
+IsHushed e w (In k) = (a : ℕ) → AllBring brings (λ p. p.0 ≤ (book_entry ((entity_flow e w).slot k)).0) ((entity_flow e w).mail a k)
+IsHushed e w (On a b) = Unit {0}

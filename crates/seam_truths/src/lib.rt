@@ -11,14 +11,15 @@
 ghost use Rattle.std.specs.Prelude.{◌≡◌, ℕ, ◌<◌, ◌≤◌, List, length, Some};
 ghost use Rattle.seam_machine.specs.Nets.{LeadsTo};
 ghost use Rattle.seam_machine.specs.declared.machines.Event.{Event};
-ghost use Rattle.seam_flows.specs.Newest.{AllBring};
+ghost use Rattle.seam_flows.specs.Tokens.{In};
 ghost use Rattle.seam_call.specs.declared.shown.GhostCopy.{GhostCopy};
+ghost use Rattle.seam_entity.specs.Reals.{RealView};
 ghost use Rattle.seam_steps.specs.Nodes.{World, node_steps, node_has_work};
 ghost use Rattle.seam_moves.specs.Frames.{Frame};
 ghost use Rattle.seam_moves.specs.Sights.{entity_flow};
-ghost use Rattle.seam_ones.specs.Ones.{IsFrame, IsSpared, HasOne};
+ghost use Rattle.seam_ones.specs.Ones.{real_in, IsFrame, IsSpared, HasOne};
 ghost use Rattle.seam_truths.specs.Entries.{book_entry};
-ghost use Rattle.seam_truths.specs.Truths.{IsTable, IsTrue};
+ghost use Rattle.seam_truths.specs.Truths.{IsTable, IsTrue, IsHushed};
 
 /// Where the copies of an entity are those of a table at the start, they are those of one after every list of events. It is the same for
 /// the beats of the start; for each later one it has what others may see of the state that the real had at the copy's version.
@@ -39,4 +40,13 @@ pub fn copies_never_grow_older()
         IsSpared e w → h.real.public ≤ h.real.version → (first : ℕ → GhostCopy) → IsTable e w h.real first →
         LeadsTo node_has_work node_steps w es v → (k : ℕ) (c d : GhostCopy) → (book_entry ((entity_flow e w).slot k)).1 ≡ Some c →
         (book_entry ((entity_flow e v).slot k)).1 ≡ Some d → c.version ≤ d.version }
+{}
+
+/// What comes to the cell where the real is has no newer beat than the book there, so that a copy that comes there may be ignored. It is so
+/// after every list of events where it is so at the start, as it is where nothing is on its way.
+pub fn no_news_comes_to_the_real()
+    ensures { (f : Frame) (e ty : ℕ) (w v : World) (es : List Event) → IsFrame f → ty < length f.defs → (h : HasOne f e ty w) →
+        IsSpared e w → h.real.public ≤ h.real.version → (first : ℕ → GhostCopy) → IsTable e w h.real first → IsHushed e w h.place →
+        LeadsTo node_has_work node_steps w es v → (k : ℕ) (r : RealView) → real_in ((entity_flow e v).slot k) ≡ Some r →
+        IsHushed e v (In k) }
 {}
