@@ -5,3 +5,4 @@ pub mod Present
 pub mod Telling
 pub mod Books
 pub mod Hushing
+pub mod ExampleTable

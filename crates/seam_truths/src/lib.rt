@@ -15,6 +15,7 @@ ghost use Rattle.seam_flows.specs.Tokens.{In};
 ghost use Rattle.seam_call.specs.declared.shown.GhostCopy.{GhostCopy};
 ghost use Rattle.seam_entity.specs.Reals.{RealView};
 ghost use Rattle.seam_steps.specs.Nodes.{World, node_steps, node_has_work};
+ghost use Rattle.seam_steps.specs.EarlyCall as early;
 ghost use Rattle.seam_moves.specs.Frames.{Frame};
 ghost use Rattle.seam_moves.specs.Sights.{entity_flow};
 ghost use Rattle.seam_ones.specs.Ones.{real_in, IsFrame, IsSpared, HasOne};
@@ -49,4 +50,12 @@ pub fn no_news_comes_to_the_real()
         IsSpared e w → h.real.public ≤ h.real.version → (first : ℕ → GhostCopy) → IsTable e w h.real first → IsHushed e w h.place →
         LeadsTo node_has_work node_steps w es v → (k : ℕ) (r : RealView) → real_in ((entity_flow e v).slot k) ≡ Some r →
         IsHushed e v (In k) }
+{}
+
+/// What these laws ask is true of the loaded world of two cells of `seam_ones`, whose entity is handed over: no cell has a copy, and nothing
+/// is on its way. Each table whose first copy has version 0 is one of it.
+pub fn a_loaded_world_has_a_table()
+    ensures table { (table : ℕ → GhostCopy) → (table 0).version ≤ 0 → IsTable 1 early.world_0 early.made table }
+    ensures public { early.made.public ≤ early.made.version }
+    ensures hushed { IsHushed 1 early.world_0 (In 0) }
 {}
