@@ -1,5 +1,5 @@
 -- A loaded world has the table that the laws ask for: no cell has a copy, and nothing is on its way.
-use Rattle.std.proofs.Common.{◌≡◌, ℕ, ◌<◌, ◌≤◌, List, [], ◌∷◌, Option, None, Some, refl, sym, ap, ◌∙◌}
+use Rattle.std.proofs.Common.{◌≡◌, ℕ, ◌≤◌, Option, None, refl, sym, ap, ◌∙◌}
 use Rattle.std.proofs.Common.{subst, arith}
 use Rattle.std.specs.Ordering.{nat_cmp}
 use Rattle.std.specs.FinMap as table
@@ -9,10 +9,10 @@ use Rattle.seam_flows.specs.Newest.{AllBring}
 use Rattle.seam_flows.specs.Tokens.{In}
 use Rattle.seam_call.specs.declared.shown.GhostCopy.{GhostCopy}
 use Rattle.seam_steps.specs.EarlyCall.{made, world_0}
-use Rattle.seam_moves.specs.Sights.{Has, has_of, has_none, entity_flow}
+use Rattle.seam_moves.specs.Sights.{Has, has_of, entity_flow}
 use Rattle.seam_ones.proofs.ExampleMet.{EachFrom, node_0, node_16, node_17, each_node, nodes_of, slots, no_mail}
 use Rattle.seam_truths.specs.Entries.{Entry, brings, book_entry}
-use Rattle.seam_truths.specs.Truths.{shown_at, IsOfTable, IsTable, IsHushed}
+use Rattle.seam_truths.specs.Truths.{IsOfTable, IsTable, IsHushed}
 
 abbrev HasNoCopy : ℕ → Has → Type 0
 HasNoCopy k s = book_entry s ≡ (0, None)
@@ -29,7 +29,8 @@ nothing_heard e = table.get-empty nat_cmp e
 no_copies : EachFrom (λ k s. HasNoCopy k (has_of 1 s)) 0 world_0.nodes
 unfolding world_0
 no_copies =
-    nodes_of (λ k s. HasNoCopy k (has_of 1 s)) node_0 node_16 node_17 (none_heard _ (nothing_heard 1)) (λ k low. none_heard _ (nothing_heard 1)) refl refl
+    nodes_of (λ k s. HasNoCopy k (has_of 1 s)) node_0 node_16 node_17 (none_heard _ (nothing_heard 1))
+    (λ k low. none_heard _ (nothing_heard 1)) refl refl
 
 pub no_copy : (k : ℕ) → book_entry ((entity_flow 1 world_0).slot k) ≡ (0, None)
 no_copy = slots HasNoCopy 1 world_0 (each_node (λ k s. HasNoCopy k (has_of 1 s)) world_0.nodes no_copies) (λ k. refl)

@@ -1,5 +1,5 @@
 -- An entry that comes to a book.
-use Rattle.std.proofs.Common.{ℕ, ◌≡◌, ◌≤◌, ◌<◌, Bool, true, false, ltb, cond, Some, refl, arith}
+use Rattle.std.proofs.Common.{◌≡◌, ◌≤◌, ◌<◌, Bool, true, false, ltb, cond, Some, refl, arith}
 use Rattle.std.proofs.lemmas.Bool.Decides.{nat_tests}
 use Rattle.seam_flows.specs.Newest.{greater_entry}
 use Rattle.seam_truths.specs.Entries.{Entry}

@@ -1,5 +1,5 @@
 -- What comes to the cell where the real is has no newer beat than the book there.
-use Rattle.std.proofs.Common.{◌≡◌, ℕ, ◌+◌, ◌<◌, ◌≤◌, true, List, [], ◌∷◌, length, Option, None, Some, refl, sym, ap, ◌∙◌}
+use Rattle.std.proofs.Common.{◌≡◌, ℕ, ◌<◌, ◌≤◌, true, List, [], ◌∷◌, length, Option, None, Some, refl, sym, ap}
 use Rattle.std.proofs.Common.{subst, inl, inr, arith}
 use Rattle.std.proofs.lemmas.Bool.{cases_eq}
 use Rattle.std.specs.List.{AllByRecursion}
@@ -11,7 +11,7 @@ use Rattle.seam_runs.proofs.Runs.{leads_keeps}
 use Rattle.seam_flows.specs.Flows.{Goes, comes}
 use Rattle.seam_flows.specs.Newest.{OfEntry, AllBring}
 use Rattle.seam_flows.specs.Tokens.{Place, In, On, Sole, still, turns, lands, leaves, relays, place_after}
-use Rattle.seam_flows.proofs.Following.{letters_kept, slots_kept}
+use Rattle.seam_flows.proofs.Following.{letters_kept}
 use Rattle.seam_flows.proofs.TokenLemmas.{sole_here, sole_came}
 use Rattle.seam_call.specs.declared.shown.GhostCopy.{GhostCopy}
 use Rattle.seam_entity.specs.Reals.{RealView}
@@ -19,12 +19,12 @@ use Rattle.seam_entity.specs.declared.message.Msg.{Msg}
 use Rattle.seam_steps.specs.Nodes.{World, node_steps, node_has_work}
 use Rattle.seam_moves.specs.Frames.{Frame}
 use Rattle.seam_moves.specs.Sights.{Has, entity_flow}
-use Rattle.seam_ones.specs.Ones.{real_in, real_of, IsSpared, AllFits, IsFrame}
+use Rattle.seam_ones.specs.Ones.{real_in, real_of, IsSpared, IsFrame}
 use Rattle.seam_ones.proofs.OneReal.{goes, room, one_happens, calm_of, spared_happens}
 use Rattle.seam_truths.specs.Entries.{Entry, brings, book_entry}
 use Rattle.seam_truths.specs.Truths.{IsOfTable, IsTrue, IsHushed}
 use Rattle.seam_truths.proofs.Steps.{ghost_moves}
-use Rattle.seam_truths.proofs.Making.{NoEntry, Does_it, TellsBy, Handled, told_of}
+use Rattle.seam_truths.proofs.Making.{NoEntry, Does_it, TellsBy, told_of}
 use Rattle.seam_truths.proofs.Telling.{true_after, place_then}
 use Rattle.seam_truths.proofs.Books.{book_rises}
 

@@ -1,5 +1,6 @@
 -- What a move makes of the real, and what it writes and sends to books.
-use Rattle.std.proofs.Common.{◌≡◌, ℕ, ◌+◌, ◌≤◌, ◌⊎◌, Bool, true, false, ltb, cond, eqb, ◌||◌, List, [], ◌∷◌, ◌++◌, Option, None, Some, refl, sym, ap, ◌∙◌}
+use Rattle.std.proofs.Common.{◌≡◌, ℕ, ◌+◌, ◌≤◌, ◌⊎◌, Bool, true, false, ltb, cond, eqb, ◌||◌}
+use Rattle.std.proofs.Common.{List, [], ◌∷◌, ◌++◌, Option, None, Some, refl, sym, ap, ◌∙◌}
 use Rattle.std.proofs.Common.{subst, inl, inr}
 use Rattle.std.specs.Prelude.{filter_map}
 use Rattle.std.specs.List.{AllByRecursion}
@@ -32,7 +33,8 @@ use Rattle.seam_ones.proofs.Handling.{reals_unseen}
 use Rattle.seam_ones.proofs.Plain.{ghosts_silent}
 use Rattle.seam_ones.proofs.Sparing.{items_all}
 use Rattle.seam_truths.specs.Entries.{Entry, brings, book_entry}
-use Rattle.seam_truths.specs.GhostMoves.{Executes, nothing, executes, haunts_staying, haunts_going, told_staying, told_going, staying, going}
+use Rattle.seam_truths.specs.GhostMoves.{Executes, nothing, executes, haunts_staying, haunts_going}
+use Rattle.seam_truths.specs.GhostMoves.{told_staying, told_going, staying, going}
 use Rattle.seam_truths.specs.GhostMoves.{left_entry, GhostMoves}
 use Rattle.seam_truths.specs.GhostMoves as ghost
 use Rattle.seam_truths.specs.Truths.{shown_at}

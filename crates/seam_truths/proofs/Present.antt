@@ -1,5 +1,5 @@
 -- What others may see of the real is true, and stays so.
-use Rattle.std.proofs.Common.{◌≡◌, ℕ, ◌+◌, ◌-◌, ◌<◌, ◌≤◌, Bool, true, false, not, ◌&&◌, eqb, List, [], ◌∷◌, ◌++◌, length, take, refl, sym, ap, ◌∙◌}
+use Rattle.std.proofs.Common.{◌≡◌, ◌+◌, ◌-◌, ◌≤◌, Bool, true, false, not, ◌&&◌, eqb, List, [], ◌∷◌, ◌++◌, length, take, refl, sym, ap, ◌∙◌}
 use Rattle.std.proofs.Common.{subst, arith}
 use Rattle.std.proofs.lemmas.Bool.Decides.{Decides-int_eq, Decides-eqb}
 use Rattle.std.proofs.lemmas.Slice.Eq.{slice_eq-Decides, bytes_eq-Decides}
@@ -7,7 +7,6 @@ use Rattle.std.specs.Bool.{Decides}
 use Rattle.std.proofs.lemmas.List.{take-append-le, take_all, length-append}
 use Rattle.seam_value.specs.declared.values.Value.{Value}
 use Rattle.seam_value.specs.declared.values.Value.TheVariants.{Number, Text}
-use Rattle.seam_defs.specs.declared.flags.Part.{Part}
 use Rattle.seam_defs.specs.declared.flags.Part.TheVariants as part
 use Rattle.seam_defs.specs.declared.states.Deed.{Deed}
 use Rattle.seam_defs.specs.declared.states.State.{State}
@@ -22,7 +21,7 @@ use Rattle.seam_steps.specs.Reals.{public_after}
 use Rattle.seam_moves.specs.Frames.{Frame}
 use Rattle.seam_ones.specs.Replays.{Account, account_of, after_call, after_calls, Replays}
 use Rattle.seam_ones.proofs.Holds.{both}
-use Rattle.seam_truths.specs.Truths.{state_at, shown_at, IsTrueCopy}
+use Rattle.seam_truths.specs.Truths.{shown_at, IsTrueCopy}
 use Rattle.seam_truths.proofs.Making.{Did, same, one, did_calls}
 
 -- ---- states of which others see the same
@@ -118,7 +117,8 @@ module _ (f : Frame) (start : RealView) where
   true_last : (q : RealView) (p : Replays f start q) → q.public ≡ q.version → IsTrueCopy f start p.further (shown_of q)
   true_last q p last =
       let v = replay_version q p in
-      let all : take (q.public - start.version) p.further ≡ p.further = take_all (q.public - start.version) p.further (omega (arith, v, last)) in
+      let all : take (q.public - start.version) p.further ≡ p.further =
+      take_all (q.public - start.version) p.further (omega (arith, v, last)) in
       record {
         reached = omega (arith, v, last);
         is =

@@ -1,19 +1,14 @@
 -- Each move of a node is one of those of what ghosts are told.
-use Rattle.std.proofs.Common.{◌≡◌, ℕ, ◌+◌, ◌<◌, ◌≤◌, Bool, true, false, ltb, cond, List, [], ◌∷◌, map, Option, None, Some, refl, sym, ap, ◌∙◌}
+use Rattle.std.proofs.Common.{◌≡◌, ℕ, ◌+◌, ◌≤◌, Bool, true, false, ltb, cond, List, [], ◌∷◌, Option, None, Some, refl, sym, ap, ◌∙◌}
 use Rattle.std.proofs.Common.{subst, inl, inr, arith}
-use Rattle.std.specs.List.{range_with_len, AllByRecursion}
-use Rattle.std.specs.FinSet as set
+use Rattle.std.specs.List.{range_with_len}
 use Rattle.std.specs.FinMap as table
 use Rattle.seam_ghosts.specs.declared.Ghost.{Ghost}
 use Rattle.seam_ghosts.specs.Book.{beat_in, copy_in, ghost_after}
 use Rattle.seam_defs.specs.declared.flags.Part.{Part}
 use Rattle.seam_defs.specs.declared.flags.Part.TheVariants as part
-use Rattle.seam_defs.specs.declared.types.TypeDef.{TypeDef}
-use Rattle.seam_defs.specs.declared.states.Deed.{Deed}
 use Rattle.seam_defs.specs.Deeds.{part_of_deed}
 use Rattle.seam_defs.specs.Tests.{same_part}
-use Rattle.seam_order.specs.Held.{OrderView}
-use Rattle.seam_order.specs.Offers.{next_item}
 use Rattle.seam_flows.specs.Newest.{entry_in, greater_entry}
 use Rattle.seam_flows.specs.Sent.{IsSilent}
 use Rattle.seam_flows.specs.Tokens.{carried_in}
@@ -25,9 +20,9 @@ use Rattle.seam_entity.specs.declared.message.Msg.{Msg}
 use Rattle.seam_entity.specs.declared.message.Msg.TheVariants.{Call, BaseCall, Hand, Current, GhostSet, GhostDrop, Tick, Reap, Update}
 use Rattle.seam_steps.specs.Fitting.{can_do}
 use Rattle.seam_steps.specs.Here.{Here, cell_count, base_numbers, base_of, type_at}
-use Rattle.seam_steps.specs.Calls.{order_passes, order_is_ready, ready_order}
-use Rattle.seam_steps.specs.Reals.{fits_cell_part, may_call}
-use Rattle.seam_steps.specs.Slots.{Slot, SlotStep, slot_after, heard}
+use Rattle.seam_steps.specs.Calls.{order_passes, order_is_ready}
+use Rattle.seam_steps.specs.Reals.{fits_cell_part}
+use Rattle.seam_steps.specs.Slots.{SlotStep, slot_after}
 use Rattle.seam_steps.specs.CellCases.{current_to, is_stray, may_come}
 use Rattle.seam_steps.specs.BaseCases.{tick_to}
 use Rattle.seam_moves.specs.Frames.{Frame, here_at}

@@ -1,7 +1,7 @@
 -- Over every list of events the copies that were told are true.
-use Rattle.std.proofs.Common.{◌≡◌, ℕ, ◌+◌, ◌<◌, ◌≤◌, ◌⊎◌, Bool, true, false, ltb, cond, List, [], ◌∷◌, ◌++◌, length, Option, None, Some, refl, sym, ap, ◌∙◌}
+use Rattle.std.proofs.Common.{◌≡◌, ℕ, ◌+◌, ◌<◌, ◌≤◌, ◌⊎◌, true, false, ltb, cond, List, []}
+use Rattle.std.proofs.Common.{◌∷◌, ◌++◌, length, Option, None, Some, refl, sym, ap, ◌∙◌}
 use Rattle.std.proofs.Common.{subst, inl, inr, arith}
-use Rattle.std.specs.List.{AllByRecursion}
 use Rattle.std.proofs.lemmas.Bool.{cases_eq}
 use Rattle.std.proofs.lemmas.Bool.Decides.{nat_tests}
 use Rattle.seam_machine.specs.Nets.{happens, enabled, LeadsTo}
@@ -12,7 +12,7 @@ use Rattle.seam_machine.specs.Sends.{items_to}
 use Rattle.seam_runs.proofs.Runs.{leads_keeps}
 use Rattle.seam_flows.specs.Flows.{Goes, comes, letter_in}
 use Rattle.seam_flows.specs.Newest.{OfEntry, AllBring, entry_in}
-use Rattle.seam_flows.specs.Tokens.{Place, Sole, Turned, still, turns, lands, leaves, relays, place_after, token_after}
+use Rattle.seam_flows.specs.Tokens.{Turned, still, turns, lands, leaves, relays, place_after, token_after}
 use Rattle.seam_flows.proofs.Following.{slots_kept, letters_kept, came}
 use Rattle.seam_flows.proofs.TokenLemmas.{sole_here, sole_came, sole_goes, token_turns}
 use Rattle.seam_call.specs.declared.call.Call.{Call}
@@ -27,10 +27,10 @@ use Rattle.seam_ones.specs.Ones.{real_in, real_of, IsSpared, AllFits, IsFrame, H
 use Rattle.seam_ones.proofs.OneReal.{goes, room, one_happens, calm_of, spared_happens}
 use Rattle.seam_ones.specs.Replays.{account_of}
 use Rattle.seam_truths.specs.Entries.{Entry, brings, book_entry}
-use Rattle.seam_truths.specs.GhostMoves.{GhostMoves}
-use Rattle.seam_truths.specs.Truths.{shown_at, IsTrueCopy, IsOfTable, IsTable, IsTrue}
+use Rattle.seam_truths.specs.Truths.{IsTrueCopy, IsOfTable, IsTable, IsTrue}
 use Rattle.seam_truths.proofs.Steps.{ghost_moves}
-use Rattle.seam_truths.proofs.Making.{Did, same, one, did_calls, Brings, NoEntry, IsFresh, Makes, Tells, silent, fresh, Does_it, TellsBy, Handled, told_of}
+use Rattle.seam_truths.proofs.Making.{Did, same, did_calls, NoEntry, IsFresh, Makes, Tells}
+use Rattle.seam_truths.proofs.Making.{silent, fresh, Does_it, TellsBy, Handled, told_of}
 use Rattle.seam_truths.proofs.Present.{shown_of, true_more, replays_then, present_after, present_first}
 
 -- ---- a table with one beat more

@@ -1,5 +1,5 @@
 -- What a message brings to a cell's book of ghosts, and what the book has of the entity.
-use Rattle.std.specs.Prelude.{ℕ, ◌+◌, Option, None, Some}
+use Rattle.std.specs.Prelude.{ℕ, Option, None, Some}
 use Rattle.seam_ghosts.specs.Book.{beat_in, copy_in}
 use Rattle.seam_call.specs.declared.shown.GhostCopy.{GhostCopy}
 use Rattle.seam_entity.specs.declared.message.Msg.{Msg}

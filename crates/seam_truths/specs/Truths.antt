@@ -1,5 +1,5 @@
 -- Ghosts are true: each copy is what others may see of the state that its real had at the copy's version.
-use Rattle.std.specs.Prelude.{◌≡◌, ℕ, ◌+◌, ◌-◌, ◌<◌, ◌≤◌, List, length, take, Option, Some}
+use Rattle.std.specs.Prelude.{◌≡◌, ℕ, ◌+◌, ◌-◌, ◌<◌, ◌≤◌, List, length, take, Some}
 use Rattle.seam_defs.specs.declared.states.State.{State}
 use Rattle.seam_defs.specs.Deeds.{ghost_of}
 use Rattle.seam_defs.specs.Types.{type_of}

@@ -5,7 +5,11 @@
 //! table from beats to copies, which only grows at its end along the events; copies that were there at the start keep their places in it.
 //!
 //! Crates above cite these modules of `proofs`: `Steps` (each move is one of those of what ghosts are told), `Making` (what a move makes
-//! of the real, and what it writes and sends), `Present` (what others may see now), `Telling` (an event, and every list of events).
+//! of the real, and what it writes and sends), `Present` (what others may see now), `Telling` (an event, and every list of events), `Books`
+//! (the beats of books), `Hushing` (what comes to the cell of the real).
+//!
+//! That the newest entry of a cell is the one that the real wants, so that a quiet world is settled, and what a reap leaves of copies, are
+//! not said here.
 #![tactic(auto)]
 
 ghost use Rattle.std.specs.Prelude.{◌≡◌, ℕ, ◌<◌, ◌≤◌, List, length, Some};
@@ -52,8 +56,8 @@ pub fn no_news_comes_to_the_real()
         IsHushed e v (In k) }
 {}
 
-/// What these laws ask is true of the loaded world of two cells of `seam_ones`, whose entity is handed over: no cell has a copy, and nothing
-/// is on its way. Each table whose first copy has version 0 is one of it.
+/// What these laws ask is true of the loaded world of two cells of `seam_ones`, whose entity is handed over: no cell has a copy, and
+/// nothing is on its way. Each table whose first copy has version 0 is one of it.
 pub fn a_loaded_world_has_a_table()
     ensures table { (table : ℕ → GhostCopy) → (table 0).version ≤ 0 → IsTable 1 early.world_0 early.made table }
     ensures public { early.made.public ≤ early.made.version }
