@@ -118,8 +118,8 @@ module _ (defs : List TypeDef) (settings : Settings) (frame : IsFrame (first_fra
   peers : ArePeers node_peers w
   peers k d lt = (each_node k (slice_index_or w.nodes k d) (slice_get-get_or w.nodes k d lt)).peers ∙ sym many_is
 
-  none_by : (e k : ℕ) → real_in ((entity_flow e w).slot k) ≡ None
-  none_by e k = slots (λ j h. real_in h ≡ None) e w (λ j s at. (each_node j s at).none e) (λ j. refl) k
+  pub opened_has_none : (e k : ℕ) → real_in ((entity_flow e w).slot k) ≡ None
+  opened_has_none e k = slots (λ j h. real_in h ≡ None) e w (λ j s at. (each_node j s at).none e) (λ j. refl) k
 
   pub opened_between : IsBetweenRounds f w
   opened_between = record {
@@ -130,5 +130,5 @@ module _ (defs : List TypeDef) (settings : Settings) (frame : IsFrame (first_fra
     };
     many = many_is;
     quiet = quiet_from node_has_work w (no_link many many) (λ k s at. (each_node k s at).idle);
-    settled = λ e k r at. absurd (let z = sym (none_by e k) ∙ at in cc);
+    settled = λ e k r at. absurd (let z = sym (opened_has_none e k) ∙ at in cc);
   }

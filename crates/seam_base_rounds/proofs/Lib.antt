@@ -1,0 +1,4 @@
+pub mod PartLoads
+pub mod Loaded
+pub mod Turns
+pub mod Going

@@ -1,0 +1,64 @@
+//! Base parts from round to round: what the laws of calls to base parts ask of a loaded world is true of each that a fitting batch makes
+//! of one that keeps the record of base parts.
+//!
+//! `specs/Parts` has that record, a sentence for each of its fields, and what a batch brings to base parts. They stand beside the record
+//! between rounds and the fitting batch of `seam_between`; *MayBeLoaded* is both. These laws speak of each entity of the loaded world,
+//! whether it was there before or the batch creates it.
+//!
+//! Of `proofs/`, `PartLoads` (what a load makes of a base part at a node), `Loaded` (and in the world), `Turns` (its calls) and `Going`
+//! (every list of events) are for callers.
+#![tactic(auto)]
+
+ghost use Rattle.std.specs.Prelude.{◌≡◌, ℕ, List, Some};
+ghost use Rattle.seam_machine.specs.Nets.{IsQuiet, LeadsTo};
+ghost use Rattle.seam_machine.specs.declared.machines.Event.{Event};
+ghost use Rattle.seam_flows.specs.Flows.{letters_of};
+ghost use Rattle.seam_call.specs.declared.order.Batch.{Batch};
+ghost use Rattle.seam_entity.specs.Reals.{RealView};
+ghost use Rattle.seam_steps.specs.Bases.{PartView};
+ghost use Rattle.seam_steps.specs.Nodes.{World, node_steps, node_has_work};
+ghost use Rattle.seam_steps.specs.Loads.{loaded};
+ghost use Rattle.seam_moves.specs.Frames.{Frame};
+ghost use Rattle.seam_moves.specs.Sights.{entity_flow};
+ghost use Rattle.seam_ones.specs.Ones.{real_in};
+ghost use Rattle.seam_once.specs.CellTurns.{from_sender};
+ghost use Rattle.seam_between.specs.Between.{framed};
+ghost use Rattle.seam_base_calls.specs.BaseTurns.{home_of, HasBaseCalls, HasNoClient};
+ghost use Rattle.seam_base_calls.specs.Strays.{HasRoutes, NothingIsStray};
+ghost use Rattle.seam_base_rounds.specs.Parts.{next_to, base_calls_of, HasSettledPart, MayBeLoaded, IsAlone};
+
+/// Each entity of a loaded world has its base part, of its type, at its base node. The batch's calls to it are in turn, numbered from each
+/// sender's next number on (from 1 on where the batch creates it), fit it, and have room in its version; and each base node has a route to
+/// the entity. Where it had no client and the batch attaches none, it has none.
+pub fn a_base_part_of_a_loaded_world_is_ready()
+    ensures settled { (f : Frame) (w : World) (b : Batch) → MayBeLoaded f w b → (e k : ℕ) (r : RealView) →
+        real_in ((entity_flow e (loaded w b)).slot k) ≡ Some r → HasSettledPart (framed f b) e r.ty (loaded w b) }
+    ensures calls { (f : Frame) (w : World) (b : Batch) → MayBeLoaded f w b → (e k : ℕ) (r : RealView) →
+        real_in ((entity_flow e (loaded w b)).slot k) ≡ Some r → (p : PartView) →
+        ((entity_flow e (loaded w b)).slot (home_of f e)).base.part ≡ Some p →
+        HasBaseCalls (framed f b) e r.ty (λ s. next_to s p) (base_calls_of b e) (loaded w b) }
+    ensures routes { (f : Frame) (w : World) (b : Batch) → MayBeLoaded f w b → (e k : ℕ) (r : RealView) →
+        real_in ((entity_flow e (loaded w b)).slot k) ≡ Some r → HasRoutes (framed f b) e (loaded w b) }
+    ensures alone { (w : World) (b : Batch) (e : ℕ) → IsAlone e w b → HasNoClient e (loaded w b) }
+{}
+
+/// So each call of the batch to the base part of an entity without a client waits once, until it is executed, over every list of events;
+/// where the world is quiet again, all were executed, each sender's in the order of their numbers.
+pub fn base_calls_of_a_batch_are_executed_once()
+    ensures once { (f : Frame) (w : World) (b : Batch) → MayBeLoaded f w b → (e k : ℕ) (r : RealView) →
+        real_in ((entity_flow e (loaded w b)).slot k) ≡ Some r → IsAlone e w b → (p : PartView) →
+        ((entity_flow e (loaded w b)).slot (home_of f e)).base.part ≡ Some p → (v : World) (es : List Event) →
+        LeadsTo node_has_work node_steps (loaded w b) es v →
+        HasBaseCalls (framed f b) e r.ty (λ s. next_to s p) (base_calls_of b e) v }
+    ensures executed { (f : Frame) (w : World) (b : Batch) → MayBeLoaded f w b → (e k : ℕ) (r : RealView) →
+        real_in ((entity_flow e (loaded w b)).slot k) ≡ Some r → IsAlone e w b → (v : World) (es : List Event) →
+        LeadsTo node_has_work node_steps (loaded w b) es v → IsQuiet node_has_work v → (j : ℕ) (q : PartView) →
+        ((entity_flow e v).slot j).base.part ≡ Some q → (s : ℕ) → letters_of (from_sender s) q.done ≡ base_calls_of b e s }
+{}
+
+/// And nothing about such an entity is stray at a base node, over every list of events.
+pub fn nothing_about_a_loaded_entity_is_stray_at_a_base_node()
+    ensures { (f : Frame) (w : World) (b : Batch) → MayBeLoaded f w b → (e k : ℕ) (r : RealView) →
+        real_in ((entity_flow e (loaded w b)).slot k) ≡ Some r → IsAlone e w b → (v : World) (es : List Event) →
+        LeadsTo node_has_work node_steps (loaded w b) es v → NothingIsStray (framed f b) e v }
+{}
