@@ -2,3 +2,4 @@ pub mod PartLoads
 pub mod Loaded
 pub mod Turns
 pub mod Going
+pub mod CallsEnd

@@ -24,6 +24,7 @@ use Rattle.seam_once.specs.CellTurns.{from_sender, numbered_from}
 use Rattle.seam_between.specs.Between.{order_in, IsBetweenRounds, IsFitting}
 use Rattle.seam_base_calls.specs.PartMoves.{base_call_of}
 use Rattle.seam_base_calls.specs.BaseTurns.{home_of, HasNoClient}
+use Rattle.seam_base_calls.specs.Clients.{HasClient, HasRoomFor, HasToldAtMost}
 
 -- ---- the record
 
@@ -102,3 +103,9 @@ pub record MayBeLoaded (f : Frame) (w : World) (b : Batch) : Type 0 where
   pub parts : HasPartsBetweenRounds f w
   pub fits : IsFitting f w b
   pub brings : FitsParts f w b
+
+-- until v the lines that an entity's client is shown keep room: it has no client in w, or one whose witness has told at most n updates
+-- in v, for which there is room
+pub data LinesKeepRoom (f : Frame) (e ty : ℕ) (w v : World) : Type 0 where
+  no_client : HasNoClient e w → LinesKeepRoom f e ty w v
+  client : (update n : ℕ) → HasClient f e ty update w → HasRoomFor e n w → HasToldAtMost e n v → LinesKeepRoom f e ty w v

@@ -9,23 +9,27 @@
 //! (every list of events) are for callers.
 #![tactic(auto)]
 
-ghost use Rattle.std.specs.Prelude.{◌≡◌, ℕ, List, Some};
+ghost use Rattle.std.specs.Prelude.{◌≡◌, ℕ, ◌≤◌, List, Some};
 ghost use Rattle.seam_machine.specs.Nets.{IsQuiet, LeadsTo};
 ghost use Rattle.seam_machine.specs.declared.machines.Event.{Event};
 ghost use Rattle.seam_flows.specs.Flows.{letters_of};
+ghost use Rattle.seam_defs.specs.declared.settings.Settings.{Settings};
+ghost use Rattle.seam_defs.specs.declared.types.TypeDef.{TypeDef};
 ghost use Rattle.seam_call.specs.declared.order.Batch.{Batch};
 ghost use Rattle.seam_entity.specs.Reals.{RealView};
 ghost use Rattle.seam_steps.specs.Bases.{PartView};
 ghost use Rattle.seam_steps.specs.Nodes.{World, node_steps, node_has_work};
-ghost use Rattle.seam_steps.specs.Loads.{loaded};
+ghost use Rattle.seam_steps.specs.Loads.{opened, loaded};
 ghost use Rattle.seam_moves.specs.Frames.{Frame};
 ghost use Rattle.seam_moves.specs.Sights.{entity_flow};
-ghost use Rattle.seam_ones.specs.Ones.{real_in};
+ghost use Rattle.seam_ones.specs.Ones.{real_in, IsFrame};
 ghost use Rattle.seam_once.specs.CellTurns.{from_sender};
 ghost use Rattle.seam_between.specs.Between.{framed};
+ghost use Rattle.seam_rounds.specs.Rounds.{first_frame};
 ghost use Rattle.seam_base_calls.specs.BaseTurns.{home_of, HasBaseCalls, HasNoClient};
 ghost use Rattle.seam_base_calls.specs.Strays.{HasRoutes, NothingIsStray};
-ghost use Rattle.seam_base_rounds.specs.Parts.{next_to, base_calls_of, HasSettledPart, MayBeLoaded, IsAlone};
+ghost use Rattle.seam_base_rounds.specs.Parts.{next_to, base_calls_of, HasSettledPart, HasPartsBetweenRounds, MayBeLoaded, IsAlone};
+ghost use Rattle.seam_base_rounds.specs.Parts.{LinesKeepRoom};
 
 /// Each entity of a loaded world has its base part, of its type, at its base node. The batch's calls to it are in turn, numbered from each
 /// sender's next number on (from 1 on where the batch creates it), fit it, and have room in its version; and each base node has a route to
@@ -61,4 +65,14 @@ pub fn nothing_about_a_loaded_entity_is_stray_at_a_base_node()
     ensures { (f : Frame) (w : World) (b : Batch) → MayBeLoaded f w b → (e k : ℕ) (r : RealView) →
         real_in ((entity_flow e (loaded w b)).slot k) ≡ Some r → IsAlone e w b → (v : World) (es : List Event) →
         LeadsTo node_has_work node_steps (loaded w b) es v → NothingIsStray (framed f b) e v }
+{}
+
+/// The record of base parts holds of a world as it is opened, and again where a round's calls leave the world quiet.
+pub fn base_parts_go_from_record_to_record()
+    ensures opened { (defs : List TypeDef) (settings : Settings) → IsFrame (first_frame defs settings) → 1 ≤ settings.bases →
+        HasPartsBetweenRounds (first_frame defs settings) (opened defs settings) }
+    ensures calls { (f : Frame) (w : World) (b : Batch) → MayBeLoaded f w b → (v : World) (es : List Event) →
+        LeadsTo node_has_work node_steps (loaded w b) es v → IsQuiet node_has_work v →
+        ((e k : ℕ) (r : RealView) → real_in ((entity_flow e (loaded w b)).slot k) ≡ Some r →
+        LinesKeepRoom (framed f b) e r.ty (loaded w b) v) → HasPartsBetweenRounds (framed f b) v }
 {}

@@ -1,0 +1,11 @@
+use Rattle.std.proofs.Common.{sym, ◌∙◌}
+use Rattle.seam_rounds.proofs.Opened.{opened_has_none}
+use Rattle.seam_base_rounds.proofs.CallsEnd.{calls_end_with_parts}
+use Rattle.seam_base_rounds.proofs.base_parts_go_from_record_to_record.Goals as goal
+
+pub returns-clause-opened : goal.returns-clause-opened
+returns-clause-opened c = λ defs settings frame bases e k r at.
+    absurd (let z = sym (opened_has_none defs settings frame bases e k) ∙ at in cc)
+
+pub returns-clause-calls : goal.returns-clause-calls
+returns-clause-calls c = λ f w b may v es run quiet rooms. calls_end_with_parts f w b may v es run quiet rooms
