@@ -3,3 +3,5 @@ pub mod Loaded
 pub mod Turns
 pub mod Going
 pub mod CallsEnd
+pub mod Still
+pub mod Calms

@@ -37,11 +37,11 @@ use Rattle.seam_base_rounds.proofs.PartLoads.{SamePart, part_stays, part_made, p
 
 -- ---- what a load leaves of a part, in the world
 
-same_none : (o p : Option PartView) → SamePart o p → o ≡ None → p ≡ None
+pub same_none : (o p : Option PartView) → SamePart o p → o ≡ None → p ≡ None
 same_none None p k is = k
 same_none (Some a) p k is = absurd (let z = is in cc)
 
-same_some : (o p : Option PartView) → SamePart o p → (a : PartView) → o ≡ Some a →
+pub same_some : (o p : Option PartView) → SamePart o p → (a : PartView) → o ≡ Some a →
     (x : Option ProxyView) × (p ≡ Some (record a { proxy = x }))
 same_some None p k a is = absurd (let z = is in cc)
 same_some (Some q) p k a is =

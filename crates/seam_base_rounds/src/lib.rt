@@ -19,13 +19,13 @@ ghost use Rattle.seam_call.specs.declared.order.Batch.{Batch};
 ghost use Rattle.seam_entity.specs.Reals.{RealView};
 ghost use Rattle.seam_steps.specs.Bases.{PartView};
 ghost use Rattle.seam_steps.specs.Nodes.{World, node_steps, node_has_work};
-ghost use Rattle.seam_steps.specs.Loads.{opened, loaded};
+ghost use Rattle.seam_steps.specs.Loads.{opened, loaded, reaps_loaded, look_loaded};
 ghost use Rattle.seam_moves.specs.Frames.{Frame};
 ghost use Rattle.seam_moves.specs.Sights.{entity_flow};
 ghost use Rattle.seam_ones.specs.Ones.{real_in, IsFrame};
 ghost use Rattle.seam_once.specs.CellTurns.{from_sender};
-ghost use Rattle.seam_between.specs.Between.{framed};
-ghost use Rattle.seam_rounds.specs.Rounds.{first_frame};
+ghost use Rattle.seam_between.specs.Between.{framed, IsBetweenRounds};
+ghost use Rattle.seam_rounds.specs.Rounds.{first_frame, AreReapable};
 ghost use Rattle.seam_base_calls.specs.BaseTurns.{home_of, HasBaseCalls, HasNoClient};
 ghost use Rattle.seam_base_calls.specs.Strays.{HasRoutes, NothingIsStray};
 ghost use Rattle.seam_base_rounds.specs.Parts.{next_to, base_calls_of, HasSettledPart, HasPartsBetweenRounds, MayBeLoaded, IsAlone};
@@ -67,7 +67,8 @@ pub fn nothing_about_a_loaded_entity_is_stray_at_a_base_node()
         LeadsTo node_has_work node_steps (loaded w b) es v → NothingIsStray (framed f b) e v }
 {}
 
-/// The record of base parts holds of a world as it is opened, and again where a round's calls leave the world quiet.
+/// The record of base parts holds of a world as it is opened, and again where a round's calls leave the world quiet, then where the reaps
+/// do, and then where the looks do. (A client may be shown lines meanwhile: those keep room in a round's calls by a premise.)
 pub fn base_parts_go_from_record_to_record()
     ensures opened { (defs : List TypeDef) (settings : Settings) → IsFrame (first_frame defs settings) → 1 ≤ settings.bases →
         HasPartsBetweenRounds (first_frame defs settings) (opened defs settings) }
@@ -75,4 +76,9 @@ pub fn base_parts_go_from_record_to_record()
         LeadsTo node_has_work node_steps (loaded w b) es v → IsQuiet node_has_work v →
         ((e k : ℕ) (r : RealView) → real_in ((entity_flow e (loaded w b)).slot k) ≡ Some r →
         LinesKeepRoom (framed f b) e r.ty (loaded w b) v) → HasPartsBetweenRounds (framed f b) v }
+    ensures reaps { (f : Frame) (u : World) → IsBetweenRounds f u → HasPartsBetweenRounds f u → (es : List ℕ) → AreReapable u es →
+        (vs : List Event) (v : World) → LeadsTo node_has_work node_steps (reaps_loaded u es) vs v → IsQuiet node_has_work v →
+        HasPartsBetweenRounds f v }
+    ensures looks { (f : Frame) (u : World) → IsBetweenRounds f u → HasPartsBetweenRounds f u → (vs : List Event) (v : World) →
+        LeadsTo node_has_work node_steps (look_loaded u) vs v → HasPartsBetweenRounds f v }
 {}
