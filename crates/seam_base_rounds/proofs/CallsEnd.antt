@@ -29,14 +29,11 @@ use Rattle.seam_between.proofs.Loaded.{no_mail}
 use Rattle.seam_between.proofs.Going.{frame_loaded, Keeps, kept_after}
 use Rattle.seam_rounds.proofs.Shape.{Somewhere, Nowhere, search_real}
 use Rattle.seam_base_calls.specs.BaseTurns.{part_desk, as_base_sender, home_of, HasBaseCalls}
-use Rattle.seam_base_calls.proofs.AloneRuns.{alone_leads}
 use Rattle.seam_base_calls.proofs.BaseQuiet.{all_executed}
-use Rattle.seam_base_calls.proofs.ClientLeads.{both_leads}
 use Rattle.seam_base_rounds.specs.Parts.{next_to, base_calls_of, HasSettledPart, HasPartsBetweenRounds, MayBeLoaded}
-use Rattle.seam_base_rounds.specs.Parts.{LinesKeepRoom, no_client, client}
+use Rattle.seam_base_rounds.specs.Parts.{LinesKeepRoom}
 use Rattle.seam_base_rounds.proofs.Loaded.{LoadedPart}
-use Rattle.seam_base_rounds.proofs.Turns.{calls_loaded}
-use Rattle.seam_base_rounds.proofs.Going.{its_part}
+use Rattle.seam_base_rounds.proofs.Going.{its_part, calls_then}
 
 -- ---- in a quiet world a part whose calls are in turn is settled
 
@@ -109,13 +106,6 @@ module _ (f : Frame) (w : World) (b : Batch) (may : MayBeLoaded f w b) (v : Worl
     abbrev first : ℕ → ℕ
     first s = next_to s its.settled.part
 
-    calls_then : LinesKeepRoom g e r.ty (loaded w b) v → HasBaseCalls g e r.ty first (base_calls_of b e) v
-    calls_then (no_client alone) =
-        (alone_leads g e r.ty first (base_calls_of b e) (loaded w b) v es (calls_loaded f w b may e home r here its) alone run).calls
-    calls_then (client update n has room most) =
-        (both_leads g e r.ty first (base_calls_of b e) update n (loaded w b) v es
-        (record { calls = calls_loaded f w b may e home r here its; client = has }) room run most).calls
-
     -- its real keeps its type
     same_type : (k : ℕ) (q : RealView) → real_in ((entity_flow e v).slot k) ≡ Some q → r.ty ≡ q.ty
     same_type k q at =
@@ -130,7 +120,7 @@ module _ (f : Frame) (w : World) (b : Batch) (may : MayBeLoaded f w b) (v : Worl
         Somewhere e (loaded w b) ⊎ Nowhere e (loaded w b) → HasSettledPart g e q.ty v
     settled_by e k q at (inl p) =
         subst (λ t. HasSettledPart g e t v) (same_type e p.0 p.1 p.2 k q at)
-        (quiet_settled g e p.1.ty (first e p.0 p.1 p.2) (base_calls_of b e) v (calls_then e p.0 p.1 p.2 (rooms e p.0 p.1 p.2)) quiet)
+        (quiet_settled g e p.1.ty (first e p.0 p.1 p.2) (base_calls_of b e) v (calls_then f w b may e p.0 p.1 p.2 v es run (rooms e p.0 p.1 p.2)) quiet)
     settled_by e k q at (inr n) =
         let gone = gone_leads g (frame_loaded f w b may.between may.fits) e (loaded w b) v es (in_frame f w b may.between may.fits)
         (record { slots = n; mail = λ x y. ap (letters_of real_of) (no_mail f w b may.between may.fits e x y) }) run in

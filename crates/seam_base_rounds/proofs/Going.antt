@@ -16,11 +16,12 @@ use Rattle.seam_between.specs.Between.{framed}
 use Rattle.seam_between.proofs.Going.{frame_loaded, settled_loaded, one_loaded}
 use Rattle.seam_base_calls.specs.BaseTurns.{home_of, HasBaseCalls}
 use Rattle.seam_base_calls.specs.Strays.{NothingIsStray}
-use Rattle.seam_base_calls.proofs.AloneRuns.{Alone, alone_leads}
+use Rattle.seam_base_calls.proofs.AloneRuns.{alone_leads}
 use Rattle.seam_base_calls.proofs.BaseQuiet.{all_executed}
-use Rattle.seam_base_calls.proofs.StrayRuns.{alone_without_stray}
-use Rattle.seam_base_rounds.specs.Parts.{next_to, base_calls_of, MayBeLoaded, IsAlone}
-use Rattle.seam_base_rounds.proofs.Loaded.{LoadedPart, part_loaded, alone_loaded}
+use Rattle.seam_base_calls.proofs.StrayRuns.{alone_without_stray, client_without_stray}
+use Rattle.seam_base_calls.proofs.ClientLeads.{both_leads}
+use Rattle.seam_base_rounds.specs.Parts.{next_to, base_calls_of, MayBeLoaded, LinesKeepRoom, no_client, client}
+use Rattle.seam_base_rounds.proofs.Loaded.{LoadedPart, part_loaded}
 use Rattle.seam_base_rounds.proofs.Turns.{calls_loaded, routes_loaded}
 
 module _ (f : Frame) (w : World) (b : Batch) (may : MayBeLoaded f w b) (e k : ℕ) (r : RealView)
@@ -38,23 +39,44 @@ module _ (f : Frame) (w : World) (b : Batch) (may : MayBeLoaded f w b) (e k : �
       subst (λ (x : PartView). HasBaseCalls (framed f b) e r.ty (λ s. next_to s x) (base_calls_of b e) (loaded w b)) (part_is p at)
       (calls_loaded f w b may e k r here its_part)
 
-  module _ (alone : IsAlone e w b) (p : PartView) (at : ((entity_flow e (loaded w b)).slot (home_of f e)).base.part ≡ Some p) (v : World)
-      (es : List Event) (run : LeadsTo node_has_work node_steps (loaded w b) es v) where
-    pub alone_then : Alone (framed f b) e r.ty (λ s. next_to s p) (base_calls_of b e) v
-    alone_then =
-        alone_leads (framed f b) e r.ty (λ s. next_to s p) (base_calls_of b e) (loaded w b) v es (base_calls_loaded p at)
-        (alone_loaded w b e alone) run
+  module _ (v : World) (es : List Event) (run : LeadsTo node_has_work node_steps (loaded w b) es v)
+      (room : LinesKeepRoom (framed f b) e r.ty (loaded w b) v) where
+    abbrev g : Frame
+    g = framed f b
+
+    abbrev first : ℕ → ℕ
+    first s = next_to s its_part.settled.part
+
+    abbrev loaded_calls : HasBaseCalls g e r.ty first (base_calls_of b e) (loaded w b)
+    loaded_calls = calls_loaded f w b may e k r here its_part
+
+    calls_by : LinesKeepRoom g e r.ty (loaded w b) v → HasBaseCalls g e r.ty first (base_calls_of b e) v
+    calls_by (no_client alone) = (alone_leads g e r.ty first (base_calls_of b e) (loaded w b) v es loaded_calls alone run).calls
+    calls_by (client update n has keeps most) =
+        (both_leads g e r.ty first (base_calls_of b e) update n (loaded w b) v es (record { calls = loaded_calls; client = has }) keeps run
+        most).calls
+
+    pub calls_then : HasBaseCalls g e r.ty first (base_calls_of b e) v
+    calls_then = calls_by room
+
+    pub calls_once : (p : PartView) → ((entity_flow e (loaded w b)).slot (home_of f e)).base.part ≡ Some p →
+        HasBaseCalls g e r.ty (λ s. next_to s p) (base_calls_of b e) v
+    calls_once p at =
+        subst (λ (x : PartView). HasBaseCalls g e r.ty (λ s. next_to s x) (base_calls_of b e) v) (part_is p at) calls_then
 
     pub executed_then : IsQuiet node_has_work v → (j : ℕ) (q : PartView) → ((entity_flow e v).slot j).base.part ≡ Some q → (s : ℕ) →
         letters_of (from_sender s) q.done ≡ base_calls_of b e s
     executed_then quiet j q there s =
-        all_executed (framed f b) e v alone_then.calls.part.frame quiet (λ s. next_to s p) (base_calls_of b e) alone_then.calls.turns j q
-        there s
+        all_executed g e v calls_then.part.frame quiet first (base_calls_of b e) calls_then.turns j q there s
 
-  pub none_strays : IsAlone e w b → (v : World) (es : List Event) → LeadsTo node_has_work node_steps (loaded w b) es v →
-      NothingIsStray (framed f b) e v
-  none_strays alone v es run =
-      alone_without_stray (framed f b) e r.ty (λ s. next_to s its_part.settled.part) (base_calls_of b e) (loaded w b) v es
-      (calls_loaded f w b may e k r here its_part) (routes_loaded f w b may e k r here its_part) run
-      (frame_loaded f w b may.between may.fits) (settled_loaded f w b may.between may.fits e k r here).type
-      (one_loaded f w b may.between may.fits e k r here) (alone_loaded w b e alone)
+    strays_by : LinesKeepRoom g e r.ty (loaded w b) v → NothingIsStray g e v
+    strays_by (no_client alone) =
+        alone_without_stray g e r.ty first (base_calls_of b e) (loaded w b) v es loaded_calls (routes_loaded f w b may e k r here its_part)
+        run (frame_loaded f w b may.between may.fits) (settled_loaded f w b may.between may.fits e k r here).type
+        (one_loaded f w b may.between may.fits e k r here) alone
+    strays_by (client update n has keeps most) =
+        client_without_stray g e r.ty first (base_calls_of b e) (loaded w b) v es loaded_calls
+        (routes_loaded f w b may e k r here its_part) run update n has keeps most
+
+    pub none_strays : NothingIsStray g e v
+    none_strays = strays_by room

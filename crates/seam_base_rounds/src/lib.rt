@@ -46,25 +46,28 @@ pub fn a_base_part_of_a_loaded_world_is_ready()
     ensures alone { (w : World) (b : Batch) (e : ℕ) → IsAlone e w b → HasNoClient e (loaded w b) }
 {}
 
-/// So each call of the batch to the base part of an entity without a client waits once, until it is executed, over every list of events;
-/// where the world is quiet again, all were executed, each sender's in the order of their numbers.
+/// So each call of the batch to a base part waits once, until it is executed, over every list of events in which the lines of its client
+/// keep room, as they do where there is none; where the world is quiet again, all were executed, each sender's in the order of their
+/// numbers.
 pub fn base_calls_of_a_batch_are_executed_once()
     ensures once { (f : Frame) (w : World) (b : Batch) → MayBeLoaded f w b → (e k : ℕ) (r : RealView) →
-        real_in ((entity_flow e (loaded w b)).slot k) ≡ Some r → IsAlone e w b → (p : PartView) →
+        real_in ((entity_flow e (loaded w b)).slot k) ≡ Some r → (p : PartView) →
         ((entity_flow e (loaded w b)).slot (home_of f e)).base.part ≡ Some p → (v : World) (es : List Event) →
-        LeadsTo node_has_work node_steps (loaded w b) es v →
+        LeadsTo node_has_work node_steps (loaded w b) es v → LinesKeepRoom (framed f b) e r.ty (loaded w b) v →
         HasBaseCalls (framed f b) e r.ty (λ s. next_to s p) (base_calls_of b e) v }
     ensures executed { (f : Frame) (w : World) (b : Batch) → MayBeLoaded f w b → (e k : ℕ) (r : RealView) →
-        real_in ((entity_flow e (loaded w b)).slot k) ≡ Some r → IsAlone e w b → (v : World) (es : List Event) →
-        LeadsTo node_has_work node_steps (loaded w b) es v → IsQuiet node_has_work v → (j : ℕ) (q : PartView) →
-        ((entity_flow e v).slot j).base.part ≡ Some q → (s : ℕ) → letters_of (from_sender s) q.done ≡ base_calls_of b e s }
+        real_in ((entity_flow e (loaded w b)).slot k) ≡ Some r → (v : World) (es : List Event) →
+        LeadsTo node_has_work node_steps (loaded w b) es v → LinesKeepRoom (framed f b) e r.ty (loaded w b) v → IsQuiet node_has_work v →
+        (j : ℕ) (q : PartView) → ((entity_flow e v).slot j).base.part ≡ Some q → (s : ℕ) →
+        letters_of (from_sender s) q.done ≡ base_calls_of b e s }
 {}
 
-/// And nothing about such an entity is stray at a base node, over every list of events.
+/// And nothing about such an entity is stray at a base node, over every such list of events.
 pub fn nothing_about_a_loaded_entity_is_stray_at_a_base_node()
     ensures { (f : Frame) (w : World) (b : Batch) → MayBeLoaded f w b → (e k : ℕ) (r : RealView) →
-        real_in ((entity_flow e (loaded w b)).slot k) ≡ Some r → IsAlone e w b → (v : World) (es : List Event) →
-        LeadsTo node_has_work node_steps (loaded w b) es v → NothingIsStray (framed f b) e v }
+        real_in ((entity_flow e (loaded w b)).slot k) ≡ Some r → (v : World) (es : List Event) →
+        LeadsTo node_has_work node_steps (loaded w b) es v → LinesKeepRoom (framed f b) e r.ty (loaded w b) v →
+        NothingIsStray (framed f b) e v }
 {}
 
 /// The record of base parts holds of a world as it is opened, and again where a round's calls leave the world quiet, then where the reaps
