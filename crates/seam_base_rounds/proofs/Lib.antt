@@ -5,3 +5,4 @@ pub mod Going
 pub mod CallsEnd
 pub mod Still
 pub mod Calms
+pub mod ExampleFits

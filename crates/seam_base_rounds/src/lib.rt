@@ -18,6 +18,8 @@ ghost use Rattle.seam_defs.specs.declared.types.TypeDef.{TypeDef};
 ghost use Rattle.seam_call.specs.declared.order.Batch.{Batch};
 ghost use Rattle.seam_entity.specs.Reals.{RealView};
 ghost use Rattle.seam_steps.specs.Bases.{PartView};
+ghost use Rattle.seam_steps.specs.Holders.{holders};
+ghost use Rattle.seam_steps.specs.Rows.{empty_world};
 ghost use Rattle.seam_steps.specs.Nodes.{World, node_steps, node_has_work};
 ghost use Rattle.seam_steps.specs.Loads.{opened, loaded, reaps_loaded, look_loaded};
 ghost use Rattle.seam_moves.specs.Frames.{Frame};
@@ -30,6 +32,7 @@ ghost use Rattle.seam_base_calls.specs.BaseTurns.{home_of, HasBaseCalls, HasNoCl
 ghost use Rattle.seam_base_calls.specs.Strays.{HasRoutes, NothingIsStray};
 ghost use Rattle.seam_base_rounds.specs.Parts.{next_to, base_calls_of, HasSettledPart, HasPartsBetweenRounds, MayBeLoaded, IsAlone};
 ghost use Rattle.seam_base_rounds.specs.Parts.{LinesKeepRoom};
+ghost use Rattle.seam_base_rounds.specs.Example.{opening, first_batch};
 
 /// Each entity of a loaded world has its base part, of its type, at its base node. The batch's calls to it are in turn, numbered from each
 /// sender's next number on (from 1 on where the batch creates it), fit it, and have room in its version; and each base node has a route to
@@ -84,4 +87,12 @@ pub fn base_parts_go_from_record_to_record()
         HasPartsBetweenRounds f v }
     ensures looks { (f : Frame) (u : World) → IsBetweenRounds f u → HasPartsBetweenRounds f u → (vs : List Event) (v : World) →
         LeadsTo node_has_work node_steps (look_loaded u) vs v → HasPartsBetweenRounds f v }
+{}
+
+/// What these laws ask is true of a world as it is opened, with the built-in definitions, and a batch that creates an entity whose base
+/// part two senders call, one from its own base node and one from another.
+pub fn a_batch_for_an_opened_world_fits()
+    ensures fits { MayBeLoaded opening empty_world first_batch }
+    ensures alone { IsAlone 1 empty_world first_batch }
+    ensures one { holders (loaded empty_world first_batch) 1 ≡ 1 }
 {}
