@@ -22,7 +22,7 @@ use Rattle.seam_moves.specs.Frames.{Frame}
 use Rattle.seam_moves.specs.Sights.{entity_flow}
 use Rattle.seam_ones.specs.Ones.{real_in, real_of}
 use Rattle.seam_ones.proofs.Gone.{gone_leads}
-use Rattle.seam_once.specs.CellTurns.{from_sender, desk_for}
+use Rattle.seam_once.specs.CellTurns.{desk_for}
 use Rattle.seam_between.specs.Between.{framed}
 use Rattle.seam_between.proofs.Framing.{in_frame}
 use Rattle.seam_between.proofs.Loaded.{no_mail}
@@ -115,12 +115,13 @@ module _ (f : Frame) (w : World) (b : Batch) (may : MayBeLoaded f w b) (v : Worl
 
   module _ (quiet : IsQuiet node_has_work v)
       (rooms : (e k : ℕ) (r : RealView) → real_in ((entity_flow e (loaded w b)).slot k) ≡ Some r →
-          LinesKeepRoom g e r.ty (loaded w b) v) where
+      LinesKeepRoom g e r.ty (loaded w b) v) where
     settled_by : (e k : ℕ) (q : RealView) → real_in ((entity_flow e v).slot k) ≡ Some q →
         Somewhere e (loaded w b) ⊎ Nowhere e (loaded w b) → HasSettledPart g e q.ty v
     settled_by e k q at (inl p) =
         subst (λ t. HasSettledPart g e t v) (same_type e p.0 p.1 p.2 k q at)
-        (quiet_settled g e p.1.ty (first e p.0 p.1 p.2) (base_calls_of b e) v (calls_then f w b may e p.0 p.1 p.2 v es run (rooms e p.0 p.1 p.2)) quiet)
+        (quiet_settled g e p.1.ty (first e p.0 p.1 p.2) (base_calls_of b e) v
+        (calls_then f w b may e p.0 p.1 p.2 v es run (rooms e p.0 p.1 p.2)) quiet)
     settled_by e k q at (inr n) =
         let gone = gone_leads g (frame_loaded f w b may.between may.fits) e (loaded w b) v es (in_frame f w b may.between may.fits)
         (record { slots = n; mail = λ x y. ap (letters_of real_of) (no_mail f w b may.between may.fits e x y) }) run in

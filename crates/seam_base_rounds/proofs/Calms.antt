@@ -1,5 +1,5 @@
 -- The phases of reaps and of looks keep the record of base parts.
-use Rattle.std.proofs.Common.{◌≡◌, ℕ, ◌⊎◌, Bool, true, false, cond, eqb, nat_lt, List, [], ◌∷◌, None, Some, refl, sym, ap, ◌∙◌, subst}
+use Rattle.std.proofs.Common.{◌≡◌, ℕ, ◌⊎◌, Bool, true, false, cond, eqb, List, [], ◌∷◌, Some, refl, sym, ap, ◌∙◌, subst}
 use Rattle.std.proofs.Common.{arith, inl, inr}
 use Rattle.std.proofs.lemmas.Bool.Decides.{nat_tests}
 use Rattle.seam_machine.specs.Nets.{IsQuiet, LeadsTo}
@@ -13,7 +13,7 @@ use Rattle.seam_steps.specs.Bases.{BaseView}
 use Rattle.seam_steps.specs.Holders.{holders}
 use Rattle.seam_steps.specs.Nodes.{NodeView, World, node_steps, node_has_work}
 use Rattle.seam_steps.specs.Nodes.NodeView.{Cell, Base}
-use Rattle.seam_steps.specs.Loads.{with_nodes, order_if, ordered_at, reap_ordered_at, reaps_loaded, look_loaded}
+use Rattle.seam_steps.specs.Loads.{order_if, ordered_at, reap_ordered_at, reaps_loaded, look_loaded}
 use Rattle.seam_moves.specs.Frames.{Frame, here_at}
 use Rattle.seam_moves.specs.Sights.{mine, times, entity_flow}
 use Rattle.seam_ones.specs.Ones.{real_in, real_of}

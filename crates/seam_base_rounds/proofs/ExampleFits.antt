@@ -1,10 +1,10 @@
 -- A batch that creates an entity whose base part two senders call fits a world as it is opened.
-use Rattle.std.proofs.Common.{◌≡◌, ℕ, zero, suc, ◌+◌, ◌^◌, ◌<◌, ◌≤◌, Bool, true, false, cond, eqb, List, [], ◌∷◌, map, length, Option}
+use Rattle.std.proofs.Common.{◌≡◌, ℕ, zero, suc, ◌<◌, Bool, true, false, cond, eqb, List, [], ◌∷◌, map, length, Option}
 use Rattle.std.proofs.Common.{None, Some, refl, sym, ap, ◌∙◌, subst, arith, inl, inr}
 use Rattle.std.specs.List.{AllByRecursion, IsDistinct}
 use Rattle.std.specs.Ordering.{nat_cmp}
 use Rattle.std.specs.FinMap as table
-use Rattle.std.proofs.lemmas.Bool.{cases_eq, eqb-true, ne_eqb}
+use Rattle.std.proofs.lemmas.Bool.{cases_eq, ne_eqb}
 use Rattle.seam_tree.specs.Division.{area, IsTree}
 use Rattle.seam_geo.specs.Rect.{IsProper}
 use Rattle.seam_defs.specs.Builtin.{builtin}
@@ -19,20 +19,19 @@ use Rattle.seam_entity.specs.Orders.{order_or}
 use Rattle.seam_entity.specs.Reals.{RealView}
 use Rattle.seam_steps.specs.Bases.{PartView}
 use Rattle.seam_steps.specs.Holders.{holders}
-use Rattle.seam_steps.specs.Nodes.{NodeView, World}
 use Rattle.seam_steps.specs.Loads.{one_cell, loaded}
-use Rattle.seam_steps.specs.Rows.{idle, empty_world}
-use Rattle.seam_steps.specs.EarlyCall.{two_cells, made, at_home, base_16}
+use Rattle.seam_steps.specs.Rows.{empty_world}
+use Rattle.seam_steps.specs.EarlyCall.{made, at_home, base_16}
 use Rattle.seam_moves.specs.Sights.{Has, order_concerns, orders_of, has_of, has_none, entity_flow}
 use Rattle.seam_ones.specs.Ones.{real_in, IsFrame}
 use Rattle.seam_ones.proofs.Counting.{one_counts}
-use Rattle.seam_ones.proofs.ExampleMet.{frame_is, EachFrom, nodes_of, each_node, slots, none_there, one_is, number_is}
+use Rattle.seam_ones.proofs.ExampleMet.{frame_is, nodes_of, each_node, slots, none_there, one_is, number_is}
 use Rattle.seam_once.specs.CellTurns.{cell_order_from}
 use Rattle.seam_between.specs.Between.{order_in, cell_call_from, calls_of, calls_at, AreNumbered, IsForReal, IsBetweenRounds, IsFitting}
 use Rattle.seam_between.specs.Between.{next_from}
 use Rattle.seam_rounds.proofs.Opened.{opened_is_new, opened_has_none, opened_between}
-use Rattle.seam_base_calls.specs.BaseTurns.{home_of, HasNoClient}
-use Rattle.seam_base_calls.specs.Example.{pay, promote_1, promote_2, part_alone, base_with, world_alone}
+use Rattle.seam_base_calls.specs.BaseTurns.{home_of}
+use Rattle.seam_base_calls.specs.Example.{pay, part_alone, base_with, world_alone}
 use Rattle.seam_base_calls.proofs.ExampleClient.{load_alone, one_alone}
 use Rattle.seam_base_rounds.specs.Parts.{next_to, base_calls_of, base_calls_at, AreBaseNumbered, IsForPart, FitsParts, MayBeLoaded, IsAlone}
 use Rattle.seam_base_rounds.specs.Example.{opening, first_batch}
@@ -100,7 +99,9 @@ none_ordered : (e s : ℕ) → calls_of first_batch e s ≡ []
 none_ordered e s = no_calls (cell_call_from s) (λ c. refl) e (map order_in first_batch.orders) (tt, (tt, (tt, tt)))
 
 none_given : (e s k : ℕ) → calls_at first_batch e s k ≡ []
-none_given e s k = no_calls (cell_order_from s) (λ c. refl) e (items_to k first_batch.orders) (base_items k first_batch.orders (tt, (tt, (tt, tt))))
+none_given e s k =
+    no_calls (cell_order_from s) (λ c. refl) e (items_to k first_batch.orders)
+    (base_items k first_batch.orders (tt, (tt, (tt, tt))))
 
 -- ---- what is loaded
 
@@ -230,9 +231,9 @@ numbered : (s : ℕ) → Numbered s
 numbered s = elim (cases_eq s 1) [
   | inl is ↦ subst Numbered (sym is) first_numbered
   | inr n ↦ elim (cases_eq s 2) [
-      | inl is ↦ subst Numbered (sym is) second_numbered
-      | inr m ↦ other_numbered s n m
-    ]
+    | inl is ↦ subst Numbered (sym is) second_numbered
+    | inr m ↦ other_numbered s n m
+  ]
 ]
 
 for_part : IsForPart opening first_batch 1 part_alone

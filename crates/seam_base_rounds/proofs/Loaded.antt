@@ -1,11 +1,11 @@
 -- The base parts of a loaded world: those that were there, and those that the batch created.
-use Rattle.std.proofs.Common.{◌≡◌, ℕ, ◌+◌, ◌^◌, ◌<◌, ◌≤◌, Bool, true, false, cond, eqb, List, [], ◌∷◌, ◌++◌, Option, None, Some}
+use Rattle.std.proofs.Common.{◌≡◌, ℕ, ◌^◌, ◌<◌, ◌≤◌, Bool, true, false, cond, eqb, List, [], ◌∷◌, ◌++◌, Option, None, Some}
 use Rattle.std.proofs.Common.{refl, sym, ap, ◌∙◌, subst, arith, inl, inr}
 use Rattle.std.specs.Prelude.{option_map, slice_get}
 use Rattle.std.specs.List.{AllByRecursion}
 use Rattle.std.specs.Ordering.{nat_cmp}
 use Rattle.std.specs.FinMap as table
-use Rattle.std.proofs.lemmas.Bool.{cases_eq, eq-eqb, ne_eqb}
+use Rattle.std.proofs.lemmas.Bool.{eq-eqb, ne_eqb}
 use Rattle.std.proofs.lemmas.Option.{slice_get_cases}
 use Rattle.std.proofs.Math.Nat.{mod-lt}
 use Rattle.seam_tree.specs.Division.{leaf_at}
@@ -13,8 +13,8 @@ use Rattle.seam_flows.specs.Flows.{slot_at}
 use Rattle.seam_call.specs.declared.create.Create.{Create}
 use Rattle.seam_call.specs.declared.order.Batch.{Batch}
 use Rattle.seam_entity.specs.Orders.{order_or}
-use Rattle.seam_entity.specs.Reals.{RealView, WitnessView}
-use Rattle.seam_steps.specs.Here.{Here, cell_count}
+use Rattle.seam_entity.specs.Reals.{RealView}
+use Rattle.seam_steps.specs.Here.{Here}
 use Rattle.seam_steps.specs.Reals.{created}
 use Rattle.seam_steps.specs.Bases.{PartView, ProxyView}
 use Rattle.seam_steps.specs.Nodes.{NodeView, World}
@@ -22,7 +22,6 @@ use Rattle.seam_steps.specs.Loads.{real_begins, new_part, part_begins, loaded}
 use Rattle.seam_moves.specs.Frames.{Frame, here_at}
 use Rattle.seam_moves.specs.Sights.{Has, has_of, has_none, entity_flow}
 use Rattle.seam_ones.specs.Ones.{real_in}
-use Rattle.seam_ones.proofs.ExampleMet.{slots}
 use Rattle.seam_between.specs.Between.{IsBetweenRounds, MayBeMade, IsFitting, framed}
 use Rattle.seam_between.proofs.Framing.{in_frame}
 use Rattle.seam_between.proofs.Loading.{node_loaded}

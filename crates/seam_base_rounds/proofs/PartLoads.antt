@@ -12,7 +12,7 @@ use Rattle.seam_tree.specs.Division.{Division, leaf_at, cells_of}
 use Rattle.seam_call.specs.declared.create.Create.{Create}
 use Rattle.seam_call.specs.declared.order.Order.{Order}
 use Rattle.seam_call.specs.declared.order.Batch.{Batch}
-use Rattle.seam_steps.specs.Maps.{Map, set_at}
+use Rattle.seam_steps.specs.Maps.{Map}
 use Rattle.seam_steps.specs.Here.{Here, cell_count, base_of}
 use Rattle.seam_steps.specs.Bases.{BaseView, PartView, ProxyView}
 use Rattle.seam_steps.specs.Nodes.{NodeView}
@@ -22,7 +22,7 @@ use Rattle.seam_steps.specs.Loads.{proxy_begins, order_if, ordered_at}
 use Rattle.seam_steps.proofs.Slots.{get-set_at}
 use Rattle.seam_moves.specs.Frames.{Frame, here_at, IsAt}
 use Rattle.seam_moves.specs.Sights.{has_of}
-use Rattle.seam_between.proofs.Loading.{each, each_keeps, Any, any, made, node_loaded, get-each_value}
+use Rattle.seam_between.proofs.Loading.{each, each_keeps, Any, any, node_loaded, get-each_value}
 use Rattle.seam_between.proofs.Staying.{other_set}
 use Rattle.seam_between.proofs.Making.{AreOthers}
 use Rattle.seam_base_calls.specs.PartMoves.{HasNoProxy}

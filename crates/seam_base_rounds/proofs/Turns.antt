@@ -1,5 +1,5 @@
 -- Each sender's calls of a batch to base parts are in turn in a loaded world, and it has what the laws of base parts ask.
-use Rattle.std.proofs.Common.{◌≡◌, ℕ, ◌+◌, ◌*◌, ◌^◌, ◌<◌, ◌≤◌, Bool, true, false, cond, eqb, nat_lt, List, [], ◌∷◌, map, length, Option}
+use Rattle.std.proofs.Common.{◌≡◌, ℕ, ◌+◌, ◌*◌, ◌<◌, ◌≤◌, Bool, true, false, cond, eqb, nat_lt, List, [], ◌∷◌, map, length, Option}
 use Rattle.std.proofs.Common.{None, Some, refl, sym, ap, ◌∙◌, subst, arith, inl, inr}
 use Rattle.std.specs.Prelude.{option_map, slice_get}
 use Rattle.std.specs.List.{AllByRecursion}
@@ -40,8 +40,8 @@ use Rattle.seam_between.proofs.Loaded.{no_mail, slot_is}
 use Rattle.seam_between.proofs.Turns.{node_orders, node_none}
 use Rattle.seam_between.proofs.Room.{no_held, none_below, from_all, most, sum_most, rows_none}
 use Rattle.seam_between.proofs.Going.{settled_loaded, spared_loaded}
-use Rattle.seam_base_calls.specs.PartMoves.{base_call_of, calls_ordered}
-use Rattle.seam_base_calls.specs.BaseTurns.{part_desk, base_mail, as_base_sender, IsBaseCallOf, AreBaseCallsOf, BaseCallsInTurn}
+use Rattle.seam_base_calls.specs.PartMoves.{base_call_of}
+use Rattle.seam_base_calls.specs.BaseTurns.{part_desk, base_mail, as_base_sender, IsBaseCallOf, AreBaseCallsOf}
 use Rattle.seam_base_calls.specs.BaseTurns.{part_burden, node_base_burden, mine_base_burden, base_burden, home_of, IsHomeward, HasPart}
 use Rattle.seam_base_calls.specs.BaseTurns.{HasBaseCalls}
 use Rattle.seam_base_calls.specs.Strays.{IsForNode, HasRoutes}
