@@ -131,7 +131,7 @@ none_found os none (Some p) at =
     let empty = ap has_any (sym (ap (λ x. (order_or x).held) two.0) ∙ none p.0) in
     absurd (let z = sym two.1 ∙ empty in cc)
 
-no_held : (os : Orders) → ((s : ℕ) → (order_or (table.get os s)).held ≡ []) → held_in os ≡ 0
+pub no_held : (os : Orders) → ((s : ℕ) → (order_or (table.get os s)).held ≡ []) → held_in os ≡ 0
 no_held os none =
     held_none (table.entries os) (none_found os none (find holds_some (table.entries os)) refl)
 
@@ -153,7 +153,7 @@ orders_weigh e [] = omega arith
 orders_weigh e (o ∷ os) = orders_by e o os (order_concerns e o) (orders_weigh e os)
 
 -- how many orders go to nodes from i on
-abbrev from_on : ℕ → List (ℕ × Order) → ℕ
+abbrev pub from_on : ℕ → List (ℕ × Order) → ℕ
 from_on i [] = 0
 from_on i (o ∷ os) = cond {A = ℕ} (nat_lt o.0 i) 0 1 + from_on i os
 
@@ -182,10 +182,10 @@ below_by : (n : ℕ) (b : Bool) → nat_lt n 0 ≡ b → b ≡ false
 below_by n true is = absurd (grind (arith, nat_tests, is))
 below_by n false is = refl
 
-none_below : (n : ℕ) → nat_lt n 0 ≡ false
+pub none_below : (n : ℕ) → nat_lt n 0 ≡ false
 none_below n = below_by n (nat_lt n 0) refl
 
-from_all : (os : List (ℕ × Order)) → from_on 0 os ≡ length os
+pub from_all : (os : List (ℕ × Order)) → from_on 0 os ≡ length os
 from_all [] = refl
 from_all (o ∷ os) =
     let a = ap (λ b. cond {A = ℕ} b 0 1) (none_below o.0) in
@@ -195,7 +195,7 @@ from_all (o ∷ os) =
 -- ---- the sum over the nodes: one node weighs `a` more than its orders do
 
 module _ (home a : ℕ) (os : List (ℕ × Order)) where
-  abbrev most : ℕ → ℕ
+  abbrev pub most : ℕ → ℕ
   most i = cond {A = ℕ} (eqb i home) a 0 + 3 * length (items_to i os)
 
   sum_by : (i x rest : ℕ) (here past later : Bool) → eqb i home ≡ here → nat_lt home i ≡ past → nat_lt home (i + 1) ≡ later →
@@ -209,7 +209,7 @@ module _ (home a : ℕ) (os : List (ℕ × Order)) where
   sum_by i x rest false false true h p l n at m more = absurd (grind (arith, nat_tests, h, p, l))
   sum_by i x rest false false false h p l n at m more = omega (arith, at, more)
 
-  sum_most : {N : Type 0} (g : N → ℕ) (i : ℕ) (xs : List N) → ((j : ℕ) (x : N) → slice_get xs j ≡ Some x → g x ≤ most (j + i)) →
+  pub sum_most : {N : Type 0} (g : N → ℕ) (i : ℕ) (xs : List N) → ((j : ℕ) (x : N) → slice_get xs j ≡ Some x → g x ≤ most (j + i)) →
       total g xs ≤ cond {A = ℕ} (nat_lt home i) 0 a + 3 * from_on i os
   sum_most g i [] each = omega arith
   sum_most g i (x ∷ xs) each =

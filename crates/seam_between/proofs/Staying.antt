@@ -67,7 +67,7 @@ module _ (e : ℕ) where
 
   -- ---- another entity is created
 
-  other_set : {X : Type 0} (m : Map X) (q : ℕ) (o : Option X) → (q ≡ e → ⊥) → table.get (set_at m q o) e ≡ table.get m e
+  pub other_set : {X : Type 0} (m : Map X) (q : ℕ) (o : Option X) → (q ≡ e → ⊥) → table.get (set_at m q o) e ≡ table.get m e
   other_set m q o n =
       get-set_at m q e o
       ∙ ap (λ b. cond b o (table.get m e)) (unsigned_tied e q ∙ ne_eqb e q (λ is. n (sym is)))

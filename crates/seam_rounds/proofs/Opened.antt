@@ -1,6 +1,6 @@
 -- A world as it is opened keeps the record between rounds.
 use Rattle.std.proofs.Common.{◌≡◌, ℕ, zero, suc, ◌+◌, ◌<◌, ◌≤◌, false, ◌||◌, is_some, List, [], ◌++◌, map, find, length, replicate}
-use Rattle.std.proofs.Common.{None, Some, refl, sym, ap, ◌∙◌, subst, arith}
+use Rattle.std.proofs.Common.{Option, None, Some, refl, sym, ap, ◌∙◌, subst, arith}
 use Rattle.std.specs.Prelude.{option_map, slice_get, slice_index_or}
 use Rattle.std.specs.List.{range_with_len}
 use Rattle.std.specs.Ordering.{nat_cmp}
@@ -13,7 +13,12 @@ use Rattle.seam_defs.specs.declared.settings.Settings.{Settings}
 use Rattle.seam_defs.specs.declared.types.TypeDef.{TypeDef}
 use Rattle.seam_machine.specs.Nets.{IsSquare, ArePeers}
 use Rattle.seam_machine.proofs.Quiet.{quiet_from}
+use Rattle.seam_ghosts.specs.declared.Ghost.{Ghost}
+use Rattle.seam_call.specs.declared.shown.GhostCopy.{GhostCopy}
+use Rattle.seam_entity.specs.Reals.{RealView}
 use Rattle.seam_steps.specs.Maps.{number_of}
+use Rattle.seam_steps.specs.Slots.{NextPlace}
+use Rattle.seam_steps.specs.Bases.{RouteView, PartView}
 use Rattle.seam_steps.specs.Here.{cell_count, cell_numbers}
 use Rattle.seam_steps.specs.Cells.{real_is_ready}
 use Rattle.seam_steps.specs.BaseCases.{part_is_ready, client_is_ready}
@@ -22,7 +27,7 @@ use Rattle.seam_steps.specs.Valid.{IsNode}
 use Rattle.seam_steps.specs.Loads.{empty_cell, empty_base, opened}
 use Rattle.seam_steps.proofs.Tables.{entries_empty}
 use Rattle.seam_moves.specs.Frames.{Frame, IsAt}
-use Rattle.seam_moves.specs.Sights.{has_of, entity_flow}
+use Rattle.seam_moves.specs.Sights.{Has, no_cell, no_base, has_of, has_none, entity_flow}
 use Rattle.seam_ones.specs.Ones.{real_in, IsFrame}
 use Rattle.seam_ones.proofs.ExampleMet.{no_link, slots}
 use Rattle.seam_between.specs.Between.{IsBetweenRounds}
@@ -47,6 +52,21 @@ each_range P make a (suc n) ys each rest (suc k) s at =
 none_there : {X : Type 0} (q : ℕ) (x : X) → table.get (table.empty {K = ℕ} {X = X} {R = nat_cmp}) q ≡ Some x → ⊥
 none_there q x at = let none = sym (table.get-empty nat_cmp q) ∙ at in cc
 
+-- what a node has of an entity, by its tables
+abbrev slots_with : Option RealView → Option NextPlace → Option (Ghost GhostCopy) → Has
+slots_with r n g = record { cell = record { slot = record { real = r; next = n; ghost = g }; survey = 0; looks = 0 }; base = no_base }
+
+abbrev routes_with : Option RouteView → Option PartView → Has
+routes_with r p = record { cell = no_cell; base = record { orders = []; route = r; part = p } }
+
+no_slots : (r : Option RealView) (n : Option NextPlace) (g : Option (Ghost GhostCopy)) → r ≡ None → n ≡ None → g ≡ None →
+    slots_with r n g ≡ has_none
+no_slots r n g a b c =
+    ap (λ x. slots_with x n g) a ∙ (ap (λ x. slots_with None x g) b ∙ ap (λ x. slots_with None None x) c)
+
+no_routes : (r : Option RouteView) (p : Option PartView) → r ≡ None → p ≡ None → routes_with r p ≡ has_none
+no_routes r p a b = ap (λ x. routes_with x p) a ∙ ap (λ x. routes_with None x) b
+
 module _ (defs : List TypeDef) (settings : Settings) (frame : IsFrame (first_frame defs settings)) (bases : 1 ≤ settings.bases) where
   abbrev f : Frame
   f = first_frame defs settings
@@ -62,7 +82,7 @@ module _ (defs : List TypeDef) (settings : Settings) (frame : IsFrame (first_fra
     at : IsAt f k s
     peers : node_peers s ≡ many
     idle : node_has_work s ≡ false
-    none : (e : ℕ) → real_in (has_of e s) ≡ None
+    new : (e : ℕ) → has_of e s ≡ has_none
 
   cell_open : (k : ℕ) → k < cell_count → IsOpen k (empty_cell defs settings k)
   cell_open k low = record {
@@ -76,7 +96,7 @@ module _ (defs : List TypeDef) (settings : Settings) (frame : IsFrame (first_fra
     at = record { low = low; here = refl; tree = refl };
     peers = refl;
     idle = ap (λ es. is_some (option_map number_of (find real_is_ready es)) || false) entries_empty;
-    none = λ e. table.get-empty nat_cmp e;
+    new = λ e. no_slots _ _ _ (table.get-empty nat_cmp e) (table.get-empty nat_cmp e) (table.get-empty nat_cmp e);
   }
 
   base_open : (k : ℕ) → cell_count ≤ k → IsOpen k (empty_base defs settings k)
@@ -86,7 +106,7 @@ module _ (defs : List TypeDef) (settings : Settings) (frame : IsFrame (first_fra
     peers = refl;
     idle =
         ap (λ es. is_some (find part_is_ready es) || is_some (find client_is_ready es)) entries_empty;
-    none = λ e. refl;
+    new = λ e. no_routes _ _ (table.get-empty nat_cmp e) (table.get-empty nat_cmp e);
   }
 
   each_node : (k : ℕ) (s : NodeView) → slice_get w.nodes k ≡ Some s → IsOpen k s
@@ -118,8 +138,12 @@ module _ (defs : List TypeDef) (settings : Settings) (frame : IsFrame (first_fra
   peers : ArePeers node_peers w
   peers k d lt = (each_node k (slice_index_or w.nodes k d) (slice_get-get_or w.nodes k d lt)).peers ∙ sym many_is
 
-  none_by : (e k : ℕ) → real_in ((entity_flow e w).slot k) ≡ None
-  none_by e k = slots (λ j h. real_in h ≡ None) e w (λ j s at. (each_node j s at).none e) (λ j. refl) k
+  -- each entity is new
+  pub opened_is_new : (e k : ℕ) → (entity_flow e w).slot k ≡ has_none
+  opened_is_new e k = slots (λ j h. h ≡ has_none) e w (λ j s at. (each_node j s at).new e) (λ j. refl) k
+
+  pub opened_has_none : (e k : ℕ) → real_in ((entity_flow e w).slot k) ≡ None
+  opened_has_none e k = ap real_in (opened_is_new e k)
 
   pub opened_between : IsBetweenRounds f w
   opened_between = record {
@@ -130,5 +154,5 @@ module _ (defs : List TypeDef) (settings : Settings) (frame : IsFrame (first_fra
     };
     many = many_is;
     quiet = quiet_from node_has_work w (no_link many many) (λ k s at. (each_node k s at).idle);
-    settled = λ e k r at. absurd (let z = sym (none_by e k) ∙ at in cc);
+    settled = λ e k r at. absurd (let z = sym (opened_has_none e k) ∙ at in cc);
   }

@@ -1,0 +1,82 @@
+-- What a loaded world has of each base part, and what it keeps of that over every list of events.
+use Rattle.std.proofs.Common.{◌≡◌, ℕ, List, Some, sym, ◌∙◌, subst}
+use Rattle.seam_machine.specs.Nets.{IsQuiet, LeadsTo}
+use Rattle.seam_machine.specs.declared.machines.Event.{Event}
+use Rattle.seam_flows.specs.Flows.{letters_of}
+use Rattle.seam_call.specs.declared.order.Batch.{Batch}
+use Rattle.seam_entity.specs.Reals.{RealView}
+use Rattle.seam_steps.specs.Bases.{PartView}
+use Rattle.seam_steps.specs.Nodes.{World, node_steps, node_has_work}
+use Rattle.seam_steps.specs.Loads.{loaded}
+use Rattle.seam_moves.specs.Frames.{Frame}
+use Rattle.seam_moves.specs.Sights.{entity_flow}
+use Rattle.seam_ones.specs.Ones.{real_in}
+use Rattle.seam_once.specs.CellTurns.{from_sender}
+use Rattle.seam_between.specs.Between.{framed}
+use Rattle.seam_between.proofs.Going.{frame_loaded, settled_loaded, one_loaded}
+use Rattle.seam_base_calls.specs.BaseTurns.{home_of, HasBaseCalls}
+use Rattle.seam_base_calls.specs.Strays.{NothingIsStray}
+use Rattle.seam_base_calls.proofs.AloneRuns.{alone_leads}
+use Rattle.seam_base_calls.proofs.BaseQuiet.{all_executed}
+use Rattle.seam_base_calls.proofs.StrayRuns.{alone_without_stray, client_without_stray}
+use Rattle.seam_base_calls.proofs.ClientLeads.{both_leads}
+use Rattle.seam_base_rounds.specs.Parts.{next_to, base_calls_of, MayBeLoaded, LinesKeepRoom, no_client, client}
+use Rattle.seam_base_rounds.proofs.Loaded.{LoadedPart, part_loaded}
+use Rattle.seam_base_rounds.proofs.Turns.{calls_loaded, routes_loaded}
+
+module _ (f : Frame) (w : World) (b : Batch) (may : MayBeLoaded f w b) (e k : ℕ) (r : RealView)
+    (here : real_in ((entity_flow e (loaded w b)).slot k) ≡ Some r) where
+  pub its_part : LoadedPart f w b e r.ty
+  its_part = part_loaded f w b may.between may.fits may.parts may.brings e k r here
+
+  -- the part that is at the base node is this one
+  part_is : (p : PartView) → ((entity_flow e (loaded w b)).slot (home_of f e)).base.part ≡ Some p → its_part.settled.part ≡ p
+  part_is p at = let z = sym its_part.settled.here ∙ at in cc
+
+  pub base_calls_loaded : (p : PartView) → ((entity_flow e (loaded w b)).slot (home_of f e)).base.part ≡ Some p →
+      HasBaseCalls (framed f b) e r.ty (λ s. next_to s p) (base_calls_of b e) (loaded w b)
+  base_calls_loaded p at =
+      subst (λ (x : PartView). HasBaseCalls (framed f b) e r.ty (λ s. next_to s x) (base_calls_of b e) (loaded w b)) (part_is p at)
+      (calls_loaded f w b may e k r here its_part)
+
+  module _ (v : World) (es : List Event) (run : LeadsTo node_has_work node_steps (loaded w b) es v)
+      (room : LinesKeepRoom (framed f b) e r.ty (loaded w b) v) where
+    abbrev g : Frame
+    g = framed f b
+
+    abbrev first : ℕ → ℕ
+    first s = next_to s its_part.settled.part
+
+    abbrev loaded_calls : HasBaseCalls g e r.ty first (base_calls_of b e) (loaded w b)
+    loaded_calls = calls_loaded f w b may e k r here its_part
+
+    calls_by : LinesKeepRoom g e r.ty (loaded w b) v → HasBaseCalls g e r.ty first (base_calls_of b e) v
+    calls_by (no_client alone) = (alone_leads g e r.ty first (base_calls_of b e) (loaded w b) v es loaded_calls alone run).calls
+    calls_by (client update n has keeps most) =
+        (both_leads g e r.ty first (base_calls_of b e) update n (loaded w b) v es (record { calls = loaded_calls; client = has }) keeps run
+        most).calls
+
+    pub calls_then : HasBaseCalls g e r.ty first (base_calls_of b e) v
+    calls_then = calls_by room
+
+    pub calls_once : (p : PartView) → ((entity_flow e (loaded w b)).slot (home_of f e)).base.part ≡ Some p →
+        HasBaseCalls g e r.ty (λ s. next_to s p) (base_calls_of b e) v
+    calls_once p at =
+        subst (λ (x : PartView). HasBaseCalls g e r.ty (λ s. next_to s x) (base_calls_of b e) v) (part_is p at) calls_then
+
+    pub executed_then : IsQuiet node_has_work v → (j : ℕ) (q : PartView) → ((entity_flow e v).slot j).base.part ≡ Some q → (s : ℕ) →
+        letters_of (from_sender s) q.done ≡ base_calls_of b e s
+    executed_then quiet j q there s =
+        all_executed g e v calls_then.part.frame quiet first (base_calls_of b e) calls_then.turns j q there s
+
+    strays_by : LinesKeepRoom g e r.ty (loaded w b) v → NothingIsStray g e v
+    strays_by (no_client alone) =
+        alone_without_stray g e r.ty first (base_calls_of b e) (loaded w b) v es loaded_calls (routes_loaded f w b may e k r here its_part)
+        run (frame_loaded f w b may.between may.fits) (settled_loaded f w b may.between may.fits e k r here).type
+        (one_loaded f w b may.between may.fits e k r here) alone
+    strays_by (client update n has keeps most) =
+        client_without_stray g e r.ty first (base_calls_of b e) (loaded w b) v es loaded_calls
+        (routes_loaded f w b may e k r here its_part) run update n has keeps most
+
+    pub none_strays : NothingIsStray g e v
+    none_strays = strays_by room

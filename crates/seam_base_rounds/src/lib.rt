@@ -1,0 +1,102 @@
+//! Base parts from round to round: what the laws of calls to base parts ask of a loaded world is true of each that a fitting batch makes
+//! of one that keeps the record of base parts.
+//!
+//! `specs/Parts` has that record, a sentence for each of its fields, and what a batch brings to base parts. They stand beside the record
+//! between rounds and the fitting batch of `seam_between`; *MayBeLoaded* is both. These laws speak of each entity of the loaded world,
+//! whether it was there before or the batch creates it.
+//!
+//! A client is in it by what it may be shown alone: over a round's calls its lines keep room (*LinesKeepRoom*), which is a premise here. Its
+//! updates are not in the record.
+//!
+//! Of `proofs/`, `PartLoads` (what a load makes of a base part at a node), `Loaded` (and in the world), `Turns` (its calls), `Going`
+//! (every list of events), `CallsEnd` (a quiet world after them), `Still` (a part that no one calls) and `Calms` (reaps and looks) are for
+//! callers.
+#![tactic(auto)]
+
+ghost use Rattle.std.specs.Prelude.{◌≡◌, ℕ, ◌≤◌, List, Some};
+ghost use Rattle.seam_machine.specs.Nets.{IsQuiet, LeadsTo};
+ghost use Rattle.seam_machine.specs.declared.machines.Event.{Event};
+ghost use Rattle.seam_flows.specs.Flows.{letters_of};
+ghost use Rattle.seam_defs.specs.declared.settings.Settings.{Settings};
+ghost use Rattle.seam_defs.specs.declared.types.TypeDef.{TypeDef};
+ghost use Rattle.seam_call.specs.declared.order.Batch.{Batch};
+ghost use Rattle.seam_entity.specs.Reals.{RealView};
+ghost use Rattle.seam_steps.specs.Bases.{PartView};
+ghost use Rattle.seam_steps.specs.Holders.{holders};
+ghost use Rattle.seam_steps.specs.Rows.{empty_world};
+ghost use Rattle.seam_steps.specs.Nodes.{World, node_steps, node_has_work};
+ghost use Rattle.seam_steps.specs.Loads.{opened, loaded, reaps_loaded, look_loaded};
+ghost use Rattle.seam_moves.specs.Frames.{Frame};
+ghost use Rattle.seam_moves.specs.Sights.{entity_flow};
+ghost use Rattle.seam_ones.specs.Ones.{real_in, IsFrame};
+ghost use Rattle.seam_once.specs.CellTurns.{from_sender};
+ghost use Rattle.seam_between.specs.Between.{framed, IsBetweenRounds};
+ghost use Rattle.seam_rounds.specs.Rounds.{first_frame, AreReapable};
+ghost use Rattle.seam_base_calls.specs.BaseTurns.{home_of, HasBaseCalls, HasNoClient};
+ghost use Rattle.seam_base_calls.specs.Strays.{HasRoutes, NothingIsStray};
+ghost use Rattle.seam_base_rounds.specs.Parts.{next_to, base_calls_of, HasSettledPart, HasPartsBetweenRounds, MayBeLoaded, IsAlone};
+ghost use Rattle.seam_base_rounds.specs.Parts.{LinesKeepRoom};
+ghost use Rattle.seam_base_rounds.specs.Example.{opening, first_batch};
+
+/// Each entity of a loaded world has its base part, of its type, at its base node. The batch's calls to it are in turn, numbered from each
+/// sender's next number on (from 1 on where the batch creates it), fit it, and have room in its version; and each base node has a route to
+/// the entity. Where it had no client and the batch attaches none, it has none.
+pub fn a_base_part_of_a_loaded_world_is_ready()
+    ensures settled { (f : Frame) (w : World) (b : Batch) → MayBeLoaded f w b → (e k : ℕ) (r : RealView) →
+        real_in ((entity_flow e (loaded w b)).slot k) ≡ Some r → HasSettledPart (framed f b) e r.ty (loaded w b) }
+    ensures calls { (f : Frame) (w : World) (b : Batch) → MayBeLoaded f w b → (e k : ℕ) (r : RealView) →
+        real_in ((entity_flow e (loaded w b)).slot k) ≡ Some r → (p : PartView) →
+        ((entity_flow e (loaded w b)).slot (home_of f e)).base.part ≡ Some p →
+        HasBaseCalls (framed f b) e r.ty (λ s. next_to s p) (base_calls_of b e) (loaded w b) }
+    ensures routes { (f : Frame) (w : World) (b : Batch) → MayBeLoaded f w b → (e k : ℕ) (r : RealView) →
+        real_in ((entity_flow e (loaded w b)).slot k) ≡ Some r → HasRoutes (framed f b) e (loaded w b) }
+    ensures alone { (w : World) (b : Batch) (e : ℕ) → IsAlone e w b → HasNoClient e (loaded w b) }
+{}
+
+/// So each call of the batch to a base part waits once, until it is executed, over every list of events in which the lines of its client
+/// keep room, as they do where there is none; where the world is quiet again, all were executed, each sender's in the order of their
+/// numbers.
+pub fn base_calls_of_a_batch_are_executed_once()
+    ensures once { (f : Frame) (w : World) (b : Batch) → MayBeLoaded f w b → (e k : ℕ) (r : RealView) →
+        real_in ((entity_flow e (loaded w b)).slot k) ≡ Some r → (p : PartView) →
+        ((entity_flow e (loaded w b)).slot (home_of f e)).base.part ≡ Some p → (v : World) (es : List Event) →
+        LeadsTo node_has_work node_steps (loaded w b) es v → LinesKeepRoom (framed f b) e r.ty (loaded w b) v →
+        HasBaseCalls (framed f b) e r.ty (λ s. next_to s p) (base_calls_of b e) v }
+    ensures executed { (f : Frame) (w : World) (b : Batch) → MayBeLoaded f w b → (e k : ℕ) (r : RealView) →
+        real_in ((entity_flow e (loaded w b)).slot k) ≡ Some r → (v : World) (es : List Event) →
+        LeadsTo node_has_work node_steps (loaded w b) es v → LinesKeepRoom (framed f b) e r.ty (loaded w b) v → IsQuiet node_has_work v →
+        (j : ℕ) (q : PartView) → ((entity_flow e v).slot j).base.part ≡ Some q → (s : ℕ) →
+        letters_of (from_sender s) q.done ≡ base_calls_of b e s }
+{}
+
+/// And nothing about such an entity is stray at a base node, over every such list of events.
+pub fn nothing_about_a_loaded_entity_is_stray_at_a_base_node()
+    ensures { (f : Frame) (w : World) (b : Batch) → MayBeLoaded f w b → (e k : ℕ) (r : RealView) →
+        real_in ((entity_flow e (loaded w b)).slot k) ≡ Some r → (v : World) (es : List Event) →
+        LeadsTo node_has_work node_steps (loaded w b) es v → LinesKeepRoom (framed f b) e r.ty (loaded w b) v →
+        NothingIsStray (framed f b) e v }
+{}
+
+/// The record of base parts holds of a world as it is opened, and again where a round's calls leave the world quiet, then where the reaps
+/// do, and then where the looks do. (A client may be shown lines meanwhile: those keep room in a round's calls by a premise.)
+pub fn base_parts_go_from_record_to_record()
+    ensures opened { (defs : List TypeDef) (settings : Settings) → IsFrame (first_frame defs settings) → 1 ≤ settings.bases →
+        HasPartsBetweenRounds (first_frame defs settings) (opened defs settings) }
+    ensures calls { (f : Frame) (w : World) (b : Batch) → MayBeLoaded f w b → (v : World) (es : List Event) →
+        LeadsTo node_has_work node_steps (loaded w b) es v → IsQuiet node_has_work v →
+        ((e k : ℕ) (r : RealView) → real_in ((entity_flow e (loaded w b)).slot k) ≡ Some r →
+        LinesKeepRoom (framed f b) e r.ty (loaded w b) v) → HasPartsBetweenRounds (framed f b) v }
+    ensures reaps { (f : Frame) (u : World) → IsBetweenRounds f u → HasPartsBetweenRounds f u → (es : List ℕ) → AreReapable u es →
+        (vs : List Event) (v : World) → LeadsTo node_has_work node_steps (reaps_loaded u es) vs v → IsQuiet node_has_work v →
+        HasPartsBetweenRounds f v }
+    ensures looks { (f : Frame) (u : World) → IsBetweenRounds f u → HasPartsBetweenRounds f u → (vs : List Event) (v : World) →
+        LeadsTo node_has_work node_steps (look_loaded u) vs v → HasPartsBetweenRounds f v }
+{}
+
+/// What these laws ask is true of a world as it is opened, with the built-in definitions, and a batch that creates an entity whose base
+/// part two senders call, one from its own base node and one from another.
+pub fn a_batch_for_an_opened_world_fits()
+    ensures fits { MayBeLoaded opening empty_world first_batch }
+    ensures alone { IsAlone 1 empty_world first_batch }
+    ensures one { holders (loaded empty_world first_batch) 1 ≡ 1 }
+{}
