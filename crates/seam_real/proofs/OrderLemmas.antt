@@ -1,5 +1,6 @@
 -- What entries are seen before: the orders from which something came, and the senders that have a place.
-use Rattle.std.proofs.Common.{◌≡◌, ◌≤◌, ◌<◌, ◌+◌, ℕ, zero, suc, Bool, true, false, cond, ◌&&◌, ◌||◌, eqb, List, [], ◌∷◌, ◌++◌, length, take, drop}
+use Rattle.std.proofs.Common.{◌≡◌, ◌≤◌, ◌<◌, ◌+◌, ℕ, zero, suc, Bool, true, false, cond, ◌&&◌, ◌||◌, eqb, List, [], ◌∷◌, ◌++◌, length}
+use Rattle.std.proofs.Common.{take, drop}
 use Rattle.std.proofs.Common.{ltb, inl, inr, Result, Ok, Err, OnOk, get_or, set, Option, None, Some, refl, sym, ap, subst, ◌∙◌, arith, map}
 use Rattle.std.specs.Ordering.{nat_cmp, eq_by_cmp, is_eq, match_ordering}
 use Rattle.std.specs.declared.cmp.Ordering.TheVariants.{Less, Equal, Greater}
@@ -60,7 +61,8 @@ not_one : (b : Bool) → (b && false) ≡ true → ⊥
 not_one true t = cc
 not_one false t = cc
 
-new_step : (n : ℕ) (held : List (ℕ × Call)) → is_new (record { next = n; held = held }) ≡ true → new_order ≡ record { next = n; held = held }
+new_step : (n : ℕ) (held : List (ℕ × Call)) → is_new (record { next = n; held = held }) ≡ true →
+    new_order ≡ record { next = n; held = held }
 new_step n [] t = let e = one_of n (eqb n 1) refl t in λ i. record { next = e i; held = [] }
 new_step n (x ∷ xs) t = absurd (not_one (eqb n 1) t)
 
@@ -154,7 +156,8 @@ module _ (s : Sender) (past : Entries) where
   ranks_same o n [] = refl
   ranks_same o n (a ∷ before) = ap (λ l. rank_of a.0 ∷ l) (ranks_same o n before)
 
-  less_there : (k : ℕ) (o : OrderView Call) (before : Entries) → AllByRecursion (λ y. nat_cmp k y ≡ Less) (ranks (before ++ (s, o) ∷ past)) →
+  less_there : (k : ℕ) (o : OrderView Call) (before : Entries) →
+      AllByRecursion (λ y. nat_cmp k y ≡ Less) (ranks (before ++ (s, o) ∷ past)) →
       nat_cmp k (rank_of s) ≡ Less
   less_there k o [] h = h.0
   less_there k o (a ∷ before) h = less_there k o before h.1
@@ -162,7 +165,8 @@ module _ (s : Sender) (past : Entries) where
   pub apart_before : (o : OrderView Call) (before : Entries) → AreOrdered (before ++ (s, o) ∷ past) → Apart (rank_of s) before
   apart_before o [] h = tt
   apart_before o (a ∷ before) h = (
-    apart_of (rank_of a.0) (rank_of s) (less_there (rank_of a.0) o before (sorted_head nat_cmp (rank_of a.0) (ranks (before ++ (s, o) ∷ past)) h)),
+    apart_of (rank_of a.0) (rank_of s)
+        (less_there (rank_of a.0) o before (sorted_head nat_cmp (rank_of a.0) (ranks (before ++ (s, o) ∷ past)) h)),
     apart_before o before (sorted_tail nat_cmp (rank_of a.0) (ranks (before ++ (s, o) ∷ past)) h),
   )
 
@@ -175,7 +179,8 @@ module _ (s : Sender) (past : Entries) where
   apart_after o (a ∷ before) h = apart_after o before (sorted_tail nat_cmp (rank_of a.0) (ranks (before ++ (s, o) ∷ past)) h)
 
   all_with : (k : ℕ) (n : OrderView Call) (before : Entries) → nat_cmp k (rank_of s) ≡ Less →
-      AllByRecursion (λ y. nat_cmp k y ≡ Less) (ranks (before ++ past)) → AllByRecursion (λ y. nat_cmp k y ≡ Less) (ranks (before ++ (s, n) ∷ past))
+      AllByRecursion (λ y. nat_cmp k y ≡ Less) (ranks (before ++ past)) →
+      AllByRecursion (λ y. nat_cmp k y ≡ Less) (ranks (before ++ (s, n) ∷ past))
   all_with k n [] l h = (l, h)
   all_with k n (a ∷ before) l h = (h.0, all_with k n before l h.1)
 
@@ -259,7 +264,8 @@ pub order_absent : (ps : Entries) (s : Sender) (i : ℕ) → IsGap ps (rank_of s
 order_absent ps s i g =
     ap order_or (table.get-from_entries nat_cmp_total (shown ps) (rank_of s) ∙ find_apart (rank_of s) ps (gap_apart ps (rank_of s) i g))
 
-order_in_parts : (before past : Entries) (e : Entry) → AreOrdered (before ++ e ∷ past) → order_of (view_of (before ++ e ∷ past)).orders e.0 ≡ e.1
+order_in_parts : (before past : Entries) (e : Entry) → AreOrdered (before ++ e ∷ past) →
+    order_of (view_of (before ++ e ∷ past)).orders e.0 ≡ e.1
 order_in_parts before past e h =
     ap order_or (table.get-from_entries nat_cmp_total (shown (before ++ e ∷ past)) (rank_of e.0))
     ∙ find_entry e.0 past e.1 before (apart_before e.0 past e.1 before h) (apart_after e.0 past e.1 before h)
@@ -312,16 +318,21 @@ any_apart : (q : ℕ) (ps : Entries) → Apart q ps → list_any (eq_by_cmp nat_
 any_apart q [] h = refl
 any_apart q (p ∷ ps) h = rw h.0 (any_apart q ps h.1)
 
-any_there : (s : Sender) (n : OrderView Call) (before past : Entries) → list_any (eq_by_cmp nat_cmp (rank_of s)) (ranks (before ++ (s, n) ∷ past)) ≡ true
+any_there : (s : Sender) (n : OrderView Call) (before past : Entries) →
+    list_any (eq_by_cmp nat_cmp (rank_of s)) (ranks (before ++ (s, n) ∷ past)) ≡ true
 any_there s n [] past = rw (same_rank (rank_of s)) refl
 any_there s n (a ∷ before) past =
     elim (is_eq (nat_cmp (rank_of s) (rank_of a.0))) as (λ b.
-    (b || list_any (eq_by_cmp nat_cmp (rank_of s)) (ranks (before ++ (s, n) ∷ past))) ≡ true) [ true ↦ refl | false ↦ any_there s n before past ]
+    (b || list_any (eq_by_cmp nat_cmp (rank_of s)) (ranks (before ++ (s, n) ∷ past))) ≡ true) [
+      | true ↦ refl
+      | false ↦ any_there s n before past
+    ]
 
 pub no_place : (ps : Entries) (q i : ℕ) → IsGap ps q i → set_of.contains (view_of ps).senders q ≡ false
 no_place ps q i g = set_of.contains-from_list nat_cmp_total (ranks ps) q ∙ any_apart q ps (gap_apart ps q i g)
 
-pub place_made : (ps : Entries) (s : Sender) (i : ℕ) (n : OrderView Call) → set_of.contains (view_of (insert ps i (s, n))).senders (rank_of s) ≡ true
+pub place_made : (ps : Entries) (s : Sender) (i : ℕ) (n : OrderView Call) →
+    set_of.contains (view_of (insert ps i (s, n))).senders (rank_of s) ≡ true
 place_made ps s i n =
     set_of.contains-from_list nat_cmp_total (ranks (insert ps i (s, n))) (rank_of s) ∙ any_there s n (take i ps) (drop i ps)
 

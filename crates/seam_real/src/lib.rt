@@ -11,3 +11,6 @@ mod real;
 pub use orders::Orders;
 pub use real::{After, Did, Real, Witness};
 pub use seam_memory::NoMemoryFor;
+
+#[cfg(test)]
+mod tests;

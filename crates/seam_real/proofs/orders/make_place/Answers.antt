@@ -17,7 +17,8 @@ pub returns-clause-same : goal.returns-clause-same
 returns-clause-same c =
     let ps = c.args.entries.now.items in
     ap (λ l. (view_of l).orders) c.insert.ensures.items
-    ∙ either (λ l. (view_of l).orders ≡ (view_of ps).orders) (is_ok c.insert.result) (insert ps c.in-Err.at (c.args.sender.now, c.new.result)) ps
+    ∙ either (λ l. (view_of l).orders ≡ (view_of ps).orders) (is_ok c.insert.result)
+    (insert ps c.in-Err.at (c.args.sender.now, c.new.result)) ps
     (orders_inserted ps c.args.sender.now c.in-Err.at c.new.result (new_is c.new.result c.new.ensures.next c.new.ensures.held)) refl
 
 pub returns-clause-room : goal.returns-clause-room
@@ -27,7 +28,8 @@ returns-clause-room c =
     let P = set.contains (view_of c.insert.new.self.items).senders (rank_of c.args.sender.now) ≡ true in
     elim c.match-insert.branch [
       | in-Ok w ↦
-          subst (λ r. OnOk r P) (sym w.result-is) (ap (λ l. set.contains (view_of l).senders (rank_of c.args.sender.now)) (c.insert.ensures.items
+          subst (λ r. OnOk r P) (sym w.result-is)
+          (ap (λ l. set.contains (view_of l).senders (rank_of c.args.sender.now)) (c.insert.ensures.items
           ∙ ap (λ r. cond (is_ok r) more ps) w.in-Ok.is) ∙ place_made ps c.args.sender.now c.in-Err.at c.new.result)
       | in-Err-insert w ↦ subst (λ r. OnOk r P) (sym w.result-is) tt
     ]

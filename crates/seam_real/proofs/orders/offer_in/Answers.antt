@@ -10,7 +10,8 @@ use Rattle.seam_real.proofs.orders.offer_in.Goals as goal
 pub unreachable-requires : goal.unreachable-requires
 unreachable-requires c =
     let gap = gap_of _ c.args.entries.now.items _ _ _ c.deref.ensures.value c.rank.ensures.place c.in_default.ensures.absent in
-    let e : false ≡ true = sym (no_place c.args.entries.now.items (rank_of c.args.call.sender) c.in_default.field-0 gap) ∙ c.requires.room in
+    let e : false ≡ true =
+    sym (no_place c.args.entries.now.items (rank_of c.args.call.sender) c.in_default.field-0 gap) ∙ c.requires.room in
     cc
 
 pub offer-requires-clause-not_held : goal.offer-requires-clause-not_held
