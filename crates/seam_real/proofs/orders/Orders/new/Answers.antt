@@ -1,0 +1,8 @@
+use Rattle.std.proofs.Common.{subst, sym}
+use Rattle.std.specs.List.Sorted.{IsStrictlySortedBy}
+use Rattle.seam_real.specs.Places.{AreOrdered}
+use Rattle.seam_real.proofs.OrderLemmas.{ordered_none}
+use Rattle.seam_real.proofs.orders.Orders.new.Goals as goal
+
+pub invariant_of-result : goal.invariant_of-result
+invariant_of-result c = subst AreOrdered (sym c.new.ensures.items) ordered_none
