@@ -1,7 +1,6 @@
 -- Reals after calls.
 use Rattle.std.proofs.Common.{◌≡◌, ℕ, Bool, true, eqb, sym, ap, ◌∙◌, subst, arith, Result, IfOk, OnOk}
 use Rattle.std.specs.Ordering.{nat_cmp, match_ordering}
-use Rattle.std.specs.declared.cmp.Ordering.{Ordering}
 use Rattle.std.specs.declared.cmp.Ordering.TheVariants.{Equal}
 use Rattle.std.proofs.lemmas.Bool.Decides.{nat_tests}
 use Rattle.seam_call.specs.declared.call.Call.{Call}

@@ -1,20 +1,18 @@
 //! An entity's real.
 
-ghost use Rattle.std.specs.Prelude.{◌≡◌, ◌≤◌, ◌<◌, ◌^◌, ℕ, IfOk, IfErr, OnOk, OnErr, [], true, is_some};
-ghost use Rattle.seam_defs.specs.declared.settings.Settings.{Settings as AllSettings};
-ghost use Rattle.seam_steps.specs.Reals.{created, copy_of_real};
-ghost use Rattle.seam_steps.specs.Settle.{settled_to};
-ghost use Rattle.seam_steps.specs.Loads.{real_begins};
-ghost use Rattle.seam_steps.specs.Here.{Here};
-ghost use Rattle.seam_real.specs.Calls.{node_with, with_after, met, offered as after_call, HasRoom};
+ghost use Rattle.std.specs.Prelude.{◌≡◌, ◌≤◌, ◌<◌, ◌^◌, ◌==◌, ℕ, IfOk, IfErr, OnOk, OnErr, [], true, false, is_some};
 ghost use Rattle.std.specs.FinSet as set;
-ghost use Rattle.std.specs.Prelude.{◌==◌, false};
-ghost use Rattle.seam_defs.specs.Types.{type_of};
 ghost use Rattle.seam_defs.specs.Deeds.{after as after_deed};
 ghost use Rattle.seam_defs.specs.Tests.{changes};
+ghost use Rattle.seam_defs.specs.Types.{type_of};
+ghost use Rattle.seam_defs.specs.declared.settings.Settings.{Settings as AllSettings};
 ghost use Rattle.seam_order.specs.Held.{item_at};
 ghost use Rattle.seam_entity.specs.Orders.{order_of};
-ghost use Rattle.seam_steps.specs.Reals.{with_deed, with_offer, executed, public_after, shows};
+ghost use Rattle.seam_steps.specs.Here.{Here};
+ghost use Rattle.seam_steps.specs.Loads.{real_begins};
+ghost use Rattle.seam_steps.specs.Reals.{created, copy_of_real, with_deed, with_offer, executed, public_after, shows};
+ghost use Rattle.seam_steps.specs.Settle.{settled_to};
+ghost use Rattle.seam_real.specs.Calls.{node_with, with_after, met, offered as after_call, HasRoom};
 ghost use Rattle.seam_real.specs.declared.real.Did.TheVariants.{Done as DidDone};
 
 use crate::orders::Orders;

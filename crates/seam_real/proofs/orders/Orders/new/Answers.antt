@@ -1,5 +1,4 @@
 use Rattle.std.proofs.Common.{subst, sym}
-use Rattle.std.specs.List.Sorted.{IsStrictlySortedBy}
 use Rattle.seam_real.specs.Places.{AreOrdered}
 use Rattle.seam_real.proofs.OrderLemmas.{ordered_none}
 use Rattle.seam_real.proofs.orders.Orders.new.Goals as goal
