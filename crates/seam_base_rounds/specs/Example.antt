@@ -1,11 +1,11 @@
 -- A batch for a world as it is opened: it creates an entity, and two senders call its base part.
+use Rattle.std.specs.Prelude.{[]}
 use Rattle.seam_defs.specs.Builtin.{builtin}
 use Rattle.seam_defs.specs.Settings.{standard}
 use Rattle.seam_call.specs.declared.order.Batch.{Batch}
 use Rattle.seam_moves.specs.Frames.{Frame}
 use Rattle.seam_rounds.specs.Rounds.{first_frame}
 use Rattle.seam_base_calls.specs.Example.{batch_with}
-use Rattle.std.specs.Prelude.{[]}
 
 abbrev pub opening : Frame
 opening = first_frame builtin standard

@@ -5,8 +5,8 @@
 //! between rounds and the fitting batch of `seam_between`; *MayBeLoaded* is both. These laws speak of each entity of the loaded world,
 //! whether it was there before or the batch creates it.
 //!
-//! A client is in it by what it may be shown alone: over a round's calls its lines keep room (*LinesKeepRoom*), which is a premise here. Its
-//! updates are not in the record.
+//! A client is in it by what it may be shown alone: over a round's calls its lines keep room (*LinesKeepRoom*), which is a premise here.
+//! Its updates are not in the record.
 //!
 //! Of `proofs/`, `PartLoads` (what a load makes of a base part at a node), `Loaded` (and in the world), `Turns` (its calls), `Going`
 //! (every list of events), `CallsEnd` (a quiet world after them), `Still` (a part that no one calls) and `Calms` (reaps and looks) are for
