@@ -5,3 +5,4 @@ mod Following
 mod Alone
 mod Passing
 mod HandedOver
+mod ExampleCounts

@@ -17,10 +17,12 @@ ghost use Rattle.seam_call.specs.declared.order.Batch.{Batch};
 ghost use Rattle.seam_entity.specs.Reals.{RealView};
 ghost use Rattle.seam_entity.specs.declared.message.Msg.{Msg};
 ghost use Rattle.seam_steps.specs.Slots.{NextPlace};
+ghost use Rattle.seam_steps.specs.EarlyCall as early;
 ghost use Rattle.seam_steps.specs.Nodes.{World, node_steps, node_has_work};
 ghost use Rattle.seam_steps.specs.Loads.{loaded};
 ghost use Rattle.seam_moves.specs.Frames.{Frame};
 ghost use Rattle.seam_moves.specs.Sights.{Has, entity_flow};
+ghost use Rattle.seam_ones.specs.Example.{events_of};
 ghost use Rattle.seam_ones.specs.Ones.{real_in};
 ghost use Rattle.seam_between.specs.Between.{IsBetweenRounds, IsFitting};
 ghost use Rattle.seam_ranks.specs.Ranks.{rank_of, ComesTo, AreRanked, Climbs};
@@ -56,3 +58,13 @@ pub fn a_generation_counts_hand_overs()
         LeadsTo node_has_work node_steps (loaded w b) es v → (j : ℕ) (q : RealView) → real_in ((entity_flow e v).slot j) ≡ Some q →
         q.generation ≡ r.generation + hand_overs e (loaded w b) es }
 {}
+
+/// In the worked row of an early call, the first call of the second sender comes after the hand-over to where the real was, and is passed
+/// on once; the second one comes to the real, and is not.
+pub fn a_worked_row_counts_both()
+    ensures handed { hand_overs 1 early.world_0 (events_of early.steps) ≡ 1 }
+    ensures passed { passes 1 2 1 early.world_0 (events_of early.steps) ≡ 1 }
+    ensures direct { passes 1 2 2 early.world_0 (events_of early.steps) ≡ 0 }
+{
+    seam_steps::rows::an_early_call_is_held();
+}
