@@ -140,7 +140,8 @@ pub passed_once : IsRow 1 1 world_0 steps → passes 1 2 1 world_0 (events_of st
 passed_once row = counted_along (passed 1) 1 1 world_0 steps row ∙ rw (first_3, first_4, first_5, first_7, first_8, first_9, first_11) refl
 
 pub never_passed : IsRow 1 1 world_0 steps → passes 1 2 2 world_0 (events_of steps) ≡ 0
-never_passed row = counted_along (passed 2) 1 1 world_0 steps row ∙ rw (second_3, second_4, second_5, second_7, second_8, second_9, second_11) refl
+never_passed row = counted_along (passed 2) 1 1 world_0 steps row
+    ∙ rw (second_3, second_4, second_5, second_7, second_8, second_9, second_11) refl
 
 pub handed_once : IsRow 1 1 world_0 steps → hand_overs 1 world_0 (events_of steps) ≡ 1
 handed_once row =
