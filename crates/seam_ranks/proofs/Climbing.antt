@@ -32,7 +32,7 @@ module _ (f : Frame) (w : World) (b : Batch) (between : IsBetweenRounds f w) (fi
   abbrev start : Flow Has Msg
   start = entity_flow e (loaded w b)
 
-  no_next : (k : ℕ) → (start.slot k).cell.slot.next ≡ None
+  pub no_next : (k : ℕ) → (start.slot k).cell.slot.next ≡ None
   no_next = (its f w b between fits e home r here).nexts
 
   high_by : (k : ℕ) (o : Option RealView) → real_in (start.slot k) ≡ o → rank_of (start.slot k) ≤ r.generation
@@ -46,7 +46,7 @@ module _ (f : Frame) (w : World) (b : Batch) (between : IsBetweenRounds f w) (fi
     | inr n ↦ absurd (let z = sym ((settled_loaded f w b between fits e home r here).others k n) ∙ at in cc)
   ]
 
-  ranked_loaded : Ranked (framed f b) (frame_loaded f w b between fits) e r.ty (settled_loaded f w b between fits e home r here).type
+  pub ranked_loaded : Ranked (framed f b) (frame_loaded f w b between fits) e r.ty (settled_loaded f w b between fits e home r here).type
       (loaded w b)
   ranked_loaded = record {
     has = one_loaded f w b between fits e home r here;

@@ -1,2 +1,8 @@
 pub mod Ranking
 pub mod Climbing
+mod CallSends
+mod Following
+mod Alone
+mod Passing
+mod HandedOver
+mod ExampleCounts

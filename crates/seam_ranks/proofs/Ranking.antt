@@ -52,7 +52,7 @@ from_right n (x ∷ xs) ys h = right_by (is_hand_from n x) (has_hand_from n (xs 
 above_is : (a b : ℕ) → a ≤ b → nat_le a b ≡ true
 above_is a b h = grind (arith, nat_tests)
 
-hand_from : (n : ℕ) (m : Msg) → is_hand_from n m ≡ true → (r : RealView) × (m ≡ Hand r) × (n ≤ r.generation)
+pub hand_from : (n : ℕ) (m : Msg) → is_hand_from n m ≡ true → (r : RealView) × (m ≡ Hand r) × (n ≤ r.generation)
 hand_from n (Call c) h = cc
 hand_from n (BaseCall c) h = cc
 hand_from n (Hand r) h = (r, refl, grind (arith, nat_tests, h))
@@ -63,7 +63,7 @@ hand_from n Tick h = cc
 hand_from n (Reap e) h = cc
 hand_from n (Update u) h = cc
 
-either : (a b : Bool) → (a || b) ≡ true → (a ≡ true) ⊎ (b ≡ true)
+pub either : (a b : Bool) → (a || b) ≡ true → (a ≡ true) ⊎ (b ≡ true)
 either true b h = inl refl
 either false b h = inr h
 
@@ -210,7 +210,7 @@ module _ (f : Frame) (e : ℕ) (w v : World)
       (omega (arith, now, gen), omega (arith, now, gen, same, up))
 
   -- a hand-over that comes gives its node its rank
-  landed_by : (x : RoadsOf) (r : RealView) → comes g.input ≡ Some (Hand r) → rank_of (after.slot g.k) ≡ r.generation
+  pub landed_by : (x : RoadsOf) (r : RealView) → comes g.input ≡ Some (Hand r) → rank_of (after.slot g.k) ≡ r.generation
   landed_by (plain no_hand gen next silent) r is = absurd (no_hand r is)
   landed_by (departs q p j first no_hand had gone gen next silent z) r is = absurd (no_hand r is)
   landed_by (arrives q at low free there next z) r is =
@@ -257,6 +257,18 @@ module _ (f : Frame) (e : ℕ) (w v : World)
       subst (λ (y : NextPlace). ComesTo after k y.cell y.generation) at
       (subst (λ i. ComesTo after i j q.generation) (sym is) (inr (more_by q j first c.l c.m z c.is c.more)))
 
+  -- a next place that is new has the generation with which the real left
+  raised_by : (x : RoadsOf) (k : ℕ) (n : NextPlace) → Next x k n →
+      ((before.slot k).cell.slot.next ≡ Some n) ⊎ (n.generation ≡ h.real.generation + 1)
+  raised_by x k n (was at) = inl at
+  raised_by x k n (new r q j first is gen same up at z) =
+      let now : q.generation ≡ n.generation = ap (λ (y : NextPlace). y.generation) at in
+      inr (omega (arith, now, gen, same))
+
+  pub nexts_then : (x : RoadsOf) (k : ℕ) (n : NextPlace) → (after.slot k).cell.slot.next ≡ Some n →
+      ((before.slot k).cell.slot.next ≡ Some n) ⊎ (n.generation ≡ h.real.generation + 1)
+  nexts_then x k n at = raised_by x k n (next_of x k n at)
+
   pub ranked_then : (x : RoadsOf) → AreRanked after (top x)
   ranked_then x = record {
     highest = highest_then x;
@@ -302,13 +314,21 @@ module _ (f : Frame) (frame : IsFrame f) (e ty : ℕ) (known : ty < length f.def
     pub routed : IsRouted f e w
     pub ranks : AreRanked (entity_flow e w) routed.real.generation
 
+  -- what an event leaves: the ranks after it, none of which fell, and the generation of the real
+  pub record Raises (w v : World) (h : Ranked w) : Type 0 where
+    pub after : Ranked v
+    pub stays : (k : ℕ) → rank_of ((entity_flow e w).slot k) ≤ rank_of ((entity_flow e v).slot k)
+    pub nexts : (k : ℕ) (n : NextPlace) → ((entity_flow e v).slot k).cell.slot.next ≡ Some n →
+        (((entity_flow e w).slot k).cell.slot.next ≡ Some n) ⊎ (n.generation ≡ h.routed.real.generation + 1)
+    pub raised : after.routed.real.generation
+        ≡ h.routed.real.generation + cond {A = ℕ} (is_handed_over h.routed.place after.routed.place) 1 0
+
   module _ (w : World) (v : Event) (h : Ranked w) (on : enabled node_has_work w v ≡ true) where
     abbrev next : World
     next = happens node_steps w v
 
-    -- what an event leaves of the ranks
-    pub climbs : Climbs e w next
-    climbs =
+    pub raises : Raises w next h
+    raises =
         let o = occurs node_has_work w v on in
         let calm = calm_of f e w v o h.has.fits.frame h.spared in
         let g = goes f frame e ty known w v o h.has calm in
@@ -316,34 +336,34 @@ module _ (f : Frame) (frame : IsFrame f) (e ty : ℕ) (known : ty < length f.def
         let x = road f e w next g space h.routed in
         let rises = routed_by f e w next g space h.routed x in
         record {
-          place = h.routed.place;
-          real = h.routed.real;
-          one = h.routed.one;
-          ranks = h.ranks;
-          place_then = rises.0.place;
-          real_then = rises.0.real;
-          one_then = rises.0.one;
-          ranks_then = subst (AreRanked (entity_flow e next)) (sym rises.1) (ranked_then f e w next g space h.routed h.ranks x);
+          after = record {
+            has = (one_happens f frame e ty known w v o h.has calm).has;
+            spared = spared_happens f e w v o h.has.fits.frame h.spared;
+            routed = rises.0;
+            ranks = subst (AreRanked (entity_flow e next)) (sym rises.1) (ranked_then f e w next g space h.routed h.ranks x);
+          };
           stays = rank_stays f e w next g space h.routed h.ranks x;
+          nexts = nexts_then f e w next g space h.routed h.ranks x;
           raised = rises.1 ∙ (handed_by f e w next g space h.routed h.ranks x
               ∙ ap (λ p. h.routed.real.generation + cond {A = ℕ} (is_handed_over h.routed.place p) 1 0) (sym rises.2));
         }
 
+    pub climbs : Climbs e w next
+    climbs = record {
+      place = h.routed.place;
+      real = h.routed.real;
+      one = h.routed.one;
+      ranks = h.ranks;
+      place_then = raises.after.routed.place;
+      real_then = raises.after.routed.real;
+      one_then = raises.after.routed.one;
+      ranks_then = raises.after.ranks;
+      stays = raises.stays;
+      raised = raises.raised;
+    }
+
   ranked_more : (w : World) (v : Event) → Ranked w → enabled node_has_work w v ≡ true → Ranked (happens node_steps w v)
-  ranked_more w v h on =
-      let o = occurs node_has_work w v on in
-      let calm = calm_of f e w v o h.has.fits.frame h.spared in
-      let g = goes f frame e ty known w v o h.has calm in
-      let space = room f frame e ty known w v o h.has calm in
-      let x = road f e w (happens node_steps w v) g space h.routed in
-      let grown = routed_by f e w (happens node_steps w v) g space h.routed x in
-      record {
-        has = (one_happens f frame e ty known w v o h.has calm).has;
-        spared = spared_happens f e w v o h.has.fits.frame h.spared;
-        routed = grown.0;
-        ranks = subst (AreRanked (entity_flow e (happens node_steps w v))) (sym grown.1)
-            (ranked_then f e w (happens node_steps w v) g space h.routed h.ranks x);
-      }
+  ranked_more w v h on = (raises w v h on).after
 
   pub ranked_leads : (w v : World) (es : List Event) → Ranked w → LeadsTo node_has_work node_steps w es v → Ranked v
   ranked_leads w v es h run = leads_keeps node_has_work node_steps Ranked ranked_more w v es h run
