@@ -13,9 +13,10 @@
 //! The moves of a base part and of a witness are digests of the moves of a node (`specs/PartMoves`, `specs/WitnessMoves`): each law is
 //! proved over them.
 //!
-//! Of `proofs/`, `AloneRuns` and `ClientLeads` (a list of events, without and with a client), `BaseQuiet` (what a quiet world has left),
-//! `RightNodes` (where messages go), `StrayRuns` (routes, and that nothing is stray), `Reaped` (after a reap) and `ClientTold` (what a
-//! step does with a client's updates) are for callers.
+//! Of `proofs/`, `PartSteps` (each move is one of a base part's), `BaseRuns` (an event), `AloneRuns` and `ClientLeads` (a list of
+//! events, without and with a client), `BaseQuiet` (what a quiet world has left), `RightNodes` (where messages go), `StrayRuns` (routes,
+//! and that nothing is stray), `Reaped` (after a reap), `ClientTold` (what a step does with a client's updates) and `ExampleClient` (the
+//! examples, and that loads make them) are for callers.
 #![tactic(auto)]
 
 ghost use Rattle.std.specs.Prelude.{◌≡◌, ℕ, ◌<◌, ◌≤◌, List, [], ◌∷◌, length, true, None, Some, is_some, slice_get};
