@@ -2,7 +2,8 @@
 //! operations, and what one deed does to a state.
 //!
 //! Of `proofs/`, `NameSearch` (a name among names in rising order), `Numbers` (the type of a number is well formed), `WellFormed` (the
-//! built-in types are), `Keeping` (a deed leaves values of a group such) and `TestLemmas` (tests decide their relations) are for callers.
+//! built-in types are), `Starts` (first values are of their group), `Running` and `Keeping` (what a body does; a deed leaves values of a
+//! group such), `GroupsOfGroups` (one group's values of another's) and `TestLemmas` (tests decide their relations) are for callers.
 #![tactic(auto)]
 
 mod builtin;
