@@ -31,8 +31,8 @@ use Rattle.seam_call.specs.Senders.{rank_of}
 use Rattle.seam_entity.specs.Orders.{order_or, order_of}
 use Rattle.seam_entity.specs.declared.message.Msg.{Msg}
 use Rattle.seam_entity.specs.declared.message.Msg.TheVariants.{BaseCall}
-use Rattle.seam_steps.specs.Numbers.{limit, may_rise}
-use Rattle.seam_steps.specs.Calls.{order_is_ready, may_offer}
+use Rattle.seam_entity.specs.Numbers.{limit, may_rise}
+use Rattle.seam_entity.specs.Calls.{order_is_ready, may_offer}
 use Rattle.seam_steps.specs.Bases.{PartView}
 use Rattle.seam_steps.specs.BaseCases.{fits_base_part, may_show}
 use Rattle.seam_steps.specs.Nodes.{NodeView, World, node_steps}

@@ -6,7 +6,7 @@ use Rattle.seam_call.specs.declared.shown.Shown.{Shown}
 use Rattle.seam_call.specs.declared.call.Call.{Call as CallData}
 use Rattle.seam_entity.specs.declared.message.Msg.{Msg}
 use Rattle.seam_entity.specs.declared.message.Msg.TheVariants.{Call, BaseCall, Tick, Reap}
-use Rattle.seam_steps.specs.Here.{Here}
+use Rattle.seam_entity.specs.Here.{Here}
 use Rattle.seam_steps.specs.BaseCases.{tick_to}
 use Rattle.seam_steps.specs.Looks.{numbered}
 use Rattle.seam_moves.specs.Sights.{AtBase}

@@ -29,9 +29,9 @@ use Rattle.seam_call.specs.declared.shown.Update.{Update as UpdateData}
 use Rattle.seam_entity.specs.Reals.{RealView}
 use Rattle.seam_entity.specs.declared.message.Msg.{Msg}
 use Rattle.seam_entity.specs.declared.message.Msg.TheVariants.{Hand, Update}
-use Rattle.seam_steps.specs.Numbers.{limit, may_rise}
-use Rattle.seam_steps.specs.Here.{Here}
-use Rattle.seam_steps.specs.Calls.{may_offer}
+use Rattle.seam_entity.specs.Numbers.{limit, may_rise}
+use Rattle.seam_entity.specs.Here.{Here}
+use Rattle.seam_entity.specs.Calls.{may_offer}
 use Rattle.seam_steps.specs.Bases.{PartView, ProxyView, line_if, base_text}
 use Rattle.seam_steps.specs.BaseCases.{may_show, stray_update, stray_proxy_update, offered_update, shows_next}
 use Rattle.seam_steps.specs.Nodes.{World, node_steps}

@@ -10,8 +10,8 @@ use Rattle.seam_call.specs.declared.order.Order.TheVariants as order
 use Rattle.seam_call.specs.declared.shown.Update.{Update as UpdateData}
 use Rattle.seam_entity.specs.declared.message.Msg.{Msg}
 use Rattle.seam_entity.specs.declared.message.Msg.TheVariants.{Update}
-use Rattle.seam_steps.specs.Here.{Here, type_at}
-use Rattle.seam_steps.specs.Calls.{is_ready}
+use Rattle.seam_entity.specs.Here.{Here, type_at}
+use Rattle.seam_entity.specs.Calls.{is_ready}
 use Rattle.seam_steps.specs.Bases.{PartView, ProxyView, line_if, base_text}
 use Rattle.seam_steps.specs.BaseCases.{with_deed, offered_update, shows_next}
 use Rattle.seam_moves.specs.Sights.{AtBase}

@@ -29,7 +29,7 @@ use Rattle.seam_call.specs.declared.shown.Update.{Update as UpdateData}
 use Rattle.seam_entity.specs.Reals.{RealView}
 use Rattle.seam_entity.specs.declared.message.Msg.{Msg}
 use Rattle.seam_entity.specs.declared.message.Msg.TheVariants.{Call, BaseCall, Hand, Current, GhostSet, GhostDrop, Tick, Reap, Update}
-use Rattle.seam_steps.specs.Here.{Here, cell_count}
+use Rattle.seam_entity.specs.Here.{Here, cell_count}
 use Rattle.seam_steps.specs.Bases.{PartView, ProxyView, line_if, base_text}
 use Rattle.seam_steps.specs.BaseCases.{offered_update, shows_next}
 use Rattle.seam_steps.specs.Looks.{numbered}

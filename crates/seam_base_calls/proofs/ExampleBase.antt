@@ -19,7 +19,7 @@ use Rattle.seam_call.specs.Senders.{rank_of}
 use Rattle.seam_entity.specs.Orders.{Orders, order_or}
 use Rattle.seam_entity.specs.Reals.{RealView}
 use Rattle.seam_entity.specs.declared.message.Msg.{Msg}
-use Rattle.seam_steps.specs.Numbers.{limit}
+use Rattle.seam_entity.specs.Numbers.{limit}
 use Rattle.seam_steps.specs.Bases.{PartView, RouteView}
 use Rattle.seam_steps.specs.BaseCases.{fits_base_part}
 use Rattle.seam_steps.specs.Nodes.{World, node_peers}

@@ -14,7 +14,7 @@ use Rattle.seam_call.specs.declared.order.Order.TheVariants as order
 use Rattle.seam_entity.specs.Reals.{RealView}
 use Rattle.seam_entity.specs.declared.message.Msg.{Msg}
 use Rattle.seam_entity.specs.declared.message.Msg.TheVariants.{Tick}
-use Rattle.seam_steps.specs.Here.{base_numbers}
+use Rattle.seam_entity.specs.Here.{base_numbers}
 use Rattle.seam_steps.specs.Slots.{SlotStep}
 use Rattle.seam_steps.specs.Settle.{haunts_at, ghost_messages}
 use Rattle.seam_steps.specs.CellCases.{current_to}

@@ -13,8 +13,8 @@ use Rattle.seam_call.specs.declared.order.Order.TheVariants as order
 use Rattle.seam_call.specs.declared.shown.Update.{Update as UpdateData}
 use Rattle.seam_entity.specs.declared.message.Msg.{Msg}
 use Rattle.seam_entity.specs.declared.message.Msg.TheVariants.{Call, BaseCall, Hand, Current, GhostSet, GhostDrop, Tick, Reap, Update}
-use Rattle.seam_steps.specs.Numbers.{limit}
-use Rattle.seam_steps.specs.Here.{cell_count, peers_of}
+use Rattle.seam_entity.specs.Numbers.{limit}
+use Rattle.seam_entity.specs.Here.{cell_count, peers_of}
 use Rattle.seam_steps.specs.Bases.{BaseView, PartView, RouteView}
 use Rattle.seam_steps.specs.BaseCases.{may_show, may_execute, stray_base_call, stray_current, stray_update, stray_proxy_update}
 use Rattle.seam_steps.specs.BaseCases.{is_base_node_of}

@@ -12,7 +12,7 @@ use Rattle.seam_call.specs.declared.call.Call.{Call as CallData}
 use Rattle.seam_call.specs.Senders.{rank_of}
 use Rattle.seam_entity.specs.declared.message.Msg.{Msg}
 use Rattle.seam_steps.specs.Bases.{PartView}
-use Rattle.seam_steps.specs.Here.{Here}
+use Rattle.seam_entity.specs.Here.{Here}
 use Rattle.seam_steps.specs.Nodes.{World, node_steps}
 use Rattle.seam_moves.specs.Frames.{Frame, here_at, IsInFrame}
 use Rattle.seam_moves.specs.Sights.{AtBase, mine, concerning, has_of}

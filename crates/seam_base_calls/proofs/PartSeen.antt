@@ -23,8 +23,8 @@ use Rattle.seam_call.specs.Senders.{rank_of}
 use Rattle.seam_entity.specs.Orders.{order_or}
 use Rattle.seam_entity.specs.declared.message.Msg.{Msg}
 use Rattle.seam_entity.specs.declared.message.Msg.TheVariants.{BaseCall}
-use Rattle.seam_steps.specs.Here.{Here, base_of}
-use Rattle.seam_steps.specs.Calls.{order_is_ready, ready_order}
+use Rattle.seam_entity.specs.Here.{Here, base_of}
+use Rattle.seam_entity.specs.Calls.{order_is_ready, ready_order}
 use Rattle.seam_steps.specs.Bases.{PartView}
 use Rattle.seam_steps.specs.BaseCases.{may_call, stray_base_call}
 use Rattle.seam_moves.specs.Frames.{Frame, here_at}

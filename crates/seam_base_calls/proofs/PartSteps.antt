@@ -17,7 +17,7 @@ use Rattle.seam_entity.specs.Orders.{order_of}
 use Rattle.seam_entity.specs.Reals.{RealView}
 use Rattle.seam_entity.specs.declared.message.Msg.{Msg}
 use Rattle.seam_entity.specs.declared.message.Msg.TheVariants.{Call, BaseCall, Hand, Current, GhostSet, GhostDrop, Tick, Reap, Update}
-use Rattle.seam_steps.specs.Here.{Here, cell_count, base_numbers, base_of}
+use Rattle.seam_entity.specs.Here.{Here, cell_count, base_numbers, base_of}
 use Rattle.seam_steps.specs.Bases.{PartView, ProxyView}
 use Rattle.seam_steps.specs.BaseCases.{offered, after_showing, tick_to}
 use Rattle.seam_steps.specs.Slots.{SlotStep}

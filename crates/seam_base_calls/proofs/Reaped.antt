@@ -20,7 +20,7 @@ use Rattle.seam_call.specs.declared.order.Order.{Order}
 use Rattle.seam_call.specs.declared.order.Order.TheVariants as order
 use Rattle.seam_entity.specs.declared.message.Msg.{Msg}
 use Rattle.seam_entity.specs.declared.message.Msg.TheVariants.{Reap}
-use Rattle.seam_steps.specs.Here.{Here, base_of}
+use Rattle.seam_entity.specs.Here.{Here, base_of}
 use Rattle.seam_steps.specs.Loads.{order_if, reap_ordered_at, with_reap, reaps_loaded}
 use Rattle.seam_steps.specs.Bases.{BaseView, RouteView}
 use Rattle.seam_steps.specs.BaseCases.{unless_stray, on_route, base_task, base_steps}

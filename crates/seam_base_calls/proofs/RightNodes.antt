@@ -16,9 +16,9 @@ use Rattle.seam_call.specs.declared.shown.Shown.{Shown}
 use Rattle.seam_entity.specs.Reals.{RealView}
 use Rattle.seam_entity.specs.declared.message.Msg.{Msg}
 use Rattle.seam_entity.specs.declared.message.Msg.TheVariants.{BaseCall, Hand, Current, GhostSet, GhostDrop, Tick, Update}
-use Rattle.seam_steps.specs.Numbers.{limit}
-use Rattle.seam_steps.specs.Here.{Here, cell_count, base_of}
-use Rattle.seam_steps.specs.Reals.{copy_of_real}
+use Rattle.seam_entity.specs.Numbers.{limit}
+use Rattle.seam_entity.specs.Here.{Here, cell_count, base_of}
+use Rattle.seam_entity.specs.Executing.{copy_of_real}
 use Rattle.seam_steps.specs.Slots.{NextPlace, SlotStep}
 use Rattle.seam_steps.specs.Settle.{told, told_unless, ghost_message, ghost_messages, haunts_at, home_after}
 use Rattle.seam_steps.specs.CellCases.{current_to, drop_if, drop_at, drops}

@@ -8,7 +8,7 @@ use Rattle.seam_flows.specs.Flows.{comes, letter_in}
 use Rattle.seam_flows.proofs.Following.{slots_kept, letters_kept}
 use Rattle.seam_entity.specs.declared.message.Msg.{Msg}
 use Rattle.seam_entity.specs.declared.message.Msg.TheVariants.{Reap}
-use Rattle.seam_steps.specs.Here.{Here, cell_count}
+use Rattle.seam_entity.specs.Here.{Here, cell_count}
 use Rattle.seam_steps.specs.Slots.{NextPlace}
 use Rattle.seam_steps.specs.Bases.{RouteView}
 use Rattle.seam_steps.specs.Nodes.{NodeView, World, node_steps}

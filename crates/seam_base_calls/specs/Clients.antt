@@ -15,7 +15,7 @@ use Rattle.seam_entity.specs.Orders.{new_order}
 use Rattle.seam_entity.specs.Reals.{RealView}
 use Rattle.seam_entity.specs.declared.message.Msg.{Msg}
 use Rattle.seam_entity.specs.declared.message.Msg.TheVariants.{Call, BaseCall, Hand, Current, GhostSet, GhostDrop, Tick, Reap, Update}
-use Rattle.seam_steps.specs.Numbers.{limit}
+use Rattle.seam_entity.specs.Numbers.{limit}
 use Rattle.seam_steps.specs.Bases.{PartView, ProxyView}
 use Rattle.seam_steps.specs.BaseCases.{stray_update}
 use Rattle.seam_steps.specs.Nodes.{World}

@@ -13,8 +13,8 @@ use Rattle.seam_call.specs.declared.shown.Update.{Update as UpdateData}
 use Rattle.seam_entity.specs.Orders.{order_of}
 use Rattle.seam_entity.specs.declared.message.Msg.{Msg}
 use Rattle.seam_entity.specs.declared.message.Msg.TheVariants.{Call, BaseCall, Hand, Current, GhostSet, GhostDrop, Tick, Reap, Update}
-use Rattle.seam_steps.specs.Here.{Here, cell_count, base_of}
-use Rattle.seam_steps.specs.Calls.{is_ready, ready_order}
+use Rattle.seam_entity.specs.Here.{Here, cell_count, base_of}
+use Rattle.seam_entity.specs.Calls.{is_ready, ready_order}
 use Rattle.seam_steps.specs.Bases.{PartView, ProxyView}
 use Rattle.seam_steps.specs.BaseCases.{may_call, with_order, with_offer, executed, offered_update, shows_next, is_base_node_of}
 use Rattle.seam_steps.specs.BaseCases.{stray_base_call, stray_update}

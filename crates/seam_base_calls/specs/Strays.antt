@@ -6,8 +6,8 @@ use Rattle.seam_machine.specs.Nets.{link}
 use Rattle.seam_call.specs.declared.order.Order.{Order}
 use Rattle.seam_entity.specs.declared.message.Msg.{Msg}
 use Rattle.seam_entity.specs.declared.message.Msg.TheVariants.{Call, BaseCall, Hand, Current, GhostSet, GhostDrop, Tick, Reap, Update}
-use Rattle.seam_steps.specs.Numbers.{limit}
-use Rattle.seam_steps.specs.Here.{cell_count}
+use Rattle.seam_entity.specs.Numbers.{limit}
+use Rattle.seam_entity.specs.Here.{cell_count}
 use Rattle.seam_steps.specs.CellCases.{about}
 use Rattle.seam_steps.specs.Bases.{BaseView, PartView, RouteView}
 use Rattle.seam_steps.specs.BaseCases.{may_execute, is_stray, stray_order}

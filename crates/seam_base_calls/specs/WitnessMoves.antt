@@ -5,8 +5,8 @@ use Rattle.seam_call.specs.declared.shown.Shown.{Shown}
 use Rattle.seam_entity.specs.Reals.{RealView, WitnessView}
 use Rattle.seam_entity.specs.declared.message.Msg.{Msg}
 use Rattle.seam_entity.specs.declared.message.Msg.TheVariants.{Hand}
-use Rattle.seam_steps.specs.Numbers.{limit}
-use Rattle.seam_steps.specs.Here.{Here, base_of}
+use Rattle.seam_entity.specs.Numbers.{limit}
+use Rattle.seam_entity.specs.Here.{Here, base_of}
 use Rattle.seam_steps.specs.Looks.{numbered}
 use Rattle.seam_moves.specs.Sights.{AtCell}
 use Rattle.seam_ones.specs.Ones.{real_of}

@@ -14,11 +14,11 @@ use Rattle.seam_call.specs.declared.create.Create.{Create}
 use Rattle.seam_call.specs.declared.order.Batch.{Batch}
 use Rattle.seam_entity.specs.Orders.{order_or}
 use Rattle.seam_entity.specs.Reals.{RealView}
-use Rattle.seam_steps.specs.Here.{Here}
-use Rattle.seam_steps.specs.Reals.{created}
+use Rattle.seam_entity.specs.Here.{Here}
+use Rattle.seam_entity.specs.Executing.{created, real_begins}
 use Rattle.seam_steps.specs.Bases.{PartView, ProxyView}
 use Rattle.seam_steps.specs.Nodes.{NodeView, World}
-use Rattle.seam_steps.specs.Loads.{real_begins, new_part, part_begins, loaded}
+use Rattle.seam_steps.specs.Loads.{new_part, part_begins, loaded}
 use Rattle.seam_moves.specs.Frames.{Frame, here_at}
 use Rattle.seam_moves.specs.Sights.{Has, has_of, has_none, entity_flow}
 use Rattle.seam_ones.specs.Ones.{real_in}

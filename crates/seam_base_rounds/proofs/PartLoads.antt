@@ -13,7 +13,7 @@ use Rattle.seam_call.specs.declared.create.Create.{Create}
 use Rattle.seam_call.specs.declared.order.Order.{Order}
 use Rattle.seam_call.specs.declared.order.Batch.{Batch}
 use Rattle.seam_steps.specs.Maps.{Map}
-use Rattle.seam_steps.specs.Here.{Here, cell_count, base_of}
+use Rattle.seam_entity.specs.Here.{Here, cell_count, base_of}
 use Rattle.seam_steps.specs.Bases.{BaseView, PartView, ProxyView}
 use Rattle.seam_steps.specs.Nodes.{NodeView}
 use Rattle.seam_steps.specs.Nodes.NodeView.{Cell, Base}

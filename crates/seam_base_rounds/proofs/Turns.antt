@@ -23,8 +23,8 @@ use Rattle.seam_call.specs.Senders.{rank_of}
 use Rattle.seam_entity.specs.Orders.{order_or}
 use Rattle.seam_entity.specs.Reals.{RealView}
 use Rattle.seam_entity.specs.declared.message.Msg.{Msg}
-use Rattle.seam_steps.specs.Numbers.{limit}
-use Rattle.seam_steps.specs.Here.{cell_count}
+use Rattle.seam_entity.specs.Numbers.{limit}
+use Rattle.seam_entity.specs.Here.{cell_count}
 use Rattle.seam_steps.specs.Bases.{PartView}
 use Rattle.seam_steps.specs.BaseCases.{fits_base_part}
 use Rattle.seam_steps.specs.Nodes.{NodeView, World, node_has_work}

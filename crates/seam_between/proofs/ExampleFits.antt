@@ -4,9 +4,9 @@ use Rattle.std.proofs.Common.{List, ◌∷◌, Option, Some, arith, inl, inr}
 use Rattle.std.specs.List.{IsDistinct}
 use Rattle.std.proofs.lemmas.Bool.{cases_eq, ne_eqb}
 use Rattle.seam_delivery.specs.Numbered.{number_from}
-use Rattle.seam_steps.specs.Reals.{fits_cell_part}
+use Rattle.seam_entity.specs.Executing.{fits_cell_part, real_begins}
 use Rattle.seam_steps.specs.Holders.{holders}
-use Rattle.seam_steps.specs.Loads.{real_begins, loaded}
+use Rattle.seam_steps.specs.Loads.{loaded}
 use Rattle.seam_steps.specs.EarlyCall.{world_12, hit_twice}
 use Rattle.seam_steps.proofs.Tables.{computing}
 use Rattle.seam_moves.specs.Frames.{here_at}

@@ -15,13 +15,13 @@ use Rattle.seam_call.specs.declared.create.Create.{Create}
 use Rattle.seam_call.specs.declared.order.Order.{Order}
 use Rattle.seam_call.specs.declared.order.Batch.{Batch}
 use Rattle.seam_entity.specs.Reals.{RealView}
-use Rattle.seam_steps.specs.Here.{Here, cell_count}
+use Rattle.seam_entity.specs.Here.{Here, cell_count}
 use Rattle.seam_steps.specs.Cells.{CellView}
 use Rattle.seam_steps.specs.Bases.{BaseView, RouteView}
 use Rattle.seam_steps.specs.Nodes.{NodeView, World, node_peers}
 use Rattle.seam_steps.specs.Nodes.NodeView.{Cell, Base}
-use Rattle.seam_steps.specs.Reals.{created}
-use Rattle.seam_steps.specs.Loads.{with_nodes, real_if, part_if, with_route, created_at, with_witness, attached, real_begins, cell_round}
+use Rattle.seam_entity.specs.Executing.{created, real_begins}
+use Rattle.seam_steps.specs.Loads.{with_nodes, real_if, part_if, with_route, created_at, with_witness, attached, cell_round}
 use Rattle.seam_steps.specs.Loads.{base_round, order_if, ordered_at, loaded}
 use Rattle.seam_steps.specs.Valid.{IsCell, IsBase, IsNode}
 use Rattle.seam_moves.specs.Frames.{Frame, here_at, IsBaseAt, IsAt, IsInFrame}

@@ -11,7 +11,7 @@ use Rattle.seam_steps.specs.Nodes.{World, node_steps, node_has_work}
 use Rattle.seam_steps.specs.Loads.{loaded}
 use Rattle.seam_moves.specs.Frames.{Frame}
 use Rattle.seam_moves.specs.Sights.{entity_flow}
-use Rattle.seam_steps.specs.Numbers.{limit}
+use Rattle.seam_entity.specs.Numbers.{limit}
 use Rattle.seam_ones.specs.Burdens.{burden}
 use Rattle.seam_ones.specs.Ones.{real_in, real_of, IsOne, IsSpared, IsFrame, HasOne}
 use Rattle.seam_ones.proofs.Counting.{counted_one, one_counts}

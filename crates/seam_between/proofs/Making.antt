@@ -16,13 +16,13 @@ use Rattle.seam_defs.proofs.Starts.{start_of_group}
 use Rattle.seam_call.specs.declared.create.Create.{Create}
 use Rattle.seam_call.specs.declared.order.Batch.{Batch}
 use Rattle.seam_steps.specs.Maps.{Map, set_at}
-use Rattle.seam_steps.specs.Here.{cell_count, properties, base_of}
+use Rattle.seam_entity.specs.Here.{cell_count, properties, base_of}
 use Rattle.seam_steps.specs.Cells.{CellView}
 use Rattle.seam_steps.specs.Bases.{BaseView}
 use Rattle.seam_steps.specs.Nodes.{NodeView, World}
 use Rattle.seam_steps.specs.Nodes.NodeView.{Cell, Base}
-use Rattle.seam_steps.specs.Calls.{order_passes}
-use Rattle.seam_steps.specs.Reals.{created, fits_cell_part}
+use Rattle.seam_entity.specs.Calls.{order_passes}
+use Rattle.seam_entity.specs.Executing.{created, fits_cell_part}
 use Rattle.seam_steps.proofs.Tables.{entries_empty}
 use Rattle.seam_steps.specs.Valid.{IsNode}
 use Rattle.seam_steps.specs.Loads.{real_if, part_if, with_route, created_at, base_round}

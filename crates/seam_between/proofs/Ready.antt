@@ -10,9 +10,9 @@ use Rattle.seam_flows.specs.Flows.{Flow, slot_at, letters_of}
 use Rattle.seam_flows.specs.Tokens.{Place, In, On}
 use Rattle.seam_entity.specs.Reals.{RealView}
 use Rattle.seam_entity.specs.declared.message.Msg.{Msg}
-use Rattle.seam_steps.specs.Numbers.{limit}
+use Rattle.seam_entity.specs.Numbers.{limit}
 use Rattle.seam_steps.specs.Holders.{holders}
-use Rattle.seam_steps.specs.Here.{cell_count}
+use Rattle.seam_entity.specs.Here.{cell_count}
 use Rattle.seam_steps.specs.Bases.{RouteView}
 use Rattle.seam_steps.specs.Nodes.{NodeView, World, node_has_work}
 use Rattle.seam_steps.specs.Nodes.NodeView.{Cell, Base}

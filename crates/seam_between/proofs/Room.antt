@@ -25,12 +25,13 @@ use Rattle.seam_call.specs.declared.order.Order.TheVariants as order
 use Rattle.seam_call.specs.declared.order.Batch.{Batch}
 use Rattle.seam_entity.specs.Orders.{Orders, order_or}
 use Rattle.seam_entity.specs.Reals.{RealView}
-use Rattle.seam_steps.specs.Numbers.{limit}
+use Rattle.seam_entity.specs.Numbers.{limit}
 use Rattle.seam_steps.specs.Maps.{has_any}
-use Rattle.seam_steps.specs.Here.{cell_count}
+use Rattle.seam_entity.specs.Here.{cell_count}
 use Rattle.seam_steps.specs.Nodes.{NodeView, World, node_has_work}
 use Rattle.seam_steps.specs.Nodes.NodeView.{Cell, Base}
-use Rattle.seam_steps.specs.Loads.{real_begins, cell_round, ordered_at, loaded}
+use Rattle.seam_steps.specs.Loads.{cell_round, ordered_at, loaded}
+use Rattle.seam_entity.specs.Executing.{real_begins}
 use Rattle.seam_moves.specs.Frames.{Frame}
 use Rattle.seam_moves.specs.Sights.{Has, has_of, has_none, times, one_more_if, order_concerns, orders_of, entity_flow}
 use Rattle.seam_ones.specs.Burdens.{held_of, held_in, real_burden, order_burden, node_burden, mine_burden, burden}

@@ -16,13 +16,13 @@ use Rattle.seam_call.specs.declared.order.Order.{Order}
 use Rattle.seam_call.specs.declared.order.Batch.{Batch}
 use Rattle.seam_entity.specs.Reals.{RealView, WitnessView}
 use Rattle.seam_steps.specs.Maps.{Map, set_at}
-use Rattle.seam_steps.specs.Here.{Here, base_of}
+use Rattle.seam_entity.specs.Here.{Here, base_of}
 use Rattle.seam_steps.specs.Cells.{CellView}
 use Rattle.seam_steps.specs.Bases.{BaseView}
 use Rattle.seam_steps.specs.Nodes.{NodeView}
 use Rattle.seam_steps.specs.Nodes.NodeView.{Cell, Base}
-use Rattle.seam_steps.specs.Reals.{created}
-use Rattle.seam_steps.specs.Loads.{real_if, part_if, with_route, created_at, with_witness, attached, real_begins, cell_round, base_round}
+use Rattle.seam_entity.specs.Executing.{created, real_begins}
+use Rattle.seam_steps.specs.Loads.{real_if, part_if, with_route, created_at, with_witness, attached, cell_round, base_round}
 use Rattle.seam_steps.specs.Loads.{order_if, ordered_at}
 use Rattle.seam_steps.proofs.Slots.{get-set_at}
 use Rattle.seam_moves.specs.Sights.{Has, has_of, orders_of, order_concerns}

@@ -14,10 +14,10 @@ use Rattle.seam_call.specs.declared.order.Order.TheVariants as order
 use Rattle.seam_call.specs.declared.order.Batch.{Batch}
 use Rattle.seam_entity.specs.Orders.{order_or}
 use Rattle.seam_entity.specs.Reals.{RealView}
-use Rattle.seam_steps.specs.Numbers.{limit}
-use Rattle.seam_steps.specs.Fitting.{is_inside}
-use Rattle.seam_steps.specs.Here.{cell_count}
-use Rattle.seam_steps.specs.Reals.{fits_cell_part}
+use Rattle.seam_entity.specs.Numbers.{limit}
+use Rattle.seam_entity.specs.Fitting.{is_inside}
+use Rattle.seam_entity.specs.Here.{cell_count}
+use Rattle.seam_entity.specs.Executing.{fits_cell_part}
 use Rattle.seam_steps.specs.Holders.{holders}
 use Rattle.seam_steps.specs.Nodes.{World, node_has_work}
 use Rattle.seam_steps.specs.Loads.{loaded}

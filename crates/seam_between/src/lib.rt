@@ -22,7 +22,7 @@ ghost use Rattle.seam_steps.specs.Nodes.{World, node_steps, node_has_work};
 ghost use Rattle.seam_steps.specs.Loads.{loaded};
 ghost use Rattle.seam_moves.specs.Frames.{Frame, IsInFrame};
 ghost use Rattle.seam_moves.specs.Sights.{entity_flow};
-ghost use Rattle.seam_steps.specs.Numbers.{limit};
+ghost use Rattle.seam_entity.specs.Numbers.{limit};
 ghost use Rattle.seam_ones.specs.Burdens.{burden};
 ghost use Rattle.seam_ones.specs.Ones.{real_in, IsFrame, IsSpared, HasOne};
 ghost use Rattle.seam_steps.specs.EarlyCall as early;

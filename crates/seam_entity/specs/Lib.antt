@@ -1,2 +1,9 @@
 pub mod Orders
 pub mod Reals
+pub mod Numbers
+pub mod Fitting
+pub mod Here
+pub mod Calls
+pub mod Executing
+pub mod Places
+pub mod Preparing

@@ -1,8 +1,12 @@
 //! What nodes hold of an entity and send each other: its real, which is moved and never cloned, and the messages.
 //!
 //! The real is the one copy of an entity that executes calls; ghosts in other cells follow it (BigWorld Server Overview,
-//! real and ghost entities). A real's parts are in one box, so that a message with a real is as small as any other.
-//! `specs/Reals` has what contracts see of a real, `specs/Orders` what they see of the calls that it holds.
+//! real and ghost entities). A real's parts are in one box, so that a message with a real is as small as any other. A call that
+//! changes it makes room first, and changes then what cannot fail: `prepare` gives the state that the call will leave, and
+//! `execute_after` needs no memory.
+//!
+//! `specs/Reals` has what contracts see of a real, `specs/Orders` what they see of the calls that it holds, `specs/Executing` which
+//! calls a real executes and what they leave of it, and `specs/Here` what a node knows beside its entities.
 #![tactic(auto)]
 
 mod message;
@@ -12,6 +16,7 @@ mod real;
 pub use message::{Msg, Parcel};
 pub use orders::Orders;
 pub use real::{After, Did, Real, Witness};
+pub use seam_memory::NoMemoryFor;
 
 #[cfg(test)]
 mod tests;

@@ -1,7 +1,21 @@
 //! The calls of several senders, each sender's in the order of their numbers.
 
+ghost use Rattle.std.specs.Prelude.{◌≡◌, ◌<◌, ◌≤◌, ◌^◌, [], true, false, is_some, IfOk, IfErr, OnOk, OnErr, length, map, option_copied};
+ghost use Rattle.std.specs.List.{AllWithin};
+ghost use Rattle.std.specs.List.Sorted.{IsStrictlySortedBy};
+ghost use Rattle.std.specs.Ordering.{nat_cmp};
+ghost use Rattle.std.specs.FinMap as table;
+ghost use Rattle.std.specs.FinSet as set;
+ghost use Rattle.seam_order.specs.Held.{item_at};
+ghost use Rattle.seam_order.specs.Offers.{offer_answer, after_offer};
+ghost use Rattle.seam_call.specs.Senders.{rank_of};
+ghost use Rattle.seam_entity.specs.Orders.{order_of, view_of};
+ghost use Rattle.seam_entity.specs.Places.{AreOrdered, IsAt, IsGap};
+
 use seam_call::{Call, Sender};
-use seam_order::InOrder;
+use seam_memory::NoMemoryFor;
+use seam_order::{InOrder, Offer};
+use std::alloc::{AllocError, Global};
 use std::marker::Model;
 
 /// The orders of the senders that call a part.
@@ -33,4 +47,148 @@ impl Model for Orders {
     ghost view = { λ o. view_of o.entries.items };
 
     ghost invariant = { λ o. IsStrictlySortedBy nat_cmp (map (λ p. rank_of p.0) o.entries.items) };
+}
+
+// How many of the senders come before that rank.
+fn place_of(entries: &[(Sender, InOrder<Call>)], rank: u64) -> usize
+    requires { AreOrdered entries.now }
+    ensures bound { result ≤ length entries.now }
+    ensures below { AllWithin (λ p. rank_of p.0 < rank) entries.now 0 result }
+    ensures above { AllWithin (λ p. rank ≤ rank_of p.0) entries.now result (length entries.now) }
+{
+    entries.partition_point(|entry| entry.0.rank() < rank)
+}
+
+// Where the sender of that rank is, or where it would go.
+fn search(entries: &[(Sender, InOrder<Call>)], rank: u64) -> Result<usize, usize>
+    requires { AreOrdered entries.now }
+    ensures found { IfOk result (IsAt entries.now rank) }
+    ensures absent { IfErr result (IsGap entries.now rank) }
+{
+    let at = place_of(entries, rank);
+    let Some(entry) = entries.get(at) else {
+        return Err(at);
+    };
+    if entry.0.rank() == rank {
+        Ok(at)
+    } else {
+        Err(at)
+    }
+}
+
+// The number of the sender's call whose turn it is.
+fn next_in(entries: &[(Sender, InOrder<Call>)], sender: Sender) -> u64
+    requires { AreOrdered entries.now }
+    ensures { result ≡ (order_of (view_of entries.now).orders sender).next }
+{
+    match search(entries, sender.rank()) {
+        Ok(at) => entries[at].1.next_number(),
+        Err(_) => 1,
+    }
+}
+
+// Whether the sender's call of that number is held.
+fn holds_in(entries: &[(Sender, InOrder<Call>)], sender: Sender, number: u64) -> bool
+    requires { AreOrdered entries.now }
+    ensures { result ≡ is_some (item_at number (order_of (view_of entries.now).orders sender).held) }
+{
+    match search(entries, sender.rank()) {
+        Ok(at) => entries[at].1.holds(number),
+        Err(_) => false,
+    }
+}
+
+// Makes a place for the sender's order, where there is none.
+fn make_place(entries: &mut Vec<(Sender, InOrder<Call>)>, sender: &Sender) -> Result<(), AllocError>
+    requires { AreOrdered entries.old.items }
+    ensures same { (view_of entries.new.items).orders ≡ (view_of entries.old.items).orders }
+    ensures room { OnOk result (set.contains (view_of entries.new.items).senders (rank_of sender.now) ≡ true) }
+    ensures ordered { AreOrdered entries.new.items }
+{
+    let Err(at) = search(entries, sender.rank()) else {
+        return Ok(());
+    };
+    let alloc = *entries.allocator();
+    match entries.insert(at, (*sender, InOrder::new(alloc))) {
+        Ok(_) => Ok(()),
+        Err(_) => Err(AllocError),
+    }
+}
+
+// Offers the call to its sender's order, which has a place.
+fn offer_in(
+    entries: &mut Vec<(Sender, InOrder<Call>)>,
+    call: Call,
+) -> Result<Offer<Call>, NoMemoryFor<Call>>
+    requires ordered { AreOrdered entries.old.items }
+    requires from_one { 1 ≤ call.number }
+    requires small { call.number < 2 ^ 62 }
+    requires not_held { is_some (item_at call.number (order_of (view_of entries.old.items).orders call.sender).held) ≡ false }
+    requires room { set.contains (view_of entries.old.items).senders (rank_of call.sender) ≡ true }
+    ensures answer { let o = order_of (view_of entries.old.items).orders call.sender in
+        IfOk result (λ a. a ≡ offer_answer o.next call.number call) }
+    ensures after { let o = order_of (view_of entries.old.items).orders call.sender in
+        OnOk result ((view_of entries.new.items).orders
+        ≡ table.insert (view_of entries.old.items).orders (rank_of call.sender) (after_offer o call.number call)) }
+    ensures err { OnErr result ((view_of entries.new.items).orders ≡ (view_of entries.old.items).orders) }
+    ensures err_item { IfErr result (λ e. e.item ≡ call) }
+    ensures err_only_above { OnErr result ((order_of (view_of entries.old.items).orders call.sender).next < call.number) }
+    ensures kept { AreOrdered entries.new.items }
+{
+    let Ok(at) = search(entries, call.sender.rank()) else {
+        unreachable!()
+    };
+    let entry = &mut entries[at];
+    entry.1.offer(call.number, call)
+}
+
+impl Orders {
+    /// Nothing has come.
+    pub fn new(alloc: Global) -> Self
+        ensures { result ≡ record { orders = table.empty; senders = set.empty } }
+    {
+        Orders {
+            entries: Vec::new(alloc),
+        }
+    }
+
+    /// The number of the sender's call whose turn it is.
+    pub fn next_number(&self, sender: Sender) -> u64
+        ensures { result ≡ (order_of self.now.orders sender).next }
+    {
+        next_in(&self.entries, sender)
+    }
+
+    /// Whether the sender's call of that number is held.
+    pub fn holds(&self, sender: Sender, number: u64) -> bool
+        ensures { result ≡ is_some (item_at number (order_of self.now.orders sender).held) }
+    {
+        holds_in(&self.entries, sender, number)
+    }
+
+    /// Makes a place for the sender's order, so that a call whose turn it is can be offered without memory.
+    pub fn reserve(&mut self, sender: &Sender) -> Result<(), AllocError>
+        ensures same { self.new.orders ≡ self.old.orders }
+        ensures room { OnOk result (set.contains self.new.senders (rank_of sender.now) ≡ true) }
+    {
+        make_place(&mut self.entries, sender)
+    }
+
+    /// Offers the call to its sender's order, which has a place. Only a call that is to be held takes memory.
+    pub fn offer(&mut self, call: Call) -> Result<Offer<Call>, NoMemoryFor<Call>>
+        requires from_one { 1 ≤ call.number }
+        requires small { call.number < 2 ^ 62 }
+        requires not_held { is_some (item_at call.number (order_of self.old.orders call.sender).held) ≡ false }
+        requires room { set.contains self.old.senders (rank_of call.sender) ≡ true }
+        ensures answer { IfOk result (λ a. a ≡ offer_answer (order_of self.old.orders call.sender).next call.number call) }
+        ensures after { OnOk result (self.new.orders ≡ table.insert self.old.orders (rank_of call.sender)
+            (after_offer (order_of self.old.orders call.sender) call.number call)) }
+
+        // If allocation fails, the call comes back and nothing has changed.
+        ensures err { OnErr result (self.new.orders ≡ self.old.orders) }
+        ensures err_item { IfErr result (λ e. e.item ≡ call) }
+        ensures err_only_above { OnErr result ((order_of self.old.orders call.sender).next < call.number) }
+    {
+        offer_in(&mut self.entries, call)
+    }
 }

@@ -1,10 +1,29 @@
 //! An entity's real.
 
+ghost use Rattle.std.specs.Prelude.{◌≡◌, ◌≤◌, ◌<◌, ◌^◌, ◌==◌, ℕ, IfOk, IfErr, OnOk, OnErr, [], true, false, is_some};
+ghost use Rattle.std.specs.FinSet as set;
+ghost use Rattle.seam_defs.specs.Deeds.{after as after_deed};
+ghost use Rattle.seam_defs.specs.Tests.{changes};
+ghost use Rattle.seam_defs.specs.Types.{type_of};
+ghost use Rattle.seam_defs.specs.declared.settings.Settings.{Settings as AllSettings};
+ghost use Rattle.seam_order.specs.Held.{item_at};
+ghost use Rattle.seam_entity.specs.Orders.{order_of};
+ghost use Rattle.seam_entity.specs.Here.{Here};
+ghost use Rattle.seam_entity.specs.Executing.{real_begins};
+ghost use Rattle.seam_entity.specs.Executing.{created, copy_of_real, with_deed, with_offer, executed, public_after, shows};
+ghost use Rattle.seam_entity.specs.Executing.{settled_to};
+ghost use Rattle.seam_entity.specs.Preparing.{node_with, with_after, met, offered as after_call, HasRoom};
+ghost use Rattle.seam_entity.specs.declared.real.Did.TheVariants.{Done as DidDone};
+
 use crate::orders::Orders;
-use seam_call::Call;
-use seam_defs::State;
+use seam_call::{Call, GhostCopy, Sender};
+use seam_defs::{Deed, Defs, Group, State};
+use seam_geo::Pos;
+use seam_memory::NoMemoryFor;
+use seam_order::Offer;
 use seam_tree::CellSet;
 use seam_view::View;
+use std::alloc::{AllocError, Global};
 use std::marker::Model;
 
 /// What an entity with a client has on its real: what the client was shown of others, the version of the last own state
@@ -49,7 +68,7 @@ struct Body {
     witness: Option<Witness>,
 }
 
-/// The real of an entity.
+/// The real of an entity, which is moved and never cloned.
 ///
 /// Contracts see what it is, and beside it the room that was made for calls.
 #[derive(Drop)]
@@ -86,4 +105,290 @@ impl Model for Real {
       spare = vec_capacity (box_value r.body).done - vec_len (box_value r.body).done;
       senders = (box_value r.body).orders.senders;
     } };
+}
+
+// The public version after a call that leaves that version.
+fn public_after(changed: bool, version: u64, public: u64) -> u64
+    ensures { result ≡ public_after changed version public }
+{
+    if changed { version } else { public }
+}
+
+// What a deed will make of a state.
+fn look_ahead(defs: &Defs, ty: u16, state: &State, deed: &Deed) -> Result<After, AllocError>
+    ensures state { IfOk result (λ a. a.state ≡ after_deed (type_of defs.now ty) state.now deed.now) }
+    ensures changed { IfOk result (λ a. a.changed ≡ changes (type_of defs.now ty) state.now deed.now) }
+{
+    let (later, changed) = defs.type_at(ty).state_after(state, deed)?;
+    Ok(After {
+        state: later,
+        changed,
+    })
+}
+
+impl Real {
+    /// A real that has done nothing.
+    pub fn create(
+        alloc: Global,
+        defs: &Defs,
+        entity: u32,
+        ty: u16,
+        pos: Pos,
+    ) -> Result<Self, AllocError>
+        ensures { (me : ℕ) (settings : AllSettings) → IfOk result (λ r. r.core ≡ created (node_with defs.now me settings) entity ty pos) }
+    {
+        let props = defs.type_at(ty).start_props(Group::Real)?;
+        let body = Body {
+            entity,
+            ty,
+            state: State { pos, props },
+            version: 0,
+            public_version: 0,
+            orders: Orders::new(alloc),
+            done: Vec::new(alloc),
+            haunts: CellSet::none(),
+            beat: 0,
+            generation: 0,
+            witness: None,
+        };
+        Ok(Real {
+            body: Box::new(alloc, body)?,
+        })
+    }
+
+    /// The number of the entity.
+    pub fn entity(&self) -> u32
+        ensures { result ≡ self.now.core.entity }
+    {
+        self.body.entity
+    }
+
+    /// The entity's type, by its place among the types.
+    pub fn ty(&self) -> u16
+        ensures { result ≡ self.now.core.ty }
+    {
+        self.body.ty
+    }
+
+    /// The state.
+    pub fn state(&self) -> &State
+        ensures { result.now ≡ self.now.core.state }
+    {
+        &self.body.state
+    }
+
+    /// How many calls it executed.
+    pub fn version(&self) -> u64
+        ensures { result ≡ self.now.core.version }
+    {
+        self.body.version
+    }
+
+    /// The version of the last change that others may see.
+    pub fn public_version(&self) -> u64
+        ensures { result ≡ self.now.core.public }
+    {
+        self.body.public_version
+    }
+
+    /// The calls executed in this round.
+    pub fn done(&self) -> &[Call]
+        ensures { result.now ≡ self.now.core.done }
+    {
+        &self.body.done
+    }
+
+    /// The cells whose ghosts follow it.
+    pub fn haunts(&self) -> CellSet
+        ensures { result ≡ self.now.core.haunts }
+    {
+        self.body.haunts
+    }
+
+    /// The number of what its ghosts were last told.
+    pub fn beat(&self) -> u64
+        ensures { result ≡ self.now.core.beat }
+    {
+        self.body.beat
+    }
+
+    /// How many times it was handed over.
+    pub fn generation(&self) -> u64
+        ensures { result ≡ self.now.core.generation }
+    {
+        self.body.generation
+    }
+
+    /// Other haunts, and a beat and a generation of which neither falls.
+    pub fn settle_to(&mut self, haunts: CellSet, beat: u64, generation: u64)
+        requires beat { self.old.core.beat ≤ beat }
+        requires generation { self.old.core.generation ≤ generation }
+        ensures core { self.new.core ≡ settled_to self.old.core haunts beat generation }
+        ensures spare { self.new.spare ≡ self.old.spare }
+        ensures senders { self.new.senders ≡ self.old.senders }
+    {
+        self.body.haunts = haunts;
+        self.body.beat = beat;
+        self.body.generation = generation;
+    }
+
+    /// Begins a round, in which nothing was done yet.
+    pub fn start_round(&mut self)
+        ensures { self.new.core ≡ real_begins self.old.core }
+    {
+        self.body.done.clear();
+    }
+
+    /// What its ghosts are told of it.
+    pub fn copy_out(&self, defs: &Defs) -> Result<GhostCopy, AllocError>
+        ensures { (me : ℕ) (settings : AllSettings) →
+            IfOk result (λ c. c ≡ copy_of_real (node_with defs.now me settings) self.now.core) }
+    {
+        let props = defs
+            .type_at(self.body.ty)
+            .project_group(Group::Real, &self.body.state.props, Group::Ghost)?;
+        Ok(GhostCopy {
+            ty: self.body.ty,
+            version: self.body.public_version,
+            state: State {
+                pos: self.body.state.pos,
+                props,
+            },
+        })
+    }
+
+    /// The number of the sender's call whose turn it is.
+    pub fn next_number(&self, sender: Sender) -> u64
+        ensures { result ≡ (order_of self.now.core.orders sender).next }
+    {
+        self.body.orders.next_number(sender)
+    }
+
+    /// Whether the sender's call of that number is held.
+    pub fn holds(&self, sender: Sender, number: u64) -> bool
+        ensures { result ≡ is_some (item_at number (order_of self.now.core.orders sender).held) }
+    {
+        self.body.orders.holds(sender, number)
+    }
+
+    /// The state that a call whose turn it is will leave, and whether others may see the change. There is room for the call from
+    /// then on.
+    pub fn prepare(&mut self, defs: &Defs, call: &Call) -> Result<After, AllocError>
+        ensures same { self.new.core ≡ self.old.core }
+        ensures state { (me : ℕ) (settings : AllSettings) →
+            IfOk result (λ a. a.state ≡ (with_deed (node_with defs.now me settings) self.old.core call.now).state) }
+        ensures changed { (me : ℕ) (settings : AllSettings) →
+            IfOk result (λ a. a.changed ≡ shows (node_with defs.now me settings) self.old.core call.now) }
+        ensures room { OnOk result (HasRoom self.new call.now) }
+    {
+        self.make_room(call)?;
+        look_ahead(defs, self.body.ty, &self.body.state, &call.deed)
+    }
+
+    // Makes room for a call whose turn it is.
+    fn make_room(&mut self, call: &Call) -> Result<(), AllocError>
+        ensures same { self.new.core ≡ self.old.core }
+        ensures room { OnOk result (HasRoom self.new call.now) }
+    {
+        self.body.orders.reserve(&call.sender)?;
+        self.body.done.reserve(1)
+    }
+
+    /// Executes a call whose turn it is, from what `prepare` said of it. It needs no memory, and cannot fail.
+    pub fn execute_after(&mut self, call: Call, after: After)
+        requires from_one { 1 ≤ call.number }
+        requires small { call.number < 2 ^ 62 }
+        requires version { self.old.core.version < 2 ^ 62 }
+        requires not_held { is_some (item_at call.number (order_of self.old.core.orders call.sender).held) ≡ false }
+        requires turn { call.number ≡ (order_of self.old.core.orders call.sender).next }
+        requires room { HasRoom self.old call }
+        ensures { self.new.core ≡ with_offer (with_after self.old.core after call) call }
+    {
+        self.body.state = after.state;
+        self.body.version += 1;
+        self.body.public_version = public_after(
+            after.changed,
+            self.body.version,
+            self.body.public_version,
+        );
+        match self.body.orders.offer(call) {
+            Ok(Offer::Next(call)) => self.body.done.push_reserved(call),
+            Ok(_) => unreachable!(),
+            Err(_) => unreachable!(),
+        }
+    }
+
+    /// Executes the call where it is its turn, holds it where it came early, and gives it back where it came late.
+    pub fn execute(&mut self, defs: &Defs, call: Call) -> Result<Did, NoMemoryFor<Call>>
+        requires from_one { 1 ≤ call.number }
+        requires small { call.number < 2 ^ 62 }
+        requires version { self.old.core.version < 2 ^ 62 }
+        requires not_held { is_some (item_at call.number (order_of self.old.core.orders call.sender).held) ≡ false }
+        ensures answer { (me : ℕ) (settings : AllSettings) →
+            IfOk result (λ d. d ≡ met (node_with defs.now me settings) self.old.core call) }
+        ensures after { (me : ℕ) (settings : AllSettings) →
+            OnOk result (self.new.core ≡ after_call (node_with defs.now me settings) self.old.core call) }
+
+        // If allocation fails, the call comes back and nothing has changed.
+        ensures err { OnErr result (self.new.core ≡ self.old.core) }
+        ensures err_item { IfErr result (λ e. e.item ≡ call) }
+    {
+        if self.is_turn(&call) {
+            return self.execute_turn(defs, call);
+        }
+        self.put_off(call)
+    }
+
+    // Executes a call whose turn it is.
+    fn execute_turn(&mut self, defs: &Defs, call: Call) -> Result<Did, NoMemoryFor<Call>>
+        requires from_one { 1 ≤ call.number }
+        requires small { call.number < 2 ^ 62 }
+        requires version { self.old.core.version < 2 ^ 62 }
+        requires not_held { is_some (item_at call.number (order_of self.old.core.orders call.sender).held) ≡ false }
+        requires turn { call.number ≡ (order_of self.old.core.orders call.sender).next }
+        ensures answer { (me : ℕ) (settings : AllSettings) →
+            IfOk result (λ d. d ≡ DidDone (shows (node_with defs.now me settings) self.old.core call)) }
+        ensures after { (me : ℕ) (settings : AllSettings) →
+            OnOk result (self.new.core ≡ executed (node_with defs.now me settings) self.old.core call) }
+        ensures err { OnErr result (self.new.core ≡ self.old.core) }
+        ensures err_item { IfErr result (λ e. e.item ≡ call) }
+    {
+        let Ok(after) = self.prepare(defs, &call) else {
+            return Err(NoMemoryFor { item: call });
+        };
+        let changed = after.changed;
+        self.execute_after(call, after);
+        Ok(Did::Done(changed))
+    }
+
+    /// Whether it is the call's turn.
+    pub fn is_turn(&self, call: &Call) -> bool
+        ensures { result ≡ (call.now.number == (order_of self.now.core.orders call.now.sender).next) }
+    {
+        call.number == self.body.orders.next_number(call.sender)
+    }
+
+    // Holds a call that came early, and gives back one that came late.
+    fn put_off(&mut self, call: Call) -> Result<Did, NoMemoryFor<Call>>
+        requires from_one { 1 ≤ call.number }
+        requires small { call.number < 2 ^ 62 }
+        requires not_held { is_some (item_at call.number (order_of self.old.core.orders call.sender).held) ≡ false }
+        requires not_turn { (call.number == (order_of self.old.core.orders call.sender).next) ≡ false }
+        ensures answer { (h : Here) → IfOk result (λ d. d ≡ met h self.old.core call) }
+        ensures after { (h : Here) → OnOk result (self.new.core ≡ after_call h self.old.core call) }
+        ensures err { OnErr result (self.new.core ≡ self.old.core) }
+        ensures err_item { IfErr result (λ e. e.item ≡ call) }
+    {
+        if call.number < self.body.orders.next_number(call.sender) {
+            return Ok(Did::Stale(call));
+        }
+        if self.body.orders.reserve(&call.sender).is_err() {
+            return Err(NoMemoryFor { item: call });
+        }
+        match self.body.orders.offer(call) {
+            Ok(Offer::Held) => Ok(Did::Held),
+            Ok(_) => unreachable!(),
+            Err(refused) => Err(refused),
+        }
+    }
 }

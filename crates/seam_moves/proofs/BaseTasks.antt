@@ -13,9 +13,9 @@ use Rattle.seam_call.specs.declared.order.Order.{Order}
 use Rattle.seam_call.specs.declared.order.Order.TheVariants as order
 use Rattle.seam_entity.specs.declared.message.Msg.{Msg}
 use Rattle.seam_entity.specs.declared.message.Msg.TheVariants.{Call, BaseCall, Reap}
-use Rattle.seam_steps.specs.Here.{base_of}
+use Rattle.seam_entity.specs.Here.{base_of}
 use Rattle.seam_steps.specs.CellCases.{about}
-use Rattle.seam_steps.specs.Calls.{has_ready, ready_order}
+use Rattle.seam_entity.specs.Calls.{has_ready, ready_order}
 use Rattle.seam_steps.specs.Bases.{BaseView, RouteView, PartView, ProxyView, with_part}
 use Rattle.seam_steps.specs.BaseCases
 use Rattle.seam_steps.specs.BaseCases.{may_call, may_execute, may_show, after_ready, executes_ready, after_showing, is_base_node_of}

@@ -14,7 +14,7 @@ use Rattle.seam_entity.specs.Reals.{RealView}
 use Rattle.seam_entity.specs.declared.message.Msg.{Msg}
 use Rattle.seam_entity.specs.declared.message.Msg.TheVariants.{Call, BaseCall, Hand, Current, GhostSet, GhostDrop, Tick, Reap, Update}
 use Rattle.seam_steps.specs.Maps.{number_of}
-use Rattle.seam_steps.specs.Calls.{has_ready}
+use Rattle.seam_entity.specs.Calls.{has_ready}
 use Rattle.seam_steps.specs.Slots.{Slot, SlotStep, slot_after}
 use Rattle.seam_steps.specs.CellCases.{about, slot_steps, stray_survey, stray_ready_call}
 use Rattle.seam_steps.specs.Looks.{stray_look}

@@ -18,12 +18,12 @@ use Rattle.seam_entity.specs.Orders.{order_of}
 use Rattle.seam_entity.specs.Reals.{RealView, WitnessView}
 use Rattle.seam_entity.specs.declared.message.Msg.{Msg}
 use Rattle.seam_entity.specs.declared.message.Msg.TheVariants.{Call, BaseCall, Hand, Current, GhostSet, GhostDrop, Tick, Reap, Update}
-use Rattle.seam_steps.specs.Here.{Here, cell_numbers, base_numbers, base_of}
-use Rattle.seam_steps.specs.Calls.{ready_order}
-use Rattle.seam_steps.specs.Reals.{executed, executed_ready, shows, copy_of_real}
+use Rattle.seam_entity.specs.Here.{Here, cell_numbers, base_numbers, base_of}
+use Rattle.seam_entity.specs.Calls.{ready_order}
+use Rattle.seam_entity.specs.Executing.{executed, executed_ready, shows, copy_of_real, settled_to}
 use Rattle.seam_steps.specs.Slots.{Slot, NextPlace, SlotStep, unless_stray}
 use Rattle.seam_steps.specs.Settle.{home_after, haunts_at, told, told_unless, ghost_message, ghost_messages, settled_by, settled, stays}
-use Rattle.seam_steps.specs.Settle.{goes, settled_to}
+use Rattle.seam_steps.specs.Settle.{goes}
 use Rattle.seam_steps.specs.CellCases
 use Rattle.seam_steps.specs.CellCases.{about, slot_steps, case_of, is_stray}
 use Rattle.seam_steps.specs.Looks.{Known, numbered, look_by, look_task}

@@ -14,10 +14,10 @@ use Rattle.seam_entity.specs.Orders.{order_of}
 use Rattle.seam_entity.specs.Reals.{RealView, WitnessView}
 use Rattle.seam_entity.specs.declared.message.Msg.{Msg}
 use Rattle.seam_entity.specs.declared.message.Msg.TheVariants.{Call, BaseCall, Hand, Current, GhostSet, GhostDrop, Tick, Reap, Update}
-use Rattle.seam_steps.specs.Numbers.{is_small, may_rise}
-use Rattle.seam_steps.specs.Here.{Here}
-use Rattle.seam_steps.specs.Calls.{has_ready, ready_order}
-use Rattle.seam_steps.specs.Reals.{may_settle, may_execute, may_call, executed, executed_ready, shows}
+use Rattle.seam_entity.specs.Numbers.{is_small, may_rise}
+use Rattle.seam_entity.specs.Here.{Here}
+use Rattle.seam_entity.specs.Calls.{has_ready, ready_order}
+use Rattle.seam_entity.specs.Executing.{may_settle, may_execute, may_call, executed, executed_ready, shows}
 use Rattle.seam_steps.specs.Slots.{Slot, NextPlace, unless_stray}
 use Rattle.seam_steps.specs.Settle.{home_after, settled_by, settled}
 use Rattle.seam_steps.specs.CellCases

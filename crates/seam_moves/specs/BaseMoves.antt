@@ -11,8 +11,8 @@ use Rattle.seam_call.specs.declared.shown.Update.{Update as UpdateData}
 use Rattle.seam_entity.specs.Orders.{order_of}
 use Rattle.seam_entity.specs.declared.message.Msg.{Msg}
 use Rattle.seam_entity.specs.declared.message.Msg.TheVariants.{Call, BaseCall, Hand, Current, GhostSet, GhostDrop, Tick, Reap, Update}
-use Rattle.seam_steps.specs.Here.{Here, base_of}
-use Rattle.seam_steps.specs.Calls.{is_ready, has_ready, ready_order}
+use Rattle.seam_entity.specs.Here.{Here, base_of}
+use Rattle.seam_entity.specs.Calls.{is_ready, has_ready, ready_order}
 use Rattle.seam_steps.specs.Bases.{RouteView, PartView, ProxyView}
 use Rattle.seam_steps.specs.BaseCases.{may_call, may_execute, may_show, offered, with_order, executed, after_showing, offered_update}
 use Rattle.seam_steps.specs.BaseCases.{is_base_node_of, tick_to, stray_base_call, stray_current, stray_update}

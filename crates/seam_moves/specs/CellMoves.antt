@@ -9,10 +9,10 @@ use Rattle.seam_entity.specs.Orders.{order_of}
 use Rattle.seam_entity.specs.Reals.{RealView, WitnessView}
 use Rattle.seam_entity.specs.declared.message.Msg.{Msg}
 use Rattle.seam_entity.specs.declared.message.Msg.TheVariants.{Call, Hand, GhostSet, GhostDrop, Tick, Reap}
-use Rattle.seam_steps.specs.Numbers.{is_small, may_rise}
-use Rattle.seam_steps.specs.Here.{Here}
-use Rattle.seam_steps.specs.Calls.{has_ready, ready_order}
-use Rattle.seam_steps.specs.Reals.{may_settle, may_execute, may_call, with_offer, executed, executed_ready, shows}
+use Rattle.seam_entity.specs.Numbers.{is_small, may_rise}
+use Rattle.seam_entity.specs.Here.{Here}
+use Rattle.seam_entity.specs.Calls.{has_ready, ready_order}
+use Rattle.seam_entity.specs.Executing.{may_settle, may_execute, may_call, with_offer, executed, executed_ready, shows}
 use Rattle.seam_steps.specs.Slots.{NextPlace, SlotStep, slot_after, becomes, heard}
 use Rattle.seam_steps.specs.Slots as slot_step
 use Rattle.seam_steps.specs.Settle.{home_after}

@@ -5,7 +5,7 @@ use Rattle.seam_defs.specs.declared.types.TypeDef.{TypeDef}
 use Rattle.seam_defs.specs.declared.settings.Settings.{Settings}
 use Rattle.seam_machine.specs.Events.{EachNode}
 use Rattle.seam_runs.specs.Sound.{IsSound}
-use Rattle.seam_steps.specs.Here.{Here, cell_count}
+use Rattle.seam_entity.specs.Here.{Here, cell_count}
 use Rattle.seam_steps.specs.Cells.{CellView}
 use Rattle.seam_steps.specs.Bases.{BaseView}
 use Rattle.seam_steps.specs.Nodes.{NodeView, World, node_peers}

@@ -29,10 +29,10 @@ use Rattle.seam_entity.specs.Orders.{order_or, order_of}
 use Rattle.seam_entity.specs.Reals.{RealView}
 use Rattle.seam_entity.specs.declared.message.Msg.{Msg}
 use Rattle.seam_entity.specs.declared.message.Msg.TheVariants.{Call, Reap}
-use Rattle.seam_steps.specs.Numbers.{limit}
-use Rattle.seam_steps.specs.Here.{cell_count}
-use Rattle.seam_steps.specs.Calls.{order_is_ready, may_offer}
-use Rattle.seam_steps.specs.Reals.{fits_cell_part, may_call, may_execute}
+use Rattle.seam_entity.specs.Numbers.{limit}
+use Rattle.seam_entity.specs.Here.{cell_count}
+use Rattle.seam_entity.specs.Calls.{order_is_ready, may_offer}
+use Rattle.seam_entity.specs.Executing.{fits_cell_part, may_call, may_execute}
 use Rattle.seam_steps.specs.Nodes.{NodeView, World, node_steps, node_has_work}
 use Rattle.seam_steps.specs.Nodes.NodeView.{Cell, Base}
 use Rattle.seam_moves.specs.Frames.{Frame, here_at, IsInFrame}

@@ -24,11 +24,11 @@ use Rattle.seam_entity.specs.Orders.{order_or, order_of}
 use Rattle.seam_entity.specs.Reals.{RealView}
 use Rattle.seam_entity.specs.declared.message.Msg.{Msg}
 use Rattle.seam_entity.specs.declared.message.Msg.TheVariants.{Call, BaseCall, Hand, Current, GhostSet, GhostDrop, Tick, Reap, Update}
-use Rattle.seam_steps.specs.Here.{Here, cell_count, base_numbers, base_of}
-use Rattle.seam_steps.specs.Calls.{order_is_ready, ready_order}
-use Rattle.seam_steps.specs.Reals.{may_call, with_offer}
+use Rattle.seam_entity.specs.Here.{Here, cell_count, base_numbers, base_of}
+use Rattle.seam_entity.specs.Calls.{order_is_ready, ready_order}
+use Rattle.seam_entity.specs.Executing.{may_call, with_offer, settled_to}
 use Rattle.seam_steps.specs.Slots.{NextPlace, SlotStep, slot_after}
-use Rattle.seam_steps.specs.Settle.{haunts_at, ghost_messages, settled_to}
+use Rattle.seam_steps.specs.Settle.{haunts_at, ghost_messages}
 use Rattle.seam_steps.specs.Settle as settle
 use Rattle.seam_steps.specs.CellCases.{current_to, stray_call, is_stray, may_come}
 use Rattle.seam_steps.specs.Looks.{shown_of, looks_with}

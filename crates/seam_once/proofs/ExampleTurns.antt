@@ -17,13 +17,13 @@ use Rattle.seam_call.specs.declared.order.Order.TheVariants as order
 use Rattle.seam_call.specs.Senders.{rank_of}
 use Rattle.seam_entity.specs.Orders.{order_or}
 use Rattle.seam_entity.specs.declared.message.Msg.{Msg}
-use Rattle.seam_steps.specs.Reals.{fits_cell_part}
+use Rattle.seam_entity.specs.Executing.{fits_cell_part}
 use Rattle.seam_steps.specs.Rows.{idle}
 use Rattle.seam_steps.specs.EarlyCall.{two_cells, made, world_0, at_home, the_move, hit_1, hit_2}
 use Rattle.seam_steps.proofs.Tables.{computing}
 use Rattle.seam_moves.specs.Frames.{here_at}
 use Rattle.seam_moves.specs.Sights.{Has, kept_if, has_of, has_none, entity_flow}
-use Rattle.seam_steps.specs.Numbers.{limit}
+use Rattle.seam_entity.specs.Numbers.{limit}
 use Rattle.seam_ones.specs.Burdens.{burden}
 use Rattle.seam_ones.specs.Ones.{real_in}
 use Rattle.seam_ones.specs.Example.{frame}

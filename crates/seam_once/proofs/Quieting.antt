@@ -17,7 +17,7 @@ use Rattle.seam_call.specs.declared.call.Call.{Call as CallData}
 use Rattle.seam_entity.specs.Orders.{Orders, order_or}
 use Rattle.seam_entity.specs.Reals.{RealView}
 use Rattle.seam_steps.specs.Maps.{number_of, has_any}
-use Rattle.seam_steps.specs.Calls.{order_is_ready, has_ready}
+use Rattle.seam_entity.specs.Calls.{order_is_ready, has_ready}
 use Rattle.seam_steps.specs.Cells.{CellView, real_is_ready, cell_has_work}
 use Rattle.seam_steps.specs.Bases.{BaseView}
 use Rattle.seam_steps.specs.BaseCases.{base_has_work}

@@ -13,8 +13,8 @@ use Rattle.seam_entity.specs.Orders.{Orders, order_or, order_of}
 use Rattle.seam_entity.specs.Reals.{RealView}
 use Rattle.seam_entity.specs.declared.message.Msg.{Msg}
 use Rattle.seam_entity.specs.declared.message.Msg.TheVariants.{Call, BaseCall, Hand, Current, GhostSet, GhostDrop, Tick, Reap, Update}
-use Rattle.seam_steps.specs.Here.{cell_count}
-use Rattle.seam_steps.specs.Reals.{fits_cell_part, may_call}
+use Rattle.seam_entity.specs.Here.{cell_count}
+use Rattle.seam_entity.specs.Executing.{fits_cell_part, may_call}
 use Rattle.seam_steps.specs.Nodes.{World}
 use Rattle.seam_moves.specs.Frames.{Frame, here_at}
 use Rattle.seam_moves.specs.Sights.{Has, kept_if, entity_flow}

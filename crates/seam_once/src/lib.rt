@@ -20,7 +20,7 @@ ghost use Rattle.seam_call.specs.declared.call.Call.{Call as CallData};
 ghost use Rattle.seam_entity.specs.Reals.{RealView};
 ghost use Rattle.seam_entity.specs.declared.message.Msg.{Msg};
 ghost use Rattle.seam_entity.specs.declared.message.Msg.TheVariants.{Call};
-ghost use Rattle.seam_steps.specs.Numbers.{limit};
+ghost use Rattle.seam_entity.specs.Numbers.{limit};
 ghost use Rattle.seam_steps.specs.EarlyCall as early;
 ghost use Rattle.seam_steps.specs.Nodes.{World, node_steps, node_has_work};
 ghost use Rattle.seam_moves.specs.Frames.{Frame};

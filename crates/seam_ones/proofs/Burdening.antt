@@ -13,9 +13,10 @@ use Rattle.seam_call.specs.declared.order.Order.TheVariants as order
 use Rattle.seam_entity.specs.Reals.{RealView}
 use Rattle.seam_entity.specs.declared.message.Msg.{Msg}
 use Rattle.seam_entity.specs.declared.message.Msg.TheVariants.{Call, BaseCall, Hand, Current, GhostSet, GhostDrop, Tick, Reap, Update}
-use Rattle.seam_steps.specs.Here.{base_numbers, base_of}
+use Rattle.seam_entity.specs.Here.{base_numbers, base_of}
 use Rattle.seam_steps.specs.Slots.{SlotStep, slot_after}
-use Rattle.seam_steps.specs.Settle.{haunts_at, ghost_messages, settled_to, beat_after}
+use Rattle.seam_steps.specs.Settle.{haunts_at, ghost_messages, beat_after}
+use Rattle.seam_entity.specs.Executing.{settled_to}
 use Rattle.seam_steps.specs.Settle as settle
 use Rattle.seam_steps.specs.CellCases.{current_to}
 use Rattle.seam_steps.specs.Looks.{shown_of, looks_with}

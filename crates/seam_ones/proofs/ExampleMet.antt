@@ -22,9 +22,9 @@ use Rattle.seam_flows.specs.Flows.{slot_at, letters_of}
 use Rattle.seam_call.specs.declared.order.Order.TheVariants as order
 use Rattle.seam_entity.specs.declared.message.Msg.{Msg}
 use Rattle.seam_steps.specs.Maps.{Map}
-use Rattle.seam_steps.specs.Here.{properties}
-use Rattle.seam_steps.specs.Calls.{all_held}
-use Rattle.seam_steps.specs.Reals.{fits_cell_part}
+use Rattle.seam_entity.specs.Here.{properties}
+use Rattle.seam_entity.specs.Calls.{all_held}
+use Rattle.seam_entity.specs.Executing.{fits_cell_part}
 use Rattle.seam_steps.specs.Nodes.{NodeView, World, node_peers, node_has_work, node_steps}
 use Rattle.seam_steps.specs.Valid.{IsNode}
 use Rattle.seam_steps.specs.Holders.{holders}

@@ -16,7 +16,7 @@ use Rattle.seam_delivery.proofs.Lives.{nobody_still, nobody_ends}
 use Rattle.seam_entity.specs.Reals.{RealView}
 use Rattle.seam_entity.specs.declared.message.Msg.{Msg}
 use Rattle.seam_entity.specs.declared.message.Msg.TheVariants.{Hand, Reap}
-use Rattle.seam_steps.specs.Numbers.{limit, may_rise}
+use Rattle.seam_entity.specs.Numbers.{limit, may_rise}
 use Rattle.seam_steps.specs.CellCases.{is_stray}
 use Rattle.seam_steps.specs.Nodes.{World, node_steps, node_has_work}
 use Rattle.seam_moves.specs.Frames.{Frame, here_at, IsInFrame}

@@ -12,10 +12,10 @@ use Rattle.seam_flows.proofs.SendLists.{sees_none, sees_after_silent, sees_one_h
 use Rattle.seam_entity.specs.Reals.{RealView}
 use Rattle.seam_entity.specs.declared.message.Msg.{Msg}
 use Rattle.seam_entity.specs.declared.message.Msg.TheVariants.{Call, BaseCall, Hand, Current, GhostSet, GhostDrop, Tick, Reap, Update}
-use Rattle.seam_steps.specs.Here.{cell_count, base_numbers, base_of}
-use Rattle.seam_steps.specs.Reals.{with_offer}
+use Rattle.seam_entity.specs.Here.{cell_count, base_numbers, base_of}
+use Rattle.seam_entity.specs.Executing.{with_offer, settled_to}
 use Rattle.seam_steps.specs.Slots.{SlotStep, slot_after}
-use Rattle.seam_steps.specs.Settle.{haunts_at, ghost_messages, settled_to, beat_after}
+use Rattle.seam_steps.specs.Settle.{haunts_at, ghost_messages, beat_after}
 use Rattle.seam_steps.specs.Settle as settle
 use Rattle.seam_steps.specs.CellCases.{current_to, is_stray, may_come}
 use Rattle.seam_steps.specs.Looks.{shown_of, looks_with}

@@ -13,7 +13,7 @@ use Rattle.seam_runs.specs.Sums.{weight_or}
 use Rattle.seam_runs.proofs.MapSums.{total_of_insert}
 use Rattle.seam_call.specs.declared.call.Call.{Call}
 use Rattle.seam_entity.specs.Orders.{Orders, order_or}
-use Rattle.seam_steps.specs.Calls.{order_is_ready, ready_order}
+use Rattle.seam_entity.specs.Calls.{order_is_ready, ready_order}
 use Rattle.seam_ones.specs.Burdens.{held_of, held_in}
 
 with_by : (n : ℕ) (c : Call) (p : ℕ × Call) (ps : List (ℕ × Call)) (b : Bool) → length (with_item n c ps) ≡ length ps + 1 →

@@ -23,8 +23,8 @@ use Rattle.seam_flows.proofs.TokenLemmas.{sole_came, sole_goes, token_turns}
 use Rattle.seam_entity.specs.Reals.{RealView}
 use Rattle.seam_entity.specs.declared.message.Msg.{Msg}
 use Rattle.seam_entity.specs.declared.message.Msg.TheVariants.{Call, BaseCall, Hand, Current, GhostSet, GhostDrop, Tick, Reap, Update}
-use Rattle.seam_steps.specs.Numbers.{limit}
-use Rattle.seam_steps.specs.Here.{cell_numbers, properties}
+use Rattle.seam_entity.specs.Numbers.{limit}
+use Rattle.seam_entity.specs.Here.{cell_numbers, properties}
 use Rattle.seam_steps.specs.CellCases.{haunts_cell, is_cell_if, may_come}
 use Rattle.seam_steps.specs.Nodes.{World, node_steps, node_has_work}
 use Rattle.seam_moves.specs.Frames.{Frame, here_at, IsInFrame}

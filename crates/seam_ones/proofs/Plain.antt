@@ -9,8 +9,8 @@ use Rattle.seam_call.specs.declared.shown.Shown.{Shown}
 use Rattle.seam_entity.specs.Reals.{RealView}
 use Rattle.seam_entity.specs.declared.message.Msg.{Msg}
 use Rattle.seam_entity.specs.declared.message.Msg.TheVariants.{GhostSet, GhostDrop, Update}
-use Rattle.seam_steps.specs.Here.{Here, cell_numbers}
-use Rattle.seam_steps.specs.Reals.{copy_of_real}
+use Rattle.seam_entity.specs.Here.{Here, cell_numbers}
+use Rattle.seam_entity.specs.Executing.{copy_of_real}
 use Rattle.seam_steps.specs.Settle.{told, told_unless, ghost_message, ghost_messages}
 use Rattle.seam_steps.specs.CellCases.{drop_if, drop_at, drops}
 use Rattle.seam_steps.specs.Looks.{numbered}

@@ -7,10 +7,10 @@ use Rattle.seam_defs.specs.Deeds.{IsOfGroup}
 use Rattle.seam_entity.specs.Reals.{RealView}
 use Rattle.seam_entity.specs.declared.message.Msg.{Msg}
 use Rattle.seam_entity.specs.declared.message.Msg.TheVariants.{Hand}
-use Rattle.seam_steps.specs.Fitting.{is_inside}
-use Rattle.seam_steps.specs.Here.{properties}
-use Rattle.seam_steps.specs.Calls.{all_held}
-use Rattle.seam_steps.specs.Reals.{fits_cell_part}
+use Rattle.seam_entity.specs.Fitting.{is_inside}
+use Rattle.seam_entity.specs.Here.{properties}
+use Rattle.seam_entity.specs.Calls.{all_held}
+use Rattle.seam_entity.specs.Executing.{fits_cell_part}
 use Rattle.seam_moves.specs.Frames.{Frame, here_at}
 
 -- the real is one of entity e and of type ty, has values of the group, is in the space, and each call that it holds fits; it is in cell

@@ -11,9 +11,10 @@ use Rattle.seam_call.specs.declared.order.Order.TheVariants as order
 use Rattle.seam_entity.specs.Reals.{RealView}
 use Rattle.seam_entity.specs.declared.message.Msg.{Msg}
 use Rattle.seam_entity.specs.declared.message.Msg.TheVariants.{Call, Hand}
-use Rattle.seam_steps.specs.Here.{cell_count, base_numbers, base_of}
+use Rattle.seam_entity.specs.Here.{cell_count, base_numbers, base_of}
 use Rattle.seam_steps.specs.Slots.{NextPlace}
-use Rattle.seam_steps.specs.Settle.{haunts_at, ghost_messages, settled_to}
+use Rattle.seam_steps.specs.Settle.{haunts_at, ghost_messages}
+use Rattle.seam_entity.specs.Executing.{settled_to}
 use Rattle.seam_steps.specs.CellCases.{stray_call, is_stray, current_to}
 use Rattle.seam_steps.specs.Bases.{RouteView}
 use Rattle.seam_steps.specs.BaseCases.{tick_to}

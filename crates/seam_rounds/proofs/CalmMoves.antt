@@ -16,9 +16,9 @@ use Rattle.seam_entity.specs.Orders.{Orders, order_or}
 use Rattle.seam_entity.specs.Reals.{RealView, WitnessView}
 use Rattle.seam_entity.specs.declared.message.Msg.{Msg}
 use Rattle.seam_entity.specs.declared.message.Msg.TheVariants.{Call, BaseCall, Hand, Current, GhostSet, GhostDrop, Tick, Reap, Update}
-use Rattle.seam_steps.specs.Numbers.{may_rise}
-use Rattle.seam_steps.specs.Here.{cell_count, cell_numbers, base_of}
-use Rattle.seam_steps.specs.Calls.{order_is_ready, ready_order}
+use Rattle.seam_entity.specs.Numbers.{may_rise}
+use Rattle.seam_entity.specs.Here.{cell_count, cell_numbers, base_of}
+use Rattle.seam_entity.specs.Calls.{order_is_ready, ready_order}
 use Rattle.seam_steps.specs.Slots.{SlotStep, slot_after}
 use Rattle.seam_steps.specs.CellCases.{is_stray, drop_at}
 use Rattle.seam_steps.specs.BaseCases.{tick_to}

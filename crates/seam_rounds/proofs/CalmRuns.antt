@@ -20,8 +20,8 @@ use Rattle.seam_entity.specs.Orders.{order_or}
 use Rattle.seam_entity.specs.Reals.{RealView}
 use Rattle.seam_entity.specs.declared.message.Msg.{Msg}
 use Rattle.seam_entity.specs.declared.message.Msg.TheVariants.{Call, BaseCall, Hand, Current, GhostSet, GhostDrop, Tick, Reap, Update}
-use Rattle.seam_steps.specs.Numbers.{may_rise}
-use Rattle.seam_steps.specs.Here.{cell_count}
+use Rattle.seam_entity.specs.Numbers.{may_rise}
+use Rattle.seam_entity.specs.Here.{cell_count}
 use Rattle.seam_steps.specs.Bases.{RouteView}
 use Rattle.seam_steps.specs.Nodes.{World, node_steps}
 use Rattle.seam_moves.specs.Frames.{Frame}

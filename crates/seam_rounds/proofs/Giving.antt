@@ -14,7 +14,7 @@ use Rattle.seam_flows.proofs.Following.{all_append}
 use Rattle.seam_call.specs.declared.order.Order.{Order}
 use Rattle.seam_call.specs.declared.order.Order.TheVariants as order
 use Rattle.seam_entity.specs.Reals.{RealView}
-use Rattle.seam_steps.specs.Here.{base_of}
+use Rattle.seam_entity.specs.Here.{base_of}
 use Rattle.seam_steps.specs.Cells.{CellView}
 use Rattle.seam_steps.specs.Bases.{BaseView}
 use Rattle.seam_steps.specs.Nodes.{NodeView, World, node_has_work}

@@ -8,8 +8,8 @@ use Rattle.seam_flows.specs.Tokens.{Nobody}
 use Rattle.seam_call.specs.declared.order.Order.{Order}
 use Rattle.seam_call.specs.declared.order.Order.TheVariants as order
 use Rattle.seam_entity.specs.Reals.{RealView}
-use Rattle.seam_steps.specs.Numbers.{may_rise}
-use Rattle.seam_steps.specs.Here.{cell_count, base_of}
+use Rattle.seam_entity.specs.Numbers.{may_rise}
+use Rattle.seam_entity.specs.Here.{cell_count, base_of}
 use Rattle.seam_steps.specs.Holders.{holders}
 use Rattle.seam_steps.specs.Nodes.{World, node_steps, node_has_work}
 use Rattle.seam_steps.specs.Loads.{ordered_at, look_loaded}

@@ -19,7 +19,7 @@ use Rattle.seam_entity.specs.Reals.{RealView}
 use Rattle.seam_steps.specs.Maps.{number_of}
 use Rattle.seam_steps.specs.Slots.{NextPlace}
 use Rattle.seam_steps.specs.Bases.{RouteView, PartView}
-use Rattle.seam_steps.specs.Here.{cell_count, cell_numbers}
+use Rattle.seam_entity.specs.Here.{cell_count, cell_numbers}
 use Rattle.seam_steps.specs.Cells.{real_is_ready}
 use Rattle.seam_steps.specs.BaseCases.{part_is_ready, client_is_ready}
 use Rattle.seam_steps.specs.Nodes.{NodeView, World, node_peers, node_has_work}

@@ -4,7 +4,7 @@ use Rattle.seam_defs.specs.Types.{type_of}
 use Rattle.seam_defs.specs.declared.types.TypeDef.{TypeDef}
 use Rattle.seam_call.specs.declared.call.Call.{Call as CallData}
 use Rattle.seam_entity.specs.Reals.{RealView}
-use Rattle.seam_steps.specs.Reals.{public_after}
+use Rattle.seam_entity.specs.Executing.{public_after}
 use Rattle.seam_moves.specs.Frames.{Frame}
 use Rattle.seam_ones.specs.Replays.{Account, account_of, after_call, after_calls, Replays}
 

@@ -10,8 +10,8 @@ use Rattle.seam_machine.specs.declared.machines.Event.{Event}
 use Rattle.seam_machine.proofs.Quiet.{quiet_tasks}
 use Rattle.seam_flows.specs.Tokens.{Nobody}
 use Rattle.seam_entity.specs.Reals.{RealView}
-use Rattle.seam_steps.specs.Numbers.{may_rise}
-use Rattle.seam_steps.specs.Here.{base_of}
+use Rattle.seam_entity.specs.Numbers.{may_rise}
+use Rattle.seam_entity.specs.Here.{base_of}
 use Rattle.seam_steps.specs.Holders.{holders}
 use Rattle.seam_steps.specs.Nodes.{NodeView, World, node_steps, node_has_work}
 use Rattle.seam_steps.specs.Loads.{with_nodes, reap_ordered_at, reaps_loaded}

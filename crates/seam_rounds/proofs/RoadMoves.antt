@@ -11,10 +11,11 @@ use Rattle.seam_flows.specs.Newest.{entry_in, greater_entry}
 use Rattle.seam_entity.specs.Reals.{RealView}
 use Rattle.seam_entity.specs.declared.message.Msg.{Msg}
 use Rattle.seam_entity.specs.declared.message.Msg.TheVariants.{Call, BaseCall, Hand, Current, GhostSet, GhostDrop, Tick, Reap, Update}
-use Rattle.seam_steps.specs.Numbers.{limit, is_small}
-use Rattle.seam_steps.specs.Here.{cell_count, base_of}
+use Rattle.seam_entity.specs.Numbers.{limit, is_small}
+use Rattle.seam_entity.specs.Here.{cell_count, base_of}
 use Rattle.seam_steps.specs.Slots.{SlotStep, slot_after}
-use Rattle.seam_steps.specs.Settle.{haunts_at, ghost_messages, settled_to}
+use Rattle.seam_steps.specs.Settle.{haunts_at, ghost_messages}
+use Rattle.seam_entity.specs.Executing.{settled_to}
 use Rattle.seam_steps.specs.CellCases.{currents, is_stray, may_come}
 use Rattle.seam_steps.specs.Looks.{shown_of, looks_with}
 use Rattle.seam_steps.specs.Bases.{RouteView}

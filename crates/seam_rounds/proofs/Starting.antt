@@ -11,7 +11,7 @@ use Rattle.seam_machine.specs.Totals.{total}
 use Rattle.seam_machine.proofs.Quiet.{quiet_links, quiet_tasks}
 use Rattle.seam_flows.specs.Flows.{letters_of, slot_at}
 use Rattle.seam_entity.specs.Reals.{RealView}
-use Rattle.seam_steps.specs.Here.{base_of}
+use Rattle.seam_entity.specs.Here.{base_of}
 use Rattle.seam_steps.specs.Nodes.{NodeView, World, node_has_work}
 use Rattle.seam_steps.specs.Nodes.NodeView.{Cell, Base}
 use Rattle.seam_steps.specs.Loads.{with_nodes}

@@ -7,7 +7,7 @@ use Rattle.seam_turns.specs.Desks.{WaitsOnce}
 use Rattle.seam_defs.specs.declared.settings.Settings.{Settings}
 use Rattle.seam_defs.specs.declared.types.TypeDef.{TypeDef}
 use Rattle.seam_entity.specs.Reals.{RealView}
-use Rattle.seam_steps.specs.Numbers.{may_rise}
+use Rattle.seam_entity.specs.Numbers.{may_rise}
 use Rattle.seam_steps.specs.Holders.{holders}
 use Rattle.seam_steps.specs.Nodes.{World, node_steps}
 use Rattle.seam_steps.specs.Loads.{one_cell}

@@ -13,9 +13,9 @@ use Rattle.seam_entity.specs.Orders.{order_of}
 use Rattle.seam_entity.specs.Reals.{RealView, WitnessView}
 use Rattle.seam_entity.specs.declared.message.Msg.{Msg}
 use Rattle.seam_entity.specs.declared.message.Msg.TheVariants.{Call, BaseCall, Hand, Current, GhostSet, GhostDrop, Tick, Reap, Update}
-use Rattle.seam_steps.specs.Here.{Here}
-use Rattle.seam_steps.specs.Calls.{ready_order}
-use Rattle.seam_steps.specs.Reals.{executed, executed_ready, shows}
+use Rattle.seam_entity.specs.Here.{Here}
+use Rattle.seam_entity.specs.Calls.{ready_order}
+use Rattle.seam_entity.specs.Executing.{executed, executed_ready, shows}
 use Rattle.seam_steps.specs.Slots.{Slot, NextPlace, SlotStep, unless_stray}
 use Rattle.seam_steps.specs.Settle.{home_after, settled_by, settled}
 use Rattle.seam_steps.specs.CellCases

@@ -4,7 +4,7 @@ use Rattle.std.specs.FinMap as table
 use Rattle.seam_machine.specs.declared.machines.Input.{Input}
 use Rattle.seam_machine.specs.declared.machines.Input.TheVariants.{Task, From}
 use Rattle.seam_entity.specs.declared.message.Msg.{Msg}
-use Rattle.seam_steps.specs.Here.{peers_of}
+use Rattle.seam_entity.specs.Here.{peers_of}
 use Rattle.seam_steps.specs.Slots.{Slot, SlotStep}
 use Rattle.seam_steps.specs.CellCases.{about, slot_steps}
 use Rattle.seam_steps.specs.Cells.{CellView, after_slot, unlisted_by, stepped, cell_steps, cell_task, ready_next, look_next, cell_hears}

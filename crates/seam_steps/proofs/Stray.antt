@@ -4,7 +4,7 @@ use Rattle.seam_tree.specs.Division.{Division}
 use Rattle.seam_machine.specs.declared.machines.Input.TheVariants.{From}
 use Rattle.seam_call.specs.declared.order.Order.{Order}
 use Rattle.seam_entity.specs.declared.message.Msg.{Msg}
-use Rattle.seam_steps.specs.Here.{Here}
+use Rattle.seam_entity.specs.Here.{Here}
 use Rattle.seam_steps.specs.Slots.{Slot, rests, unless_stray}
 use Rattle.seam_steps.specs.CellCases
 use Rattle.seam_steps.specs.BaseCases

@@ -28,9 +28,9 @@ use Rattle.seam_entity.specs.Orders.{order_of}
 use Rattle.seam_entity.specs.Reals.{RealView, WitnessView}
 use Rattle.seam_entity.specs.declared.message.Msg.{Msg}
 use Rattle.seam_entity.specs.declared.message.Msg.TheVariants.{Call, BaseCall, Hand, Current, GhostSet, GhostDrop, Tick, Reap, Update}
-use Rattle.seam_steps.specs.Here.{Here, cell_count, base_of, peers_of}
-use Rattle.seam_steps.specs.Calls.{ready_order}
-use Rattle.seam_steps.specs.Reals.{copy_of_real, executed, executed_ready, with_offer, shows}
+use Rattle.seam_entity.specs.Here.{Here, cell_count, base_of, peers_of}
+use Rattle.seam_entity.specs.Calls.{ready_order}
+use Rattle.seam_entity.specs.Executing.{copy_of_real, executed, executed_ready, with_offer, shows}
 use Rattle.seam_steps.specs.Slots.{Slot, NextPlace, SlotStep, rests, unless_stray, becomes}
 use Rattle.seam_steps.specs.Settle.{told, told_unless, ghost_message, ghost_messages, home_after, stays, goes, gone_to, settled_by, settled}
 use Rattle.seam_steps.specs.CellCases

@@ -8,7 +8,7 @@ use Rattle.seam_machine.specs.declared.machines.Input.{Input}
 use Rattle.seam_machine.specs.declared.machines.Input.TheVariants.{Task, From}
 use Rattle.seam_entity.specs.declared.message.Msg.{Msg}
 use Rattle.seam_steps.specs.Maps.{Map, set_at}
-use Rattle.seam_steps.specs.Here.{cell_count}
+use Rattle.seam_entity.specs.Here.{cell_count}
 use Rattle.seam_steps.specs.Slots.{Slot, NextPlace, SlotStep}
 use Rattle.seam_steps.specs.CellCases.{about, slot_steps}
 use Rattle.seam_steps.specs.Cells.{CellView, after_slot, unlisted_by, stepped, cell_steps, cell_task, ready_next, look_next, cell_hears}

@@ -26,10 +26,10 @@ use Rattle.seam_entity.specs.Orders.{order_of}
 use Rattle.seam_entity.specs.declared.message.Msg.{Msg}
 use Rattle.seam_entity.specs.declared.message.Msg.TheVariants.{Call, BaseCall, Hand, Current, GhostSet, GhostDrop, Tick, Reap, Update}
 use Rattle.seam_steps.specs.Maps.{has_any}
-use Rattle.seam_steps.specs.Numbers.{is_small, may_rise}
-use Rattle.seam_steps.specs.Fitting.{can_do}
-use Rattle.seam_steps.specs.Here.{Here, cell_count, base_of, type_at}
-use Rattle.seam_steps.specs.Calls.{may_offer, is_ready, has_ready, ready_order}
+use Rattle.seam_entity.specs.Numbers.{is_small, may_rise}
+use Rattle.seam_entity.specs.Fitting.{can_do}
+use Rattle.seam_entity.specs.Here.{Here, cell_count, base_of, type_at}
+use Rattle.seam_entity.specs.Calls.{may_offer, is_ready, has_ready, ready_order}
 use Rattle.seam_steps.specs.Bases.{BaseView, PartView, ProxyView, RouteView, with_part, with_line, shown_to_client}
 
 abbrev pub sends_none : BaseView → Stepped BaseView Msg

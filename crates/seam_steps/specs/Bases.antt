@@ -12,7 +12,7 @@ use Rattle.seam_call.specs.declared.shown.ClientText.{ClientText}
 use Rattle.seam_call.specs.declared.shown.ClientText.TheVariants as text
 use Rattle.seam_entity.specs.Orders.{Orders}
 use Rattle.seam_steps.specs.Maps.{Map}
-use Rattle.seam_steps.specs.Here.{Here, properties}
+use Rattle.seam_entity.specs.Here.{Here, properties}
 
 -- the cell where an entity's real was when it had that generation
 pub record RouteView : Type 0 where

@@ -14,10 +14,10 @@ use Rattle.seam_entity.specs.Orders.{order_of}
 use Rattle.seam_entity.specs.Reals.{RealView}
 use Rattle.seam_entity.specs.declared.message.Msg.{Msg}
 use Rattle.seam_entity.specs.declared.message.Msg.TheVariants.{Call, BaseCall, Hand, Current, GhostSet, GhostDrop, Tick, Reap, Update}
-use Rattle.seam_steps.specs.Numbers.{is_small, may_rise}
-use Rattle.seam_steps.specs.Here.{Here, cell_numbers, base_numbers}
-use Rattle.seam_steps.specs.Calls.{ready_order}
-use Rattle.seam_steps.specs.Reals.{fits_real, fits_copy, may_settle, may_execute, may_call, with_offer, executed, executed_ready, shows}
+use Rattle.seam_entity.specs.Numbers.{is_small, may_rise}
+use Rattle.seam_entity.specs.Here.{Here, cell_numbers, base_numbers}
+use Rattle.seam_entity.specs.Calls.{ready_order}
+use Rattle.seam_entity.specs.Executing.{fits_real, fits_copy, may_settle, may_execute, may_call, with_offer, executed, executed_ready, shows}
 use Rattle.seam_steps.specs.Slots.{Slot, NextPlace, SlotStep, rests, unless_stray, becomes, sends, heard}
 use Rattle.seam_steps.specs.Settle.{settled}
 

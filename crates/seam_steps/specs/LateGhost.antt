@@ -15,7 +15,7 @@ use Rattle.seam_entity.specs.Reals.{RealView}
 use Rattle.seam_entity.specs.declared.message.Msg.{Msg}
 use Rattle.seam_entity.specs.declared.message.Msg.TheVariants.{Call, Hand, Current, GhostSet, GhostDrop, Reap}
 use Rattle.seam_steps.specs.Maps.{Map}
-use Rattle.seam_steps.specs.Reals.{created}
+use Rattle.seam_entity.specs.Executing.{created}
 use Rattle.seam_steps.specs.Bases.{PartView}
 use Rattle.seam_steps.specs.Nodes.{NodeView, World}
 use Rattle.seam_steps.specs.Nodes.NodeView.{Cell, Base}

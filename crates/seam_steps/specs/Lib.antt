@@ -1,9 +1,4 @@
 pub mod Maps
-pub mod Numbers
-pub mod Fitting
-pub mod Here
-pub mod Calls
-pub mod Reals
 pub mod Slots
 pub mod Settle
 pub mod CellCases

@@ -13,8 +13,8 @@ use Rattle.seam_call.specs.declared.order.Batch.{Batch}
 use Rattle.seam_entity.specs.Orders.{new_order}
 use Rattle.seam_entity.specs.Reals.{RealView}
 use Rattle.seam_steps.specs.Maps.{set_at, each_value, has_any}
-use Rattle.seam_steps.specs.Here.{Here, cell_count, cell_numbers, base_numbers, peers_of, base_of, properties}
-use Rattle.seam_steps.specs.Reals.{created}
+use Rattle.seam_entity.specs.Here.{Here, cell_count, cell_numbers, base_numbers, peers_of, base_of, properties}
+use Rattle.seam_entity.specs.Executing.{created, real_begins}
 use Rattle.seam_steps.specs.Cells.{CellView}
 use Rattle.seam_steps.specs.Bases.{BaseView, PartView, ProxyView, shown_to_client}
 use Rattle.seam_steps.specs.Nodes.{NodeView, World}
@@ -117,9 +117,6 @@ attached e (Cell c) = Cell (record c { reals = set_at c.reals e (option_map (wit
 attached e (Base b) = Base (record b { parts = set_at b.parts e (option_map (with_proxy b.here) (table.get b.parts e)) })
 
 -- ---- load, point 3: the round begins
-
-abbrev pub real_begins : RealView → RealView
-real_begins r = record r { done = [] }
 
 -- a cell takes the tree, forgets its next places, empties its reals' lists of done calls, and is to settle all its reals
 abbrev pub cell_begins : Division → CellView → CellView

@@ -14,8 +14,8 @@ use Rattle.seam_call.specs.declared.shown.Shown.TheVariants.{Own, Enter, Set, Le
 use Rattle.seam_entity.specs.Reals.{RealView, WitnessView}
 use Rattle.seam_entity.specs.declared.message.Msg.{Msg}
 use Rattle.seam_entity.specs.declared.message.Msg.TheVariants.{Update}
-use Rattle.seam_steps.specs.Numbers.{is_small}
-use Rattle.seam_steps.specs.Here.{Here, base_of, properties}
+use Rattle.seam_entity.specs.Numbers.{is_small}
+use Rattle.seam_entity.specs.Here.{Here, base_of, properties}
 use Rattle.seam_steps.specs.Slots.{Slot, SlotStep, rests}
 
 -- what other clients are shown of a real, and of a copy

@@ -3,7 +3,7 @@ use Rattle.std.specs.Prelude.{ℕ, Bool}
 use Rattle.seam_machine.specs.Views.{Stepped, NetView}
 use Rattle.seam_machine.specs.declared.machines.Input.{Input}
 use Rattle.seam_entity.specs.declared.message.Msg.{Msg}
-use Rattle.seam_steps.specs.Here.{peers_of}
+use Rattle.seam_entity.specs.Here.{peers_of}
 use Rattle.seam_steps.specs.Cells.{CellView, cell_steps, cell_has_work}
 use Rattle.seam_steps.specs.Bases.{BaseView}
 use Rattle.seam_steps.specs.BaseCases.{base_steps, base_has_work}

@@ -29,7 +29,7 @@ use Rattle.seam_entity.specs.Orders.{Orders}
 use Rattle.seam_entity.specs.Reals.{RealView}
 use Rattle.seam_entity.specs.declared.message.Msg.{Msg}
 use Rattle.seam_steps.specs.Maps.{Map}
-use Rattle.seam_steps.specs.Here.{Here, cell_count}
+use Rattle.seam_entity.specs.Here.{Here, cell_count}
 use Rattle.seam_steps.specs.Slots.{NextPlace}
 use Rattle.seam_steps.specs.Cells.{CellView}
 use Rattle.seam_steps.specs.Bases.{PartView}

@@ -10,8 +10,8 @@ use Rattle.seam_call.specs.declared.shown.GhostCopy.{GhostCopy}
 use Rattle.seam_entity.specs.Reals.{RealView}
 use Rattle.seam_entity.specs.declared.message.Msg.{Msg}
 use Rattle.seam_entity.specs.declared.message.Msg.TheVariants.{Hand, GhostSet, GhostDrop}
-use Rattle.seam_steps.specs.Here.{Here, cell_numbers}
-use Rattle.seam_steps.specs.Reals.{copy_of_real}
+use Rattle.seam_entity.specs.Here.{Here, cell_numbers}
+use Rattle.seam_entity.specs.Executing.{copy_of_real, settled_to}
 use Rattle.seam_steps.specs.Slots.{Slot, SlotStep, heard}
 
 -- ---- point 1: the home
@@ -50,9 +50,6 @@ ghost_message h r j haunts changed k =
 -- what all cells are told, in rising number, under the next beat
 abbrev pub ghost_messages : Here → RealView → ℕ → Cells → Bool → List (ℕ × Msg)
 ghost_messages h r j haunts changed = filter_map (ghost_message h r j haunts changed) cell_numbers
-
-abbrev pub settled_to : RealView → Cells → ℕ → ℕ → RealView
-settled_to r haunts beat generation = record r { haunts = haunts; beat = beat; generation = generation }
 
 -- ---- point 2: it stays, and the beat rises where anything is sent
 

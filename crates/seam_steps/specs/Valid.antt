@@ -4,7 +4,7 @@ use Rattle.std.specs.FinMap as table
 use Rattle.seam_tree.specs.Division.{IsTree}
 use Rattle.seam_entity.specs.Reals.{RealView}
 use Rattle.seam_steps.specs.Maps.{Map}
-use Rattle.seam_steps.specs.Here.{cell_count}
+use Rattle.seam_entity.specs.Here.{cell_count}
 use Rattle.seam_steps.specs.Slots.{NextPlace}
 use Rattle.seam_steps.specs.Cells.{CellView}
 use Rattle.seam_steps.specs.Bases.{BaseView, RouteView}

@@ -23,7 +23,7 @@ use Rattle.seam_entity.specs.Reals.{RealView, WitnessView}
 use Rattle.seam_entity.specs.declared.message.Msg.{Msg}
 use Rattle.seam_entity.specs.declared.message.Msg.TheVariants.{Call, Tick, Update}
 use Rattle.seam_steps.specs.Maps.{Map}
-use Rattle.seam_steps.specs.Reals.{created}
+use Rattle.seam_entity.specs.Executing.{created}
 use Rattle.seam_steps.specs.Bases.{PartView}
 use Rattle.seam_steps.specs.Nodes.{NodeView, World}
 use Rattle.seam_steps.specs.Nodes.NodeView.{Cell, Base}

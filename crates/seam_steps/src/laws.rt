@@ -8,7 +8,7 @@ ghost use Rattle.seam_machine.specs.declared.machines.Input.{Input};
 ghost use Rattle.seam_machine.specs.declared.machines.Input.TheVariants.{From};
 ghost use Rattle.seam_call.specs.declared.order.Order.{Order};
 ghost use Rattle.seam_entity.specs.declared.message.Msg.{Msg};
-ghost use Rattle.seam_steps.specs.Here.{Here};
+ghost use Rattle.seam_entity.specs.Here.{Here};
 ghost use Rattle.seam_steps.specs.Slots.{Slot, SlotStep, rests, slot_after};
 ghost use Rattle.seam_steps.specs.CellCases.{is_stray, slot_steps};
 ghost use Rattle.seam_steps.specs.Cells.{CellView, slot_of, with_slot, stepped};

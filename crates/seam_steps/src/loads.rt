@@ -3,7 +3,7 @@
 ghost use Rattle.std.specs.Prelude.{◌≡◌, [], ◌∷◌, None};
 ghost use Rattle.std.specs.FinSet as set;
 ghost use Rattle.seam_call.specs.declared.order.Order.TheVariants as order;
-ghost use Rattle.seam_steps.specs.Reals.{created};
+ghost use Rattle.seam_entity.specs.Executing.{created};
 ghost use Rattle.seam_steps.specs.Nodes.NodeView.{Cell, Base};
 ghost use Rattle.seam_steps.specs.Loads.{created_at, attached, cell_round, base_round, ordered_at, reap_ordered_at, new_part, with_witness};
 ghost use Rattle.seam_steps.specs.Rows.{at, call, hit, avatar_at, no, one, next_place, ghost, real, here, cell, idle};

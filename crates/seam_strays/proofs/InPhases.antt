@@ -8,8 +8,8 @@ use Rattle.seam_machine.specs.Nets.{link}
 use Rattle.seam_entity.specs.Reals.{RealView}
 use Rattle.seam_entity.specs.declared.message.Msg.{Msg}
 use Rattle.seam_entity.specs.declared.message.Msg.TheVariants.{Call, BaseCall, Hand, Current, GhostSet, GhostDrop, Tick, Reap, Update}
-use Rattle.seam_steps.specs.Numbers.{limit, is_small, may_rise}
-use Rattle.seam_steps.specs.Here.{cell_count}
+use Rattle.seam_entity.specs.Numbers.{limit, is_small, may_rise}
+use Rattle.seam_entity.specs.Here.{cell_count}
 use Rattle.seam_steps.specs.CellCases.{about, is_stray, stray_reap}
 use Rattle.seam_steps.specs.Nodes.{NodeView, World}
 use Rattle.seam_moves.specs.Frames.{Frame, here_at}

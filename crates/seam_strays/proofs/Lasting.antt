@@ -15,7 +15,7 @@ use Rattle.seam_flows.specs.Flows.{comes, slot_at}
 use Rattle.seam_flows.proofs.Following.{slots_kept, letters_kept}
 use Rattle.seam_flows.proofs.TokenLemmas.{sole_here}
 use Rattle.seam_entity.specs.Reals.{RealView}
-use Rattle.seam_steps.specs.Numbers.{limit}
+use Rattle.seam_entity.specs.Numbers.{limit}
 use Rattle.seam_steps.specs.Nodes.{NodeView, World, node_steps, node_has_work}
 use Rattle.seam_moves.specs.Frames.{Frame, IsInFrame}
 use Rattle.seam_moves.specs.Sights.{has_of, has_none, entity_flow}

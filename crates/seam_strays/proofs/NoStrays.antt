@@ -22,10 +22,10 @@ use Rattle.seam_call.specs.declared.order.Batch.{Batch}
 use Rattle.seam_entity.specs.Orders.{Orders, order_or}
 use Rattle.seam_entity.specs.Reals.{RealView}
 use Rattle.seam_entity.specs.declared.message.Msg.{Msg}
-use Rattle.seam_steps.specs.Numbers.{limit, may_rise}
-use Rattle.seam_steps.specs.Here.{cell_count, base_of}
-use Rattle.seam_steps.specs.Calls.{order_is_ready, has_ready, ready_order}
-use Rattle.seam_steps.specs.Reals.{may_settle, may_execute}
+use Rattle.seam_entity.specs.Numbers.{limit, may_rise}
+use Rattle.seam_entity.specs.Here.{cell_count, base_of}
+use Rattle.seam_entity.specs.Calls.{order_is_ready, has_ready, ready_order}
+use Rattle.seam_entity.specs.Executing.{may_settle, may_execute}
 use Rattle.seam_steps.specs.CellCases.{about, is_stray, stray_survey}
 use Rattle.seam_steps.specs.Cells.{CellView, slot_of}
 use Rattle.seam_steps.specs.Holders.{holders}

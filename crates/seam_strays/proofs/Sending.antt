@@ -18,10 +18,10 @@ use Rattle.seam_call.specs.declared.shown.Shown.{Shown}
 use Rattle.seam_entity.specs.Reals.{RealView}
 use Rattle.seam_entity.specs.declared.message.Msg.{Msg}
 use Rattle.seam_entity.specs.declared.message.Msg.TheVariants.{Call, BaseCall, Hand, Current, GhostSet, GhostDrop, Tick, Reap, Update}
-use Rattle.seam_steps.specs.Numbers.{limit, is_small, may_rise}
-use Rattle.seam_steps.specs.Here.{Here, cell_count, cell_numbers, base_of, properties}
-use Rattle.seam_steps.specs.Reals.{fits_copy, copy_of_real, may_settle, may_execute, fits_cell_part, shows, public_after}
-use Rattle.seam_steps.specs.Calls.{may_offer}
+use Rattle.seam_entity.specs.Numbers.{limit, is_small, may_rise}
+use Rattle.seam_entity.specs.Here.{Here, cell_count, cell_numbers, base_of, properties}
+use Rattle.seam_entity.specs.Executing.{fits_copy, copy_of_real, may_settle, may_execute, fits_cell_part, shows, public_after}
+use Rattle.seam_entity.specs.Calls.{may_offer}
 use Rattle.seam_entity.specs.Orders.{order_of}
 use Rattle.seam_steps.specs.Settle.{haunts_at, told, told_unless, ghost_message, ghost_messages}
 use Rattle.seam_steps.specs.CellCases.{drop_if, drop_at, drops, current_to}

@@ -17,9 +17,9 @@ use Rattle.seam_call.specs.declared.call.Call.{Call as CallData}
 use Rattle.seam_entity.specs.Reals.{RealView}
 use Rattle.seam_entity.specs.declared.message.Msg.{Msg}
 use Rattle.seam_entity.specs.declared.message.Msg.TheVariants.{Call, BaseCall, Hand, Current, GhostSet, GhostDrop, Tick, Reap, Update}
-use Rattle.seam_steps.specs.Numbers.{limit, is_small}
-use Rattle.seam_steps.specs.Here.{cell_count, cell_numbers, properties}
-use Rattle.seam_steps.specs.Reals.{fits_copy, may_call}
+use Rattle.seam_entity.specs.Numbers.{limit, is_small}
+use Rattle.seam_entity.specs.Here.{cell_count, cell_numbers, properties}
+use Rattle.seam_entity.specs.Executing.{fits_copy, may_call}
 use Rattle.seam_steps.specs.Slots.{NextPlace}
 use Rattle.seam_steps.specs.CellCases.{about, is_stray, stray_call, stray_hand, haunts_cell, is_cell_if, may_come}
 use Rattle.seam_steps.specs.Nodes.{NodeView, World}

@@ -2,7 +2,7 @@
 use Rattle.std.specs.Prelude.{◌≡◌, ℕ, true, false, is_some, List, ◌∷◌, Some}
 use Rattle.std.specs.FinMap as table
 use Rattle.seam_entity.specs.Reals.{RealView}
-use Rattle.seam_steps.specs.Calls.{has_ready}
+use Rattle.seam_entity.specs.Calls.{has_ready}
 use Rattle.seam_steps.specs.CellCases.{stray_survey, stray_ready_call}
 use Rattle.seam_steps.specs.Cells.{CellView}
 

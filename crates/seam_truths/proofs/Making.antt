@@ -22,9 +22,9 @@ use Rattle.seam_call.specs.declared.shown.GhostCopy.{GhostCopy}
 use Rattle.seam_entity.specs.Reals.{RealView}
 use Rattle.seam_entity.specs.declared.message.Msg.{Msg}
 use Rattle.seam_entity.specs.declared.message.Msg.TheVariants.{Call, BaseCall, Hand, Current, GhostSet, GhostDrop, Tick, Reap, Update}
-use Rattle.seam_steps.specs.Here.{cell_numbers}
-use Rattle.seam_steps.specs.Reals.{copy_of_real}
-use Rattle.seam_steps.specs.Settle.{told, told_unless, ghost_message, ghost_messages, settled_to, beat_after, copy_if}
+use Rattle.seam_entity.specs.Here.{cell_numbers}
+use Rattle.seam_entity.specs.Executing.{copy_of_real, settled_to}
+use Rattle.seam_steps.specs.Settle.{told, told_unless, ghost_message, ghost_messages, beat_after, copy_if}
 use Rattle.seam_moves.specs.Frames.{Frame, here_at}
 use Rattle.seam_moves.specs.Sights.{Has}
 use Rattle.seam_ones.specs.Replays.{account_of, after_call}

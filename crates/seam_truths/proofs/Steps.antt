@@ -18,10 +18,10 @@ use Rattle.seam_call.specs.declared.shown.GhostCopy.{GhostCopy}
 use Rattle.seam_entity.specs.Reals.{RealView}
 use Rattle.seam_entity.specs.declared.message.Msg.{Msg}
 use Rattle.seam_entity.specs.declared.message.Msg.TheVariants.{Call, BaseCall, Hand, Current, GhostSet, GhostDrop, Tick, Reap, Update}
-use Rattle.seam_steps.specs.Fitting.{can_do}
-use Rattle.seam_steps.specs.Here.{Here, cell_count, base_numbers, base_of, type_at}
-use Rattle.seam_steps.specs.Calls.{order_passes, order_is_ready}
-use Rattle.seam_steps.specs.Reals.{fits_cell_part}
+use Rattle.seam_entity.specs.Fitting.{can_do}
+use Rattle.seam_entity.specs.Here.{Here, cell_count, base_numbers, base_of, type_at}
+use Rattle.seam_entity.specs.Calls.{order_passes, order_is_ready}
+use Rattle.seam_entity.specs.Executing.{fits_cell_part}
 use Rattle.seam_steps.specs.Slots.{SlotStep, slot_after}
 use Rattle.seam_steps.specs.CellCases.{current_to, is_stray, may_come}
 use Rattle.seam_steps.specs.BaseCases.{tick_to}

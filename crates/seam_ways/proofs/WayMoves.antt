@@ -9,9 +9,10 @@ use Rattle.seam_call.specs.declared.call.Call.{Call as CallData}
 use Rattle.seam_entity.specs.Reals.{RealView}
 use Rattle.seam_entity.specs.declared.message.Msg.{Msg}
 use Rattle.seam_entity.specs.declared.message.Msg.TheVariants.{Call, BaseCall, Hand, Current, GhostSet, GhostDrop, Tick, Reap, Update}
-use Rattle.seam_steps.specs.Here.{cell_count, base_numbers, base_of}
+use Rattle.seam_entity.specs.Here.{cell_count, base_numbers, base_of}
 use Rattle.seam_steps.specs.Slots.{Slot, NextPlace, SlotStep, slot_after}
-use Rattle.seam_steps.specs.Settle.{haunts_at, ghost_messages, settled_to}
+use Rattle.seam_steps.specs.Settle.{haunts_at, ghost_messages}
+use Rattle.seam_entity.specs.Executing.{settled_to}
 use Rattle.seam_steps.specs.CellCases.{is_stray, may_come}
 use Rattle.seam_steps.specs.Bases.{RouteView}
 use Rattle.seam_steps.specs.BaseCases.{tick_to}

@@ -1,0 +1,44 @@
+-- What a call meets at a real, what is known of it before it is executed, and the room that it needs.
+use Rattle.std.specs.Prelude.{◌≡◌, ℕ, ◌+◌, ◌<◌, true, List, [], ◌∷◌, ◌++◌}
+use Rattle.std.specs.Ordering.{nat_cmp, match_ordering}
+use Rattle.std.specs.FinSet as set
+use Rattle.seam_defs.specs.declared.types.TypeDef.{TypeDef}
+use Rattle.seam_defs.specs.declared.settings.Settings.{Settings}
+use Rattle.seam_call.specs.declared.call.Call.{Call}
+use Rattle.seam_call.specs.Senders.{rank_of}
+use Rattle.seam_entity.specs.Orders.{order_of}
+use Rattle.seam_entity.specs.Reals.{RealView, RoomyReal}
+use Rattle.seam_entity.specs.Here.{Here}
+use Rattle.seam_entity.specs.Executing.{executed, with_offer, shows, public_after}
+use Rattle.seam_entity.specs.declared.real.After.{After}
+use Rattle.seam_entity.specs.declared.real.Did.{Did}
+use Rattle.seam_entity.specs.declared.real.Did.TheVariants.{Done, Held, Stale}
+
+-- a node of that number with these definitions and settings
+abbrev pub node_with : List TypeDef → ℕ → Settings → Here
+node_with defs me settings = record { me = me; defs = defs; settings = settings }
+
+-- the real with one version and one done call more, and with the state that the call left
+abbrev pub with_after : RealView → After → Call → RealView
+with_after r a k = record r {
+  state = a.state;
+  version = r.version + 1;
+  public = public_after a.changed (r.version + 1) r.public;
+  done = r.done ++ k ∷ [];
+}
+
+-- the call comes back, is executed or is held, as its number is below the one whose turn it is, that number or above it
+abbrev pub met : Here → RealView → Call → Did
+met h r k = match_ordering (nat_cmp k.number (order_of r.orders k.sender).next) (Stale k) (Done (shows h r k)) Held
+
+-- the real after a call
+abbrev pub offered : Here → RealView → Call → RealView
+offered h r k = match_ordering (nat_cmp k.number (order_of r.orders k.sender).next) r (executed h r k) (with_offer r k)
+
+-- there is room for one more done call
+abbrev pub HasSpare : RoomyReal → Type 0
+HasSpare r = 0 < r.spare
+
+-- there is room for a call whose turn it is
+abbrev pub HasRoom : RoomyReal → Call → Type 0
+HasRoom r k = HasSpare r × (set.contains r.senders (rank_of k.sender) ≡ true)
