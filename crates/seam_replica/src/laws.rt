@@ -1,0 +1,32 @@
+// What holds of all lines, each law on a function that does nothing.
+ghost use Rattle.std.specs.Prelude.{◌≡◌, ◌++◌, ℕ, List, [], ◌∷◌, ◌≤◌, Some};
+ghost use Rattle.seam_view.specs.Replica.{NeverFalls};
+ghost use Rattle.seam_defs.specs.Settings.{standard};
+ghost use Rattle.seam_defs.specs.declared.states.State.{State};
+ghost use Rattle.seam_call.specs.declared.shown.Line.{Line};
+ghost use Rattle.seam_call.specs.declared.shown.Shown.{Shown};
+ghost use Rattle.seam_call.specs.declared.shown.Shown.TheVariants.{Own, Enter, Set, Leave};
+ghost use Rattle.seam_replica.specs.Clients.{ClientReplica, new_client, after_all_shown, after_lines};
+ghost use Rattle.seam_replica.specs.Looks.{one_look};
+ghost use Rattle.seam_replica.specs.Lines.{MayShowAll};
+ghost use Rattle.seam_replica.specs.Example.{at, copy_at, table_of, once, twice};
+
+/// What a client shows follows from its lines alone, which may come in parts.
+pub fn lines_follow_lines()
+    ensures { (c : ClientReplica) (lines more : List Line) → after_lines c (lines ++ more) ≡ after_lines (after_lines c lines) more }
+{}
+
+/// No client is shown an older state than it was shown before: the version last shown of an entity never falls, also after it left the
+/// view, and neither does that of the client's own entity.
+pub fn no_line_is_older()
+    ensures others { (me : ℕ) (c : ClientReplica) (xs : List Shown) → MayShowAll me c xs → NeverFalls c.others (after_all_shown c xs).others }
+    ensures own { (me : ℕ) (c : ClientReplica) (xs : List Shown) → MayShowAll me c xs → (v : ℕ) (s : State) → c.own ≡ Some (v, s)
+        → (w : ℕ) × (t : State) × ((after_all_shown c xs).own ≡ Some (w, t)) × (v ≤ w) }
+{}
+
+/// With the radius 300 and the hysteresis 10 an entity enters at the distance 300, is set at 310 and leaves at 311.
+pub fn view_has_hysteresis()
+    ensures enters { one_look (new_client standard) 1 (table_of 0 1300) ≡ Own 0 (at 1000) ∷ Enter 2 (copy_at 0 1300) ∷ [] }
+    ensures stays { one_look once 1 (table_of 1 1310) ≡ Set 2 (copy_at 1 1310) ∷ [] }
+    ensures leaves { one_look twice 1 (table_of 2 1311) ≡ Leave 2 ∷ [] }
+{}
