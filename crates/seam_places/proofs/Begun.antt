@@ -8,6 +8,7 @@ use Rattle.std.specs.Cmp.{unsigned_tied}
 use Rattle.std.specs.FinMap as table
 use Rattle.std.specs.FinMap.Entries.{find as key_find}
 use Rattle.std.proofs.lemmas.Bool.{cases_eq, eq-eqb, ne_eqb}
+use Rattle.std.proofs.lemmas.List.{append_assoc}
 use Rattle.std.proofs.lemmas.Option.{slice_get_cases}
 use Rattle.seam_tree.specs.Division.{leaf_at}
 use Rattle.seam_tree.proofs.Leaves.{leaf_is_cell}
@@ -27,7 +28,7 @@ use Rattle.seam_between.specs.Between.{created_entity, IsBetweenRounds, MayBeMad
 use Rattle.seam_between.proofs.Loading.{each_keeps, Any, any, made, node_loaded, get-each_value}
 use Rattle.seam_between.proofs.Making.{AreOthers, Creation, nowhere, once, creation_of, middle, until, node_made, node_after}
 use Rattle.seam_between.proofs.Loaded.{kept_some, slot_is, slot_becomes}
-use Rattle.seam_places.specs.Places.{made_real}
+use Rattle.seam_places.specs.Places.{made_real, BeginsAt}
 
 -- ---- survey lists
 
@@ -81,12 +82,9 @@ module _ (e : ℕ) where
 
 -- ---- reals that were there
 
--- a real with no calls done, and perhaps a witness
-abbrev pub begun : RealView → Option WitnessView → RealView
-begun r x = record (real_begins r) { witness = x }
-
-abbrev pub BeginsAt : World → Batch → ℕ → ℕ → RealView → Type 0
-BeginsAt w b e k r = (x : Option WitnessView) × (real_in ((entity_flow e (loaded w b)).slot k) ≡ Some (begun r x))
+begins : (w : World) (b : Batch) (e k : ℕ) (r : RealView) → (x : Option WitnessView)
+    × (real_in ((entity_flow e (loaded w b)).slot k) ≡ Some (record (real_begins r) { witness = x })) → BeginsAt w b e k r
+begins w b e k r p = record { witness = p.0; here = p.1 }
 
 module _ (f : Frame) (w : World) (b : Batch) (between : IsBetweenRounds f w) (fits : IsFitting f w b) where
   others_by : (e home : ℕ) (r : RealView) → real_in ((entity_flow e w).slot home) ≡ Some r → Creation e b.creates → AreOthers e b.creates
@@ -98,8 +96,8 @@ module _ (f : Frame) (w : World) (b : Batch) (between : IsBetweenRounds f w) (fi
   pub was_begins : (e home : ℕ) (r : RealView) → real_in ((entity_flow e w).slot home) ≡ Some r → BeginsAt w b e home r
   was_begins e home r here =
       let others = others_by e home r here (creation_of e b.creates fits.once) in
-      kept_some (real_in ((entity_flow e w).slot home)) (real_in ((entity_flow e (loaded w b)).slot home))
-      (slot_becomes w b e fits.spares others home).real r here
+      begins w b e home r (kept_some (real_in ((entity_flow e w).slot home)) (real_in ((entity_flow e (loaded w b)).slot home))
+      (slot_becomes w b e fits.spares others home).real r here)
 
   -- ---- reals that are created
 
@@ -119,13 +117,15 @@ module _ (f : Frame) (w : World) (b : Batch) (between : IsBetweenRounds f w) (fi
         let real = had.real ∙ ap (λ c. cond c (Some (made_real f b.tree x)) None) (eq-eqb leaf leaf refl) in
         let kept = kept_some (real_in (has_of x.entity (until f b fits.tree x leaf first later is before after fits.spares s)))
         (real_in (has_of x.entity (node_loaded b s)))
-        (node_after f b fits.tree x leaf first later is before after fits.spares s).real (made_real f b.tree x) real in (
-          kept.0,
-          ap real_in (slot_is w b x.entity leaf)
-              ∙ (ap (λ o. real_in (slot_at (has_of x.entity) has_none (option_map (node_loaded b) o))) at ∙ kept.1),
-        )
+        (node_after f b fits.tree x leaf first later is before after fits.spares s).real (made_real f b.tree x) real in
+        record {
+          witness = kept.0;
+          here =
+              ap real_in (slot_is w b x.entity leaf)
+              ∙ (ap (λ o. real_in (slot_at (has_of x.entity) has_none (option_map (node_loaded b) o))) at ∙ kept.1);
+        }
 
-    pub made_begins : BeginsAt w b x.entity leaf (made_real f b.tree x)
+    made_begins : BeginsAt w b x.entity leaf (made_real f b.tree x)
     made_begins = elim (slice_get_cases w.nodes leaf).1 [
       | inl p ↦ made_by p.0 p.2
       | inr p ↦
@@ -148,7 +148,7 @@ others_after : (x : Create) (ys : List Create) → AllByRecursion (λ y. eqb x.e
 others_after x [] h = tt
 others_after x (y ∷ ys) h = ((λ is. let no = sym (eq-eqb x.entity y.entity (sym is)) ∙ h.0 in cc), others_after x ys h.1)
 
-pub others_around : (first : List Create) (x : Create) (later : List Create) →
+others_around : (first : List Create) (x : Create) (later : List Create) →
     IsDistinct eqb (map created_entity (first ++ x ∷ later)) → AreOthers x.entity first × AreOthers x.entity later
 unfolding IsDistinct
 others_around [] x later h = (tt, others_after x later h.0)
@@ -156,3 +156,17 @@ others_around (y ∷ ys) x later h =
     let more = others_around ys x later h.1 in
     let apart = of_middle (λ z. eqb y.entity z ≡ false) ys x later h.0 in
     (((λ is. let no = sym (eq-eqb y.entity x.entity is) ∙ apart in cc), more.0), more.1)
+
+-- so each that the batch creates begins at its leaf
+module _ (f : Frame) (w : World) (b : Batch) (between : IsBetweenRounds f w) (fits : IsFitting f w b) where
+  each_by : (first xs : List Create) → b.creates ≡ first ++ xs →
+      AllByRecursion (λ x. BeginsAt w b x.entity (leaf_at b.tree x.pos) (made_real f b.tree x)) xs
+  each_by first [] is = tt
+  each_by first (x ∷ xs) is =
+      let others = others_around first x xs (subst (λ l. IsDistinct eqb (map created_entity l)) is fits.once) in (
+        made_begins f w b between fits first x xs is others.0 others.1,
+        each_by (first ++ x ∷ []) xs (is ∙ sym (append_assoc first (x ∷ []) xs)),
+      )
+
+  pub each_begins : AllByRecursion (λ x. BeginsAt w b x.entity (leaf_at b.tree x.pos) (made_real f b.tree x)) b.creates
+  each_begins = each_by [] b.creates refl

@@ -1,8 +1,7 @@
 -- Where a loaded world is quiet again, each place is one that the rounds allow; and the last phases leave places.
-use Rattle.std.proofs.Common.{◌≡◌, ℕ, ◌≤◌, ◌⊎◌, Bool, false, eqb, map, List, [], ◌∷◌, ◌++◌, Some, refl, sym, ap, ◌∙◌, subst, arith}
+use Rattle.std.proofs.Common.{◌≡◌, ℕ, ◌≤◌, ◌⊎◌, Bool, false, List, [], ◌∷◌, ◌++◌, Some, refl, sym, ap, ◌∙◌, subst, arith}
 use Rattle.std.proofs.Common.{inl, inr}
-use Rattle.std.specs.List.{AllByRecursion, IsDistinct}
-use Rattle.std.proofs.lemmas.List.{append_assoc}
+use Rattle.std.specs.List.{AllByRecursion}
 use Rattle.seam_tree.specs.Division.{leaf_at}
 use Rattle.seam_haunt.specs.Places.{Place, settled, IsPlaceAfter, last_of}
 use Rattle.seam_haunt.proofs.Settling.{after_settled}
@@ -26,7 +25,7 @@ use Rattle.seam_ones.specs.Ones.{real_in, real_of, HasOne}
 use Rattle.seam_ones.proofs.Counting.{counted_none, none_counts}
 use Rattle.seam_ones.proofs.ExampleMet.{slots}
 use Rattle.seam_ones.proofs.Gone.{gone_leads}
-use Rattle.seam_between.specs.Between.{created_entity, IsBetweenRounds, IsFitting, framed}
+use Rattle.seam_between.specs.Between.{IsBetweenRounds, IsFitting, framed}
 use Rattle.seam_between.proofs.Framing.{in_frame}
 use Rattle.seam_between.proofs.Loaded.{no_items, no_mail}
 use Rattle.seam_between.proofs.Ready.{one_at_home}
@@ -38,11 +37,11 @@ use Rattle.seam_rounds.proofs.Phases.{calm_leads}
 use Rattle.seam_rounds.proofs.Reaping as reaping
 use Rattle.seam_rounds.proofs.Looking as looking
 use Rattle.seam_places.specs.Places.{distances_of, place_of, first_place, path_of, made_real, home_of, IsDue, IsPlaced, IsRightPlace}
-use Rattle.seam_places.specs.Places.{WasThere, IsOfSpace, ArePlaced}
+use Rattle.seam_places.specs.Places.{BeginsAt, WasThere, IsOfSpace, ArePlaced}
 use Rattle.seam_places.proofs.Ways.{way_ends}
 use Rattle.seam_places.proofs.Paths.{further_done, is_at_last}
 use Rattle.seam_places.proofs.Along.{placed_leads}
-use Rattle.seam_places.proofs.Begun.{listed, was_begins, made_begins, others_around}
+use Rattle.seam_places.proofs.Begun.{listed, was_begins, each_begins}
 
 -- ---- a quiet world has no one on a survey list
 
@@ -124,24 +123,20 @@ module _ (f : Frame) (w : World) (b : Batch) (between : IsBetweenRounds f w) (fi
           real_in ((entity_flow e v).slot k) ≡ Some q → IsRightPlace f b.tree (place_of home r) r k q
       right_kept e home r here k q at =
           let begins = was_begins f w b between fits e home r here in
-          right_loaded e home _ begins.1 k q at
+          right_loaded e home _ begins.here k q at
 
       -- of one that is created
       abbrev pub MadeRight : Create → Type 0
       MadeRight x = (k : ℕ) (q : RealView) → real_in ((entity_flow x.entity v).slot k) ≡ Some q →
           IsRightPlace f b.tree (first_place b.tree x) (made_real f b.tree x) k q
 
-      made_by : (first xs : List Create) → b.creates ≡ first ++ xs → AllByRecursion MadeRight xs
-      made_by first [] is = tt
-      made_by first (x ∷ xs) is =
-          let others = others_around first x xs (subst (λ l. IsDistinct eqb (map created_entity l)) is fits.once) in
-          let begins = made_begins f w b between fits first x xs is others.0 others.1 in (
-            (λ k q at. right_loaded x.entity (leaf_at b.tree x.pos) _ begins.1 k q at),
-            made_by (first ++ x ∷ []) xs (is ∙ sym (append_assoc first (x ∷ []) xs)),
-          )
+      made_by : (xs : List Create) → AllByRecursion (λ x. BeginsAt w b x.entity (leaf_at b.tree x.pos) (made_real f b.tree x)) xs →
+          AllByRecursion MadeRight xs
+      made_by [] h = tt
+      made_by (x ∷ xs) h = ((λ k q at. right_loaded x.entity (leaf_at b.tree x.pos) _ h.0.here k q at), made_by xs h.1)
 
       pub right_made : AllByRecursion MadeRight b.creates
-      right_made = made_by [] b.creates refl
+      right_made = made_by b.creates (each_begins f w b between fits)
 
       -- ---- the record of places
 

@@ -15,7 +15,7 @@ use Rattle.seam_flows.proofs.SendLists.{sees_none, sees_after_silent, sees_one_h
 use Rattle.seam_call.specs.declared.call.Call.{Call as CallData}
 use Rattle.seam_entity.specs.Reals.{RealView}
 use Rattle.seam_entity.specs.declared.message.Msg.{Msg}
-use Rattle.seam_entity.specs.declared.message.Msg.TheVariants.{Call, BaseCall, Hand, Current, GhostSet, GhostDrop, Tick, Reap, Update}
+use Rattle.seam_entity.specs.declared.message.Msg.TheVariants.{Call, Hand, GhostSet, GhostDrop, Tick, Reap}
 use Rattle.seam_entity.specs.Here.{cell_count}
 use Rattle.seam_entity.specs.Executing.{may_settle, settled_to}
 use Rattle.seam_steps.specs.Slots.{SlotStep, slot_after}
@@ -200,20 +200,16 @@ module _ (f : Frame) (defs : AreDefs f.defs) (e ty k : ℕ) (s : Has) (i : Optio
   module _ (room : (r : RealView) → i ≡ Some (Hand r) → FindsRoom f k s r)
       (spared : (r : RealView) → real_in s ≡ Some r → i ≡ Some (Reap e) → ⊥)
       (may : (r : RealView) → real_in s ≡ Some r → 1 ≤ s.cell.survey → may_settle r ≡ true) where
-    stray_none : (m : Msg) → i ≡ Some m → is_stray (here_at f k) f.tree s.cell.slot m ≡ true → carried_in real_of i ≡ None
-    stray_none (Call c) h b = came_none (Call c) h refl
-    stray_none (BaseCall c) h b = came_none (BaseCall c) h refl
-    stray_none (Hand r) h b =
-        let p = room r h in
+    -- a hand-over that comes is not stray
+    stray_none : (m : Msg) → i ≡ Some m → is_stray (here_at f k) f.tree s.cell.slot m ≡ true → (o : Option RealView) →
+        carried_in real_of i ≡ o → carried_in real_of i ≡ None
+    stray_none m h b None is = is
+    stray_none m h b (Some r) is =
+        let p = room r (came_hand i r is) in
+        let same : m ≡ Hand r = let z = sym h ∙ came_hand i r is in cc in
         absurd (not_both (may_come (here_at f k) f.tree r) p.may
         (sym (ap (λ o. is_stray (here_at f k) f.tree (record { real = o; next = s.cell.slot.next; ghost = s.cell.slot.ghost }) (Hand r))
-        p.free) ∙ b))
-    stray_none (Current x j g) h b = came_none (Current x j g) h refl
-    stray_none (GhostSet x n c) h b = came_none (GhostSet x n c) h refl
-    stray_none (GhostDrop x n) h b = came_none (GhostDrop x n) h refl
-    stray_none Tick h b = came_none Tick h refl
-    stray_none (Reap x) h b = came_none (Reap x) h refl
-    stray_none (Update u) h b = came_none (Update u) h refl
+        p.free) ∙ (ap (is_stray (here_at f k) f.tree s.cell.slot) (sym same) ∙ b)))
 
     -- a real that may settle is not taken off the list unsettled
     not_unlisted : (n : ℕ) → s.cell.survey ≡ n + 1 → stray_survey s.cell.slot.real ≡ true → (r : RealView) → real_in s ≡ Some r → ⊥
@@ -222,7 +218,8 @@ module _ (f : Frame) (defs : AreDefs f.defs) (e ty k : ℕ) (s : Has) (i : Optio
 
     cell_placed : Does_it → CellMoves (here_at f k) f.tree e s.cell i t.cell sent → Placed
     cell_placed m (move.rests n d) = same m (none_of n) (real_is _ s.cell d) (still_due (due_is _ s.cell d))
-    cell_placed m (move.strays x n b d) = same m (stray_none x n b) (real_is _ s.cell d) (still_due (due_is _ s.cell d))
+    cell_placed m (move.strays x n b d) =
+        same m (stray_none x n b (carried_in real_of i) refl) (real_is _ s.cell d) (still_due (due_is _ s.cell d))
     cell_placed m (move.stays u r q changed has own acts at d) = stays_placed u r q changed has acts at d
     cell_placed m (move.goes u r q changed j has own acts at n d) = goes_placed u r q changed j has acts at d
     cell_placed m (move.late c r n has may lt d) =

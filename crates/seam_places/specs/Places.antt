@@ -1,5 +1,5 @@
 -- The place of an entity's real: its home, and the cells that have a ghost of it; on its way through a round, and where a round leaves it.
-use Rattle.std.specs.Prelude.{◌≡◌, ℕ, ◌+◌, ◌≤◌, List, [], ◌∷◌, length, Some}
+use Rattle.std.specs.Prelude.{◌≡◌, ℕ, ◌+◌, ◌≤◌, List, [], ◌∷◌, length, Option, Some}
 use Rattle.std.specs.FinSet as set
 use Rattle.seam_geo.specs.declared.pos.Pos.{Pos}
 use Rattle.seam_tree.specs.Division.{Division, leaf_at}
@@ -16,8 +16,8 @@ use Rattle.seam_flows.specs.Tokens as token
 use Rattle.seam_call.specs.declared.call.Call.{Call}
 use Rattle.seam_call.specs.declared.create.Create.{Create}
 use Rattle.seam_call.specs.declared.order.Batch.{Batch}
-use Rattle.seam_entity.specs.Reals.{RealView}
-use Rattle.seam_entity.specs.Executing.{created}
+use Rattle.seam_entity.specs.Reals.{RealView, WitnessView}
+use Rattle.seam_entity.specs.Executing.{created, real_begins}
 use Rattle.seam_steps.specs.Nodes.{World, node_steps, node_has_work}
 use Rattle.seam_steps.specs.Loads.{loaded, reaps_loaded, look_loaded}
 use Rattle.seam_moves.specs.Frames.{Frame, here_at}
@@ -49,6 +49,11 @@ path_of f r cs = positions_after (type_of f.defs r.ty) r.state cs
 -- the real of an entity that is created
 abbrev pub made_real : Frame → Division → Create → RealView
 made_real f t x = created (here_at f (leaf_at t x.pos)) x.entity x.ty x.pos
+
+-- where the batch is loaded, the real r is in cell k, with no calls done and perhaps with a witness
+pub record BeginsAt (w : World) (b : Batch) (e k : ℕ) (r : RealView) : Type 0 where
+  pub witness : Option WitnessView
+  pub here : real_in ((entity_flow e (loaded w b)).slot k) ≡ Some (record (real_begins r) { witness = witness })
 
 -- ---- within a round
 

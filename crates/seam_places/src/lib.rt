@@ -5,8 +5,8 @@
 //! These laws say, over every list of events, that its place is on its way, and that a round leaves it at a right one, whatever the order
 //! of the events. `specs/Places` has the way, what a right place is, and the record of places that a world keeps between rounds.
 //!
-//! Crates above cite these modules of `proofs`: `Placing` (what each move does with a place), `Along` (an event, and every list of events),
-//! `Ends` (a quiet world, and the last phases), `Known` (which cells are near, have a ghost, and know whom).
+//! Crates above cite these modules of `proofs`: `Begun` (a load), `Placing` (what each move does with a place), `Along` (an event, and
+//! every list of events), `Ends` (a quiet world, and the last phases), `Known` (which cells are near, and who is known in them).
 #![tactic(auto)]
 
 ghost use Rattle.std.specs.Prelude.{◌≡◌, ℕ, ◌+◌, ◌<◌, ◌≤◌, ◌⊎◌, true, List, length, Some};
@@ -17,7 +17,7 @@ ghost use Rattle.seam_haunt.specs.Haunts.{distance_to_cell};
 ghost use Rattle.seam_defs.specs.Settings.{GhostsReach};
 ghost use Rattle.seam_defs.specs.declared.settings.Settings.{Settings};
 ghost use Rattle.seam_defs.specs.declared.types.TypeDef.{TypeDef};
-ghost use Rattle.seam_tree.specs.Division.{cells_of};
+ghost use Rattle.seam_tree.specs.Division.{cells_of, leaf_at};
 ghost use Rattle.seam_machine.specs.Nets.{IsQuiet, LeadsTo};
 ghost use Rattle.seam_machine.specs.declared.machines.Event.{Event};
 ghost use Rattle.seam_flows.specs.Tokens.{In};
@@ -33,8 +33,19 @@ ghost use Rattle.seam_ones.specs.Ones.{real_in, IsOne, IsSpared, AllFits, IsFram
 ghost use Rattle.seam_between.specs.Between.{IsBetweenRounds, IsFitting, framed};
 ghost use Rattle.seam_between.specs.Example.{next_batch};
 ghost use Rattle.seam_rounds.specs.Rounds.{first_frame, AreReapable};
-ghost use Rattle.seam_places.specs.Places.{place_of, first_place, made_real, IsDue, IsPlaced, IsRightPlace, WasThere, GoesThroughRound};
-ghost use Rattle.seam_places.specs.Places.{IsOfSpace, ArePlaced};
+ghost use Rattle.seam_places.specs.Places.{place_of, first_place, made_real, BeginsAt, IsDue, IsPlaced, IsRightPlace};
+ghost use Rattle.seam_places.specs.Places.{WasThere, GoesThroughRound, IsOfSpace, ArePlaced};
+
+/// Where a batch is loaded, each real that was there is in the same cell with the same haunts, and each that is created is in its leaf; and
+/// the survey list of each real's cell has its entity.
+pub fn a_load_begins_at_former_places()
+    ensures kept { (f : Frame) (w : World) (b : Batch) → IsBetweenRounds f w → IsFitting f w b → (e home : ℕ) (r : RealView) →
+        real_in ((entity_flow e w).slot home) ≡ Some r → BeginsAt w b e home r }
+    ensures made { (f : Frame) (w : World) (b : Batch) → IsBetweenRounds f w → IsFitting f w b →
+        AllByRecursion (λ x. BeginsAt w b x.entity (leaf_at b.tree x.pos) (made_real f b.tree x)) b.creates }
+    ensures due { (w : World) (b : Batch) (e k : ℕ) (r : RealView) → real_in ((entity_flow e (loaded w b)).slot k) ≡ Some r →
+        IsDue e (loaded w b) (In k) }
+{}
 
 /// Where an entity is in a cell, on that cell's survey list, and no one reaps it, its place is on its way after every list of events. So it
 /// is for each entity of a loaded world, also one that the batch creates.
