@@ -1,7 +1,8 @@
 //! Which cells have a ghost of a real: those near enough, and those that had one and are not yet far (BigWorld Server
 //! Overview, ghost entities). And the place of an entity: its home, and the cells with a ghost of it.
 //!
-//! Of `proofs/`, `Chosen` (which numbers of a range are in a set that was chosen by a test) is for callers.
+//! Of `proofs/`, `Chosen` (which numbers of a range are in a set that was chosen by a test) and `Settling` (what settling makes of a place,
+//! and of one that is settled already) are for callers.
 #![tactic(auto)]
 
 ghost use Rattle.std.specs.Prelude.{◌≡◌, ℕ, ◌↔◌, ◌⊎◌, IsTrue};
