@@ -6,3 +6,4 @@ pub mod Loading
 pub mod Rounding
 pub mod Phasing
 pub mod Ending
+pub mod ExampleCopies

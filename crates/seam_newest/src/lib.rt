@@ -9,21 +9,27 @@
 //! its way), `Running` (every list of events), `Loading` (what a load leaves of copies), `Rounding`, `Phasing` and `Ending` (each phase).
 #![tactic(auto)]
 
-ghost use Rattle.std.specs.Prelude.{◌≡◌, ℕ, ◌<◌, ◌+◌, ◌≤◌, List, [], length, None, Some};
+ghost use Rattle.std.specs.Prelude.{◌≡◌, ℕ, ◌<◌, ◌+◌, ◌≤◌, List, [], ◌∷◌, length, None, Some};
 ghost use Rattle.std.specs.List.{AllByRecursion};
 ghost use Rattle.seam_machine.specs.Nets.{IsQuiet, LeadsTo};
 ghost use Rattle.seam_machine.specs.declared.machines.Event.{Event};
 ghost use Rattle.seam_flows.specs.Tokens.{Place, In};
 ghost use Rattle.seam_defs.specs.declared.settings.Settings.{Settings};
 ghost use Rattle.seam_defs.specs.declared.types.TypeDef.{TypeDef};
+ghost use Rattle.seam_defs.specs.Builtin.{builtin};
+ghost use Rattle.seam_defs.specs.Settings.{standard};
 ghost use Rattle.seam_call.specs.declared.order.Batch.{Batch};
 ghost use Rattle.seam_entity.specs.Reals.{RealView};
 ghost use Rattle.seam_entity.specs.Here.{cell_count};
 ghost use Rattle.seam_steps.specs.Holders.{holders};
 ghost use Rattle.seam_steps.specs.Nodes.{World, node_steps, node_has_work};
 ghost use Rattle.seam_steps.specs.Loads.{opened, loaded, reaps_loaded, look_loaded};
+ghost use Rattle.seam_steps.specs.Rows as row;
+ghost use Rattle.seam_steps.specs.Rows.{empty_world};
+ghost use Rattle.seam_steps.specs.LateGhost as late;
 ghost use Rattle.seam_moves.specs.Frames.{Frame};
 ghost use Rattle.seam_moves.specs.Sights.{entity_flow};
+ghost use Rattle.seam_ones.specs.Example.{events_of};
 ghost use Rattle.seam_ones.specs.Ones.{real_in, IsOne, IsSpared, IsFrame, HasOne};
 ghost use Rattle.seam_between.specs.Between.{IsBetweenRounds, IsFitting, framed};
 ghost use Rattle.seam_rounds.specs.Rounds.{first_frame, AreReapable};
@@ -98,4 +104,18 @@ pub fn no_cell_keeps_a_copy_of_the_reaped()
     ensures others { (f : Frame) (u : World) → IsBetweenRounds f u → AreCopiesBetweenRounds f u → (es : List ℕ) → AreReapable u es →
         (vs : List Event) (v : World) → LeadsTo node_has_work node_steps (reaps_loaded u es) vs v → IsQuiet node_has_work v → (e : ℕ) →
         holders u e ≡ 1 → AllByRecursion (λ x. x ≡ e → ⊥) es → (k : ℕ) → k < cell_count → copy_at e v k ≡ copy_at e u k }
+{}
+
+/// What these laws ask is true of an opened world and a worked batch (`seam_steps`: "a late ghost message"), which creates an entity near
+/// two borders of three cells and moves it over one. Where its calls leave the world quiet, both records hold, the haunt has the copy of
+/// what the entity is now, and the entity may be reaped.
+pub fn a_worked_round_keeps_the_records()
+    ensures between { IsBetweenRounds (first_frame builtin standard) empty_world }
+    ensures fits { IsFitting (first_frame builtin standard) empty_world late.batch }
+    ensures run { LeadsTo node_has_work node_steps (loaded empty_world late.batch) (events_of late.steps) late.world_14 }
+    ensures quiet { IsQuiet node_has_work late.world_14 }
+    ensures ends { IsBetweenRounds (framed (first_frame builtin standard) late.batch) late.world_14 }
+    ensures copies { AreCopiesBetweenRounds (framed (first_frame builtin standard) late.batch) late.world_14 }
+    ensures present { copy_at 1 late.world_14 0 ≡ Some (row.copy_at 2 5100 4000) }
+    ensures reapable { AreReapable late.world_14 (1 ∷ []) }
 {}
