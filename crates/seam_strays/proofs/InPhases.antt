@@ -22,7 +22,7 @@ use Rattle.seam_entity.specs.Orders.{order_or}
 use Rattle.std.specs.FinMap as table
 use Rattle.seam_strays.proofs.Strays.{mine_is, seen_first, feeds}
 
-small_to : (n beat : ℕ) → n ≤ beat + 1 → may_rise beat ≡ true → is_small n ≡ true
+pub small_to : (n beat : ℕ) → n ≤ beat + 1 → may_rise beat ≡ true → is_small n ≡ true
 small_to n beat low h = let lt : beat + 1 < limit = grind (arith, nat_tests, h) in small_is n (omega (arith, low, lt))
   where
     small_is : (n : ℕ) → n < limit → is_small n ≡ true

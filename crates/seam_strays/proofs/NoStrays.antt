@@ -283,7 +283,7 @@ module _ (f : Frame) (u : World) (between : IsBetweenRounds f u) (es : List ℕ)
   zero_by true n h = h
   zero_by false n h = refl
 
-  unknown_reaps : (e : ℕ) → Nowhere e u → IsUnknown f e (reaps_loaded u es)
+  pub unknown_reaps : (e : ℕ) → Nowhere e u → IsUnknown f e (reaps_loaded u es)
   unknown_reaps e n =
       let none = reaping.never_by e es (others_by f u between e n es may.there) in
       subst (IsUnknown f e) (sym (reaping.loaded_is f u between es may))
@@ -296,7 +296,7 @@ module _ (f : Frame) (u : World) (between : IsBetweenRounds f u) (es : List ℕ)
       subst (AreListed f e) (sym (reaping.loaded_is f u between es may))
       (lists_turned f u between turn (reaps_framed f u between.nodes es) e (reaps_cell e es))
 
-  frame_reaps : IsInFrame f (reaps_loaded u es)
+  pub frame_reaps : IsInFrame f (reaps_loaded u es)
   frame_reaps = subst (IsInFrame f) (sym (reaping.loaded_is f u between es may)) (reaps_framed f u between.nodes es)
 
   module _ (vs : List Event) (v : World) (run : LeadsTo node_has_work node_steps (reaps_loaded u es) vs v) where
@@ -312,10 +312,10 @@ module _ (f : Frame) (u : World) (between : IsBetweenRounds f u) (es : List ℕ)
         (reaping.calm f u between es may) unknown_reaps lists_reaps v vs run
 
 module _ (f : Frame) (u : World) (between : IsBetweenRounds f u) where
-  frame_look : IsInFrame f (look_loaded u)
+  pub frame_look : IsInFrame f (look_loaded u)
   frame_look = look_framed f u between.nodes looking.tick
 
-  unknown_look : (e : ℕ) → Nowhere e u → IsUnknown f e (look_loaded u)
+  pub unknown_look : (e : ℕ) → Nowhere e u → IsUnknown f e (look_loaded u)
   unknown_look e n =
       unknown_turned f u between (ordered_at looking.tick) frame_look e (look_cell e looking.tick) n
       (λ k s at. look_given e f k cell_count s (quiet_tasks node_has_work u between.quiet k s at))

@@ -8,7 +8,7 @@
 //! a look have numbers to those of what clients are shown.
 //!
 //! Crates above cite these modules of `proofs`: `Sending` (what is sent fits), `Lasting` (lists and letters over every list of events),
-//! `Unknown` (an entity that is nowhere).
+//! `Unknown` (an entity that is nowhere), `Beginning` (what a loaded world has of one), `InRound`, `InPhases` and `NoStrays` (each phase).
 #![tactic(auto)]
 
 ghost use Rattle.std.specs.Prelude.{◌≡◌, ℕ, false, List, ◌∷◌, Some, slice_get};

@@ -91,7 +91,7 @@ greater_by e p false = inl refl
 greater_either : (e p : Entry) → (greater_entry e (Some p) ≡ e) ⊎ (greater_entry e (Some p) ≡ p)
 greater_either e p = greater_by e p (ltb e.0 p.0)
 
-unseen_by : (m : Msg) → brings m ≡ None → real_of m ≡ None
+pub unseen_by : (m : Msg) → brings m ≡ None → real_of m ≡ None
 unseen_by (Call c) h = refl
 unseen_by (BaseCall c) h = refl
 unseen_by (Hand r) h = cc
@@ -102,15 +102,15 @@ unseen_by Tick h = refl
 unseen_by (Reap e) h = refl
 unseen_by (Update u) h = refl
 
-none_carried : (i : Option Msg) → entry_in brings i ≡ None → carried_in real_of i ≡ None
+pub none_carried : (i : Option Msg) → entry_in brings i ≡ None → carried_in real_of i ≡ None
 none_carried None h = refl
 none_carried (Some m) h = unseen_by m h
 
-all_unseen : (ps : List (ℕ × Msg)) → IsSilent brings ps → IsSilent real_of ps
+pub all_unseen : (ps : List (ℕ × Msg)) → IsSilent brings ps → IsSilent real_of ps
 all_unseen [] h = tt
 all_unseen (p ∷ ps) h = (unseen_by p.1 h.0, all_unseen ps h.1)
 
-none_brought : (P : Entry → Type 0) (ps : List (ℕ × Msg)) → IsSilent brings ps → AllByRecursion (λ p. Brings P p.1) ps
+pub none_brought : (P : Entry → Type 0) (ps : List (ℕ × Msg)) → IsSilent brings ps → AllByRecursion (λ p. Brings P p.1) ps
 none_brought P [] h = tt
 none_brought P (p ∷ ps) h = (subst (OfEntry P) (sym h.0) tt, none_brought P ps h.1)
 
@@ -171,7 +171,7 @@ not_own k j x m p false h is at = not_own_by (eqb x j) is
     not_own_by true is = cc
     not_own_by false is = eqb-false x k h (addressed_to x m p is ∙ at)
 
-none_here : (f : Frame) (k : ℕ) (q : RealView) (j : ℕ) (haunts : Cells) (changed : Bool) →
+pub none_here : (f : Frame) (k : ℕ) (q : RealView) (j : ℕ) (haunts : Cells) (changed : Bool) →
     items_to k (ghost_messages (here_at f k) q j haunts changed) ≡ []
 none_here f k q j haunts changed =
     items_apart k (ghost_messages (here_at f k) q j haunts changed)

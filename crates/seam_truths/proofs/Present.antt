@@ -127,12 +127,21 @@ module _ (f : Frame) (start : RealView) where
             ∙ ap (λ l. shown_at f start.ty q.public (after_calls (type_of f.defs start.ty) (account_of start) l).state) (sym all));
       }
 
-  same_shown_of : (r q : RealView) → q.ty ≡ r.ty → q.public ≡ r.public →
+  pub same_shown_of : (r q : RealView) → q.ty ≡ r.ty → q.public ≡ r.public →
       ghost_of (type_of f.defs r.ty).properties r.state ≡ ghost_of (type_of f.defs r.ty).properties q.state → shown_of r ≡ shown_of q
   same_shown_of r q t p s =
       let one : shown_at f r.ty r.public q.state ≡ shown_of q = ap (λ x. shown_at f x r.public q.state) (sym t)
       ∙ ap (λ n. shown_at f q.ty n q.state) (sym p) in
       (λ i. record { ty = r.ty; version = r.public; state = s i }) ∙ one
+
+  -- where a call changes nothing that others may see, they see the same
+  pub unseen_same : (r q : RealView) (c : Call) → q.ty ≡ r.ty → part_of_deed (type_of f.defs r.ty) c.deed ≡ part.Cell →
+      account_of q ≡ after_call (type_of f.defs r.ty) (account_of r) c → changes (type_of f.defs r.ty) r.state c.deed ≡ false →
+      (q.public ≡ r.public) × (shown_of r ≡ shown_of q)
+  unseen_same r q c t part is b =
+      let public : q.public ≡ r.public = ap (λ x. x.public) is ∙ ap (λ x. public_after x (r.version + 1) r.public) b in
+      let unseen = unseen_is (type_of f.defs r.ty) r.state c.deed part b in
+      (public, same_shown_of r q t public (unseen ∙ ap (λ x. ghost_of (type_of f.defs r.ty).properties x.state) (sym is)))
 
   one_by : (r q : RealView) (a : Replays f start r) (c : Call) (n : q.entity ≡ r.entity) (t : q.ty ≡ r.ty)
       (part : part_of_deed (type_of f.defs r.ty) c.deed ≡ part.Cell)
@@ -148,10 +157,9 @@ module _ (f : Frame) (start : RealView) where
         omega (arith, public, low, v),
       )
   one_by r q a c n t part is h false b =
-      let public : q.public ≡ r.public = ap (λ x. x.public) is ∙ ap (λ x. public_after x (r.version + 1) r.public) b in
-      let unseen = unseen_is (type_of f.defs r.ty) r.state c.deed part b in
-      let shown = same_shown_of r q t public (unseen ∙ ap (λ x. ghost_of (type_of f.defs r.ty).properties x.state) (sym is)) in (
-        true_more a.further (c ∷ []) (shown_of q) (subst (IsTrueCopy f start a.further) shown h),
+      let same = unseen_same r q c t part is b in
+      let public = same.0 in (
+        true_more a.further (c ∷ []) (shown_of q) (subst (IsTrueCopy f start a.further) same.1 h),
         omega (arith, public),
       )
 

@@ -1,0 +1,27 @@
+use Rattle.seam_steps.proofs.Late.{quiet}
+use Rattle.seam_newest.proofs.ExampleCopies.{between, opened_fits, run, ends_between, ends_copied, has_copy, reapable}
+use Rattle.seam_newest.proofs.a_worked_round_keeps_the_records.Goals as goal
+
+pub returns-clause-between : goal.returns-clause-between
+returns-clause-between c = between
+
+pub returns-clause-fits : goal.returns-clause-fits
+returns-clause-fits c = opened_fits
+
+pub returns-clause-run : goal.returns-clause-run
+returns-clause-run c = run
+
+pub returns-clause-quiet : goal.returns-clause-quiet
+returns-clause-quiet c = quiet
+
+pub returns-clause-ends : goal.returns-clause-ends
+returns-clause-ends c = ends_between
+
+pub returns-clause-copies : goal.returns-clause-copies
+returns-clause-copies c = ends_copied
+
+pub returns-clause-present : goal.returns-clause-present
+returns-clause-present c = has_copy
+
+pub returns-clause-reapable : goal.returns-clause-reapable
+returns-clause-reapable c = reapable
