@@ -14,7 +14,7 @@ use Rattle.seam_moves.specs.Frames.{Frame, IsInFrame}
 use Rattle.seam_moves.specs.Sights.{entity_flow}
 use Rattle.seam_moves.proofs.Classify.{frame_happens}
 use Rattle.seam_ones.specs.Ones.{IsSpared}
-use Rattle.seam_ones.proofs.OneReal.{one_leads}
+use Rattle.seam_ones.proofs.OneReal.{one_leads, spared_happens}
 use Rattle.seam_base_calls.specs.WitnessMoves.{sent_of, sent_by}
 use Rattle.seam_base_calls.specs.BaseTurns.{FindsPart, HasBaseCalls}
 use Rattle.seam_base_calls.specs.Clients.{EachReal, HasToldAtMost, HasClient, HasRoomFor}
@@ -99,3 +99,30 @@ module _ (f : Frame) (e ty : ℕ) (first : ℕ → ℕ) (batch : ℕ → List Ca
       HasToldAtMost e n v → Both v
   both_leads w v es h room r most =
       subst Both (sym r.is_run) (both_run w es h room r.each (subst (HasToldAtMost e n) r.is_run most))
+
+-- ---- a client, whatever is called
+
+module _ (f : Frame) (e ty update n : ℕ) where
+  record Served (w : World) : Type 0 where
+    client : HasClient f e ty update w
+    spared : IsSpared e w
+
+  client_run : (w : World) (es : List Event) → Served w → HasRoomFor e n w → AllEnabled node_has_work node_steps w es →
+      HasToldAtMost e n (run node_steps w es) → Served (run node_steps w es)
+  client_run w [] h room on most = h
+  client_run w (v ∷ es) h room on most =
+      let o = occurs node_has_work w v on.0 in
+      let now =
+      told_before f e ty update n w (run node_steps w (v ∷ es)) (v ∷ es) h.client h.spared (record { each = on; is_run = refl }) most in
+      let less = base_burden_happens f e w v o h.client.one.fits.frame in
+      client_run (happens node_steps w v) es
+      (record {
+        client = client_happens f e ty update n w v o h.client h.spared now room;
+        spared = spared_happens f e w v o h.client.one.fits.frame h.spared;
+      }) (omega (arith, less, room)) on.1 most
+
+  pub client_leads : (w v : World) (es : List Event) → HasClient f e ty update w → IsSpared e w → HasRoomFor e n w →
+      LeadsTo node_has_work node_steps w es v → HasToldAtMost e n v → HasClient f e ty update v
+  client_leads w v es h spared room r most =
+      let end = client_run w es (record { client = h; spared = spared }) room r.each (subst (HasToldAtMost e n) r.is_run most) in
+      subst (HasClient f e ty update) (sym r.is_run) end.client

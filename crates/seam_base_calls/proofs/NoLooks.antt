@@ -36,7 +36,7 @@ use Rattle.seam_base_calls.proofs.WitnessKept.{each_happens}
 no_tick : SeesNoGhost tick_in
 no_tick = record { sets = λ e n c. refl; drops = λ e n. refl }
 
-abbrev NoTicks : List Order → Type 0
+abbrev pub NoTicks : List Order → Type 0
 NoTicks os = AllByRecursion (λ o. is_tick_order o ≡ false) os
 
 unlisted_none : (b : Bool) (n : ℕ) → n ≡ 0 → unlisted_if b n ≡ 0

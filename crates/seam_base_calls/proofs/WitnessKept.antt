@@ -1,9 +1,11 @@
 -- What is true of each real of an entity by its witness stays true.
-use Rattle.std.proofs.Common.{◌≡◌, ℕ, ◌+◌, List, [], ◌∷◌, length, Option, Some, refl, sym, ap, ◌∙◌, subst}
+use Rattle.std.proofs.Common.{◌≡◌, ℕ, ◌+◌, Bool, true, is_some, List, [], ◌∷◌, length, Option, Some, refl, sym, ap, ◌∙◌, subst}
 use Rattle.std.specs.List.{AllByRecursion}
-use Rattle.seam_machine.specs.Nets.{happens}
+use Rattle.seam_machine.specs.Nets.{happens, enabled, LeadsTo}
 use Rattle.seam_machine.specs.Events.{Occurs}
 use Rattle.seam_machine.specs.declared.machines.Event.{Event}
+use Rattle.seam_machine.proofs.Occurring.{occurs}
+use Rattle.seam_runs.proofs.Runs.{leads_keeps}
 use Rattle.seam_flows.specs.Flows.{comes}
 use Rattle.seam_flows.specs.Sent.{IsSilent}
 use Rattle.seam_flows.proofs.Following.{all_append, slots_kept, letters_kept, came}
@@ -11,11 +13,11 @@ use Rattle.seam_call.specs.declared.shown.Shown.{Shown}
 use Rattle.seam_entity.specs.Reals.{RealView, WitnessView}
 use Rattle.seam_entity.specs.declared.message.Msg.{Msg}
 use Rattle.seam_entity.specs.declared.message.Msg.TheVariants.{Hand}
-use Rattle.seam_steps.specs.Nodes.{World, node_steps}
+use Rattle.seam_steps.specs.Nodes.{World, node_steps, node_has_work}
 use Rattle.seam_moves.specs.Frames.{Frame, here_at, IsInFrame}
 use Rattle.seam_moves.specs.Sights.{Has, AtCell, entity_flow}
 use Rattle.seam_moves.specs.Moves.{Moves, at_a_cell, at_a_base}
-use Rattle.seam_moves.proofs.Classify.{event_moves}
+use Rattle.seam_moves.proofs.Classify.{event_moves, frame_happens}
 use Rattle.seam_ones.specs.Ones.{real_in, real_of}
 use Rattle.seam_ones.proofs.Sparing.{items_all}
 use Rattle.seam_base_calls.specs.WitnessMoves as witness
@@ -103,3 +105,28 @@ module _ (P : RealView → Type 0) (by_witness : ByWitness P) (f : Frame) (e : �
             letters_kept (λ a k m. OfReal P m) g each.hands
             (λ j. subst (AllByRecursion (OfReal P)) (sym (g.moves.items j)) (items_all (OfReal P) j g.moves.sent kept.sends));
       }
+
+-- ---- an entity with a witness keeps it, and one without gets none
+
+module _ (f : Frame) (e : ℕ) (b : Bool) where
+  abbrev pub IsSeen : RealView → Type 0
+  IsSeen r = is_some r.witness ≡ b
+
+  record Seen (w : World) : Type 0 where
+    frame : IsInFrame f w
+    each : EachReal e IsSeen w
+
+  seen_more : (w : World) (v : Event) → Seen w → enabled node_has_work w v ≡ true → Seen (happens node_steps w v)
+  seen_more w v h on =
+      let o = occurs node_has_work w v on in
+      record {
+        frame = frame_happens f w v o h.frame;
+        each =
+            each_happens IsSeen (λ r q same is. ap is_some same ∙ is) f e w v o h.frame
+            (λ k n r q x y shown at wit wit' sum is. ap is_some wit' ∙ (sym (ap is_some wit) ∙ is)) h.each;
+      }
+
+  pub seen_leads : (w v : World) (es : List Event) → IsInFrame f w → EachReal e IsSeen w → LeadsTo node_has_work node_steps w es v →
+      EachReal e IsSeen v
+  seen_leads w v es frame each run =
+      (leads_keeps node_has_work node_steps Seen seen_more w v es (record { frame = frame; each = each }) run).each

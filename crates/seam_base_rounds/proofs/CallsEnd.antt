@@ -1,5 +1,5 @@
 -- Where the calls of a batch leave the world quiet, the record of base parts holds again.
-use Rattle.std.proofs.Common.{◌≡◌, ℕ, ◌≤◌, ◌⊎◌, cond, List, [], ◌∷◌, Some, refl, sym, ap, ◌∙◌, subst, arith, inl, inr}
+use Rattle.std.proofs.Common.{◌≡◌, ℕ, ◌≤◌, ◌+◌, ◌^◌, ◌<◌, ◌⊎◌, cond, List, [], ◌∷◌, Some, refl, sym, ap, ◌∙◌, subst, arith, inl, inr}
 use Rattle.std.specs.FinMap as table
 use Rattle.std.proofs.lemmas.Bool.{eq-eqb}
 use Rattle.std.proofs.lemmas.List.{append-nil, append_cancel_left}
@@ -21,19 +21,25 @@ use Rattle.seam_steps.specs.Loads.{loaded}
 use Rattle.seam_moves.specs.Frames.{Frame}
 use Rattle.seam_moves.specs.Sights.{entity_flow}
 use Rattle.seam_ones.specs.Ones.{real_in, real_of}
+use Rattle.seam_ones.proofs.Easing.{burden_leads}
 use Rattle.seam_ones.proofs.Gone.{gone_leads}
 use Rattle.seam_once.specs.CellTurns.{desk_for}
-use Rattle.seam_between.specs.Between.{framed}
+use Rattle.seam_between.specs.Between.{framed, numbers_of}
 use Rattle.seam_between.proofs.Framing.{in_frame}
-use Rattle.seam_between.proofs.Loaded.{no_mail}
+use Rattle.seam_between.proofs.Loaded.{no_mail, real_loaded}
+use Rattle.seam_between.proofs.Room.{few_more as few_burden, real_room}
 use Rattle.seam_between.proofs.Going.{frame_loaded, Keeps, kept_after}
 use Rattle.seam_rounds.proofs.Shape.{Somewhere, Nowhere, search_real}
 use Rattle.seam_base_calls.specs.BaseTurns.{part_desk, as_base_sender, home_of, HasBaseCalls}
+use Rattle.seam_base_calls.proofs.BaseRuns.{version_room}
+use Rattle.seam_base_calls.proofs.StrayRuns.{base_burden_leads}
 use Rattle.seam_base_calls.proofs.BaseQuiet.{all_executed}
-use Rattle.seam_base_rounds.specs.Parts.{next_to, base_calls_of, HasSettledPart, HasPartsBetweenRounds, MayBeLoaded}
-use Rattle.seam_base_rounds.specs.Parts.{LinesKeepRoom}
+use Rattle.seam_base_rounds.specs.Parts.{next_to, base_calls_of, HasSettledPart, HasPartsBetweenRounds, MayBeLoaded, AreFor, lines_of}
+use Rattle.seam_base_rounds.specs.Parts.{TellsFew, HasSmallNumbers}
 use Rattle.seam_base_rounds.proofs.Loaded.{LoadedPart}
-use Rattle.seam_base_rounds.proofs.Going.{its_part, calls_then}
+use Rattle.seam_base_rounds.proofs.Serving.{ends}
+use Rattle.seam_base_rounds.proofs.Turns.{few_more}
+use Rattle.seam_base_rounds.proofs.Going.{its_part, few_lines, calls_then, serves_after}
 
 -- ---- in a quiet world a part whose calls are in turn is settled
 
@@ -113,19 +119,77 @@ module _ (f : Frame) (w : World) (b : Batch) (may : MayBeLoaded f w b) (v : Worl
         kept_after f w b may.between may.fits e home r here v es run in
         sym (kept.has.fits.reals k q at).type
 
-  module _ (quiet : IsQuiet node_has_work v)
-      (rooms : (e k : ℕ) (r : RealView) → real_in ((entity_flow e (loaded w b)).slot k) ≡ Some r →
-      LinesKeepRoom g e r.ty (loaded w b) v) where
-    settled_by : (e k : ℕ) (q : RealView) → real_in ((entity_flow e v).slot k) ≡ Some q →
-        Somewhere e (loaded w b) ⊎ Nowhere e (loaded w b) → HasSettledPart g e q.ty v
-    settled_by e k q at (inl p) =
-        subst (λ t. HasSettledPart g e t v) (same_type e p.0 p.1 p.2 k q at)
-        (quiet_settled g e p.1.ty (first e p.0 p.1 p.2) (base_calls_of b e) v
-        (calls_then f w b may e p.0 p.1 p.2 v es run (rooms e p.0 p.1 p.2)) quiet)
-    settled_by e k q at (inr n) =
+  module _ (told : (e k : ℕ) (r : RealView) → real_in ((entity_flow e (loaded w b)).slot k) ≡ Some r → TellsFew e r v) where
+    -- what is true of an entity of the loaded world and its real in v is true of each real in v
+    each_by : (P : ℕ → ℕ → RealView → Type 0) →
+        ((e home : ℕ) (r : RealView) → real_in ((entity_flow e (loaded w b)).slot home) ≡ Some r → (k : ℕ) (q : RealView) →
+        real_in ((entity_flow e v).slot k) ≡ Some q → P e k q) → (e k : ℕ) (q : RealView) →
+        real_in ((entity_flow e v).slot k) ≡ Some q → Somewhere e (loaded w b) ⊎ Nowhere e (loaded w b) → P e k q
+    each_by P its e k q at (inl p) = its e p.0 p.1 p.2 k q at
+    each_by P its e k q at (inr n) =
         let gone = gone_leads g (frame_loaded f w b may.between may.fits) e (loaded w b) v es (in_frame f w b may.between may.fits)
         (record { slots = n; mail = λ x y. ap (letters_of real_of) (no_mail f w b may.between may.fits e x y) }) run in
         absurd (let z = sym (gone.slots k) ∙ at in cc)
 
-    pub calls_end_with_parts : HasPartsBetweenRounds g v
-    calls_end_with_parts e k q at = settled_by e k q at (search_real e (loaded w b))
+    each : (P : ℕ → ℕ → RealView → Type 0) →
+        ((e home : ℕ) (r : RealView) → real_in ((entity_flow e (loaded w b)).slot home) ≡ Some r → (k : ℕ) (q : RealView) →
+        real_in ((entity_flow e v).slot k) ≡ Some q → P e k q) → (e k : ℕ) (q : RealView) →
+        real_in ((entity_flow e v).slot k) ≡ Some q → P e k q
+    each P its e k q at = each_by P its e k q at (search_real e (loaded w b))
+
+    calls_of_it : (e home : ℕ) (r : RealView) (here : real_in ((entity_flow e (loaded w b)).slot home) ≡ Some r) →
+        HasBaseCalls g e r.ty (first e home r here) (base_calls_of b e) v
+    calls_of_it e home r here = calls_then f w b may e home r here v es run (told e home r here)
+
+    -- ---- its numbers
+
+    few_numbers : (e home : ℕ) (r : RealView) → real_in ((entity_flow e (loaded w b)).slot home) ≡ Some r → (k : ℕ) (q : RealView) →
+        real_in ((entity_flow e v).slot k) ≡ Some q → numbers_of q < 2 ^ 61 + 2 ^ 60
+    few_numbers e home r here k q at =
+        let few = few_burden f w b may.between may.fits e home r (real_loaded f w b may.between may.fits e home r here) in
+        let less = burden_leads g e (loaded w b) v es (in_frame f w b may.between may.fits) run in
+        let its = real_room e v k q at in
+        omega (arith, few, less, its)
+
+    few_shown : (e home : ℕ) (r : RealView) → real_in ((entity_flow e (loaded w b)).slot home) ≡ Some r → (k : ℕ) (q : RealView) →
+        real_in ((entity_flow e v).slot k) ≡ Some q → (p : PartView) → ((entity_flow e v).slot (home_of g e)).base.part ≡ Some p →
+        lines_of q p < 2 ^ 61 + 2 ^ 60
+    few_shown e home r here k q at p there =
+        let few = few_lines f w b may e home r here in
+        let sent = (told e home r here).cells k q at in
+        let more = few_more f w b may e home r here (its e home r here) in
+        let less = base_burden_leads g e (loaded w b) v es (in_frame f w b may.between may.fits) run in
+        let version = version_room e v (home_of g e) p there in
+        omega (arith, few, sent, more, less, version)
+
+    pub calls_end_small : HasSmallNumbers g v
+    calls_end_small = record {
+      reals = each (λ e k q. numbers_of q < 2 ^ 61 + 2 ^ 60) few_numbers;
+      clients =
+          each
+          (λ e k q. (p : PartView) → ((entity_flow e v).slot (home_of g e)).base.part ≡ Some p → lines_of q p < 2 ^ 61 + 2 ^ 60)
+          few_shown;
+    }
+
+    module _ (quiet : IsQuiet node_has_work v) where
+      settled_at : (e home : ℕ) (r : RealView) → real_in ((entity_flow e (loaded w b)).slot home) ≡ Some r → (k : ℕ) (q : RealView) →
+          real_in ((entity_flow e v).slot k) ≡ Some q → HasSettledPart g e q.ty v
+      settled_at e home r here k q at =
+          subst (λ t. HasSettledPart g e t v) (same_type e home r here k q at)
+          (quiet_settled g e r.ty (first e home r here) (base_calls_of b e) v (calls_of_it e home r here) quiet)
+
+      are_at : (e home : ℕ) (r : RealView) → real_in ((entity_flow e (loaded w b)).slot home) ≡ Some r → (k : ℕ) (q : RealView) →
+          real_in ((entity_flow e v).slot k) ≡ Some q → (p : PartView) → ((entity_flow e v).slot (home_of g e)).base.part ≡ Some p →
+          AreFor q.witness p.proxy p.version
+      are_at e home r here k q at p there =
+          ends g e r.ty v (calls_of_it e home r here).part.frame quiet k q at p there
+          (serves_after f w b may e home r here v es run (told e home r here))
+
+      pub calls_end_with_parts : HasPartsBetweenRounds g v
+      calls_end_with_parts = record {
+        parts = each (λ e k q. HasSettledPart g e q.ty v) settled_at;
+        clients =
+            each
+            (λ e k q. (p : PartView) → ((entity_flow e v).slot (home_of g e)).base.part ≡ Some p → AreFor q.witness p.proxy p.version)
+            are_at;
+      }

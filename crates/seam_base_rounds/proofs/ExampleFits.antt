@@ -156,6 +156,11 @@ fits = record {
   cells = omega arith;
   creates = (record { new = is_new 1; type = omega arith; inside = refl }, tt);
   once = (tt, tt);
+  clients = tt;
+  unseen = tt;
+  one_each = tt;
+  destroys = tt;
+  ends_once = tt;
   spares = (refl, (refl, (refl, tt)));
   known = (known, (known, (known, tt)));
   calls = λ e k r at.
@@ -248,13 +253,13 @@ brings = record {
       let two = is_its e (home_of opening e) p
       (ap (λ w. ((entity_flow e w).slot (home_of opening e)).base.part) (sym load_alone) ∙ at) in
       subst (λ x. IsForPart opening first_batch x p) (sym two.0) (subst (IsForPart opening first_batch 1) two.1 for_part);
-  small = λ e p at. absurd (no_part e (home_of opening e) p at);
+  small = λ e k r at. absurd (no_real e k r at);
 }
 
 pub may_be_loaded : MayBeLoaded opening empty_world first_batch
 may_be_loaded = record {
   between = between;
-  parts = λ e k r at. absurd (no_real e k r at);
+  parts = record { parts = λ e k r at. absurd (no_real e k r at); clients = λ e k r at. absurd (no_real e k r at) };
   fits = fits;
   brings = brings;
 }

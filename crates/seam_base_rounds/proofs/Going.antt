@@ -1,5 +1,6 @@
 -- What a loaded world has of each base part, and what it keeps of that over every list of events.
-use Rattle.std.proofs.Common.{◌≡◌, ℕ, List, Some, sym, ◌∙◌, subst}
+use Rattle.std.proofs.Common.{◌≡◌, ℕ, ◌+◌, ◌^◌, ◌<◌, List, Some, sym, ap, ◌∙◌, subst, arith, inl, inr}
+use Rattle.std.proofs.lemmas.Bool.{cases_eq}
 use Rattle.seam_machine.specs.Nets.{IsQuiet, LeadsTo}
 use Rattle.seam_machine.specs.declared.machines.Event.{Event}
 use Rattle.seam_flows.specs.Flows.{letters_of}
@@ -13,16 +14,21 @@ use Rattle.seam_moves.specs.Sights.{entity_flow}
 use Rattle.seam_ones.specs.Ones.{real_in}
 use Rattle.seam_once.specs.CellTurns.{from_sender}
 use Rattle.seam_between.specs.Between.{framed}
-use Rattle.seam_between.proofs.Going.{frame_loaded, settled_loaded, one_loaded}
+use Rattle.seam_between.proofs.Framing.{in_frame}
+use Rattle.seam_between.proofs.Loaded.{no_mail}
+use Rattle.seam_between.proofs.Going.{frame_loaded, settled_loaded, one_loaded, spared_loaded}
+use Rattle.seam_base_calls.specs.WitnessMoves.{sent_by}
 use Rattle.seam_base_calls.specs.BaseTurns.{home_of, HasBaseCalls}
 use Rattle.seam_base_calls.specs.Strays.{NothingIsStray}
 use Rattle.seam_base_calls.proofs.AloneRuns.{alone_leads}
 use Rattle.seam_base_calls.proofs.BaseQuiet.{all_executed}
 use Rattle.seam_base_calls.proofs.StrayRuns.{alone_without_stray, client_without_stray}
 use Rattle.seam_base_calls.proofs.ClientLeads.{both_leads}
-use Rattle.seam_base_rounds.specs.Parts.{next_to, base_calls_of, MayBeLoaded, LinesKeepRoom, no_client, client}
+use Rattle.seam_base_rounds.specs.Parts.{next_to, base_calls_of, MayBeLoaded, lines_of, most_told, TellsFew}
+use Rattle.seam_base_rounds.proofs.Attaching.{are_for_loaded, lines_loaded}
+use Rattle.seam_base_rounds.proofs.Serving.{HasItStill, Serves, bare, served, starts, HasNumbers, serves_then}
 use Rattle.seam_base_rounds.proofs.Loaded.{LoadedPart, part_loaded}
-use Rattle.seam_base_rounds.proofs.Turns.{calls_loaded, routes_loaded}
+use Rattle.seam_base_rounds.proofs.Turns.{few_more, calls_loaded, routes_loaded}
 
 module _ (f : Frame) (w : World) (b : Batch) (may : MayBeLoaded f w b) (e k : ℕ) (r : RealView)
     (here : real_in ((entity_flow e (loaded w b)).slot k) ≡ Some r) where
@@ -39,8 +45,34 @@ module _ (f : Frame) (w : World) (b : Batch) (may : MayBeLoaded f w b) (e k : �
       subst (λ (x : PartView). HasBaseCalls (framed f b) e r.ty (λ s. next_to s x) (base_calls_of b e) (loaded w b)) (part_is p at)
       (calls_loaded f w b may e k r here its_part)
 
-  module _ (v : World) (es : List Event) (run : LeadsTo node_has_work node_steps (loaded w b) es v)
-      (room : LinesKeepRoom (framed f b) e r.ty (loaded w b) v) where
+  -- the real and the part, with nothing on its way
+  still_loaded : HasItStill (framed f b) e r.ty r its_part.settled.part (loaded w b)
+  still_loaded = record {
+    frame = frame_loaded f w b may.between may.fits;
+    known = (settled_loaded f w b may.between may.fits e k r here).type;
+    one = one_loaded f w b may.between may.fits e k r here;
+    spared = spared_loaded f w b may.between may.fits e k r here;
+    still = no_mail f w b may.between may.fits e;
+    real = λ j q at. elim (cases_eq j k) [
+      | inl is ↦ let z = sym here ∙ (ap (λ i. real_in ((entity_flow e (loaded w b)).slot i)) (sym is) ∙ at) in cc
+      | inr n ↦ absurd (let z = sym ((settled_loaded f w b may.between may.fits e k r here).others j n) ∙ at in cc)
+    ];
+    here = its_part.settled.here;
+    others = its_part.settled.others;
+  }
+
+  pub few_lines : lines_of r its_part.settled.part < 2 ^ 61
+  few_lines =
+      lines_loaded f w b may.between may.fits may.parts e may.brings k r here its_part.settled.part its_part.settled.here its_part.small
+
+  serves_loaded : Serves (framed f b) e r.ty (loaded w b)
+  serves_loaded =
+      let few = few_lines in
+      starts (framed f b) e r.ty r its_part.settled.part (loaded w b) still_loaded
+      (are_for_loaded f w b may.between may.fits may.parts e k r here its_part.settled.part its_part.settled.here)
+      (omega (arith, few))
+
+  module _ (v : World) (es : List Event) (run : LeadsTo node_has_work node_steps (loaded w b) es v) (told : TellsFew e r v) where
     abbrev g : Frame
     g = framed f b
 
@@ -50,14 +82,27 @@ module _ (f : Frame) (w : World) (b : Batch) (may : MayBeLoaded f w b) (e k : �
     abbrev loaded_calls : HasBaseCalls g e r.ty first (base_calls_of b e) (loaded w b)
     loaded_calls = calls_loaded f w b may e k r here its_part
 
-    calls_by : LinesKeepRoom g e r.ty (loaded w b) v → HasBaseCalls g e r.ty first (base_calls_of b e) v
-    calls_by (no_client alone) = (alone_leads g e r.ty first (base_calls_of b e) (loaded w b) v es loaded_calls alone run).calls
-    calls_by (client update n has keeps most) =
-        (both_leads g e r.ty first (base_calls_of b e) update n (loaded w b) v es (record { calls = loaded_calls; client = has }) keeps run
-        most).calls
+    abbrev most : ℕ
+    most = sent_by r + most_told
+
+    numbers : HasNumbers e most (loaded w b) v
+    numbers =
+        let few = few_lines in
+        let more = few_more f w b may e k r here its_part in
+        record { room = omega (arith, few, more); most = told }
+
+    calls_by : Serves g e r.ty (loaded w b) → HasBaseCalls g e r.ty first (base_calls_of b e) v
+    calls_by (bare none unseen) = (alone_leads g e r.ty first (base_calls_of b e) (loaded w b) v es loaded_calls none run).calls
+    calls_by (served update low client seen) =
+        (both_leads g e r.ty first (base_calls_of b e) update most (loaded w b) v es
+        (record { calls = loaded_calls; client = client }) numbers.room run told).calls
 
     pub calls_then : HasBaseCalls g e r.ty first (base_calls_of b e) v
-    calls_then = calls_by room
+    calls_then = calls_by serves_loaded
+
+    pub serves_after : Serves g e r.ty v
+    serves_after =
+        serves_then g e r.ty (loaded w b) v es run (in_frame f w b may.between may.fits) still_loaded.spared most numbers serves_loaded
 
     pub calls_once : (p : PartView) → ((entity_flow e (loaded w b)).slot (home_of f e)).base.part ≡ Some p →
         HasBaseCalls g e r.ty (λ s. next_to s p) (base_calls_of b e) v
@@ -69,14 +114,13 @@ module _ (f : Frame) (w : World) (b : Batch) (may : MayBeLoaded f w b) (e k : �
     executed_then quiet j q there s =
         all_executed g e v calls_then.part.frame quiet first (base_calls_of b e) calls_then.turns j q there s
 
-    strays_by : LinesKeepRoom g e r.ty (loaded w b) v → NothingIsStray g e v
-    strays_by (no_client alone) =
+    strays_by : Serves g e r.ty (loaded w b) → NothingIsStray g e v
+    strays_by (bare none unseen) =
         alone_without_stray g e r.ty first (base_calls_of b e) (loaded w b) v es loaded_calls (routes_loaded f w b may e k r here its_part)
-        run (frame_loaded f w b may.between may.fits) (settled_loaded f w b may.between may.fits e k r here).type
-        (one_loaded f w b may.between may.fits e k r here) alone
-    strays_by (client update n has keeps most) =
+        run still_loaded.frame still_loaded.known still_loaded.one none
+    strays_by (served update low client seen) =
         client_without_stray g e r.ty first (base_calls_of b e) (loaded w b) v es loaded_calls
-        (routes_loaded f w b may e k r here its_part) run update n has keeps most
+        (routes_loaded f w b may e k r here its_part) run update most client numbers.room told
 
     pub none_strays : NothingIsStray g e v
-    none_strays = strays_by room
+    none_strays = strays_by serves_loaded

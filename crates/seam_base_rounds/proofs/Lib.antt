@@ -1,8 +1,12 @@
 pub mod PartLoads
+pub mod Joining
 pub mod Loaded
 pub mod Turns
+pub mod Serving
+pub mod Attaching
 pub mod Going
 pub mod CallsEnd
 pub mod Still
+pub mod Idling
 pub mod Calms
 pub mod ExampleFits

@@ -96,8 +96,8 @@ module _ (f : Frame) (w : World) (b : Batch) (e ty : ℕ) where
 
   -- ---- one that was there
 
-  pub was_there : FitsParts f w b → AreOthers e b.creates → HasSettledPart f e ty w → LoadedPart
-  was_there fits others h = part_of_origin (part_begins h.part) (λ k. option_map part_begins ((entity_flow e w).slot k).base.part) (record {
+  pub was_there : AreOthers e b.creates → (h : HasSettledPart f e ty w) → h.part.version < 2 ^ 61 → LoadedPart
+  was_there others h small = part_of_origin (part_begins h.part) (λ k. option_map part_begins ((entity_flow e w).slot k).base.part) (record {
     becomes = λ k.
         subst (λ s. SamePart (option_map part_begins ((entity_flow e w).slot k).base.part) s.base.part) (sym (slot_is w b e k))
         (becomes_by (slice_get w.nodes k));
@@ -107,7 +107,7 @@ module _ (f : Frame) (w : World) (b : Batch) (e ty : ℕ) where
     none_held = h.none_held;
     from_one = h.from_one;
     idle = refl;
-    small = fits.small e h.part h.here;
+    small = small;
   })
     where
       becomes_by : (o : Option NodeView) → SamePart (option_map part_begins (slot_at (has_of e) has_none o).base.part)
@@ -212,7 +212,9 @@ module _ (f : Frame) (w : World) (b : Batch) (between : IsBetweenRounds f w) (fi
   loaded_by (nowhere others) =
       let q = real_was w b e fits.spares others k r here in
       let same = ap (λ (y : RealView). y.ty) q.3 in
-      subst (LoadedPart f w b e) same (was_there f w b e q.0.ty brings others (parts e k q.0 q.2))
+      let had : HasSettledPart f e q.0.ty w = parts.parts e k q.0 q.2 in
+      let few = brings.small e k q.0 q.2 had.part had.here in
+      subst (LoadedPart f w b e) same (was_there f w b e q.0.ty others had (omega (arith, few)))
   loaded_by (once first x later is at others more) =
       subst (λ j. LoadedPart f w b j r.ty) at
       (was_made f w b between fits bases_loaded first x later is (subst (λ j. AreOthers j first) (sym at) others)

@@ -126,7 +126,7 @@ none_reaps (order.Base c ∷ os) h = (refl, none_reaps os (omega (arith, h)))
 none_reaps (order.Tick ∷ os) h = (refl, none_reaps os (omega (arith, h)))
 none_reaps (order.Reap x ∷ os) h = absurd (omega (arith, h))
 
-none_calls : (e : ℕ) (os : List Order) → AllByRecursion (IsCalmOrder e) os → letters_of base_call_of os ≡ []
+pub none_calls : (e : ℕ) (os : List Order) → AllByRecursion (IsCalmOrder e) os → letters_of base_call_of os ≡ []
 none_calls e [] h = refl
 none_calls e (order.Cell c ∷ os) h = absurd h.0
 none_calls e (order.Base c ∷ os) h = absurd h.0
@@ -173,14 +173,14 @@ module _ (f : Frame) (u : World) (between : IsBetweenRounds f u) (e ty : ℕ) (h
     | inr n ↦ absurd (some (sym at ∙ h.others k n))
   ]
 
-  idle : (k : ℕ) (a : PartView) → had k ≡ Some a → HoldsNone a
+  pub idle : (k : ℕ) (a : PartView) → had k ≡ Some a → HoldsNone a
   idle k a at =
       let is = idle_by k (Some a) (λ z. cc) at in
       let both : Some h.part ≡ Some a = sym h.here ∙ (ap had (sym is) ∙ at) in
       let one : h.part ≡ a = cc in
       subst HoldsNone one h.none_held
 
-  is_still : IsStill f e had idle then
+  pub is_still : IsStill f e had idle then
   is_still = record {
     frame = frame;
     spared = record {

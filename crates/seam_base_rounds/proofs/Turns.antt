@@ -1,5 +1,5 @@
 -- Each sender's calls of a batch to base parts are in turn in a loaded world, and it has what the laws of base parts ask.
-use Rattle.std.proofs.Common.{◌≡◌, ℕ, ◌+◌, ◌*◌, ◌<◌, ◌≤◌, Bool, true, false, cond, eqb, nat_lt, List, [], ◌∷◌, map, length, Option}
+use Rattle.std.proofs.Common.{◌≡◌, ℕ, ◌+◌, ◌*◌, ◌^◌, ◌<◌, ◌≤◌, Bool, true, false, cond, eqb, nat_lt, List, [], ◌∷◌, map, length, Option}
 use Rattle.std.proofs.Common.{None, Some, refl, sym, ap, ◌∙◌, subst, arith, inl, inr}
 use Rattle.std.specs.Prelude.{option_map, slice_get}
 use Rattle.std.specs.List.{AllByRecursion}
@@ -209,8 +209,9 @@ module _ (f : Frame) (w : World) (b : Batch) (may : MayBeLoaded f w b) (e home :
       let orders = orders_weigh k n at in
       omega (arith, mine, orders)
 
-  room : base_burden e (loaded w b) + 1 < limit
-  room =
+  -- what the part has yet to do is not much more than its version
+  pub few_more : base_burden e (loaded w b) ≤ part.version + 2 ^ 20
+  few_more =
       let nodes : List NodeView = map (node_loaded b) w.nodes in
       let sum = sum_most (home_of f e) part.version b.orders (node_base_burden e) 0 nodes (λ j t at.
       let n = node_there (slice_get w.nodes j) (node_loaded b) t (sym (slice_get-map (node_loaded b) w.nodes j) ∙ at) in
@@ -222,9 +223,11 @@ module _ (f : Frame) (w : World) (b : Batch) (may : MayBeLoaded f w b) (e home :
       let is = ap (base_burden e) (loaded_is w b) in
       let past : cond {A = ℕ} (nat_lt (home_of f e) 0) 0 part.version ≡ part.version =
       ap (λ c. cond {A = ℕ} c 0 part.version) (none_below (home_of f e)) in
-      let few = its.small in
       let short = may.fits.few in
-      omega (arith, sum, all, links, is, past, few, short)
+      omega (arith, sum, all, links, is, past, short)
+
+  room : base_burden e (loaded w b) + 1 < limit
+  room = let most = few_more in let few = its.small in omega (arith, most, few)
 
   -- ---- all of it
 

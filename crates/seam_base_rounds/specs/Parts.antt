@@ -1,5 +1,5 @@
--- The record of base parts between rounds, and what a fitting batch brings to them.
-use Rattle.std.specs.Prelude.{◌≡◌, ℕ, ◌+◌, ◌^◌, ◌<◌, ◌≤◌, true, List, [], map, length, None, Some}
+-- The record of base parts and of clients between rounds, and what a fitting batch brings to them.
+use Rattle.std.specs.Prelude.{◌≡◌, ℕ, ◌+◌, ◌^◌, ◌<◌, ◌≤◌, true, List, [], map, length, Option, None, Some}
 use Rattle.std.specs.List.{AllByRecursion}
 use Rattle.std.specs.FinMap as table
 use Rattle.seam_machine.specs.Sends.{items_to}
@@ -10,10 +10,10 @@ use Rattle.seam_call.specs.declared.order.Order.{Order}
 use Rattle.seam_call.specs.declared.order.Order.TheVariants as order
 use Rattle.seam_call.specs.declared.order.Batch.{Batch}
 use Rattle.seam_entity.specs.Orders.{order_or}
-use Rattle.seam_entity.specs.Reals.{RealView}
+use Rattle.seam_entity.specs.Reals.{RealView, WitnessView}
 use Rattle.seam_entity.specs.Numbers.{limit}
 use Rattle.seam_entity.specs.Here.{cell_count}
-use Rattle.seam_steps.specs.Bases.{PartView}
+use Rattle.seam_steps.specs.Bases.{PartView, ProxyView}
 use Rattle.seam_steps.specs.BaseCases.{fits_base_part}
 use Rattle.seam_steps.specs.Nodes.{World}
 use Rattle.seam_steps.specs.Loads.{loaded}
@@ -21,10 +21,11 @@ use Rattle.seam_moves.specs.Frames.{Frame, here_at}
 use Rattle.seam_moves.specs.Sights.{orders_of, entity_flow}
 use Rattle.seam_ones.specs.Ones.{real_in}
 use Rattle.seam_once.specs.CellTurns.{from_sender, numbered_from}
-use Rattle.seam_between.specs.Between.{order_in, IsBetweenRounds, IsFitting}
+use Rattle.seam_between.specs.Between.{order_in, numbers_of, IsBetweenRounds, IsFitting}
 use Rattle.seam_base_calls.specs.PartMoves.{base_call_of}
 use Rattle.seam_base_calls.specs.BaseTurns.{home_of, HasNoClient}
-use Rattle.seam_base_calls.specs.Clients.{HasClient, HasRoomFor, HasToldAtMost}
+use Rattle.seam_base_calls.specs.WitnessMoves.{sent_by}
+use Rattle.seam_base_calls.specs.Clients.{shown_in, HasToldAtMost}
 
 -- ---- the record
 
@@ -47,9 +48,31 @@ pub record HasSettledPart (f : Frame) (e ty : ℕ) (w : World) : Type 0 where
   -- each sender's next number is at least one
   pub from_one : (s : ℕ) → 1 ≤ next_to s part
 
--- the record of base parts between rounds, beside that of reals: each entity that is there has its base part
-abbrev pub HasPartsBetweenRounds : Frame → World → Type 0
-HasPartsBetweenRounds f w = (e k : ℕ) (r : RealView) → real_in ((entity_flow e w).slot k) ≡ Some r → HasSettledPart f e r.ty w
+-- a witness and a client of a part of that version, when nothing that the witness told is on its way
+pub record AreInStep (w : WitnessView) (x : ProxyView) (version : ℕ) : Type 0 where
+  -- the number of the client's next update is the witness's next
+  pub next : x.updates.next ≡ w.sent + 1
+  -- the client holds no update
+  pub none_held : x.updates.held ≡ []
+  -- the updates that it was shown in the round are among those that the witness told
+  pub shown : length (letters_of shown_in x.lines) < x.updates.next
+  -- each line that it was ever shown is an update or the part at one of its versions
+  pub lines : x.last ≤ x.updates.next + version
+
+-- the witness of an entity's real and the client of its part, of that version: it has both, in step, or neither
+abbrev pub AreFor : Option WitnessView → Option ProxyView → ℕ → Type 0
+AreFor None None version = Unit {0}
+AreFor None (Some x) version = ⊥
+AreFor (Some w) None version = ⊥
+AreFor (Some w) (Some x) version = AreInStep w x version
+
+-- the record of base parts and of clients between rounds, beside that of reals
+pub record HasPartsBetweenRounds (f : Frame) (w : World) : Type 0 where
+  -- each entity that is there has its base part
+  pub parts : (e k : ℕ) (r : RealView) → real_in ((entity_flow e w).slot k) ≡ Some r → HasSettledPart f e r.ty w
+  -- and its real has a witness exactly where the part has a client, in step with it
+  pub clients : (e k : ℕ) (r : RealView) → real_in ((entity_flow e w).slot k) ≡ Some r → (p : PartView) →
+      ((entity_flow e w).slot (home_of f e)).base.part ≡ Some p → AreFor r.witness p.proxy p.version
 
 -- ---- a batch
 
@@ -82,11 +105,16 @@ pub record IsForPart (f : Frame) (b : Batch) (e : ℕ) (p : PartView) : Type 0 w
   pub fit : AllByRecursion (λ o. IsFitBaseOrder f e p.ty o.1) b.orders
   pub numbered : (s : ℕ) → AreBaseNumbered f b e s (next_to s p)
 
--- a batch that a world with such parts may be given: its calls fit the parts that are there once it is loaded, and the versions of those
+-- a bound on the lines of an entity's client: one for each update that its witness told, and one for each version of its part
+abbrev pub lines_of : RealView → PartView → ℕ
+lines_of r p = sent_by r + p.version
+
+-- a batch that a world with such parts may be given: its calls fit the parts that are there once it is loaded, and the numbers of those
 -- that were there have room for all of them
 pub record FitsParts (f : Frame) (w : World) (b : Batch) : Type 0 where
   pub calls : (e : ℕ) (p : PartView) → ((entity_flow e (loaded w b)).slot (home_of f e)).base.part ≡ Some p → IsForPart f b e p
-  pub small : (e : ℕ) (p : PartView) → ((entity_flow e w).slot (home_of f e)).base.part ≡ Some p → p.version < 2 ^ 61
+  pub small : (e k : ℕ) (r : RealView) → real_in ((entity_flow e w).slot k) ≡ Some r → (p : PartView) →
+      ((entity_flow e w).slot (home_of f e)).base.part ≡ Some p → lines_of r p < 2 ^ 61
 
 -- ---- entities without a client
 
@@ -104,8 +132,16 @@ pub record MayBeLoaded (f : Frame) (w : World) (b : Batch) : Type 0 where
   pub fits : IsFitting f w b
   pub brings : FitsParts f w b
 
--- until v the lines that an entity's client is shown keep room: it has no client in w, or one whose witness has told at most n updates
--- in v, for which there is room
-pub data LinesKeepRoom (f : Frame) (e ty : ℕ) (w v : World) : Type 0 where
-  no_client : HasNoClient e w → LinesKeepRoom f e ty w v
-  client : (update n : ℕ) → HasClient f e ty update w → HasRoomFor e n w → HasToldAtMost e n v → LinesKeepRoom f e ty w v
+-- what a witness tells in a phase of a round is at most this
+abbrev pub most_told : ℕ
+most_told = 2 ^ 55
+
+-- in v the witness of the entity, whose real was r, has told no more than that
+abbrev pub TellsFew : ℕ → RealView → World → Type 0
+TellsFew e r v = HasToldAtMost e (sent_by r + most_told) v
+
+-- the numbers of a world that is to reap, or to look, have room: those of each real and those of its client
+pub record HasSmallNumbers (f : Frame) (u : World) : Type 0 where
+  pub reals : (e k : ℕ) (r : RealView) → real_in ((entity_flow e u).slot k) ≡ Some r → numbers_of r < 2 ^ 61 + 2 ^ 60
+  pub clients : (e k : ℕ) (r : RealView) → real_in ((entity_flow e u).slot k) ≡ Some r → (p : PartView) →
+      ((entity_flow e u).slot (home_of f e)).base.part ≡ Some p → lines_of r p < 2 ^ 61 + 2 ^ 60

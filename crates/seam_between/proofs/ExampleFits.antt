@@ -80,6 +80,11 @@ fits = record {
   cells = omega arith;
   creates = tt;
   once = tt;
+  clients = tt;
+  unseen = tt;
+  one_each = tt;
+  destroys = tt;
+  ends_once = tt;
   spares = (refl, tt);
   known = (λ e is. let same : 1 ≡ e = cc in subst (λ x. holders (loaded world_12 next_batch) x ≡ 1) same holder_is, tt);
   calls = λ e k r at.

@@ -14,7 +14,11 @@ use Rattle.seam_machine.specs.Nets.{link}
 use Rattle.seam_machine.specs.Totals.{total}
 use Rattle.seam_machine.specs.Sends.{items_to}
 use Rattle.seam_machine.proofs.Quiet.{quiet_links}
+use Rattle.seam_machine.specs.Events.{Occurs}
+use Rattle.seam_machine.specs.declared.machines.Input.TheVariants.{Task}
+use Rattle.seam_machine.specs.declared.machines.Event.{Event}
 use Rattle.seam_runs.specs.Sums.{weight_or}
+use Rattle.seam_runs.proofs.Weighing.{weight_bounds}
 use Rattle.seam_runs.specs.Weights.{totals, links_weight}
 use Rattle.seam_order.specs.Held.{OrderView}
 use Rattle.std.proofs.lemmas.Option.{slice_get-map}
@@ -294,8 +298,9 @@ module _ (f : Frame) (w : World) (b : Batch) (between : IsBetweenRounds f w) (fi
       let orders = orders_weigh_at k s at in
       omega (arith, real, orders)
 
-  pub room : burden e (loaded w b) + 1 < limit
-  room =
+  -- its numbers are not much more than those of the real
+  pub few_more : burden e (loaded w b) < 2 ^ 61 + 2 ^ 20
+  few_more =
       let nodes : List NodeView = map (node_loaded b) w.nodes in
       let sum = sum_most home most_of b.orders (node_burden e) 0 nodes (λ j t at.
       let s = node_there (slice_get w.nodes j) (node_loaded b) t (sym (slice_get-map (node_loaded b) w.nodes j) ∙ at) in
@@ -309,3 +314,19 @@ module _ (f : Frame) (w : World) (b : Batch) (between : IsBetweenRounds f w) (fi
       let few = few_of in
       let short = fits.few in
       omega (arith, sum, all, links, is, past, few, short)
+
+  pub room : burden e (loaded w b) + 1 < limit
+  room = let few = few_more in omega (arith, few)
+
+-- the numbers of a real are among those of its entity
+pub real_room : (e : ℕ) (w : World) (k : ℕ) (r : RealView) → real_in ((entity_flow e w).slot k) ≡ Some r → real_burden r ≤ burden e w
+real_room e w k r has = by (slice_get w.nodes k) refl has
+  where
+    by : (n : Option NodeView) → slice_get w.nodes k ≡ n → real_in (slot_at (has_of e) has_none n) ≡ Some r → real_burden r ≤ burden e w
+    by None at there = absurd (let z = there in cc)
+    by (Some n) at there =
+        let v : Event = record { node = k; from = None } in
+        let o : Occurs w v = record { node = n; input = Task; is_node = at; is_fed = refl } in
+        let a = weight_bounds (node_burden e) (mine_burden e) w v o in
+        let y = ap (weight_or real_burden) there in
+        omega (arith, a, y)

@@ -81,6 +81,10 @@ created_entity x = x.entity
 
 -- ---- a batch
 
+-- no real of the entity has a witness
+abbrev pub HasNoWitness : World → ℕ → Type 0
+HasNoWitness w e = (k : ℕ) (r : RealView) → real_in ((entity_flow e w).slot k) ≡ Some r → r.witness ≡ None
+
 abbrev pub order_in : ℕ × Order → Order
 order_in o = o.1
 
@@ -138,6 +142,16 @@ pub record IsFitting (f : Frame) (w : World) (b : Batch) : Type 0 where
   pub creates : AllByRecursion (MayBeMade f w) b.creates
   -- and is created once
   pub once : IsDistinct eqb (map created_entity b.creates)
+  -- each entity that is to have a client is there once the batch is loaded
+  pub clients : AllByRecursion (λ e. holders (loaded w b) e ≡ 1) b.clients
+  -- it has no witness yet
+  pub unseen : AllByRecursion (HasNoWitness w) b.clients
+  -- and gets one client
+  pub one_each : IsDistinct eqb b.clients
+  -- each entity that is to die is there once the batch is loaded
+  pub destroys : AllByRecursion (λ e. holders (loaded w b) e ≡ 1) b.destroys
+  -- and dies once
+  pub ends_once : IsDistinct eqb b.destroys
   -- none of its orders is a reap: these are loaded after the round's calls
   pub spares : AllByRecursion (λ o. reaped_by_order o.1 ≡ None) b.orders
   -- each of its orders is about an entity that is there once it is loaded
