@@ -70,7 +70,7 @@ ready_weighs h p o (Some k) is at some =
     let two = executed_weighs h p k in
     omega (arith, one, two)
 
-after_ready_weighs : (h : Here) (p : PartView) (o : Option (ℕ × OrderView CallData)) → ready_order p.orders ≡ o → is_some o ≡ true →
+pub after_ready_weighs : (h : Here) (p : PartView) (o : Option (ℕ × OrderView CallData)) → ready_order p.orders ≡ o → is_some o ≡ true →
     part_weight (after_ready h p o) + 1 ≤ part_weight p
 after_ready_weighs h p None is some = cc
 after_ready_weighs h p (Some o) is some =
@@ -86,7 +86,7 @@ shows_weighs : (x : ProxyView) (i : Option Shown) → next_item x.updates ≡ i 
 shows_weighs x None at some = cc
 shows_weighs x (Some s) at some = let one = taking_removes x.updates s at in omega (arith, one)
 
-showing_weighs : (p : PartView) (o : Option ProxyView) → p.proxy ≡ o → proxy_is_ready o ≡ true →
+pub showing_weighs : (p : PartView) (o : Option ProxyView) → p.proxy ≡ o → proxy_is_ready o ≡ true →
     part_weight (after_showing p o) + 1 ≤ part_weight p
 showing_weighs p None is some = cc
 showing_weighs p (Some x) is some =

@@ -20,6 +20,12 @@ pub times_grows : (a b c : ℕ) → a ≤ b → a * c ≤ b * c
 times_grows a b zero h = grind arith
 times_grows a b (suc c) h = let e = times_grows a b c h in grind (arith, e, h)
 
+pub none_times : (n c : ℕ) → n ≡ 0 → n * c ≡ 0
+none_times n c is = ap (λ x. x * c) is ∙ zero_times c
+  where
+    zero_times : (c : ℕ) → 0 * c ≡ 0
+    zero_times c = omega arith
+
 -- one more weighs that much more
 pub one_more : (n m c : ℕ) → n ≡ m + 1 → n * c ≡ m * c + c
 one_more n m c is = ap (λ x. x * c) is ∙ more m c

@@ -3,3 +3,11 @@ pub mod SlotWeights
 pub mod CellWeights
 pub mod BaseWeights
 pub mod NetWeights
+pub mod Bare
+pub mod Ordered
+pub mod Starts
+pub mod Cans
+pub mod Given
+pub mod QuietWeights
+pub mod NoPasses
+pub mod ReapPhase
