@@ -42,7 +42,7 @@ use Rattle.seam_measure.proofs.Counts.{offer_adds, taking_removes, compared_equa
 
 -- ---- parts
 
-line_weighs : (b : Bool) (text : ClientText) (o : Option ProxyView) →
+pub line_weighs : (b : Bool) (text : ClientText) (o : Option ProxyView) →
     weight_or proxy_weight (option_map (line_if b text) o) ≡ weight_or proxy_weight o
 line_weighs b text None = refl
 line_weighs true text (Some x) = refl

@@ -11,3 +11,5 @@ pub mod Given
 pub mod QuietWeights
 pub mod NoPasses
 pub mod ReapPhase
+pub mod LoadedNodes
+pub mod HandOvers
