@@ -1,0 +1,15 @@
+pub mod Counts
+pub mod SlotWeights
+pub mod CellWeights
+pub mod BaseWeights
+pub mod NetWeights
+pub mod Bare
+pub mod Ordered
+pub mod Starts
+pub mod Cans
+pub mod Given
+pub mod QuietWeights
+pub mod NoPasses
+pub mod ReapPhase
+pub mod LoadedNodes
+pub mod HandOvers

@@ -1,0 +1,137 @@
+-- Where a phase begins: no one looks, and base parts hold nothing.
+use Rattle.std.proofs.Common.{◌≡◌, ℕ, ◌≤◌, ◌⊎◌, Bool, true, false, cond, List, [], ◌∷◌, Option, None, Some, refl, sym, ap, ◌∙◌}
+use Rattle.std.proofs.Common.{subst, arith, inl, inr}
+use Rattle.std.specs.Prelude.{slice_get}
+use Rattle.std.specs.List.{AllByRecursion}
+use Rattle.std.specs.FinMap as table
+use Rattle.std.proofs.lemmas.Bool.{cases_eq}
+use Rattle.seam_machine.specs.Nets.{link}
+use Rattle.seam_machine.specs.Events.{EachNode}
+use Rattle.seam_runs.specs.Sums.{weight_or}
+use Rattle.seam_flows.specs.Flows.{slot_at, letters_of, more_letter}
+use Rattle.seam_call.specs.declared.order.Order.{Order}
+use Rattle.seam_entity.specs.Reals.{RealView}
+use Rattle.seam_entity.specs.declared.message.Msg.{Msg}
+use Rattle.seam_steps.specs.Bases.{PartView}
+use Rattle.seam_steps.specs.Nodes.{NodeView, World}
+use Rattle.seam_steps.specs.Nodes.NodeView.{Cell, Base}
+use Rattle.seam_moves.specs.Frames.{Frame, IsInFrame}
+use Rattle.seam_moves.specs.Sights.{Has, mine, times, order_concerns, orders_of, has_of, has_none, entity_flow}
+use Rattle.seam_ones.specs.Ones.{real_in, real_of}
+use Rattle.seam_rounds.proofs.Shape.{Somewhere, Nowhere, search_real}
+use Rattle.seam_base_calls.specs.PartMoves.{base_call_in, update_in, base_call_of, calls_ordered}
+use Rattle.seam_base_calls.specs.WitnessMoves.{sent_by}
+use Rattle.seam_base_calls.specs.Clients.{is_tick_order, tick_in, HasToldAtMost}
+use Rattle.seam_measure.specs.Weights.{part_weight}
+use Rattle.seam_measure.proofs.Bare.{HoldsNone, IsBare}
+
+-- a cell whose look list is empty, and a base node whose orders are such and whose parts hold nothing
+abbrev pub IsPlain : (Order → Type 0) → NodeView → Type 0
+IsPlain Ok (Cell c) = c.looks ≡ []
+IsPlain Ok (Base b) = AllByRecursion Ok b.orders × ((e : ℕ) (p : PartView) → table.get b.parts e ≡ Some p → part_weight p ≡ 0)
+
+-- the entity's real is at one node at most
+abbrev pub IsSoleReal : ℕ → World → Type 0
+IsSoleReal e w =
+    (k : ℕ) (r : RealView) → real_in ((entity_flow e w).slot k) ≡ Some r → (j : ℕ) → (j ≡ k → ⊥) → real_in ((entity_flow e w).slot j) ≡ None
+
+module _ (f : Frame) (e : ℕ) (w : World) (frame : IsInFrame f w) (empty : (a k : ℕ) → link w.rows a k ≡ []) (Ok : Order → Type 0)
+    (nodes : EachNode (λ k s. IsPlain Ok s) w.nodes) (no_tick : (o : Order) → Ok o → is_tick_order o ≡ false)
+    (no_call : (o : Order) → Ok o → order_concerns e o ≡ true → base_call_of o ≡ None) (sole : IsSoleReal e w) where
+  mail_is : (a k : ℕ) → (entity_flow e w).mail a k ≡ []
+  mail_is a k = ap (letters_of (mine e)) (empty a k)
+
+  no_letters : (P : Msg → Type 0) (a k : ℕ) → AllByRecursion P ((entity_flow e w).mail a k)
+  no_letters P a k = subst (AllByRecursion P) (sym (mail_is a k)) tt
+
+  -- ---- what an entity's real told
+
+  told_by : Somewhere e w ⊎ Nowhere e w → (n : ℕ) × HasToldAtMost e n w
+  told_by (inr none) = (
+    0,
+    record {
+      cells = λ k r at. absurd (let z = sym (none k) ∙ at in cc);
+      hands = λ a k. no_letters (λ m. (r : RealView) → real_of m ≡ Some r → sent_by r ≤ 0) a k;
+    },
+  )
+  told_by (inl p) = (
+    sent_by p.1,
+    record {
+      cells = λ k r at. same_by k r at (cases_eq k p.0);
+      hands = λ a k. no_letters (λ m. (r : RealView) → real_of m ≡ Some r → sent_by r ≤ sent_by p.1) a k;
+    },
+  )
+    where
+      same_by : (k : ℕ) (r : RealView) → real_in ((entity_flow e w).slot k) ≡ Some r → (k ≡ p.0) ⊎ (k ≡ p.0 → ⊥) → sent_by r ≤ sent_by p.1
+      same_by k r at (inl is) =
+          let there = sym at ∙ (ap (λ j. real_in ((entity_flow e w).slot j)) is ∙ p.2) in
+          let one : r ≡ p.1 = cc in
+          let a = ap sent_by one in
+          omega (arith, a)
+      same_by k r at (inr n) = absurd (let z = sym (sole p.0 p.1 p.2 k n) ∙ at in cc)
+
+  -- ---- what nodes have
+
+  ticks_by : (o : Order) (os : List Order) (d : Bool) → Ok o → AllByRecursion (λ o. is_tick_order o ≡ false) os →
+      AllByRecursion (λ o. is_tick_order o ≡ false) (cond d (o ∷ os) os)
+  ticks_by o os true h all = (no_tick o h, all)
+  ticks_by o os false h all = all
+
+  ticks_none : (os : List Order) → AllByRecursion Ok os → AllByRecursion (λ o. is_tick_order o ≡ false) (orders_of e os)
+  ticks_none [] h = tt
+  ticks_none (o ∷ os) h = ticks_by o (orders_of e os) (order_concerns e o) h.0 (ticks_none os h.1)
+
+  calls_by : (o : Order) (os : List Order) (d : Bool) → order_concerns e o ≡ d → Ok o → letters_of base_call_of os ≡ [] →
+      letters_of base_call_of (cond d (o ∷ os) os) ≡ []
+  calls_by o os true is h none = ap (λ x. more_letter x (letters_of base_call_of os)) (no_call o h is) ∙ none
+  calls_by o os false is h none = none
+
+  calls_none : (os : List Order) → AllByRecursion Ok os → letters_of base_call_of (orders_of e os) ≡ []
+  calls_none [] h = refl
+  calls_none (o ∷ os) h = calls_by o (orders_of e os) (order_concerns e o) refl h.0 (calls_none os h.1)
+
+  part_by : (o : Option PartView) → ((p : PartView) → o ≡ Some p → part_weight p ≡ 0) → weight_or part_weight o ≡ 0
+  part_by None h = refl
+  part_by (Some p) h = h p refl
+
+  record Has0 (h : Has) : Type 0 where
+    looks : h.cell.looks ≡ 0
+    orders : AllByRecursion (λ o. is_tick_order o ≡ false) h.base.orders
+    calls : calls_ordered h.base ≡ []
+    part : HoldsNone h.base
+
+  has_by : (s : NodeView) → IsPlain Ok s → Has0 (has_of e s)
+  has_by (Cell c) h = record { looks = ap (times e) h; orders = tt; calls = refl; part = refl }
+  has_by (Base b) h = record {
+    looks = refl;
+    orders = ticks_none b.orders h.0;
+    calls = calls_none b.orders h.0;
+    part = part_by (table.get b.parts e) (h.1 e);
+  }
+
+  slot_by : (o : Option NodeView) (k : ℕ) → slice_get w.nodes k ≡ o → Has0 (slot_at (has_of e) has_none o)
+  slot_by None k at = record { looks = refl; orders = tt; calls = refl; part = refl }
+  slot_by (Some s) k at = has_by s (nodes k s at)
+
+  slots : (k : ℕ) → Has0 ((entity_flow e w).slot k)
+  slots k = slot_by (slice_get w.nodes k) k refl
+
+  -- ---- all of it
+
+  pub bare_start : (n : ℕ) × IsBare f e n w
+  bare_start =
+      let t = told_by (search_real e w) in (
+        t.0,
+        record {
+          frame = frame;
+          looks = record {
+            cells = λ k. (slots k).looks;
+            orders = λ k. (slots k).orders;
+            letters = no_letters (λ m. tick_in m ≡ None);
+          };
+          told = t.1;
+          calls = record { orders = λ k. (slots k).calls; letters = no_letters (λ m. base_call_in m ≡ None) };
+          updates = no_letters (λ m. update_in m ≡ None);
+          parts = λ k. (slots k).part;
+        },
+      )

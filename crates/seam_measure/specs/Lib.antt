@@ -1,0 +1,3 @@
+pub mod Weights
+pub mod Events
+pub mod Phases

@@ -1,0 +1,37 @@
+//! The laws, each on a function that does nothing.
+
+ghost use Rattle.std.specs.Prelude.{◌≡◌, ℕ, ◌+◌, ◌*◌, ◌≤◌, true, List, length};
+ghost use Rattle.seam_machine.specs.Nets.{enabled, LeadsTo};
+ghost use Rattle.seam_machine.specs.Events.{Occurs};
+ghost use Rattle.seam_machine.specs.declared.machines.Event.{Event};
+ghost use Rattle.seam_runs.specs.Weights.{Lowers};
+ghost use Rattle.seam_steps.specs.Nodes.{World, node_steps, node_has_work};
+ghost use Rattle.seam_steps.specs.Loads.{reaps_loaded};
+ghost use Rattle.seam_moves.specs.Frames.{Frame, IsInFrame};
+ghost use Rattle.seam_between.specs.Between.{IsBetweenRounds};
+ghost use Rattle.seam_rounds.specs.Rounds.{AreReapable};
+ghost use Rattle.seam_measure.specs.Weights.{Sizes, world_weight};
+ghost use Rattle.seam_measure.specs.Events.{is_pass, NodeCan, AllCan, all_passes};
+ghost use Rattle.seam_measure.specs.Phases.{HoldsNothing};
+
+/// An enabled event whose node can do what it is to do lowers the weight of the world, but for one that passes a call on, which does not
+/// raise it.
+pub fn an_event_lowers_the_weight()
+    ensures { (z : Sizes) (f : Frame) (w : World) (v : Event) (o : Occurs w v) → IsInFrame f w → NodeCan z o.node o.input →
+        enabled node_has_work w v ≡ true → Lowers node_steps is_pass (world_weight z) w v }
+{}
+
+/// So a list of events from a world whose nodes always can is no longer than what the world weighs and the calls that it passes on.
+pub fn a_run_is_no_longer_than_its_start_weighs()
+    ensures { (z : Sizes) (f : Frame) (w v : World) (es : List Event) → IsInFrame f w → AllCan z w →
+        LeadsTo node_has_work node_steps w es v → length es + world_weight z v ≤ world_weight z w + all_passes w es }
+{}
+
+/// Where a world between rounds, in which base parts and clients hold nothing, is told to reap entities, no list of events is longer than
+/// eighteen for each of them; and base parts and clients hold nothing meanwhile.
+pub fn reaps_end()
+    ensures bound { (f : Frame) (u : World) → IsBetweenRounds f u → HoldsNothing u → (es : List ℕ) → AreReapable u es →
+        (vs : List Event) (v : World) → LeadsTo node_has_work node_steps (reaps_loaded u es) vs v → length vs ≤ 18 * length es }
+    ensures nothing { (f : Frame) (u : World) → IsBetweenRounds f u → HoldsNothing u → (es : List ℕ) → AreReapable u es →
+        (vs : List Event) (v : World) → LeadsTo node_has_work node_steps (reaps_loaded u es) vs v → HoldsNothing v }
+{}
