@@ -153,6 +153,7 @@ fits : IsFitting opening empty_world first_batch
 unfolding IsDistinct
 fits = record {
   tree = frame_is.tree;
+  space = refl;
   cells = omega arith;
   creates = (record { new = is_new 1; type = omega arith; inside = refl }, tt);
   once = (tt, tt);

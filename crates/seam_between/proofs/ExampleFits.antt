@@ -77,6 +77,7 @@ pub fits : IsFitting frame world_12 next_batch
 unfolding IsDistinct
 fits = record {
   tree = frame_is.tree;
+  space = refl;
   cells = omega arith;
   creates = tt;
   once = tt;

@@ -136,6 +136,8 @@ numbers_of r = r.version + (r.beat + r.generation)
 pub record IsFitting (f : Frame) (w : World) (b : Batch) : Type 0 where
   -- its tree is one
   pub tree : IsTree b.tree
+  -- of the settings' space
+  pub space : b.tree.size ≡ f.settings.size
   -- it has each cell that was there
   pub cells : cells_of f.tree ≤ cells_of b.tree
   -- each entity that it creates may be made

@@ -184,6 +184,7 @@ pub opened_fits : IsFitting first empty_world batch
 unfolding IsDistinct
 opened_fits = record {
   tree = three_are_tree;
+  space = refl;
   cells = omega arith;
   creates = (
     record {
@@ -194,6 +195,11 @@ opened_fits = record {
     tt,
   );
   once = (tt, tt);
+  clients = tt;
+  unseen = tt;
+  one_each = tt;
+  destroys = tt;
+  ends_once = tt;
   spares = (refl, (refl, tt));
   known = (known, (known, tt));
   calls = λ e k r at.

@@ -37,7 +37,7 @@ use Rattle.seam_rounds.proofs.Phases.{calm_leads}
 use Rattle.seam_rounds.proofs.Reaping as reaping
 use Rattle.seam_rounds.proofs.Looking as looking
 use Rattle.seam_places.specs.Places.{distances_of, place_of, first_place, path_of, made_real, home_of, IsDue, IsPlaced, IsRightPlace}
-use Rattle.seam_places.specs.Places.{BeginsAt, WasThere, IsOfSpace, ArePlaced}
+use Rattle.seam_places.specs.Places.{BeginsAt, WasThere, ArePlaced}
 use Rattle.seam_places.proofs.Ways.{way_ends}
 use Rattle.seam_places.proofs.Paths.{further_done, is_at_last}
 use Rattle.seam_places.proofs.Along.{placed_leads}
@@ -149,9 +149,9 @@ module _ (f : Frame) (w : World) (b : Batch) (between : IsBetweenRounds f w) (fi
           (record { slots = n; mail = λ x y. ap (letters_of real_of) (no_mail f w b between fits e x y) }) run in
           absurd (let z = sym (gone.slots k) ∙ at in cc)
 
-      pub calls_place : IsOfSpace f.settings b.tree → ArePlaced (framed f b) v
-      calls_place space = record {
-        space = space;
+      pub calls_place : ArePlaced (framed f b) v
+      calls_place = record {
+        space = fits.space;
         settled = λ e k q at. placed_by e k q at (search_real e (loaded w b));
       }
 

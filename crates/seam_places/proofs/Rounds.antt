@@ -17,7 +17,7 @@ use Rattle.seam_rounds.specs.Rounds.{first_frame}
 use Rattle.seam_rounds.proofs.CallsEnd.{calls_end_between}
 use Rattle.seam_rounds.proofs.Reaping.{reaps_end_between}
 use Rattle.seam_rounds.proofs.Opened.{opened_has_none}
-use Rattle.seam_places.specs.Places.{place_of, first_place, made_real, IsRightPlace, GoesThroughRound, WasThere, IsOfSpace, ArePlaced}
+use Rattle.seam_places.specs.Places.{place_of, first_place, made_real, IsRightPlace, GoesThroughRound, WasThere, ArePlaced}
 use Rattle.seam_places.proofs.Ends.{MadeRight, right_kept, right_made, calls_place, reaps_leave, looks_leave, stays_placed, stays_right}
 
 module _ (f : Frame) (w : World) (b : Batch) (between : IsBetweenRounds f w) (fits : IsFitting f w b) (v : World)
@@ -68,12 +68,12 @@ module _ (f : Frame) (w : World) (b : Batch) (between : IsBetweenRounds f w) (fi
   round_made =
       each_made b.creates (right_made f w b between fits round.called round.call_events round.calls round.calls_done)
 
-  pub round_places : IsOfSpace f.settings b.tree → ArePlaced g v
-  round_places space =
+  pub round_places : ArePlaced g v
+  round_places =
       stays_placed g round.reaped v (looks_leave g round.reaped reaped round.look_events v round.looks)
       (stays_placed g round.called round.reaped
       (reaps_leave g round.called called round.gone round.may round.reap_events round.reaped round.reaps)
-      (calls_place f w b between fits round.called round.call_events round.calls round.calls_done space))
+      (calls_place f w b between fits round.called round.call_events round.calls round.calls_done))
 
 pub opened_places : (defs : List TypeDef) (settings : Settings) → IsFrame (first_frame defs settings) → 1 ≤ settings.bases →
     ArePlaced (first_frame defs settings) (opened defs settings)

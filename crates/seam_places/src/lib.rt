@@ -31,10 +31,9 @@ ghost use Rattle.seam_moves.specs.Sights.{entity_flow};
 ghost use Rattle.seam_ones.specs.Example.{frame};
 ghost use Rattle.seam_ones.specs.Ones.{real_in, IsOne, IsSpared, AllFits, IsFrame};
 ghost use Rattle.seam_between.specs.Between.{IsBetweenRounds, IsFitting, framed};
-ghost use Rattle.seam_between.specs.Example.{next_batch};
 ghost use Rattle.seam_rounds.specs.Rounds.{first_frame, AreReapable};
 ghost use Rattle.seam_places.specs.Places.{place_of, first_place, made_real, BeginsAt, IsDue, IsPlaced, IsRightPlace};
-ghost use Rattle.seam_places.specs.Places.{WasThere, GoesThroughRound, IsOfSpace, ArePlaced};
+ghost use Rattle.seam_places.specs.Places.{WasThere, GoesThroughRound, ArePlaced};
 
 /// Where a batch is loaded, each real that was there is in the same cell with the same haunts, and each that is created is in its leaf; and
 /// the survey list of each real's cell has its entity.
@@ -92,20 +91,20 @@ pub fn a_round_leaves_right_places()
         IsRightPlace f b.tree (first_place b.tree x) (made_real f b.tree x) k q) b.creates }
 {}
 
-/// The record of places holds of a world as it is opened. It holds where a batch whose tree is of the settings' space leaves the world
-/// quiet, now by the batch's tree, and the reaps and the looks keep it; so a whole round does.
+/// The record of places holds of a world as it is opened. It holds where a batch leaves the world quiet, now by the batch's tree, and the
+/// reaps and the looks keep it; so a whole round does.
 pub fn a_round_keeps_the_record_of_places()
     ensures opened { (defs : List TypeDef) (settings : Settings) → IsFrame (first_frame defs settings) → 1 ≤ settings.bases →
         ArePlaced (first_frame defs settings) (opened defs settings) }
     ensures calls { (f : Frame) (w : World) (b : Batch) → IsBetweenRounds f w → IsFitting f w b → (v : World) (es : List Event) →
-        LeadsTo node_has_work node_steps (loaded w b) es v → IsQuiet node_has_work v → IsOfSpace f.settings b.tree →
+        LeadsTo node_has_work node_steps (loaded w b) es v → IsQuiet node_has_work v →
         ArePlaced (framed f b) v }
     ensures reaps { (f : Frame) (u : World) → IsBetweenRounds f u → (es : List ℕ) → AreReapable u es → (vs : List Event) (v : World) →
         LeadsTo node_has_work node_steps (reaps_loaded u es) vs v → ArePlaced f u → ArePlaced f v }
     ensures looks { (f : Frame) (u : World) → IsBetweenRounds f u → (vs : List Event) (v : World) →
         LeadsTo node_has_work node_steps (look_loaded u) vs v → ArePlaced f u → ArePlaced f v }
     ensures round { (f : Frame) (w : World) (b : Batch) → IsBetweenRounds f w → IsFitting f w b → (v : World) → GoesThroughRound w b v →
-        IsOfSpace f.settings b.tree → ArePlaced (framed f b) v }
+        ArePlaced (framed f b) v }
 {}
 
 /// In a world that keeps both records each entity is within the offload hysteresis of its cell, each other cell within the ghost distance
@@ -133,8 +132,8 @@ pub fn who_may_be_seen_is_known()
 }
 
 /// What these laws ask of a world is true of one that a load made, of two cells. At the end of its run, which hands the entity over, its
-/// place is right, and would not be in its former cell; the world keeps the record of places. What the laws ask of settings, and of a batch
-/// for this world, is true as well.
+/// place is right, and would not be in its former cell; the world keeps the record of places. What the laws ask of settings is true as
+/// well.
 pub fn a_worked_world_places_its_entity()
     ensures one { IsOne 1 early.world_0 (In 0) early.made }
     ensures due { IsDue 1 early.world_0 (In 0) }
@@ -143,5 +142,4 @@ pub fn a_worked_world_places_its_entity()
     ensures wrong { IsRightPlace frame early.two_cells (place_of 0 early.made) early.made 0 early.hit_twice → ⊥ }
     ensures placed { ArePlaced frame early.world_12 }
     ensures reach { GhostsReach frame.settings }
-    ensures space { IsOfSpace frame.settings next_batch.tree }
 {}
