@@ -1,0 +1,101 @@
+-- Cells after what they hear of ghosts, and a cell without entities.
+use Rattle.std.proofs.Common.{◌≡◌, ◌<◌, ◌≤◌, ℕ, Bool, true, false, cond, not, ◌&&◌, nat_lt, List, [], ◌∷◌, length, Option, None, Some, refl, sym, ap}
+use Rattle.std.proofs.Common.{◌∙◌, arith, map, Bor, option_copied, is_some}
+use Rattle.std.specs.List.{filter}
+use Rattle.std.specs.Ordering.{nat_cmp}
+use Rattle.std.specs.FinMap as table
+use Rattle.seam_tree.specs.Division.{Division, IsTree}
+use Rattle.seam_ghosts.specs.declared.Ghost.{Ghost}
+use Rattle.seam_ghosts.specs.Book.{BookView, beat_of, with_ghost, after_message, ghost_after}
+use Rattle.seam_machine.specs.declared.machines.Input.TheVariants.{From}
+use Rattle.seam_call.specs.declared.shown.GhostCopy.{GhostCopy}
+use Rattle.seam_entity.specs.Reals.{RealView}
+use Rattle.seam_entity.specs.declared.message.Msg.TheVariants.{GhostSet, GhostDrop}
+use Rattle.seam_entity.specs.Numbers.{is_small}
+use Rattle.seam_entity.specs.Here.{Here, cell_count}
+use Rattle.seam_steps.specs.Maps.{Map, set_at, number_of}
+use Rattle.seam_steps.specs.Slots.{unless_stray}
+use Rattle.seam_steps.specs.CellCases.{ghost_set, ghost_drop, stray_ghost_set}
+use Rattle.seam_steps.specs.Cells.{CellView, slot_of, stepped, cell_steps, real_is_ready, has_witness}
+use Rattle.seam_steps.proofs.Slots.{set_at-same}
+use Rattle.seam_cell.specs.Kept.{marked, IsKept}
+
+pub none_there : {X : Type 0} (o : Option (Bor X)) (p : Option X) → option_copied o ≡ p → is_some o ≡ false → p ≡ None
+none_there None p e t = sym e
+none_there (Some x) p e t = cc
+
+pub third_decides : (a b c : Bool) → a ≡ true → b ≡ true → not c ≡ not (a && (b && c))
+third_decides true true c e f = refl
+third_decides true false c e f = cc
+third_decides false b c e f = cc
+
+-- what the book has after a message
+pub book_after : {P : Type 0} (w : BookView P) (e : ℕ) (g : Ghost P) →
+    (after_message w e g).ghosts ≡ set_at w.ghosts e (ghost_after (table.get w.ghosts e) g)
+book_after w e g = elim (nat_lt (beat_of w e) g.beat) as (λ b. (cond b (with_ghost w e g) w).ghosts
+    ≡ set_at w.ghosts e (cond b (Some g) (table.get w.ghosts e))) [
+      | true ↦ refl
+      | false ↦ sym (set_at-same w.ghosts e)
+    ]
+
+module _ (c : CellView) (from e beat : ℕ) (now : Map (Ghost GhostCopy)) where
+  abbrev pub Heard : Option GhostCopy → Type 0
+  Heard copy = now ≡ set_at c.ghosts e (ghost_after (table.get c.ghosts e) (record { beat = beat; copy = copy }))
+
+  -- the cell with the ghosts that the book has then
+  with_ghosts : (copy : Option GhostCopy) → Heard copy → record c { ghosts = now }
+      ≡ record c {
+        reals = set_at c.reals e (table.get c.reals e);
+        nexts = set_at c.nexts e (table.get c.nexts e);
+        ghosts = set_at c.ghosts e (ghost_after (table.get c.ghosts e) (record { beat = beat; copy = copy }));
+      }
+  with_ghosts copy h = λ i. record c {
+    reals = sym (set_at-same c.reals e) i;
+    nexts = sym (set_at-same c.nexts e) i;
+    ghosts = h i;
+  }
+
+  pub ghost_dropped : is_small beat ≡ true → Heard None → record c { ghosts = now } ≡ (cell_steps c (From from (GhostDrop e beat))).state
+  ghost_dropped small h =
+      with_ghosts None h ∙ ap (λ b. (stepped c e (unless_stray (not b) (ghost_drop (slot_of c e) beat))).state) (sym small)
+
+  pub ghost_set_here : (copy : GhostCopy) → table.get c.reals e ≡ None → stray_ghost_set c.here beat copy ≡ false → Heard (Some copy) →
+      record c { ghosts = now } ≡ (cell_steps c (From from (GhostSet e beat copy))).state
+  ghost_set_here copy none right h =
+      with_ghosts (Some copy) h
+      ∙ (ap (λ o. (stepped c e (unless_stray false (ghost_set (slot_of c e) beat copy o))).state) (sym none)
+      ∙ ap (λ b. (stepped c e (unless_stray b (ghost_set (slot_of c e) beat copy (table.get c.reals e)))).state) (sym right))
+
+pub stray_set : (c : CellView) (from e beat : ℕ) (copy : GhostCopy) → stray_ghost_set c.here beat copy ≡ true →
+    c ≡ (cell_steps c (From from (GhostSet e beat copy))).state
+stray_set c from e beat copy stray =
+    ap (λ b. (stepped c e (unless_stray b (ghost_set (slot_of c e) beat copy (table.get c.reals e)))).state) (sym stray)
+
+-- ---- a cell without entities
+
+no_length : {A : Type 0} (xs : List A) → length xs ≡ 0 → xs ≡ []
+no_length [] e = refl
+no_length (x ∷ xs) e = absurd (omega arith)
+
+no_entries : table.entries (table.empty {X = RealView} {R = nat_cmp}) ≡ []
+no_entries = no_length _ (sym (table.len-entries table.empty) ∙ table.len-empty nat_cmp _)
+
+marked_none : (test : ℕ × RealView → Bool) → marked test table.empty ≡ []
+marked_none test = ap (λ es. map number_of (filter test es)) no_entries
+
+nothing_there : {X : Type 0} (m : Map X) (e : ℕ) (x : X) → m ≡ table.empty → table.get m e ≡ Some x → ⊥
+nothing_there m e x is there = let f : None ≡ Some x = sym (table.get-empty nat_cmp e) ∙ sym (ap (λ n. table.get n e) is) ∙ there in cc
+
+pub empty_kept : (c : CellView) (ready witnesses : List ℕ) → c.here.me < cell_count → 1 ≤ c.here.settings.bases → IsTree c.tree →
+    c.reals ≡ table.empty → c.nexts ≡ table.empty → ready ≡ [] → witnesses ≡ [] → IsKept c ready witnesses
+empty_kept c ready witnesses me bases tree reals nexts r w = record {
+  cell = record {
+    me_in = me;
+    bases = bases;
+    tree = tree;
+    nexts = λ e n there. absurd (nothing_there c.nexts e n nexts there);
+    keys = λ e q there. absurd (nothing_there c.reals e q reals there);
+  };
+  ready_is = r ∙ sym (ap (marked real_is_ready) reals ∙ marked_none real_is_ready);
+  witnesses_is = w ∙ sym (ap (marked has_witness) reals ∙ marked_none has_witness);
+}

@@ -1,0 +1,197 @@
+//! A cell, and what it hears of ghosts.
+
+ghost use Rattle.std.specs.Prelude.{◌≡◌, ℕ, ◌<◌, ◌≤◌, OnOk, OnErr, IfErr, [], Some, None};
+ghost use Rattle.std.specs.FinMap as table;
+ghost use Rattle.seam_ghosts.specs.Book.{ghost_after};
+ghost use Rattle.seam_machine.specs.declared.machines.Input.TheVariants.{From};
+ghost use Rattle.seam_entity.specs.declared.message.Msg.TheVariants as msg;
+ghost use Rattle.seam_entity.specs.Here.{cell_count};
+ghost use Rattle.seam_entity.specs.Numbers.{is_small as is_small_number};
+ghost use Rattle.seam_steps.specs.CellCases.{stray_ghost_set};
+ghost use Rattle.seam_steps.specs.Cells.{cell_steps, has_witness, real_is_ready};
+ghost use Rattle.seam_steps.specs.Loads.{empty_cell};
+ghost use Rattle.seam_steps.specs.Maps.{set_at};
+ghost use Rattle.seam_steps.specs.Nodes.NodeView.{Cell as CellNode};
+ghost use Rattle.seam_entity.specs.Preparing.{node_with};
+
+use crate::entity_set::EntitySet;
+use crate::next::Next;
+use seam_call::GhostCopy;
+use seam_defs::{Defs, Settings};
+use seam_entity::{Parcel, fits_copy};
+use seam_ghosts::GhostBook;
+use seam_memory::NoMemoryFor;
+use seam_table::Table;
+use seam_tree::Tree;
+use std::alloc::{AllocError, Global};
+use std::marker::Model;
+
+/// A cell: the reals and the ghosts of a part of the space, and where reals went.
+#[derive(Drop)]
+pub struct Cell {
+    me: u8,
+    defs: Defs,
+    settings: Settings,
+    tree: Tree,
+    reals: Table<Parcel>,
+    nexts: Table<Next>,
+    copies: GhostBook<GhostCopy>,
+    // The entities whose reals are to settle, and those whose witnesses are to look.
+    survey: EntitySet,
+    looks: EntitySet,
+    // The entities whose reals have a ready call, and those whose reals have a witness.
+    ready: EntitySet,
+    witnesses: EntitySet,
+}
+
+impl Model for Cell {
+    ghost use Rattle.std.specs.Coded.{codes};
+    ghost use Rattle.std.specs.FinMap as table;
+    ghost use Rattle.std.specs.FinSet as set;
+    ghost use Rattle.seam_steps.specs.Cells.{CellView};
+    ghost use Rattle.seam_entity.specs.Preparing.{node_with};
+    ghost use Rattle.seam_cell.specs.Kept.{IsKept};
+
+    ghost Value = { CellView };
+
+    ghost coded = { Prim.hlevel (codes, table.code, set.code) };
+
+    ghost view = { λ c. record {
+      here = node_with c.defs c.me c.settings;
+      tree = c.tree;
+      reals = c.reals.items;
+      nexts = c.nexts.items;
+      ghosts = c.copies.ghosts;
+      survey = c.survey;
+      looks = c.looks;
+    } };
+
+    ghost invariant = { λ c. IsKept (record {
+      here = node_with c.defs c.me c.settings;
+      tree = c.tree;
+      reals = c.reals.items;
+      nexts = c.nexts.items;
+      ghosts = c.copies.ghosts;
+      survey = c.survey;
+      looks = c.looks;
+    }) c.ready c.witnesses };
+}
+
+// Whether the number is small enough to be a beat or a version.
+fn is_small(n: u64) -> bool
+    ensures { result ≡ is_small_number n }
+{
+    n < 1 << 62
+}
+
+// Whether a copy that comes at that beat does not fit, or a number is not small.
+fn is_stray_set(defs: &Defs, settings: &Settings, beat: u64, copy: &GhostCopy) -> bool
+    ensures { (me : ℕ) → result ≡ stray_ghost_set (node_with defs.now me settings.now) beat copy.now }
+{
+    if !is_small(beat) {
+        return true;
+    }
+    if !is_small(copy.version) {
+        return true;
+    }
+    !fits_copy(defs, settings, copy)
+}
+
+// The book takes the copy at that beat.
+fn set_in(
+    book: &mut GhostBook<GhostCopy>,
+    e: u32,
+    beat: u64,
+    copy: GhostCopy,
+) -> Result<(), NoMemoryFor<GhostCopy>>
+    ensures ok { OnOk result (book.new.ghosts
+        ≡ set_at book.old.ghosts e (ghost_after (table.get book.old.ghosts e) (record { beat = beat; copy = Some copy }))) }
+    ensures err { OnErr result (book.new.ghosts ≡ book.old.ghosts) }
+    ensures err_item { IfErr result (λ r. r.item ≡ copy) }
+{
+    match book.set(e, beat, copy) {
+        Ok(_) => Ok(()),
+        Err(refused) => Err(refused),
+    }
+}
+
+// The book drops the copy at that beat.
+fn drop_in(book: &mut GhostBook<GhostCopy>, e: u32, beat: u64) -> Result<(), AllocError>
+    ensures ok { OnOk result (book.new.ghosts
+        ≡ set_at book.old.ghosts e (ghost_after (table.get book.old.ghosts e) (record { beat = beat; copy = None }))) }
+    ensures err { OnErr result (book.new.ghosts ≡ book.old.ghosts) }
+{
+    match book.drop_copy(e, beat) {
+        Ok(_) => Ok(()),
+        Err(refused) => Err(refused),
+    }
+}
+
+impl Cell {
+    /// A cell without entities, in a space that it has alone.
+    pub fn new(alloc: Global, me: u8, defs: Defs, settings: Settings) -> Cell
+        requires me { me < cell_count }
+        requires bases { 1 ≤ settings.bases }
+        requires from { 1 ≤ settings.size }
+        requires to { settings.size ≤ 1000000 }
+        ensures { CellNode result ≡ empty_cell defs settings me }
+    {
+        Cell {
+            me,
+            defs,
+            settings,
+            tree: Tree::one(settings.size),
+            reals: Table::new(alloc),
+            nexts: Table::new(alloc),
+            copies: GhostBook::new(alloc),
+            survey: EntitySet::new(alloc),
+            looks: EntitySet::new(alloc),
+            ready: EntitySet::new(alloc),
+            witnesses: EntitySet::new(alloc),
+        }
+    }
+
+    /// Ghost set: the own book takes the copy at its beat, where the real is not here.
+    pub fn hear_ghost_set(
+        &mut self,
+        e: u32,
+        beat: u64,
+        copy: GhostCopy,
+    ) -> Result<(), NoMemoryFor<GhostCopy>>
+        ensures state { (from : ℕ) →
+            OnOk result (self.new ≡ (cell_steps self.old (From from (msg.GhostSet e beat copy))).state) }
+        ensures sent { (from : ℕ) → (cell_steps self.old (From from (msg.GhostSet e beat copy))).sent ≡ [] }
+        ensures err { OnErr result (self.new ≡ self.old) }
+        ensures err_item { IfErr result (λ r. r.item ≡ copy) }
+    {
+        if self.reals.get(e).is_some() {
+            return Ok(());
+        }
+        if is_stray_set(&self.defs, &self.settings, beat, &copy) {
+            return Ok(());
+        }
+        set_in(&mut self.copies, e, beat, copy)
+    }
+
+    /// Ghost drop: the own book drops the copy at that beat.
+    pub fn hear_ghost_drop(&mut self, e: u32, beat: u64) -> Result<(), AllocError>
+        ensures state { (from : ℕ) → OnOk result (self.new ≡ (cell_steps self.old (From from (msg.GhostDrop e beat))).state) }
+        ensures sent { (from : ℕ) → (cell_steps self.old (From from (msg.GhostDrop e beat))).sent ≡ [] }
+        ensures err { OnErr result (self.new ≡ self.old) }
+    {
+        if !is_small(beat) {
+            return Ok(());
+        }
+        drop_in(&mut self.copies, e, beat)
+    }
+
+    /// Tick: the witnesses here are to look.
+    pub fn hear_tick(&mut self) -> Result<(), AllocError>
+        ensures state { (from : ℕ) → OnOk result (self.new ≡ (cell_steps self.old (From from msg.Tick)).state) }
+        ensures sent { (from : ℕ) → (cell_steps self.old (From from msg.Tick)).sent ≡ [] }
+        ensures err { OnErr result (self.new ≡ self.old) }
+    {
+        self.looks = self.witnesses.copy()?;
+        Ok(())
+    }
+}
