@@ -33,7 +33,7 @@ use Rattle.seam_base_calls.specs.WitnessMoves.{sent_of, sent_by}
 use Rattle.seam_base_calls.specs.Clients.{is_tick_order, tick_in, HasToldAtMost, HasNoLooks}
 use Rattle.seam_base_calls.proofs.WitnessKept.{each_happens}
 
-no_tick : SeesNoGhost tick_in
+pub no_tick : SeesNoGhost tick_in
 no_tick = record { sets = λ e n c. refl; drops = λ e n. refl }
 
 abbrev pub NoTicks : List Order → Type 0

@@ -1,0 +1,5 @@
+pub mod Below
+pub mod Absent
+pub mod Looking
+pub mod LooksLeft
+pub mod Telling
