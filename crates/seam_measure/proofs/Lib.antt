@@ -13,3 +13,4 @@ pub mod NoPasses
 pub mod ReapPhase
 pub mod LoadedNodes
 pub mod HandOvers
+pub mod RoundStart

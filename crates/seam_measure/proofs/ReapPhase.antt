@@ -130,7 +130,7 @@ module _ (f : Frame) (u : World) (between : IsBetweenRounds f u) (none : HoldsNo
   bare_loaded e =
       subst (λ w. (n : ℕ) × IsBare f e n w) (sym loaded_is)
       (bare_start f e (with_nodes u turn) (reaps_framed f u between.nodes es) (empty_links no_sizes f u between none)
-      (IsReap u) plain_nodes (no_tick u) (λ o is own. no_call u o is) (sole_real e))
+      (IsReap u) plain_nodes (no_tick u) (sole_real e) (λ o is own. no_call u o is))
 
   frame_loaded : IsInFrame f start
   frame_loaded = subst (IsInFrame f) (sym loaded_is) (reaps_framed f u between.nodes es)

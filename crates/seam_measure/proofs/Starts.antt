@@ -21,7 +21,7 @@ use Rattle.seam_ones.specs.Ones.{real_in, real_of}
 use Rattle.seam_rounds.proofs.Shape.{Somewhere, Nowhere, search_real}
 use Rattle.seam_base_calls.specs.PartMoves.{base_call_in, update_in, base_call_of, calls_ordered}
 use Rattle.seam_base_calls.specs.WitnessMoves.{sent_by}
-use Rattle.seam_base_calls.specs.Clients.{is_tick_order, tick_in, HasToldAtMost}
+use Rattle.seam_base_calls.specs.Clients.{is_tick_order, tick_in, HasToldAtMost, HasNoLooks}
 use Rattle.seam_measure.specs.Weights.{part_weight}
 use Rattle.seam_measure.proofs.Bare.{HoldsNone, IsBare}
 
@@ -37,7 +37,7 @@ IsSoleReal e w =
 
 module _ (f : Frame) (e : ℕ) (w : World) (frame : IsInFrame f w) (empty : (a k : ℕ) → link w.rows a k ≡ []) (Ok : Order → Type 0)
     (nodes : EachNode (λ k s. IsPlain Ok s) w.nodes) (no_tick : (o : Order) → Ok o → is_tick_order o ≡ false)
-    (no_call : (o : Order) → Ok o → order_concerns e o ≡ true → base_call_of o ≡ None) (sole : IsSoleReal e w) where
+    (sole : IsSoleReal e w) where
   mail_is : (a k : ℕ) → (entity_flow e w).mail a k ≡ []
   mail_is a k = ap (letters_of (mine e)) (empty a k)
 
@@ -81,15 +81,6 @@ module _ (f : Frame) (e : ℕ) (w : World) (frame : IsInFrame f w) (empty : (a k
   ticks_none [] h = tt
   ticks_none (o ∷ os) h = ticks_by o (orders_of e os) (order_concerns e o) h.0 (ticks_none os h.1)
 
-  calls_by : (o : Order) (os : List Order) (d : Bool) → order_concerns e o ≡ d → Ok o → letters_of base_call_of os ≡ [] →
-      letters_of base_call_of (cond d (o ∷ os) os) ≡ []
-  calls_by o os true is h none = ap (λ x. more_letter x (letters_of base_call_of os)) (no_call o h is) ∙ none
-  calls_by o os false is h none = none
-
-  calls_none : (os : List Order) → AllByRecursion Ok os → letters_of base_call_of (orders_of e os) ≡ []
-  calls_none [] h = refl
-  calls_none (o ∷ os) h = calls_by o (orders_of e os) (order_concerns e o) refl h.0 (calls_none os h.1)
-
   part_by : (o : Option PartView) → ((p : PartView) → o ≡ Some p → part_weight p ≡ 0) → weight_or part_weight o ≡ 0
   part_by None h = refl
   part_by (Some p) h = h p refl
@@ -97,41 +88,65 @@ module _ (f : Frame) (e : ℕ) (w : World) (frame : IsInFrame f w) (empty : (a k
   record Has0 (h : Has) : Type 0 where
     looks : h.cell.looks ≡ 0
     orders : AllByRecursion (λ o. is_tick_order o ≡ false) h.base.orders
-    calls : calls_ordered h.base ≡ []
     part : HoldsNone h.base
 
   has_by : (s : NodeView) → IsPlain Ok s → Has0 (has_of e s)
-  has_by (Cell c) h = record { looks = ap (times e) h; orders = tt; calls = refl; part = refl }
+  has_by (Cell c) h = record { looks = ap (times e) h; orders = tt; part = refl }
   has_by (Base b) h = record {
     looks = refl;
     orders = ticks_none b.orders h.0;
-    calls = calls_none b.orders h.0;
     part = part_by (table.get b.parts e) (h.1 e);
   }
 
   slot_by : (o : Option NodeView) (k : ℕ) → slice_get w.nodes k ≡ o → Has0 (slot_at (has_of e) has_none o)
-  slot_by None k at = record { looks = refl; orders = tt; calls = refl; part = refl }
+  slot_by None k at = record { looks = refl; orders = tt; part = refl }
   slot_by (Some s) k at = has_by s (nodes k s at)
 
   slots : (k : ℕ) → Has0 ((entity_flow e w).slot k)
   slots k = slot_by (slice_get w.nodes k) k refl
 
-  -- ---- all of it
+  pub looks_start : HasNoLooks e w
+  looks_start = record {
+    cells = λ k. (slots k).looks;
+    orders = λ k. (slots k).orders;
+    letters = no_letters (λ m. tick_in m ≡ None);
+  }
 
-  pub bare_start : (n : ℕ) × IsBare f e n w
-  bare_start =
-      let t = told_by (search_real e w) in (
-        t.0,
-        record {
-          frame = frame;
-          looks = record {
-            cells = λ k. (slots k).looks;
-            orders = λ k. (slots k).orders;
-            letters = no_letters (λ m. tick_in m ≡ None);
-          };
-          told = t.1;
-          calls = record { orders = λ k. (slots k).calls; letters = no_letters (λ m. base_call_in m ≡ None) };
-          updates = no_letters (λ m. update_in m ≡ None);
-          parts = λ k. (slots k).part;
-        },
-      )
+  pub told_start : (n : ℕ) × HasToldAtMost e n w
+  told_start = told_by (search_real e w)
+
+  -- ---- an entity whose base part no one calls
+
+  module _ (no_call : (o : Order) → Ok o → order_concerns e o ≡ true → base_call_of o ≡ None) where
+    calls_by : (o : Order) (os : List Order) (d : Bool) → order_concerns e o ≡ d → Ok o → letters_of base_call_of os ≡ [] →
+        letters_of base_call_of (cond d (o ∷ os) os) ≡ []
+    calls_by o os true is h none = ap (λ x. more_letter x (letters_of base_call_of os)) (no_call o h is) ∙ none
+    calls_by o os false is h none = none
+
+    calls_none : (os : List Order) → AllByRecursion Ok os → letters_of base_call_of (orders_of e os) ≡ []
+    calls_none [] h = refl
+    calls_none (o ∷ os) h = calls_by o (orders_of e os) (order_concerns e o) refl h.0 (calls_none os h.1)
+
+    node_calls : (s : NodeView) → IsPlain Ok s → calls_ordered (has_of e s).base ≡ []
+    node_calls (Cell c) h = refl
+    node_calls (Base b) h = calls_none b.orders h.0
+
+    slot_calls : (o : Option NodeView) (k : ℕ) → slice_get w.nodes k ≡ o → calls_ordered (slot_at (has_of e) has_none o).base ≡ []
+    slot_calls None k at = refl
+    slot_calls (Some s) k at = node_calls s (nodes k s at)
+
+    pub bare_start : (n : ℕ) × IsBare f e n w
+    bare_start = (
+      told_start.0,
+      record {
+        frame = frame;
+        looks = looks_start;
+        told = told_start.1;
+        calls = record {
+          orders = λ k. slot_calls (slice_get w.nodes k) k refl;
+          letters = no_letters (λ m. base_call_in m ≡ None);
+        };
+        updates = no_letters (λ m. update_in m ≡ None);
+        parts = λ k. (slots k).part;
+      },
+    )
