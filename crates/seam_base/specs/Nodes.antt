@@ -1,0 +1,25 @@
+-- What contracts see of the pieces of a base node.
+use Rattle.std.specs.Prelude.{◌≡◌, ℕ, Bool, List}
+use Rattle.seam_call.specs.declared.order.Order.{Order}
+use Rattle.seam_entity.specs.Here.{Here}
+use Rattle.seam_entity.specs.Calls.{has_ready}
+use Rattle.seam_steps.specs.Maps.{Map}
+use Rattle.seam_steps.specs.Bases.{BaseView, PartView, RouteView}
+use Rattle.seam_steps.specs.BaseCases.{proxy_is_ready}
+use Rattle.seam_base.specs.declared.known.Known.{Known}
+
+-- what the node knows beside its entities
+abbrev pub here_in : Known → Here
+here_in k = record { me = k.me; defs = k.defs; settings = k.settings }
+
+-- the node with these orders, routes and parts
+abbrev pub node_of : Known → List Order → Map RouteView → Map PartView → BaseView
+node_of k orders routes parts = record { here = here_in k; cells = k.cells; orders = orders; routes = routes; parts = parts }
+
+-- the part has a ready call
+abbrev pub has_call : PartView → Bool
+has_call p = has_ready p.orders
+
+-- its client has a ready update
+abbrev pub has_update : PartView → Bool
+has_update p = proxy_is_ready p.proxy
