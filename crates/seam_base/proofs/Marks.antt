@@ -222,3 +222,22 @@ module _ (m : Map PartView) (e : ℕ) (p p' : PartView) (n : Map PartView) (at :
       after ≡ marked (test p') marks e x → AreMarked test after n
   marks_put test marks after x are eq =
       same_marks test (marked (test p') marks e x) after (table.insert m e p') n eq now_put (marked_as_put test marks m are e p' x)
+
+-- ---- a part that is not there, or does not change
+
+module _ (m : Map PartView) (e : ℕ) where
+  nothing_there : None ≡ table.get m e → table.remove m e ≡ m
+  nothing_there at = ap (set_at m e) at ∙ set_at-same m e
+
+  pub alike_none : (test : PartView → Bool) (n : Map PartView) → None ≡ table.get m e → n ≡ table.remove m e → PassAlike test m n
+  alike_none test n at is q = ap (λ k. passes test (table.get k q)) (is ∙ nothing_there at)
+
+  pub changed_none : (f : PartView → PartView) → None ≡ table.get m e → changed_at f m e ≡ m
+  changed_none f at = ap (λ o. set_at m e (option_map f o)) (sym at) ∙ nothing_there at
+
+  pub changed_there : (f : PartView → PartView) (p : PartView) → Some p ≡ table.get m e → changed_at f m e ≡ table.insert m e (f p)
+  changed_there f p at = ap (λ o. set_at m e (option_map f o)) (sym at)
+
+  pub changed_same : (f : PartView → PartView) (p : PartView) → Some p ≡ table.get m e → f p ≡ p → changed_at f m e ≡ m
+  changed_same f p at same =
+      changed_there f p at ∙ (ap (table.insert m e) same ∙ (ap (set_at m e) at ∙ set_at-same m e))

@@ -15,11 +15,15 @@ use Rattle.seam_entity.specs.Orders.{order_of}
 use Rattle.seam_defs.specs.declared.states.State.{State}
 use Rattle.seam_call.specs.declared.call.Call.{Call}
 use Rattle.seam_call.specs.declared.shown.ClientText.{ClientText}
-use Rattle.seam_entity.specs.Here.{Here, type_at}
+use Rattle.seam_entity.specs.Here.{Here, type_at, properties}
 use Rattle.seam_steps.specs.Bases.{PartView, ProxyView, line_if, base_text, shown_to_client}
-use Rattle.seam_steps.specs.BaseCases.{proxy_is_ready, with_deed, with_offer, executed, offered}
-use Rattle.seam_base.specs.Parts.{told, with_state, with_call}
-use Rattle.seam_base.specs.Nodes.{has_update}
+use Rattle.seam_steps.specs.BaseCases.{proxy_is_ready, after_showing, with_deed, with_offer, executed, offered}
+use Rattle.seam_base.specs.Parts.{told, with_state, with_call, with_shown}
+use Rattle.seam_base.specs.Nodes.{has_call, has_update, has_client}
+use Rattle.seam_base.specs.Marks.{passes}
+use Rattle.seam_steps.specs.Loads.{new_proxy, with_proxy}
+use Rattle.seam_defs.specs.Deeds.{properties_of}
+use Rattle.seam_defs.specs.declared.flags.Group.TheVariants as group
 
 -- the text that is due for a client that is there is what the part shows it
 told_is_shown : (h : Here) (p : PartView) (due : Bool) (t : Option ClientText) →
@@ -111,3 +115,28 @@ any_by x false c ys rest = rest
 pub any_filter : {A : Type 0} (t : A → Bool) (xs : List A) → list_any t xs ≡ has_any (filter t xs)
 any_filter t [] = refl
 any_filter t (x ∷ xs) = any_by x (t x) (list_any t xs) (filter t xs) (any_filter t xs)
+
+-- ---- clients
+
+pub attached_call : (h : Here) (p : PartView) → has_call (with_proxy h p) ≡ has_call p
+attached_call h p = refl
+
+-- a new client has no ready update
+new_is_not_ready : (h : Here) (p : PartView) → has_update (with_proxy h p) ≡ false
+new_is_not_ready h p =
+    shown_same (has_any (properties_of (properties h p.ty) group.BaseClient)) h (record p { proxy = Some new_proxy })
+
+pub attached_update : (h : Here) (p : PartView) (o : Option PartView) → Some p ≡ o → passes has_client o ≡ false →
+    has_update (with_proxy h p) ≡ has_update p
+attached_update h p o at none = new_is_not_ready h p ∙ by p.proxy (ap (passes has_client) at ∙ none)
+  where
+    by : (x : Option ProxyView) → is_some x ≡ false → false ≡ proxy_is_ready x
+    by None none = refl
+    by (Some x) none = cc
+
+pub shown_call : (p : PartView) → has_call (with_shown p) ≡ has_call p
+shown_call p = by p.proxy
+  where
+    by : (x : Option ProxyView) → has_call (after_showing p x) ≡ has_call p
+    by None = refl
+    by (Some x) = refl

@@ -8,14 +8,14 @@ ghost use Rattle.seam_steps.specs.Loads.{empty_base, part_if, with_route, base_b
 ghost use Rattle.seam_steps.specs.Nodes.{NodeView};
 ghost use Rattle.seam_steps.specs.Nodes.NodeView.{Base as BaseNodeView};
 ghost use Rattle.seam_steps.specs.Valid.{IsBase};
-ghost use Rattle.seam_steps.specs.BaseCases.{unless_stray, sends_none, stray_current, current};
+ghost use Rattle.seam_steps.specs.BaseCases.{unless_stray, sends_none, stray_current, current, stray_update, update as update_case};
 
 use crate::known::Known;
 use crate::part::BasePart;
 use crate::parts::Parts;
 use crate::routes::{Route, gives_way};
-use seam_call::Order;
-use seam_defs::{Defs, Settings};
+use seam_call::{Order, Update};
+use seam_defs::{Defs, MOST_BASE_NODES, Settings};
 use seam_memory::NoMemoryFor;
 use seam_table::Table;
 use std::alloc::{AllocError, Global};
@@ -35,8 +35,7 @@ impl Model for Base {
     ghost use Rattle.std.specs.Coded.{codes};
     ghost use Rattle.std.specs.FinMap as table;
     ghost use Rattle.seam_steps.specs.Bases.{BaseView};
-    ghost use Rattle.seam_steps.specs.Valid.{IsBase};
-    ghost use Rattle.seam_base.specs.Nodes.{node_of};
+    ghost use Rattle.seam_base.specs.Nodes.{node_of, IsKept};
 
     ghost Value = { BaseView };
 
@@ -44,13 +43,14 @@ impl Model for Base {
 
     ghost view = { λ b. node_of b.known b.orders.items b.routes.items b.parts };
 
-    ghost invariant = { λ b. IsBase (node_of b.known b.orders.items b.routes.items b.parts) };
+    ghost invariant = { λ b. IsKept (node_of b.known b.orders.items b.routes.items b.parts) };
 }
 
 impl Base {
     /// A base node without entities and orders, and with the tree of one cell.
     pub fn new(alloc: Global, me: u8, defs: Defs, settings: Settings) -> Self
-        requires { 1 ≤ settings.bases }
+        requires bases { 1 ≤ settings.bases }
+        requires most { settings.bases ≤ MOST_BASE_NODES }
         ensures { BaseNodeView result ≡ empty_base defs settings me }
     {
         Base {
@@ -99,6 +99,22 @@ impl Base {
                 });
             }
         }
+    }
+
+    // Update: it is offered to the client, if there is one, and shown in its turn.
+    fn hear_update(&mut self, update: Update) -> Result<(), NoMemoryFor<Update>>
+        ensures after { OnOk result (self.new ≡ (unless_stray (stray_update update (table.get self.old.parts update.entity)) self.old
+            (sends_none (update_case self.old update (table.get self.old.parts update.entity)))).state) }
+        ensures err { OnErr result (self.new ≡ self.old) }
+        ensures err_item { IfErr result (λ e. e.item ≡ update) }
+    {
+        let Some(part) = self.parts.get(update.entity) else {
+            return Ok(());
+        };
+        if part.refuses(&update) {
+            return Ok(());
+        }
+        self.parts.offer_update(update)
     }
 
     // A cell tells that the entity's real is there, at that generation: the route is replaced where the generation is greater.

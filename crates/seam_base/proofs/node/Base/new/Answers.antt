@@ -5,7 +5,10 @@ use Rattle.seam_base.proofs.node.Base.new.Goals as goal
 
 pub invariant_of-result : goal.invariant_of-result
 invariant_of-result c = record {
-  bases = c.requires;
-  cells = omega arith;
-  routes = subst RoutesAreCells (sym (ap (λ w. w.items) c.new-2.ensures)) no_routes;
+  base = record {
+    bases = c.requires.bases;
+    cells = omega arith;
+    routes = subst RoutesAreCells (sym (ap (λ w. w.items) c.new-2.ensures)) no_routes;
+  };
+  most = c.requires.most;
 }
