@@ -1,2 +1,4 @@
 pub mod OrderLemmas
 pub mod RealLemmas
+pub mod ReadyLemmas
+pub mod FitLemmas

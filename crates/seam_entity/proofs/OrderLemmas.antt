@@ -405,7 +405,7 @@ and_false : (b : Bool) → (b && false) ≡ false
 and_false true = refl
 and_false false = refl
 
-not_new : (n : ℕ) (held : List (ℕ × Call)) → 1 < n → is_new (record { next = n; held = held }) ≡ false
+pub not_new : (n : ℕ) (held : List (ℕ × Call)) → 1 < n → is_new (record { next = n; held = held }) ≡ false
 not_new n held lt = let e : eqb n 1 ≡ false = grind (arith, nat_tests) in rw e refl
 
 held_kept : (next n : ℕ) (k : Call) (xs : List (ℕ × Call)) → is_new (record { next = next; held = with_item n k xs }) ≡ false

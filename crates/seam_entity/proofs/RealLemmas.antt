@@ -3,11 +3,13 @@ use Rattle.std.proofs.Common.{◌≡◌, ℕ, Bool, true, eqb, sym, ap, ◌∙�
 use Rattle.std.specs.Ordering.{nat_cmp, match_ordering}
 use Rattle.std.specs.declared.cmp.Ordering.TheVariants.{Equal}
 use Rattle.std.proofs.lemmas.Bool.Decides.{nat_tests}
+use Rattle.seam_order.specs.Held.{OrderView}
+use Rattle.seam_order.specs.Offers.{after_taking}
 use Rattle.seam_call.specs.declared.call.Call.{Call}
 use Rattle.seam_entity.specs.Orders.{order_of}
 use Rattle.seam_entity.specs.Reals.{RealView}
 use Rattle.seam_entity.specs.Here.{Here}
-use Rattle.seam_entity.specs.Executing.{with_deed, with_offer, executed, shows}
+use Rattle.seam_entity.specs.Executing.{with_deed, with_offer, with_order, executed, executed_ready, shows}
 use Rattle.seam_entity.specs.Preparing.{with_after, met, offered}
 use Rattle.seam_entity.specs.declared.real.After.{After}
 use Rattle.seam_entity.specs.declared.real.Did.{Did}
@@ -21,6 +23,12 @@ same_deed h r a k s c = λ i. with_after r (record { state = s i; changed = c i 
 pub executed_from : (h : Here) (r p : RealView) (a : After) (k : Call) → p ≡ r → a.state ≡ (with_deed h r k).state →
     a.changed ≡ shows h r k → with_offer (with_after p a k) k ≡ executed h r k
 executed_from h r p a k e s c = ap (λ q. with_offer (with_after q a k) k) e ∙ ap (λ q. with_offer q k) (same_deed h r a k s c)
+
+pub ready_from : (h : Here) (r p : RealView) (a : After) (o : ℕ × OrderView Call) (k : Call) → p ≡ r →
+    a.state ≡ (with_deed h r k).state → a.changed ≡ shows h r k → with_order (with_after p a k) o.0 (after_taking o.1) ≡ executed_ready h r o k
+ready_from h r p a o k e s c =
+    ap (λ q. with_order (with_after q a k) o.0 (after_taking o.1)) e
+    ∙ ap (λ q. with_order q o.0 (after_taking o.1)) (same_deed h r a k s c)
 
 turn_is : (n next : ℕ) → eqb n next ≡ true → nat_cmp n next ≡ Equal
 turn_is n next t = grind (arith, nat_tests)

@@ -1,9 +1,9 @@
 -- Calls in the orders of their senders: whether one may be offered, and which is ready.
-use Rattle.std.specs.Prelude.{ℕ, Bool, not, ◌&&◌, nat_lt, is_some, find, Option}
+use Rattle.std.specs.Prelude.{ℕ, Bool, not, ◌&&◌, nat_lt, is_some, find, Option, None, Some}
 use Rattle.std.specs.List.{list_all}
 use Rattle.std.specs.FinMap as table
 use Rattle.seam_order.specs.Held.{OrderView, item_at}
-use Rattle.seam_order.specs.Offers.{next_item}
+use Rattle.seam_order.specs.Offers.{next_item, after_taking}
 use Rattle.seam_call.specs.declared.call.Call.{Call}
 use Rattle.seam_entity.specs.Orders.{Orders}
 use Rattle.seam_entity.specs.Numbers.{may_rise}
@@ -25,6 +25,24 @@ ready_order os = find order_is_ready (table.entries os)
 
 abbrev pub has_ready : Orders → Bool
 has_ready os = is_some (ready_order os)
+
+-- the ready call of an order
+abbrev pub call_in : Option (ℕ × OrderView Call) → Option Call
+call_in None = None
+call_in (Some o) = next_item o.1
+
+-- the ready call of the least sender that has one
+abbrev pub ready_call : Orders → Option Call
+ready_call os = call_in (ready_order os)
+
+-- the orders after the ready call of that one was taken
+abbrev pub after_order : Orders → Option (ℕ × OrderView Call) → Orders
+after_order os None = os
+after_order os (Some o) = table.insert os o.0 (after_taking o.1)
+
+-- the orders after it was taken
+abbrev pub after_ready : Orders → Orders
+after_ready os = after_order os (ready_order os)
 
 abbrev pub item_passes : (Call → Bool) → ℕ × Call → Bool
 item_passes test q = test q.1

@@ -3,6 +3,7 @@ use Rattle.std.specs.Prelude.{ℕ, ◌+◌, Bool, true, false, ◌&&◌, nat_lt,
 use Rattle.std.specs.FinMap as table
 use Rattle.std.specs.FinSet as set
 use Rattle.seam_geo.specs.declared.pos.Pos.{Pos}
+use Rattle.seam_defs.specs.declared.states.State.{State}
 use Rattle.seam_defs.specs.declared.flags.Part.TheVariants as part
 use Rattle.seam_defs.specs.declared.flags.Group.TheVariants as group
 use Rattle.seam_defs.specs.Deeds.{after, ghost_of, start_values}
@@ -37,9 +38,13 @@ created h e ty p = record {
   witness = None;
 }
 
+-- what ghosts hold of an entity of this type, public version and state
+abbrev pub copy_with : Here → ℕ → ℕ → State → GhostCopy
+copy_with h ty version state = record { ty = ty; version = version; state = ghost_of (properties h ty) state }
+
 -- what its ghosts hold
 abbrev pub copy_of_real : Here → RealView → GhostCopy
-copy_of_real h r = record { ty = r.ty; version = r.public; state = ghost_of (properties h r.ty) r.state }
+copy_of_real h r = copy_with h r.ty r.public r.state
 
 -- ---- what fits the definitions
 

@@ -7,3 +7,5 @@ pub mod Calls
 pub mod Executing
 pub mod Places
 pub mod Preparing
+pub mod Looks
+pub mod Witnesses

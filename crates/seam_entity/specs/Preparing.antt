@@ -1,14 +1,17 @@
 -- What a call meets at a real, what is known of it before it is executed, and the room that it needs.
-use Rattle.std.specs.Prelude.{◌≡◌, ℕ, ◌+◌, ◌<◌, true, List, [], ◌∷◌, ◌++◌}
+use Rattle.std.specs.Prelude.{◌≡◌, ℕ, ◌+◌, ◌<◌, true, List, [], ◌∷◌, ◌++◌, Some}
 use Rattle.std.specs.Ordering.{nat_cmp, match_ordering}
 use Rattle.std.specs.FinSet as set
 use Rattle.seam_defs.specs.declared.types.TypeDef.{TypeDef}
 use Rattle.seam_defs.specs.declared.settings.Settings.{Settings}
+use Rattle.seam_order.specs.Held.{OrderView}
+use Rattle.seam_order.specs.Offers.{next_item}
 use Rattle.seam_call.specs.declared.call.Call.{Call}
 use Rattle.seam_call.specs.Senders.{rank_of}
 use Rattle.seam_entity.specs.Orders.{order_of}
 use Rattle.seam_entity.specs.Reals.{RealView, RoomyReal}
 use Rattle.seam_entity.specs.Here.{Here}
+use Rattle.seam_entity.specs.Calls.{ready_order}
 use Rattle.seam_entity.specs.Executing.{executed, with_offer, shows, public_after}
 use Rattle.seam_entity.specs.declared.real.After.{After}
 use Rattle.seam_entity.specs.declared.real.Did.{Did}
@@ -18,14 +21,13 @@ use Rattle.seam_entity.specs.declared.real.Did.TheVariants.{Done, Held, Stale}
 abbrev pub node_with : List TypeDef → ℕ → Settings → Here
 node_with defs me settings = record { me = me; defs = defs; settings = settings }
 
--- the real with one version and one done call more, and with the state that the call left
+-- the real with the state that a call left, and one version more
+abbrev pub advanced : RealView → After → RealView
+advanced r a = record r { state = a.state; version = r.version + 1; public = public_after a.changed (r.version + 1) r.public }
+
+-- the same, with one done call more
 abbrev pub with_after : RealView → After → Call → RealView
-with_after r a k = record r {
-  state = a.state;
-  version = r.version + 1;
-  public = public_after a.changed (r.version + 1) r.public;
-  done = r.done ++ k ∷ [];
-}
+with_after r a k = record (advanced r a) { done = r.done ++ k ∷ [] }
 
 -- the call comes back, is executed or is held, as its number is below the one whose turn it is, that number or above it
 abbrev pub met : Here → RealView → Call → Did
@@ -42,3 +44,8 @@ HasSpare r = 0 < r.spare
 -- there is room for a call whose turn it is
 abbrev pub HasRoom : RoomyReal → Call → Type 0
 HasRoom r k = HasSpare r × (set.contains r.senders (rank_of k.sender) ≡ true)
+
+-- the real's least sender that has a ready call has this order, which is kept under its place, and this ready call
+pub record HasReady (r : RealView) (o : ℕ × OrderView Call) (k : Call) : Type 0 where
+  pub order : ready_order r.orders ≡ Some o
+  pub call : next_item o.1 ≡ Some k

@@ -9,14 +9,18 @@
 //! calls a real executes and what they leave of it, and `specs/Here` what a node knows beside its entities.
 #![tactic(auto)]
 
+mod fitting;
 mod message;
 mod orders;
 mod real;
+mod witness;
 
+pub use fitting::{can_do, fits_cell_part, fits_copy, is_inside};
 pub use message::{Msg, Parcel};
 pub use orders::Orders;
-pub use real::{After, Did, Real, Witness};
+pub use real::{After, Did, Real, ghost_copy};
 pub use seam_memory::NoMemoryFor;
+pub use witness::{Witness, copy_for_others};
 
 #[cfg(test)]
 mod tests;

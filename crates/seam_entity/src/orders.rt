@@ -1,6 +1,7 @@
 //! The calls of several senders, each sender's in the order of their numbers.
 
-ghost use Rattle.std.specs.Prelude.{◌≡◌, ◌<◌, ◌≤◌, ◌^◌, [], true, false, is_some, IfOk, IfErr, OnOk, OnErr, length, map, option_copied};
+ghost use Rattle.std.specs.Prelude.{◌≡◌, ◌<◌, ◌≤◌, ◌^◌, [], true, false, is_some, IfOk, IfErr, OnOk, OnErr, length, map};
+ghost use Rattle.std.specs.Prelude.{option_copied, IfSome, IfNone, ℕ};
 ghost use Rattle.std.specs.List.{AllWithin};
 ghost use Rattle.std.specs.List.Sorted.{IsStrictlySortedBy};
 ghost use Rattle.std.specs.Ordering.{nat_cmp};
@@ -10,9 +11,14 @@ ghost use Rattle.seam_order.specs.Held.{item_at};
 ghost use Rattle.seam_order.specs.Offers.{offer_answer, after_offer};
 ghost use Rattle.seam_call.specs.Senders.{rank_of};
 ghost use Rattle.seam_entity.specs.Orders.{order_of, view_of};
-ghost use Rattle.seam_entity.specs.Places.{AreOrdered, IsAt, IsGap};
+ghost use Rattle.seam_entity.specs.Executing.{fits_cell_part as call_fits};
+ghost use Rattle.seam_entity.specs.Preparing.{node_with};
+ghost use Rattle.seam_entity.specs.Calls.{has_ready, ready_call, after_ready, all_held};
+ghost use Rattle.seam_entity.specs.Places.{AreOrdered, IsAt, IsGap, NoneReady, IsFirstReady};
 
+use crate::fitting::holds_fitting;
 use seam_call::{Call, Sender};
+use seam_defs::{Defs, Settings};
 use seam_memory::NoMemoryFor;
 use seam_order::{InOrder, Offer};
 use std::alloc::{AllocError, Global};
@@ -142,6 +148,74 @@ fn offer_in(
     entry.1.offer(call.number, call)
 }
 
+// Whether each call that is held is one for the cell part of that entity and fits that type.
+fn all_fit(
+    entries: &[(Sender, InOrder<Call>)],
+    defs: &Defs,
+    settings: &Settings,
+    entity: u32,
+    ty: u16,
+) -> bool
+    requires { AreOrdered entries.now }
+    ensures { (me : ℕ) →
+        result ≡ all_held (call_fits (node_with defs.now me settings.now) entity ty) (view_of entries.now).orders }
+{
+    for entry in entries {
+        if !holds_fitting(&entry.1, defs, settings, entity, ty) {
+            return false;
+        }
+    }
+    true
+}
+
+// The place of the first sender that has a ready call.
+fn first_ready(entries: &[(Sender, InOrder<Call>)]) -> Option<usize>
+    ensures some { IfSome result (IsFirstReady entries.now) }
+    ensures none { IfNone result (NoneReady entries.now (length entries.now)) }
+{
+    for i in 0..entries.len() {
+        if entries[i].1.is_ready() {
+            return Some(i);
+        }
+    }
+    None
+}
+
+// Whether a sender has a ready call.
+fn has_ready_in(entries: &[(Sender, InOrder<Call>)]) -> bool
+    requires { AreOrdered entries.now }
+    ensures { result ≡ has_ready (view_of entries.now).orders }
+{
+    first_ready(entries).is_some()
+}
+
+// The ready call of the first sender that has one.
+fn ready_in(entries: &[(Sender, InOrder<Call>)]) -> Option<&Call>
+    requires { AreOrdered entries.now }
+    ensures { option_copied result ≡ ready_call (view_of entries.now).orders }
+{
+    let Some(at) = first_ready(entries) else {
+        return None;
+    };
+    entries[at].1.peek()
+}
+
+// Takes that call.
+fn take_ready_in(entries: &mut Vec<(Sender, InOrder<Call>)>) -> Option<Call>
+    requires { AreOrdered entries.old.items }
+    ensures call { result ≡ ready_call (view_of entries.old.items).orders }
+    ensures after { (view_of entries.new.items).orders ≡ after_ready (view_of entries.old.items).orders }
+    ensures kept { AreOrdered entries.new.items }
+{
+    let Some(at) = first_ready(entries) else {
+        return None;
+    };
+    let entry = &mut entries[at];
+    // `next_number` is called for its clause that numbers begin at 1.
+    let _ = entry.1.next_number();
+    entry.1.take_next()
+}
+
 impl Orders {
     /// Nothing has come.
     pub fn new(alloc: Global) -> Self
@@ -190,5 +264,34 @@ impl Orders {
         ensures err_only_above { OnErr result ((order_of self.old.orders call.sender).next < call.number) }
     {
         offer_in(&mut self.entries, call)
+    }
+
+    /// Whether each call that is held is one for the cell part of that entity and fits that type.
+    pub fn all_fit(&self, defs: &Defs, settings: &Settings, entity: u32, ty: u16) -> bool
+        ensures { (me : ℕ) → result ≡ all_held (call_fits (node_with defs.now me settings.now) entity ty) self.now.orders }
+    {
+        all_fit(&self.entries, defs, settings, entity, ty)
+    }
+
+    /// Whether a call that is held has its turn.
+    pub fn is_ready(&self) -> bool
+        ensures { result ≡ has_ready self.now.orders }
+    {
+        has_ready_in(&self.entries)
+    }
+
+    /// The ready call of the least sender that has one.
+    pub fn ready_call(&self) -> Option<&Call>
+        ensures { option_copied result ≡ ready_call self.now.orders }
+    {
+        ready_in(&self.entries)
+    }
+
+    /// Takes that call.
+    pub fn take_ready(&mut self) -> Option<Call>
+        ensures call { result ≡ ready_call self.old.orders }
+        ensures after { self.new.orders ≡ after_ready self.old.orders }
+    {
+        take_ready_in(&mut self.entries)
     }
 }

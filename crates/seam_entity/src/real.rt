@@ -1,39 +1,40 @@
 //! An entity's real.
 
-ghost use Rattle.std.specs.Prelude.{◌≡◌, ◌≤◌, ◌<◌, ◌^◌, ◌==◌, ℕ, IfOk, IfErr, OnOk, OnErr, [], true, false, is_some};
+ghost use Rattle.std.specs.Prelude.{◌≡◌, ◌≤◌, ◌<◌, ◌^◌, ◌==◌, ℕ, IfOk, IfErr, OnOk, OnErr, [], true, false};
+ghost use Rattle.std.specs.Prelude.{is_some, None, Some, option_map, List};
 ghost use Rattle.std.specs.FinSet as set;
-ghost use Rattle.seam_defs.specs.Deeds.{after as after_deed};
+ghost use Rattle.seam_defs.specs.Deeds.{after as after_deed, own_of};
 ghost use Rattle.seam_defs.specs.Tests.{changes};
 ghost use Rattle.seam_defs.specs.Types.{type_of};
+ghost use Rattle.seam_defs.specs.declared.types.TypeDef.{TypeDef};
 ghost use Rattle.seam_defs.specs.declared.settings.Settings.{Settings as AllSettings};
 ghost use Rattle.seam_order.specs.Held.{item_at};
 ghost use Rattle.seam_entity.specs.Orders.{order_of};
-ghost use Rattle.seam_entity.specs.Here.{Here};
+ghost use Rattle.seam_entity.specs.Here.{Here, properties};
 ghost use Rattle.seam_entity.specs.Executing.{real_begins};
-ghost use Rattle.seam_entity.specs.Executing.{created, copy_of_real, with_deed, with_offer, executed, public_after, shows};
+ghost use Rattle.seam_entity.specs.Executing.{created, copy_with, copy_of_real, with_deed, with_offer, executed, public_after, shows};
 ghost use Rattle.seam_entity.specs.Executing.{settled_to};
-ghost use Rattle.seam_entity.specs.Preparing.{node_with, with_after, met, offered as after_call, HasRoom};
+ghost use Rattle.seam_entity.specs.Preparing.{node_with, advanced, with_after, met, offered as after_call, HasRoom, HasSpare, HasReady};
+ghost use Rattle.seam_entity.specs.Calls.{has_ready};
+ghost use Rattle.seam_entity.specs.Executing.{executed_ready, with_order, fits_real};
+ghost use Rattle.seam_entity.specs.Looks.{with_witness, other_of_real};
+ghost use Rattle.seam_entity.specs.Witnesses.{witness_of};
+ghost use Rattle.seam_order.specs.Held.{OrderView};
+ghost use Rattle.seam_order.specs.Offers.{after_taking};
+ghost use Rattle.seam_call.specs.declared.call.Call.{Call as CallData};
 ghost use Rattle.seam_entity.specs.declared.real.Did.TheVariants.{Done as DidDone};
 
+use crate::fitting::is_inside;
 use crate::orders::Orders;
+use crate::witness::Witness;
 use seam_call::{Call, GhostCopy, Sender};
-use seam_defs::{Deed, Defs, Group, State};
+use seam_defs::{Deed, Defs, Group, Settings, State};
 use seam_geo::Pos;
 use seam_memory::NoMemoryFor;
 use seam_order::Offer;
 use seam_tree::CellSet;
-use seam_view::View;
 use std::alloc::{AllocError, Global};
 use std::marker::Model;
-
-/// What an entity with a client has on its real: what the client was shown of others, the version of the last own state
-/// that was told, and the number of the last update.
-#[derive(Drop)]
-pub struct Witness {
-    pub view: View,
-    pub told: Option<u64>,
-    pub sent: u64,
-}
 
 /// What became of a call.
 #[derive(Drop)]
@@ -83,6 +84,7 @@ impl Model for Real {
     ghost use Rattle.std.specs.FinMap as table;
     ghost use Rattle.std.specs.FinSet as set;
     ghost use Rattle.seam_entity.specs.Reals.{RoomyReal};
+    ghost use Rattle.seam_entity.specs.Witnesses.{witness_of};
 
     ghost Value = { RoomyReal };
 
@@ -100,7 +102,7 @@ impl Model for Real {
         haunts = (box_value r.body).haunts;
         beat = (box_value r.body).beat;
         generation = (box_value r.body).generation;
-        witness = option_map (λ w. record { view = w.view.core; told = w.told; sent = w.sent }) (box_value r.body).witness;
+        witness = option_map witness_of (box_value r.body).witness;
       };
       spare = vec_capacity (box_value r.body).done - vec_len (box_value r.body).done;
       senders = (box_value r.body).orders.senders;
@@ -112,6 +114,29 @@ fn public_after(changed: bool, version: u64, public: u64) -> u64
     ensures { result ≡ public_after changed version public }
 {
     if changed { version } else { public }
+}
+
+/// What the ghosts are told of an entity of that type, public version and state.
+pub fn ghost_copy(
+    defs: &Defs,
+    ty: u16,
+    version: u64,
+    state: &State,
+) -> Result<GhostCopy, AllocError>
+    ensures { (me : ℕ) (settings : AllSettings) →
+        IfOk result (λ c. c ≡ copy_with (node_with defs.now me settings) ty version state.now) }
+{
+    let props = defs
+        .type_at(ty)
+        .project_group(Group::Real, &state.props, Group::Ghost)?;
+    Ok(GhostCopy {
+        ty,
+        version,
+        state: State {
+            pos: state.pos,
+            props,
+        },
+    })
 }
 
 // What a deed will make of a state.
@@ -244,9 +269,87 @@ impl Real {
         ensures { (me : ℕ) (settings : AllSettings) →
             IfOk result (λ c. c ≡ copy_of_real (node_with defs.now me settings) self.now.core) }
     {
+        ghost_copy(
+            defs,
+            self.body.ty,
+            self.body.public_version,
+            &self.body.state,
+        )
+    }
+
+    /// What its ghosts are told of it after a call of which `prepare` or `prepare_ready` said this.
+    pub fn copy_after(&self, defs: &Defs, after: &After) -> Result<GhostCopy, AllocError>
+        requires { self.now.core.version < 2 ^ 62 }
+        ensures { (me : ℕ) (settings : AllSettings) (call : CallData) →
+            IfOk result (λ c. c ≡ copy_of_real (node_with defs.now me settings) (with_after self.now.core after.now call)) }
+    {
+        let version = self.version_after(after);
+        ghost_copy(defs, self.body.ty, version, &after.state)
+    }
+
+    /// The version of the last change that others may see, after such a call.
+    pub fn version_after(&self, after: &After) -> u64
+        requires { self.now.core.version < 2 ^ 62 }
+        ensures { (call : CallData) → result ≡ (with_after self.now.core after.now call).public }
+    {
+        public_after(
+            after.changed,
+            self.body.version + 1,
+            self.body.public_version,
+        )
+    }
+
+    /// Whether its type is one of the definitions, its values are of the group, it is in the space, and each held call fits.
+    pub fn fits(&self, defs: &Defs, settings: &Settings) -> bool
+        ensures { (me : ℕ) → result ≡ fits_real (node_with defs.now me settings.now) self.now.core }
+    {
+        let body = &self.body;
+        defs.has_type(body.ty)
+            && (defs
+                .type_at(body.ty)
+                .is_of_group(Group::Real, &body.state.props)
+                && (is_inside(settings.size, body.state.pos)
+                    && body.orders.all_fit(defs, settings, body.entity, body.ty)))
+    }
+
+    /// Gives it a witness that has told nothing.
+    pub fn attach(&mut self, alloc: Global, settings: &Settings)
+        ensures core { (defs : List TypeDef) (me : ℕ) →
+            self.new.core ≡ with_witness (node_with defs me settings.now) self.old.core }
+    {
+        self.body.witness = Some(Witness::new(alloc, settings));
+    }
+
+    /// Whether it has a witness.
+    pub fn has_witness(&self) -> bool
+        ensures { result ≡ is_some self.now.core.witness }
+    {
+        self.body.witness.is_some()
+    }
+
+    /// Takes its witness, so that it can look.
+    pub fn take_witness(&mut self) -> Option<Witness>
+        ensures witness { option_map witness_of result ≡ self.old.core.witness }
+        ensures after { self.new.core ≡ record self.old.core { witness = None } }
+    {
+        self.body.witness.take()
+    }
+
+    /// Puts the witness back.
+    pub fn put_witness(&mut self, witness: Witness)
+        ensures { self.new.core ≡ record self.old.core { witness = Some (witness_of witness) } }
+    {
+        self.body.witness = Some(witness);
+    }
+
+    /// What other clients are shown of it.
+    pub fn copy_for_others(&self, defs: &Defs) -> Result<GhostCopy, AllocError>
+        ensures { (me : ℕ) (settings : AllSettings) →
+            IfOk result (λ c. c ≡ other_of_real (node_with defs.now me settings) self.now.core) }
+    {
         let props = defs
             .type_at(self.body.ty)
-            .project_group(Group::Real, &self.body.state.props, Group::Ghost)?;
+            .project_group(Group::Real, &self.body.state.props, Group::Other)?;
         Ok(GhostCopy {
             ty: self.body.ty,
             version: self.body.public_version,
@@ -254,6 +357,20 @@ impl Real {
                 pos: self.body.state.pos,
                 props,
             },
+        })
+    }
+
+    /// What its own client is shown of it.
+    pub fn own_state(&self, defs: &Defs) -> Result<State, AllocError>
+        ensures { (me : ℕ) (settings : AllSettings) →
+            IfOk result (λ s. s ≡ own_of (properties (node_with defs.now me settings) self.now.core.ty) self.now.core.state) }
+    {
+        let props = defs
+            .type_at(self.body.ty)
+            .project_group(Group::Real, &self.body.state.props, Group::Own)?;
+        Ok(State {
+            pos: self.body.state.pos,
+            props,
         })
     }
 
@@ -304,6 +421,21 @@ impl Real {
         requires room { HasRoom self.old call }
         ensures { self.new.core ≡ with_offer (with_after self.old.core after call) call }
     {
+        self.advance(after);
+        match self.body.orders.offer(call) {
+            Ok(Offer::Next(call)) => self.body.done.push_reserved(call),
+            Ok(_) => unreachable!(),
+            Err(_) => unreachable!(),
+        }
+    }
+
+    // Takes the state after a call, one version more.
+    fn advance(&mut self, after: After)
+        requires { self.old.core.version < 2 ^ 62 }
+        ensures core { self.new.core ≡ advanced self.old.core after }
+        ensures spare { self.new.spare ≡ self.old.spare }
+        ensures senders { self.new.senders ≡ self.old.senders }
+    {
         self.body.state = after.state;
         self.body.version += 1;
         self.body.public_version = public_after(
@@ -311,11 +443,6 @@ impl Real {
             self.body.version,
             self.body.public_version,
         );
-        match self.body.orders.offer(call) {
-            Ok(Offer::Next(call)) => self.body.done.push_reserved(call),
-            Ok(_) => unreachable!(),
-            Err(_) => unreachable!(),
-        }
     }
 
     /// Executes the call where it is its turn, holds it where it came early, and gives it back where it came late.
@@ -390,5 +517,63 @@ impl Real {
             Ok(_) => unreachable!(),
             Err(refused) => Err(refused),
         }
+    }
+
+    /// Whether it holds a call whose turn it is.
+    pub fn is_ready(&self) -> bool
+        ensures { result ≡ has_ready self.now.core.orders }
+    {
+        self.body.orders.is_ready()
+    }
+
+    /// The state that the ready call of its least sender that has one will leave, and whether others may see the change. There is
+    /// room for the call from then on.
+    pub fn prepare_ready(&mut self, defs: &Defs) -> Result<After, AllocError>
+        requires { has_ready self.old.core.orders ≡ true }
+        ensures same { self.new.core ≡ self.old.core }
+        ensures state { (me : ℕ) (settings : AllSettings) (o : ℕ × OrderView CallData) (k : CallData) → HasReady self.old.core o k →
+            IfOk result (λ a. a.state ≡ (with_deed (node_with defs.now me settings) self.old.core k).state) }
+        ensures changed { (me : ℕ) (settings : AllSettings) (o : ℕ × OrderView CallData) (k : CallData) → HasReady self.old.core o k →
+            IfOk result (λ a. a.changed ≡ shows (node_with defs.now me settings) self.old.core k) }
+        ensures room { OnOk result (HasSpare self.new) }
+    {
+        self.body.done.reserve(1)?;
+        let Some(call) = self.body.orders.ready_call() else {
+            unreachable!()
+        };
+        look_ahead(defs, self.body.ty, &self.body.state, &call.deed)
+    }
+
+    /// Executes that call, from what `prepare_ready` said of it. It needs no memory, and cannot fail.
+    pub fn execute_ready_after(&mut self, after: After)
+        requires ready { has_ready self.old.core.orders ≡ true }
+        requires version { self.old.core.version < 2 ^ 62 }
+        requires room { HasSpare self.old }
+        ensures { (o : ℕ × OrderView CallData) (k : CallData) → HasReady self.old.core o k →
+            self.new.core ≡ with_order (with_after self.old.core after k) o.0 (after_taking o.1) }
+    {
+        self.advance(after);
+        let Some(call) = self.body.orders.take_ready() else {
+            unreachable!()
+        };
+        self.body.done.push_reserved(call);
+    }
+
+    /// Executes the ready call of its least sender that has one. It answers whether others may see the change.
+    pub fn execute_ready(&mut self, defs: &Defs) -> Result<bool, AllocError>
+        requires ready { has_ready self.old.core.orders ≡ true }
+        requires version { self.old.core.version < 2 ^ 62 }
+        ensures answer { (me : ℕ) (settings : AllSettings) (o : ℕ × OrderView CallData) (k : CallData) → HasReady self.old.core o k →
+            IfOk result (λ changed. changed ≡ shows (node_with defs.now me settings) self.old.core k) }
+        ensures after { (me : ℕ) (settings : AllSettings) (o : ℕ × OrderView CallData) (k : CallData) → HasReady self.old.core o k →
+            OnOk result (self.new.core ≡ executed_ready (node_with defs.now me settings) self.old.core o k) }
+
+        // If allocation fails, nothing has changed.
+        ensures err { OnErr result (self.new.core ≡ self.old.core) }
+    {
+        let after = self.prepare_ready(defs)?;
+        let changed = after.changed;
+        self.execute_ready_after(after);
+        Ok(changed)
     }
 }

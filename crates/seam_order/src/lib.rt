@@ -14,6 +14,7 @@ ghost use Rattle.seam_order.specs.Offers.{offer_answer, after_offer, next_item, 
 pub use seam_memory::NoMemoryFor;
 use std::alloc::Global;
 use std::collections::BTreeMap;
+use std::collections::btree_map::Iter;
 use std::marker::Model;
 
 #[cfg(test)]
@@ -146,7 +147,14 @@ impl<T> InOrder<T> {
         self.next
     }
 
-    /// The held items with their numbers, in rising number; none where i is not below their count. It takes time with i.
+    /// The held items with their numbers, in rising number.
+    pub fn iter(&self) -> Iter<'_, u64, T>
+        ensures { result ≡ self.now.held }
+    {
+        self.held.iter()
+    }
+
+    /// The held item at place i, in rising number; none where i is not below their count. It takes time with i.
     pub fn held_at(&self, i: usize) -> Option<(u64, &T)>
         ensures { option_map (λ p. (p.0, p.1.now)) result ≡ slice_get self.now.held i }
     {

@@ -15,6 +15,7 @@ use Rattle.seam_entity.specs.Reals.{RealView}
 use Rattle.seam_steps.specs.Maps.{set_at, each_value, has_any}
 use Rattle.seam_entity.specs.Here.{Here, cell_count, cell_numbers, base_numbers, peers_of, base_of, properties}
 use Rattle.seam_entity.specs.Executing.{created, real_begins}
+pub use Rattle.seam_entity.specs.Looks.{with_witness}
 use Rattle.seam_steps.specs.Cells.{CellView}
 use Rattle.seam_steps.specs.Bases.{BaseView, PartView, ProxyView, shown_to_client}
 use Rattle.seam_steps.specs.Nodes.{NodeView, World}
@@ -87,21 +88,6 @@ created_at t x (Cell c) = Cell (real_if (leaf_at t x.pos == c.here.me) c x)
 created_at t x (Base b) = Base (part_if (base_of b.here x.entity == b.here.me) (with_route b x.entity (leaf_at t x.pos)) x)
 
 -- ---- load, point 2: clients
-
--- a real with a witness that has told nothing
-abbrev pub with_witness : Here → RealView → RealView
-with_witness h r = record r {
-  witness = Some (record {
-    view = record {
-      radius = h.settings.view_radius;
-      hysteresis = h.settings.view_hysteresis;
-      entries = [];
-      shown = table.empty;
-    };
-    told = None;
-    sent = 0;
-  });
-}
 
 -- a client that was shown nothing
 abbrev pub new_proxy : ProxyView

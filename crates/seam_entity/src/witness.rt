@@ -1,0 +1,82 @@
+//! What an entity with a client has on its real, and what is shown of others.
+
+ghost use Rattle.std.specs.Prelude.{◌≡◌, ◌+◌, ◌<◌, ◌^◌, ℕ, IfOk, map, length, List};
+ghost use Rattle.std.specs.List.Sorted.{IsStrictlySortedBy};
+ghost use Rattle.std.specs.Ordering.{nat_cmp};
+ghost use Rattle.seam_defs.specs.declared.settings.Settings.{Settings as AllSettings};
+ghost use Rattle.seam_view.specs.Replica.{HasRoom as HasRoomFor, after_looks};
+ghost use Rattle.seam_entity.specs.Looks.{new_witness, other_of_copy as copy_for_others, own_due, told_after};
+ghost use Rattle.seam_entity.specs.Preparing.{node_with};
+ghost use Rattle.seam_entity.specs.Witnesses.{witness_of};
+
+use seam_call::GhostCopy;
+use seam_defs::{Defs, Group, Settings, State};
+use seam_view::{Look, Seen, View};
+use std::alloc::{AllocError, Global};
+
+/// What an entity with a client has on its real: what the client was shown of others, the version of the last own state
+/// that was told, and the number of the last update.
+#[derive(Drop)]
+pub struct Witness {
+    pub view: View,
+    pub told: Option<u64>,
+    pub sent: u64,
+}
+
+impl Witness {
+    /// A witness that has told nothing.
+    pub fn new(alloc: Global, settings: &Settings) -> Witness
+        ensures { witness_of result ≡ new_witness settings.now }
+    {
+        Witness {
+            view: View::new(alloc, settings.view_radius, settings.view_hysteresis),
+            told: None,
+            sent: 0,
+        }
+    }
+
+    /// Whether its own entity's state is to be told, which has that version: it never was, or at a lower version.
+    pub fn is_own_due(&self, version: u64) -> bool
+        ensures { result ≡ own_due self.now.told version }
+    {
+        match self.told {
+            None => true,
+            Some(told) => told < version,
+        }
+    }
+
+    /// Keeps what was told: the looks that the view's `plan` gave for what is known, the own state of that version where it was
+    /// due, and that many updates.
+    pub fn keep(&mut self, known: &[Seen], looks: &[Look], version: u64, updates: u64)
+        requires rising { IsStrictlySortedBy nat_cmp (map (λ s. s.entity) known.now) }
+        requires room { HasRoomFor self.old.view looks.now }
+        requires small { self.old.sent + updates < 2 ^ 62 }
+        ensures view { self.new.view.core ≡ after_looks known.now self.old.view.core looks.now }
+        ensures told { self.new.told ≡ told_after (own_due self.old.told version) version self.old.told }
+        ensures sent { self.new.sent ≡ self.old.sent + updates }
+    {
+        if self.is_own_due(version) {
+            self.told = Some(version);
+        }
+        self.sent += updates;
+        self.view.keep(known, looks);
+    }
+}
+
+/// What other clients are shown of an entity of which there is a copy.
+pub fn copy_for_others(defs: &Defs, copy: &GhostCopy) -> Result<GhostCopy, AllocError>
+    ensures { (me : ℕ) (settings : AllSettings) →
+        IfOk result (λ c. c ≡ copy_for_others (node_with defs.now me settings) copy.now) }
+{
+    let props = defs
+        .type_at(copy.ty)
+        .project_group(Group::Ghost, &copy.state.props, Group::Other)?;
+    Ok(GhostCopy {
+        ty: copy.ty,
+        version: copy.version,
+        state: State {
+            pos: copy.state.pos,
+            props,
+        },
+    })
+}
