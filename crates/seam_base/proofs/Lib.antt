@@ -1,0 +1,4 @@
+pub mod Marks
+pub mod PartLemmas
+pub mod RouteLemmas
+pub mod NodeLemmas

@@ -1,0 +1,4 @@
+pub mod Parts
+pub mod Routes
+pub mod Marks
+pub mod Nodes

@@ -1,0 +1,40 @@
+-- What contracts see of the pieces of a base node.
+use Rattle.std.specs.Prelude.{ℕ, ◌≤◌, Bool, is_some, List}
+use Rattle.seam_call.specs.declared.order.Order.{Order}
+use Rattle.seam_entity.specs.Here.{Here}
+use Rattle.seam_entity.specs.Calls.{has_ready}
+use Rattle.seam_steps.specs.Maps.{Map}
+use Rattle.seam_steps.specs.Bases.{BaseView, PartView, RouteView}
+use Rattle.seam_steps.specs.BaseCases.{proxy_is_ready, may_show}
+use Rattle.seam_defs.specs.declared.limits.TheConstants.{MOST_BASE_NODES}
+use Rattle.seam_steps.specs.Valid.{IsBase}
+use Rattle.seam_base.specs.declared.known.Known.{Known}
+
+-- what the node knows beside its entities
+abbrev pub here_in : Known → Here
+here_in k = record { me = k.me; defs = k.defs; settings = k.settings }
+
+-- the node with these orders, routes and parts
+abbrev pub node_of : Known → List Order → Map RouteView → Map PartView → BaseView
+node_of k orders routes parts = record { here = here_in k; cells = k.cells; orders = orders; routes = routes; parts = parts }
+
+-- the part has a ready call
+abbrev pub has_call : PartView → Bool
+has_call p = has_ready p.orders
+
+-- its client has a ready update
+abbrev pub has_update : PartView → Bool
+has_update p = proxy_is_ready p.proxy
+
+-- it has a client
+abbrev pub has_client : PartView → Bool
+has_client p = is_some p.proxy
+
+-- a further line of its client, if it has one, has a number
+abbrev pub may_be_shown : PartView → Bool
+may_be_shown p = may_show p.proxy
+
+-- what is true of every base node, and there are no more base nodes than the settings allow
+pub record IsKept (b : BaseView) : Type 0 where
+  pub base : IsBase b
+  pub most : b.here.settings.bases ≤ MOST_BASE_NODES

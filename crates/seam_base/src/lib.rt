@@ -1,0 +1,19 @@
+//! Base nodes: the code whose steps are those of `seam_steps`.
+//!
+//! A base node (BigWorld's BaseApp) keeps the base parts of its entities, of which those with a client are proxies, and for every
+//! entity the route to its real; it passes on the calls of its senders (BigWorld Server Overview, "Base entities and proxies").
+#![tactic(auto)]
+
+mod calls;
+mod fitting;
+mod known;
+mod node;
+mod orders;
+mod part;
+mod parts;
+mod routes;
+mod updates;
+
+pub use node::Base;
+pub use part::BasePart;
+pub use seam_memory::NoMemoryFor;

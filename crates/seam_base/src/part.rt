@@ -1,0 +1,191 @@
+//! The base part of an entity.
+
+ghost use Rattle.std.specs.Prelude.{◌≡◌, ◌<◌, ◌≤◌, ◌^◌, ◌==◌, ℕ, IfOk, IfErr, OnOk, OnErr, true, false, is_some, Some, vec_len, vec_capacity};
+ghost use Rattle.std.specs.Ordering.{nat_cmp};
+ghost use Rattle.seam_defs.specs.declared.settings.Settings.{Settings as AllSettings};
+ghost use Rattle.seam_call.specs.Senders.{rank_of};
+ghost use Rattle.seam_order.specs.Held.{item_at};
+ghost use Rattle.seam_entity.specs.Here.{Here};
+ghost use Rattle.seam_entity.specs.Numbers.{may_rise as number_may_rise};
+ghost use Rattle.seam_steps.specs.Bases.{with_line};
+ghost use Rattle.seam_entity.specs.Orders.{order_of};
+ghost use Rattle.seam_entity.specs.Calls.{may_offer};
+ghost use Rattle.seam_entity.specs.Preparing.{node_with};
+ghost use Rattle.seam_steps.specs.Loads.{new_part};
+ghost use Rattle.seam_steps.specs.BaseCases.{may_call as part_may_call, may_execute as part_may_execute, may_show as client_may_show, fits_base_part};
+ghost use Rattle.seam_base.specs.Parts.{part_of, proxy_of, lines_of};
+
+use crate::fitting::{can_be_done, may_rise};
+use seam_call::{Call, ClientText, Line, Shown};
+use seam_defs::{Defs, Group, Part, Props, Settings, State};
+use seam_entity::Orders;
+use seam_geo::Pos;
+use seam_order::InOrder;
+use std::alloc::{AllocError, Global};
+use std::marker::Model;
+
+#[derive(Drop)]
+pub(crate) struct Proxy {
+    pub updates: InOrder<Shown>,
+    pub lines: Vec<Line>,
+    pub last: u64,
+}
+
+impl Proxy {
+    /// Shows the text, under the next number.
+    pub fn show(&mut self, text: ClientText)
+        requires room { vec_len self.old.lines < vec_capacity self.old.lines }
+        requires small { number_may_rise self.old.last ≡ true }
+        ensures { proxy_of self.new ≡ with_line (proxy_of self.old) text }
+    {
+        self.last += 1;
+        self.lines.push_reserved(Line {
+            number: self.last,
+            text,
+        });
+    }
+}
+
+#[derive(Drop)]
+pub(crate) struct Body {
+    pub ty: u16,
+    pub state: State,
+    pub version: u64,
+    pub orders: Orders,
+    pub done: Vec<Call>,
+    pub proxy: Option<Proxy>,
+}
+
+/// The base part of an entity, which may have a client.
+///
+/// Contracts see what it is; the room that was made in it is not seen.
+#[derive(Drop)]
+pub struct BasePart {
+    pub(crate) body: Box<Body>,
+}
+
+impl Model for BasePart {
+    ghost use Rattle.std.specs.Prelude.{box_value};
+    ghost use Rattle.std.specs.Coded.{codes};
+    ghost use Rattle.std.specs.FinMap as table;
+    ghost use Rattle.seam_steps.specs.Bases.{PartView};
+    ghost use Rattle.seam_base.specs.Parts.{part_of};
+
+    ghost Value = { PartView };
+
+    ghost coded = { Prim.hlevel (codes, table.code) };
+
+    ghost view = { λ p. part_of (box_value p.body) };
+}
+
+impl BasePart {
+    /// A base part that has done nothing.
+    pub fn create(alloc: Global, defs: &Defs, ty: u16) -> Result<Self, AllocError>
+        ensures { (me : ℕ) (settings : AllSettings) → IfOk result (λ p. p ≡ new_part (node_with defs.now me settings) ty) }
+    {
+        let props = defs.type_at(ty).start_props(Group::Base)?;
+        let body = Body {
+            ty,
+            state: State {
+                pos: Pos { x: 0, z: 0 },
+                props,
+            },
+            version: 0,
+            orders: Orders::new(alloc),
+            done: Vec::new(alloc),
+            proxy: None,
+        };
+        Ok(BasePart {
+            body: Box::new(alloc, body)?,
+        })
+    }
+
+    /// The entity's type, by its place among the types.
+    pub fn ty(&self) -> u16
+        ensures { result ≡ self.now.ty }
+    {
+        self.body.ty
+    }
+
+    /// The values of its properties.
+    pub fn props(&self) -> &Props
+        ensures { result.now ≡ self.now.state.props }
+    {
+        &self.body.state.props
+    }
+
+    /// How many calls it executed.
+    pub fn version(&self) -> u64
+        ensures { result ≡ self.now.version }
+    {
+        self.body.version
+    }
+
+    /// The calls executed in this round.
+    pub fn done(&self) -> &[Call]
+        ensures { result.now ≡ self.now.done }
+    {
+        &self.body.done
+    }
+
+    /// The lines that its client was shown in this round.
+    pub fn lines(&self) -> &[Line]
+        ensures { result.now ≡ lines_of self.now }
+    {
+        match &self.body.proxy {
+            Some(proxy) => &proxy.lines,
+            None => &[],
+        }
+    }
+
+    /// Whether a further line of its client, if it has one, has a number.
+    pub fn may_show(&self) -> bool
+        ensures { result ≡ client_may_show self.now.proxy }
+    {
+        match &self.body.proxy {
+            Some(proxy) => may_rise(proxy.last),
+            None => true,
+        }
+    }
+
+    /// Whether it may execute a call.
+    pub fn may_execute(&self) -> bool
+        ensures { result ≡ part_may_execute self.now }
+    {
+        may_rise(self.body.version) && self.may_show()
+    }
+
+    // Whether the call may be offered to its sender's order.
+    fn may_take(&self, call: &Call) -> bool
+        ensures { result ≡ may_offer (order_of self.now.orders call.now.sender) call.now.number }
+    {
+        call.number > 0
+            && (may_rise(call.number) && !self.body.orders.holds(call.sender, call.number))
+    }
+
+    // Whether the call is for a base part, and fits this one.
+    fn fits(&self, defs: &Defs, settings: &Settings, call: &Call) -> bool
+        ensures { (me : ℕ) → result ≡ fits_base_part (node_with defs.now me settings.now) self.now.ty call.now }
+    {
+        call.is_for(Part::Base, call.entity)
+            && can_be_done(
+                settings.size,
+                defs.type_at(self.body.ty),
+                Part::Base,
+                &call.deed,
+            )
+    }
+
+    /// Whether it may be offered the call.
+    pub fn may_call(&self, defs: &Defs, settings: &Settings, call: &Call) -> bool
+        ensures { (me : ℕ) → result ≡ part_may_call (node_with defs.now me settings.now) self.now call.now }
+    {
+        if !self.fits(defs, settings, call) {
+            return false;
+        }
+        if !self.may_take(call) {
+            return false;
+        }
+        self.may_execute()
+    }
+}

@@ -1,0 +1,228 @@
+//! The base parts of a node, and marks of those that are ready.
+
+ghost use Rattle.std.specs.Prelude.{◌≡◌, ℕ, true, false, find, OnOk, OnErr, IfErr, option_copied, option_map, is_some};
+ghost use Rattle.std.specs.FinMap as table;
+ghost use Rattle.std.specs.FinSet as set;
+ghost use Rattle.seam_steps.specs.Maps.{Map, number_of};
+ghost use Rattle.seam_defs.specs.declared.settings.Settings.{Settings as AllSettings};
+ghost use Rattle.seam_entity.specs.Preparing.{node_with};
+ghost use Rattle.seam_steps.specs.Loads.{with_proxy};
+ghost use Rattle.seam_steps.specs.BaseCases.{stray_update};
+ghost use Rattle.seam_base.specs.Nodes.{has_call, has_update, has_client, may_be_shown};
+ghost use Rattle.seam_base.specs.Parts.{changed_at, with_update, with_shown};
+ghost use Rattle.seam_base.specs.Marks.{AreMarked, PassAlike, passes, marked, any_mark, least};
+
+use crate::part::BasePart;
+use seam_call::Update;
+use seam_defs::Defs;
+use seam_memory::NoMemoryFor;
+use seam_table::Table;
+use std::alloc::{AllocError, Global};
+use std::marker::Model;
+
+/// The base parts of a node by entity. Contracts see them as a finite map.
+///
+/// Marks find the least part with a ready call, and the least whose client has a ready update, without a search of all parts.
+#[derive(Drop)]
+pub struct Parts {
+    items: Table<BasePart>,
+    calls: Table<()>,
+    updates: Table<()>,
+}
+
+impl Model for Parts {
+    ghost use Rattle.std.specs.Coded.{codes};
+    ghost use Rattle.std.specs.FinMap as table;
+    ghost use Rattle.seam_steps.specs.Maps.{Map};
+    ghost use Rattle.seam_steps.specs.Bases.{PartView};
+
+    ghost Value = { Map PartView };
+
+    ghost coded = { Prim.hlevel (codes, table.code) };
+
+    ghost use Rattle.seam_base.specs.Nodes.{has_call, has_update};
+    ghost use Rattle.seam_base.specs.Marks.{AreMarked};
+
+    ghost view = { λ p. p.items.items };
+
+    ghost invariant = { λ p. AreMarked has_call p.calls.items p.items.items × AreMarked has_update p.updates.items p.items.items };
+}
+
+// Marks the entity, or takes the mark and its room.
+fn mark(marks: &mut Table<()>, e: u32, is_ready: bool)
+    requires { set.contains marks.old.room e ≡ true }
+    ensures { marks.new.items ≡ marked is_ready marks.old.items e tt }
+{
+    if is_ready {
+        let _old = marks.put_reserved(e, ());
+    } else {
+        let _old = marks.remove(e);
+    }
+}
+
+// The least entity that is marked.
+fn least_of(marks: &Table<()>) -> Option<u32>
+    ensures { result ≡ option_map number_of (find any_mark (table.entries marks.now.items)) }
+{
+    match marks.next_after(None) {
+        Some((e, _)) => Some(e),
+        None => None,
+    }
+}
+
+// Offers the update to the client of the entity's part, which is here.
+fn update_in(
+    items: &mut Table<BasePart>,
+    updates: &mut Table<()>,
+    update: Update,
+) -> Result<(), NoMemoryFor<Update>>
+    requires there { is_some (table.get items.old.items update.entity) ≡ true }
+    requires fits { stray_update update (table.get items.old.items update.entity) ≡ false }
+    requires marks { AreMarked has_update updates.old.items items.old.items }
+    ensures after { OnOk result (items.new.items ≡ changed_at (with_update update) items.old.items update.entity) }
+    ensures err { OnErr result (items.new.items ≡ items.old.items) }
+    ensures err_item { IfErr result (λ e. e.item ≡ update) }
+    ensures marks { AreMarked has_update updates.new.items items.new.items }
+    ensures others { PassAlike has_call items.old.items items.new.items }
+{
+    let e = update.entity;
+    if updates.reserve(e).is_err() {
+        return Err(NoMemoryFor { item: update });
+    }
+    let Some(mut part) = items.take(e) else {
+        unreachable!()
+    };
+    let done = part.offer_update(update);
+    mark(updates, e, part.is_client_ready());
+    let _none = items.put_reserved(e, part);
+    done
+}
+
+// Shows the client of the entity's part the ready update.
+fn show_in(items: &mut Table<BasePart>, updates: &mut Table<()>, e: u32) -> Result<(), AllocError>
+    requires may { passes may_be_shown (table.get items.old.items e) ≡ true }
+    requires marks { AreMarked has_update updates.old.items items.old.items }
+    ensures after { OnOk result (items.new.items ≡ changed_at with_shown items.old.items e) }
+    ensures err { OnErr result (items.new.items ≡ items.old.items) }
+    ensures marks { AreMarked has_update updates.new.items items.new.items }
+    ensures others { PassAlike has_call items.old.items items.new.items }
+{
+    updates.reserve(e)?;
+    let Some(mut part) = items.take(e) else {
+        unreachable!()
+    };
+    let done = part.show_next();
+    mark(updates, e, part.is_client_ready());
+    let _none = items.put_reserved(e, part);
+    done
+}
+
+// Gives the entity's part, which has no client, one.
+fn attach_in(
+    items: &mut Table<BasePart>,
+    alloc: Global,
+    defs: &Defs,
+    e: u32,
+) -> Result<(), AllocError>
+    requires { passes has_client (table.get items.old.items e) ≡ false }
+    ensures after { (me : ℕ) (settings : AllSettings) →
+        OnOk result (items.new.items ≡ changed_at (with_proxy (node_with defs.now me settings)) items.old.items e) }
+    ensures err { OnErr result (items.new.items ≡ items.old.items) }
+    ensures calls { PassAlike has_call items.old.items items.new.items }
+    ensures updates { PassAlike has_update items.old.items items.new.items }
+{
+    let Some(mut part) = items.take(e) else {
+        return Ok(());
+    };
+    let done = part.attach(alloc, defs);
+    let _none = items.put_reserved(e, part);
+    done
+}
+
+impl Parts {
+    /// No parts.
+    pub fn new(alloc: Global) -> Self
+        ensures { result ≡ table.empty }
+    {
+        Parts {
+            items: Table::new(alloc),
+            calls: Table::new(alloc),
+            updates: Table::new(alloc),
+        }
+    }
+
+    /// The entity's part, if it is here.
+    pub fn get(&self, e: u32) -> Option<&BasePart>
+        ensures { option_copied result ≡ table.get self.now e }
+    {
+        self.items.get(e)
+    }
+
+    /// Puts a part that is not ready for anything.
+    pub fn put_new(&mut self, e: u32, part: BasePart) -> Result<(), NoMemoryFor<BasePart>>
+        requires no_call { has_call part ≡ false }
+        requires no_update { has_update part ≡ false }
+        ensures after { OnOk result (self.new ≡ table.insert self.old e part) }
+        ensures err { OnErr result (self.new ≡ self.old) }
+    {
+        let _old = self.items.put(e, part)?;
+        self.calls.remove(e);
+        self.updates.remove(e);
+        Ok(())
+    }
+
+    /// The least entity whose part has a ready call.
+    pub fn least_call(&self) -> Option<u32>
+        ensures { result ≡ least has_call self.now }
+    {
+        least_of(&self.calls)
+    }
+
+    /// The least entity whose part's client has a ready update.
+    pub fn least_update(&self) -> Option<u32>
+        ensures { result ≡ least has_update self.now }
+    {
+        least_of(&self.updates)
+    }
+
+    /// Offers the update to the client, if there is one, of the entity's part, which is here.
+    pub fn offer_update(&mut self, update: Update) -> Result<(), NoMemoryFor<Update>>
+        requires there { is_some (table.get self.old update.entity) ≡ true }
+        requires fits { stray_update update (table.get self.old update.entity) ≡ false }
+        ensures after { OnOk result (self.new ≡ changed_at (with_update update) self.old update.entity) }
+
+        // If allocation fails, the update comes back and nothing has changed.
+        ensures err { OnErr result (self.new ≡ self.old) }
+        ensures err_item { IfErr result (λ e. e.item ≡ update) }
+    {
+        update_in(&mut self.items, &mut self.updates, update)
+    }
+
+    /// Shows the client of the entity's part the ready update.
+    pub fn show_next(&mut self, e: u32) -> Result<(), AllocError>
+        requires { passes may_be_shown (table.get self.old e) ≡ true }
+        ensures after { OnOk result (self.new ≡ changed_at with_shown self.old e) }
+        ensures err { OnErr result (self.new ≡ self.old) }
+    {
+        show_in(&mut self.items, &mut self.updates, e)
+    }
+
+    /// Gives the entity's part, if it is here, a client. It has none yet.
+    pub fn attach(&mut self, alloc: Global, defs: &Defs, e: u32) -> Result<(), AllocError>
+        requires { passes has_client (table.get self.old e) ≡ false }
+        ensures after { (me : ℕ) (settings : AllSettings) →
+            OnOk result (self.new ≡ changed_at (with_proxy (node_with defs.now me settings)) self.old e) }
+        ensures err { OnErr result (self.new ≡ self.old) }
+    {
+        attach_in(&mut self.items, alloc, defs, e)
+    }
+
+    /// Removes the entity's part.
+    pub fn remove(&mut self, e: u32)
+        ensures { self.new ≡ table.remove self.old e }
+    {
+        self.items.remove(e);
+        self.calls.remove(e);
+        self.updates.remove(e);
+    }
+}

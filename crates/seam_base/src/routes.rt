@@ -1,0 +1,41 @@
+//! The routes of a base node: the cell where each entity's real was when it had that generation.
+
+ghost use Rattle.std.specs.Prelude.{◌≡◌, option_map, option_copied, not};
+ghost use Rattle.std.specs.FinMap as table;
+ghost use Rattle.seam_steps.specs.BaseCases.{stray_current};
+ghost use Rattle.seam_base.specs.Routes.{gives_way as route_gives_way};
+
+use crate::fitting::is_small;
+use std::marker::Model;
+
+/// How many nodes may be cells.
+pub const CELLS: u8 = 16;
+
+/// Where an entity's real was when it had that generation.
+#[derive(Clone, Copy, Debug, PartialEq, Eq)]
+pub struct Route {
+    pub cell: u8,
+    pub generation: u64,
+}
+
+impl Model for Route {
+    ghost use Rattle.seam_steps.specs.Bases.{RouteView};
+
+    ghost Value = { RouteView };
+
+    ghost view = { λ r. record { cell = r.cell; generation = r.generation } };
+
+    ghost inverse = { λ v. record { cell = v.cell; generation = v.generation } };
+}
+
+/// Whether the route gives way to a new one: that is no stray one, and of a greater generation.
+pub fn gives_way(route: Option<&Route>, new: Route) -> bool
+    ensures { result ≡ route_gives_way (option_copied route.entry) new }
+{
+    match route {
+        Some(route) => {
+            new.cell < CELLS && (is_small(new.generation) && route.generation < new.generation)
+        }
+        None => false,
+    }
+}

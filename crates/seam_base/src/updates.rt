@@ -1,0 +1,186 @@
+//! Clients of base parts, and what they are told.
+
+ghost use Rattle.std.specs.Prelude.{◌≡◌, ◌<◌, ◌&&◌, ℕ, IfErr, OnOk, OnErr, true, false, option_map, Some, None, vec_len, vec_capacity};
+ghost use Rattle.std.specs.Ordering.{nat_cmp};
+ghost use Rattle.std.specs.List.{list_any};
+ghost use Rattle.seam_defs.specs.Groups.{in_group};
+ghost use Rattle.seam_defs.specs.Deeds.{properties_of};
+ghost use Rattle.seam_defs.specs.declared.flags.Group.TheVariants as group;
+ghost use Rattle.seam_defs.specs.declared.settings.Settings.{Settings as AllSettings};
+ghost use Rattle.seam_order.specs.Offers.{next_item};
+ghost use Rattle.seam_entity.specs.Calls.{may_offer};
+ghost use Rattle.seam_entity.specs.Numbers.{may_rise};
+ghost use Rattle.seam_entity.specs.Preparing.{node_with};
+ghost use Rattle.seam_steps.specs.Maps.{has_any};
+ghost use Rattle.seam_steps.specs.Loads.{with_proxy, part_begins, new_proxy as empty_proxy};
+ghost use Rattle.seam_steps.specs.BaseCases.{offered_update, shows_next, stray_proxy_update, proxy_is_ready, may_show};
+ghost use Rattle.seam_base.specs.Parts.{part_of, proxy_of, with_update, with_shown};
+
+use crate::calls::text_of;
+use crate::fitting::may_rise as number_may_rise;
+use crate::part::{BasePart, Proxy};
+use seam_call::{ClientText, Update};
+use seam_defs::{Defs, Group, Property, TypeDef};
+use seam_memory::NoMemoryFor;
+use seam_order::{InOrder, Offer};
+use std::alloc::{AllocError, Global};
+
+// Whether the client may be offered the update, and its line has a number.
+fn may_update(proxy: &Proxy, update: &Update) -> bool
+    ensures { result ≡ (may_offer proxy.now.updates update.now.number && may_rise proxy.now.last) }
+{
+    let n = update.number;
+    (n > 0 && (number_may_rise(n) && !proxy.updates.holds(n))) && number_may_rise(proxy.last)
+}
+
+// Offers the update to the client's order. In its turn it is shown.
+fn offer_update(proxy: &mut Proxy, update: Update) -> Result<(), NoMemoryFor<Update>>
+    requires may { may_offer proxy.old.updates update.number ≡ true }
+    requires small { may_rise proxy.old.last ≡ true }
+    ensures after { OnOk result (proxy_of proxy.new
+        ≡ offered_update (proxy_of proxy.old) update (nat_cmp update.number proxy.old.updates.next)) }
+    ensures err { OnErr result (proxy_of proxy.new ≡ proxy_of proxy.old) }
+    ensures err_item { IfErr result (λ e. e.item ≡ update) }
+{
+    if proxy.lines.reserve(1).is_err() {
+        return Err(NoMemoryFor { item: update });
+    }
+    let Update {
+        entity,
+        number,
+        shown,
+    } = update;
+    match proxy.updates.offer(number, shown) {
+        Ok(Offer::Next(shown)) => {
+            proxy.show(ClientText::Shown(shown));
+            return Ok(());
+        }
+        Ok(_) => return Ok(()),
+        Err(refused) => {
+            let shown = refused.item;
+            return Err(NoMemoryFor {
+                item: Update {
+                    entity,
+                    number,
+                    shown,
+                },
+            });
+        }
+    }
+}
+
+// Shows the update whose turn it is, if it has come.
+fn show_next(proxy: &mut Proxy) -> Result<(), AllocError>
+    requires small { may_rise proxy.old.last ≡ true }
+    ensures after { OnOk result (proxy_of proxy.new ≡ shows_next (proxy_of proxy.old) (next_item proxy.old.updates)) }
+    ensures err { OnErr result (proxy_of proxy.new ≡ proxy_of proxy.old) }
+{
+    proxy.lines.reserve(1)?;
+    let Some(shown) = proxy.updates.take_next() else {
+        return Ok(());
+    };
+    proxy.show(ClientText::Shown(shown));
+    Ok(())
+}
+
+// Whether one of the properties is for clients.
+fn is_any_for_clients(properties: &[Property]) -> bool
+    ensures { result ≡ list_any (λ p. in_group p.flag group.BaseClient) properties.now }
+{
+    properties
+        .iter()
+        .any(|property| property.flag.in_group(Group::BaseClient))
+}
+
+// Whether the type has something for clients.
+fn has_for_clients(t: &TypeDef) -> bool
+    ensures { result ≡ has_any (properties_of t.now.properties group.BaseClient) }
+{
+    is_any_for_clients(t.properties.as_slice())
+}
+
+// A client that was shown nothing.
+fn new_proxy(alloc: Global) -> Proxy
+    ensures { proxy_of result ≡ empty_proxy }
+{
+    Proxy {
+        updates: InOrder::new(alloc),
+        lines: Vec::new(alloc),
+        last: 0,
+    }
+}
+
+impl BasePart {
+    /// Whether the client, if there is one, may not be offered the update, or a further line would have no number.
+    pub fn refuses(&self, update: &Update) -> bool
+        ensures { result ≡ stray_proxy_update update.now self.now.proxy }
+    {
+        match &self.body.proxy {
+            Some(proxy) => !may_update(proxy, update),
+            None => false,
+        }
+    }
+
+    /// Whether the client has a ready update.
+    pub fn is_client_ready(&self) -> bool
+        ensures { result ≡ proxy_is_ready self.now.proxy }
+    {
+        match &self.body.proxy {
+            Some(proxy) => proxy.updates.is_ready(),
+            None => false,
+        }
+    }
+
+    /// Offers the update to the client, if there is one.
+    pub fn offer_update(&mut self, update: Update) -> Result<(), NoMemoryFor<Update>>
+        requires { stray_proxy_update update self.old.proxy ≡ false }
+        ensures after { OnOk result (self.new ≡ with_update update self.old) }
+
+        // If allocation fails, the update comes back and nothing has changed.
+        ensures err { OnErr result (self.new ≡ self.old) }
+        ensures err_item { IfErr result (λ e. e.item ≡ update) }
+    {
+        match &mut self.body.proxy {
+            Some(proxy) => return offer_update(proxy, update),
+            None => return Ok(()),
+        }
+    }
+
+    /// Shows the client, if there is one, the ready update.
+    pub fn show_next(&mut self) -> Result<(), AllocError>
+        requires { may_show self.old.proxy ≡ true }
+        ensures after { OnOk result (self.new ≡ with_shown self.old) }
+        ensures err { OnErr result (self.new ≡ self.old) }
+    {
+        match &mut self.body.proxy {
+            Some(proxy) => return show_next(proxy),
+            None => return Ok(()),
+        }
+    }
+
+    /// Gives the part a client, which is shown the part where its type has something for clients.
+    pub fn attach(&mut self, alloc: Global, defs: &Defs) -> Result<(), AllocError>
+        ensures after { (me : ℕ) (settings : AllSettings) → OnOk result (self.new ≡ with_proxy (node_with defs.now me settings) self.old) }
+        ensures err { OnErr result (self.new ≡ self.old) }
+    {
+        let t = defs.type_at(self.body.ty);
+        let text = text_of(t, self.body.version, &self.body.state, has_for_clients(t))?;
+        let mut proxy = new_proxy(alloc);
+        proxy.lines.reserve(1)?;
+        if let Some(text) = text {
+            proxy.show(text);
+        }
+        self.body.proxy = Some(proxy);
+        Ok(())
+    }
+
+    /// Begins a round, in which nothing was done and no line was shown yet.
+    pub fn start_round(&mut self)
+        ensures { self.new ≡ part_begins self.old }
+    {
+        self.body.done.clear();
+        if let Some(proxy) = &mut self.body.proxy {
+            proxy.lines.clear();
+        }
+    }
+}
