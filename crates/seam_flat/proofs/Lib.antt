@@ -1,4 +1,5 @@
 mod Writing
+mod Groups
 mod Parts
 mod Books
 mod Executing

@@ -1,5 +1,5 @@
 -- What a round's batch brings, beside the book.
-use Rattle.std.specs.Prelude.{◌≡◌, ℕ, List, [], ◌++◌, map, Option, Some, None}
+use Rattle.std.specs.Prelude.{◌≡◌, ◌==◌, ℕ, List, [], ◌++◌, map, find, Option, Some, None}
 use Rattle.std.specs.List.{filter_map}
 use Rattle.seam_call.specs.declared.call.Call.{Call}
 use Rattle.seam_call.specs.declared.create.Create.{Create}
@@ -35,3 +35,7 @@ with_creates b creates = record b { current = b.current ++ map entry.Created cre
 
 abbrev pub with_calls : Book → List Call → Book
 with_calls b calls = record b { current = b.current ++ map entry.Called calls }
+
+-- of each entity the first create is the same in both lists
+abbrev pub SameFirsts : List Create → List Create → Type 0
+SameFirsts xs ys = (e : ℕ) → find (λ c. c.entity == e) ys ≡ find (λ c. c.entity == e) xs
