@@ -2,6 +2,7 @@ mod Writing
 mod Groups
 mod Parts
 mod Books
+mod Orders
 mod Executing
 mod Creates
 mod Starts

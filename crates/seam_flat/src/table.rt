@@ -1,5 +1,5 @@
 // The table of all entities.
-ghost use Rattle.std.specs.Prelude.{◌≡◌, List, OnOk, IfOk, MatchOption};
+ghost use Rattle.std.specs.Prelude.{◌≡◌, ℕ, List, OnOk, IfOk, MatchOption};
 ghost use Rattle.seam_toml.specs.declared.header.Header.{Header as Headers};
 ghost use Rattle.seam_transcript.specs.Book.{Book, empty_book, with_entry, with_round_ended};
 ghost use Rattle.seam_transcript.specs.declared.verdict.Entry.TheVariants.{Created, Called};
@@ -7,6 +7,8 @@ ghost use Rattle.seam_transcript.specs.FlatTable.{first_state};
 ghost use Rattle.seam_flat.specs.Tables.{Holds, Refines, CallsTheMade, IsNew, TableExecutes, Keeps, Sorts, SortsDone};
 ghost use Rattle.seam_call.specs.declared.create.Create.{Create as Creates};
 ghost use Rattle.seam_flat.specs.Batches.{before_round, Brings, call_of, calls_of_orders, with_creates, with_calls, SameFirsts};
+ghost use Rattle.seam_flat.specs.Batches.{SameCalls, entity_of as entity_of_order};
+ghost use Rattle.seam_call.specs.declared.order.Order.{Order as Orders};
 
 use crate::{DoneCall, FlatEntity, FlatPart};
 use seam_call::{Batch, Call, Create, Order};
@@ -76,14 +78,14 @@ impl FlatTable {
         self.dob.clear();
     }
 
-    /// Makes the entities that a round's batch creates, and then executes its calls, in the order of the batch. If allocation
+    /// Makes the entities that a round's batch creates, and then executes its calls, those of each entity in the order of the batch. If allocation
     /// fails the table has no use.
     pub fn run(&mut self, batch: Batch) -> Result<(), AllocError>
         ensures { OnOk result ((h : Headers) (b : Book) → Refines h (before_round b) self.old → Brings b batch → CallsTheMade b
             → Refines h b self.new) }
     {
         self.make_in_order(batch.creates.into_vec())?;
-        self.execute_all(batch.orders.into_vec())?;
+        self.execute_in_order(batch.orders.into_vec())?;
         self.sort_done()
     }
 
@@ -104,6 +106,15 @@ impl FlatTable {
             self.make(*create)?;
         }
         Ok(())
+    }
+
+    // Executes the calls of orders in the order of their entities, so that each is found beside the one before it.
+    fn execute_in_order(&mut self, mut orders: Vec<(u8, Order)>) -> Result<(), AllocError>
+        ensures { OnOk result ((h : Headers) (b : Book) → Holds h b self.old → (sorted : List (ℕ × Orders))
+            × SameCalls (calls_of_orders orders.items) (calls_of_orders sorted) × Holds h (with_calls b (calls_of_orders sorted)) self.new) }
+    {
+        orders.sort_by_key(|order| entity_of(&order.1))?;
+        self.execute_all(orders)
     }
 
     // Executes the calls of orders, one after another.
@@ -196,6 +207,17 @@ impl FlatTable {
     {
         sort_by_entity(&mut self.did)?;
         sort_by_entity(&mut self.dob)
+    }
+}
+
+// The entity that an order is about.
+fn entity_of(order: &Order) -> u32
+    ensures { result ≡ entity_of_order order.now }
+{
+    match order {
+        Order::Cell(call) | Order::Base(call) => call.entity,
+        Order::Tick => 0,
+        Order::Reap(entity) => *entity,
     }
 }
 
