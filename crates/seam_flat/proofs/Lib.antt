@@ -1,6 +1,8 @@
 mod Writing
+mod Groups
 mod Parts
 mod Books
+mod Orders
 mod Executing
 mod Creates
 mod Starts

@@ -12,11 +12,9 @@ use Rattle.seam_flat.specs.Tables.{PartRefines, Executes}
 use Rattle.seam_flat.specs.declared.entity.FlatPart.{FlatPart}
 
 -- a part that executed one more call refines the order with it
-pub part_with_call : (h : Header) (p : Part) (c : Create) (order done : List Call) (call : Call) (old new : FlatPart)
-    → PartRefines h p c order done old → Executes h.defs c.ty call old new
-    → PartRefines h p c (order ++ call ∷ []) (done ++ call ∷ []) new
-part_with_call h p c order done call old new was step = record {
+pub part_with_call : (h : Header) (p : Part) (c : Create) (order : List Call) (call : Call) (old new : FlatPart)
+    → PartRefines h p c order old → Executes h.defs c.ty call old new → PartRefines h p c (order ++ call ∷ []) new
+part_with_call h p c order call old new was step = record {
   state = step.state ∙ ap (λ (s : State). after (type_of h.defs c.ty) s call.deed) was.state ∙ sym (flat_with_call h p c order call);
   version = step.version ∙ ap (λ (v : ℕ). v + 1) was.version ∙ sym (length-append order (call ∷ []));
-  done = step.done ∙ ap (λ (xs : List Call). xs ++ call ∷ []) was.done;
 }

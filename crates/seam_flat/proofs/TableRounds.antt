@@ -9,9 +9,11 @@ use Rattle.std.specs.Cmp.{nat_cmp_total}
 use Rattle.std.proofs.lemmas.Map.Views.{All-found, btree_map_get_iff}
 use Rattle.std.proofs.lemmas.Map.Lookups.{exact_unsigned}
 use Rattle.std.proofs.Math.ListN.{get_or-map}
-use Rattle.std.proofs.lemmas.List.{length-map}
+use Rattle.std.proofs.lemmas.List.{length-map, map-append}
+use Rattle.std.proofs.lemmas.Simd.{map-map}
 use Rattle.std.proofs.lemmas.Map.Keys.{IsStrictlyIncreasing-from_sorted}
 use Rattle.std.proofs.lemmas.List.Elements.{All-head, All-tail, All-cons, All-nil}
+use Rattle.seam_defs.specs.declared.flags.Part.{Part}
 use Rattle.seam_defs.specs.declared.flags.Part.TheVariants as part
 use Rattle.seam_defs.specs.declared.states.State.{State}
 use Rattle.seam_call.specs.declared.call.Call.{Call}
@@ -24,8 +26,10 @@ use Rattle.seam_transcript.specs.Standing.{Standing}
 use Rattle.seam_transcript.specs.Round.{HomeLine, BaseLine, RoundData, Lists, home_line, base_line}
 use Rattle.seam_transcript.specs.Round.{IsRound}
 use Rattle.seam_transcript.proofs.InOrderLemmas.{found_entity, round_in_order_is_legal}
-use Rattle.seam_flat.specs.Tables.{EntityRefines, Holds, Refines}
-use Rattle.seam_flat.specs.Rounds.{done_of, home_of, base_of, round_of}
+use Rattle.seam_flat.specs.Tables.{EntityRefines, Holds, Refines, done_by, of_entity, accepted_of}
+use Rattle.seam_flat.specs.Rounds.{line_of, home_of, base_of, round_of}
+use Rattle.seam_flat.specs.declared.entity.DoneCall.{DoneCall}
+use Rattle.seam_flat.proofs.Groups.{groups}
 use Rattle.seam_flat.specs.declared.entity.FlatEntity.{FlatEntity}
 use Rattle.seam_flat.specs.declared.table.FlatTable.{FlatTable}
 
@@ -123,12 +127,13 @@ lists_live h b t was = record {
 -- ---- the lines
 
 -- lines of the same entries, one after another
-same_lists : {X Y L : Type 0} (entries : List X) (g : X → Y) (f : Y → List L) (k : X → List L) → All (λ x. f (g x) ≡ k x) entries →
-    flat_map f (map g entries) ≡ flat_map k entries
-same_lists [] g f k same = refl
-same_lists {X} {Y} {L} (x ∷ xs) g f k same =
-    ap (λ (first : List L). first ++ flat_map f (map g xs)) (All-head (λ x. f (g x) ≡ k x) x xs same)
-    ∙ ap (λ (rest : List L). k x ++ rest) (same_lists xs g f k (All-tail (λ x. f (g x) ≡ k x) x xs same))
+same_lists : {X Y K L : Type 0} (entries : List X) (g : X → Y) (f : Y → List L) (k : X → List K) (line : K → L) →
+    All (λ x. f (g x) ≡ map line (k x)) entries → flat_map f (map g entries) ≡ map line (flat_map k entries)
+same_lists [] g f k line same = refl
+same_lists {X} {Y} {K} {L} (x ∷ xs) g f k line same =
+    ap (λ (first : List L). first ++ flat_map f (map g xs)) (All-head (λ x. f (g x) ≡ map line (k x)) x xs same)
+    ∙ ap (λ (rest : List L). map line (k x) ++ rest) (same_lists xs g f k line (All-tail (λ x. f (g x) ≡ map line (k x)) x xs same))
+    ∙ sym (map-append line (k x) (flat_map k xs))
 
 same_lines : {X Y L : Type 0} (entries : List X) (g : X → Y) (f : Y → L) (k : X → L) → All (λ x. f (g x) ≡ k x) entries →
     map f (map g entries) ≡ map k entries
@@ -137,22 +142,27 @@ same_lines {X} {Y} {L} (x ∷ xs) g f k same =
     ap (λ (first : L). first ∷ map f (map g xs)) (All-head (λ x. f (g x) ≡ k x) x xs same)
     ∙ ap (λ (rest : List L). k x ∷ rest) (same_lines xs g f k (All-tail (λ x. f (g x) ≡ k x) x xs same))
 
--- the calls that an entity's parts executed in the round
-did_is : (h : Header) (b : Book) (t : FlatTable) (x : ℕ × FlatEntity) → IsEntry h b t x
-    → map (λ c. record { ty = (made_as b x).ty; call = c }) (in_order b.current part.Cell (made_as b x).entity) ≡ done_of (λ v. v.cell) x
-did_is h b t x is =
-    ap (λ (e : ℕ). map (λ (c : Call). record { ty = (made_as b x).ty; call = c }) (in_order b.current part.Cell e))
-    (number_of_made h b t x is)
-    ∙ ap (λ (ty : ℕ). map (λ (c : Call). record { ty = ty; call = c }) (in_order b.current part.Cell x.0)) (type_of_made h b t x is)
-    ∙ ap (map (λ (c : Call). record { ty = x.1.ty; call = c })) (sym is.refines.cell.done)
+-- the calls that a part of an entity executed in the round
+lines_are : (h : Header) (b : Book) (t : FlatTable) (p : Part) (x : ℕ × FlatEntity) → Holds h b t → IsEntry h b t x
+    → map (λ c. record { ty = (made_as b x).ty; call = c }) (in_order b.current p (made_as b x).entity)
+    ≡ map line_of (of_entity x.0 (done_by p t))
+lines_are h b t p x was is =
+    ap (λ (e : ℕ). map (λ (c : Call). record { ty = (made_as b x).ty; call = c }) (in_order b.current p e)) (number_of_made h b t x is)
+    ∙ ap (λ (ty : ℕ). map (λ (c : Call). record { ty = ty; call = c }) (in_order b.current p x.0)) (type_of_made h b t x is)
+    ∙ sym (map-map line_of (λ (c : Call). record { ty = x.1.ty; call = c }) (in_order b.current p x.0))
+    ∙ ap (map line_of) (sym (was.done p x.0 ∙ ap (accepted_of b p x.0) is.found))
 
-dob_is : (h : Header) (b : Book) (t : FlatTable) (x : ℕ × FlatEntity) → IsEntry h b t x
-    → map (λ c. record { ty = (made_as b x).ty; call = c }) (in_order b.current part.Base (made_as b x).entity) ≡ done_of (λ v. v.base) x
-dob_is h b t x is =
-    ap (λ (e : ℕ). map (λ (c : Call). record { ty = (made_as b x).ty; call = c }) (in_order b.current part.Base e))
-    (number_of_made h b t x is)
-    ∙ ap (λ (ty : ℕ). map (λ (c : Call). record { ty = ty; call = c }) (in_order b.current part.Base x.0)) (type_of_made h b t x is)
-    ∙ ap (map (λ (c : Call). record { ty = x.1.ty; call = c })) (sym is.refines.base.done)
+-- and those of all entities
+all_lines_are : (h : Header) (b : Book) (t : FlatTable) (p : Part) → Refines h b t
+    → flat_map (λ c. map (λ y. record { ty = c.ty; call = y }) (in_order b.current p c.entity)) (live_of b t.entities.entries)
+    ≡ map line_of (done_by p t)
+all_lines_are h b t p was =
+    let xs = t.entities.entries in
+    same_lists xs (made_as b) (λ c. map (λ y. record { ty = c.ty; call = y }) (in_order b.current p c.entity))
+    (λ x. of_entity x.0 (done_by p t)) line_of
+    (λ k d within. lines_are h b t p _ was.holds (entries_are h b t was.holds k d within))
+    ∙ ap (map line_of) (sym (groups (λ (d : DoneCall). d.call.entity) xs was.holds.ordered (done_by p t) (was.by_entity p)
+    (λ e none. was.holds.done p e ∙ ap (accepted_of b p e) none)))
 
 same_home : (a b : HomeLine) → a.entity ≡ b.entity → a.ty ≡ b.ty → a.cell ≡ b.cell → a.version ≡ b.version → a.state ≡ b.state → a ≡ b
 same_home a b entity ty cell version state =
@@ -187,17 +197,14 @@ base_is h b t x is =
 same_data : (r u : RoundData) → r.number ≡ u.number → r.did ≡ u.did → r.dob ≡ u.dob → r.homes ≡ u.homes → r.bases ≡ u.bases → r ≡ u
 same_data r u number did dob homes bases = λ i. record { number = number i; did = did i; dob = dob i; homes = homes i; bases = bases i }
 
--- the round of the table's entities is that of the book
-round_is : (h : Header) (b : Book) (t : FlatTable) (number : ℕ) → Holds h b t →
-    round_in_order h number b (live_of b t.entities.entries) ≡ round_of number t.entities.entries
+-- the round of the table is that of the book
+round_is : (h : Header) (b : Book) (t : FlatTable) (number : ℕ) → Refines h b t →
+    round_in_order h number b (live_of b t.entities.entries) ≡ round_of number t
 round_is h b t number was =
     let xs = t.entities.entries in
-    let all : All (IsEntry h b t) xs = entries_are h b t was in
-    same_data (round_in_order h number b (live_of b xs)) (round_of number xs) refl
-    (same_lists xs (made_as b) (λ c. map (λ y. record { ty = c.ty; call = y }) (in_order b.current part.Cell c.entity))
-    (done_of (λ v. v.cell)) (λ k d within. did_is h b t _ (all k d within)))
-    (same_lists xs (made_as b) (λ c. map (λ y. record { ty = c.ty; call = y }) (in_order b.current part.Base c.entity))
-    (done_of (λ v. v.base)) (λ k d within. dob_is h b t _ (all k d within)))
+    let all : All (IsEntry h b t) xs = entries_are h b t was.holds in
+    same_data (round_in_order h number b (live_of b xs)) (round_of number t) refl (all_lines_are h b t part.Cell was)
+    (all_lines_are h b t part.Base was)
     (same_lines xs (made_as b) (λ c. home_line h (in_order (entries_of b) part.Cell c.entity) c) home_of
     (λ k d within. home_is h b t _ (all k d within)))
     (same_lines xs (made_as b) (λ c. base_line h (in_order (entries_of b) part.Base c.entity) c) base_of
@@ -205,7 +212,7 @@ round_is h b t number was =
 
 -- What the table prints is a legal round, after rounds in which all calls were executed as they were accepted.
 pub table_round : (h : Header) (s : Standing) (t : FlatTable) → Refines h s.book t → s.orders ≡ in_order s.book.past
-    → IsRound h s (round_of (s.rounds + 1) t.entities.entries) (after_round s)
+    → IsRound h s (round_of (s.rounds + 1) t) (after_round s)
 table_round h s t was orders =
-    subst (λ (r : RoundData). IsRound h s r (after_round s)) (round_is h s.book t (s.rounds + 1) was.holds)
+    subst (λ (r : RoundData). IsRound h s r (after_round s)) (round_is h s.book t (s.rounds + 1) was)
     (round_in_order_is_legal h s (live_of s.book t.entities.entries) (lists_live h s.book t was.holds) orders)

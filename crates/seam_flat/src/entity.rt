@@ -1,17 +1,16 @@
-// The parts of an entity.
-ghost use Rattle.std.specs.Prelude.{◌≡◌, [], OnOk};
-ghost use Rattle.seam_flat.specs.Tables.{Executes, EntityExecutes, ForgetsDone, StartsRound};
+// The parts of an entity, and the calls that they executed.
+ghost use Rattle.std.specs.Prelude.{◌≡◌, OnOk};
+ghost use Rattle.seam_flat.specs.Tables.{Executes, EntityExecutes};
 
 use seam_call::Call;
 use seam_defs::{Defs, Part, State};
-use std::alloc::{AllocError, Global};
+use std::alloc::AllocError;
 
-/// One part of an entity: its state, how many calls it executed, and those that it executed in the last round.
+/// One part of an entity: its state, and how many calls it executed.
 #[derive(Drop)]
 pub struct FlatPart {
     pub state: State,
     pub version: u64,
-    pub done: Vec<Call>,
 }
 
 /// An entity of this type.
@@ -22,54 +21,41 @@ pub struct FlatEntity {
     pub base: FlatPart,
 }
 
+/// A call that was executed, with the type of its entity.
+#[derive(Drop)]
+pub struct DoneCall {
+    pub ty: u16,
+    pub call: Call,
+}
+
 impl FlatPart {
-    pub(crate) fn new(alloc: Global, state: State) -> Self
+    pub(crate) fn new(state: State) -> Self
         ensures state { result.state ≡ state }
         ensures version { result.version ≡ 0 }
-        ensures done { result.done.items ≡ [] }
     {
-        FlatPart {
-            state,
-            version: 0,
-            done: Vec::new(alloc),
-        }
+        FlatPart { state, version: 0 }
     }
 
     // Executes a call to an entity of this type.
-    fn execute(&mut self, defs: &Defs, ty: u16, call: Call) -> Result<(), AllocError>
-        ensures { OnOk result (Executes defs.now ty call self.old self.new) }
+    fn execute(&mut self, defs: &Defs, ty: u16, call: &Call) -> Result<(), AllocError>
+        ensures { OnOk result (Executes defs.now ty call.now self.old self.new) }
     {
         // No input is long enough for a version at its type's end.
         let version = self.version.checked_add(1).ok_or(AllocError)?;
         let _changed = defs.type_at(ty).apply(&mut self.state, &call.deed)?;
-        self.done.push(call)?;
         self.version = version;
         Ok(())
-    }
-
-    // Forgets the calls of the last round, and gives their room back.
-    fn start_round(&mut self, alloc: Global)
-        ensures { ForgetsDone self.old self.new }
-    {
-        self.done = Vec::new(alloc);
     }
 }
 
 impl FlatEntity {
     // Executes a call on the part that it is for.
-    pub(crate) fn execute(&mut self, defs: &Defs, call: Call) -> Result<(), AllocError>
-        ensures { OnOk result (EntityExecutes defs.now call self.old self.new) }
+    pub(crate) fn execute(&mut self, defs: &Defs, call: &Call) -> Result<(), AllocError>
+        ensures { OnOk result (EntityExecutes defs.now call.now self.old self.new) }
     {
         match call.part {
             Part::Cell => self.cell.execute(defs, self.ty, call),
             Part::Base => self.base.execute(defs, self.ty, call),
         }
-    }
-
-    pub(crate) fn start_round(&mut self, alloc: Global)
-        ensures { StartsRound self.old self.new }
-    {
-        self.cell.start_round(alloc);
-        self.base.start_round(alloc);
     }
 }

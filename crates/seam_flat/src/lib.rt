@@ -8,5 +8,5 @@
 mod entity;
 mod table;
 
-pub use entity::{FlatEntity, FlatPart};
+pub use entity::{DoneCall, FlatEntity, FlatPart};
 pub use table::FlatTable;

@@ -1,25 +1,31 @@
 // The table of all entities.
-ghost use Rattle.std.specs.Prelude.{◌≡◌, ℕ, OnOk, IfOk, MatchOption};
+ghost use Rattle.std.specs.Prelude.{◌≡◌, ℕ, List, OnOk, IfOk, MatchOption};
 ghost use Rattle.seam_toml.specs.declared.header.Header.{Header as Headers};
 ghost use Rattle.seam_transcript.specs.Book.{Book, empty_book, with_entry, with_round_ended};
 ghost use Rattle.seam_transcript.specs.declared.verdict.Entry.TheVariants.{Created, Called};
 ghost use Rattle.seam_transcript.specs.FlatTable.{first_state};
-ghost use Rattle.seam_flat.specs.Tables.{Holds, Refines, CallsTheMade, IsNew, TableExecutes};
-ghost use Rattle.seam_flat.specs.Batches.{before_round, Brings, call_of, calls_of_orders, with_creates, with_calls};
+ghost use Rattle.seam_flat.specs.Tables.{Holds, Refines, CallsTheMade, IsNew, TableExecutes, Keeps, Sorts, SortsDone};
+ghost use Rattle.seam_call.specs.declared.create.Create.{Create as Creates};
+ghost use Rattle.seam_flat.specs.Batches.{before_round, Brings, call_of, calls_of_orders, with_creates, with_calls, SameFirsts};
+ghost use Rattle.seam_flat.specs.Batches.{SameCalls, entity_of as entity_of_order};
+ghost use Rattle.seam_call.specs.declared.order.Order.{Order as Orders};
 
-use crate::{FlatEntity, FlatPart};
+use crate::{DoneCall, FlatEntity, FlatPart};
 use seam_call::{Batch, Call, Create, Order};
 use seam_defs::{Defs, Part, State};
 use seam_transcript::Header;
 use std::alloc::{AllocError, Global};
 use std::collections::BTreeMap;
 
-/// The entities of a world, by their numbers.
+/// The entities of a world, by their numbers, and the calls that they executed in the open round.
 #[derive(Drop)]
 pub struct FlatTable {
     alloc: Global,
     header: Header,
     entities: BTreeMap<u32, FlatEntity>,
+    // those of cell parts and of base parts, in rising number of the entities once the round has run
+    did: Vec<DoneCall>,
+    dob: Vec<DoneCall>,
 }
 
 impl FlatTable {
@@ -31,6 +37,8 @@ impl FlatTable {
             alloc,
             header,
             entities: BTreeMap::new(alloc),
+            did: Vec::new(alloc),
+            dob: Vec::new(alloc),
         }
     }
 
@@ -48,26 +56,46 @@ impl FlatTable {
         &self.entities
     }
 
+    /// The calls that cell parts executed in the round, in rising number of the entities.
+    pub fn did(&self) -> &[DoneCall]
+        ensures { result.now ≡ self.now.did.items }
+    {
+        &self.did
+    }
+
+    /// The calls that base parts executed in the round, in rising number of the entities.
+    pub fn dob(&self) -> &[DoneCall]
+        ensures { result.now ≡ self.now.dob.items }
+    {
+        &self.dob
+    }
+
     /// Begins a round, in which no call was executed yet.
     pub fn start_round(&mut self)
         ensures { (h : Headers) (b : Book) → Refines h b self.old → Refines h (with_round_ended b) self.new }
     {
-        let alloc = self.alloc;
-        // Each stays: of the walks over a map's values this one tells its contract what was written.
-        self.entities.retain(|_, entity| {
-            entity.start_round(alloc);
-            true
-        });
+        self.did.clear();
+        self.dob.clear();
     }
 
-    /// Makes the entities that a round's batch creates, and then executes its calls, in the order of the batch. If allocation
+    /// Makes the entities that a round's batch creates, and then executes its calls, those of each entity in the order of the batch. If allocation
     /// fails the table has no use.
     pub fn run(&mut self, batch: Batch) -> Result<(), AllocError>
         ensures { OnOk result ((h : Headers) (b : Book) → Refines h (before_round b) self.old → Brings b batch → CallsTheMade b
             → Refines h b self.new) }
     {
-        self.make_all(batch.creates.as_slice())?;
-        self.execute_all(batch.orders.into_vec())
+        self.make_in_order(batch.creates.into_vec())?;
+        self.execute_in_order(batch.orders.into_vec())?;
+        self.sort_done()
+    }
+
+    // Makes entities, in rising number, so that those that are printed one after another lie side by side.
+    fn make_in_order(&mut self, mut creates: Vec<Create>) -> Result<(), AllocError>
+        ensures { OnOk result ((h : Headers) (b : Book) → Refines h b self.old → (sorted : List Creates)
+            × SameFirsts creates.items sorted × Refines h (with_creates b sorted) self.new) }
+    {
+        creates.sort_by_key(|create| create.entity)?;
+        self.make_all(&creates)
     }
 
     // Makes entities, one after another.
@@ -78,6 +106,15 @@ impl FlatTable {
             self.make(*create)?;
         }
         Ok(())
+    }
+
+    // Executes the calls of orders in the order of their entities, so that each is found beside the one before it.
+    fn execute_in_order(&mut self, mut orders: Vec<(u8, Order)>) -> Result<(), AllocError>
+        ensures { OnOk result ((h : Headers) (b : Book) → Holds h b self.old → (sorted : List (ℕ × Orders))
+            × SameCalls (calls_of_orders orders.items) (calls_of_orders sorted) × Holds h (with_calls b (calls_of_orders sorted)) self.new) }
+    {
+        orders.sort_by_key(|order| entity_of(&order.1))?;
+        self.execute_all(orders)
     }
 
     // Executes the calls of orders, one after another.
@@ -122,8 +159,8 @@ impl FlatTable {
         let base = self.start_state(create, Part::Base)?;
         Ok(FlatEntity {
             ty: create.ty,
-            cell: FlatPart::new(self.alloc, cell),
-            base: FlatPart::new(self.alloc, base),
+            cell: FlatPart::new(cell),
+            base: FlatPart::new(base),
         })
     }
 
@@ -141,13 +178,52 @@ impl FlatTable {
         })
     }
 
-    // Executes a call of an entity that is there.
+    // Executes a call of an entity that is there, and keeps it.
     fn execute(&mut self, call: Call) -> Result<(), AllocError>
         ensures { OnOk result (TableExecutes call self.old self.new) }
     {
-        if let Some(entity) = self.entities.get_mut(&call.entity) {
-            entity.execute(&self.header.defs, call)?;
+        let Some(entity) = self.entities.get_mut(&call.entity) else {
+            return Ok(());
+        };
+        entity.execute(&self.header.defs, &call)?;
+        let ty = entity.ty;
+        self.keep(DoneCall { ty, call })
+    }
+
+    // Keeps a call that was executed.
+    fn keep(&mut self, done: DoneCall) -> Result<(), AllocError>
+        ensures { OnOk result (Keeps done self.old self.new) }
+    {
+        match done.call.part {
+            Part::Cell => self.did.push(done)?,
+            Part::Base => self.dob.push(done)?,
         }
         Ok(())
     }
+
+    // Brings the executed calls into the order of their entities.
+    fn sort_done(&mut self) -> Result<(), AllocError>
+        ensures { OnOk result (SortsDone self.old self.new) }
+    {
+        sort_by_entity(&mut self.did)?;
+        sort_by_entity(&mut self.dob)
+    }
+}
+
+// The entity that an order is about.
+fn entity_of(order: &Order) -> u32
+    ensures { result ≡ entity_of_order order.now }
+{
+    match order {
+        Order::Cell(call) | Order::Base(call) => call.entity,
+        Order::Tick => 0,
+        Order::Reap(entity) => *entity,
+    }
+}
+
+// Brings calls into the order of their entities, those of one entity in the order in which they are.
+fn sort_by_entity(done: &mut Vec<DoneCall>) -> Result<(), AllocError>
+    ensures { OnOk result (Sorts done.old.items done.new.items) }
+{
+    done.sort_by_key(|done| done.call.entity)
 }

@@ -37,16 +37,16 @@ script_begins h count s line round book table = record {
 pub round_ended : (h : Header) (t : Standing) (old new : Script) (ran : FlatTable) → IsReady h t old → HoldsRounds h t.book ran
     → new.round ≡ old.round + 1 → new.line ≡ old.line → HoldsBook h (with_round_ended t.book) new.book →
     HoldsRounds h (with_round_ended t.book) new.table
-    → RoundEnds h t (λ s. ScriptRefines h s new) (round_text ran.header.defs (round_of new.round ran.entities.entries))
+    → RoundEnds h t (λ s. ScriptRefines h s new) (round_text ran.header.defs (round_of new.round ran))
 round_ended h t old new ran ready holds round line book table =
     let number : new.round ≡ t.rounds + 1 = round ∙ ap (λ (n : ℕ). n + 1) ready.round in
     record {
-      round = round_of (t.rounds + 1) ran.entities.entries;
+      round = round_of (t.rounds + 1) ran;
       legal = table_round h t ran holds ready.orders;
       whole =
-          ap (λ (ds : List TypeDef). round_text ds (round_of new.round ran.entities.entries)) (ap (λ
+          ap (λ (ds : List TypeDef). round_text ds (round_of new.round ran)) (ap (λ
           (k : Header). k.defs) holds.holds.header)
-          ∙ ap (λ (n : ℕ). round_text h.defs (round_of n ran.entities.entries)) number;
+          ∙ ap (λ (n : ℕ). round_text h.defs (round_of n ran)) number;
       after = record {
         ready = record { book = book; table = table; orders = refl; line = line ∙ ready.line; round = number };
         below_most = omega arith;

@@ -17,5 +17,5 @@ pub returns : goal.returns
 returns c = λ h b was.
     let t = c.args.self.now in
     let none : get nat_cmp t.entities c.args.create.entity ≡ None = none_where_not_some _ c.if-contains_key.ensures in
-    created_refines h b t c.args.create _ c.insert.new.self was (new_in_book h b t c.args.create.entity was none)
+    created_refines h b t c.args.create _ c.insert.new.self was (new_in_book h b t c.args.create.entity was none) none
     (λ p e. in_order_of_append b.past b.current p e) c.in_ok-made.ensures c.in_ok-insert.ensures.updates c.insert.ensures.ordered
