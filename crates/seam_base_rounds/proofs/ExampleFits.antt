@@ -9,6 +9,7 @@ use Rattle.seam_tree.specs.Division.{area, IsTree}
 use Rattle.seam_geo.specs.Rect.{IsProper}
 use Rattle.seam_defs.specs.Builtin.{builtin}
 use Rattle.seam_defs.specs.Settings.{standard}
+use Rattle.seam_ghosts.specs.Book.{copy_in}
 use Rattle.seam_machine.specs.Sends.{items_to}
 use Rattle.seam_flows.specs.Flows.{letters_of}
 use Rattle.seam_delivery.specs.Numbered.{number_from}
@@ -249,6 +250,7 @@ for_part = record {
 
 brings : FitsParts opening empty_world first_batch
 brings = record {
+  numbers = (omega arith, tt);
   calls = λ e p at.
       let two = is_its e (home_of opening e) p
       (ap (λ w. ((entity_flow e w).slot (home_of opening e)).base.part) (sym load_alone) ∙ at) in
@@ -259,7 +261,12 @@ brings = record {
 pub may_be_loaded : MayBeLoaded opening empty_world first_batch
 may_be_loaded = record {
   between = between;
-  parts = record { parts = λ e k r at. absurd (no_real e k r at); clients = λ e k r at. absurd (no_real e k r at) };
+  parts = record {
+    parts = λ e k r at. absurd (no_real e k r at);
+    clients = λ e k r at. absurd (no_real e k r at);
+    entities = λ e le k. record { real = ap real_in (is_new e k); copy = ap (λ h. copy_in h.cell.slot.ghost) (is_new e k) };
+    views = λ e k r at. absurd (no_real e k r at);
+  };
   fits = fits;
   brings = brings;
 }

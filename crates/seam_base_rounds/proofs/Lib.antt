@@ -4,6 +4,7 @@ pub mod Loaded
 pub mod Turns
 pub mod Serving
 pub mod Attaching
+pub mod Ticking
 pub mod Going
 pub mod CallsEnd
 pub mod Still

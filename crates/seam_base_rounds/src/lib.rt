@@ -5,12 +5,13 @@
 //! between rounds and the fitting batch of `seam_between`; *MayBeLoaded* is both. These laws speak of each entity of the loaded world,
 //! whether it was there before or the batch creates it, and whether it has a client or not.
 //!
-//! Of a client the record says that it is in step with its entity's witness: all that the witness told was shown, and nothing is on its way.
-//! What a witness tells in a phase of a round is bounded by a premise (*TellsFew*).
+//! Of a client the record says that it is in step with its entity's witness: all that the witness told was shown, and nothing is on its
+//! way. Its numbers have room by what `seam_looks` says of what a witness tells: the record says that entities have numbers below a bound.
 //!
 //! Of `proofs/`, `PartLoads` (what a load makes of a base part at a node), `Joining` and `Attaching` (of a witness and of a client),
-//! `Loaded` (and in the world), `Turns` (its calls), `Serving` (a client over a list of events), `Going` (every list of events), `CallsEnd`
-//! (a quiet world after them), `Still` (a part that no one calls), `Idling` and `Calms` (reaps and looks) are for callers.
+//! `Loaded` (and in the world), `Turns` (its calls), `Serving` (a client over a list of events), `Ticking` (how much it is told), `Going`
+//! (every list of events), `CallsEnd` (a quiet world after them), `Still` (a part that no one calls), `Idling` and `Calms` (reaps and
+//! looks) are for callers.
 #![tactic(auto)]
 
 ghost use Rattle.std.specs.Prelude.{◌≡◌, ℕ, ◌≤◌, List, Some};
@@ -35,7 +36,7 @@ ghost use Rattle.seam_rounds.specs.Rounds.{first_frame, AreReapable};
 ghost use Rattle.seam_base_calls.specs.BaseTurns.{home_of, HasBaseCalls, HasNoClient};
 ghost use Rattle.seam_base_calls.specs.Strays.{HasRoutes, NothingIsStray};
 ghost use Rattle.seam_base_rounds.specs.Parts.{next_to, base_calls_of, HasSettledPart, HasPartsBetweenRounds, MayBeLoaded, IsAlone};
-ghost use Rattle.seam_base_rounds.specs.Parts.{TellsFew, HasSmallNumbers};
+ghost use Rattle.seam_base_rounds.specs.Parts.{HasSmallNumbers};
 ghost use Rattle.seam_base_rounds.specs.Example.{opening, first_batch};
 
 /// Each entity of a loaded world has its base part, of its type, at its base node. The batch's calls to it are in turn, numbered from each
@@ -53,17 +54,17 @@ pub fn a_base_part_of_a_loaded_world_is_ready()
     ensures alone { (w : World) (b : Batch) (e : ℕ) → IsAlone e w b → HasNoClient e (loaded w b) }
 {}
 
-/// So each call of the batch to a base part waits once, until it is executed, over every list of events in which its witness, if it has one,
-/// tells few updates; where the world is quiet again, all were executed, each sender's in the order of their numbers.
+/// So each call of the batch to a base part waits once, until it is executed, over every list of events, whether there is a client or not;
+/// where the world is quiet again, all were executed, each sender's in the order of their numbers.
 pub fn base_calls_of_a_batch_are_executed_once()
     ensures once { (f : Frame) (w : World) (b : Batch) → MayBeLoaded f w b → (e k : ℕ) (r : RealView) →
         real_in ((entity_flow e (loaded w b)).slot k) ≡ Some r → (p : PartView) →
         ((entity_flow e (loaded w b)).slot (home_of f e)).base.part ≡ Some p → (v : World) (es : List Event) →
-        LeadsTo node_has_work node_steps (loaded w b) es v → TellsFew e r v →
+        LeadsTo node_has_work node_steps (loaded w b) es v →
         HasBaseCalls (framed f b) e r.ty (λ s. next_to s p) (base_calls_of b e) v }
     ensures executed { (f : Frame) (w : World) (b : Batch) → MayBeLoaded f w b → (e k : ℕ) (r : RealView) →
         real_in ((entity_flow e (loaded w b)).slot k) ≡ Some r → (v : World) (es : List Event) →
-        LeadsTo node_has_work node_steps (loaded w b) es v → TellsFew e r v → IsQuiet node_has_work v →
+        LeadsTo node_has_work node_steps (loaded w b) es v → IsQuiet node_has_work v →
         (j : ℕ) (q : PartView) → ((entity_flow e v).slot j).base.part ≡ Some q → (s : ℕ) →
         letters_of (from_sender s) q.done ≡ base_calls_of b e s }
 {}
@@ -72,7 +73,7 @@ pub fn base_calls_of_a_batch_are_executed_once()
 pub fn nothing_about_a_loaded_entity_is_stray_at_a_base_node()
     ensures { (f : Frame) (w : World) (b : Batch) → MayBeLoaded f w b → (e k : ℕ) (r : RealView) →
         real_in ((entity_flow e (loaded w b)).slot k) ≡ Some r → (v : World) (es : List Event) →
-        LeadsTo node_has_work node_steps (loaded w b) es v → TellsFew e r v →
+        LeadsTo node_has_work node_steps (loaded w b) es v →
         NothingIsStray (framed f b) e v }
 {}
 
@@ -83,14 +84,13 @@ pub fn base_parts_go_from_record_to_record()
         HasPartsBetweenRounds (first_frame defs settings) (opened defs settings) }
     ensures calls { (f : Frame) (w : World) (b : Batch) → MayBeLoaded f w b → (v : World) (es : List Event) →
         LeadsTo node_has_work node_steps (loaded w b) es v → IsQuiet node_has_work v →
-        ((e k : ℕ) (r : RealView) → real_in ((entity_flow e (loaded w b)).slot k) ≡ Some r → TellsFew e r v) →
         HasPartsBetweenRounds (framed f b) v × HasSmallNumbers (framed f b) v }
     ensures reaps { (f : Frame) (u : World) → IsBetweenRounds f u → HasPartsBetweenRounds f u → HasSmallNumbers f u → (es : List ℕ) →
         AreReapable u es → (vs : List Event) (v : World) → LeadsTo node_has_work node_steps (reaps_loaded u es) vs v →
         IsQuiet node_has_work v → HasPartsBetweenRounds f v × HasSmallNumbers f v }
     ensures looks { (f : Frame) (u : World) → IsBetweenRounds f u → HasPartsBetweenRounds f u → HasSmallNumbers f u →
         (vs : List Event) (v : World) → LeadsTo node_has_work node_steps (look_loaded u) vs v → IsQuiet node_has_work v →
-        ((e k : ℕ) (r : RealView) → real_in ((entity_flow e u).slot k) ≡ Some r → TellsFew e r v) → HasPartsBetweenRounds f v }
+        HasPartsBetweenRounds f v }
 {}
 
 /// What these laws ask is true of a world as it is opened, with the built-in definitions, and a batch that creates an entity whose base
