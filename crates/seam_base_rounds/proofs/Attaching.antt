@@ -69,7 +69,7 @@ neither w x version no_witness no_client =
 abbrev pub real_if : Bool → Here → RealView → RealView
 real_if b h q = cond b (with_witness h q) q
 
-abbrev part_if : Bool → Here → PartView → PartView
+abbrev pub part_if : Bool → Here → PartView → PartView
 part_if b h p = cond b (with_proxy h p) p
 
 join_for : (b : Bool) (g h : Here) (q : RealView) (p : PartView) → AreFor q.witness p.proxy p.version →
@@ -84,7 +84,7 @@ real_from true h (Some q) r is = (q, refl, (let z = is in cc))
 real_from false h None r is = absurd (let z = is in cc)
 real_from false h (Some q) r is = (q, refl, (let z = is in cc))
 
-part_from : (b : Bool) (h : Here) (o : Option PartView) (p : PartView) → joined_if b (with_proxy h) o ≡ Some p →
+pub part_from : (b : Bool) (h : Here) (o : Option PartView) (p : PartView) → joined_if b (with_proxy h) o ≡ Some p →
     (q : PartView) × (o ≡ Some q) × (part_if b h q ≡ p)
 part_from true h None p is = absurd (let z = is in cc)
 part_from true h (Some q) p is = (q, refl, (let z = is in cc))
@@ -114,14 +114,14 @@ module _ (f : Frame) (w : World) (b : Batch) (between : IsBetweenRounds f w) (fi
   slot_there k o at = slot_is w b e k ∙ ap (λ x. slot_at (has_of e) has_none (option_map (node_loaded b) x)) at
 
   -- the node of a real, and the real before clients were attached
-  record RealFrom (k : ℕ) (r : RealView) : Type 0 where
-    node : NodeView
-    there : slice_get w.nodes k ≡ Some node
-    real : RealView
-    was : real_at e (peopled b node) ≡ Some real
-    is : real_begins (real_if joins (here_at f k) real) ≡ r
+  pub record RealFrom (k : ℕ) (r : RealView) : Type 0 where
+    pub node : NodeView
+    pub there : slice_get w.nodes k ≡ Some node
+    pub real : RealView
+    pub was : real_at e (peopled b node) ≡ Some real
+    pub is : real_begins (real_if joins (here_at f k) real) ≡ r
 
-  real_there : (k : ℕ) (r : RealView) (o : Option NodeView) → slice_get w.nodes k ≡ o → real_in (then k) ≡ Some r → RealFrom k r
+  pub real_there : (k : ℕ) (r : RealView) (o : Option NodeView) → slice_get w.nodes k ≡ o → real_in (then k) ≡ Some r → RealFrom k r
   real_there k r None at has = absurd (let z = sym (ap real_in (slot_there k None at)) ∙ has in cc)
   real_there k r (Some s) at has =
       let q =
@@ -130,14 +130,14 @@ module _ (f : Frame) (w : World) (b : Batch) (between : IsBetweenRounds f w) (fi
       record { node = s; there = at; real = q.0; was = q.1; is = q.2 }
 
   -- the node of a part, and the part before clients were attached
-  record PartFrom (k : ℕ) (p : PartView) : Type 0 where
-    node : NodeView
-    there : slice_get w.nodes k ≡ Some node
-    part : PartView
-    was : part_at e (peopled b node) ≡ Some part
-    is : part_if joins (here_at f k) part ≡ p
+  pub record PartFrom (k : ℕ) (p : PartView) : Type 0 where
+    pub node : NodeView
+    pub there : slice_get w.nodes k ≡ Some node
+    pub part : PartView
+    pub was : part_at e (peopled b node) ≡ Some part
+    pub is : part_if joins (here_at f k) part ≡ p
 
-  part_there : (k : ℕ) (p : PartView) (o : Option NodeView) → slice_get w.nodes k ≡ o → (then k).base.part ≡ Some p → PartFrom k p
+  pub part_there : (k : ℕ) (p : PartView) (o : Option NodeView) → slice_get w.nodes k ≡ o → (then k).base.part ≡ Some p → PartFrom k p
   part_there k p None at has = absurd (let z = sym (ap (λ h. h.base.part) (slot_there k None at)) ∙ has in cc)
   part_there k p (Some s) at has =
       let q =

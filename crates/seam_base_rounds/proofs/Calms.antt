@@ -1,8 +1,9 @@
 -- The phases of reaps and of looks keep the record of base parts.
-use Rattle.std.proofs.Common.{◌≡◌, ℕ, ◌+◌, ◌*◌, ◌^◌, ◌<◌, ◌≤◌, ◌⊎◌, Bool, true, false, cond, eqb, List, [], ◌∷◌, ◌++◌, length, Some}
+use Rattle.std.proofs.Common.{◌≡◌, ℕ, ◌+◌, ◌*◌, ◌^◌, ◌<◌, ◌≤◌, ◌⊎◌, Bool, true, false, cond, eqb, List, [], ◌∷◌, ◌++◌, length, None, Some}
 use Rattle.std.proofs.Common.{refl, sym, ap, ◌∙◌, subst}
 use Rattle.std.proofs.Common.{arith, inl, inr}
 use Rattle.std.specs.Prelude.{slice_get}
+use Rattle.std.specs.List.{AllByRecursion}
 use Rattle.std.proofs.lemmas.Bool.Decides.{nat_tests}
 use Rattle.std.proofs.lemmas.List.Elements.{filter-append}
 use Rattle.seam_machine.specs.Nets.{IsQuiet, LeadsTo}
@@ -12,7 +13,10 @@ use Rattle.seam_machine.proofs.Quiet.{quiet_links, quiet_tasks}
 use Rattle.seam_flows.specs.Flows.{letters_of}
 use Rattle.seam_flows.proofs.Following.{all_append}
 use Rattle.seam_call.specs.declared.order.Order.TheVariants as order
+use Rattle.seam_call.specs.declared.shown.Update.{Update as UpdateData}
 use Rattle.seam_entity.specs.Reals.{RealView}
+use Rattle.seam_entity.specs.declared.message.Msg.{Msg}
+use Rattle.seam_entity.specs.declared.message.Msg.TheVariants.{Update}
 use Rattle.seam_entity.specs.Here.{base_of, cell_count}
 use Rattle.seam_steps.specs.Bases.{BaseView, PartView}
 use Rattle.seam_steps.specs.Holders.{holders}
@@ -37,12 +41,16 @@ use Rattle.seam_rounds.proofs.Looking as looking
 use Rattle.seam_rounds.proofs.Looking.{tick, look_makes_none}
 use Rattle.seam_base_calls.specs.WitnessMoves.{sent_by}
 use Rattle.seam_base_calls.specs.BaseTurns.{base_burden, home_of}
-use Rattle.seam_base_calls.specs.Clients.{is_tick_order, HasToldAtMost}
+use Rattle.seam_base_calls.specs.Clients.{FindsClient, is_tick_order, HasToldAtMost}
 use Rattle.seam_base_calls.proofs.BaseRuns.{version_room}
 use Rattle.seam_base_calls.proofs.StrayRuns.{base_burden_leads}
 use Rattle.seam_base_calls.proofs.NoLooks.{NoTicks}
 use Rattle.seam_base_rounds.specs.Parts.{HasSettledPart, HasPartsBetweenRounds, AreFor, lines_of, HasSmallNumbers}
 use Rattle.seam_looks.specs.Telling.{most_entities, IsBlank, SeesFew, HasFewEntities, looks_left, most_shown}
+use Rattle.seam_base_calls.specs.PartMoves.{update_in}
+use Rattle.seam_looks.specs.Telling.{IsToldNothing}
+use Rattle.seam_looks.proofs.Silent.{tells_none}
+use Rattle.seam_base_rounds.proofs.Updates.{update_finds}
 use Rattle.seam_looks.proofs.Absent.{few_leads}
 use Rattle.seam_base_rounds.proofs.Ticking.{most_told, tells_most, tells_few, sees_then, ticks_of, node_ticks, no_ticks, few_turned, looks_turned}
 use Rattle.seam_base_rounds.proofs.PartLoads.{part_at, parts_ordered}
@@ -173,11 +181,19 @@ module _ (f : Frame) (u : World) (between : IsBetweenRounds f u) (parts : HasPar
               tells_few f e r.ty r had.part (with_nodes u turn) still few (parts.views e home r here) n given.left given.few_left v vs run;
         }
 
-    serves : Serves f e r.ty v
-    serves =
+    first_serves : Serves f e r.ty (with_nodes u turn)
+    first_serves =
         let lines = few_first in
-        serves_then f e r.ty (with_nodes u turn) v vs run frame still.spared (sent_by r + most_told) numbers
-        (starts f e r.ty r had.part (with_nodes u turn) still (parts.clients e home r here had.part had.here) (omega (arith, lines)))
+        starts f e r.ty r had.part (with_nodes u turn) still (parts.clients e home r here had.part had.here) (omega (arith, lines))
+
+    serves : Serves f e r.ty v
+    serves = serves_then f e r.ty (with_nodes u turn) v vs run frame still.spared (sent_by r + most_told) numbers first_serves
+
+    finds_it : (a k : ℕ) (m : UpdateData) (ms : List Msg) → (entity_flow e v).mail a k ≡ Update m ∷ ms →
+        FindsClient f e k ((entity_flow e v).slot k).base m
+    finds_it a k m ms at =
+        update_finds f e r.ty (with_nodes u turn) v vs run frame still.spared (sent_by r + most_told) numbers still.still a k m ms at
+        first_serves
 
     are_for : IsInFrame f v → IsQuiet node_has_work v → (k : ℕ) (q : RealView) →
         real_in ((entity_flow e v).slot k) ≡ Some q → (p : PartView) → ((entity_flow e v).slot (home_of f e)).base.part ≡ Some p →
@@ -194,6 +210,23 @@ module _ (f : Frame) (u : World) (between : IsBetweenRounds f u) (parts : HasPar
         omega (arith, part, less, version, sent)
 
 -- ---- the phase of reaps
+
+-- no one is told anything
+module _ (f : Frame) (u : World) (between : IsBetweenRounds f u) (parts : HasPartsBetweenRounds f u) (es : List ℕ)
+    (may : AreReapable u es) (vs : List Event) (v : World) (run : LeadsTo node_has_work node_steps (reaps_loaded u es) vs v) (e : ℕ) where
+  pub reaps_tell_none : IsToldNothing e v
+  reaps_tell_none =
+      let turn : NodeView → NodeView = each reap_ordered_at es in
+      let left =
+      looks_turned f u between parts turn (λ x s. reaps_cell x es s) e []
+      (λ k s at.
+      let none = idle_orders e s (quiet_tasks node_has_work u between.quiet k s at) in
+      let is = no_ticks (has_of e (turn s)).base.orders (reaps_without_ticks e es s (subst NoTicks (sym none) tt)) in
+      omega (arith, is)) in
+      tells_none f between.frame.tree.cells_to e (with_nodes u turn) v vs (reaps_framed f u between.nodes es) (omega (arith, left))
+      (λ a k. subst (AllByRecursion (λ m. update_in m ≡ None))
+      (sym (ap (letters_of (mine e)) (quiet_links node_has_work u between.nodes.sound.square between.quiet a k))) tt)
+      (subst (λ w. LeadsTo node_has_work node_steps w vs v) (reaping.loaded_is f u between es may) run)
 
 module _ (f : Frame) (u : World) (between : IsBetweenRounds f u) (parts : HasPartsBetweenRounds f u) (es : List ℕ)
     (small : HasSmallNumbers f u) (may : AreReapable u es) (vs : List Event) (v : World)
@@ -317,7 +350,7 @@ module _ (f : Frame) (u : World) (between : IsBetweenRounds f u) (parts : HasPar
 -- ---- the phase of looks
 
 module _ (f : Frame) (u : World) (between : IsBetweenRounds f u) (parts : HasPartsBetweenRounds f u) (small : HasSmallNumbers f u)
-    (vs : List Event) (v : World) (run : LeadsTo node_has_work node_steps (look_loaded u) vs v) (quiet : IsQuiet node_has_work v) where
+    (vs : List Event) (v : World) (run : LeadsTo node_has_work node_steps (look_loaded u) vs v) where
   in_looks : IsInFrame f (look_loaded u)
   in_looks = look_framed f u between.nodes tick
 
@@ -351,9 +384,15 @@ module _ (f : Frame) (u : World) (between : IsBetweenRounds f u) (parts : HasPar
         (settles f u between parts small (ordered_at tick) in_looks look_cells look_parts v vs run e home r here 48 looks_given
         (looking.calm f u between e home r here))
 
-    look_are : (k : ℕ) (q : RealView) → real_in ((entity_flow e v).slot k) ≡ Some q → (p : PartView) →
+    pub look_finds : (a k : ℕ) (m : UpdateData) (ms : List Msg) → (entity_flow e v).mail a k ≡ Update m ∷ ms →
+        FindsClient f e k ((entity_flow e v).slot k).base m
+    look_finds =
+        finds_it f u between parts small (ordered_at tick) in_looks look_cells look_parts v vs run e home r here 48 looks_given
+        (looking.calm f u between e home r here)
+
+    look_are : IsQuiet node_has_work v → (k : ℕ) (q : RealView) → real_in ((entity_flow e v).slot k) ≡ Some q → (p : PartView) →
         ((entity_flow e v).slot (home_of f e)).base.part ≡ Some p → AreFor q.witness p.proxy p.version
-    look_are =
+    look_are quiet =
         are_for f u between parts small (ordered_at tick) in_looks look_cells look_parts v vs run e home r here 48 looks_given
         (looking.calm f u between e home r here) looks_framed quiet
 
@@ -369,13 +408,13 @@ module _ (f : Frame) (u : World) (between : IsBetweenRounds f u) (parts : HasPar
   look_by P its e k q at (inr n) =
       absurd (no_real v e k q (look_makes_none f u between vs v run e (zero_of f u between e n)) at)
 
-  pub look_ends_with_parts : HasPartsBetweenRounds f v
-  look_ends_with_parts = record {
+  pub look_ends_with_parts : IsQuiet node_has_work v → HasPartsBetweenRounds f v
+  look_ends_with_parts quiet = record {
     parts = λ e k q at. look_by (λ e k q. HasSettledPart f e q.ty v) look_settled e k q at (search_real e u);
     clients = λ e k q at.
         look_by
         (λ e k q. (p : PartView) → ((entity_flow e v).slot (home_of f e)).base.part ≡ Some p → AreFor q.witness p.proxy p.version)
-        look_are e k q at (search_real e u);
+        (λ e home r here. look_are e home r here quiet) e k q at (search_real e u);
     entities = few_end f u between parts small (ordered_at tick) in_looks look_cells look_parts v vs run;
     views = λ e k q at. look_by (λ e k q. SeesFew q) look_sees e k q at (search_real e u);
   }
