@@ -1,10 +1,9 @@
 -- In a loaded world each real has a witness exactly where its part has a client, in step with it.
-use Rattle.std.proofs.Common.{◌≡◌, ℕ, ◌+◌, ◌^◌, ◌<◌, ◌≤◌, Bool, true, false, cond, List, [], ◌∷◌, length, Option, None, Some, refl, sym, ap, ◌∙◌}
+use Rattle.std.proofs.Common.{◌≡◌, ℕ, ◌^◌, ◌<◌, ◌≤◌, Bool, true, false, cond, [], length, Option, None, Some, refl, sym, ap, ◌∙◌}
 use Rattle.std.proofs.Common.{subst, arith}
 use Rattle.std.specs.Prelude.{option_map, slice_get}
-use Rattle.std.specs.List.{AllByRecursion}
+use Rattle.std.specs.List.{AllByRecursion, IsDistinct}
 use Rattle.seam_flows.specs.Flows.{slot_at, more_letter}
-use Rattle.seam_call.specs.declared.create.Create.{Create}
 use Rattle.seam_call.specs.declared.order.Batch.{Batch}
 use Rattle.seam_call.specs.declared.shown.ClientText.{ClientText}
 use Rattle.seam_entity.specs.Reals.{RealView, WitnessView}
@@ -18,11 +17,12 @@ use Rattle.seam_moves.specs.Sights.{Has, has_of, has_none, entity_flow}
 use Rattle.seam_ones.specs.Ones.{real_in}
 use Rattle.seam_between.specs.Between.{IsBetweenRounds, MayBeMade, IsFitting}
 use Rattle.seam_between.proofs.Loading.{node_loaded}
-use Rattle.seam_between.proofs.Making.{AreOthers, Creation, nowhere, once, creation_of, middle}
+use Rattle.seam_between.proofs.Making.{Creation, nowhere, once, creation_of, middle}
 use Rattle.seam_between.proofs.Loaded.{slot_is}
 use Rattle.seam_base_calls.specs.BaseTurns.{home_of}
 use Rattle.seam_base_calls.specs.Clients.{shown_by}
 use Rattle.seam_base_calls.specs.WitnessMoves.{sent_of, sent_by}
+use Rattle.seam_looks.specs.Telling.{IsFewView, SeesFew}
 use Rattle.seam_base_rounds.specs.Parts.{AreInStep, AreFor, HasPartsBetweenRounds, lines_of, FitsParts}
 use Rattle.seam_base_rounds.proofs.PartLoads.{part_at}
 use Rattle.seam_base_rounds.proofs.Joining.{is_among, joined_if, peopled, real_at, real_joined, part_joined, real_peopled, part_peopled}
@@ -66,10 +66,10 @@ neither w x version no_witness no_client =
     subst (λ a. AreFor a x version) (sym no_witness) (subst (λ b. AreFor None b version) (sym no_client) tt)
 
 -- what becomes of a real and of a part that join, or not
-abbrev real_if : Bool → Here → RealView → RealView
+abbrev pub real_if : Bool → Here → RealView → RealView
 real_if b h q = cond b (with_witness h q) q
 
-abbrev part_if : Bool → Here → PartView → PartView
+abbrev pub part_if : Bool → Here → PartView → PartView
 part_if b h p = cond b (with_proxy h p) p
 
 join_for : (b : Bool) (g h : Here) (q : RealView) (p : PartView) → AreFor q.witness p.proxy p.version →
@@ -77,14 +77,14 @@ join_for : (b : Bool) (g h : Here) (q : RealView) (p : PartView) → AreFor q.wi
 join_for true g h q p are = new_in_step _ (base_text h (record p { proxy = Some new_proxy })) _ p.version refl refl
 join_for false g h q p are = are
 
-real_from : (b : Bool) (h : Here) (o : Option RealView) (r : RealView) →
+pub real_from : (b : Bool) (h : Here) (o : Option RealView) (r : RealView) →
     option_map real_begins (joined_if b (with_witness h) o) ≡ Some r → (q : RealView) × (o ≡ Some q) × (real_begins (real_if b h q) ≡ r)
 real_from true h None r is = absurd (let z = is in cc)
 real_from true h (Some q) r is = (q, refl, (let z = is in cc))
 real_from false h None r is = absurd (let z = is in cc)
 real_from false h (Some q) r is = (q, refl, (let z = is in cc))
 
-part_from : (b : Bool) (h : Here) (o : Option PartView) (p : PartView) → joined_if b (with_proxy h) o ≡ Some p →
+pub part_from : (b : Bool) (h : Here) (o : Option PartView) (p : PartView) → joined_if b (with_proxy h) o ≡ Some p →
     (q : PartView) × (o ≡ Some q) × (part_if b h q ≡ p)
 part_from true h None p is = absurd (let z = is in cc)
 part_from true h (Some q) p is = (q, refl, (let z = is in cc))
@@ -114,14 +114,14 @@ module _ (f : Frame) (w : World) (b : Batch) (between : IsBetweenRounds f w) (fi
   slot_there k o at = slot_is w b e k ∙ ap (λ x. slot_at (has_of e) has_none (option_map (node_loaded b) x)) at
 
   -- the node of a real, and the real before clients were attached
-  record RealFrom (k : ℕ) (r : RealView) : Type 0 where
-    node : NodeView
-    there : slice_get w.nodes k ≡ Some node
-    real : RealView
-    was : real_at e (peopled b node) ≡ Some real
-    is : real_begins (real_if joins (here_at f k) real) ≡ r
+  pub record RealFrom (k : ℕ) (r : RealView) : Type 0 where
+    pub node : NodeView
+    pub there : slice_get w.nodes k ≡ Some node
+    pub real : RealView
+    pub was : real_at e (peopled b node) ≡ Some real
+    pub is : real_begins (real_if joins (here_at f k) real) ≡ r
 
-  real_there : (k : ℕ) (r : RealView) (o : Option NodeView) → slice_get w.nodes k ≡ o → real_in (then k) ≡ Some r → RealFrom k r
+  pub real_there : (k : ℕ) (r : RealView) (o : Option NodeView) → slice_get w.nodes k ≡ o → real_in (then k) ≡ Some r → RealFrom k r
   real_there k r None at has = absurd (let z = sym (ap real_in (slot_there k None at)) ∙ has in cc)
   real_there k r (Some s) at has =
       let q =
@@ -130,14 +130,14 @@ module _ (f : Frame) (w : World) (b : Batch) (between : IsBetweenRounds f w) (fi
       record { node = s; there = at; real = q.0; was = q.1; is = q.2 }
 
   -- the node of a part, and the part before clients were attached
-  record PartFrom (k : ℕ) (p : PartView) : Type 0 where
-    node : NodeView
-    there : slice_get w.nodes k ≡ Some node
-    part : PartView
-    was : part_at e (peopled b node) ≡ Some part
-    is : part_if joins (here_at f k) part ≡ p
+  pub record PartFrom (k : ℕ) (p : PartView) : Type 0 where
+    pub node : NodeView
+    pub there : slice_get w.nodes k ≡ Some node
+    pub part : PartView
+    pub was : part_at e (peopled b node) ≡ Some part
+    pub is : part_if joins (here_at f k) part ≡ p
 
-  part_there : (k : ℕ) (p : PartView) (o : Option NodeView) → slice_get w.nodes k ≡ o → (then k).base.part ≡ Some p → PartFrom k p
+  pub part_there : (k : ℕ) (p : PartView) (o : Option NodeView) → slice_get w.nodes k ≡ o → (then k).base.part ≡ Some p → PartFrom k p
   part_there k p None at has = absurd (let z = sym (ap (λ h. h.base.part) (slot_there k None at)) ∙ has in cc)
   part_there k p (Some s) at has =
       let q =
@@ -212,3 +212,33 @@ module _ (f : Frame) (w : World) (b : Batch) (between : IsBetweenRounds f w) (fi
   lines_loaded brings k r has p there few =
       lines_by brings k r (real_there k r (slice_get w.nodes k) refl has) p (part_there home p (slice_get w.nodes home) refl there) few
       (creation_of e b.creates fits.once)
+
+  -- ---- its view
+
+  abbrev FewIn : Option WitnessView → Type 0
+  FewIn None = Unit {0}
+  FewIn (Some x) = IsFewView x.view
+
+  -- a new view is of none
+  new_view : (h : Here) (q : RealView) → SeesFew (with_witness h q)
+  unfolding IsDistinct
+  new_view h q x seen =
+      subst (λ (o : Option WitnessView). FewIn o) seen (record { view = record { once = tt; shown = tt }; below = tt })
+
+  sees_if : (c : Bool) (h : Here) (q : RealView) → SeesFew q → SeesFew (real_begins (real_if c h q))
+  sees_if true h q sees = new_view h q
+  sees_if false h q sees = sees
+
+  sees_by : (k : ℕ) (r : RealView) (x : RealFrom k r) → Creation e b.creates → SeesFew x.real
+  sees_by k r x (nowhere others) =
+      had.views e k x.real (ap (λ o. real_in (slot_at (has_of e) has_none o)) x.there ∙ (sym (real_peopled e b x.node others) ∙ x.was))
+  sees_by k r x (once first c later is at others more) =
+      let may : MayBeMade f w c = middle (MayBeMade f w) first c later (subst (AllByRecursion (MayBeMade f w)) is fits.creates) in
+      let new : (j : ℕ) → (entity_flow e w).slot j ≡ has_none = subst (λ q. (j : ℕ) → (entity_flow q w).slot j ≡ has_none) at may.new in
+      let no_real = ap (λ o. real_in (slot_at (has_of e) has_none o)) (sym x.there) ∙ ap real_in (new k) in
+      λ y seen. absurd (let z = sym (unseen_peopled e b x.node no_real x.real x.was) ∙ seen in cc)
+
+  pub sees_loaded : (k : ℕ) (r : RealView) → real_in (then k) ≡ Some r → SeesFew r
+  sees_loaded k r has =
+      let x = real_there k r (slice_get w.nodes k) refl has in
+      subst SeesFew x.is (sees_if joins (here_at f k) x.real (sees_by k r x (creation_of e b.creates fits.once)))

@@ -35,11 +35,14 @@ use Rattle.seam_base_calls.proofs.BaseRuns.{version_room}
 use Rattle.seam_base_calls.proofs.StrayRuns.{base_burden_leads}
 use Rattle.seam_base_calls.proofs.BaseQuiet.{all_executed}
 use Rattle.seam_base_rounds.specs.Parts.{next_to, base_calls_of, HasSettledPart, HasPartsBetweenRounds, MayBeLoaded, AreFor, lines_of}
-use Rattle.seam_base_rounds.specs.Parts.{TellsFew, HasSmallNumbers}
+use Rattle.seam_base_rounds.specs.Parts.{HasSmallNumbers}
+use Rattle.seam_looks.specs.Telling.{SeesFew}
+use Rattle.seam_looks.proofs.Absent.{few_leads}
+use Rattle.seam_base_rounds.proofs.Ticking.{few_loaded}
 use Rattle.seam_base_rounds.proofs.Loaded.{LoadedPart}
 use Rattle.seam_base_rounds.proofs.Serving.{ends}
 use Rattle.seam_base_rounds.proofs.Turns.{few_more}
-use Rattle.seam_base_rounds.proofs.Going.{its_part, few_lines, calls_then, serves_after}
+use Rattle.seam_base_rounds.proofs.Going.{its_part, few_lines, told, sees_after, calls_then, serves_after}
 
 -- ---- in a quiet world a part whose calls are in turn is settled
 
@@ -119,77 +122,80 @@ module _ (f : Frame) (w : World) (b : Batch) (may : MayBeLoaded f w b) (v : Worl
         kept_after f w b may.between may.fits e home r here v es run in
         sym (kept.has.fits.reals k q at).type
 
-  module _ (told : (e k : ℕ) (r : RealView) → real_in ((entity_flow e (loaded w b)).slot k) ≡ Some r → TellsFew e r v) where
-    -- what is true of an entity of the loaded world and its real in v is true of each real in v
-    each_by : (P : ℕ → ℕ → RealView → Type 0) →
-        ((e home : ℕ) (r : RealView) → real_in ((entity_flow e (loaded w b)).slot home) ≡ Some r → (k : ℕ) (q : RealView) →
-        real_in ((entity_flow e v).slot k) ≡ Some q → P e k q) → (e k : ℕ) (q : RealView) →
-        real_in ((entity_flow e v).slot k) ≡ Some q → Somewhere e (loaded w b) ⊎ Nowhere e (loaded w b) → P e k q
-    each_by P its e k q at (inl p) = its e p.0 p.1 p.2 k q at
-    each_by P its e k q at (inr n) =
-        let gone = gone_leads g (frame_loaded f w b may.between may.fits) e (loaded w b) v es (in_frame f w b may.between may.fits)
-        (record { slots = n; mail = λ x y. ap (letters_of real_of) (no_mail f w b may.between may.fits e x y) }) run in
-        absurd (let z = sym (gone.slots k) ∙ at in cc)
+  -- what is true of an entity of the loaded world and its real in v is true of each real in v
+  each_by : (P : ℕ → ℕ → RealView → Type 0) →
+      ((e home : ℕ) (r : RealView) → real_in ((entity_flow e (loaded w b)).slot home) ≡ Some r → (k : ℕ) (q : RealView) →
+      real_in ((entity_flow e v).slot k) ≡ Some q → P e k q) → (e k : ℕ) (q : RealView) →
+      real_in ((entity_flow e v).slot k) ≡ Some q → Somewhere e (loaded w b) ⊎ Nowhere e (loaded w b) → P e k q
+  each_by P its e k q at (inl p) = its e p.0 p.1 p.2 k q at
+  each_by P its e k q at (inr n) =
+      let gone = gone_leads g (frame_loaded f w b may.between may.fits) e (loaded w b) v es (in_frame f w b may.between may.fits)
+      (record { slots = n; mail = λ x y. ap (letters_of real_of) (no_mail f w b may.between may.fits e x y) }) run in
+      absurd (let z = sym (gone.slots k) ∙ at in cc)
 
-    each : (P : ℕ → ℕ → RealView → Type 0) →
-        ((e home : ℕ) (r : RealView) → real_in ((entity_flow e (loaded w b)).slot home) ≡ Some r → (k : ℕ) (q : RealView) →
-        real_in ((entity_flow e v).slot k) ≡ Some q → P e k q) → (e k : ℕ) (q : RealView) →
-        real_in ((entity_flow e v).slot k) ≡ Some q → P e k q
-    each P its e k q at = each_by P its e k q at (search_real e (loaded w b))
+  each : (P : ℕ → ℕ → RealView → Type 0) →
+      ((e home : ℕ) (r : RealView) → real_in ((entity_flow e (loaded w b)).slot home) ≡ Some r → (k : ℕ) (q : RealView) →
+      real_in ((entity_flow e v).slot k) ≡ Some q → P e k q) → (e k : ℕ) (q : RealView) →
+      real_in ((entity_flow e v).slot k) ≡ Some q → P e k q
+  each P its e k q at = each_by P its e k q at (search_real e (loaded w b))
 
-    calls_of_it : (e home : ℕ) (r : RealView) (here : real_in ((entity_flow e (loaded w b)).slot home) ≡ Some r) →
-        HasBaseCalls g e r.ty (first e home r here) (base_calls_of b e) v
-    calls_of_it e home r here = calls_then f w b may e home r here v es run (told e home r here)
+  calls_of_it : (e home : ℕ) (r : RealView) (here : real_in ((entity_flow e (loaded w b)).slot home) ≡ Some r) →
+      HasBaseCalls g e r.ty (first e home r here) (base_calls_of b e) v
+  calls_of_it e home r here = calls_then f w b may e home r here v es run
 
-    -- ---- its numbers
+  -- ---- its numbers
 
-    few_numbers : (e home : ℕ) (r : RealView) → real_in ((entity_flow e (loaded w b)).slot home) ≡ Some r → (k : ℕ) (q : RealView) →
-        real_in ((entity_flow e v).slot k) ≡ Some q → numbers_of q < 2 ^ 61 + 2 ^ 60
-    few_numbers e home r here k q at =
-        let few = few_burden f w b may.between may.fits e home r (real_loaded f w b may.between may.fits e home r here) in
-        let less = burden_leads g e (loaded w b) v es (in_frame f w b may.between may.fits) run in
-        let its = real_room e v k q at in
-        omega (arith, few, less, its)
+  few_numbers : (e home : ℕ) (r : RealView) → real_in ((entity_flow e (loaded w b)).slot home) ≡ Some r → (k : ℕ) (q : RealView) →
+      real_in ((entity_flow e v).slot k) ≡ Some q → numbers_of q < 2 ^ 61 + 2 ^ 60
+  few_numbers e home r here k q at =
+      let few = few_burden f w b may.between may.fits e home r (real_loaded f w b may.between may.fits e home r here) in
+      let less = burden_leads g e (loaded w b) v es (in_frame f w b may.between may.fits) run in
+      let its = real_room e v k q at in
+      omega (arith, few, less, its)
 
-    few_shown : (e home : ℕ) (r : RealView) → real_in ((entity_flow e (loaded w b)).slot home) ≡ Some r → (k : ℕ) (q : RealView) →
+  few_shown : (e home : ℕ) (r : RealView) → real_in ((entity_flow e (loaded w b)).slot home) ≡ Some r → (k : ℕ) (q : RealView) →
+      real_in ((entity_flow e v).slot k) ≡ Some q → (p : PartView) → ((entity_flow e v).slot (home_of g e)).base.part ≡ Some p →
+      lines_of q p < 2 ^ 61 + 2 ^ 60
+  few_shown e home r here k q at p there =
+      let few = few_lines f w b may e home r here in
+      let sent = (told f w b may e home r here v es run).cells k q at in
+      let more = few_more f w b may e home r here (its e home r here) in
+      let less = base_burden_leads g e (loaded w b) v es (in_frame f w b may.between may.fits) run in
+      let version = version_room e v (home_of g e) p there in
+      omega (arith, few, sent, more, less, version)
+
+  pub calls_end_small : HasSmallNumbers g v
+  calls_end_small = record {
+    reals = each (λ e k q. numbers_of q < 2 ^ 61 + 2 ^ 60) few_numbers;
+    clients =
+        each
+        (λ e k q. (p : PartView) → ((entity_flow e v).slot (home_of g e)).base.part ≡ Some p → lines_of q p < 2 ^ 61 + 2 ^ 60)
+        few_shown;
+  }
+
+  module _ (quiet : IsQuiet node_has_work v) where
+    settled_at : (e home : ℕ) (r : RealView) → real_in ((entity_flow e (loaded w b)).slot home) ≡ Some r → (k : ℕ) (q : RealView) →
+        real_in ((entity_flow e v).slot k) ≡ Some q → HasSettledPart g e q.ty v
+    settled_at e home r here k q at =
+        subst (λ t. HasSettledPart g e t v) (same_type e home r here k q at)
+        (quiet_settled g e r.ty (first e home r here) (base_calls_of b e) v (calls_of_it e home r here) quiet)
+
+    are_at : (e home : ℕ) (r : RealView) → real_in ((entity_flow e (loaded w b)).slot home) ≡ Some r → (k : ℕ) (q : RealView) →
         real_in ((entity_flow e v).slot k) ≡ Some q → (p : PartView) → ((entity_flow e v).slot (home_of g e)).base.part ≡ Some p →
-        lines_of q p < 2 ^ 61 + 2 ^ 60
-    few_shown e home r here k q at p there =
-        let few = few_lines f w b may e home r here in
-        let sent = (told e home r here).cells k q at in
-        let more = few_more f w b may e home r here (its e home r here) in
-        let less = base_burden_leads g e (loaded w b) v es (in_frame f w b may.between may.fits) run in
-        let version = version_room e v (home_of g e) p there in
-        omega (arith, few, sent, more, less, version)
+        AreFor q.witness p.proxy p.version
+    are_at e home r here k q at p there =
+        ends g e r.ty v (calls_of_it e home r here).part.frame quiet k q at p there
+        (serves_after f w b may e home r here v es run)
 
-    pub calls_end_small : HasSmallNumbers g v
-    calls_end_small = record {
-      reals = each (λ e k q. numbers_of q < 2 ^ 61 + 2 ^ 60) few_numbers;
+    pub calls_end_with_parts : HasPartsBetweenRounds g v
+    calls_end_with_parts = record {
+      parts = each (λ e k q. HasSettledPart g e q.ty v) settled_at;
       clients =
           each
-          (λ e k q. (p : PartView) → ((entity_flow e v).slot (home_of g e)).base.part ≡ Some p → lines_of q p < 2 ^ 61 + 2 ^ 60)
-          few_shown;
+          (λ e k q. (p : PartView) → ((entity_flow e v).slot (home_of g e)).base.part ≡ Some p → AreFor q.witness p.proxy p.version)
+          are_at;
+      entities = λ e le.
+          (few_leads g (loaded w b) v es (in_frame f w b may.between may.fits)
+          (few_loaded f w b may.between may.fits may.parts may.brings) run e le).cells;
+      views = each (λ e k q. SeesFew q) (λ e home r here. sees_after f w b may e home r here v es run);
     }
-
-    module _ (quiet : IsQuiet node_has_work v) where
-      settled_at : (e home : ℕ) (r : RealView) → real_in ((entity_flow e (loaded w b)).slot home) ≡ Some r → (k : ℕ) (q : RealView) →
-          real_in ((entity_flow e v).slot k) ≡ Some q → HasSettledPart g e q.ty v
-      settled_at e home r here k q at =
-          subst (λ t. HasSettledPart g e t v) (same_type e home r here k q at)
-          (quiet_settled g e r.ty (first e home r here) (base_calls_of b e) v (calls_of_it e home r here) quiet)
-
-      are_at : (e home : ℕ) (r : RealView) → real_in ((entity_flow e (loaded w b)).slot home) ≡ Some r → (k : ℕ) (q : RealView) →
-          real_in ((entity_flow e v).slot k) ≡ Some q → (p : PartView) → ((entity_flow e v).slot (home_of g e)).base.part ≡ Some p →
-          AreFor q.witness p.proxy p.version
-      are_at e home r here k q at p there =
-          ends g e r.ty v (calls_of_it e home r here).part.frame quiet k q at p there
-          (serves_after f w b may e home r here v es run (told e home r here))
-
-      pub calls_end_with_parts : HasPartsBetweenRounds g v
-      calls_end_with_parts = record {
-        parts = each (λ e k q. HasSettledPart g e q.ty v) settled_at;
-        clients =
-            each
-            (λ e k q. (p : PartView) → ((entity_flow e v).slot (home_of g e)).base.part ≡ Some p → AreFor q.witness p.proxy p.version)
-            are_at;
-      }

@@ -1,29 +1,30 @@
 -- The phases of reaps and of looks keep the record of base parts.
-use Rattle.std.proofs.Common.{◌≡◌, ℕ, ◌+◌, ◌^◌, ◌<◌, ◌≤◌, ◌⊎◌, Bool, true, false, cond, eqb, is_some, List, [], ◌∷◌, Option, None, Some}
+use Rattle.std.proofs.Common.{◌≡◌, ℕ, ◌+◌, ◌*◌, ◌^◌, ◌<◌, ◌≤◌, ◌⊎◌, Bool, true, false, cond, eqb, List, [], ◌∷◌, ◌++◌, length, None, Some}
 use Rattle.std.proofs.Common.{refl, sym, ap, ◌∙◌, subst}
 use Rattle.std.proofs.Common.{arith, inl, inr}
-use Rattle.std.specs.Prelude.{option_map, slice_get}
+use Rattle.std.specs.Prelude.{slice_get}
 use Rattle.std.specs.List.{AllByRecursion}
 use Rattle.std.proofs.lemmas.Bool.Decides.{nat_tests}
 use Rattle.std.proofs.lemmas.List.Elements.{filter-append}
-use Rattle.std.proofs.lemmas.Option.{slice_get-map}
 use Rattle.seam_machine.specs.Nets.{IsQuiet, LeadsTo}
+use Rattle.seam_machine.specs.Sends.{items_to}
 use Rattle.seam_machine.specs.declared.machines.Event.{Event}
 use Rattle.seam_machine.proofs.Quiet.{quiet_links, quiet_tasks}
-use Rattle.seam_flows.specs.Flows.{letters_of, slot_at}
+use Rattle.seam_flows.specs.Flows.{letters_of}
 use Rattle.seam_flows.proofs.Following.{all_append}
 use Rattle.seam_call.specs.declared.order.Order.TheVariants as order
+use Rattle.seam_call.specs.declared.shown.Update.{Update as UpdateData}
 use Rattle.seam_entity.specs.Reals.{RealView}
+use Rattle.seam_entity.specs.declared.message.Msg.{Msg}
+use Rattle.seam_entity.specs.declared.message.Msg.TheVariants.{Update}
 use Rattle.seam_entity.specs.Here.{base_of, cell_count}
-use Rattle.seam_steps.specs.Maps.{has_any}
 use Rattle.seam_steps.specs.Bases.{BaseView, PartView}
-use Rattle.seam_steps.specs.Cells.{ready_entity}
 use Rattle.seam_steps.specs.Holders.{holders}
 use Rattle.seam_steps.specs.Nodes.{NodeView, World, node_steps, node_has_work}
 use Rattle.seam_steps.specs.Nodes.NodeView.{Cell, Base}
 use Rattle.seam_steps.specs.Loads.{with_nodes, order_if, ordered_at, reap_ordered_at, reaps_loaded, look_loaded}
-use Rattle.seam_moves.specs.Frames.{Frame, here_at, IsInFrame}
-use Rattle.seam_moves.specs.Sights.{Has, mine, times, order_concerns, orders_of, has_of, has_none, entity_flow}
+use Rattle.seam_moves.specs.Frames.{Frame, here_at, IsAt, IsInFrame}
+use Rattle.seam_moves.specs.Sights.{mine, times, order_concerns, orders_of, has_of, entity_flow}
 use Rattle.seam_ones.specs.Ones.{real_in, real_of}
 use Rattle.seam_ones.proofs.Counting.{counted_none, none_counts}
 use Rattle.seam_between.specs.Between.{numbers_of, IsBetweenRounds}
@@ -32,21 +33,26 @@ use Rattle.seam_rounds.specs.Rounds.{AreReapable}
 use Rattle.seam_rounds.proofs.Shape.{Somewhere, Nowhere, search_real, frame_leads}
 use Rattle.seam_rounds.proofs.Calm.{IsSame, IsCalm}
 use Rattle.seam_rounds.proofs.Starting.{Given, idle_orders}
-use Rattle.seam_once.proofs.Quieting.{neither, none_left}
-use Rattle.seam_rounds.proofs.Giving.{reaps_framed, look_framed, reaps_given, look_given}
+use Rattle.seam_rounds.proofs.Giving.{reaps_framed, look_framed, reaps_given, look_given, reaps_cell, look_cell}
 use Rattle.seam_rounds.proofs.Phases.{calm_leads, told_is_gone}
 use Rattle.seam_rounds.proofs.Reaping as reaping
 use Rattle.seam_rounds.proofs.Reaping.{is_told, none_come}
 use Rattle.seam_rounds.proofs.Looking as looking
 use Rattle.seam_rounds.proofs.Looking.{tick, look_makes_none}
 use Rattle.seam_base_calls.specs.WitnessMoves.{sent_by}
-use Rattle.seam_base_calls.specs.BaseTurns.{home_of}
-use Rattle.seam_base_calls.specs.Clients.{is_tick_order, tick_in, HasToldAtMost, HasNoLooks}
+use Rattle.seam_base_calls.specs.BaseTurns.{base_burden, home_of}
+use Rattle.seam_base_calls.specs.Clients.{FindsClient, is_tick_order, HasToldAtMost}
 use Rattle.seam_base_calls.proofs.BaseRuns.{version_room}
 use Rattle.seam_base_calls.proofs.StrayRuns.{base_burden_leads}
-use Rattle.seam_base_calls.proofs.WitnessKept.{each_weaker}
-use Rattle.seam_base_calls.proofs.NoLooks.{NoTicks, looks_lead}
-use Rattle.seam_base_rounds.specs.Parts.{HasSettledPart, HasPartsBetweenRounds, AreFor, lines_of, most_told, TellsFew, HasSmallNumbers}
+use Rattle.seam_base_calls.proofs.NoLooks.{NoTicks}
+use Rattle.seam_base_rounds.specs.Parts.{HasSettledPart, HasPartsBetweenRounds, AreFor, lines_of, HasSmallNumbers}
+use Rattle.seam_looks.specs.Telling.{most_entities, IsBlank, SeesFew, HasFewEntities, looks_left, most_shown}
+use Rattle.seam_base_calls.specs.PartMoves.{update_in}
+use Rattle.seam_looks.specs.Telling.{IsToldNothing}
+use Rattle.seam_looks.proofs.Silent.{tells_none}
+use Rattle.seam_base_rounds.proofs.Updates.{update_finds}
+use Rattle.seam_looks.proofs.Absent.{few_leads}
+use Rattle.seam_base_rounds.proofs.Ticking.{most_told, tells_most, tells_few, sees_then, ticks_of, node_ticks, no_ticks, few_turned, looks_turned}
 use Rattle.seam_base_rounds.proofs.PartLoads.{part_at, parts_ordered}
 use Rattle.seam_base_rounds.proofs.Still.{still_settled}
 use Rattle.seam_base_rounds.proofs.Serving.{HasItStill, Serves, starts, HasNumbers, serves_then, ends}
@@ -107,86 +113,120 @@ reaps_without_ticks : (e : ℕ) (es : List ℕ) (s : NodeView) → NoTicks (has_
 reaps_without_ticks e [] s h = h
 reaps_without_ticks e (q ∷ es) s h = reaps_without_ticks e es (reap_ordered_at q s) (reap_orders e q s h)
 
-idle_looks : (e : ℕ) (s : NodeView) → node_has_work s ≡ false → (has_of e s).cell.looks ≡ 0
-idle_looks e (Cell c) h =
-    ap (times e) (none_left c.looks (neither (is_some (ready_entity c)) _ (neither (has_any c.survey) _ h).1).1)
-idle_looks e (Base n) h = refl
+-- the tick is the one order of its node
+tick_if : (e : ℕ) (n : BaseView) (b : Bool) → orders_of e n.orders ≡ [] →
+    node_ticks e (Base (order_if b n order.Tick)) ≤ length (cond b (order.Tick ∷ []) [])
+tick_if e n true none =
+    let is = ap ticks_of (filter-append (order_concerns e) n.orders (order.Tick ∷ []) ∙ ap (λ os. os ++ order.Tick ∷ []) none) in
+    omega (arith, is)
+tick_if e n false none = let is = ap ticks_of none in omega (arith, is)
 
--- a quiet world with other orders that are no ticks has no looks
-module _ (f : Frame) (u : World) (between : IsBetweenRounds f u) (e : ℕ) (turn : NodeView → NodeView)
-    (cells : (k : ℕ) (s : NodeView) → slice_get u.nodes k ≡ Some s → (has_of e (turn s)).cell ≡ (has_of e s).cell)
-    (orders : (s : NodeView) → NoTicks (has_of e s).base.orders → NoTicks (has_of e (turn s)).base.orders) where
-  record Lookless (h : Has) : Type 0 where
-    looks : h.cell.looks ≡ 0
-    ticks : NoTicks h.base.orders
-
-  lookless_by : (k : ℕ) (o : Option NodeView) → slice_get u.nodes k ≡ o → Lookless (slot_at (has_of e) has_none (option_map turn o))
-  lookless_by k None at = record { looks = refl; ticks = tt }
-  lookless_by k (Some s) at =
-      let idle = quiet_tasks node_has_work u between.quiet k s at in
-      record {
-        looks = ap (λ c. c.looks) (cells k s at) ∙ idle_looks e s idle;
-        ticks = orders s (subst NoTicks (sym (idle_orders e s idle)) tt);
-      }
-
-  lookless : (k : ℕ) → Lookless ((entity_flow e (with_nodes u turn)).slot k)
-  lookless k =
-      subst Lookless (sym (ap (slot_at (has_of e) has_none) (slice_get-map turn u.nodes k))) (lookless_by k (slice_get u.nodes k) refl)
-
-  no_looks : HasNoLooks e (with_nodes u turn)
-  no_looks = record {
-    cells = λ k. (lookless k).looks;
-    orders = λ k. (lookless k).ticks;
-    letters = λ a k.
-        subst (AllByRecursion (λ m. tick_in m ≡ None))
-        (sym (ap (letters_of (mine e)) (quiet_links node_has_work u between.nodes.sound.square between.quiet a k))) tt;
-  }
-
--- what its witness told in a world that has the real with nothing on its way
-module _ {f : Frame} {e ty : ℕ} {r : RealView} {p : PartView} {w : World} where
-  told_at_start : HasItStill f e ty r p w → HasToldAtMost e (sent_by r) w
-  told_at_start h = record {
-    cells = λ k q at. let same = ap sent_by (h.real k q at) in omega (arith, same);
-    hands = λ a k.
-        subst (AllByRecursion (λ m. (q : RealView) → real_of m ≡ Some q → sent_by q ≤ sent_by r)) (sym (h.still a k)) tt;
-  }
+tick_given : (e : ℕ) (f : Frame) (k : ℕ) (s : NodeView) → IsAt f k s → node_has_work s ≡ false →
+    node_ticks e (ordered_at tick s) ≤ length (items_to k (tick ∷ []))
+tick_given e f k (Cell c) at idle = omega arith
+tick_given e f k (Base n) at idle =
+    let few = tick_if e n (eqb cell_count n.here.me) (idle_orders e (Base n) idle) in
+    subst (λ j. node_ticks e (ordered_at tick (Base n)) ≤ length (items_to j (tick ∷ []))) (ap (λ h. h.me) at.here) few
 
 -- ---- where a load gives a settled entity no call and no reap
 
 module _ (f : Frame) (u : World) (between : IsBetweenRounds f u) (parts : HasPartsBetweenRounds f u) (small : HasSmallNumbers f u)
-    (e home : ℕ) (r : RealView) (here : real_in ((entity_flow e u).slot home) ≡ Some r) (turn : NodeView → NodeView)
-    (frame : IsInFrame f (with_nodes u turn))
-    (given : (k : ℕ) (s : NodeView) → slice_get u.nodes k ≡ Some s → Given e 0 s (turn s))
-    (same : (s : NodeView) → part_at e (turn s) ≡ part_at e s) (calm : IsCalm f e home r u false (with_nodes u turn)) (v : World)
-    (vs : List Event) (run : LeadsTo node_has_work node_steps (with_nodes u turn) vs v) where
-  abbrev had : HasSettledPart f e r.ty u
-  had = parts.parts e home r here
+    (turn : NodeView → NodeView) (frame : IsInFrame f (with_nodes u turn))
+    (cells : (e : ℕ) (s : NodeView) → (has_of e (turn s)).cell ≡ (has_of e s).cell)
+    (same : (e : ℕ) (s : NodeView) → part_at e (turn s) ≡ part_at e s) (v : World) (vs : List Event)
+    (run : LeadsTo node_has_work node_steps (with_nodes u turn) vs v) where
+  few : HasFewEntities (with_nodes u turn)
+  few = few_turned f u between parts turn cells
 
-  still : HasItStill f e r.ty r had.part (with_nodes u turn)
-  still = still_then f u between e home r here had small turn frame given same calm
+  few_end : (e : ℕ) → most_entities ≤ e → (k : ℕ) → IsBlank ((entity_flow e v).slot k)
+  few_end e le = (few_leads f (with_nodes u turn) v vs frame few run e le).cells
 
-  settles : HasSettledPart f e r.ty v
-  settles = still_settled f u between e r.ty had turn frame given same v vs run
+  -- each entity that is there, with at most n looks
+  record IsGiven (e n : ℕ) : Type 0 where
+    orders : (k : ℕ) (s : NodeView) → slice_get u.nodes k ≡ Some s → Given e 0 s (turn s)
+    left : looks_left e (with_nodes u turn) ≤ n
+    few_left : n ≤ 2 ^ 23
 
-  module _ (told : TellsFew e r v) where
+  module _ (e home : ℕ) (r : RealView) (here : real_in ((entity_flow e u).slot home) ≡ Some r) (n : ℕ) (given : IsGiven e n)
+      (calm : IsCalm f e home r u false (with_nodes u turn)) where
+    abbrev had : HasSettledPart f e r.ty u
+    had = parts.parts e home r here
+
+    still : HasItStill f e r.ty r had.part (with_nodes u turn)
+    still = still_then f u between e home r here had small turn frame given.orders (same e) calm
+
+    few_first : lines_of r had.part < 2 ^ 61 + 2 ^ 60
+    few_first = few_lines f u between e home r here had small turn frame given.orders (same e) calm
+
+    part_first : base_burden e (with_nodes u turn) ≤ had.part.version
+    part_first = few_part f u between e home r here had small turn frame given.orders (same e) calm
+
+    settles : HasSettledPart f e r.ty v
+    settles = still_settled f u between e r.ty had turn frame given.orders (same e) v vs run
+
+    told : HasToldAtMost e (sent_by r + most_shown * n) v
+    told = tells_most f e r.ty r had.part (with_nodes u turn) still few (parts.views e home r here) n given.left given.few_left v vs run
+
+    sees_few : (k : ℕ) (q : RealView) → real_in ((entity_flow e v).slot k) ≡ Some q → SeesFew q
+    sees_few =
+        (sees_then f e r.ty r had.part (with_nodes u turn) still few (parts.views e home r here) n given.left given.few_left v vs run).cells
+
     numbers : HasNumbers e (sent_by r + most_told) (with_nodes u turn) v
     numbers =
-        let few = few_lines f u between e home r here had small turn frame given same calm in
-        let less = few_part f u between e home r here had small turn frame given same calm in
-        record { room = omega (arith, few, less); most = told }
+        let lines = few_first in
+        let less = part_first in
+        record {
+          room = omega (arith, lines, less);
+          most =
+              tells_few f e r.ty r had.part (with_nodes u turn) still few (parts.views e home r here) n given.left given.few_left v vs run;
+        }
+
+    first_serves : Serves f e r.ty (with_nodes u turn)
+    first_serves =
+        let lines = few_first in
+        starts f e r.ty r had.part (with_nodes u turn) still (parts.clients e home r here had.part had.here) (omega (arith, lines))
 
     serves : Serves f e r.ty v
-    serves =
-        let few = few_lines f u between e home r here had small turn frame given same calm in
-        serves_then f e r.ty (with_nodes u turn) v vs run frame still.spared (sent_by r + most_told) numbers
-        (starts f e r.ty r had.part (with_nodes u turn) still (parts.clients e home r here had.part had.here) (omega (arith, few)))
+    serves = serves_then f e r.ty (with_nodes u turn) v vs run frame still.spared (sent_by r + most_told) numbers first_serves
 
-    are_for : (framed : IsInFrame f v) → IsQuiet node_has_work v → (k : ℕ) (q : RealView) →
+    finds_it : (a k : ℕ) (m : UpdateData) (ms : List Msg) → (entity_flow e v).mail a k ≡ Update m ∷ ms →
+        FindsClient f e k ((entity_flow e v).slot k).base m
+    finds_it a k m ms at =
+        update_finds f e r.ty (with_nodes u turn) v vs run frame still.spared (sent_by r + most_told) numbers still.still a k m ms at
+        first_serves
+
+    are_for : IsInFrame f v → IsQuiet node_has_work v → (k : ℕ) (q : RealView) →
         real_in ((entity_flow e v).slot k) ≡ Some q → (p : PartView) → ((entity_flow e v).slot (home_of f e)).base.part ≡ Some p →
         AreFor q.witness p.proxy p.version
     are_for framed quiet k q at p there = ends f e r.ty v framed quiet k q at p there serves
 
+    lines_then : (k : ℕ) (q : RealView) → real_in ((entity_flow e v).slot k) ≡ Some q → (p : PartView) →
+        ((entity_flow e v).slot (home_of f e)).base.part ≡ Some p → lines_of q p ≤ lines_of r had.part + most_shown * n
+    lines_then k q at p there =
+        let part = part_first in
+        let less = base_burden_leads f e (with_nodes u turn) v vs frame run in
+        let version = version_room e v (home_of f e) p there in
+        let sent = told.cells k q at in
+        omega (arith, part, less, version, sent)
+
 -- ---- the phase of reaps
+
+-- no one is told anything
+module _ (f : Frame) (u : World) (between : IsBetweenRounds f u) (parts : HasPartsBetweenRounds f u) (es : List ℕ)
+    (may : AreReapable u es) (vs : List Event) (v : World) (run : LeadsTo node_has_work node_steps (reaps_loaded u es) vs v) (e : ℕ) where
+  pub reaps_tell_none : IsToldNothing e v
+  reaps_tell_none =
+      let turn : NodeView → NodeView = each reap_ordered_at es in
+      let left =
+      looks_turned f u between parts turn (λ x s. reaps_cell x es s) e []
+      (λ k s at.
+      let none = idle_orders e s (quiet_tasks node_has_work u between.quiet k s at) in
+      let is = no_ticks (has_of e (turn s)).base.orders (reaps_without_ticks e es s (subst NoTicks (sym none) tt)) in
+      omega (arith, is)) in
+      tells_none f between.frame.tree.cells_to e (with_nodes u turn) v vs (reaps_framed f u between.nodes es) (omega (arith, left))
+      (λ a k. subst (AllByRecursion (λ m. update_in m ≡ None))
+      (sym (ap (letters_of (mine e)) (quiet_links node_has_work u between.nodes.sound.square between.quiet a k))) tt)
+      (subst (λ w. LeadsTo node_has_work node_steps w vs v) (reaping.loaded_is f u between es may) run)
 
 module _ (f : Frame) (u : World) (between : IsBetweenRounds f u) (parts : HasPartsBetweenRounds f u) (es : List ℕ)
     (small : HasSmallNumbers f u) (may : AreReapable u es) (vs : List Event) (v : World)
@@ -197,8 +237,17 @@ module _ (f : Frame) (u : World) (between : IsBetweenRounds f u) (parts : HasPar
   turned : LeadsTo node_has_work node_steps (with_nodes u turn) vs v
   turned = subst (λ w. LeadsTo node_has_work node_steps w vs v) (reaping.loaded_is f u between es may) run
 
+  inside : IsInFrame f (with_nodes u turn)
+  inside = reaps_framed f u between.nodes es
+
   framed : IsInFrame f v
-  framed = frame_leads f (with_nodes u turn) v vs (reaps_framed f u between.nodes es) turned
+  framed = frame_leads f (with_nodes u turn) v vs inside turned
+
+  abbrev cells_stay : (e : ℕ) (s : NodeView) → (has_of e (turn s)).cell ≡ (has_of e s).cell
+  cells_stay e s = reaps_cell e es s
+
+  abbrev parts_stay : (e : ℕ) (s : NodeView) → part_at e (turn s) ≡ part_at e s
+  parts_stay e s = reaps_part e es s
 
   module _ (e home : ℕ) (r : RealView) (here : real_in ((entity_flow e u).slot home) ≡ Some r) where
     calm : IsCalm f e home r u (is_told e es) v
@@ -213,51 +262,44 @@ module _ (f : Frame) (u : World) (between : IsBetweenRounds f u) (parts : HasPar
     never : is_told e es ≡ false → times e es ≡ 0
     never out = grind (arith, nat_tests, out)
 
-    given : is_told e es ≡ false → (k : ℕ) (s : NodeView) → slice_get u.nodes k ≡ Some s → Given e 0 s (turn s)
-    given out k s at =
-        subst (λ n. Given e n s (turn s)) (zero_by (eqb k (base_of (here_at f 0) e)) (times e es) (never out))
-        (reaps_given e f k es s (between.nodes.nodes k s at) (quiet_tasks node_has_work u between.quiet k s at))
+    module _ (out : is_told e es ≡ false) where
+      given : IsGiven f u between parts small turn inside cells_stay parts_stay v vs turned e 0
+      given = record {
+        orders = λ k s at.
+            subst (λ n. Given e n s (turn s)) (zero_by (eqb k (base_of (here_at f 0) e)) (times e es) (never out))
+            (reaps_given e f k es s (between.nodes.nodes k s at) (quiet_tasks node_has_work u between.quiet k s at));
+        left =
+            looks_turned f u between parts turn cells_stay e []
+            (λ k s at.
+            let none = idle_orders e s (quiet_tasks node_has_work u between.quiet k s at) in
+            let is = no_ticks (has_of e (turn s)).base.orders (reaps_without_ticks e es s (subst NoTicks (sym none) tt)) in
+            omega (arith, is));
+        few_left = omega arith;
+      }
 
-    calm_out : is_told e es ≡ false → IsCalm f e home r u false (with_nodes u turn)
-    calm_out out =
-        subst (λ b. IsCalm f e home r u b (with_nodes u turn)) out
-        (subst (IsCalm f e home r u (is_told e es)) (reaping.loaded_is f u between es may) (reaping.calm f u between es may e home r here))
+      calm_out : IsCalm f e home r u false (with_nodes u turn)
+      calm_out =
+          subst (λ b. IsCalm f e home r u b (with_nodes u turn)) out
+          (subst (IsCalm f e home r u (is_told e es)) (reaping.loaded_is f u between es may)
+          (reaping.calm f u between es may e home r here))
 
-    -- its witness does not look
-    tells_none : is_told e es ≡ false → HasToldAtMost e (sent_by r) v
-    tells_none out =
-        let its = still f u between parts small e home r here turn (reaps_framed f u between.nodes es) (given out) (reaps_part e es)
-        (calm_out out) v vs turned in
-        (looks_lead f e (sent_by r) (with_nodes u turn) v vs (reaps_framed f u between.nodes es)
-        (no_looks f u between e turn (λ k s at. (given out k s at).cell) (reaps_without_ticks e es)) (told_at_start its) turned).told
+      untold : HasSettledPart f e r.ty v
+      untold = settles f u between parts small turn inside cells_stay parts_stay v vs turned e home r here 0 given calm_out
 
-    few_told : is_told e es ≡ false → TellsFew e r v
-    few_told out =
-        each_weaker (λ q. sent_by q ≤ sent_by r) (λ q. sent_by q ≤ sent_by r + most_told) e v (λ q le. omega (arith, le)) (tells_none out)
+      are_untold : (k : ℕ) (q : RealView) → real_in ((entity_flow e v).slot k) ≡ Some q → (p : PartView) →
+          ((entity_flow e v).slot (home_of f e)).base.part ≡ Some p → AreFor q.witness p.proxy p.version
+      are_untold = are_for f u between parts small turn inside cells_stay parts_stay v vs turned e home r here 0 given calm_out framed quiet
 
-    untold : is_told e es ≡ false → HasSettledPart f e r.ty v
-    untold out =
-        settles f u between parts small e home r here turn (reaps_framed f u between.nodes es) (given out) (reaps_part e es)
-        (calm_out out) v vs turned
+      sees_untold : (k : ℕ) (q : RealView) → real_in ((entity_flow e v).slot k) ≡ Some q → SeesFew q
+      sees_untold = sees_few f u between parts small turn inside cells_stay parts_stay v vs turned e home r here 0 given calm_out
 
-    are_untold : is_told e es ≡ false → (k : ℕ) (q : RealView) → real_in ((entity_flow e v).slot k) ≡ Some q → (p : PartView) →
-        ((entity_flow e v).slot (home_of f e)).base.part ≡ Some p → AreFor q.witness p.proxy p.version
-    are_untold out =
-        are_for f u between parts small e home r here turn (reaps_framed f u between.nodes es) (given out) (reaps_part e es)
-        (calm_out out) v vs turned (few_told out) framed quiet
-
-    small_untold : is_told e es ≡ false → (k : ℕ) (q : RealView) → real_in ((entity_flow e v).slot k) ≡ Some q → (p : PartView) →
-        ((entity_flow e v).slot (home_of f e)).base.part ≡ Some p → lines_of q p < 2 ^ 61 + 2 ^ 60
-    small_untold out k q at p there =
-        let had : HasSettledPart f e r.ty u = parts.parts e home r here in
-        let few = few_lines f u between e home r here had small turn (reaps_framed f u between.nodes es) (given out) (reaps_part e es)
-        (calm_out out) in
-        let part = few_part f u between e home r here had small turn (reaps_framed f u between.nodes es) (given out) (reaps_part e es)
-        (calm_out out) in
-        let less = base_burden_leads f e (with_nodes u turn) v vs (reaps_framed f u between.nodes es) turned in
-        let version = version_room e v (home_of f e) p there in
-        let sent = (tells_none out).cells k q at in
-        omega (arith, few, part, less, version, sent)
+      small_untold : (k : ℕ) (q : RealView) → real_in ((entity_flow e v).slot k) ≡ Some q → (p : PartView) →
+          ((entity_flow e v).slot (home_of f e)).base.part ≡ Some p → lines_of q p < 2 ^ 61 + 2 ^ 60
+      small_untold k q at p there =
+          let first = few_first f u between parts small turn inside cells_stay parts_stay v vs turned e home r here 0 given calm_out in
+          let last =
+          lines_then f u between parts small turn inside cells_stay parts_stay v vs turned e home r here 0 given calm_out k q at p there in
+          omega (arith, first, last)
 
     -- what is true of it where it was not told is true where it is there
     there_by : (P : ℕ → RealView → Type 0) → (is_told e es ≡ false → (k : ℕ) (q : RealView) →
@@ -289,6 +331,8 @@ module _ (f : Frame) (u : World) (between : IsBetweenRounds f u) (parts : HasPar
         each_by
         (λ e k q. (p : PartView) → ((entity_flow e v).slot (home_of f e)).base.part ≡ Some p → AreFor q.witness p.proxy p.version)
         are_untold e k q at (search_real e u);
+    entities = few_end f u between parts small turn inside cells_stay parts_stay v vs turned;
+    views = λ e k q at. each_by (λ e k q. SeesFew q) sees_untold e k q at (search_real e u);
   }
 
   pub reaps_end_small : HasSmallNumbers f v
@@ -306,10 +350,18 @@ module _ (f : Frame) (u : World) (between : IsBetweenRounds f u) (parts : HasPar
 -- ---- the phase of looks
 
 module _ (f : Frame) (u : World) (between : IsBetweenRounds f u) (parts : HasPartsBetweenRounds f u) (small : HasSmallNumbers f u)
-    (vs : List Event) (v : World) (run : LeadsTo node_has_work node_steps (look_loaded u) vs v) (quiet : IsQuiet node_has_work v)
-    (told : (e k : ℕ) (r : RealView) → real_in ((entity_flow e u).slot k) ≡ Some r → TellsFew e r v) where
+    (vs : List Event) (v : World) (run : LeadsTo node_has_work node_steps (look_loaded u) vs v) where
+  in_looks : IsInFrame f (look_loaded u)
+  in_looks = look_framed f u between.nodes tick
+
   looks_framed : IsInFrame f v
-  looks_framed = frame_leads f (look_loaded u) v vs (look_framed f u between.nodes tick) run
+  looks_framed = frame_leads f (look_loaded u) v vs in_looks run
+
+  abbrev look_cells : (e : ℕ) (s : NodeView) → (has_of e (ordered_at tick s)).cell ≡ (has_of e s).cell
+  look_cells e s = look_cell e tick s
+
+  abbrev look_parts : (e : ℕ) (s : NodeView) → part_at e (ordered_at tick s) ≡ part_at e s
+  look_parts e s = parts_ordered e (tick ∷ []) s
 
   module _ (e home : ℕ) (r : RealView) (here : real_in ((entity_flow e u).slot home) ≡ Some r) where
     looked : IsCalm f e home r u false v
@@ -317,20 +369,37 @@ module _ (f : Frame) (u : World) (between : IsBetweenRounds f u) (parts : HasPar
         calm_leads f between.frame u between e home r here false (looking.small f u between r) (look_loaded u) v vs
         (looking.calm f u between e home r here) run
 
-    looks_given : (k : ℕ) (s : NodeView) → slice_get u.nodes k ≡ Some s → Given e 0 s (ordered_at tick s)
-    looks_given k s at = look_given e f k cell_count s (quiet_tasks node_has_work u between.quiet k s at)
+    looks_given : IsGiven f u between parts small (ordered_at tick) in_looks look_cells look_parts v vs run e 48
+    looks_given = record {
+      orders = λ k s at. look_given e f k cell_count s (quiet_tasks node_has_work u between.quiet k s at);
+      left =
+          looks_turned f u between parts (ordered_at tick) look_cells e (tick ∷ [])
+          (λ k s at. tick_given e f k s (between.nodes.nodes k s at) (quiet_tasks node_has_work u between.quiet k s at));
+      few_left = omega arith;
+    }
 
     look_settled : (k : ℕ) (q : RealView) → real_in ((entity_flow e v).slot k) ≡ Some q → HasSettledPart f e q.ty v
     look_settled k q at =
         subst (λ t. HasSettledPart f e t v) (same_type r q ((looked.nodes k).real q at).1)
-        (settles f u between parts small e home r here (ordered_at tick) (look_framed f u between.nodes tick) looks_given
-        (parts_ordered e (tick ∷ [])) (looking.calm f u between e home r here) v vs run)
+        (settles f u between parts small (ordered_at tick) in_looks look_cells look_parts v vs run e home r here 48 looks_given
+        (looking.calm f u between e home r here))
 
-    look_are : (k : ℕ) (q : RealView) → real_in ((entity_flow e v).slot k) ≡ Some q → (p : PartView) →
+    pub look_finds : (a k : ℕ) (m : UpdateData) (ms : List Msg) → (entity_flow e v).mail a k ≡ Update m ∷ ms →
+        FindsClient f e k ((entity_flow e v).slot k).base m
+    look_finds =
+        finds_it f u between parts small (ordered_at tick) in_looks look_cells look_parts v vs run e home r here 48 looks_given
+        (looking.calm f u between e home r here)
+
+    look_are : IsQuiet node_has_work v → (k : ℕ) (q : RealView) → real_in ((entity_flow e v).slot k) ≡ Some q → (p : PartView) →
         ((entity_flow e v).slot (home_of f e)).base.part ≡ Some p → AreFor q.witness p.proxy p.version
-    look_are =
-        are_for f u between parts small e home r here (ordered_at tick) (look_framed f u between.nodes tick) looks_given
-        (parts_ordered e (tick ∷ [])) (looking.calm f u between e home r here) v vs run (told e home r here) looks_framed quiet
+    look_are quiet =
+        are_for f u between parts small (ordered_at tick) in_looks look_cells look_parts v vs run e home r here 48 looks_given
+        (looking.calm f u between e home r here) looks_framed quiet
+
+    look_sees : (k : ℕ) (q : RealView) → real_in ((entity_flow e v).slot k) ≡ Some q → SeesFew q
+    look_sees =
+        sees_few f u between parts small (ordered_at tick) in_looks look_cells look_parts v vs run e home r here 48 looks_given
+        (looking.calm f u between e home r here)
 
   look_by : (P : ℕ → ℕ → RealView → Type 0) → ((e home : ℕ) (r : RealView) → real_in ((entity_flow e u).slot home) ≡ Some r →
       (k : ℕ) (q : RealView) → real_in ((entity_flow e v).slot k) ≡ Some q → P e k q) → (e k : ℕ) (q : RealView) →
@@ -339,11 +408,13 @@ module _ (f : Frame) (u : World) (between : IsBetweenRounds f u) (parts : HasPar
   look_by P its e k q at (inr n) =
       absurd (no_real v e k q (look_makes_none f u between vs v run e (zero_of f u between e n)) at)
 
-  pub look_ends_with_parts : HasPartsBetweenRounds f v
-  look_ends_with_parts = record {
+  pub look_ends_with_parts : IsQuiet node_has_work v → HasPartsBetweenRounds f v
+  look_ends_with_parts quiet = record {
     parts = λ e k q at. look_by (λ e k q. HasSettledPart f e q.ty v) look_settled e k q at (search_real e u);
     clients = λ e k q at.
         look_by
         (λ e k q. (p : PartView) → ((entity_flow e v).slot (home_of f e)).base.part ≡ Some p → AreFor q.witness p.proxy p.version)
-        look_are e k q at (search_real e u);
+        (λ e home r here. look_are e home r here quiet) e k q at (search_real e u);
+    entities = few_end f u between parts small (ordered_at tick) in_looks look_cells look_parts v vs run;
+    views = λ e k q at. look_by (λ e k q. SeesFew q) look_sees e k q at (search_real e u);
   }

@@ -9,6 +9,7 @@ use Rattle.seam_tree.specs.Division.{area, IsTree}
 use Rattle.seam_geo.specs.Rect.{IsProper}
 use Rattle.seam_defs.specs.Builtin.{builtin}
 use Rattle.seam_defs.specs.Settings.{standard}
+use Rattle.seam_ghosts.specs.Book.{copy_in}
 use Rattle.seam_machine.specs.Sends.{items_to}
 use Rattle.seam_flows.specs.Flows.{letters_of}
 use Rattle.seam_delivery.specs.Numbered.{number_from}
@@ -33,12 +34,12 @@ use Rattle.seam_rounds.proofs.Opened.{opened_is_new, opened_has_none, opened_bet
 use Rattle.seam_base_calls.specs.BaseTurns.{home_of}
 use Rattle.seam_base_calls.specs.Example.{pay, part_alone, base_with, world_alone}
 use Rattle.seam_base_calls.proofs.ExampleClient.{load_alone, one_alone}
-use Rattle.seam_base_rounds.specs.Parts.{next_to, base_calls_of, base_calls_at, AreBaseNumbered, IsForPart, FitsParts, MayBeLoaded, IsAlone}
+use Rattle.seam_base_rounds.specs.Parts.{next_to, base_calls_of, base_calls_at, AreBaseNumbered, IsForPart, FitsParts, HasPartsBetweenRounds, MayBeLoaded, IsAlone}
 use Rattle.seam_base_rounds.specs.Example.{opening, first_batch}
 
 -- ---- the world
 
-one_is_tree : IsTree (one_cell 10000)
+pub one_is_tree : IsTree (one_cell 10000)
 one_is_tree = record {
   size_from = omega arith;
   size_to = omega arith;
@@ -54,13 +55,13 @@ one_is_tree = record {
 opening_is : IsFrame opening
 opening_is = record { defs = frame_is.defs; tree = one_is_tree }
 
-between : IsBetweenRounds opening empty_world
+pub between : IsBetweenRounds opening empty_world
 between = opened_between builtin standard opening_is (omega arith)
 
-is_new : (e k : ℕ) → (entity_flow e empty_world).slot k ≡ has_none
+pub is_new : (e k : ℕ) → (entity_flow e empty_world).slot k ≡ has_none
 is_new = opened_is_new builtin standard opening_is (omega arith)
 
-no_real : (e k : ℕ) (r : RealView) → real_in ((entity_flow e empty_world).slot k) ≡ Some r → ⊥
+pub no_real : (e k : ℕ) (r : RealView) → real_in ((entity_flow e empty_world).slot k) ≡ Some r → ⊥
 no_real e k r at = let z = sym (opened_has_none builtin standard opening_is (omega arith) e k) ∙ at in cc
 
 no_part : (e k : ℕ) (p : PartView) → ((entity_flow e empty_world).slot k).base.part ≡ Some p → ⊥
@@ -250,6 +251,7 @@ for_part = record {
 
 brings : FitsParts opening empty_world first_batch
 brings = record {
+  numbers = (omega arith, tt);
   calls = λ e p at.
       let two = is_its e (home_of opening e) p
       (ap (λ w. ((entity_flow e w).slot (home_of opening e)).base.part) (sym load_alone) ∙ at) in
@@ -257,10 +259,18 @@ brings = record {
   small = λ e k r at. absurd (no_real e k r at);
 }
 
+pub parts_between : HasPartsBetweenRounds opening empty_world
+parts_between = record {
+  parts = λ e k r at. absurd (no_real e k r at);
+  clients = λ e k r at. absurd (no_real e k r at);
+  entities = λ e le k. record { real = ap real_in (is_new e k); copy = ap (λ h. copy_in h.cell.slot.ghost) (is_new e k) };
+  views = λ e k r at. absurd (no_real e k r at);
+}
+
 pub may_be_loaded : MayBeLoaded opening empty_world first_batch
 may_be_loaded = record {
   between = between;
-  parts = record { parts = λ e k r at. absurd (no_real e k r at); clients = λ e k r at. absurd (no_real e k r at) };
+  parts = parts_between;
   fits = fits;
   brings = brings;
 }

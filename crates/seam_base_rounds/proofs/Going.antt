@@ -1,11 +1,14 @@
 -- What a loaded world has of each base part, and what it keeps of that over every list of events.
-use Rattle.std.proofs.Common.{◌≡◌, ℕ, ◌+◌, ◌^◌, ◌<◌, List, Some, sym, ap, ◌∙◌, subst, arith, inl, inr}
+use Rattle.std.proofs.Common.{◌≡◌, ℕ, ◌+◌, ◌^◌, ◌<◌, ◌≤◌, List, ◌∷◌, Some, sym, ap, ◌∙◌, subst, arith, inl, inr}
 use Rattle.std.proofs.lemmas.Bool.{cases_eq}
 use Rattle.seam_machine.specs.Nets.{IsQuiet, LeadsTo}
 use Rattle.seam_machine.specs.declared.machines.Event.{Event}
 use Rattle.seam_flows.specs.Flows.{letters_of}
 use Rattle.seam_call.specs.declared.order.Batch.{Batch}
+use Rattle.seam_call.specs.declared.shown.Update.{Update as UpdateData}
 use Rattle.seam_entity.specs.Reals.{RealView}
+use Rattle.seam_entity.specs.declared.message.Msg.{Msg}
+use Rattle.seam_entity.specs.declared.message.Msg.TheVariants.{Update}
 use Rattle.seam_steps.specs.Bases.{PartView}
 use Rattle.seam_steps.specs.Nodes.{World, node_steps, node_has_work}
 use Rattle.seam_steps.specs.Loads.{loaded}
@@ -19,13 +22,17 @@ use Rattle.seam_between.proofs.Loaded.{no_mail}
 use Rattle.seam_between.proofs.Going.{frame_loaded, settled_loaded, one_loaded, spared_loaded}
 use Rattle.seam_base_calls.specs.WitnessMoves.{sent_by}
 use Rattle.seam_base_calls.specs.BaseTurns.{home_of, HasBaseCalls}
+use Rattle.seam_base_calls.specs.Clients.{FindsClient}
 use Rattle.seam_base_calls.specs.Strays.{NothingIsStray}
 use Rattle.seam_base_calls.proofs.AloneRuns.{alone_leads}
 use Rattle.seam_base_calls.proofs.BaseQuiet.{all_executed}
 use Rattle.seam_base_calls.proofs.StrayRuns.{alone_without_stray, client_without_stray}
 use Rattle.seam_base_calls.proofs.ClientLeads.{both_leads}
-use Rattle.seam_base_rounds.specs.Parts.{next_to, base_calls_of, MayBeLoaded, lines_of, most_told, TellsFew}
-use Rattle.seam_base_rounds.proofs.Attaching.{are_for_loaded, lines_loaded}
+use Rattle.seam_base_rounds.specs.Parts.{next_to, base_calls_of, MayBeLoaded, lines_of}
+use Rattle.seam_looks.specs.Telling.{SeesFew, looks_left}
+use Rattle.seam_base_rounds.proofs.Ticking.{most_told, TellsFew, tells_few, sees_then, few_loaded, looks_loaded}
+use Rattle.seam_base_rounds.proofs.Attaching.{are_for_loaded, lines_loaded, sees_loaded}
+use Rattle.seam_base_rounds.proofs.Updates.{update_finds}
 use Rattle.seam_base_rounds.proofs.Serving.{HasItStill, Serves, bare, served, starts, HasNumbers, serves_then}
 use Rattle.seam_base_rounds.proofs.Loaded.{LoadedPart, part_loaded}
 use Rattle.seam_base_rounds.proofs.Turns.{few_more, calls_loaded, routes_loaded}
@@ -72,7 +79,7 @@ module _ (f : Frame) (w : World) (b : Batch) (may : MayBeLoaded f w b) (e k : �
       (are_for_loaded f w b may.between may.fits may.parts e k r here its_part.settled.part its_part.settled.here)
       (omega (arith, few))
 
-  module _ (v : World) (es : List Event) (run : LeadsTo node_has_work node_steps (loaded w b) es v) (told : TellsFew e r v) where
+  module _ (v : World) (es : List Event) (run : LeadsTo node_has_work node_steps (loaded w b) es v) where
     abbrev g : Frame
     g = framed f b
 
@@ -81,6 +88,24 @@ module _ (f : Frame) (w : World) (b : Batch) (may : MayBeLoaded f w b) (e k : �
 
     abbrev loaded_calls : HasBaseCalls g e r.ty first (base_calls_of b e) (loaded w b)
     loaded_calls = calls_loaded f w b may e k r here its_part
+
+    looks_few : looks_left e (loaded w b) ≤ 2 ^ 23
+    looks_few =
+        let left = looks_loaded f w b may.between may.fits may.parts may.brings e in
+        let few = may.fits.few in
+        omega (arith, left, few)
+
+    pub told : TellsFew e r v
+    told =
+        tells_few g e r.ty r its_part.settled.part (loaded w b) still_loaded
+        (few_loaded f w b may.between may.fits may.parts may.brings)
+        (sees_loaded f w b may.between may.fits may.parts e k r here) (2 ^ 23) looks_few (omega arith) v es run
+
+    pub sees_after : (j : ℕ) (q : RealView) → real_in ((entity_flow e v).slot j) ≡ Some q → SeesFew q
+    sees_after =
+        (sees_then g e r.ty r its_part.settled.part (loaded w b) still_loaded
+        (few_loaded f w b may.between may.fits may.parts may.brings)
+        (sees_loaded f w b may.between may.fits may.parts e k r here) (2 ^ 23) looks_few (omega arith) v es run).cells
 
     abbrev most : ℕ
     most = sent_by r + most_told
@@ -124,3 +149,9 @@ module _ (f : Frame) (w : World) (b : Batch) (may : MayBeLoaded f w b) (e k : �
 
     pub none_strays : NothingIsStray g e v
     none_strays = strays_by serves_loaded
+
+    pub update_finds_it : (a j : ℕ) (u : UpdateData) (ms : List Msg) → (entity_flow e v).mail a j ≡ Update u ∷ ms →
+        FindsClient g e j ((entity_flow e v).slot j).base u
+    update_finds_it a j u ms at =
+        update_finds g e r.ty (loaded w b) v es run (in_frame f w b may.between may.fits) still_loaded.spared most numbers
+        still_loaded.still a j u ms at serves_loaded

@@ -1,5 +1,5 @@
 -- A load that gives a settled entity no call and no reap, as those of the last phases: what the laws of clients ask of it.
-use Rattle.std.proofs.Common.{◌≡◌, ℕ, ◌+◌, ◌^◌, ◌<◌, ◌≤◌, Bool, false, cond, eqb, nat_lt, List, [], ◌∷◌, map, length, Option, None, Some, refl}
+use Rattle.std.proofs.Common.{◌≡◌, ℕ, ◌+◌, ◌^◌, ◌<◌, ◌≤◌, false, cond, nat_lt, List, [], ◌∷◌, length, Option, None, Some, refl}
 use Rattle.std.proofs.Common.{sym, ap, ◌∙◌, subst, arith, inl, inr}
 use Rattle.std.specs.Prelude.{option_map, slice_get}
 use Rattle.std.specs.List.{AllByRecursion}
@@ -13,8 +13,6 @@ use Rattle.seam_flows.specs.Flows.{slot_at, letters_of}
 use Rattle.seam_call.specs.declared.order.Order.{Order}
 use Rattle.seam_call.specs.declared.order.Order.TheVariants as order
 use Rattle.seam_entity.specs.Reals.{RealView}
-use Rattle.seam_entity.specs.Numbers.{limit}
-use Rattle.seam_steps.specs.Bases.{PartView}
 use Rattle.seam_steps.specs.Nodes.{NodeView, World, node_has_work}
 use Rattle.seam_steps.specs.Loads.{with_nodes}
 use Rattle.seam_moves.specs.Frames.{Frame, IsInFrame}
@@ -31,7 +29,7 @@ use Rattle.seam_rounds.proofs.Starting.{Given}
 use Rattle.seam_base_calls.specs.BaseTurns.{part_burden, node_base_burden, mine_base_burden, base_burden, home_of}
 use Rattle.seam_base_rounds.specs.Parts.{HasSettledPart, lines_of, HasSmallNumbers}
 use Rattle.seam_base_rounds.proofs.PartLoads.{part_at}
-use Rattle.seam_base_rounds.proofs.Still.{IsStill, is_still, none_calls}
+use Rattle.seam_base_rounds.proofs.Still.{is_still, none_calls}
 use Rattle.seam_base_rounds.proofs.Serving.{HasItStill}
 
 -- calm orders weigh what their reaps do

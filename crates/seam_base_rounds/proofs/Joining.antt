@@ -2,7 +2,6 @@
 use Rattle.std.proofs.Common.{◌≡◌, ℕ, Bool, true, false, cond, eqb, ◌||◌, List, [], ◌∷◌, Option, None, Some, refl, sym, ap, ◌∙◌}
 use Rattle.std.proofs.Common.{subst, inl, inr}
 use Rattle.std.specs.Prelude.{option_map}
-use Rattle.std.specs.Ordering.{nat_cmp, eq_by_cmp}
 use Rattle.std.specs.Cmp.{unsigned_tied}
 use Rattle.std.specs.FinMap as table
 use Rattle.std.proofs.lemmas.Bool.{cases_eq, eq-eqb, ne_eqb}
@@ -19,7 +18,7 @@ use Rattle.seam_steps.specs.Bases.{BaseView, PartView}
 use Rattle.seam_steps.specs.Nodes.{NodeView}
 use Rattle.seam_steps.specs.Nodes.NodeView.{Cell, Base}
 use Rattle.seam_steps.specs.Loads.{real_if, part_if, with_route, created_at, with_witness, with_proxy, attached, cell_round, base_round}
-use Rattle.seam_steps.specs.Loads.{ordered_at, order_if, part_begins}
+use Rattle.seam_steps.specs.Loads.{ordered_at, order_if, part_begins, new_part}
 use Rattle.seam_steps.proofs.Slots.{get-set_at}
 use Rattle.seam_moves.specs.Frames.{Frame, here_at, IsAt}
 use Rattle.seam_moves.specs.Sights.{has_of}
@@ -28,7 +27,7 @@ use Rattle.seam_between.proofs.Loading.{each, each_keeps, Any, any, node_loaded,
 use Rattle.seam_between.proofs.Staying.{other_set}
 use Rattle.seam_between.proofs.Making.{AreOthers}
 use Rattle.seam_base_calls.specs.PartMoves.{HasNoProxy}
-use Rattle.seam_base_rounds.proofs.PartLoads.{part_at, part_begun, others_created, part_in_round, parts_ordered, BareAt, bare_created}
+use Rattle.seam_base_rounds.proofs.PartLoads.{part_at, part_begun, others_created, part_in_round, parts_ordered}
 
 -- a node when the batch's entities were created
 abbrev pub peopled : Batch → NodeView → NodeView
@@ -226,33 +225,63 @@ module _ (e : ℕ) where
   part_peopled b s others =
       others_created e b.tree b.creates others (base_round (cells_of b.tree) s) ∙ part_begun e (cells_of b.tree) s
 
-  -- those of one that the batch creates have no witness and no client
-  abbrev Unseen : NodeView → Type 0
-  Unseen n = (r : RealView) → real_at n ≡ Some r → r.witness ≡ None
+  -- what is true of each real that is made is true of that of an entity that the batch creates
+  module _ (P : RealView → Type 0) (makes : (h : Here) (x : Create) → P (created h x.entity x.ty x.pos)) where
+    abbrev IsMade : NodeView → Type 0
+    IsMade n = (r : RealView) → real_at n ≡ Some r → P r
 
-  unseen_by : (t : Division) (x : Create) (c : CellView) (b : Bool) → Unseen (Cell c) → Unseen (Cell (real_if b c x))
-  unseen_by t x c false h = h
-  unseen_by t x c true h = λ r at. elim (cases_eq x.entity e) [
-    | inl is ↦
-        let made = created c.here x.entity x.ty x.pos in
-        let there : table.get (set_at c.reals x.entity (Some made)) e ≡ Some made =
-        get-set_at c.reals x.entity e (Some made)
-        ∙ ap (λ b. cond b (Some made) (table.get c.reals e)) (unsigned_tied e x.entity ∙ eq-eqb e x.entity (sym is)) in
-        let same : made ≡ r = let z = sym there ∙ at in cc in
-        ap (λ (q : RealView). q.witness) (sym same)
-    | inr n ↦ h r (sym (other_set e c.reals x.entity (Some (created c.here x.entity x.ty x.pos)) n) ∙ at)
-  ]
+    made_by : (t : Division) (x : Create) (c : CellView) (b : Bool) → IsMade (Cell c) → IsMade (Cell (real_if b c x))
+    made_by t x c false h = h
+    made_by t x c true h = λ r at. elim (cases_eq x.entity e) [
+      | inl is ↦
+          let made = created c.here x.entity x.ty x.pos in
+          let there : table.get (set_at c.reals x.entity (Some made)) e ≡ Some made =
+          get-set_at c.reals x.entity e (Some made)
+          ∙ ap (λ b. cond b (Some made) (table.get c.reals e)) (unsigned_tied e x.entity ∙ eq-eqb e x.entity (sym is)) in
+          let same : made ≡ r = let z = sym there ∙ at in cc in
+          subst P same (makes c.here x)
+      | inr n ↦ h r (sym (other_set e c.reals x.entity (Some (created c.here x.entity x.ty x.pos)) n) ∙ at)
+    ]
 
-  unseen_created : (t : Division) (x : Create) (s : NodeView) → Any x → Unseen s → Unseen (created_at t x s)
-  unseen_created t x (Cell c) u h = unseen_by t x c (eqb (leaf_at t x.pos) c.here.me) h
-  unseen_created t x (Base n) u h = h
+    made_created : (t : Division) (x : Create) (s : NodeView) → Any x → IsMade s → IsMade (created_at t x s)
+    made_created t x (Cell c) u h = made_by t x c (eqb (leaf_at t x.pos) c.here.me) h
+    made_created t x (Base n) u h = h
 
-  pub unseen_peopled : (b : Batch) (s : NodeView) → real_at s ≡ None → Unseen (peopled b s)
-  unseen_peopled b s none =
-      each_keeps (created_at b.tree) Unseen Any (unseen_created b.tree) b.creates (any b.creates) (base_round (cells_of b.tree) s)
-      (λ r at. absurd (let z = sym (begun_real (cells_of b.tree) s ∙ none) ∙ at in cc))
+    pub made_peopled : (b : Batch) (s : NodeView) → real_at s ≡ None → IsMade (peopled b s)
+    made_peopled b s none =
+        each_keeps (created_at b.tree) IsMade Any (made_created b.tree) b.creates (any b.creates) (base_round (cells_of b.tree) s)
+        (λ r at. absurd (let z = sym (begun_real (cells_of b.tree) s ∙ none) ∙ at in cc))
+
+  -- and of each part
+  module _ (P : PartView → Type 0) (makes : (h : Here) (ty : ℕ) → P (new_part h ty)) where
+    abbrev IsNewPart : NodeView → Type 0
+    IsNewPart n = (p : PartView) → part_at e n ≡ Some p → P p
+
+    part_by : (x : Create) (n : BaseView) (b : Bool) → IsNewPart (Base n) → IsNewPart (Base (part_if b n x))
+    part_by x n false h = h
+    part_by x n true h = λ p at. elim (cases_eq x.entity e) [
+      | inl is ↦
+          let new = new_part n.here x.ty in
+          let there : table.get (set_at n.parts x.entity (Some new)) e ≡ Some new =
+          get-set_at n.parts x.entity e (Some new)
+          ∙ ap (λ b. cond b (Some new) (table.get n.parts e)) (unsigned_tied e x.entity ∙ eq-eqb e x.entity (sym is)) in
+          let same : new ≡ p = let z = sym there ∙ at in cc in
+          subst P same (makes n.here x.ty)
+      | inr m ↦ h p (sym (other_set e n.parts x.entity (Some (new_part n.here x.ty)) m) ∙ at)
+    ]
+
+    part_created : (t : Division) (x : Create) (s : NodeView) → Any x → IsNewPart s → IsNewPart (created_at t x s)
+    part_created t x (Cell c) u h = h
+    part_created t x (Base n) u h = part_by x (with_route n x.entity (leaf_at t x.pos)) (eqb (base_of n.here x.entity) n.here.me) h
+
+    pub new_peopled : (b : Batch) (s : NodeView) → part_at e s ≡ None → IsNewPart (peopled b s)
+    new_peopled b s none =
+        each_keeps (created_at b.tree) IsNewPart Any (part_created b.tree) b.creates (any b.creates) (base_round (cells_of b.tree) s)
+        (λ p at. absurd (let z = sym (part_begun e (cells_of b.tree) s ∙ ap (option_map part_begins) none) ∙ at in cc))
+
+  -- so they have no witness and no client
+  pub unseen_peopled : (b : Batch) (s : NodeView) → real_at s ≡ None → (r : RealView) → real_at (peopled b s) ≡ Some r → r.witness ≡ None
+  unseen_peopled b s none = made_peopled (λ r. r.witness ≡ None) (λ h x. refl) b s none
 
   pub bare_peopled : (b : Batch) (s : NodeView) → part_at e s ≡ None → HasNoProxy (part_at e (peopled b s))
-  bare_peopled b s none =
-      each_keeps (created_at b.tree) (BareAt e) Any (bare_created e b.tree) b.creates (any b.creates) (base_round (cells_of b.tree) s)
-      (λ p at. absurd (let z = sym (part_begun e (cells_of b.tree) s ∙ ap (option_map part_begins) none) ∙ at in cc))
+  bare_peopled b s none = new_peopled (λ p. p.proxy ≡ None) (λ h ty. refl) b s none

@@ -4,9 +4,12 @@ pub mod Loaded
 pub mod Turns
 pub mod Serving
 pub mod Attaching
+pub mod Ticking
+pub mod Updates
 pub mod Going
 pub mod CallsEnd
 pub mod Still
 pub mod Idling
 pub mod Calms
 pub mod ExampleFits
+pub mod ExampleRound

@@ -206,7 +206,7 @@ module _ (e : ℕ) where
       (set_bare n.here x.ty (table.get n.parts e) (eq_by_cmp nat_cmp e x.entity) h)
   bare_by n x false h = h
 
-  pub bare_created : (t : Division) (x : Create) (s : NodeView) → Any x → BareAt s → BareAt (created_at t x s)
+  bare_created : (t : Division) (x : Create) (s : NodeView) → Any x → BareAt s → BareAt (created_at t x s)
   bare_created t x (Cell c) u h = h
   bare_created t x (Base n) u h = bare_by (with_route n x.entity (leaf_at t x.pos)) x (eqb (base_of n.here x.entity) n.here.me) h
 

@@ -1,13 +1,13 @@
 -- An entity with a client or without one, from a world in which nothing of it is on its way to one that is quiet.
-use Rattle.std.proofs.Common.{◌≡◌, ℕ, ◌+◌, ◌^◌, ◌<◌, ◌≤◌, ◌⊎◌, ◌-◌, Bool, true, false, cond, is_some, List, [], ◌∷◌, ◌++◌, length, Option, None}
+use Rattle.std.proofs.Common.{◌≡◌, ℕ, ◌+◌, ◌^◌, ◌<◌, ◌≤◌, ◌-◌, true, false, cond, is_some, List, [], ◌∷◌, length, Option, None}
 use Rattle.std.proofs.Common.{Some, refl, sym, ap, ◌∙◌, subst, arith, inl, inr}
 use Rattle.std.specs.List.{AllByRecursion}
 use Rattle.std.proofs.lemmas.Bool.{cases_eq, eq-eqb}
-use Rattle.std.proofs.lemmas.List.{append-nil, length-append, append_cancel_left}
+use Rattle.std.proofs.lemmas.List.{append-nil, append_cancel_left}
 use Rattle.seam_machine.specs.Nets.{IsQuiet, LeadsTo}
 use Rattle.seam_machine.specs.declared.machines.Event.{Event}
 use Rattle.seam_flows.specs.Flows.{Flow, letters_of}
-use Rattle.seam_order.specs.Held.{OrderView, item_at, IsInOrder, RiseFrom}
+use Rattle.seam_order.specs.Held.{item_at, RiseFrom}
 use Rattle.seam_delivery.specs.Deliveries.{Delivery}
 use Rattle.seam_delivery.specs.Lives.{Life}
 use Rattle.seam_delivery.specs.Numbered.{number_from, numbered}
@@ -52,7 +52,7 @@ module _ (f : Frame) (e ty : ℕ) (r : RealView) (p : PartView) (w : World) (h :
   abbrev flow : Flow Has Msg
   flow = entity_flow e w
 
-  each_real : (P : RealView → Type 0) → P r → EachReal e P w
+  pub each_real : (P : RealView → Type 0) → P r → EachReal e P w
   each_real P is = record {
     cells = λ k q at. subst P (h.real k q at) is;
     hands = λ a k. subst (AllByRecursion (λ m. (q : RealView) → real_of m ≡ Some q → P q)) (sym (h.still a k)) tt;
@@ -140,6 +140,11 @@ module _ (f : Frame) (e ty : ℕ) (r : RealView) (p : PartView) (w : World) (h :
 
   pub starts : AreFor r.witness p.proxy p.version → sent_by r < 2 ^ 62 → Serves f e ty w
   starts are few = starts_by r.witness p.proxy refl refl are few
+
+-- what its witness told
+module _ {f : Frame} {e ty : ℕ} {r : RealView} {p : PartView} {w : World} where
+  pub told_at_start : HasItStill f e ty r p w → HasToldAtMost e (sent_by r) w
+  told_at_start h = each_real f e ty r p w h (λ q. sent_by q ≤ sent_by r) (omega arith)
 
 -- ---- over a list of events
 

@@ -25,7 +25,8 @@ use Rattle.seam_between.specs.Between.{order_in, numbers_of, IsBetweenRounds, Is
 use Rattle.seam_base_calls.specs.PartMoves.{base_call_of}
 use Rattle.seam_base_calls.specs.BaseTurns.{home_of, HasNoClient}
 use Rattle.seam_base_calls.specs.WitnessMoves.{sent_by}
-use Rattle.seam_base_calls.specs.Clients.{shown_in, HasToldAtMost}
+use Rattle.seam_base_calls.specs.Clients.{shown_in}
+use Rattle.seam_looks.specs.Telling.{most_entities, IsBlank, SeesFew}
 
 -- ---- the record
 
@@ -73,6 +74,10 @@ pub record HasPartsBetweenRounds (f : Frame) (w : World) : Type 0 where
   -- and its real has a witness exactly where the part has a client, in step with it
   pub clients : (e k : ℕ) (r : RealView) → real_in ((entity_flow e w).slot k) ≡ Some r → (p : PartView) →
       ((entity_flow e w).slot (home_of f e)).base.part ≡ Some p → AreFor r.witness p.proxy p.version
+  -- each that is there, or of which there is a copy, has a number below the bound
+  pub entities : (e : ℕ) → most_entities ≤ e → (k : ℕ) → IsBlank ((entity_flow e w).slot k)
+  -- and so has each that a witness has in view, once
+  pub views : (e k : ℕ) (r : RealView) → real_in ((entity_flow e w).slot k) ≡ Some r → SeesFew r
 
 -- ---- a batch
 
@@ -109,10 +114,13 @@ pub record IsForPart (f : Frame) (b : Batch) (e : ℕ) (p : PartView) : Type 0 w
 abbrev pub lines_of : RealView → PartView → ℕ
 lines_of r p = sent_by r + p.version
 
--- a batch that a world with such parts may be given: its calls fit the parts that are there once it is loaded, and the numbers of those
--- that were there have room for all of them
+-- a batch that a world with such parts may be given
 pub record FitsParts (f : Frame) (w : World) (b : Batch) : Type 0 where
+  -- the entities that it creates have numbers below the bound
+  pub numbers : AllByRecursion (λ x. x.entity < most_entities) b.creates
+  -- its calls fit the parts that are there once it is loaded
   pub calls : (e : ℕ) (p : PartView) → ((entity_flow e (loaded w b)).slot (home_of f e)).base.part ≡ Some p → IsForPart f b e p
+  -- and the numbers of those that were there have room for all of them
   pub small : (e k : ℕ) (r : RealView) → real_in ((entity_flow e w).slot k) ≡ Some r → (p : PartView) →
       ((entity_flow e w).slot (home_of f e)).base.part ≡ Some p → lines_of r p < 2 ^ 61
 
@@ -131,14 +139,6 @@ pub record MayBeLoaded (f : Frame) (w : World) (b : Batch) : Type 0 where
   pub parts : HasPartsBetweenRounds f w
   pub fits : IsFitting f w b
   pub brings : FitsParts f w b
-
--- what a witness tells in a phase of a round is at most this
-abbrev pub most_told : ℕ
-most_told = 2 ^ 55
-
--- in v the witness of the entity, whose real was r, has told no more than that
-abbrev pub TellsFew : ℕ → RealView → World → Type 0
-TellsFew e r v = HasToldAtMost e (sent_by r + most_told) v
 
 -- the numbers of a world that is to reap, or to look, have room: those of each real and those of its client
 pub record HasSmallNumbers (f : Frame) (u : World) : Type 0 where

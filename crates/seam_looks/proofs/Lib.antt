@@ -3,3 +3,4 @@ pub mod Absent
 pub mod Looking
 pub mod LooksLeft
 pub mod Telling
+pub mod Silent

@@ -151,10 +151,10 @@ module _ (P : RealView → Type 0) (by_witness : (r q : RealView) → q.witness 
 
 module _ (f : Frame) (e : ℕ) (w : World) (v : Event) (o : Occurs w v) (q : IsInFrame f w)
     (Fact : Has → Option Msg → Has → List (ℕ × Msg) → Type 0) where
-  abbrev Facts : ℕ → Has → Option Msg → Has → (ℕ → List Msg) → Type 0
+  abbrev pub Facts : ℕ → Has → Option Msg → Has → (ℕ → List Msg) → Type 0
   Facts k s i t out = (m : MovesTo f e k s i t out) × Fact s i t m.sent
 
-  event_fact : Fact (has_of e o.node) (letter_in (mine e) o.input) (has_of e (node_steps o.node o.input).state)
+  pub event_fact : Fact (has_of e o.node) (letter_in (mine e) o.input) (has_of e (node_steps o.node o.input).state)
       (concerning e (node_steps o.node o.input).sent) → Goes Facts (entity_flow e w) (entity_flow e (happens node_steps w v))
   event_fact fact =
       event_goes (mine e) (has_of e) has_none Facts node_steps w v o q.sound.square (sound_sends node_laws w v o q.sound) (

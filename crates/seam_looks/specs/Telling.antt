@@ -15,6 +15,7 @@ use Rattle.seam_entity.specs.Here.{cell_count}
 use Rattle.seam_steps.specs.Nodes.{NodeView, World}
 use Rattle.seam_moves.specs.Sights.{Has, mine, has_of, entity_flow}
 use Rattle.seam_ones.specs.Ones.{real_in}
+use Rattle.seam_base_calls.specs.PartMoves.{update_in}
 
 -- ---- how many entities there may be
 
@@ -93,3 +94,9 @@ looks_left e w = weight (node_looks e) (mine_looks e) w
 -- a look tells at most the own state, what leaves and what changes of what is in view, and what enters of what is known
 abbrev pub most_shown : ℕ
 most_shown = 1 + 3 * most_entities
+
+-- ---- nothing is told
+
+-- no update is on its way to the entity's client
+abbrev pub IsToldNothing : ℕ → World → Type 0
+IsToldNothing e w = (a k : ℕ) → AllByRecursion (λ m. update_in m ≡ None) ((entity_flow e w).mail a k)
