@@ -14,3 +14,6 @@ pub mod ReapPhase
 pub mod LoadedNodes
 pub mod HandOvers
 pub mod RoundStart
+pub mod Batched
+pub mod PassSums
+pub mod RoundPhase

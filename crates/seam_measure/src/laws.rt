@@ -1,18 +1,22 @@
 //! The laws, each on a function that does nothing.
 
-ghost use Rattle.std.specs.Prelude.{◌≡◌, ℕ, ◌+◌, ◌*◌, ◌≤◌, true, List, length};
+ghost use Rattle.std.specs.Prelude.{◌≡◌, ℕ, ◌+◌, ◌*◌, ◌≤◌, true, false, List, length};
+ghost use Rattle.std.specs.List.{AllByRecursion};
 ghost use Rattle.seam_machine.specs.Nets.{enabled, LeadsTo};
 ghost use Rattle.seam_machine.specs.Events.{Occurs};
 ghost use Rattle.seam_machine.specs.declared.machines.Event.{Event};
 ghost use Rattle.seam_runs.specs.Weights.{Lowers};
+ghost use Rattle.seam_call.specs.declared.order.Batch.{Batch};
 ghost use Rattle.seam_steps.specs.Nodes.{World, node_steps, node_has_work};
-ghost use Rattle.seam_steps.specs.Loads.{reaps_loaded};
+ghost use Rattle.seam_steps.specs.Loads.{loaded, reaps_loaded};
 ghost use Rattle.seam_moves.specs.Frames.{Frame, IsInFrame};
 ghost use Rattle.seam_between.specs.Between.{IsBetweenRounds};
 ghost use Rattle.seam_rounds.specs.Rounds.{AreReapable};
 ghost use Rattle.seam_measure.specs.Weights.{Sizes, world_weight};
 ghost use Rattle.seam_measure.specs.Events.{is_pass, NodeCan, AllCan, all_passes};
-ghost use Rattle.seam_measure.specs.Phases.{HoldsNothing};
+ghost use Rattle.seam_base_calls.specs.Clients.{is_tick_order};
+ghost use Rattle.seam_base_rounds.specs.Parts.{MayBeLoaded, IsAlone};
+ghost use Rattle.seam_measure.specs.Phases.{HoldsNothing, AllLinesKeepRoom, entities, cell_orders, base_orders, tick_orders, events_of_round};
 
 /// An enabled event whose node can do what it is to do lowers the weight of the world, but for one that passes a call on, which does not
 /// raise it.
@@ -34,4 +38,15 @@ pub fn reaps_end()
         (vs : List Event) (v : World) → LeadsTo node_has_work node_steps (reaps_loaded u es) vs v → length vs ≤ 18 * length es }
     ensures nothing { (f : Frame) (u : World) → IsBetweenRounds f u → HoldsNothing u → (es : List ℕ) → AreReapable u es →
         (vs : List Event) (v : World) → LeadsTo node_has_work node_steps (reaps_loaded u es) vs v → HoldsNothing v }
+{}
+
+/// A round whose batch has no tick is no longer than its table says, over every list of events, where the lines of clients keep room, as
+/// they do where there are none (`alone`).
+pub fn a_round_without_ticks_ends()
+    ensures bound { (f : Frame) (w : World) (b : Batch) → MayBeLoaded f w b → HoldsNothing w → AllLinesKeepRoom f w b →
+        AllByRecursion (λ o. is_tick_order o.1 ≡ false) b.orders → (v : World) (es : List Event) →
+        LeadsTo node_has_work node_steps (loaded w b) es v → (n : ℕ) →
+        length es
+        ≤ events_of_round f.settings.bases (cell_orders b) (base_orders b) (tick_orders b) (entities (loaded w b)) n }
+    ensures alone { (f : Frame) (w : World) (b : Batch) → ((e : ℕ) → IsAlone e w b) → AllLinesKeepRoom f w b }
 {}

@@ -7,4 +7,7 @@
 
 mod laws;
 
-pub use laws::{a_run_is_no_longer_than_its_start_weighs, an_event_lowers_the_weight, reaps_end};
+pub use laws::{
+    a_round_without_ticks_ends, a_run_is_no_longer_than_its_start_weighs,
+    an_event_lowers_the_weight, reaps_end,
+};
