@@ -17,3 +17,6 @@ pub mod RoundStart
 pub mod Batched
 pub mod PassSums
 pub mod RoundPhase
+pub mod Tickless
+pub mod RoundTicks
+pub mod LookPhase

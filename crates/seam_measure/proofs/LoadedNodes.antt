@@ -157,11 +157,11 @@ module _ (Ok : Order → Type 0) where
   plain_if true b o ok h = (all_append Ok b.orders (o ∷ []) h.0 (ok, tt), h.1)
   plain_if false b o ok h = h
 
-  plain_by : (o : ℕ × Order) (s : NodeView) → Ok o.1 → IsPlain Ok s → IsPlain Ok (ordered_at o s)
+  pub plain_by : (o : ℕ × Order) (s : NodeView) → Ok o.1 → IsPlain Ok s → IsPlain Ok (ordered_at o s)
   plain_by o (Cell c) ok h = h
   plain_by o (Base b) ok h = plain_if (eqb o.0 b.here.me) b o.1 ok h
 
-  blank_is_plain : (s : NodeView) → IsBlank s → IsPlain Ok s
+  pub blank_is_plain : (s : NodeView) → IsBlank s → IsPlain Ok s
   blank_is_plain (Cell c) h = h
   blank_is_plain (Base b) h = (subst (AllByRecursion Ok) (sym h.0) tt, h.1)
 

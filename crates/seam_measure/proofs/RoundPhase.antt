@@ -1,4 +1,4 @@
--- A round without ticks ends.
+-- How long a round is, where its nodes can do what they are to do.
 use Rattle.std.proofs.Common.{◌≡◌, ℕ, ◌+◌, ◌*◌, ◌≤◌, ◌⊎◌, Bool, true, false, List, [], ◌∷◌, length, None, Some, refl, sym, ap}
 use Rattle.std.proofs.Common.{◌∙◌, subst, arith, inl, inr}
 use Rattle.std.specs.Prelude.{not, slice_get}
@@ -38,6 +38,7 @@ use Rattle.seam_between.proofs.Framing.{in_frame}
 use Rattle.seam_between.proofs.Going.{settled_loaded, spared_loaded}
 use Rattle.seam_between.proofs.Loading.{node_loaded, loaded_is, node_there}
 use Rattle.seam_rounds.proofs.Shape.{Somewhere, Nowhere, search_real, frame_leads}
+use Rattle.seam_strays.proofs.Beginning.{unknown_loaded}
 use Rattle.seam_strays.proofs.InRound.{nobody}
 use Rattle.seam_strays.proofs.NoStrays.{round_tasks}
 use Rattle.seam_ranks.proofs.HandedOver.{passed_few}
@@ -49,13 +50,14 @@ use Rattle.seam_base_calls.proofs.NoLooks.{looks_lead}
 use Rattle.seam_base_rounds.specs.Parts.{MayBeLoaded, no_client, IsAlone}
 use Rattle.seam_base_rounds.proofs.Loaded.{alone_loaded}
 use Rattle.seam_base_rounds.proofs.Going.{none_strays}
-use Rattle.seam_measure.specs.Weights.{Sizes, part_weight, order_weight}
-use Rattle.seam_measure.specs.Events.{BaseCan, NodeCan, all_passes}
+use Rattle.seam_measure.specs.Weights.{part_weight}
+use Rattle.seam_measure.specs.Weights.{Sizes, settle_weight, settling, order_weight, world_weight}
+use Rattle.seam_measure.specs.Events.{BaseCan, AllCan, all_passes}
 use Rattle.seam_measure.specs.Phases.{HoldsNothing, entities, one_if_cell, one_if_tick, cell_orders, base_orders, tick_orders}
 use Rattle.seam_measure.specs.Phases.{AllLinesKeepRoom, events_of_round}
-use Rattle.seam_measure.proofs.Bare.{IsBare, bare_leads}
+use Rattle.seam_measure.proofs.Bare.{IsIdle, idle_leads}
 use Rattle.seam_measure.proofs.Batched.{OrderIs, calls_are}
-use Rattle.seam_measure.proofs.Cans.{base_can, can_by}
+use Rattle.seam_measure.proofs.Cans.{base_can}
 use Rattle.seam_measure.proofs.Counts.{none_times}
 use Rattle.seam_measure.proofs.HandOvers.{hands_few}
 use Rattle.seam_measure.proofs.LoadedNodes.{loaded_plain}
@@ -63,15 +65,15 @@ use Rattle.seam_measure.proofs.NetWeights.{run_ends}
 use Rattle.seam_measure.proofs.Ordered.{OrdersAre, orders_lead}
 use Rattle.seam_measure.proofs.PassSums.{IsIn, passed_in, cells_bound, passes_are_ordered}
 use Rattle.seam_measure.proofs.RoundStart.{blank_at, loaded_weighs, left_few}
-use Rattle.seam_measure.proofs.Starts.{IsPlain, IsSoleReal, looks_start, told_start, bare_start}
+use Rattle.seam_measure.proofs.Starts.{IsPlain, IsSoleReal, parts_none}
 
 -- ---- each order is one of the batch's
 
-weaker : {X : Type 0} (P Q : X → Type 0) (xs : List X) → ((x : X) → P x → Q x) → AllByRecursion P xs → AllByRecursion Q xs
+pub weaker : {X : Type 0} (P Q : X → Type 0) (xs : List X) → ((x : X) → P x → Q x) → AllByRecursion P xs → AllByRecursion Q xs
 weaker P Q [] g all = tt
 weaker P Q (x ∷ xs) g all = (g x all.0, weaker P Q xs g all.1)
 
-both_all : {X : Type 0} (P Q : X → Type 0) (xs : List X) → AllByRecursion P xs → AllByRecursion Q xs → AllByRecursion (λ x. P x × Q x) xs
+pub both_all : {X : Type 0} (P Q : X → Type 0) (xs : List X) → AllByRecursion P xs → AllByRecursion Q xs → AllByRecursion (λ x. P x × Q x) xs
 both_all P Q [] a b = tt
 both_all P Q (x ∷ xs) a b = ((a.0, b.0), both_all P Q xs a.1 b.1)
 
@@ -95,30 +97,12 @@ orders_in [] = tt
 orders_in (o ∷ os) =
     (order_in os o, weaker (λ x. OrderIs (IsIn os) x.1) (λ x. OrderIs (IsIn (o ∷ os)) x.1) os (λ x h. order_later os o x.1 h) (orders_in os))
 
-tick_by : (o : Order) → is_tick_order o ≡ false → one_if_tick o ≡ 0
-tick_by (order.Cell c) h = refl
-tick_by (order.Base c) h = refl
-tick_by order.Tick h = cc
-tick_by (order.Reap e) h = refl
-
-ticks_none : (os : List (ℕ × Order)) → AllByRecursion (λ o. is_tick_order o.1 ≡ false) os → total (λ o. one_if_tick o.1) os ≡ 0
-ticks_none [] h = refl
-ticks_none (o ∷ os) h = let here = tick_by o.1 h.0 in let rest = ticks_none os h.1 in omega (arith, here, rest)
-
--- the sum of the weights, without ticks, and of the calls that are passed on
-the_sum : (b c d k e w : ℕ) → e * (1 + (17 + b)) + (c * (3 + (17 + b)) + 3 * d) + c * (1 + c) ≤ events_of_round b c d k e w
-the_sum b c d k e w = let same = plain b c d e in omega (arith, same)
-  where
-    plain : (b c d e : ℕ) →
-        e * (1 + (17 + b)) + (c * (3 + (17 + b)) + 3 * d) + c * (1 + c) ≡ c * (c + 4) + (3 * d + (e + (e + c) * (17 + b)))
-    plain b c d e = grind arith
-
 module _ (f : Frame) (w : World) (b : Batch) (may : MayBeLoaded f w b) (none : HoldsNothing w)
-    (no_ticks : AllByRecursion (λ o. is_tick_order o.1 ≡ false) b.orders) (room : AllLinesKeepRoom f w b) where
-  abbrev g : Frame
+    (room : AllLinesKeepRoom f w b) where
+  abbrev pub g : Frame
   g = framed f b
 
-  abbrev start : World
+  abbrev pub start : World
   start = loaded w b
 
   -- what is true of each order
@@ -126,20 +110,21 @@ module _ (f : Frame) (w : World) (b : Batch) (may : MayBeLoaded f w b) (none : H
   IsKnown o = (e : ℕ) → order_about o ≡ Some e → holders start e ≡ 1
 
   abbrev Ok : Order → Type 0
-  Ok o = IsKnown o × ((is_tick_order o ≡ false) × OrderIs (IsIn b.orders) o)
+  Ok o = IsKnown o × OrderIs (IsIn b.orders) o
 
   orders_ok : AllByRecursion (λ o. Ok o.1) b.orders
-  orders_ok =
-      both_all (λ o. IsKnown o.1) (λ o. (is_tick_order o.1 ≡ false) × OrderIs (IsIn b.orders) o.1) b.orders may.fits.known
-      (both_all (λ o. is_tick_order o.1 ≡ false) (λ o. OrderIs (IsIn b.orders) o.1) b.orders no_ticks (orders_in b.orders))
+  orders_ok = both_all (λ o. IsKnown o.1) (λ o. OrderIs (IsIn b.orders) o.1) b.orders may.fits.known (orders_in b.orders)
 
-  plain_start : EachNode (λ k s. IsPlain Ok s) start.nodes
-  plain_start k t at =
+  -- what nodes have where each order is such
+  pub plain_with : (Q : Order → Type 0) → AllByRecursion (λ o. Q o.1) b.orders → EachNode (λ k s. IsPlain Q s) start.nodes
+  plain_with Q all k t at =
       let was =
       node_there (slice_get w.nodes k) (node_loaded b) t
       (sym (slice_get-map (node_loaded b) w.nodes k) ∙ (sym (ap (λ v. slice_get v.nodes k) (loaded_is w b)) ∙ at)) in
-      subst (IsPlain Ok) was.2
-      (loaded_plain Ok b orders_ok was.0 (blank_at f w b may.between may.fits none k was.0 was.1))
+      subst (IsPlain Q) was.2 (loaded_plain Q b all was.0 (blank_at f w b may.between may.fits none k was.0 was.1))
+
+  plain_start : EachNode (λ k s. IsPlain Ok s) start.nodes
+  plain_start = plain_with Ok orders_ok
 
   orders_of_plain : (s : NodeView) → IsPlain Ok s → OrdersAre Ok s
   orders_of_plain (Cell c) h = tt
@@ -148,36 +133,19 @@ module _ (f : Frame) (w : World) (b : Batch) (may : MayBeLoaded f w b) (none : H
   orders_start : EachNode (λ k s. OrdersAre Ok s) start.nodes
   orders_start k s at = orders_of_plain s (plain_start k s at)
 
-  frame_start : IsInFrame g start
+  pub frame_start : IsInFrame g start
   frame_start = in_frame f w b may.between may.fits
 
-  empty_start : (x y : ℕ) → link start.rows x y ≡ []
+  pub empty_start : (x y : ℕ) → link start.rows x y ≡ []
   empty_start x y =
       ap (λ v. link v.rows x y) (loaded_is w b) ∙ quiet_links node_has_work w may.between.nodes.sound.square may.between.quiet x y
 
-  sole_start : (e : ℕ) → IsSoleReal e start
+  pub sole_start : (e : ℕ) → IsSoleReal e start
   sole_start e k r at j other = (settled_loaded f w b may.between may.fits e k r at).others j other
 
-  no_tick : (o : Order) → Ok o → is_tick_order o ≡ false
-  no_tick o h = h.1.0
-
-  uncalled : (e : ℕ) → holders start e ≡ 0 → (o : Order) → Ok o → order_concerns e o ≡ true → base_call_of o ≡ None
-  uncalled e zero (order.Cell c) h is = refl
-  uncalled e zero (order.Base c) h is =
-      let one = sym (ap (holders start) (eqb-true c.entity e is)) ∙ h.0 c.entity refl in
-      absurd (omega (arith, one, zero))
-  uncalled e zero order.Tick h is = refl
-  uncalled e zero (order.Reap x) h is = refl
-
   module _ (v : World) (es : List Event) (run : LeadsTo node_has_work node_steps start es v) where
-    frame_then : IsInFrame g v
+    pub frame_then : IsInFrame g v
     frame_then = frame_leads g start v es frame_start run
-
-    looks_then : (e : ℕ) → HasNoLooks e v
-    looks_then e =
-        let t = told_start g e start frame_start empty_start Ok plain_start no_tick (sole_start e) in
-        (looks_lead g e t.0 start v es frame_start (looks_start g e start frame_start empty_start Ok plain_start no_tick (sole_start e)) t.1
-        run).looks
 
     nowhere_none : (e : ℕ) → Nowhere e start → holders start e ≡ 0
     nowhere_none e n = nobody f w b may.between may.fits v es run e n
@@ -203,36 +171,34 @@ module _ (f : Frame) (w : World) (b : Batch) (may : MayBeLoaded f w b) (none : H
           let all = subst (AllByRecursion Ok) is (orders_lead Ok start v es orders_start run k (Base n) node) in
           first_by o os is all.0.0
 
-      bare_then : (e : ℕ) → Nowhere e start → (m : ℕ) × IsBare g e m v
-      bare_then e none =
-          let s =
-          bare_start g e start frame_start empty_start Ok plain_start no_tick (sole_start e) (uncalled e (nowhere_none e none)) in
-          (s.0, bare_leads g e s.0 start v es s.1 run)
+      idle_then : (e : ℕ) → Nowhere e start → IsIdle g e v
+      idle_then e no_one =
+          idle_leads g e start v es
+          (record {
+            unknown = unknown_loaded f w b may.between may.fits e (nowhere_none e no_one);
+            parts = parts_none Ok start plain_start e;
+          }) run
 
       part_by : (e : ℕ) (p : PartView) → table.get n.parts e ≡ Some p → Somewhere e start ⊎ Nowhere e start →
           (part_weight p ≡ 0) ⊎ (base.may_execute p ≡ true)
       part_by e p at (inl s) = inr ((free e s).parts p at)
       part_by e p at (inr none) =
-          let zero = (bare_then e none).1.parts k in
+          let zero = (idle_then e none).parts k in
           let same = ap (λ o. weight_or part_weight (slot_at (has_of e) has_none o).base.part) node in
           let its = ap (weight_or part_weight) at in
           inl (omega (arith, zero, same, its))
 
-      base_then : BaseCan n
+      pub base_then : BaseCan n
       base_then = base_can n first_free (λ e p at. part_by e p at (search_real e start))
 
     allowed : (x : Bool) → not x ≡ false → x ≡ true
     allowed true h = refl
     allowed false h = cc
 
-    cell_then : (k : ℕ) (c : CellView) → slice_get v.nodes k ≡ Some (Cell c) → (e : ℕ) (r : RealView) → table.get c.reals e ≡ Some r →
+    pub cell_then : (k : ℕ) (c : CellView) → slice_get v.nodes k ≡ Some (Cell c) → (e : ℕ) (r : RealView) → table.get c.reals e ≡ Some r →
         has_ready r.orders ≡ true → may_execute r ≡ true
     cell_then k c node e r at ready =
         allowed (may_execute r) ((round_tasks f w b may.between may.fits v es run k c node).ready e r at ready)
-
-    can_then : (z : Sizes) → f.settings.bases ≤ z.bases → (x : Event) (o : Occurs v x) → NodeCan z o.node o.input
-    can_then z enough x o =
-        can_by z g v enough frame_then looks_then cell_then base_then x.node x.from o.node o.input o.is_node o.is_fed
 
     -- ---- calls that are passed on
 
@@ -242,7 +208,7 @@ module _ (f : Frame) (w : World) (b : Batch) (may : MayBeLoaded f w b) (none : H
       where
         ordered_by : (s : NodeView) → OrdersAre Ok s → OrdersAre (OrderIs (IsIn b.orders)) s
         ordered_by (Cell c) h = tt
-        ordered_by (Base n) h = weaker Ok (OrderIs (IsIn b.orders)) n.orders (λ o h. h.1.1) h
+        ordered_by (Base n) h = weaker Ok (OrderIs (IsIn b.orders)) n.orders (λ o h. h.1) h
 
   -- ---- how long a round is
 
@@ -275,16 +241,15 @@ module _ (f : Frame) (w : World) (b : Batch) (may : MayBeLoaded f w b) (none : H
         let sum = passes_are_ordered b.orders start (λ u ds on a k c ms at. calls_then u ds on a k c ms at) es run.each in
         omega (arith, few, sum)
 
-    pub round_ends : (wits : ℕ) →
-        length es ≤ events_of_round f.settings.bases (cell_orders b) (base_orders b) (tick_orders b) (entities start) wits
-    round_ends wits =
-        let z : Sizes = record { bases = f.settings.bases; lines = 0; witnesses = λ k. 0 } in
-        let long = run_ends z g start frame_start (λ u ds on x o. can_then u ds on z (omega arith) x o) v es run in
+    -- the weight of the start, and the calls that are passed on
+    pub round_long : (z : Sizes) → AllCan z start →
+        length es ≤ entities start * settling z
+        + (cell_orders b * (3 + settle_weight z) + (3 * base_orders b + tick_orders b * order_weight z order.Tick)) + cell_orders b * most
+    round_long z can =
+        let long = run_ends z g start frame_start can v es run in
         let passed = passes_few in
         let weighs = loaded_weighs f w b may.between may.fits none z in
-        let quiet = none_times (tick_orders b) (order_weight z order.Tick) (ticks_none b.orders no_ticks) in
-        let sum = the_sum f.settings.bases (cell_orders b) (base_orders b) (tick_orders b) (entities start) wits in
-        omega (arith, long, passed, weighs, quiet, sum)
+        omega (arith, long, passed, weighs)
 
 -- entities without clients keep room
 pub alone_room : (f : Frame) (w : World) (b : Batch) → ((e : ℕ) → IsAlone e w b) → AllLinesKeepRoom f w b
