@@ -20,3 +20,5 @@ pub mod RoundPhase
 pub mod Tickless
 pub mod RoundTicks
 pub mod LookPhase
+pub mod Pigeons
+pub mod LookCounts
