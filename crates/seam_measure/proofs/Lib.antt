@@ -22,3 +22,5 @@ pub mod RoundTicks
 pub mod LookPhase
 pub mod Pigeons
 pub mod LookCounts
+pub mod AmongSlots
+pub mod Among

@@ -1,7 +1,7 @@
 -- A look has at most one line for each entity that there is.
 use Rattle.std.proofs.Common.{◌≡◌, ℕ, suc, ◌+◌, ◌≤◌, Bool, true, false, cond, T, ◌&&◌, ◌||◌, eqb, List, [], ◌∷◌, ◌++◌, length, map, filter}
 use Rattle.std.proofs.Common.{Option, None, Some, refl, sym, ap, ◌∙◌, subst, arith}
-use Rattle.std.specs.Prelude.{not, nat_le, nat_lt, is_some, find}
+use Rattle.std.specs.Prelude.{not, nat_le, nat_lt, is_none, is_some, find}
 use Rattle.std.specs.List.{AllByRecursion, list_any}
 use Rattle.std.specs.Map.{keys_of}
 use Rattle.std.specs.Ordering.{nat_cmp, is_lt}
@@ -13,6 +13,8 @@ use Rattle.std.specs.FinMap.Entries.{by_order, put, is_sorted, below_all}
 use Rattle.std.proofs.lemmas.Bool.Decides.{nat_tests}
 use Rattle.std.proofs.lemmas.List.{length-map, length-append}
 use Rattle.seam_flows.proofs.Following.{all_append}
+use Rattle.seam_ghosts.specs.declared.Ghost.{Ghost}
+use Rattle.seam_ghosts.specs.Book.{copy_in, with_copy, copied}
 use Rattle.seam_geo.specs.declared.pos.Pos.{Pos}
 use Rattle.seam_geo.specs.Pos.{distance}
 use Rattle.seam_view.specs.declared.Seen.{Seen}
@@ -22,15 +24,16 @@ use Rattle.seam_view.specs.Looks.{one_look, leaving, changed, entering, leaves, 
 use Rattle.seam_view.specs.Replica.{Replica, IsView, seen_of}
 use Rattle.seam_call.specs.declared.shown.GhostCopy.{GhostCopy}
 use Rattle.seam_entity.specs.Reals.{RealView, WitnessView}
-use Rattle.seam_steps.specs.Maps.{number_of}
+use Rattle.seam_steps.specs.Maps.{Map, number_of}
 use Rattle.seam_steps.specs.Looks.{Known, seen_as, looks_of}
+use Rattle.seam_steps.specs.Cells.{known_real, known_copy}
 use Rattle.seam_steps.specs.Cells.{CellView, is_of_another, known_in, known_to, has_witness, witnesses}
 use Rattle.seam_steps.specs.Nodes.{World}
 use Rattle.seam_steps.specs.Nodes.NodeView.{Cell}
 use Rattle.seam_steps.proofs.Tables.{entries_empty}
 use Rattle.seam_table.proofs.Found.{found}
 use Rattle.seam_measure.specs.Weights.{Sizes}
-use Rattle.seam_measure.specs.Looking.{is_among, AllAmong, entity_known, LooksAmong, LooksFit}
+use Rattle.seam_measure.specs.Looking.{is_among, AllAmong, LooksAmong, LooksFit}
 use Rattle.seam_measure.proofs.Pigeons.{Distinct, distinct_from, apart, pigeons, NoneAmong, distinct_append}
 
 abbrev pub seen_names : List Seen → List ℕ
@@ -214,7 +217,84 @@ names_as_seen : (ks : List Known) → seen_names (map seen_as ks) ≡ map (λ k.
 names_as_seen [] = refl
 names_as_seen (k ∷ ks) = ap (λ l. k.0 ∷ l) (names_as_seen ks)
 
-module _ (us : List ℕ) (c : CellView) (known : AllAmong us (map entity_known (known_in c))) where
+-- ---- entries and what is there
+
+module _ {X : Type 0} (t : ℕ × X → Bool) where
+  abbrev fails : ℕ × X → Bool
+  fails p = not (t p)
+
+  passes_by : (es : List (ℕ × X)) → find fails es ≡ None → AllByRecursion (λ p. t p ≡ true) es
+  passes_by [] h = tt
+  passes_by (p ∷ ps) h = by (t p) refl h (λ more. passes_by ps more)
+    where
+      by : (b : Bool) → t p ≡ b → cond (not b) (Some p) (find fails ps) ≡ None →
+          (find fails ps ≡ None → AllByRecursion (λ p. t p ≡ true) ps) → AllByRecursion (λ p. t p ≡ true) (p ∷ ps)
+      by true is h more = (is, more h)
+      by false is h more = cc
+
+  -- what passes wherever it is there passes in each entry
+  entries_pass : (m : Map X) → ((k : ℕ) (x : X) → table.get m k ≡ Some x → t (k, x) ≡ true) →
+      AllByRecursion (λ p. t p ≡ true) (table.entries m)
+  entries_pass m each = passes_by (table.entries m) (never (find fails (table.entries m)) refl)
+    where
+      never : (o : Option (ℕ × X)) → find fails (table.entries m) ≡ o → o ≡ None
+      never None at = refl
+      never (Some p) at =
+          let two = found fails m p at in
+          let good = ap not (each p.0 p.1 two.0) in
+          absurd (let z = sym two.1 ∙ good in cc)
+
+module _ (us : List ℕ) (c : CellView) (reals : (e : ℕ) (r : RealView) → table.get c.reals e ≡ Some r → is_among us e ≡ true)
+    (copies : (e : ℕ) (x : GhostCopy) → copy_in (table.get c.ghosts e) ≡ Some x → is_among us e ≡ true) where
+  abbrev names_copy : ℕ × Ghost GhostCopy → Bool
+  names_copy p = is_none p.1.copy || is_among us p.0
+
+  copy_named : (k : ℕ) (g : Ghost GhostCopy) → table.get c.ghosts k ≡ Some g → names_copy (k, g) ≡ true
+  copy_named k g at = by g.copy refl
+    where
+      by : (o : Option GhostCopy) → g.copy ≡ o → (is_none o || is_among us k) ≡ true
+      by None is = refl
+      by (Some x) is = copies k x (ap copy_in at ∙ is)
+
+  copied_named : (gs : List (ℕ × Ghost GhostCopy)) → AllByRecursion (λ p. names_copy p ≡ true) gs →
+      AllAmong us (map (λ p. p.0) (copied gs))
+  copied_named [] h = tt
+  copied_named (g ∷ gs) h = by g.1.copy h.0 (copied_named gs h.1)
+    where
+      by : (o : Option GhostCopy) → (is_none o || is_among us g.0) ≡ true → AllAmong us (map (λ p. p.0) (copied gs)) →
+          AllAmong us (map (λ p. p.0) (with_copy g.0 o (copied gs)))
+      by None is rest = rest
+      by (Some x) is rest = (is, rest)
+
+  named_again : {A : Type 0} (f : ℕ × A → Known) (ps : List (ℕ × A)) → ((p : ℕ × A) → (f p).0 ≡ p.0) →
+      AllAmong us (map (λ p. p.0) ps) → AllByRecursion (λ k. is_among us k.0 ≡ true) (map f ps)
+  named_again f [] same h = tt
+  named_again f (p ∷ ps) same h = (ap (is_among us) (same p) ∙ h.0, named_again f ps same h.1)
+
+  as_names : {A : Type 0} (ps : List (ℕ × A)) → AllByRecursion (λ p. is_among us p.0 ≡ true) ps → AllAmong us (map (λ p. p.0) ps)
+  as_names [] h = tt
+  as_names (p ∷ ps) h = (h.0, as_names ps h.1)
+
+  pub known_named : AllAmong us (map (λ p. p.0) (known_in c))
+  known_named =
+      as_names (known_in c)
+      (all_append (λ k. is_among us k.0 ≡ true) (map (known_real c.here) (table.entries c.reals)) _
+      (named_again (known_real c.here) (table.entries c.reals) (λ p. refl)
+      (as_names (table.entries c.reals) (entries_pass (λ p. is_among us p.0) c.reals reals)))
+      (named_again (known_copy c.here) (copied (table.entries c.ghosts)) (λ p. refl)
+      (copied_named (table.entries c.ghosts) (entries_pass names_copy c.ghosts copy_named))))
+
+as_seen : (us : List ℕ) (ks : List Known) → AllAmong us (map (λ p. p.0) ks) → AllByRecursion (λ x. is_among us x.entity ≡ true) (map seen_as ks)
+as_seen us [] h = tt
+as_seen us (k ∷ ks) h = (h.0, as_seen us ks h.1)
+
+module _ (us : List ℕ) (c : CellView) (known : AllAmong us (map (λ p. p.0) (known_in c))) where
+  -- so is what a witness looks at
+  pub seen_are_named : (e : ℕ) → AllByRecursion (λ x. is_among us x.entity ≡ true) (map seen_as (known_to c e))
+  seen_are_named e =
+      as_seen us (known_to c e)
+      (all_kept (is_of_another e) us (table.entries (table.from_entries {R = nat_cmp} (known_in c))) (all_entries us (known_in c) known))
+
   abbrev all_known : List Known
   all_known = table.entries (table.from_entries {R = nat_cmp} (known_in c))
 
@@ -269,6 +349,6 @@ pub looks_fit : (us : List ℕ) (ws : ℕ → List ℕ) (bases : ℕ) (w : World
 looks_fit us ws bases w h = record {
   lines = λ k c node e es r x is at has.
       let v = h.views k c node e r x at has in
-      looks_few us c (h.known k c node) e r x v.0 v.1;
+      looks_few us c (known_named us c (h.reals k c node) (h.copies k c node)) e r x v.0 v.1;
   witnesses = λ k c node. witnesses_few (ws k) c (λ e r x at has. h.witnesses k c node e r x at has);
 }

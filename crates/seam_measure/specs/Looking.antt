@@ -1,14 +1,16 @@
 -- How much there is to look at.
-use Rattle.std.specs.Prelude.{◌≡◌, ℕ, ◌≤◌, Bool, true, nat_eq, List, ◌∷◌, map, length, Some, slice_get}
+use Rattle.std.specs.Prelude.{◌≡◌, ℕ, ◌≤◌, Bool, true, nat_eq, List, ◌∷◌, length, Some, slice_get}
 use Rattle.std.specs.List.{AllByRecursion, list_any}
 use Rattle.std.specs.Map.{keys_of}
 use Rattle.std.specs.FinMap as table
 use Rattle.seam_machine.specs.Nets.{LeadsTo}
 use Rattle.seam_machine.specs.declared.machines.Event.{Event}
+use Rattle.seam_ghosts.specs.Book.{copy_in}
 use Rattle.seam_view.specs.Replica.{IsView}
+use Rattle.seam_call.specs.declared.shown.GhostCopy.{GhostCopy}
 use Rattle.seam_entity.specs.Reals.{RealView, WitnessView}
-use Rattle.seam_steps.specs.Looks.{Known, looks_of}
-use Rattle.seam_steps.specs.Cells.{CellView, known_in, known_to, witnesses}
+use Rattle.seam_steps.specs.Looks.{looks_of}
+use Rattle.seam_steps.specs.Cells.{CellView, known_to, witnesses}
 use Rattle.seam_steps.specs.Bases.{BaseView, PartView}
 use Rattle.seam_steps.specs.BaseCases.{may_show}
 use Rattle.seam_steps.specs.Nodes.{World, node_steps, node_has_work}
@@ -39,13 +41,14 @@ is_among es e = list_any (nat_eq e) es
 abbrev pub AllAmong : List ℕ → List ℕ → Type 0
 AllAmong us es = AllByRecursion (λ e. is_among us e ≡ true) es
 
-abbrev pub entity_known : Known → ℕ
-entity_known k = k.0
-
--- Views and cells name entities of the list alone, no view names one twice, and the witnesses in cell k are among `witnesses k`.
+-- Cells have reals and copies of entities of the list alone, views name no others, and none twice, and the witnesses in cell k are among
+-- `witnesses k`.
 pub record LooksAmong (us : List ℕ) (ws : ℕ → List ℕ) (w : World) : Type 0 where
+  pub reals : (k : ℕ) (c : CellView) → slice_get w.nodes k ≡ Some (Cell c) → (e : ℕ) (r : RealView) → table.get c.reals e ≡ Some r →
+      is_among us e ≡ true
+  pub copies : (k : ℕ) (c : CellView) → slice_get w.nodes k ≡ Some (Cell c) → (e : ℕ) (x : GhostCopy) →
+      copy_in (table.get c.ghosts e) ≡ Some x → is_among us e ≡ true
   pub views : (k : ℕ) (c : CellView) → slice_get w.nodes k ≡ Some (Cell c) → (e : ℕ) (r : RealView) (x : WitnessView) →
       table.get c.reals e ≡ Some r → r.witness ≡ Some x → IsView x.view × AllAmong us (keys_of x.view.entries)
-  pub known : (k : ℕ) (c : CellView) → slice_get w.nodes k ≡ Some (Cell c) → AllAmong us (map entity_known (known_in c))
   pub witnesses : (k : ℕ) (c : CellView) → slice_get w.nodes k ≡ Some (Cell c) → (e : ℕ) (r : RealView) (x : WitnessView) →
       table.get c.reals e ≡ Some r → r.witness ≡ Some x → is_among (ws k) e ≡ true
