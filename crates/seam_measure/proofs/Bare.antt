@@ -6,25 +6,31 @@ use Rattle.seam_machine.specs.declared.machines.Event.{Event}
 use Rattle.seam_machine.proofs.Occurring.{occurs}
 use Rattle.seam_runs.specs.Sums.{weight_or}
 use Rattle.seam_runs.proofs.Runs.{leads_by_one, leads_keeps}
-use Rattle.seam_flows.specs.Flows.{comes}
+use Rattle.seam_flows.specs.Flows.{comes, letters_of}
 use Rattle.seam_flows.specs.Sent.{IsSilent}
 use Rattle.seam_flows.specs.Tokens.{carried_in}
 use Rattle.seam_flows.proofs.Following.{all_append, slots_kept, letters_kept, came}
+use Rattle.seam_call.specs.declared.order.Order.{Order}
+use Rattle.seam_call.specs.declared.order.Order.TheVariants as order
 use Rattle.seam_entity.specs.declared.message.Msg.{Msg}
+use Rattle.seam_entity.specs.declared.message.Msg.TheVariants.{Call, BaseCall, Hand, Current, GhostSet, GhostDrop, Tick, Reap, Update}
 use Rattle.seam_entity.specs.Here.{Here}
+use Rattle.seam_steps.specs.Bases.{PartView}
 use Rattle.seam_steps.specs.Nodes.{World, node_steps, node_has_work}
 use Rattle.seam_moves.specs.Frames.{Frame, here_at, IsInFrame}
 use Rattle.seam_moves.specs.Sights.{Has, AtBase, entity_flow}
 use Rattle.seam_moves.specs.Moves.{Moves, at_a_cell, at_a_base}
 use Rattle.seam_moves.proofs.Classify.{event_moves, frame_happens}
+use Rattle.seam_ones.specs.Burdens.{held_in}
 use Rattle.seam_ones.specs.Ones.{real_in}
 use Rattle.seam_ones.proofs.HeldCounts.{taken_counts}
 use Rattle.seam_ones.proofs.Sparing.{items_all}
-use Rattle.seam_base_calls.specs.PartMoves.{base_call_in, update_in, calls_ordered, called, told}
+use Rattle.seam_base_calls.specs.PartMoves.{base_call_in, update_in, base_call_of, calls_ordered, called, told}
 use Rattle.seam_base_calls.specs.PartMoves as part
 use Rattle.seam_base_calls.specs.PartMoves.{PartMoves}
 use Rattle.seam_base_calls.specs.WitnessMoves as witness
 use Rattle.seam_base_calls.specs.WitnessMoves.{WitnessMoves}
+use Rattle.seam_strays.proofs.Unknown.{IsTickOrder, IsTick, IsUnknown, unknown_leads}
 use Rattle.seam_base_calls.specs.Reaps.{HasNoBaseCalls}
 use Rattle.seam_base_calls.specs.Clients.{HasToldAtMost, HasNoLooks}
 use Rattle.seam_base_calls.proofs.BaseSilent.{sees_no_update, base_silent}
@@ -37,6 +43,10 @@ use Rattle.seam_measure.proofs.BaseWeights.{showing_weighs}
 
 abbrev pub HoldsNone : AtBase → Type 0
 HoldsNone b = weight_or part_weight b.part ≡ 0
+
+-- the calls that a part holds
+abbrev pub part_calls : PartView → ℕ
+part_calls p = held_in p.orders
 
 -- ---- a part
 
@@ -119,3 +129,111 @@ module _ (f : Frame) (e n : ℕ) where
 
   pub bare_leads : (w v : World) (es : List Event) → IsBare w → LeadsTo node_has_work node_steps w es v → IsBare v
   bare_leads w v es h run = leads_keeps node_has_work node_steps IsBare bare_more w v es h run
+
+-- ---- a part that holds no call, whatever its client does
+
+abbrev pub HoldsNoCall : AtBase → Type 0
+HoldsNoCall b = weight_or part_calls b.part ≡ 0
+
+module _ (h : Here) (e : ℕ) (s : AtBase) (i : Option Msg) (t : AtBase) (sent : List (ℕ × Msg)) (none : HoldsNoCall s)
+    (no_call : called i ≡ None) (no_order : calls_ordered s ≡ []) where
+  call_bare : PartMoves h e s i t sent → HoldsNoCall t
+  call_bare (part.rests n m l same z) = ap (weight_or part_calls) same ∙ none
+  call_bare (part.refuses c n why same z) = ap (λ (b : AtBase). weight_or part_calls b.part) same ∙ none
+  call_bare (part.offers c p q n has may o l after z) = absurd (let y = sym no_call ∙ ap called n in cc)
+  call_bare (part.sends c cs n at left same z) = ap (weight_or part_calls) same ∙ none
+  call_bare (part.serves c cs p q n at has own may o left after z) = absurd (let y = sym no_order ∙ at in cc)
+  call_bare (part.executes p o c n has at item l after z) =
+      let less = taken_counts p.orders o c at item in
+      let was = ap (weight_or part_calls) has in
+      absurd (omega (arith, less, was, none))
+  call_bare (part.misses u n why l same z) = ap (weight_or part_calls) same ∙ none
+  call_bare (part.updates u p x n has is l after z) = ap (weight_or part_calls) after ∙ (sym (ap (weight_or part_calls) has) ∙ none)
+  call_bare (part.shows p x n has is ready l after z) = ap (weight_or part_calls) after ∙ (sym (ap (weight_or part_calls) has) ∙ none)
+  call_bare (part.ends os n at l gone z) = ap (weight_or part_calls) gone
+
+module _ (f : Frame) (e : ℕ) where
+  -- no call to the part is there, and it holds none
+  pub record IsUncalled (w : World) : Type 0 where
+    pub frame : IsInFrame f w
+    pub calls : HasNoBaseCalls e w
+    pub parts : (k : ℕ) → HoldsNoCall ((entity_flow e w).slot k).base
+
+  uncalled_more : (w : World) (v : Event) → IsUncalled w → enabled node_has_work w v ≡ true → IsUncalled (happens node_steps w v)
+  uncalled_more w v h on =
+      let o = occurs node_has_work w v on in
+      let then = happens node_steps w v in
+      let one = leads_by_one node_has_work node_steps w v on in
+      let g = event_moves f w v o h.frame e in
+      let s = (entity_flow e w).slot g.k in
+      let t = (entity_flow e then).slot g.k in
+      record {
+        frame = frame_happens f w v o h.frame;
+        calls = no_call_comes f e w then (v ∷ []) h.frame h.calls one;
+        parts =
+            slots_kept (λ k x. HoldsNoCall x.base) g h.parts
+            (call_bare (here_at f g.k) e s.base (comes g.input) t.base g.moves.sent (h.parts g.k)
+            (none_by f e 0 base_call_in (comes g.input) (λ m is. (came (λ a k x. base_call_in x ≡ None) g m is h.calls.letters).1))
+            (h.calls.orders g.k) (part_moves f e g.k s (comes g.input) t g.moves.sent g.moves.moves));
+      }
+
+  pub uncalled_leads : (w v : World) (es : List Event) → IsUncalled w → LeadsTo node_has_work node_steps w es v → IsUncalled v
+  uncalled_leads w v es h run = leads_keeps node_has_work node_steps IsUncalled uncalled_more w v es h run
+
+-- ---- an entity that is nowhere
+
+only_ticks : (os : List Order) → AllByRecursion IsTickOrder os → letters_of base_call_of os ≡ []
+only_ticks [] h = refl
+only_ticks (order.Cell c ∷ os) h = absurd h.0
+only_ticks (order.Base c ∷ os) h = absurd h.0
+only_ticks (order.Tick ∷ os) h = only_ticks os h.1
+only_ticks (order.Reap x ∷ os) h = absurd h.0
+
+no_call_of : (m : Msg) → IsTick m → base_call_in m ≡ None
+no_call_of (Call c) h = absurd h
+no_call_of (BaseCall c) h = absurd h
+no_call_of (Hand r) h = absurd h
+no_call_of (Current x j g) h = absurd h
+no_call_of (GhostSet x n c) h = absurd h
+no_call_of (GhostDrop x n) h = absurd h
+no_call_of Tick h = refl
+no_call_of (Reap x) h = absurd h
+no_call_of (Update u) h = absurd h
+
+no_update_of : (m : Msg) → IsTick m → update_in m ≡ None
+no_update_of (Call c) h = absurd h
+no_update_of (BaseCall c) h = absurd h
+no_update_of (Hand r) h = absurd h
+no_update_of (Current x j g) h = absurd h
+no_update_of (GhostSet x n c) h = absurd h
+no_update_of (GhostDrop x n) h = absurd h
+no_update_of Tick h = refl
+no_update_of (Reap x) h = absurd h
+no_update_of (Update u) h = absurd h
+
+module _ (f : Frame) (e : ℕ) where
+  -- nothing but ticks comes, and the part, if there is one, holds nothing
+  pub record IsIdle (w : World) : Type 0 where
+    pub unknown : IsUnknown f e w
+    pub parts : (k : ℕ) → HoldsNone ((entity_flow e w).slot k).base
+
+  idle_more : (w : World) (v : Event) → IsIdle w → enabled node_has_work w v ≡ true → IsIdle (happens node_steps w v)
+  idle_more w v h on =
+      let o = occurs node_has_work w v on in
+      let then = happens node_steps w v in
+      let u = h.unknown in
+      let g = event_moves f w v o u.frame e in
+      let s = (entity_flow e w).slot g.k in
+      let t = (entity_flow e then).slot g.k in
+      record {
+        unknown = unknown_leads f e w then (v ∷ []) u (leads_by_one node_has_work node_steps w v on);
+        parts =
+            slots_kept (λ k x. HoldsNone x.base) g h.parts
+            (part_bare (here_at f g.k) e s.base (comes g.input) t.base g.moves.sent (h.parts g.k)
+            (none_by f e 0 base_call_in (comes g.input) (λ m is. no_call_of m (came (λ a k x. IsTick x) g m is u.letters).1))
+            (none_by f e 0 update_in (comes g.input) (λ m is. no_update_of m (came (λ a k x. IsTick x) g m is u.letters).1))
+            (only_ticks s.base.orders (u.slots g.k).orders) (part_moves f e g.k s (comes g.input) t g.moves.sent g.moves.moves));
+      }
+
+  pub idle_leads : (w v : World) (es : List Event) → IsIdle w → LeadsTo node_has_work node_steps w es v → IsIdle v
+  idle_leads w v es h run = leads_keeps node_has_work node_steps IsIdle idle_more w v es h run

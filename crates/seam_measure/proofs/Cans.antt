@@ -28,6 +28,7 @@ use Rattle.seam_moves.specs.Sights.{mine, times, has_of, has_none}
 use Rattle.seam_base_calls.specs.Clients.{tick_in, HasNoLooks}
 use Rattle.seam_measure.specs.Weights.{Sizes, part_weight}
 use Rattle.seam_measure.specs.Events.{BaseCan, NodeCan}
+use Rattle.seam_measure.specs.Looking.{LooksFit}
 use Rattle.seam_measure.proofs.BaseWeights.{after_ready_weighs, showing_weighs}
 
 -- ---- a base node
@@ -38,7 +39,7 @@ second false b h = cc
 
 -- a part that holds nothing has nothing ready
 module _ (h : Here) (p : PartView) (none : part_weight p ≡ 0) where
-  none_is_ready : has_ready p.orders ≡ true → ⊥
+  pub none_is_ready : has_ready p.orders ≡ true → ⊥
   none_is_ready ready = let less = after_ready_weighs h p (ready_order p.orders) refl ready in omega (arith, less, none)
 
   none_is_shown : proxy_is_ready p.proxy ≡ true → ⊥
@@ -100,4 +101,21 @@ module _ (z : Sizes) (f : Frame) (v : World) (enough : f.settings.bases ≤ z.ba
     ready = ready k c node;
     looks = λ e es r w is at has. absurd (no_look k c node e es is);
     ticks = λ a is. absurd (no_tick k from a (fed ∙ ap Some is));
+  }
+
+-- the same where the looks have few lines and ticks find few witnesses
+module _ (z : Sizes) (f : Frame) (v : World) (enough : f.settings.bases ≤ z.bases) (frame : IsInFrame f v) (few : LooksFit z v)
+    (ready : (k : ℕ) (c : CellView) → slice_get v.nodes k ≡ Some (Cell c) → (e : ℕ) (r : RealView) → table.get c.reals e ≡ Some r →
+    has_ready r.orders ≡ true → may_execute r ≡ true)
+    (bases : (k : ℕ) (b : BaseView) → slice_get v.nodes k ≡ Some (Base b) → BaseCan b) where
+  pub can_look : (k : ℕ) (s : NodeView) (i : Input Msg) → slice_get v.nodes k ≡ Some s → NodeCan z s i
+  can_look k (Base b) i node = bases k b node
+  can_look k (Cell c) i node = record {
+    bases = let same = ap (λ h. h.settings.bases) (frame.nodes k (Cell c) node).here in omega (arith, same, enough);
+    ready = ready k c node;
+    looks = λ e es r w is at has. few.lines k c node e es r w is at has;
+    ticks = λ a is.
+        let most = few.witnesses k c node in
+        let me = ap (λ h. z.witnesses h.me) (frame.nodes k (Cell c) node).here in
+        omega (arith, most, me);
   }

@@ -1,10 +1,10 @@
 -- A real is handed over at most once for each of its calls, and once more.
-use Rattle.std.proofs.Common.{◌≡◌, ℕ, ◌+◌, ◌≤◌, Bool, true, false, cond, ◌&&◌, List, [], ◌∷◌, map, Option, None, Some, refl, sym, ap}
+use Rattle.std.proofs.Common.{◌≡◌, ℕ, ◌+◌, ◌≤◌, Bool, true, false, cond, ◌&&◌, List, [], ◌∷◌, map, Option, None, Some, refl, ap}
 use Rattle.std.proofs.Common.{◌∙◌, arith}
 use Rattle.std.specs.Prelude.{is_some, is_none}
 use Rattle.std.specs.List.{range_with_len}
 use Rattle.std.specs.FinSet as set
-use Rattle.seam_machine.specs.Nets.{happens, run, enabled, AllEnabled}
+use Rattle.seam_machine.specs.Nets.{happens, AllEnabled}
 use Rattle.seam_machine.specs.Events.{Occurs}
 use Rattle.seam_machine.specs.Totals.{total}
 use Rattle.seam_machine.specs.declared.machines.Event.{Event}

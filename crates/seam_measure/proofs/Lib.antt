@@ -14,3 +14,13 @@ pub mod ReapPhase
 pub mod LoadedNodes
 pub mod HandOvers
 pub mod RoundStart
+pub mod Batched
+pub mod PassSums
+pub mod RoundPhase
+pub mod Tickless
+pub mod RoundTicks
+pub mod LookPhase
+pub mod Pigeons
+pub mod LookCounts
+pub mod AmongSlots
+pub mod Among

@@ -1,14 +1,13 @@
 -- What a load makes of the nodes of a quiet world that holds nothing.
-use Rattle.std.proofs.Common.{◌≡◌, ℕ, ◌+◌, ◌*◌, Bool, true, false, cond, eqb, List, [], ◌∷◌, ◌++◌, length, map, Option, None, Some, refl, sym}
+use Rattle.std.proofs.Common.{◌≡◌, ℕ, Bool, true, false, eqb, List, [], ◌∷◌, map, Option, None, Some, refl, sym}
 use Rattle.std.proofs.Common.{ap, ◌∙◌, subst, arith, T, ◌&&◌}
-use Rattle.std.specs.Prelude.{option_map, slice_get}
+use Rattle.std.specs.Prelude.{option_map}
 use Rattle.std.specs.List.{AllByRecursion}
 use Rattle.std.specs.Ordering.{nat_cmp, is_lt}
 use Rattle.std.specs.Cmp.{nat_cmp_total}
 use Rattle.std.specs.FinMap as table
 use Rattle.std.specs.FinMap.Entries.{is_sorted, below_all}
 use Rattle.seam_tree.specs.Division.{leaf_at, cells_of}
-use Rattle.seam_machine.specs.Totals.{total}
 use Rattle.seam_runs.specs.Sums.{weight_or}
 use Rattle.seam_flows.proofs.Following.{all_append}
 use Rattle.seam_call.specs.declared.create.Create.{Create}
@@ -18,9 +17,9 @@ use Rattle.seam_defs.specs.declared.flags.Group.TheVariants as group
 use Rattle.seam_defs.specs.Deeds.{properties_of}
 use Rattle.seam_entity.specs.Here.{Here, base_of, properties}
 use Rattle.seam_steps.specs.Maps.{Map, with_value, each_value, has_any}
-use Rattle.seam_steps.specs.Bases.{BaseView, PartView, ProxyView, RouteView, base_text}
+use Rattle.seam_steps.specs.Bases.{BaseView, PartView, ProxyView, base_text}
 use Rattle.seam_steps.specs.Cells.{CellView}
-use Rattle.seam_steps.specs.Nodes.{NodeView, World, node_has_work}
+use Rattle.seam_steps.specs.Nodes.{NodeView, node_has_work}
 use Rattle.seam_steps.specs.Nodes.NodeView.{Cell, Base}
 use Rattle.seam_steps.specs.Loads.{real_if, part_if, with_route, new_part, created_at, with_proxy, attached, cell_round, base_round}
 use Rattle.seam_steps.specs.Loads.{new_proxy, proxy_begins, part_begins, order_if, ordered_at}
@@ -158,11 +157,11 @@ module _ (Ok : Order → Type 0) where
   plain_if true b o ok h = (all_append Ok b.orders (o ∷ []) h.0 (ok, tt), h.1)
   plain_if false b o ok h = h
 
-  plain_by : (o : ℕ × Order) (s : NodeView) → Ok o.1 → IsPlain Ok s → IsPlain Ok (ordered_at o s)
+  pub plain_by : (o : ℕ × Order) (s : NodeView) → Ok o.1 → IsPlain Ok s → IsPlain Ok (ordered_at o s)
   plain_by o (Cell c) ok h = h
   plain_by o (Base b) ok h = plain_if (eqb o.0 b.here.me) b o.1 ok h
 
-  blank_is_plain : (s : NodeView) → IsBlank s → IsPlain Ok s
+  pub blank_is_plain : (s : NodeView) → IsBlank s → IsPlain Ok s
   blank_is_plain (Cell c) h = h
   blank_is_plain (Base b) h = (subst (AllByRecursion Ok) (sym h.0) tt, h.1)
 

@@ -1,7 +1,8 @@
 -- An enabled event lowers the weight of a world, or passes a call on and keeps it; so a run ends.
-use Rattle.std.proofs.Common.{◌≡◌, ℕ, ◌+◌, ◌≤◌, Bool, true, List, [], ◌∷◌, ◌++◌, length, Some, ap, ◌∙◌, arith}
+use Rattle.std.proofs.Common.{◌≡◌, ℕ, ◌+◌, ◌≤◌, Bool, true, false, List, [], ◌∷◌, ◌++◌, length, Some, refl, ap, ◌∙◌, arith}
+use Rattle.std.proofs.lemmas.List.{length-append}
 use Rattle.std.specs.Prelude.{if◌then◌else◌}
-use Rattle.seam_machine.specs.Nets.{input_from, happens, enabled, LeadsTo}
+use Rattle.seam_machine.specs.Nets.{input_from, happens, enabled, IsQuiet, LeadsTo}
 use Rattle.seam_machine.specs.Events.{Occurs}
 use Rattle.seam_machine.specs.declared.machines.Event.{Event}
 use Rattle.seam_machine.specs.declared.machines.Input.{Input}
@@ -78,3 +79,16 @@ module _ (z : Sizes) where
     run_ends v es run =
         leads_end node_has_work node_steps is_pass (world_weight z) Reached lowers_more w v es
         (record { events = []; run = leads_nowhere node_has_work node_steps w }) run
+
+-- where no list of enabled events is longer than n, one of n leaves the world quiet
+pub longest_is_quiet : (w v : World) (es : List Event) (n : ℕ) →
+    ((u : World) (ds : List Event) → LeadsTo node_has_work node_steps w ds u → length ds ≤ n) →
+    LeadsTo node_has_work node_steps w es v → n ≤ length es → IsQuiet node_has_work v
+longest_is_quiet w v es n most run long x = by (enabled node_has_work v x) refl
+  where
+    by : (b : Bool) → enabled node_has_work v x ≡ b → b ≡ false
+    by false on = refl
+    by true on =
+        let more = most (happens node_steps v x) (es ++ x ∷ []) (leads_extend node_has_work node_steps w v es x run on) in
+        let one = length-append es (x ∷ []) in
+        absurd (omega (arith, more, one, long))

@@ -53,6 +53,8 @@ use Rattle.seam_measure.specs.Weights.{Sizes, part_weight}
 use Rattle.seam_measure.specs.Events.{BaseCan, NodeCan, is_pass, all_passes}
 use Rattle.seam_measure.specs.Phases.{HoldsNothing}
 use Rattle.seam_measure.proofs.Bare.{IsBare, bare_leads}
+use Rattle.seam_base_calls.proofs.WitnessKept.{all_weaker}
+use Rattle.seam_measure.proofs.Batched.{OrderIs, calls_are}
 use Rattle.seam_measure.proofs.Cans.{base_can, can_by}
 use Rattle.seam_measure.proofs.Given.{reaps_add}
 use Rattle.seam_measure.proofs.NetWeights.{run_ends}
@@ -144,6 +146,9 @@ module _ (f : Frame) (u : World) (between : IsBetweenRounds f u) (none : HoldsNo
       subst (λ w. EachNode (λ k s. OrdersAre (IsReap u) s) w.nodes) (sym loaded_is)
       (λ k s at. orders_of_plain s (plain_nodes k s at))
 
+  empty_start : (x y : ℕ) → link start.rows x y ≡ []
+  empty_start x y = ap (λ w. link w.rows x y) loaded_is ∙ empty_links no_sizes f u between none x y
+
   -- ---- over every list of events
 
   module _ (vs : List Event) (v : World) (run : LeadsTo node_has_work node_steps start vs v) where
@@ -220,67 +225,19 @@ module _ (f : Frame) (u : World) (between : IsBetweenRounds f u) (none : HoldsNo
 
     -- ---- no call is passed on
 
-    unknown_by : (e : ℕ) → Nowhere e u → holders u e ≡ 0
-    unknown_by e n =
-        none_counts u e
-        (record {
-          slots = n;
-          mail = λ x y. ap (λ l. letters_of real_of (letters_of (mine e) l)) (empty_links no_sizes f u between none x y);
-        })
+    pub no_call_comes : (a k : ℕ) (c : CallData) (ms : List Msg) → link v.rows a k ≡ Call c ∷ ms → ⊥
+    no_call_comes a k c ms at =
+        calls_are (λ c. ⊥) f start v vs frame_loaded (λ k s is. reaps_call s (orders_loaded k s is)) empty_start run a k c ms at
+      where
+        reap_calls : (o : Order) → IsReap u o → OrderIs (λ c. ⊥) o
+        reap_calls (order.Cell c) h = absurd h
+        reap_calls (order.Base c) h = tt
+        reap_calls order.Tick h = tt
+        reap_calls (order.Reap e) h = tt
 
-    unconcerned : (e : ℕ) → holders u e ≡ 0 → (o : Order) → IsReap u o → (d : Bool) → order_concerns e o ≡ d → d ≡ false
-    unconcerned e zero (order.Cell c) h d is = absurd h
-    unconcerned e zero (order.Base c) h d is = absurd h
-    unconcerned e zero order.Tick h d is = absurd h
-    unconcerned e zero (order.Reap x) h false is = refl
-    unconcerned e zero (order.Reap x) h true is =
-        let one = sym (ap (holders u) (eqb-true x e is)) ∙ h in
-        absurd (omega (arith, one, zero))
-
-    none_concern : (e : ℕ) → holders u e ≡ 0 → (os : List Order) → AllByRecursion (IsReap u) os → orders_of e os ≡ []
-    none_concern e zero [] h = refl
-    none_concern e zero (o ∷ os) h =
-        ap (λ d. cond d (o ∷ orders_of e os) (orders_of e os)) (unconcerned e zero o h.0 (order_concerns e o) refl)
-        ∙ none_concern e zero os h.1
-
-    no_orders : (e : ℕ) → holders u e ≡ 0 → (s : NodeView) → OrdersAre (IsReap u) s → (has_of e s).base.orders ≡ []
-    no_orders e zero (Cell c) h = refl
-    no_orders e zero (Base b) h = none_concern e zero b.orders h
-
-    only_by : (e : ℕ) → holders u e ≡ 0 → (k : ℕ) (o : Option NodeView) → slice_get start.nodes k ≡ o →
-        (slot_at (has_of e) has_none o).base.orders ≡ []
-    only_by e zero k None at = refl
-    only_by e zero k (Some s) at = no_orders e zero s (orders_loaded k s at)
-
-    unknown_start : (e : ℕ) → Nowhere e u → IsUnknown f e start
-    unknown_start e n = record {
-      frame = frame_loaded;
-      slots = λ k. record {
-        real = ap (λ w. real_in ((entity_flow e w).slot k)) loaded_is ∙ (reals_stay e turn (reaps_cell e es) u k ∙ n k);
-        orders = subst (AllByRecursion IsTickOrder) (sym (only_by e (unknown_by e n) k (slice_get start.nodes k) refl)) tt;
-      };
-      letters = λ a k.
-          subst (AllByRecursion IsTick)
-          (sym (ap (λ w. letters_of (mine e) (link w.rows a k)) loaded_is
-          ∙ ap (letters_of (mine e)) (empty_links no_sizes f u between none a k)))
-          tt;
-    }
-
-    module _ (a k : ℕ) (c : CallData) (ms : List Msg) (at : link v.rows a k ≡ Call c ∷ ms) where
-      seen : (entity_flow c.entity v).mail a k ≡ Call c ∷ letters_of (mine c.entity) ms
-      seen = seen_first c.entity v a k (Call c) ms at refl
-
-      no_call_by : Somewhere c.entity u ⊎ Nowhere c.entity u → ⊥
-      no_call_by (inl p) =
-          let calm =
-          calm_leads f between.frame u between c.entity p.0 p.1 p.2 (is_told c.entity es)
-          (reaping.small f u between es may c.entity p.0 p.1 p.2) start v vs (reaping.calm f u between es may c.entity p.0 p.1 p.2) run in
-          (subst (AllByRecursion (IsCalmTo (is_told c.entity es) p.0 p.1 k)) seen (calm.mail a k)).0
-      no_call_by (inr n) =
-          (subst (AllByRecursion IsTick) seen ((unknown_leads f c.entity start v vs (unknown_start c.entity n) run).letters a k)).0
-
-      pub no_call_comes : ⊥
-      no_call_comes = no_call_by (search_real c.entity u)
+        reaps_call : (s : NodeView) → OrdersAre (IsReap u) s → OrdersAre (OrderIs (λ c. ⊥)) s
+        reaps_call (Cell c) h = tt
+        reaps_call (Base b) h = all_weaker (IsReap u) (OrderIs (λ c. ⊥)) b.orders reap_calls h
 
     pub no_pass : (x : Event) → is_pass v x ≡ false
     no_pass x = no_pass_by v x (λ a c ms at. no_call_comes a x.node c ms at)

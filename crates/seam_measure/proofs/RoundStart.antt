@@ -1,6 +1,6 @@
 -- What a loaded world weighs, and how often its entities may yet settle.
-use Rattle.std.proofs.Common.{◌≡◌, ℕ, suc, ◌+◌, ◌*◌, ◌<◌, ◌≤◌, ◌⊎◌, Bool, true, false, cond, eqb, List, [], ◌∷◌, ◌++◌, length, map}
-use Rattle.std.proofs.Common.{Option, None, Some, filter, refl, sym, ap, ◌∙◌, subst, arith, inl, inr}
+use Rattle.std.proofs.Common.{◌≡◌, ℕ, suc, ◌+◌, ◌*◌, ◌≤◌, ◌⊎◌, Bool, true, false, cond, eqb, List, [], ◌∷◌, ◌++◌, length, map}
+use Rattle.std.proofs.Common.{Option, None, Some, refl, sym, ap, ◌∙◌, subst, arith, inl, inr}
 use Rattle.std.specs.Prelude.{option_map, slice_get}
 use Rattle.std.specs.List.{AllByRecursion}
 use Rattle.std.specs.FinMap as table
@@ -11,7 +11,7 @@ use Rattle.seam_machine.specs.Nets.{link}
 use Rattle.seam_machine.specs.Events.{EachNode}
 use Rattle.seam_machine.specs.Totals.{total}
 use Rattle.seam_machine.proofs.Quiet.{quiet_links, quiet_tasks}
-use Rattle.seam_runs.specs.Sums.{weight_or, map_total}
+use Rattle.seam_runs.specs.Sums.{weight_or}
 use Rattle.seam_flows.specs.Flows.{slot_at}
 use Rattle.seam_call.specs.declared.order.Order.{Order}
 use Rattle.seam_call.specs.declared.order.Order.TheVariants as order
@@ -26,7 +26,7 @@ use Rattle.seam_steps.specs.Nodes.{NodeView, World, node_has_work}
 use Rattle.seam_steps.specs.Nodes.NodeView.{Cell, Base}
 use Rattle.seam_steps.specs.Loads.{with_nodes, with_order, with_orders, order_if, ordered_at, cell_begins, cell_round, loaded}
 use Rattle.seam_moves.specs.Frames.{Frame, IsAt}
-use Rattle.seam_moves.specs.Sights.{Has, order_concerns, orders_of, has_of, has_none, entity_flow}
+use Rattle.seam_moves.specs.Sights.{order_concerns, orders_of, has_of, has_none, entity_flow}
 use Rattle.seam_ones.specs.Burdens.{held_in}
 use Rattle.seam_ones.specs.Ones.{real_in, reaped_by_order}
 use Rattle.seam_between.specs.Between.{IsBetweenRounds, IsFitting, framed}
@@ -35,15 +35,15 @@ use Rattle.seam_between.proofs.Framing.{node_begun}
 use Rattle.seam_between.proofs.Going.{settled_loaded}
 use Rattle.seam_between.proofs.Room.{one_if, Surveys, loaded_surveys, no_held, rows_none}
 use Rattle.seam_rounds.proofs.Giving.{look_cell, reals_stay}
-use Rattle.seam_measure.specs.Weights.{Sizes, settle_weight, settling, look_weight, tick_weight, real_weight, part_weight, order_weight}
+use Rattle.seam_measure.specs.Weights.{Sizes, settle_weight, settling, look_weight, real_weight, part_weight, order_weight}
 use Rattle.seam_measure.specs.Weights.{node_weight, letter_weight, world_weight}
 use Rattle.seam_measure.specs.Phases.{HoldsNothing, reals_at, entities, one_if_cell, one_if_base, one_if_tick, cell_orders, base_orders}
 use Rattle.seam_measure.specs.Phases.{tick_orders}
 use Rattle.seam_measure.proofs.Counts.{none_times}
 use Rattle.seam_measure.proofs.Given.{AreAt, sum_exceeds, sum_adds, turned, nodes_stay, order_stays, orders_add}
-use Rattle.seam_measure.proofs.HandOvers.{real_left, has_left, node_left, mine_left, left}
+use Rattle.seam_measure.proofs.HandOvers.{real_left, node_left, mine_left, left}
 use Rattle.seam_measure.proofs.LoadedNodes.{IsBlank, entries_each, loaded_blank, idle_blank, cell_ordered}
-use Rattle.seam_measure.proofs.QuietWeights.{map_weighs_none, empty_links}
+use Rattle.seam_measure.proofs.QuietWeights.{map_weighs_none}
 
 -- ---- sums
 
@@ -147,7 +147,7 @@ module _ (f : Frame) (w : World) (b : Batch) (between : IsBetweenRounds f w) (fi
   begun_from k t at =
       node_there (slice_get w.nodes k) turn t (sym (slice_get-map turn w.nodes k) ∙ (sym (ap (λ v. slice_get v.nodes k) begun_is) ∙ at))
 
-  blank_at : (k : ℕ) (s : NodeView) → slice_get w.nodes k ≡ Some s → IsBlank s
+  pub blank_at : (k : ℕ) (s : NodeView) → slice_get w.nodes k ≡ Some s → IsBlank s
   blank_at k s at =
       idle_blank s (quiet_tasks node_has_work w between.quiet k s at)
       (λ n is. none k n (at ∙ ap Some is))

@@ -35,6 +35,10 @@ abbrev pub IsSoleReal : ℕ → World → Type 0
 IsSoleReal e w =
     (k : ℕ) (r : RealView) → real_in ((entity_flow e w).slot k) ≡ Some r → (j : ℕ) → (j ≡ k → ⊥) → real_in ((entity_flow e w).slot j) ≡ None
 
+part_none_by : (o : Option PartView) → ((p : PartView) → o ≡ Some p → part_weight p ≡ 0) → weight_or part_weight o ≡ 0
+part_none_by None h = refl
+part_none_by (Some p) h = h p refl
+
 module _ (f : Frame) (e : ℕ) (w : World) (frame : IsInFrame f w) (empty : (a k : ℕ) → link w.rows a k ≡ []) (Ok : Order → Type 0)
     (nodes : EachNode (λ k s. IsPlain Ok s) w.nodes) (no_tick : (o : Order) → Ok o → is_tick_order o ≡ false)
     (sole : IsSoleReal e w) where
@@ -81,10 +85,6 @@ module _ (f : Frame) (e : ℕ) (w : World) (frame : IsInFrame f w) (empty : (a k
   ticks_none [] h = tt
   ticks_none (o ∷ os) h = ticks_by o (orders_of e os) (order_concerns e o) h.0 (ticks_none os h.1)
 
-  part_by : (o : Option PartView) → ((p : PartView) → o ≡ Some p → part_weight p ≡ 0) → weight_or part_weight o ≡ 0
-  part_by None h = refl
-  part_by (Some p) h = h p refl
-
   record Has0 (h : Has) : Type 0 where
     looks : h.cell.looks ≡ 0
     orders : AllByRecursion (λ o. is_tick_order o ≡ false) h.base.orders
@@ -95,7 +95,7 @@ module _ (f : Frame) (e : ℕ) (w : World) (frame : IsInFrame f w) (empty : (a k
   has_by (Base b) h = record {
     looks = refl;
     orders = ticks_none b.orders h.0;
-    part = part_by (table.get b.parts e) (h.1 e);
+    part = part_none_by (table.get b.parts e) (h.1 e);
   }
 
   slot_by : (o : Option NodeView) (k : ℕ) → slice_get w.nodes k ≡ o → Has0 (slot_at (has_of e) has_none o)
@@ -150,3 +150,17 @@ module _ (f : Frame) (e : ℕ) (w : World) (frame : IsInFrame f w) (empty : (a k
         parts = λ k. (slots k).part;
       },
     )
+
+-- ---- parts alone
+
+pub parts_none : (Ok : Order → Type 0) (w : World) → EachNode (λ k s. IsPlain Ok s) w.nodes → (e k : ℕ) →
+    HoldsNone ((entity_flow e w).slot k).base
+parts_none Ok w nodes e k = slot_none (slice_get w.nodes k) refl
+  where
+    node_none : (s : NodeView) → IsPlain Ok s → HoldsNone (has_of e s).base
+    node_none (Cell c) h = refl
+    node_none (Base b) h = part_none_by (table.get b.parts e) (h.1 e)
+
+    slot_none : (o : Option NodeView) → slice_get w.nodes k ≡ o → HoldsNone (slot_at (has_of e) has_none o).base
+    slot_none None at = refl
+    slot_none (Some s) at = node_none s (nodes k s at)

@@ -1,3 +1,4 @@
 pub mod Weights
 pub mod Events
+pub mod Looking
 pub mod Phases

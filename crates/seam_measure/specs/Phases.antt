@@ -1,19 +1,34 @@
 -- What a phase begins with, and how many events it may take.
-use Rattle.std.specs.Prelude.{◌≡◌, ℕ, length, Some, slice_get}
+use Rattle.std.specs.Prelude.{◌≡◌, ℕ, ◌+◌, ◌*◌, List, length, Some, slice_get}
 use Rattle.std.specs.FinMap as table
+use Rattle.seam_machine.specs.Nets.{LeadsTo}
 use Rattle.seam_machine.specs.Totals.{total}
+use Rattle.seam_machine.specs.declared.machines.Event.{Event}
 use Rattle.seam_call.specs.declared.order.Order.{Order}
 use Rattle.seam_call.specs.declared.order.Order.TheVariants as order
 use Rattle.seam_call.specs.declared.order.Batch.{Batch}
+use Rattle.seam_entity.specs.Reals.{RealView}
 use Rattle.seam_steps.specs.Bases.{BaseView, PartView}
-use Rattle.seam_steps.specs.Nodes.{NodeView, World}
+use Rattle.seam_steps.specs.Nodes.{NodeView, World, node_steps, node_has_work}
 use Rattle.seam_steps.specs.Nodes.NodeView.{Cell, Base}
-use Rattle.seam_measure.specs.Weights.{part_weight}
+use Rattle.seam_steps.specs.Loads.{loaded}
+use Rattle.seam_moves.specs.Frames.{Frame}
+use Rattle.seam_moves.specs.Sights.{entity_flow}
+use Rattle.seam_ones.specs.Ones.{real_in}
+use Rattle.seam_between.specs.Between.{framed}
+use Rattle.seam_base_rounds.specs.Parts.{LinesKeepRoom}
+use Rattle.seam_measure.specs.Weights.{Sizes, part_weight}
 
 -- no base part holds a call, and no client an update
 abbrev pub HoldsNothing : World → Type 0
 HoldsNothing w =
     (k : ℕ) (b : BaseView) → slice_get w.nodes k ≡ Some (Base b) → (e : ℕ) (p : PartView) → table.get b.parts e ≡ Some p → part_weight p ≡ 0
+
+-- over every list of events of the round, the lines that each entity's client is shown keep room
+abbrev pub AllLinesKeepRoom : Frame → World → Batch → Type 0
+AllLinesKeepRoom f w b =
+    (v : World) (es : List Event) → LeadsTo node_has_work node_steps (loaded w b) es v → (e k : ℕ) (r : RealView) →
+    real_in ((entity_flow e (loaded w b)).slot k) ≡ Some r → LinesKeepRoom (framed f b) e r.ty (loaded w b) v
 
 -- ---- what a world has, and what a batch brings
 
@@ -53,3 +68,21 @@ base_orders b = total (λ o. one_if_base o.1) b.orders
 
 abbrev pub tick_orders : Batch → ℕ
 tick_orders b = total (λ o. one_if_tick o.1) b.orders
+
+-- the table of a round: at most so many events where a batch with c calls to cell parts, d to base parts and k ticks leaves a world with
+-- e entities and w witnesses, and there are so many base nodes
+abbrev pub events_of_round : (bases c d k e w : ℕ) → ℕ
+events_of_round bases c d k e w =
+    c * (c + 4) + (3 * d + (17 * k + (e + ((e + c) * (17 + bases) + 16 * k * w * (3 + 2 * e)))))
+
+-- what is fixed in a round in which no cell has more than n witnesses: a look is about the entities that are there
+abbrev pub sizes_of_round : Frame → World → Batch → ℕ → Sizes
+sizes_of_round f w b n = record { bases = f.settings.bases; lines = entities (loaded w b); witnesses = λ k. n }
+
+-- what is fixed in the phase of looks, where cell k has `witnesses k` witnesses and looks have at most so many lines for others
+abbrev pub sizes_of_looks : Frame → ℕ → (ℕ → ℕ) → Sizes
+sizes_of_looks f lines witnesses = record { bases = f.settings.bases; lines = lines; witnesses = witnesses }
+
+-- the table of the phase of looks: n lines for others, and w witnesses
+abbrev pub events_of_looks : (n w : ℕ) → ℕ
+events_of_looks n w = 17 + w * (3 + 2 * n)

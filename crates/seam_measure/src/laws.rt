@@ -1,18 +1,26 @@
 //! The laws, each on a function that does nothing.
 
-ghost use Rattle.std.specs.Prelude.{◌≡◌, ℕ, ◌+◌, ◌*◌, ◌≤◌, true, List, length};
-ghost use Rattle.seam_machine.specs.Nets.{enabled, LeadsTo};
+ghost use Rattle.std.specs.Prelude.{◌≡◌, ℕ, ◌+◌, ◌*◌, ◌≤◌, true, false, List, length};
+ghost use Rattle.std.specs.List.{AllByRecursion, range_with_len};
+ghost use Rattle.seam_machine.specs.Nets.{enabled, IsQuiet, LeadsTo};
+ghost use Rattle.seam_machine.specs.Totals.{total};
 ghost use Rattle.seam_machine.specs.Events.{Occurs};
 ghost use Rattle.seam_machine.specs.declared.machines.Event.{Event};
 ghost use Rattle.seam_runs.specs.Weights.{Lowers};
+ghost use Rattle.seam_call.specs.declared.order.Batch.{Batch};
 ghost use Rattle.seam_steps.specs.Nodes.{World, node_steps, node_has_work};
-ghost use Rattle.seam_steps.specs.Loads.{reaps_loaded};
+ghost use Rattle.seam_steps.specs.Loads.{loaded, reaps_loaded, look_loaded};
+ghost use Rattle.seam_entity.specs.Here.{cell_count};
 ghost use Rattle.seam_moves.specs.Frames.{Frame, IsInFrame};
 ghost use Rattle.seam_between.specs.Between.{IsBetweenRounds};
 ghost use Rattle.seam_rounds.specs.Rounds.{AreReapable};
 ghost use Rattle.seam_measure.specs.Weights.{Sizes, world_weight};
 ghost use Rattle.seam_measure.specs.Events.{is_pass, NodeCan, AllCan, all_passes};
-ghost use Rattle.seam_measure.specs.Phases.{HoldsNothing};
+ghost use Rattle.seam_base_calls.specs.Clients.{is_tick_order};
+ghost use Rattle.seam_base_rounds.specs.Parts.{MayBeLoaded, IsAlone};
+ghost use Rattle.seam_measure.specs.Looking.{LooksFit, ClientsKeepRoom, Always};
+ghost use Rattle.seam_measure.specs.Phases.{HoldsNothing, AllLinesKeepRoom, entities, cell_orders, base_orders, tick_orders};
+ghost use Rattle.seam_measure.specs.Phases.{events_of_round, sizes_of_round, sizes_of_looks, events_of_looks};
 
 /// An enabled event whose node can do what it is to do lowers the weight of the world, but for one that passes a call on, which does not
 /// raise it.
@@ -27,6 +35,26 @@ pub fn a_run_is_no_longer_than_its_start_weighs()
         LeadsTo node_has_work node_steps w es v → length es + world_weight z v ≤ world_weight z w + all_passes w es }
 {}
 
+/// A round is no longer than its table says, over every list of events: where the lines of clients keep room, no cell ever has more than
+/// n witnesses, and no look more lines for other entities than there are entities.
+pub fn a_round_ends()
+    ensures { (f : Frame) (w : World) (b : Batch) → MayBeLoaded f w b → HoldsNothing w → AllLinesKeepRoom f w b → (n : ℕ) →
+        Always (LooksFit (sizes_of_round f w b n)) (loaded w b) → (v : World) (es : List Event) →
+        LeadsTo node_has_work node_steps (loaded w b) es v →
+        length es
+        ≤ events_of_round f.settings.bases (cell_orders b) (base_orders b) (tick_orders b) (entities (loaded w b)) n }
+{}
+
+/// So is one whose batch has no tick, whatever there is to look at. The lines of clients keep room where there are none (`alone`).
+pub fn a_round_without_ticks_ends()
+    ensures bound { (f : Frame) (w : World) (b : Batch) → MayBeLoaded f w b → HoldsNothing w → AllLinesKeepRoom f w b →
+        AllByRecursion (λ o. is_tick_order o.1 ≡ false) b.orders → (v : World) (es : List Event) →
+        LeadsTo node_has_work node_steps (loaded w b) es v → (n : ℕ) →
+        length es
+        ≤ events_of_round f.settings.bases (cell_orders b) (base_orders b) (tick_orders b) (entities (loaded w b)) n }
+    ensures alone { (f : Frame) (w : World) (b : Batch) → ((e : ℕ) → IsAlone e w b) → AllLinesKeepRoom f w b }
+{}
+
 /// Where a world between rounds, in which base parts and clients hold nothing, is told to reap entities, no list of events is longer than
 /// eighteen for each of them; and base parts and clients hold nothing meanwhile.
 pub fn reaps_end()
@@ -34,4 +62,20 @@ pub fn reaps_end()
         (vs : List Event) (v : World) → LeadsTo node_has_work node_steps (reaps_loaded u es) vs v → length vs ≤ 18 * length es }
     ensures nothing { (f : Frame) (u : World) → IsBetweenRounds f u → HoldsNothing u → (es : List ℕ) → AreReapable u es →
         (vs : List Event) (v : World) → LeadsTo node_has_work node_steps (reaps_loaded u es) vs v → HoldsNothing v }
+{}
+
+/// Where the witnesses of such a world look, no list of events is longer than the table says, where no look has more than n lines for other
+/// entities, cell k never has more than `witnesses k` witnesses, and each client's next line always has a number.
+pub fn looks_end()
+    ensures { (f : Frame) (u : World) → IsBetweenRounds f u → HoldsNothing u → (n : ℕ) (witnesses : ℕ → ℕ) →
+        Always (LooksFit (sizes_of_looks f n witnesses)) (look_loaded u) → Always ClientsKeepRoom (look_loaded u) → (vs : List Event)
+        (v : World) → LeadsTo node_has_work node_steps (look_loaded u) vs v →
+        length vs ≤ events_of_looks n (total witnesses (range_with_len 0 cell_count)) }
+{}
+
+/// So to take enabled events, whichever, ends: where no list of them is longer than n, a list of n of them leaves the world quiet.
+pub fn a_longest_run_is_quiet()
+    ensures { (w v : World) (es : List Event) (n : ℕ) →
+        ((u : World) (ds : List Event) → LeadsTo node_has_work node_steps w ds u → length ds ≤ n) →
+        LeadsTo node_has_work node_steps w es v → n ≤ length es → IsQuiet node_has_work v }
 {}

@@ -4,5 +4,5 @@ mod CallSends
 mod Following
 mod Alone
 mod Passing
-mod HandedOver
+pub mod HandedOver
 mod ExampleCounts

@@ -6,7 +6,7 @@
 //! a call is passed on at most as often as the entity was handed over in the round. How often events do either is counted as they happen
 //! (`specs/Passes`); since a call waits at one place alone, its ranks are followed there.
 //!
-//! Crates above cite these modules of `proofs`: `Ranking` (a step, and every list of events).
+//! Crates above cite these modules of `proofs`: `Ranking` (a step, and every list of events), `HandedOver` (how often a call is passed on).
 #![tactic(auto)]
 
 ghost use Rattle.std.specs.Prelude.{◌≡◌, ℕ, ◌+◌, ◌≤◌, true, List, None, Some};
