@@ -1,11 +1,9 @@
 -- The record of copies holds of an opened world, and again at the end of each phase; and what a phase of reaps leaves.
 use Rattle.std.proofs.Common.{◌≡◌, ℕ, ◌<◌, ◌≤◌, ◌⊎◌, false, List, [], ◌∷◌, None, Some, sym, ap, ◌∙◌}
-use Rattle.std.proofs.Common.{subst, arith, inl, inr}
+use Rattle.std.proofs.Common.{arith, inl, inr}
 use Rattle.std.specs.List.{AllByRecursion}
 use Rattle.seam_machine.specs.Nets.{IsQuiet, LeadsTo}
 use Rattle.seam_machine.specs.declared.machines.Event.{Event}
-use Rattle.seam_machine.proofs.Quiet.{quiet_links}
-use Rattle.seam_flows.specs.Flows.{letters_of}
 use Rattle.seam_flows.specs.Tokens.{In}
 use Rattle.seam_defs.specs.declared.settings.Settings.{Settings}
 use Rattle.seam_defs.specs.declared.types.TypeDef.{TypeDef}
@@ -15,7 +13,7 @@ use Rattle.seam_steps.specs.Holders.{holders}
 use Rattle.seam_steps.specs.Nodes.{NodeView, World, node_steps, node_has_work}
 use Rattle.seam_steps.specs.Loads.{with_nodes, reap_ordered_at, ordered_at, opened, reaps_loaded, look_loaded}
 use Rattle.seam_moves.specs.Frames.{Frame}
-use Rattle.seam_moves.specs.Sights.{mine, entity_flow}
+use Rattle.seam_moves.specs.Sights.{entity_flow}
 use Rattle.seam_ones.specs.Ones.{real_in, IsFrame}
 use Rattle.seam_ones.proofs.Counting.{none_counts}
 use Rattle.seam_between.specs.Between.{IsBetweenRounds}
@@ -30,7 +28,8 @@ use Rattle.seam_rounds.proofs.Opened.{opened_is_new}
 use Rattle.seam_strays.proofs.NoStrays.{frame_reaps, unknown_reaps, frame_look, unknown_look}
 use Rattle.seam_truths.specs.Entries.{book_entry}
 use Rattle.seam_newest.specs.Copies.{wanted, copy_at, AreTold, IsForgotten, AreCopiesBetweenRounds}
-use Rattle.seam_newest.proofs.Phasing.{Alive, Forgot, IsLeaving, leaving_then, phase_ends_copied}
+use Rattle.seam_newest.proofs.Still.{quiet_mail}
+use Rattle.seam_newest.proofs.Phasing.{Alive, Forgot, IsLeaving, leaving_then, phase_told, phase_forgotten, phase_ends_copied}
 use Rattle.seam_newest.proofs.Loading.{books_turned}
 
 -- ---- an opened world
@@ -61,7 +60,7 @@ module _ (f : Frame) (u : World) (between : IsBetweenRounds f u) (copies : AreCo
   idle : (e x y : ℕ) → (entity_flow e (reaps_loaded u es)).mail x y ≡ []
   idle e x y =
       ap (λ w. (entity_flow e w).mail x y) is_loaded
-      ∙ ap (letters_of (mine e)) (quiet_links node_has_work u between.nodes.sound.square between.quiet x y)
+      ∙ quiet_mail f u between.nodes between.quiet e x y
 
   leaving : (e home : ℕ) (r : RealView) (there : real_in ((entity_flow e u).slot home) ≡ Some r) →
       IsLeaving f between.frame u between e home r there (reaping.is_told e es) (reaping.small f u between es may e home r there) v
@@ -69,33 +68,21 @@ module _ (f : Frame) (u : World) (between : IsBetweenRounds f u) (copies : AreCo
       leaving_then f u between copies (reaps_loaded u es) (frame_reaps f u between es may) (λ e. reaping.is_told e es)
       (reaping.small f u between es may) (reaping.calm f u between es may) (unknown_reaps f u between es may) books stay idle v vs run
 
-  told_by : (e home : ℕ) (r q : RealView) (there : real_in ((entity_flow e u).slot home) ≡ Some r) →
-      real_in ((entity_flow e v).slot home) ≡ Some q →
-      Alive f between.frame u between e home r there (reaping.is_told e es) (reaping.small f u between es may e home r there) v
-      ⊎ Forgot f between.frame u between e home r there (reaping.is_told e es) (reaping.small f u between es may e home r there) v →
-      AreTold f e v (In home) q
-  told_by e home r q there at (inl a) =
-      let same : a.real ≡ q = let z = sym a.at ∙ at in cc in
-      subst (AreTold f e v (In home)) same a.told
-  told_by e home r q there at (inr x) = absurd (let z = sym x.gone ∙ at in cc)
-
   -- while the real is there, each cell is told what it wants
   pub reaps_told : (e home : ℕ) (r q : RealView) → real_in ((entity_flow e u).slot home) ≡ Some r →
       real_in ((entity_flow e v).slot home) ≡ Some q → AreTold f e v (In home) q
-  reaps_told e home r q there at = told_by e home r q there at (leaving e home r there).state
-
-  forgotten_by : (e home : ℕ) (r : RealView) (there : real_in ((entity_flow e u).slot home) ≡ Some r) →
-      real_in ((entity_flow e v).slot home) ≡ None →
-      Alive f between.frame u between e home r there (reaping.is_told e es) (reaping.small f u between es may e home r there) v
-      ⊎ Forgot f between.frame u between e home r there (reaping.is_told e es) (reaping.small f u between es may e home r there) v →
-      IsForgotten e v
-  forgotten_by e home r there at (inl a) = absurd (let z = sym at ∙ a.at in cc)
-  forgotten_by e home r there at (inr x) = x.forgotten
+  reaps_told e home r q there at =
+      phase_told f u between copies (reaps_loaded u es) (frame_reaps f u between es may) (λ e. reaping.is_told e es)
+      (reaping.small f u between es may) (reaping.calm f u between es may) (unknown_reaps f u between es may) books stay idle v vs run e home
+      r there q at
 
   -- once it is gone, each cell is told that
   pub reaps_forgotten : (e home : ℕ) (r : RealView) → real_in ((entity_flow e u).slot home) ≡ Some r →
       real_in ((entity_flow e v).slot home) ≡ None → IsForgotten e v
-  reaps_forgotten e home r there at = forgotten_by e home r there at (leaving e home r there).state
+  reaps_forgotten e home r there at =
+      phase_forgotten f u between copies (reaps_loaded u es) (frame_reaps f u between es may) (λ e. reaping.is_told e es)
+      (reaping.small f u between es may) (reaping.calm f u between es may) (unknown_reaps f u between es may) books stay idle v vs run e home
+      r there at
 
   module _ (quiet : IsQuiet node_has_work v) where
     pub reaps_end_copied : AreCopiesBetweenRounds f v
@@ -143,11 +130,22 @@ module _ (f : Frame) (u : World) (between : IsBetweenRounds f u) (copies : AreCo
 module _ (f : Frame) (u : World) (between : IsBetweenRounds f u) (copies : AreCopiesBetweenRounds f u) (vs : List Event) (v : World)
     (run : LeadsTo node_has_work node_steps (look_loaded u) vs v) where
   look_idle : (e x y : ℕ) → (entity_flow e (look_loaded u)).mail x y ≡ []
-  look_idle e x y = ap (letters_of (mine e)) (quiet_links node_has_work u between.nodes.sound.square between.quiet x y)
+  look_idle = quiet_mail f u between.nodes between.quiet
+
+  look_books : (e k : ℕ) → book_entry ((entity_flow e (look_loaded u)).slot k) ≡ book_entry ((entity_flow e u).slot k)
+  look_books e k = books_turned e (ordered_at looking.tick) (look_cell e looking.tick) u k
+
+  look_stay : (e k : ℕ) → real_in ((entity_flow e (look_loaded u)).slot k) ≡ real_in ((entity_flow e u).slot k)
+  look_stay e k = reals_stay e (ordered_at looking.tick) (look_cell e looking.tick) u k
+
+  pub looks_told : (e home : ℕ) (r q : RealView) → real_in ((entity_flow e u).slot home) ≡ Some r →
+      real_in ((entity_flow e v).slot home) ≡ Some q → AreTold f e v (In home) q
+  looks_told e home r q there at =
+      phase_told f u between copies (look_loaded u) (frame_look f u between) (λ e. false) (λ e home r here. looking.small f u between r)
+      (looking.calm f u between) (unknown_look f u between) look_books look_stay look_idle v vs run e home r there q at
 
   pub looks_end_copied : IsQuiet node_has_work v → AreCopiesBetweenRounds f v
   looks_end_copied =
       phase_ends_copied f u between copies (look_loaded u) (frame_look f u between) (λ e. false)
-      (λ e home r here. looking.small f u between r) (looking.calm f u between) (unknown_look f u between)
-      (λ e k. books_turned e (ordered_at looking.tick) (look_cell e looking.tick) u k)
-      (λ e k. reals_stay e (ordered_at looking.tick) (look_cell e looking.tick) u k) look_idle v vs run
+      (λ e home r here. looking.small f u between r) (looking.calm f u between) (unknown_look f u between) look_books look_stay look_idle
+      v vs run

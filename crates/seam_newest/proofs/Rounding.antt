@@ -4,7 +4,6 @@ use Rattle.std.proofs.Common.{subst, arith, inl, inr}
 use Rattle.seam_machine.specs.Nets.{happens, enabled, IsQuiet, LeadsTo}
 use Rattle.seam_machine.specs.declared.machines.Event.{Event}
 use Rattle.seam_machine.proofs.Occurring.{occurs}
-use Rattle.seam_machine.proofs.Quiet.{quiet_links}
 use Rattle.seam_runs.proofs.Runs.{leads_keeps}
 use Rattle.seam_flows.specs.Flows.{comes, letters_of}
 use Rattle.seam_flows.specs.Tokens.{Place, In}
@@ -19,10 +18,9 @@ use Rattle.seam_steps.specs.Holders.{holders}
 use Rattle.seam_steps.specs.Nodes.{World, node_steps, node_has_work}
 use Rattle.seam_steps.specs.Loads.{loaded}
 use Rattle.seam_moves.specs.Frames.{Frame}
-use Rattle.seam_moves.specs.Sights.{mine, entity_flow}
+use Rattle.seam_moves.specs.Sights.{entity_flow}
 use Rattle.seam_moves.proofs.Classify.{event_moves}
 use Rattle.seam_ones.specs.Ones.{real_in, real_of, IsOne, HasOne}
-use Rattle.seam_ones.proofs.Counting.{none_counts}
 use Rattle.seam_ones.proofs.Gone.{gone_leads}
 use Rattle.seam_between.specs.Between.{IsSettled, IsBetweenRounds, IsFitting, framed}
 use Rattle.seam_between.proofs.Framing.{in_frame}
@@ -38,7 +36,7 @@ use Rattle.seam_truths.specs.Truths.{IsTrue}
 use Rattle.seam_truths.proofs.Steps.{ghost_moves}
 use Rattle.seam_newest.specs.Copies.{present, copy_at, AreTold, IsForgotten, AreSettled, AreCopiesBetweenRounds}
 use Rattle.seam_newest.proofs.Moving.{still_forgotten}
-use Rattle.seam_newest.proofs.Still.{forgotten_still, none_still, settled_still}
+use Rattle.seam_newest.proofs.Still.{quiet_mail, nowhere_counts, forgotten_still, none_still, settled_still}
 use Rattle.seam_newest.proofs.Running.{IsInformed, informed_from, told_of}
 use Rattle.seam_newest.proofs.Loading.{books_loaded, copies_loaded}
 
@@ -86,15 +84,10 @@ module _ (f : Frame) (e : ℕ) where
 module _ (f : Frame) (w : World) (b : Batch) (between : IsBetweenRounds f w) (fits : IsFitting f w b)
     (copies : AreCopiesBetweenRounds f w) where
   none_before : (e : ℕ) → holders (loaded w b) e ≡ 0 → Somewhere e w ⊎ Nowhere e w → holders w e ≡ 0
-  none_before e zero (inr none) =
-      none_counts w e (record {
-        slots = none;
-        mail = λ x y.
-            ap (λ l. letters_of real_of (letters_of (mine e) l)) (quiet_links node_has_work w between.nodes.sound.square between.quiet x y);
-      })
+  none_before e zero (inr none) = nowhere_counts f w between e none
   none_before e zero (inl p) =
-      let one = holds_kept f w b between fits e (one_holder f w e p.0 p.1 (between.settled e p.0 p.1 p.2) (λ x y.
-      ap (letters_of (mine e)) (quiet_links node_has_work w between.nodes.sound.square between.quiet x y))) in
+      let one = holds_kept f w b between fits e
+      (one_holder f w e p.0 p.1 (between.settled e p.0 p.1 p.2) (quiet_mail f w between.nodes between.quiet e)) in
       absurd (omega (arith, one, zero))
 
   none_loaded : (e : ℕ) → holders (loaded w b) e ≡ 0 → (k : ℕ) → k < cell_count → copy_at e (loaded w b) k ≡ None
@@ -165,9 +158,7 @@ module _ (f : Frame) (w : World) (b : Batch) (between : IsBetweenRounds f w) (fi
 
   module _ (quiet : IsQuiet node_has_work v) where
     still : (e x y : ℕ) → (entity_flow e v).mail x y ≡ []
-    still e x y =
-        ap (letters_of (mine e))
-        (quiet_links node_has_work v (frame_leads g start v es (in_frame f w b between fits) run).sound.square quiet x y)
+    still = quiet_mail g v (frame_leads g start v es (in_frame f w b between fits) run) quiet
 
     settled_by : (e k : ℕ) (q : RealView) → real_in ((entity_flow e v).slot k) ≡ Some q → Somewhere e start ⊎ Nowhere e start →
         AreSettled g e k q v

@@ -1,5 +1,5 @@
 -- Over every list of events the newest entry of each cell is what the real wants.
-use Rattle.std.proofs.Common.{◌≡◌, ℕ, ◌<◌, ◌≤◌, Bool, true, false, not, ◌&&◌, List, [], ◌∷◌, length, Option, None, Some, refl, sym}
+use Rattle.std.proofs.Common.{◌≡◌, ℕ, ◌<◌, ◌≤◌, true, ◌&&◌, List, [], ◌∷◌, length, Option, None, Some, refl, sym}
 use Rattle.std.proofs.Common.{◌∙◌, subst}
 use Rattle.std.specs.List.{AllByRecursion}
 use Rattle.seam_machine.specs.Nets.{happens, enabled, LeadsTo}
@@ -24,7 +24,7 @@ use Rattle.seam_moves.specs.Frames.{Frame, here_at}
 use Rattle.seam_moves.specs.Sights.{Has, mine, entity_flow}
 use Rattle.seam_moves.specs.Moves.{MovesTo}
 use Rattle.seam_ones.specs.Ones.{real_in, real_of, IsOne, IsSpared, IsFrame, HasOne}
-use Rattle.seam_ones.proofs.Holds.{all_two}
+use Rattle.seam_ones.proofs.Holds.{not_both, all_two}
 use Rattle.seam_ones.specs.Burdens.{real_burden}
 use Rattle.seam_ones.proofs.OneReal.{goes, room, calm_of}
 use Rattle.seam_entity.specs.Numbers.{limit}
@@ -40,10 +40,6 @@ use Rattle.seam_newest.specs.Copies.{present, AreTold, AreSettled}
 use Rattle.seam_newest.proofs.Moving.{After, here, gone, after_move}
 use Rattle.seam_newest.proofs.Still.{same_one, came_with, told_still, table_still}
 
-not_yes : (b : Bool) → b ≡ true → not b ≡ true → ⊥
-not_yes true h k = cc
-not_yes false h k = cc
-
 -- what fits is not stray
 pub news_fit : (f : Frame) (k : ℕ) (s : Has) (m : Msg) (x : Entry) → FitsNode f k m → brings m ≡ Some x → real_of m ≡ None →
     is_stray (here_at f k) f.tree s.cell.slot m ≡ true → ⊥
@@ -52,8 +48,8 @@ news_fit f k s (BaseCall c) x fits is none stray = cc
 news_fit f k s (Hand r) x fits is none stray = cc
 news_fit f k s (Current y j g) x fits is none stray = cc
 news_fit f k s (GhostSet y n c) x fits is none stray =
-    not_yes (is_small n && (is_small c.version && fits_copy (here_at f k) c)) (all_two _ _ fits.0 (all_two _ _ fits.1 fits.2)) stray
-news_fit f k s (GhostDrop y n) x fits is none stray = not_yes (is_small n) fits stray
+    not_both (is_small n && (is_small c.version && fits_copy (here_at f k) c)) (all_two _ _ fits.0 (all_two _ _ fits.1 fits.2)) stray
+news_fit f k s (GhostDrop y n) x fits is none stray = not_both (is_small n) fits stray
 news_fit f k s Tick x fits is none stray = cc
 news_fit f k s (Reap y) x fits is none stray = cc
 news_fit f k s (Update u) x fits is none stray = cc

@@ -6,7 +6,7 @@
 //! beside that of `seam_between`. From the two records all laws of ghosts follow for each entity of a loaded world.
 //!
 //! Crates above cite these modules of `proofs`: `Telling` (what a settling tells a cell), `Moving` (a move), `Still` (where nothing is on
-//! its way), `Running` (every list of events), `Loading` (what a load leaves of copies), `Rounding`, `Phasing` and `Ending` (each phase).
+//! its way), `Running` (every list of events), `Loading` (what a load leaves of copies), `Rounding`, `Phasing` and `Ending` (each phase), `Routing` (routes).
 #![tactic(auto)]
 
 ghost use Rattle.std.specs.Prelude.{◌≡◌, ℕ, ◌<◌, ◌+◌, ◌≤◌, List, [], ◌∷◌, length, None, Some};
@@ -33,12 +33,13 @@ ghost use Rattle.seam_ones.specs.Example.{events_of};
 ghost use Rattle.seam_ones.specs.Ones.{real_in, IsOne, IsSpared, IsFrame, HasOne};
 ghost use Rattle.seam_between.specs.Between.{IsBetweenRounds, IsFitting, framed};
 ghost use Rattle.seam_rounds.specs.Rounds.{first_frame, AreReapable};
+ghost use Rattle.seam_rounds.specs.Routes.{IsKnownAt};
 ghost use Rattle.seam_truths.specs.Truths.{IsTrue};
 ghost use Rattle.seam_newest.specs.Copies.{present, copy_at, AreTold, IsForgotten, AreSettled, AreCopiesBetweenRounds};
 
 /// Where nothing about an entity is on its way and cells have what its real wants, each cell is told what the real wants after every list
 /// of events. So it is in a round, for each entity of the loaded world, whether it was there before or the batch creates it; and each cell
-/// is told that it is to have no copy of any other.
+/// is told that it is to have no copy of any other. And so it is where witnesses look.
 pub fn each_cell_is_told_what_the_real_wants()
     ensures flow { (f : Frame) (e ty : ℕ) (w v : World) (es : List Event) → IsFrame f → ty < length f.defs → (h : HasOne f e ty w) →
         IsSpared e w → h.real.public ≤ h.real.version → ((x y : ℕ) → (entity_flow e w).mail x y ≡ []) → (home : ℕ) →
@@ -50,6 +51,9 @@ pub fn each_cell_is_told_what_the_real_wants()
     ensures others { (f : Frame) (w : World) (b : Batch) → IsBetweenRounds f w → IsFitting f w b → AreCopiesBetweenRounds f w →
         (v : World) (es : List Event) → LeadsTo node_has_work node_steps (loaded w b) es v → (e : ℕ) → holders (loaded w b) e ≡ 0 →
         IsForgotten e v }
+    ensures looks { (f : Frame) (u : World) → IsBetweenRounds f u → AreCopiesBetweenRounds f u → (vs : List Event) (v : World) →
+        LeadsTo node_has_work node_steps (look_loaded u) vs v → (e home : ℕ) (r q : RealView) →
+        real_in ((entity_flow e u).slot home) ≡ Some r → real_in ((entity_flow e v).slot home) ≡ Some q → AreTold f e v (In home) q }
 {}
 
 /// In a round each copy, in a book or on its way, is what others may see of the state that its real had at the copy's version: at the load
@@ -58,6 +62,14 @@ pub fn ghosts_of_a_round_are_true()
     ensures { (f : Frame) (w : World) (b : Batch) → IsBetweenRounds f w → IsFitting f w b → AreCopiesBetweenRounds f w → (v : World)
         (es : List Event) → LeadsTo node_has_work node_steps (loaded w b) es v → (e k : ℕ) (r : RealView) →
         real_in ((entity_flow e (loaded w b)).slot k) ≡ Some r → IsTrue (framed f b) e r.ty r (λ n. present f r) v }
+{}
+
+/// In a round the newest route of each base node, of the one that it has and those on their way there, has the generation of the real and
+/// the cell where it is; while the real is on its way, each route is of a smaller generation than it.
+pub fn the_newest_route_leads_to_the_real()
+    ensures { (f : Frame) (w : World) (b : Batch) → IsBetweenRounds f w → IsFitting f w b → (v : World) (es : List Event) →
+        LeadsTo node_has_work node_steps (loaded w b) es v → (e : ℕ) → holders (loaded w b) e ≡ 1 → (p : Place) (q : RealView) →
+        IsOne e v p q → (j : ℕ) → cell_count ≤ j → j < cell_count + f.settings.bases → IsKnownAt p q (entity_flow e v) j }
 {}
 
 /// Where a round's calls leave the world quiet, each haunt of a real has the present copy and no other cell has one, its own cell among
