@@ -73,16 +73,16 @@ module _ (f : Frame) (u : World) (between : IsBetweenRounds f u) (copies : AreCo
       real_in ((entity_flow e v).slot home) ≡ Some q → AreTold f e v (In home) q
   reaps_told e home r q there at =
       phase_told f u between copies (reaps_loaded u es) (frame_reaps f u between es may) (λ e. reaping.is_told e es)
-      (reaping.small f u between es may) (reaping.calm f u between es may) (unknown_reaps f u between es may) books stay idle v vs run e home
-      r there q at
+      (reaping.small f u between es may) (reaping.calm f u between es may) (unknown_reaps f u between es may) books stay idle v vs run
+      e home r there q at
 
   -- once it is gone, each cell is told that
   pub reaps_forgotten : (e home : ℕ) (r : RealView) → real_in ((entity_flow e u).slot home) ≡ Some r →
       real_in ((entity_flow e v).slot home) ≡ None → IsForgotten e v
   reaps_forgotten e home r there at =
       phase_forgotten f u between copies (reaps_loaded u es) (frame_reaps f u between es may) (λ e. reaping.is_told e es)
-      (reaping.small f u between es may) (reaping.calm f u between es may) (unknown_reaps f u between es may) books stay idle v vs run e home
-      r there at
+      (reaping.small f u between es may) (reaping.calm f u between es may) (unknown_reaps f u between es may) books stay idle v vs run
+      e home r there at
 
   module _ (quiet : IsQuiet node_has_work v) where
     pub reaps_end_copied : AreCopiesBetweenRounds f v

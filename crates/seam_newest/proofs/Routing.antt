@@ -15,11 +15,10 @@ use Rattle.seam_ones.specs.Ones.{real_in, IsOne}
 use Rattle.seam_between.specs.Between.{IsBetweenRounds, IsFitting, framed}
 use Rattle.seam_between.proofs.Going.{frame_loaded, settled_loaded, one_loaded, spared_loaded}
 use Rattle.seam_rounds.specs.Routes.{IsKnownAt}
-use Rattle.seam_rounds.proofs.Shape.{Somewhere, Nowhere, search_real}
 use Rattle.seam_rounds.proofs.RoadRuns.{routed_leads}
 use Rattle.seam_rounds.proofs.CallsEnd.{routed_loaded}
-use Rattle.seam_strays.proofs.InRound.{nobody}
 use Rattle.seam_newest.proofs.Still.{same_one}
+use Rattle.seam_newest.proofs.Loading.{home_loaded}
 
 module _ (f : Frame) (w : World) (b : Batch) (between : IsBetweenRounds f w) (fits : IsFitting f w b) (v : World) (es : List Event)
     (run : LeadsTo node_has_work node_steps (loaded w b) es v) where
@@ -40,11 +39,6 @@ module _ (f : Frame) (w : World) (b : Batch) (between : IsBetweenRounds f w) (fi
         subst (λ y. IsKnownAt p y (entity_flow e v) j) same.1 (subst (λ y. IsKnownAt y x.real (entity_flow e v) j) same.0
         (x.known j high low))
 
-  routes_by : (e : ℕ) → holders start e ≡ 1 → Somewhere e start ⊎ Nowhere e start → (p : Place) (q : RealView) → IsOne e v p q →
-      (j : ℕ) → cell_count ≤ j → j < cell_count + f.settings.bases → IsKnownAt p q (entity_flow e v) j
-  routes_by e one (inl p) = routes_then e p.0 p.1 p.2
-  routes_by e one (inr n) = let zero = nobody f w b between fits v es run e n in absurd (omega (arith, zero, one))
-
   pub routes_each : (e : ℕ) → holders start e ≡ 1 → (p : Place) (q : RealView) → IsOne e v p q → (j : ℕ) → cell_count ≤ j →
       j < cell_count + f.settings.bases → IsKnownAt p q (entity_flow e v) j
-  routes_each e one = routes_by e one (search_real e start)
+  routes_each e one = let h = home_loaded f w b between fits e one in routes_then e h.0 h.1 h.2

@@ -1,6 +1,7 @@
 -- Over every list of events the newest entry of each cell is what the real wants.
 use Rattle.std.proofs.Common.{◌≡◌, ℕ, ◌<◌, ◌≤◌, true, ◌&&◌, List, [], ◌∷◌, length, Option, None, Some, refl, sym}
 use Rattle.std.proofs.Common.{◌∙◌, subst}
+use Rattle.std.proofs.Common.{arith}
 use Rattle.std.specs.List.{AllByRecursion}
 use Rattle.seam_machine.specs.Nets.{happens, enabled, LeadsTo}
 use Rattle.seam_machine.specs.declared.machines.Event.{Event}
@@ -36,7 +37,9 @@ use Rattle.seam_truths.proofs.Steps.{ghost_moves}
 use Rattle.seam_truths.proofs.Telling.{true_first, first_place}
 use Rattle.seam_truths.proofs.Hushing.{IsQuelled, quelled_leads, hushed_where}
 use Rattle.seam_truths.specs.Truths.{IsTable, IsTrue, IsHushed}
-use Rattle.seam_newest.specs.Copies.{present, AreTold, AreSettled}
+use Rattle.seam_rounds.proofs.Publics.{public_low}
+use Rattle.seam_truths.proofs.Books.{risen_leads, copies_rise}
+use Rattle.seam_newest.specs.Copies.{present, copy_at, AreTold, AreSettled}
 use Rattle.seam_newest.proofs.Moving.{After, here, gone, after_move}
 use Rattle.seam_newest.proofs.Still.{same_one, came_with, told_still, table_still}
 
@@ -172,3 +175,20 @@ module _ (f : Frame) (frame : IsFrame f) (e ty : ℕ) (known : ty < length f.def
       let x = informed_from v es run in
       placed f frame e ty known h.real low table v x.quelled.is.one.has.place p x.quelled.is.one.has.real q x.quelled.is.one.has.one is
       x.told
+
+  -- what comes to its cell has no newer beat than the book there
+  pub hushed_of : (v : World) (es : List Event) → LeadsTo node_has_work node_steps w es v → (k : ℕ) (q : RealView) →
+      real_in ((entity_flow e v).slot k) ≡ Some q → IsHushed e v (In k)
+  hushed_of v es run = hushed_where f frame e ty known h.real table v (informed_from v es run).quelled
+
+  -- a copy in a book is of no older version than one that was there before
+  pub later_of : (v u : World) (es gs : List Event) → LeadsTo node_has_work node_steps w es v → LeadsTo node_has_work node_steps v gs u →
+      (k : ℕ) (c d : GhostCopy) → copy_at e v k ≡ Some c → copy_at e u k ≡ Some d → c.version ≤ d.version
+  later_of v u es gs to run k c d was now =
+      let x = (informed_from v es to).quelled in
+      let has = x.is.one.has in
+      let up = public_low f h.real has.real low x.is.one.replays in
+      copies_rise f frame e ty known has.real x.is.table v u
+      (risen_leads f frame e ty known has.real x.is.table v v u gs
+      (record { is = true_first f e ty v has x.is.table up x.is.told; spared = x.spared; books = λ j. omega arith }) run)
+      x.is.told k c d was now

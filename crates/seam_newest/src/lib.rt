@@ -6,7 +6,8 @@
 //! beside that of `seam_between`. From the two records all laws of ghosts follow for each entity of a loaded world.
 //!
 //! Crates above cite these modules of `proofs`: `Telling` (what a settling tells a cell), `Moving` (a move), `Still` (where nothing is on
-//! its way), `Running` (every list of events), `Loading` (what a load leaves of copies), `Rounding`, `Phasing` and `Ending` (each phase), `Routing` (routes).
+//! its way), `Running` (every list of events), `Loading` (what a load leaves of copies), `Rounding`, `Phasing` and `Ending` (each phase),
+//! `Routing` (routes).
 #![tactic(auto)]
 
 ghost use Rattle.std.specs.Prelude.{◌≡◌, ℕ, ◌<◌, ◌+◌, ◌≤◌, List, [], ◌∷◌, length, None, Some};
@@ -19,6 +20,7 @@ ghost use Rattle.seam_defs.specs.declared.types.TypeDef.{TypeDef};
 ghost use Rattle.seam_defs.specs.Builtin.{builtin};
 ghost use Rattle.seam_defs.specs.Settings.{standard};
 ghost use Rattle.seam_call.specs.declared.order.Batch.{Batch};
+ghost use Rattle.seam_call.specs.declared.shown.GhostCopy.{GhostCopy};
 ghost use Rattle.seam_entity.specs.Reals.{RealView};
 ghost use Rattle.seam_entity.specs.Here.{cell_count};
 ghost use Rattle.seam_steps.specs.Holders.{holders};
@@ -34,7 +36,7 @@ ghost use Rattle.seam_ones.specs.Ones.{real_in, IsOne, IsSpared, IsFrame, HasOne
 ghost use Rattle.seam_between.specs.Between.{IsBetweenRounds, IsFitting, framed};
 ghost use Rattle.seam_rounds.specs.Rounds.{first_frame, AreReapable};
 ghost use Rattle.seam_rounds.specs.Routes.{IsKnownAt};
-ghost use Rattle.seam_truths.specs.Truths.{IsTrue};
+ghost use Rattle.seam_truths.specs.Truths.{IsTrue, IsHushed};
 ghost use Rattle.seam_newest.specs.Copies.{present, copy_at, AreTold, IsForgotten, AreSettled, AreCopiesBetweenRounds};
 
 /// Where nothing about an entity is on its way and cells have what its real wants, each cell is told what the real wants after every list
@@ -57,11 +59,19 @@ pub fn each_cell_is_told_what_the_real_wants()
 {}
 
 /// In a round each copy, in a book or on its way, is what others may see of the state that its real had at the copy's version: at the load
-/// there is the present copy alone, and from then on each beat has one more.
+/// there is the present copy alone, and from then on each beat has one more. Of two copies of an entity in a cell the later one is never of
+/// an older version, and what comes to the cell of the real has no newer beat than the book there.
 pub fn ghosts_of_a_round_are_true()
-    ensures { (f : Frame) (w : World) (b : Batch) → IsBetweenRounds f w → IsFitting f w b → AreCopiesBetweenRounds f w → (v : World)
-        (es : List Event) → LeadsTo node_has_work node_steps (loaded w b) es v → (e k : ℕ) (r : RealView) →
+    ensures true_copies { (f : Frame) (w : World) (b : Batch) → IsBetweenRounds f w → IsFitting f w b → AreCopiesBetweenRounds f w →
+        (v : World) (es : List Event) → LeadsTo node_has_work node_steps (loaded w b) es v → (e k : ℕ) (r : RealView) →
         real_in ((entity_flow e (loaded w b)).slot k) ≡ Some r → IsTrue (framed f b) e r.ty r (λ n. present f r) v }
+    ensures versions { (f : Frame) (w : World) (b : Batch) → IsBetweenRounds f w → IsFitting f w b → AreCopiesBetweenRounds f w →
+        (v : World) (es : List Event) → LeadsTo node_has_work node_steps (loaded w b) es v → (u : World) (gs : List Event) →
+        LeadsTo node_has_work node_steps v gs u → (e : ℕ) → holders (loaded w b) e ≡ 1 → (k : ℕ) (c d : GhostCopy) →
+        copy_at e v k ≡ Some c → copy_at e u k ≡ Some d → c.version ≤ d.version }
+    ensures hushed { (f : Frame) (w : World) (b : Batch) → IsBetweenRounds f w → IsFitting f w b → AreCopiesBetweenRounds f w →
+        (v : World) (es : List Event) → LeadsTo node_has_work node_steps (loaded w b) es v → (e : ℕ) → holders (loaded w b) e ≡ 1 →
+        (k : ℕ) (q : RealView) → real_in ((entity_flow e v).slot k) ≡ Some q → IsHushed e v (In k) }
 {}
 
 /// In a round the newest route of each base node, of the one that it has and those on their way there, has the generation of the real and

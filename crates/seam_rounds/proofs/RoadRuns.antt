@@ -177,7 +177,8 @@ module _ (f : Frame) (e : ℕ) where
           (subst (AllByRecursion (λ m. brings_route m ≡ None)) (sym (g.moves.0.items b ∙ ap (items_to b) is)) (items_all
           (λ m. brings_route m ≡ None) b ps none))
 
-      stays_new : (key c : ℕ) → Newest route_entry brings_route before b key c → (ps : List (ℕ × Msg)) → AllByRecursion (λ p. brings_route p.1 ≡ None) ps →
+      stays_new : (key c : ℕ) → Newest route_entry brings_route before b key c → (ps : List (ℕ × Msg)) →
+          AllByRecursion (λ p. brings_route p.1 ≡ None) ps →
           sent ≡ ps → Newest route_entry brings_route after b key c
       stays_new key c n ps none is = newest_stays brings_route route_entry g b key c n takes (no_out ps none is key c)
 
@@ -264,8 +265,8 @@ module _ (f : Frame) (e : ℕ) where
                 let out : g.out b ≡ Current r.entity g.k r.generation ∷ [] =
                 g.moves.0.items b ∙ (ap (items_to b) z ∙ told_here
                 (Current r.entity g.k r.generation) cell_count f.settings.bases b high below) in
-                newest_rises brings_route route_entry g b n.0 r.generation n.1 g.k n.3 (let lt = n.2 in let gen = ap generation_of from.2 in omega
-                (arith, lt, gen))
+                newest_rises brings_route route_entry g b n.0 r.generation n.1 g.k n.3
+                (let lt = n.2 in let gen = ap generation_of from.2 in omega (arith, lt, gen))
                 (λ same. absurd (omega (arith, same, low, high)))
                 (subst (AllBring brings_route (NotAbove r.generation g.k)) (sym out) (inr (refl, refl), tt))
                 (inr (subst (Has brings_route (r.generation, g.k)) (sym out) (inl refl)));
@@ -371,8 +372,11 @@ module _ (f : Frame) (e : ℕ) where
 
   module _ (w : World) (h : IsRouted w) (still : (a k : ℕ) → (entity_flow e w).mail a k ≡ []) (k : ℕ) (r : RealView)
       (here : real_in ((entity_flow e w).slot k) ≡ Some r) (b : ℕ) (high : cell_count ≤ b) (low : b < cell_count + f.settings.bases) where
-    at_home : (p : Place) → p ≡ In k → IsKnownAt p h.real (entity_flow e w) b → Newest route_entry brings_route (entity_flow e w) b h.real.generation k
-    at_home (In x) is n = let same : x ≡ k = let z = is in cc in subst (Newest route_entry brings_route (entity_flow e w) b h.real.generation) same n
+    at_home : (p : Place) → p ≡ In k → IsKnownAt p h.real (entity_flow e w) b →
+        Newest route_entry brings_route (entity_flow e w) b h.real.generation k
+    at_home (In x) is n =
+        let same : x ≡ k = let z = is in cc in
+        subst (Newest route_entry brings_route (entity_flow e w) b h.real.generation) same n
     at_home (On x y) is n = cc
 
     pub quiet_route : ((entity_flow e w).slot b).base.route ≡ Some (record { cell = k; generation = r.generation })
