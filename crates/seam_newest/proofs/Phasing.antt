@@ -23,10 +23,11 @@ use Rattle.seam_moves.specs.Moves.{MovesTo}
 use Rattle.seam_moves.proofs.Classify.{event_moves}
 use Rattle.seam_ones.specs.Fits.{RealFits}
 use Rattle.seam_ones.specs.Ones.{real_in, real_of, IsOne, IsFrame}
-use Rattle.seam_ones.proofs.Counting.{one_counts}
+use Rattle.seam_ones.proofs.Counting.{one_counts, none_counts}
 use Rattle.seam_ones.proofs.Holds.{not_both}
 use Rattle.seam_ones.proofs.Gone.{gone_leads}
 use Rattle.seam_between.specs.Between.{IsSettled, IsBetweenRounds}
+use Rattle.seam_between.proofs.Ready.{quiet_home}
 use Rattle.seam_rounds.proofs.Shape.{Somewhere, Nowhere, search_real, frame_leads}
 use Rattle.seam_rounds.proofs.Calm.{IsSame, IsCalmTo, IsCalm}
 use Rattle.seam_rounds.proofs.Ending.{calm_one, calm_none}
@@ -36,7 +37,7 @@ use Rattle.seam_strays.proofs.Unknown.{IsUnknown, unknown_leads}
 use Rattle.seam_truths.specs.Entries.{Entry, brings, book_entry}
 use Rattle.seam_truths.specs.GhostMoves.{GhostMoves}
 use Rattle.seam_truths.proofs.Steps.{ghost_moves}
-use Rattle.seam_newest.specs.Copies.{copy_at, AreTold, IsForgotten, AreSettled, AreCopiesBetweenRounds}
+use Rattle.seam_newest.specs.Copies.{wanted, copy_at, AreTold, IsForgotten, AreSettled, AreCopiesBetweenRounds}
 use Rattle.seam_newest.proofs.Moving.{After, here, gone, after_move, still_forgotten}
 use Rattle.seam_newest.proofs.Still.{quiet_mail, nowhere_counts, forgotten_still, none_still, told_still, settled_still}
 use Rattle.seam_newest.proofs.Rounding.{lost_leads}
@@ -263,3 +264,19 @@ module _ (f : Frame) (u : World) (between : IsBetweenRounds f u) (copies : AreCo
       settled = λ e k q at. settled_by e k q at (search_real e u);
       none = λ e zero k low. none_by e zero k low (search_real e u);
     }
+
+    -- the copies of an entity whose real is there are what they were
+    stays_by : (e home : ℕ) (r : RealView) (there : real_in ((entity_flow e u).slot home) ≡ Some r) → holders v e ≡ 1 →
+        IsAlive e home r there ⊎ IsGone e home r there → (k : ℕ) → k < cell_count → copy_at e v k ≡ copy_at e u k
+    stays_by e home r there one (inl a) k low =
+        let same = (((leaving e home r there).calm.nodes home).real a.real a.at).1 in
+        (settled_at e home r there home a.real a.at (inl a)).copies k low
+        ∙ (ap (λ x. wanted f x k) (sym same.1) ∙ sym ((copies.settled e home r there).copies k low))
+    stays_by e home r there one (inr x) k low =
+        let zero = none_counts v e (calm_none f e home r u (between.settled e home r there) (told e) v (leaving e home r there).calm x.gone) in
+        absurd (omega (arith, one, zero))
+
+    pub phase_stays : (e : ℕ) → holders u e ≡ 1 → holders v e ≡ 1 → (k : ℕ) → k < cell_count → copy_at e v k ≡ copy_at e u k
+    phase_stays e was now =
+        let h = quiet_home f u between e was in
+        stays_by e h.node h.real h.here now (leaving e h.node h.real h.here).state

@@ -83,7 +83,7 @@ pub fn the_newest_route_leads_to_the_real()
 {}
 
 /// Where a round's calls leave the world quiet, each haunt of a real has the present copy and no other cell has one, its own cell among
-/// them; no book has a greater beat than the real; and each base node's route goes to it.
+/// them; no book has a greater beat than the real; and each base node's route goes to it. Where witnesses look, copies stay what they are.
 pub fn quiet_means_settled()
     ensures copies { (f : Frame) (w : World) (b : Batch) → IsBetweenRounds f w → IsFitting f w b → AreCopiesBetweenRounds f w →
         (v : World) (es : List Event) → LeadsTo node_has_work node_steps (loaded w b) es v → IsQuiet node_has_work v → (e k : ℕ)
@@ -92,6 +92,9 @@ pub fn quiet_means_settled()
         LeadsTo node_has_work node_steps (loaded w b) es v → IsQuiet node_has_work v → (e k : ℕ) (q : RealView) →
         real_in ((entity_flow e v).slot k) ≡ Some q → (j : ℕ) → cell_count ≤ j → j < cell_count + f.settings.bases →
         ((entity_flow e v).slot j).base.route ≡ Some (record { cell = k; generation = q.generation }) }
+    ensures looks { (f : Frame) (u : World) → IsBetweenRounds f u → AreCopiesBetweenRounds f u → (vs : List Event) (v : World) →
+        LeadsTo node_has_work node_steps (look_loaded u) vs v → IsQuiet node_has_work v → (e : ℕ) → holders u e ≡ 1 → (k : ℕ) →
+        k < cell_count → copy_at e v k ≡ copy_at e u k }
 {}
 
 /// The record of copies holds of a world as it is opened. It holds of a loaded world, and again where a round's calls leave the world
