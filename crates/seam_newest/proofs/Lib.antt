@@ -7,4 +7,5 @@ pub mod Rounding
 pub mod Phasing
 pub mod Ending
 pub mod Routing
+pub mod Near
 pub mod ExampleCopies

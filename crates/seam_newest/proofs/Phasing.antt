@@ -273,7 +273,8 @@ module _ (f : Frame) (u : World) (between : IsBetweenRounds f u) (copies : AreCo
         (settled_at e home r there home a.real a.at (inl a)).copies k low
         ∙ (ap (λ x. wanted f x k) (sym same.1) ∙ sym ((copies.settled e home r there).copies k low))
     stays_by e home r there one (inr x) k low =
-        let zero = none_counts v e (calm_none f e home r u (between.settled e home r there) (told e) v (leaving e home r there).calm x.gone) in
+        let zero = none_counts v e
+        (calm_none f e home r u (between.settled e home r there) (told e) v (leaving e home r there).calm x.gone) in
         absurd (omega (arith, one, zero))
 
     pub phase_stays : (e : ℕ) → holders u e ≡ 1 → holders v e ≡ 1 → (k : ℕ) → k < cell_count → copy_at e v k ≡ copy_at e u k

@@ -7,18 +7,23 @@
 //!
 //! Crates above cite these modules of `proofs`: `Telling` (what a settling tells a cell), `Moving` (a move), `Still` (where nothing is on
 //! its way), `Running` (every list of events), `Loading` (what a load leaves of copies), `Rounding`, `Phasing` and `Ending` (each phase),
-//! `Routing` (routes).
+//! `Routing` (routes), `Near` (what is near).
 #![tactic(auto)]
 
-ghost use Rattle.std.specs.Prelude.{◌≡◌, ℕ, ◌<◌, ◌+◌, ◌≤◌, List, [], ◌∷◌, length, None, Some};
+ghost use Rattle.std.specs.Prelude.{◌≡◌, ℕ, ◌<◌, ◌+◌, ◌≤◌, ◌⊎◌, List, [], ◌∷◌, length, None, Some};
 ghost use Rattle.std.specs.List.{AllByRecursion};
+ghost use Rattle.seam_geo.specs.declared.pos.Pos.{Pos};
+ghost use Rattle.seam_geo.specs.Pos.{distance};
+ghost use Rattle.seam_tree.specs.Division.{cells_of};
+ghost use Rattle.seam_haunt.specs.Haunts.{distance_to_cell};
+ghost use Rattle.seam_haunt.specs.Places.{settled};
 ghost use Rattle.seam_machine.specs.Nets.{IsQuiet, LeadsTo};
 ghost use Rattle.seam_machine.specs.declared.machines.Event.{Event};
 ghost use Rattle.seam_flows.specs.Tokens.{Place, In};
 ghost use Rattle.seam_defs.specs.declared.settings.Settings.{Settings};
 ghost use Rattle.seam_defs.specs.declared.types.TypeDef.{TypeDef};
 ghost use Rattle.seam_defs.specs.Builtin.{builtin};
-ghost use Rattle.seam_defs.specs.Settings.{standard};
+ghost use Rattle.seam_defs.specs.Settings.{standard, GhostsReach};
 ghost use Rattle.seam_call.specs.declared.order.Batch.{Batch};
 ghost use Rattle.seam_call.specs.declared.shown.GhostCopy.{GhostCopy};
 ghost use Rattle.seam_entity.specs.Reals.{RealView};
@@ -37,7 +42,7 @@ ghost use Rattle.seam_between.specs.Between.{IsBetweenRounds, IsFitting, framed}
 ghost use Rattle.seam_rounds.specs.Rounds.{first_frame, AreReapable};
 ghost use Rattle.seam_rounds.specs.Routes.{IsKnownAt};
 ghost use Rattle.seam_truths.specs.Truths.{IsTrue, IsHushed};
-ghost use Rattle.seam_newest.specs.Copies.{present, copy_at, AreTold, IsForgotten, AreSettled, AreCopiesBetweenRounds};
+ghost use Rattle.seam_newest.specs.Copies.{present, copy_at, AreTold, IsForgotten, AreSettled, AreCopiesBetweenRounds, HauntsAllNear};
 
 /// Where nothing about an entity is on its way and cells have what its real wants, each cell is told what the real wants after every list
 /// of events. So it is in a round, for each entity of the loaded world, whether it was there before or the batch creates it; and each cell
@@ -131,6 +136,26 @@ pub fn no_cell_keeps_a_copy_of_the_reaped()
         holders u e ≡ 1 → AllByRecursion (λ x. x ≡ e → ⊥) es → (k : ℕ) → k < cell_count → copy_at e v k ≡ copy_at e u k }
 {}
 
+/// A real whose place stays what it is when it is settled again has a haunt in each cell near enough. So where the record of copies holds,
+/// a cell has the real or the present copy of each entity that a witness there may have in view, wherever the cell keeps the witness: by the
+/// settings a ghost reaches as far as a view and the way that a cell keeps an entity.
+pub fn near_entities_are_known()
+    ensures placed { (f : Frame) (home : ℕ) (r : RealView) → settled
+        (record {
+          kept = f.settings.offload_hysteresis;
+          near = f.settings.ghost_distance;
+          far = f.settings.ghost_distance + f.settings.ghost_hysteresis;
+        }) f.tree (record { home = home; ghosts = r.haunts }) r.state.pos
+        ≡ record { home = home; ghosts = r.haunts } → HauntsAllNear f home r }
+    ensures known { (f : Frame) → IsFrame f → (v : World) → AreCopiesBetweenRounds f v → GhostsReach f.settings → (e home : ℕ) (r : RealView) →
+        real_in ((entity_flow e v).slot home) ≡ Some r → HauntsAllNear f home r → (k : ℕ) (p : Pos) → k < cells_of f.tree →
+        distance_to_cell f.tree k p ≤ f.settings.offload_hysteresis →
+        distance r.state.pos p ≤ f.settings.view_radius + f.settings.view_hysteresis →
+        (k ≡ home) ⊎ (copy_at e v k ≡ Some (present f r)) }
+{
+    seam_geo::triangle_inequality();
+}
+
 /// What these laws ask is true of an opened world and a worked batch (`seam_steps`: "a late ghost message"), which creates an entity near
 /// two borders of three cells and moves it over one. Where its calls leave the world quiet, both records hold, the haunt has the copy of
 /// what the entity is now, and the entity may be reaped.
@@ -142,5 +167,6 @@ pub fn a_worked_round_keeps_the_records()
     ensures ends { IsBetweenRounds (framed (first_frame builtin standard) late.batch) late.world_14 }
     ensures copies { AreCopiesBetweenRounds (framed (first_frame builtin standard) late.batch) late.world_14 }
     ensures present { copy_at 1 late.world_14 0 ≡ Some (row.copy_at 2 5100 4000) }
+    ensures near { HauntsAllNear (framed (first_frame builtin standard) late.batch) 1 late.moved_on }
     ensures reapable { AreReapable late.world_14 (1 ∷ []) }
 {}
