@@ -14,9 +14,9 @@ ghost use Rattle.std.specs.Prelude.{◌≡◌, ℕ, ◌<◌, ◌+◌, ◌≤◌,
 ghost use Rattle.std.specs.List.{AllByRecursion};
 ghost use Rattle.seam_geo.specs.declared.pos.Pos.{Pos};
 ghost use Rattle.seam_geo.specs.Pos.{distance};
-ghost use Rattle.seam_tree.specs.Division.{cells_of};
+ghost use Rattle.seam_tree.specs.Division.{Division, cells_of, IsTree, IsInSpace};
 ghost use Rattle.seam_haunt.specs.Haunts.{distance_to_cell};
-ghost use Rattle.seam_haunt.specs.Places.{settled};
+ghost use Rattle.seam_haunt.specs.Places.{home_at, settled};
 ghost use Rattle.seam_machine.specs.Nets.{IsQuiet, LeadsTo};
 ghost use Rattle.seam_machine.specs.declared.machines.Event.{Event};
 ghost use Rattle.seam_flows.specs.Tokens.{Place, In};
@@ -136,9 +136,9 @@ pub fn no_cell_keeps_a_copy_of_the_reaped()
         holders u e ≡ 1 → AllByRecursion (λ x. x ≡ e → ⊥) es → (k : ℕ) → k < cell_count → copy_at e v k ≡ copy_at e u k }
 {}
 
-/// A real whose place stays what it is when it is settled again has a haunt in each cell near enough. So where the record of copies holds,
-/// a cell has the real or the present copy of each entity that a witness there may have in view, wherever the cell keeps the witness: by the
-/// settings a ghost reaches as far as a view and the way that a cell keeps an entity.
+/// A real whose place stays what it is when it is settled again has a haunt in each cell near enough, and its own cell is as near as a cell
+/// that keeps an entity. So where the record of copies holds, a cell has the real or the present copy of each entity that a witness there
+/// may have in view: by the settings ghosts reach as far as a view and the way from a cell to an entity that it keeps.
 pub fn near_entities_are_known()
     ensures placed { (f : Frame) (home : ℕ) (r : RealView) → settled
         (record {
@@ -147,9 +147,11 @@ pub fn near_entities_are_known()
           far = f.settings.ghost_distance + f.settings.ghost_hysteresis;
         }) f.tree (record { home = home; ghosts = r.haunts }) r.state.pos
         ≡ record { home = home; ghosts = r.haunts } → HauntsAllNear f home r }
-    ensures known { (f : Frame) → IsFrame f → (v : World) → AreCopiesBetweenRounds f v → GhostsReach f.settings → (e home : ℕ) (r : RealView) →
-        real_in ((entity_flow e v).slot home) ≡ Some r → HauntsAllNear f home r → (k : ℕ) (p : Pos) → k < cells_of f.tree →
-        distance_to_cell f.tree k p ≤ f.settings.offload_hysteresis →
+    ensures kept { (kept : ℕ) (t : Division) (home : ℕ) (p : Pos) → IsTree t → IsInSpace t p → home_at kept t home p ≡ home →
+        distance_to_cell t home p ≤ kept }
+    ensures known { (f : Frame) → IsFrame f → (v : World) → AreCopiesBetweenRounds f v → GhostsReach f.settings → (e home : ℕ)
+        (r : RealView) → real_in ((entity_flow e v).slot home) ≡ Some r → HauntsAllNear f home r → (k : ℕ) (p : Pos) →
+        k < cells_of f.tree → distance_to_cell f.tree k p ≤ f.settings.offload_hysteresis →
         distance r.state.pos p ≤ f.settings.view_radius + f.settings.view_hysteresis →
         (k ≡ home) ⊎ (copy_at e v k ≡ Some (present f r)) }
 {
