@@ -1,11 +1,8 @@
 -- The record of copies holds of an opened world, and again at the end of each phase; and what a phase of reaps leaves.
-use Rattle.std.proofs.Common.{◌≡◌, ℕ, ◌<◌, ◌≤◌, ◌⊎◌, false, List, [], ◌∷◌, None, Some, sym, ap, ◌∙◌}
-use Rattle.std.proofs.Common.{subst, arith, inl, inr}
+use Rattle.std.proofs.Common.{◌≡◌, ℕ, ◌<◌, ◌≤◌, false, List, [], ◌∷◌, None, Some, sym, ap, ◌∙◌}
 use Rattle.std.specs.List.{AllByRecursion}
 use Rattle.seam_machine.specs.Nets.{IsQuiet, LeadsTo}
 use Rattle.seam_machine.specs.declared.machines.Event.{Event}
-use Rattle.seam_machine.proofs.Quiet.{quiet_links}
-use Rattle.seam_flows.specs.Flows.{letters_of}
 use Rattle.seam_flows.specs.Tokens.{In}
 use Rattle.seam_defs.specs.declared.settings.Settings.{Settings}
 use Rattle.seam_defs.specs.declared.types.TypeDef.{TypeDef}
@@ -15,22 +12,20 @@ use Rattle.seam_steps.specs.Holders.{holders}
 use Rattle.seam_steps.specs.Nodes.{NodeView, World, node_steps, node_has_work}
 use Rattle.seam_steps.specs.Loads.{with_nodes, reap_ordered_at, ordered_at, opened, reaps_loaded, look_loaded}
 use Rattle.seam_moves.specs.Frames.{Frame}
-use Rattle.seam_moves.specs.Sights.{mine, entity_flow}
+use Rattle.seam_moves.specs.Sights.{entity_flow}
 use Rattle.seam_ones.specs.Ones.{real_in, IsFrame}
-use Rattle.seam_ones.proofs.Counting.{none_counts}
 use Rattle.seam_between.specs.Between.{IsBetweenRounds}
 use Rattle.seam_between.proofs.Loading.{each}
-use Rattle.seam_between.proofs.Ready.{quiet_home}
 use Rattle.seam_rounds.specs.Rounds.{first_frame, AreReapable}
-use Rattle.seam_rounds.proofs.Ending.{calm_none}
 use Rattle.seam_rounds.proofs.Giving.{reaps_cell, look_cell, reals_stay}
 use Rattle.seam_rounds.proofs.Reaping as reaping
 use Rattle.seam_rounds.proofs.Looking as looking
 use Rattle.seam_rounds.proofs.Opened.{opened_is_new}
 use Rattle.seam_strays.proofs.NoStrays.{frame_reaps, unknown_reaps, frame_look, unknown_look}
 use Rattle.seam_truths.specs.Entries.{book_entry}
-use Rattle.seam_newest.specs.Copies.{wanted, copy_at, AreTold, IsForgotten, AreCopiesBetweenRounds}
-use Rattle.seam_newest.proofs.Phasing.{Alive, Forgot, IsLeaving, leaving_then, phase_ends_copied}
+use Rattle.seam_newest.specs.Copies.{copy_at, AreTold, IsForgotten, AreCopiesBetweenRounds}
+use Rattle.seam_newest.proofs.Still.{quiet_mail}
+use Rattle.seam_newest.proofs.Phasing.{phase_told, phase_forgotten, phase_ends_copied, phase_stays}
 use Rattle.seam_newest.proofs.Loading.{books_turned}
 
 -- ---- an opened world
@@ -61,41 +56,23 @@ module _ (f : Frame) (u : World) (between : IsBetweenRounds f u) (copies : AreCo
   idle : (e x y : ℕ) → (entity_flow e (reaps_loaded u es)).mail x y ≡ []
   idle e x y =
       ap (λ w. (entity_flow e w).mail x y) is_loaded
-      ∙ ap (letters_of (mine e)) (quiet_links node_has_work u between.nodes.sound.square between.quiet x y)
-
-  leaving : (e home : ℕ) (r : RealView) (there : real_in ((entity_flow e u).slot home) ≡ Some r) →
-      IsLeaving f between.frame u between e home r there (reaping.is_told e es) (reaping.small f u between es may e home r there) v
-  leaving =
-      leaving_then f u between copies (reaps_loaded u es) (frame_reaps f u between es may) (λ e. reaping.is_told e es)
-      (reaping.small f u between es may) (reaping.calm f u between es may) (unknown_reaps f u between es may) books stay idle v vs run
-
-  told_by : (e home : ℕ) (r q : RealView) (there : real_in ((entity_flow e u).slot home) ≡ Some r) →
-      real_in ((entity_flow e v).slot home) ≡ Some q →
-      Alive f between.frame u between e home r there (reaping.is_told e es) (reaping.small f u between es may e home r there) v
-      ⊎ Forgot f between.frame u between e home r there (reaping.is_told e es) (reaping.small f u between es may e home r there) v →
-      AreTold f e v (In home) q
-  told_by e home r q there at (inl a) =
-      let same : a.real ≡ q = let z = sym a.at ∙ at in cc in
-      subst (AreTold f e v (In home)) same a.told
-  told_by e home r q there at (inr x) = absurd (let z = sym x.gone ∙ at in cc)
+      ∙ quiet_mail f u between.nodes between.quiet e x y
 
   -- while the real is there, each cell is told what it wants
   pub reaps_told : (e home : ℕ) (r q : RealView) → real_in ((entity_flow e u).slot home) ≡ Some r →
       real_in ((entity_flow e v).slot home) ≡ Some q → AreTold f e v (In home) q
-  reaps_told e home r q there at = told_by e home r q there at (leaving e home r there).state
-
-  forgotten_by : (e home : ℕ) (r : RealView) (there : real_in ((entity_flow e u).slot home) ≡ Some r) →
-      real_in ((entity_flow e v).slot home) ≡ None →
-      Alive f between.frame u between e home r there (reaping.is_told e es) (reaping.small f u between es may e home r there) v
-      ⊎ Forgot f between.frame u between e home r there (reaping.is_told e es) (reaping.small f u between es may e home r there) v →
-      IsForgotten e v
-  forgotten_by e home r there at (inl a) = absurd (let z = sym at ∙ a.at in cc)
-  forgotten_by e home r there at (inr x) = x.forgotten
+  reaps_told e home r q there at =
+      phase_told f u between copies (reaps_loaded u es) (frame_reaps f u between es may) (λ e. reaping.is_told e es)
+      (reaping.small f u between es may) (reaping.calm f u between es may) (unknown_reaps f u between es may) books stay idle v vs run
+      e home r there q at
 
   -- once it is gone, each cell is told that
   pub reaps_forgotten : (e home : ℕ) (r : RealView) → real_in ((entity_flow e u).slot home) ≡ Some r →
       real_in ((entity_flow e v).slot home) ≡ None → IsForgotten e v
-  reaps_forgotten e home r there at = forgotten_by e home r there at (leaving e home r there).state
+  reaps_forgotten e home r there at =
+      phase_forgotten f u between copies (reaps_loaded u es) (frame_reaps f u between es may) (λ e. reaping.is_told e es)
+      (reaping.small f u between es may) (reaping.calm f u between es may) (unknown_reaps f u between es may) books stay idle v vs run
+      e home r there at
 
   module _ (quiet : IsQuiet node_has_work v) where
     pub reaps_end_copied : AreCopiesBetweenRounds f v
@@ -113,41 +90,41 @@ module _ (f : Frame) (u : World) (between : IsBetweenRounds f u) (copies : AreCo
     pub reaped_have_none : AllByRecursion (λ e. (k : ℕ) → k < cell_count → copy_at e v k ≡ None) es
     reaped_have_none = none_of es (reaping.all_reaped f u between es may vs v run quiet)
 
-    -- and the copies of an entity whose real is there are what they were
-    pub copies_stay : (e home : ℕ) (r q : RealView) → real_in ((entity_flow e u).slot home) ≡ Some r →
-        real_in ((entity_flow e v).slot home) ≡ Some q → (k : ℕ) → k < cell_count → copy_at e v k ≡ copy_at e u k
-    copies_stay e home r q there at k low =
-        let same = (((leaving e home r there).calm.nodes home).real q at).1 in
-        (reaps_end_copied.settled e home q at).copies k low
-        ∙ (ap (λ x. wanted f x k) (sym same.1) ∙ sym ((copies.settled e home r there).copies k low))
-
-    kept_by : (e home : ℕ) (r : RealView) (there : real_in ((entity_flow e u).slot home) ≡ Some r) → holders v e ≡ 1 →
-        Alive f between.frame u between e home r there (reaping.is_told e es) (reaping.small f u between es may e home r there) v
-        ⊎ Forgot f between.frame u between e home r there (reaping.is_told e es) (reaping.small f u between es may e home r there) v →
-        (k : ℕ) → k < cell_count → copy_at e v k ≡ copy_at e u k
-    kept_by e home r there one (inl a) k low = copies_stay e home r a.real there a.at k low
-    kept_by e home r there one (inr x) k low =
-        let zero = none_counts v e
-        (calm_none f e home r u (between.settled e home r there) (reaping.is_told e es) v (leaving e home r there).calm x.gone) in
-        absurd (omega (arith, one, zero))
-
-    -- as it is for each that is not to be reaped
+    -- and the copies of each that is not to be reaped are what they were
     pub others_copied : (e : ℕ) → holders u e ≡ 1 → AllByRecursion (λ x. x ≡ e → ⊥) es → (k : ℕ) → k < cell_count →
         copy_at e v k ≡ copy_at e u k
     others_copied e one others =
-        let h = quiet_home f u between e one in
-        kept_by e h.node h.real h.here (reaping.others_stay f u between es may vs v run e one others) (leaving e h.node h.real h.here).state
+        phase_stays f u between copies (reaps_loaded u es) (frame_reaps f u between es may) (λ e. reaping.is_told e es)
+        (reaping.small f u between es may) (reaping.calm f u between es may) (unknown_reaps f u between es may) books stay idle v vs run
+        quiet e one (reaping.others_stay f u between es may vs v run e one others)
 
 -- ---- a phase of looks
 
 module _ (f : Frame) (u : World) (between : IsBetweenRounds f u) (copies : AreCopiesBetweenRounds f u) (vs : List Event) (v : World)
     (run : LeadsTo node_has_work node_steps (look_loaded u) vs v) where
   look_idle : (e x y : ℕ) → (entity_flow e (look_loaded u)).mail x y ≡ []
-  look_idle e x y = ap (letters_of (mine e)) (quiet_links node_has_work u between.nodes.sound.square between.quiet x y)
+  look_idle = quiet_mail f u between.nodes between.quiet
+
+  look_books : (e k : ℕ) → book_entry ((entity_flow e (look_loaded u)).slot k) ≡ book_entry ((entity_flow e u).slot k)
+  look_books e k = books_turned e (ordered_at looking.tick) (look_cell e looking.tick) u k
+
+  look_stay : (e k : ℕ) → real_in ((entity_flow e (look_loaded u)).slot k) ≡ real_in ((entity_flow e u).slot k)
+  look_stay e k = reals_stay e (ordered_at looking.tick) (look_cell e looking.tick) u k
+
+  pub looks_told : (e home : ℕ) (r q : RealView) → real_in ((entity_flow e u).slot home) ≡ Some r →
+      real_in ((entity_flow e v).slot home) ≡ Some q → AreTold f e v (In home) q
+  looks_told e home r q there at =
+      phase_told f u between copies (look_loaded u) (frame_look f u between) (λ e. false) (λ e home r here. looking.small f u between r)
+      (looking.calm f u between) (unknown_look f u between) look_books look_stay look_idle v vs run e home r there q at
 
   pub looks_end_copied : IsQuiet node_has_work v → AreCopiesBetweenRounds f v
   looks_end_copied =
       phase_ends_copied f u between copies (look_loaded u) (frame_look f u between) (λ e. false)
-      (λ e home r here. looking.small f u between r) (looking.calm f u between) (unknown_look f u between)
-      (λ e k. books_turned e (ordered_at looking.tick) (look_cell e looking.tick) u k)
-      (λ e k. reals_stay e (ordered_at looking.tick) (look_cell e looking.tick) u k) look_idle v vs run
+      (λ e home r here. looking.small f u between r) (looking.calm f u between) (unknown_look f u between) look_books look_stay look_idle
+      v vs run
+
+  pub looks_stay : IsQuiet node_has_work v → (e : ℕ) → holders u e ≡ 1 → (k : ℕ) → k < cell_count → copy_at e v k ≡ copy_at e u k
+  looks_stay quiet e one =
+      phase_stays f u between copies (look_loaded u) (frame_look f u between) (λ e. false) (λ e home r here. looking.small f u between r)
+      (looking.calm f u between) (unknown_look f u between) look_books look_stay look_idle v vs run quiet e one
+      (looking.look_keeps f u between vs v run e one)

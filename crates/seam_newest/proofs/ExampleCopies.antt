@@ -33,7 +33,7 @@ use Rattle.seam_between.specs.Between.{AreNumbered, IsForReal, IsBetweenRounds, 
 use Rattle.seam_rounds.specs.Rounds.{first_frame, AreReapable}
 use Rattle.seam_rounds.proofs.Opened.{opened_is_new, opened_has_none, opened_between}
 use Rattle.seam_rounds.proofs.CallsEnd.{calls_end_between}
-use Rattle.seam_newest.specs.Copies.{copy_at, AreCopiesBetweenRounds}
+use Rattle.seam_newest.specs.Copies.{copy_at, AreCopiesBetweenRounds, HauntsAllNear}
 use Rattle.seam_newest.proofs.Rounding.{calls_end_copied}
 use Rattle.seam_newest.proofs.Ending.{opened_copied}
 
@@ -115,7 +115,8 @@ module _ (e : ℕ) where
       slots (λ j h. IsItsReal made e h) e world_0
       (each_node (λ j n. IsItsReal made e (has_of e n)) world_0.nodes
       (nodes_of (λ j n. IsItsReal made e (has_of e n)) (λ k. its_no made) (at_home made (1 ∷ [])) (idle three_cells 1) (idle three_cells 2)
-      (base_16 (order.Cell move_1 ∷ order.Cell move_2 ∷ []) (0, 0)) (base_17 [] (0, 0) new_parts) (its_one made) (its_no made) (its_no made) (its_none made) (its_none made))) (λ k. its_none made)
+      (base_16 (order.Cell move_1 ∷ order.Cell move_2 ∷ []) (0, 0)) (base_17 [] (0, 0) new_parts) (its_one made) (its_no made)
+      (its_no made) (its_none made) (its_none made))) (λ k. its_none made)
 
   is_moved : (k : ℕ) → IsItsReal moved_on e ((entity_flow e world_14).slot k)
   unfolding world_14
@@ -124,7 +125,8 @@ module _ (e : ℕ) where
       (each_node (λ j n. IsItsReal moved_on e (has_of e n)) world_14.nodes
       (nodes_of (λ j n. IsItsReal moved_on e (has_of e n)) (λ k. its_no moved_on)
       (left (rows.ghost 3 (Some (rows.copy_at 2 5100 4000)))) (away moved_on) (heard 2 (rows.ghost 3 None)) (base_16 [] (1, 1))
-      (base_17 [] (1, 1) new_parts) (its_no moved_on) (its_one moved_on) (its_no moved_on) (its_none moved_on) (its_none moved_on))) (λ k. its_none moved_on)
+      (base_17 [] (1, 1) new_parts) (its_no moved_on) (its_one moved_on) (its_no moved_on) (its_none moved_on) (its_none moved_on)))
+      (λ k. its_none moved_on)
 
 -- ---- the batch
 
@@ -241,3 +243,10 @@ reapable = record {
   once = (tt, tt);
   small = λ e k r at. subst (λ (x : RealView). may_rise x.beat ≡ true) (is_moved e k r at).1 refl;
 }
+
+-- the cell that is near enough is a haunt of it
+pub moved_near : HauntsAllNear (framed first batch) 1 moved_on
+moved_near zero low apart close = simp computing
+moved_near (suc zero) low apart close = absurd (apart refl)
+moved_near (suc (suc zero)) low apart close = absurd (omega (arith, close))
+moved_near (suc (suc (suc k))) low apart close = absurd (omega (arith, low))

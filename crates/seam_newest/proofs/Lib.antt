@@ -6,4 +6,6 @@ pub mod Loading
 pub mod Rounding
 pub mod Phasing
 pub mod Ending
+pub mod Routing
+pub mod Near
 pub mod ExampleCopies

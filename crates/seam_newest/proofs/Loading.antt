@@ -1,5 +1,5 @@
 -- What a load leaves of copies: all books, and what each real wants of them.
-use Rattle.std.proofs.Common.{◌≡◌, ℕ, Bool, true, false, cond, eqb, Option, None, Some, refl, sym, ap, ◌∙◌}
+use Rattle.std.proofs.Common.{◌≡◌, ◌⊎◌, inl, inr, ℕ, Bool, true, false, cond, eqb, Option, None, Some, refl, sym, ap, ◌∙◌}
 use Rattle.std.proofs.Common.{subst, arith}
 use Rattle.std.specs.Prelude.{option_map, slice_get}
 use Rattle.std.specs.List.{AllByRecursion}
@@ -9,7 +9,7 @@ use Rattle.std.specs.FinSet as set
 use Rattle.std.proofs.lemmas.Bool.Decides.{nat_tests}
 use Rattle.std.proofs.lemmas.Option.{slice_get-map}
 use Rattle.seam_tree.specs.Division.{Division, leaf_at, cells_of}
-use Rattle.seam_flows.specs.Flows.{slot_at}
+use Rattle.seam_flows.specs.Flows.{slot_at, letters_of}
 use Rattle.seam_call.specs.declared.create.Create.{Create}
 use Rattle.seam_call.specs.declared.order.Order.{Order}
 use Rattle.seam_call.specs.declared.order.Batch.{Batch}
@@ -24,10 +24,13 @@ use Rattle.seam_steps.specs.Loads.{ordered_at, loaded}
 use Rattle.seam_steps.proofs.Slots.{get-set_at}
 use Rattle.seam_moves.specs.Frames.{Frame}
 use Rattle.seam_moves.specs.Sights.{Has, has_of, has_none, entity_flow}
-use Rattle.seam_ones.specs.Ones.{real_in}
-use Rattle.seam_between.specs.Between.{IsNew, MayBeMade, IsFitting, framed}
+use Rattle.seam_ones.specs.Ones.{real_in, real_of}
+use Rattle.seam_between.specs.Between.{IsNew, MayBeMade, IsBetweenRounds, IsFitting, framed}
 use Rattle.seam_between.proofs.Loading.{each_keeps, Any, any, made, node_loaded, get-each_value}
-use Rattle.seam_between.proofs.Loaded.{slot_is}
+use Rattle.seam_between.proofs.Loaded.{slot_is, no_mail}
+use Rattle.seam_rounds.proofs.Shape.{Somewhere, Nowhere, search_real}
+use Rattle.seam_ones.proofs.Counting.{none_counts}
+use Rattle.seam_steps.specs.Holders.{holders}
 use Rattle.seam_truths.specs.Entries.{book_entry}
 use Rattle.seam_newest.specs.Copies.{present, wanted, AreSettled, AreCopiesBetweenRounds}
 
@@ -230,3 +233,16 @@ module _ (f : Frame) (w : World) (b : Batch) (fits : IsFitting f w b) (copies : 
 
   pub copies_loaded : AreSettled (framed f b) e k r (loaded w b)
   copies_loaded = settled_from from
+
+-- ---- where the one holder of a loaded world is
+
+module _ (f : Frame) (w : World) (b : Batch) (between : IsBetweenRounds f w) (fits : IsFitting f w b) where
+  home_by : (e : ℕ) → holders (loaded w b) e ≡ 1 → Somewhere e (loaded w b) ⊎ Nowhere e (loaded w b) → Somewhere e (loaded w b)
+  home_by e one (inl p) = p
+  home_by e one (inr n) =
+      let zero = none_counts (loaded w b) e
+      (record { slots = n; mail = λ x y. ap (letters_of real_of) (no_mail f w b between fits e x y) }) in
+      absurd (omega (arith, zero, one))
+
+  pub home_loaded : (e : ℕ) → holders (loaded w b) e ≡ 1 → Somewhere e (loaded w b)
+  home_loaded e one = home_by e one (search_real e (loaded w b))

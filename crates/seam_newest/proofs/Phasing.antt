@@ -1,12 +1,11 @@
 -- Where entities are reaped, and where witnesses look, copies stay what they are, but for those of an entity whose Reap comes.
-use Rattle.std.proofs.Common.{◌≡◌, ℕ, ◌<◌, ◌⊎◌, Bool, true, false, not, List, [], ◌∷◌, Option, None, Some, refl, sym, ap, ◌∙◌}
+use Rattle.std.proofs.Common.{◌≡◌, ℕ, ◌<◌, ◌⊎◌, Bool, true, List, [], ◌∷◌, Option, None, Some, refl, sym, ap, ◌∙◌}
 use Rattle.std.proofs.Common.{subst, arith, inl, inr}
 use Rattle.seam_machine.specs.Nets.{happens, enabled, IsQuiet, LeadsTo}
 use Rattle.seam_machine.specs.declared.machines.Event.{Event}
 use Rattle.seam_machine.proofs.Occurring.{occurs}
-use Rattle.seam_machine.proofs.Quiet.{quiet_links}
 use Rattle.seam_runs.proofs.Runs.{leads_keeps}
-use Rattle.seam_flows.specs.Flows.{Goes, comes, letters_of}
+use Rattle.seam_flows.specs.Flows.{Goes, comes}
 use Rattle.seam_flows.specs.Tokens.{Place, In, On}
 use Rattle.seam_flows.proofs.Following.{came}
 use Rattle.seam_flows.proofs.TokenLemmas.{sole_here}
@@ -19,14 +18,16 @@ use Rattle.seam_steps.specs.CellCases.{is_stray}
 use Rattle.seam_steps.specs.Holders.{holders}
 use Rattle.seam_steps.specs.Nodes.{World, node_steps, node_has_work}
 use Rattle.seam_moves.specs.Frames.{Frame, here_at, IsInFrame}
-use Rattle.seam_moves.specs.Sights.{Has, mine, entity_flow}
+use Rattle.seam_moves.specs.Sights.{Has, entity_flow}
 use Rattle.seam_moves.specs.Moves.{MovesTo}
 use Rattle.seam_moves.proofs.Classify.{event_moves}
 use Rattle.seam_ones.specs.Fits.{RealFits}
 use Rattle.seam_ones.specs.Ones.{real_in, real_of, IsOne, IsFrame}
 use Rattle.seam_ones.proofs.Counting.{one_counts, none_counts}
+use Rattle.seam_ones.proofs.Holds.{not_both}
 use Rattle.seam_ones.proofs.Gone.{gone_leads}
 use Rattle.seam_between.specs.Between.{IsSettled, IsBetweenRounds}
+use Rattle.seam_between.proofs.Ready.{quiet_home}
 use Rattle.seam_rounds.proofs.Shape.{Somewhere, Nowhere, search_real, frame_leads}
 use Rattle.seam_rounds.proofs.Calm.{IsSame, IsCalmTo, IsCalm}
 use Rattle.seam_rounds.proofs.Ending.{calm_one, calm_none}
@@ -36,14 +37,10 @@ use Rattle.seam_strays.proofs.Unknown.{IsUnknown, unknown_leads}
 use Rattle.seam_truths.specs.Entries.{Entry, brings, book_entry}
 use Rattle.seam_truths.specs.GhostMoves.{GhostMoves}
 use Rattle.seam_truths.proofs.Steps.{ghost_moves}
-use Rattle.seam_newest.specs.Copies.{copy_at, AreTold, IsForgotten, AreSettled, AreCopiesBetweenRounds}
+use Rattle.seam_newest.specs.Copies.{wanted, copy_at, AreTold, IsForgotten, AreSettled, AreCopiesBetweenRounds}
 use Rattle.seam_newest.proofs.Moving.{After, here, gone, after_move, still_forgotten}
-use Rattle.seam_newest.proofs.Still.{forgotten_still, none_still, told_still, settled_still}
+use Rattle.seam_newest.proofs.Still.{quiet_mail, nowhere_counts, forgotten_still, none_still, told_still, settled_still}
 use Rattle.seam_newest.proofs.Rounding.{lost_leads}
-
-not_yes : (b : Bool) → b ≡ true → not b ≡ true → ⊥
-not_yes true h k = cc
-not_yes false h k = cc
 
 module _ (f : Frame) (frame : IsFrame f) (u : World) (between : IsBetweenRounds f u) (e home : ℕ) (r : RealView)
     (there : real_in ((entity_flow e u).slot home) ≡ Some r) (is_told : Bool) (small : is_told ≡ true → may_rise r.beat ≡ true) where
@@ -77,7 +74,7 @@ module _ (f : Frame) (frame : IsFrame f) (u : World) (between : IsBetweenRounds 
   fresh_by k s (Hand q) x h is stray = h
   fresh_by k s (Current y j g) x h is stray = h
   fresh_by k s (GhostSet y n c) x h is stray = h
-  fresh_by k s (GhostDrop y n) x h is stray = not_yes (is_small n) (small_to n r.beat h.1 (small h.0)) stray
+  fresh_by k s (GhostDrop y n) x h is stray = not_both (is_small n) (small_to n r.beat h.1 (small h.0)) stray
   fresh_by k s Tick x h is stray = cc
   fresh_by k s (Reap y) x h is stray = cc
   fresh_by k s (Update m) x h is stray = cc
@@ -196,33 +193,45 @@ module _ (f : Frame) (u : World) (between : IsBetweenRounds f u) (copies : AreCo
     pub leaving_then : IsLeaving f between.frame u between e home r there (told e) (small e home r there) v
     leaving_then = leaving_leads f between.frame u between e home r there (told e) (small e home r there) w v vs starts run
 
-  none_before : (e : ℕ) → Nowhere e u → holders u e ≡ 0
-  none_before e n =
-      none_counts u e (record {
-        slots = n;
-        mail = λ x y.
-            ap (λ l. letters_of real_of (letters_of (mine e) l)) (quiet_links node_has_work u between.nodes.sound.square between.quiet x y);
-      })
+    abbrev IsAlive : Type 0
+    IsAlive = Alive f between.frame u between e home r there (told e) (small e home r there) v
+
+    abbrev IsGone : Type 0
+    IsGone = Forgot f between.frame u between e home r there (told e) (small e home r there) v
+
+    told_by : (q : RealView) → real_in ((entity_flow e v).slot home) ≡ Some q → IsAlive ⊎ IsGone → AreTold f e v (In home) q
+    told_by q at (inl a) = let same : a.real ≡ q = let z = sym a.at ∙ at in cc in subst (AreTold f e v (In home)) same a.told
+    told_by q at (inr x) = absurd (let z = sym x.gone ∙ at in cc)
+
+    -- while the real is there, each cell is told what it wants
+    pub phase_told : (q : RealView) → real_in ((entity_flow e v).slot home) ≡ Some q → AreTold f e v (In home) q
+    phase_told q at = told_by q at leaving_then.state
+
+    forgotten_by : real_in ((entity_flow e v).slot home) ≡ None → IsAlive ⊎ IsGone → IsForgotten e v
+    forgotten_by at (inl a) = absurd (let z = sym at ∙ a.at in cc)
+    forgotten_by at (inr x) = x.forgotten
+
+    -- once it is gone, each cell is told that
+    pub phase_forgotten : real_in ((entity_flow e v).slot home) ≡ None → IsForgotten e v
+    phase_forgotten at = forgotten_by at leaving_then.state
 
   pub forgotten_then : (e : ℕ) → Nowhere e u → IsForgotten e v
   forgotten_then e n =
       lost_leads f e w v vs (unknown e n)
-      (forgotten_still f e w (idle e) (λ k low. ap (λ p. p.1) (books e k) ∙ copies.none e (none_before e n) k low)) run
+      (forgotten_still f e w (idle e) (λ k low. ap (λ p. p.1) (books e k) ∙ copies.none e (nowhere_counts f u between e n) k low)) run
 
   -- ---- where it is quiet
 
   module _ (quiet : IsQuiet node_has_work v) where
     still : (e x y : ℕ) → (entity_flow e v).mail x y ≡ []
-    still e x y =
-        ap (letters_of (mine e)) (quiet_links node_has_work v (frame_leads f w v vs frame run).sound.square quiet x y)
+    still = quiet_mail f v (frame_leads f w v vs frame run) quiet
 
     module _ (e home : ℕ) (r : RealView) (there : real_in ((entity_flow e u).slot home) ≡ Some r) where
       abbrev leaving : IsLeaving f between.frame u between e home r there (told e) (small e home r there) v
       leaving = leaving_then e home r there
 
       settled_at : (k : ℕ) (q : RealView) → real_in ((entity_flow e v).slot k) ≡ Some q →
-          Alive f between.frame u between e home r there (told e) (small e home r there) v
-          ⊎ Forgot f between.frame u between e home r there (told e) (small e home r there) v → AreSettled f e k q v
+          IsAlive e home r there ⊎ IsGone e home r there → AreSettled f e k q v
       settled_at k q at (inl a) =
           let is : k ≡ home = ((leaving.calm.nodes k).real q at).0 in
           let same : a.real ≡ q = let z = sym a.at ∙ (ap (λ j. real_in ((entity_flow e v).slot j)) (sym is) ∙ at) in cc in
@@ -233,8 +242,7 @@ module _ (f : Frame) (u : World) (between : IsBetweenRounds f u) (copies : AreCo
           absurd (let z = sym x.gone ∙ (ap (λ j. real_in ((entity_flow e v).slot j)) (sym is) ∙ at) in cc)
 
       none_at : holders v e ≡ 0 → (k : ℕ) → k < cell_count →
-          Alive f between.frame u between e home r there (told e) (small e home r there) v
-          ⊎ Forgot f between.frame u between e home r there (told e) (small e home r there) v → copy_at e v k ≡ None
+          IsAlive e home r there ⊎ IsGone e home r there → copy_at e v k ≡ None
       none_at zero k low (inl a) =
           let one = one_counts v e (In home) a.real
           (calm_one f e home r u (between.settled e home r there) (told e) v leaving.calm a.real a.at) in
@@ -256,3 +264,20 @@ module _ (f : Frame) (u : World) (between : IsBetweenRounds f u) (copies : AreCo
       settled = λ e k q at. settled_by e k q at (search_real e u);
       none = λ e zero k low. none_by e zero k low (search_real e u);
     }
+
+    -- the copies of an entity whose real is there are what they were
+    stays_by : (e home : ℕ) (r : RealView) (there : real_in ((entity_flow e u).slot home) ≡ Some r) → holders v e ≡ 1 →
+        IsAlive e home r there ⊎ IsGone e home r there → (k : ℕ) → k < cell_count → copy_at e v k ≡ copy_at e u k
+    stays_by e home r there one (inl a) k low =
+        let same = (((leaving e home r there).calm.nodes home).real a.real a.at).1 in
+        (settled_at e home r there home a.real a.at (inl a)).copies k low
+        ∙ (ap (λ x. wanted f x k) (sym same.1) ∙ sym ((copies.settled e home r there).copies k low))
+    stays_by e home r there one (inr x) k low =
+        let zero = none_counts v e
+        (calm_none f e home r u (between.settled e home r there) (told e) v (leaving e home r there).calm x.gone) in
+        absurd (omega (arith, one, zero))
+
+    pub phase_stays : (e : ℕ) → holders u e ≡ 1 → holders v e ≡ 1 → (k : ℕ) → k < cell_count → copy_at e v k ≡ copy_at e u k
+    phase_stays e was now =
+        let h = quiet_home f u between e was in
+        stays_by e h.node h.real h.here now (leaving e h.node h.real h.here).state

@@ -4,13 +4,13 @@ use Rattle.std.proofs.Common.{subst, arith, inl, inr}
 use Rattle.seam_machine.specs.Nets.{happens, enabled, IsQuiet, LeadsTo}
 use Rattle.seam_machine.specs.declared.machines.Event.{Event}
 use Rattle.seam_machine.proofs.Occurring.{occurs}
-use Rattle.seam_machine.proofs.Quiet.{quiet_links}
 use Rattle.seam_runs.proofs.Runs.{leads_keeps}
 use Rattle.seam_flows.specs.Flows.{comes, letters_of}
 use Rattle.seam_flows.specs.Tokens.{Place, In}
 use Rattle.seam_flows.proofs.Following.{came}
 use Rattle.seam_flows.proofs.TokenLemmas.{sole_here}
 use Rattle.seam_call.specs.declared.order.Batch.{Batch}
+use Rattle.seam_call.specs.declared.shown.GhostCopy.{GhostCopy}
 use Rattle.seam_entity.specs.Reals.{RealView}
 use Rattle.seam_entity.specs.declared.message.Msg.{Msg}
 use Rattle.seam_entity.specs.declared.message.Msg.TheVariants.{Call, BaseCall, Hand, Current, GhostSet, GhostDrop, Tick, Reap, Update}
@@ -19,10 +19,9 @@ use Rattle.seam_steps.specs.Holders.{holders}
 use Rattle.seam_steps.specs.Nodes.{World, node_steps, node_has_work}
 use Rattle.seam_steps.specs.Loads.{loaded}
 use Rattle.seam_moves.specs.Frames.{Frame}
-use Rattle.seam_moves.specs.Sights.{mine, entity_flow}
+use Rattle.seam_moves.specs.Sights.{entity_flow}
 use Rattle.seam_moves.proofs.Classify.{event_moves}
 use Rattle.seam_ones.specs.Ones.{real_in, real_of, IsOne, HasOne}
-use Rattle.seam_ones.proofs.Counting.{none_counts}
 use Rattle.seam_ones.proofs.Gone.{gone_leads}
 use Rattle.seam_between.specs.Between.{IsSettled, IsBetweenRounds, IsFitting, framed}
 use Rattle.seam_between.proofs.Framing.{in_frame}
@@ -34,13 +33,13 @@ use Rattle.seam_strays.proofs.Unknown.{IsTick, IsUnknown, unknown_leads}
 use Rattle.seam_strays.proofs.Beginning.{unknown_loaded}
 use Rattle.seam_strays.proofs.InRound.{nobody}
 use Rattle.seam_truths.specs.Entries.{Entry, brings}
-use Rattle.seam_truths.specs.Truths.{IsTrue}
+use Rattle.seam_truths.specs.Truths.{IsTrue, IsHushed}
 use Rattle.seam_truths.proofs.Steps.{ghost_moves}
 use Rattle.seam_newest.specs.Copies.{present, copy_at, AreTold, IsForgotten, AreSettled, AreCopiesBetweenRounds}
 use Rattle.seam_newest.proofs.Moving.{still_forgotten}
-use Rattle.seam_newest.proofs.Still.{forgotten_still, none_still, settled_still}
-use Rattle.seam_newest.proofs.Running.{IsInformed, informed_from, told_of}
-use Rattle.seam_newest.proofs.Loading.{books_loaded, copies_loaded}
+use Rattle.seam_newest.proofs.Still.{quiet_mail, nowhere_counts, forgotten_still, none_still, settled_still}
+use Rattle.seam_newest.proofs.Running.{IsInformed, informed_from, told_of, hushed_of, later_of}
+use Rattle.seam_newest.proofs.Loading.{books_loaded, copies_loaded, home_loaded}
 
 -- ---- an entity that is nowhere: nothing comes to its books
 
@@ -86,15 +85,10 @@ module _ (f : Frame) (e : ℕ) where
 module _ (f : Frame) (w : World) (b : Batch) (between : IsBetweenRounds f w) (fits : IsFitting f w b)
     (copies : AreCopiesBetweenRounds f w) where
   none_before : (e : ℕ) → holders (loaded w b) e ≡ 0 → Somewhere e w ⊎ Nowhere e w → holders w e ≡ 0
-  none_before e zero (inr none) =
-      none_counts w e (record {
-        slots = none;
-        mail = λ x y.
-            ap (λ l. letters_of real_of (letters_of (mine e) l)) (quiet_links node_has_work w between.nodes.sound.square between.quiet x y);
-      })
+  none_before e zero (inr none) = nowhere_counts f w between e none
   none_before e zero (inl p) =
-      let one = holds_kept f w b between fits e (one_holder f w e p.0 p.1 (between.settled e p.0 p.1 p.2) (λ x y.
-      ap (letters_of (mine e)) (quiet_links node_has_work w between.nodes.sound.square between.quiet x y))) in
+      let one = holds_kept f w b between fits e
+      (one_holder f w e p.0 p.1 (between.settled e p.0 p.1 p.2) (quiet_mail f w between.nodes between.quiet e)) in
       absurd (omega (arith, one, zero))
 
   none_loaded : (e : ℕ) → holders (loaded w b) e ≡ 0 → (k : ℕ) → k < cell_count → copy_at e (loaded w b) k ≡ None
@@ -131,28 +125,46 @@ module _ (f : Frame) (w : World) (b : Batch) (between : IsBetweenRounds f w) (fi
     Informed =
         IsInformed g (frame_loaded f w b between fits) e r.ty settled.type one.real start_low (λ n. present g one.real)
 
+    at_home : real_in ((entity_flow e start).slot home) ≡ Some one.real
+    at_home = here ∙ ap Some real_is
+
+    copied : AreSettled g e home one.real start
+    copied = subst (λ x. AreSettled g e home x start) real_is (copies_loaded f w b fits copies e home r here)
+
     pub informed : Informed v
     informed =
         informed_from g (frame_loaded f w b between fits) e r.ty settled.type start one (spared_loaded f w b between fits e home r here)
-        start_low (no_mail f w b between fits e) home (here ∙ ap Some real_is)
-        (subst (λ x. AreSettled g e home x start) real_is (copies_loaded f w b fits copies e home r here)) v es run
+        start_low (no_mail f w b between fits e) home at_home copied v es run
 
-    pub told_then : (p : Place) (q : RealView) → IsOne e v p q → AreTold g e v p q
-    told_then p q is =
+    told_then : (p : Place) (q : RealView) → IsOne e v p q → AreTold g e v p q
+    told_then =
         told_of g (frame_loaded f w b between fits) e r.ty settled.type start one (spared_loaded f w b between fits e home r here)
-        start_low (no_mail f w b between fits e) home (here ∙ ap Some real_is)
-        (subst (λ x. AreSettled g e home x start) real_is (copies_loaded f w b fits copies e home r here)) v es run p q is
+        start_low (no_mail f w b between fits e) home at_home copied v es run
+
+    hushed_then : (k : ℕ) (q : RealView) → real_in ((entity_flow e v).slot k) ≡ Some q → IsHushed e v (In k)
+    hushed_then =
+        hushed_of g (frame_loaded f w b between fits) e r.ty settled.type start one (spared_loaded f w b between fits e home r here)
+        start_low (no_mail f w b between fits e) home at_home copied v es run
+
+    later_then : (u : World) (gs : List Event) → LeadsTo node_has_work node_steps v gs u → (k : ℕ) (c d : GhostCopy) →
+        copy_at e v k ≡ Some c → copy_at e u k ≡ Some d → c.version ≤ d.version
+    later_then u gs more =
+        later_of g (frame_loaded f w b between fits) e r.ty settled.type start one (spared_loaded f w b between fits e home r here)
+        start_low (no_mail f w b between fits e) home at_home copied v u es gs run more
 
     pub true_then : IsTrue g e r.ty r (λ n. present g r) v
     true_then = subst (λ x. IsTrue g e r.ty x (λ n. present g x) v) (sym real_is) informed.quelled.is
 
-  told_by : (e : ℕ) → holders start e ≡ 1 → Somewhere e start ⊎ Nowhere e start → (p : Place) (q : RealView) → IsOne e v p q →
-      AreTold g e v p q
-  told_by e one (inl p) = told_then e p.0 p.1 p.2
-  told_by e one (inr n) = let zero = nobody f w b between fits v es run e n in absurd (omega (arith, zero, one))
-
   pub told_each : (e : ℕ) → holders start e ≡ 1 → (p : Place) (q : RealView) → IsOne e v p q → AreTold g e v p q
-  told_each e one = told_by e one (search_real e start)
+  told_each e one = let h = home_loaded f w b between fits e one in told_then e h.0 h.1 h.2
+
+  pub hushed_each : (e : ℕ) → holders start e ≡ 1 → (k : ℕ) (q : RealView) → real_in ((entity_flow e v).slot k) ≡ Some q →
+      IsHushed e v (In k)
+  hushed_each e one = let h = home_loaded f w b between fits e one in hushed_then e h.0 h.1 h.2
+
+  pub later_each : (u : World) (gs : List Event) → LeadsTo node_has_work node_steps v gs u → (e : ℕ) → holders start e ≡ 1 →
+      (k : ℕ) (c d : GhostCopy) → copy_at e v k ≡ Some c → copy_at e u k ≡ Some d → c.version ≤ d.version
+  later_each u gs more e one = let h = home_loaded f w b between fits e one in later_then e h.0 h.1 h.2 u gs more
 
   -- ---- an entity that is not there
 
@@ -165,9 +177,7 @@ module _ (f : Frame) (w : World) (b : Batch) (between : IsBetweenRounds f w) (fi
 
   module _ (quiet : IsQuiet node_has_work v) where
     still : (e x y : ℕ) → (entity_flow e v).mail x y ≡ []
-    still e x y =
-        ap (letters_of (mine e))
-        (quiet_links node_has_work v (frame_leads g start v es (in_frame f w b between fits) run).sound.square quiet x y)
+    still = quiet_mail g v (frame_leads g start v es (in_frame f w b between fits) run) quiet
 
     settled_by : (e k : ℕ) (q : RealView) → real_in ((entity_flow e v).slot k) ≡ Some q → Somewhere e start ⊎ Nowhere e start →
         AreSettled g e k q v

@@ -1,6 +1,7 @@
 -- Over every list of events the newest entry of each cell is what the real wants.
-use Rattle.std.proofs.Common.{◌≡◌, ℕ, ◌<◌, ◌≤◌, Bool, true, false, not, ◌&&◌, List, [], ◌∷◌, length, Option, None, Some, refl, sym}
+use Rattle.std.proofs.Common.{◌≡◌, ℕ, ◌<◌, ◌≤◌, true, ◌&&◌, List, [], ◌∷◌, length, Option, None, Some, refl, sym}
 use Rattle.std.proofs.Common.{◌∙◌, subst}
+use Rattle.std.proofs.Common.{arith}
 use Rattle.std.specs.List.{AllByRecursion}
 use Rattle.seam_machine.specs.Nets.{happens, enabled, LeadsTo}
 use Rattle.seam_machine.specs.declared.machines.Event.{Event}
@@ -24,7 +25,7 @@ use Rattle.seam_moves.specs.Frames.{Frame, here_at}
 use Rattle.seam_moves.specs.Sights.{Has, mine, entity_flow}
 use Rattle.seam_moves.specs.Moves.{MovesTo}
 use Rattle.seam_ones.specs.Ones.{real_in, real_of, IsOne, IsSpared, IsFrame, HasOne}
-use Rattle.seam_ones.proofs.Holds.{all_two}
+use Rattle.seam_ones.proofs.Holds.{not_both, all_two}
 use Rattle.seam_ones.specs.Burdens.{real_burden}
 use Rattle.seam_ones.proofs.OneReal.{goes, room, calm_of}
 use Rattle.seam_entity.specs.Numbers.{limit}
@@ -36,13 +37,11 @@ use Rattle.seam_truths.proofs.Steps.{ghost_moves}
 use Rattle.seam_truths.proofs.Telling.{true_first, first_place}
 use Rattle.seam_truths.proofs.Hushing.{IsQuelled, quelled_leads, hushed_where}
 use Rattle.seam_truths.specs.Truths.{IsTable, IsTrue, IsHushed}
-use Rattle.seam_newest.specs.Copies.{present, AreTold, AreSettled}
+use Rattle.seam_rounds.proofs.Publics.{public_low}
+use Rattle.seam_truths.proofs.Books.{risen_leads, copies_rise}
+use Rattle.seam_newest.specs.Copies.{present, copy_at, AreTold, AreSettled}
 use Rattle.seam_newest.proofs.Moving.{After, here, gone, after_move}
 use Rattle.seam_newest.proofs.Still.{same_one, came_with, told_still, table_still}
-
-not_yes : (b : Bool) → b ≡ true → not b ≡ true → ⊥
-not_yes true h k = cc
-not_yes false h k = cc
 
 -- what fits is not stray
 pub news_fit : (f : Frame) (k : ℕ) (s : Has) (m : Msg) (x : Entry) → FitsNode f k m → brings m ≡ Some x → real_of m ≡ None →
@@ -52,8 +51,8 @@ news_fit f k s (BaseCall c) x fits is none stray = cc
 news_fit f k s (Hand r) x fits is none stray = cc
 news_fit f k s (Current y j g) x fits is none stray = cc
 news_fit f k s (GhostSet y n c) x fits is none stray =
-    not_yes (is_small n && (is_small c.version && fits_copy (here_at f k) c)) (all_two _ _ fits.0 (all_two _ _ fits.1 fits.2)) stray
-news_fit f k s (GhostDrop y n) x fits is none stray = not_yes (is_small n) fits stray
+    not_both (is_small n && (is_small c.version && fits_copy (here_at f k) c)) (all_two _ _ fits.0 (all_two _ _ fits.1 fits.2)) stray
+news_fit f k s (GhostDrop y n) x fits is none stray = not_both (is_small n) fits stray
 news_fit f k s Tick x fits is none stray = cc
 news_fit f k s (Reap y) x fits is none stray = cc
 news_fit f k s (Update u) x fits is none stray = cc
@@ -176,3 +175,20 @@ module _ (f : Frame) (frame : IsFrame f) (e ty : ℕ) (known : ty < length f.def
       let x = informed_from v es run in
       placed f frame e ty known h.real low table v x.quelled.is.one.has.place p x.quelled.is.one.has.real q x.quelled.is.one.has.one is
       x.told
+
+  -- what comes to its cell has no newer beat than the book there
+  pub hushed_of : (v : World) (es : List Event) → LeadsTo node_has_work node_steps w es v → (k : ℕ) (q : RealView) →
+      real_in ((entity_flow e v).slot k) ≡ Some q → IsHushed e v (In k)
+  hushed_of v es run = hushed_where f frame e ty known h.real table v (informed_from v es run).quelled
+
+  -- a copy in a book is of no older version than one that was there before
+  pub later_of : (v u : World) (es gs : List Event) → LeadsTo node_has_work node_steps w es v → LeadsTo node_has_work node_steps v gs u →
+      (k : ℕ) (c d : GhostCopy) → copy_at e v k ≡ Some c → copy_at e u k ≡ Some d → c.version ≤ d.version
+  later_of v u es gs to run k c d was now =
+      let x = (informed_from v es to).quelled in
+      let has = x.is.one.has in
+      let up = public_low f h.real has.real low x.is.one.replays in
+      copies_rise f frame e ty known has.real x.is.table v u
+      (risen_leads f frame e ty known has.real x.is.table v v u gs
+      (record { is = true_first f e ty v has x.is.table up x.is.told; spared = x.spared; books = λ j. omega arith }) run)
+      x.is.told k c d was now

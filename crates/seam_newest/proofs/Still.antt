@@ -13,13 +13,19 @@ use Rattle.seam_entity.specs.Reals.{RealView}
 use Rattle.seam_entity.specs.declared.message.Msg.{Msg}
 use Rattle.seam_entity.specs.Here.{cell_count}
 use Rattle.seam_steps.specs.Settle.{copy_if}
-use Rattle.seam_steps.specs.Nodes.{NodeView, World}
+use Rattle.seam_steps.specs.Nodes.{NodeView, World, node_has_work}
 use Rattle.seam_steps.specs.Nodes.NodeView.{Cell, Base}
 use Rattle.seam_moves.specs.Frames.{Frame, IsInFrame}
-use Rattle.seam_moves.specs.Sights.{has_of, has_none, entity_flow}
+use Rattle.seam_moves.specs.Sights.{mine, has_of, has_none, entity_flow}
 use Rattle.seam_ones.specs.Ones.{real_in, real_of, IsOne}
 use Rattle.seam_truths.specs.Entries.{Entry, brings, book_entry}
 use Rattle.seam_truths.specs.Truths.{IsOfTable, IsTable}
+use Rattle.seam_machine.specs.Nets.{IsQuiet}
+use Rattle.seam_machine.proofs.Quiet.{quiet_links}
+use Rattle.seam_steps.specs.Holders.{holders}
+use Rattle.seam_ones.proofs.Counting.{none_counts}
+use Rattle.seam_between.specs.Between.{IsBetweenRounds}
+use Rattle.seam_rounds.proofs.Shape.{Nowhere}
 use Rattle.seam_newest.specs.Copies.{present, wanted, beat_at, copy_at, AreTold, IsForgotten, AreSettled}
 
 -- ---- one real is at one place
@@ -42,6 +48,17 @@ module _ (e : ℕ) (w : World) where
     ]
     | inr n ↦ absurd (let z = sym two.here ∙ one.others c d (λ y z. n y) in cc)
   ]
+
+-- ---- a quiet world
+
+pub quiet_mail : (f : Frame) (w : World) → IsInFrame f w → IsQuiet node_has_work w → (e x y : ℕ) → (entity_flow e w).mail x y ≡ []
+quiet_mail f w q quiet e x y = ap (letters_of (mine e)) (quiet_links node_has_work w q.sound.square quiet x y)
+
+-- one that is nowhere has no holder
+pub nowhere_counts : (f : Frame) (w : World) → IsBetweenRounds f w → (e : ℕ) → Nowhere e w → holders w e ≡ 0
+nowhere_counts f w between e none =
+    none_counts w e
+    (record { slots = none; mail = λ x y. ap (letters_of real_of) (quiet_mail f w between.nodes between.quiet e x y) })
 
 -- ---- the letter that comes
 

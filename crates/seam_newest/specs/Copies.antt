@@ -1,6 +1,8 @@
 -- Copies of an entity: what its real wants each cell to have of it, and that each cell is told so.
-use Rattle.std.specs.Prelude.{◌≡◌, ℕ, ◌<◌, ◌≤◌, false, Option, None, Some}
+use Rattle.std.specs.Prelude.{◌≡◌, ℕ, ◌<◌, ◌≤◌, true, false, Option, None, Some}
 use Rattle.std.specs.FinSet as set
+use Rattle.seam_tree.specs.Division.{cells_of}
+use Rattle.seam_haunt.specs.Haunts.{distance_to_cell}
 use Rattle.seam_flows.specs.Newest.{Newest}
 use Rattle.seam_flows.specs.Tokens.{Place, In, On}
 use Rattle.seam_call.specs.declared.shown.GhostCopy.{GhostCopy}
@@ -34,8 +36,11 @@ copy_at e w k = (book_entry ((entity_flow e w).slot k)).1
 
 -- Of the entries of cell k, which are its book's and each that is on its way there, the one of greatest beat has what the real wants, and
 -- its beat is at most the real's.
--- Not so: that it is in the book or comes from the real's cell (it may come from a cell where the real was); that a cell which is no haunt
--- has no copy, or a drop on its way from the real's cell; that no such message comes where the real is; that the book there has its beat.
+-- What does not hold of it:
+-- that it is in the book or comes from the real's cell, since it may come from a cell where the real was;
+-- that a cell which is no haunt has no copy, or a drop on its way from the real's cell;
+-- that no ghost message comes where the real is;
+-- that the book of the real's cell has its beat.
 pub record IsTold (f : Frame) (e : ℕ) (w : World) (r : RealView) (k : ℕ) : Type 0 where
   pub beat : ℕ
   pub low : beat ≤ r.beat
@@ -72,3 +77,10 @@ pub record AreCopiesBetweenRounds (f : Frame) (w : World) : Type 0 where
   pub settled : (e k : ℕ) (r : RealView) → real_in ((entity_flow e w).slot k) ≡ Some r → AreSettled f e k r w
   -- and of an entity that has no holder no cell has one
   pub none : (e : ℕ) → holders w e ≡ 0 → (k : ℕ) → k < cell_count → copy_at e w k ≡ None
+
+-- ---- what is near
+
+-- each cell of the tree but the real's own, `home`, within the ghost distance of the real's position is one of its haunts
+abbrev pub HauntsAllNear : Frame → ℕ → RealView → Type 0
+HauntsAllNear f home r = (k : ℕ) → k < cells_of f.tree → (k ≡ home → ⊥) → distance_to_cell f.tree k r.state.pos ≤ f.settings.ghost_distance
+    → set.contains r.haunts k ≡ true

@@ -6,19 +6,26 @@
 //! beside that of `seam_between`. From the two records all laws of ghosts follow for each entity of a loaded world.
 //!
 //! Crates above cite these modules of `proofs`: `Telling` (what a settling tells a cell), `Moving` (a move), `Still` (where nothing is on
-//! its way), `Running` (every list of events), `Loading` (what a load leaves of copies), `Rounding`, `Phasing` and `Ending` (each phase).
+//! its way), `Running` (every list of events), `Loading` (what a load leaves of copies), `Rounding`, `Phasing` and `Ending` (each phase),
+//! `Routing` (routes), `Near` (what is near).
 #![tactic(auto)]
 
-ghost use Rattle.std.specs.Prelude.{◌≡◌, ℕ, ◌<◌, ◌+◌, ◌≤◌, List, [], ◌∷◌, length, None, Some};
+ghost use Rattle.std.specs.Prelude.{◌≡◌, ℕ, ◌<◌, ◌+◌, ◌≤◌, ◌⊎◌, List, [], ◌∷◌, length, None, Some};
 ghost use Rattle.std.specs.List.{AllByRecursion};
+ghost use Rattle.seam_geo.specs.declared.pos.Pos.{Pos};
+ghost use Rattle.seam_geo.specs.Pos.{distance};
+ghost use Rattle.seam_tree.specs.Division.{Division, cells_of, IsTree, IsInSpace};
+ghost use Rattle.seam_haunt.specs.Haunts.{distance_to_cell};
+ghost use Rattle.seam_haunt.specs.Places.{home_at, settled};
 ghost use Rattle.seam_machine.specs.Nets.{IsQuiet, LeadsTo};
 ghost use Rattle.seam_machine.specs.declared.machines.Event.{Event};
 ghost use Rattle.seam_flows.specs.Tokens.{Place, In};
 ghost use Rattle.seam_defs.specs.declared.settings.Settings.{Settings};
 ghost use Rattle.seam_defs.specs.declared.types.TypeDef.{TypeDef};
 ghost use Rattle.seam_defs.specs.Builtin.{builtin};
-ghost use Rattle.seam_defs.specs.Settings.{standard};
+ghost use Rattle.seam_defs.specs.Settings.{standard, GhostsReach};
 ghost use Rattle.seam_call.specs.declared.order.Batch.{Batch};
+ghost use Rattle.seam_call.specs.declared.shown.GhostCopy.{GhostCopy};
 ghost use Rattle.seam_entity.specs.Reals.{RealView};
 ghost use Rattle.seam_entity.specs.Here.{cell_count};
 ghost use Rattle.seam_steps.specs.Holders.{holders};
@@ -33,12 +40,13 @@ ghost use Rattle.seam_ones.specs.Example.{events_of};
 ghost use Rattle.seam_ones.specs.Ones.{real_in, IsOne, IsSpared, IsFrame, HasOne};
 ghost use Rattle.seam_between.specs.Between.{IsBetweenRounds, IsFitting, framed};
 ghost use Rattle.seam_rounds.specs.Rounds.{first_frame, AreReapable};
-ghost use Rattle.seam_truths.specs.Truths.{IsTrue};
-ghost use Rattle.seam_newest.specs.Copies.{present, copy_at, AreTold, IsForgotten, AreSettled, AreCopiesBetweenRounds};
+ghost use Rattle.seam_rounds.specs.Routes.{IsKnownAt};
+ghost use Rattle.seam_truths.specs.Truths.{IsTrue, IsHushed};
+ghost use Rattle.seam_newest.specs.Copies.{present, copy_at, AreTold, IsForgotten, AreSettled, AreCopiesBetweenRounds, HauntsAllNear};
 
 /// Where nothing about an entity is on its way and cells have what its real wants, each cell is told what the real wants after every list
 /// of events. So it is in a round, for each entity of the loaded world, whether it was there before or the batch creates it; and each cell
-/// is told that it is to have no copy of any other.
+/// is told that it is to have no copy of any other. And so it is where witnesses look.
 pub fn each_cell_is_told_what_the_real_wants()
     ensures flow { (f : Frame) (e ty : ℕ) (w v : World) (es : List Event) → IsFrame f → ty < length f.defs → (h : HasOne f e ty w) →
         IsSpared e w → h.real.public ≤ h.real.version → ((x y : ℕ) → (entity_flow e w).mail x y ≡ []) → (home : ℕ) →
@@ -50,18 +58,37 @@ pub fn each_cell_is_told_what_the_real_wants()
     ensures others { (f : Frame) (w : World) (b : Batch) → IsBetweenRounds f w → IsFitting f w b → AreCopiesBetweenRounds f w →
         (v : World) (es : List Event) → LeadsTo node_has_work node_steps (loaded w b) es v → (e : ℕ) → holders (loaded w b) e ≡ 0 →
         IsForgotten e v }
+    ensures looks { (f : Frame) (u : World) → IsBetweenRounds f u → AreCopiesBetweenRounds f u → (vs : List Event) (v : World) →
+        LeadsTo node_has_work node_steps (look_loaded u) vs v → (e home : ℕ) (r q : RealView) →
+        real_in ((entity_flow e u).slot home) ≡ Some r → real_in ((entity_flow e v).slot home) ≡ Some q → AreTold f e v (In home) q }
 {}
 
 /// In a round each copy, in a book or on its way, is what others may see of the state that its real had at the copy's version: at the load
-/// there is the present copy alone, and from then on each beat has one more.
+/// there is the present copy alone, and from then on each beat has one more. Of two copies of an entity in a cell the later one is never of
+/// an older version, and what comes to the cell of the real has no newer beat than the book there.
 pub fn ghosts_of_a_round_are_true()
-    ensures { (f : Frame) (w : World) (b : Batch) → IsBetweenRounds f w → IsFitting f w b → AreCopiesBetweenRounds f w → (v : World)
-        (es : List Event) → LeadsTo node_has_work node_steps (loaded w b) es v → (e k : ℕ) (r : RealView) →
+    ensures true_copies { (f : Frame) (w : World) (b : Batch) → IsBetweenRounds f w → IsFitting f w b → AreCopiesBetweenRounds f w →
+        (v : World) (es : List Event) → LeadsTo node_has_work node_steps (loaded w b) es v → (e k : ℕ) (r : RealView) →
         real_in ((entity_flow e (loaded w b)).slot k) ≡ Some r → IsTrue (framed f b) e r.ty r (λ n. present f r) v }
+    ensures versions { (f : Frame) (w : World) (b : Batch) → IsBetweenRounds f w → IsFitting f w b → AreCopiesBetweenRounds f w →
+        (v : World) (es : List Event) → LeadsTo node_has_work node_steps (loaded w b) es v → (u : World) (gs : List Event) →
+        LeadsTo node_has_work node_steps v gs u → (e : ℕ) → holders (loaded w b) e ≡ 1 → (k : ℕ) (c d : GhostCopy) →
+        copy_at e v k ≡ Some c → copy_at e u k ≡ Some d → c.version ≤ d.version }
+    ensures hushed { (f : Frame) (w : World) (b : Batch) → IsBetweenRounds f w → IsFitting f w b → AreCopiesBetweenRounds f w →
+        (v : World) (es : List Event) → LeadsTo node_has_work node_steps (loaded w b) es v → (e : ℕ) → holders (loaded w b) e ≡ 1 →
+        (k : ℕ) (q : RealView) → real_in ((entity_flow e v).slot k) ≡ Some q → IsHushed e v (In k) }
+{}
+
+/// In a round the newest route of each base node, of the one that it has and those on their way there, has the generation of the real and
+/// the cell where it is; while the real is on its way, each route is of a smaller generation than it.
+pub fn the_newest_route_leads_to_the_real()
+    ensures { (f : Frame) (w : World) (b : Batch) → IsBetweenRounds f w → IsFitting f w b → (v : World) (es : List Event) →
+        LeadsTo node_has_work node_steps (loaded w b) es v → (e : ℕ) → holders (loaded w b) e ≡ 1 → (p : Place) (q : RealView) →
+        IsOne e v p q → (j : ℕ) → cell_count ≤ j → j < cell_count + f.settings.bases → IsKnownAt p q (entity_flow e v) j }
 {}
 
 /// Where a round's calls leave the world quiet, each haunt of a real has the present copy and no other cell has one, its own cell among
-/// them; no book has a greater beat than the real; and each base node's route goes to it.
+/// them; no book has a greater beat than the real; and each base node's route goes to it. Where witnesses look, copies stay what they are.
 pub fn quiet_means_settled()
     ensures copies { (f : Frame) (w : World) (b : Batch) → IsBetweenRounds f w → IsFitting f w b → AreCopiesBetweenRounds f w →
         (v : World) (es : List Event) → LeadsTo node_has_work node_steps (loaded w b) es v → IsQuiet node_has_work v → (e k : ℕ)
@@ -70,6 +97,9 @@ pub fn quiet_means_settled()
         LeadsTo node_has_work node_steps (loaded w b) es v → IsQuiet node_has_work v → (e k : ℕ) (q : RealView) →
         real_in ((entity_flow e v).slot k) ≡ Some q → (j : ℕ) → cell_count ≤ j → j < cell_count + f.settings.bases →
         ((entity_flow e v).slot j).base.route ≡ Some (record { cell = k; generation = q.generation }) }
+    ensures looks { (f : Frame) (u : World) → IsBetweenRounds f u → AreCopiesBetweenRounds f u → (vs : List Event) (v : World) →
+        LeadsTo node_has_work node_steps (look_loaded u) vs v → IsQuiet node_has_work v → (e : ℕ) → holders u e ≡ 1 → (k : ℕ) →
+        k < cell_count → copy_at e v k ≡ copy_at e u k }
 {}
 
 /// The record of copies holds of a world as it is opened. It holds of a loaded world, and again where a round's calls leave the world
@@ -106,6 +136,28 @@ pub fn no_cell_keeps_a_copy_of_the_reaped()
         holders u e ≡ 1 → AllByRecursion (λ x. x ≡ e → ⊥) es → (k : ℕ) → k < cell_count → copy_at e v k ≡ copy_at e u k }
 {}
 
+/// A real whose place stays what it is when it is settled again has a haunt in each cell near enough, and its own cell is as near as a cell
+/// that keeps an entity. So where the record of copies holds, a cell has the real or the present copy of each entity that a witness there
+/// may have in view: by the settings ghosts reach as far as a view and the way from a cell to an entity that it keeps.
+pub fn near_entities_are_known()
+    ensures placed { (f : Frame) (home : ℕ) (r : RealView) → settled
+        (record {
+          kept = f.settings.offload_hysteresis;
+          near = f.settings.ghost_distance;
+          far = f.settings.ghost_distance + f.settings.ghost_hysteresis;
+        }) f.tree (record { home = home; ghosts = r.haunts }) r.state.pos
+        ≡ record { home = home; ghosts = r.haunts } → HauntsAllNear f home r }
+    ensures kept { (kept : ℕ) (t : Division) (home : ℕ) (p : Pos) → IsTree t → IsInSpace t p → home_at kept t home p ≡ home →
+        distance_to_cell t home p ≤ kept }
+    ensures known { (f : Frame) → IsFrame f → (v : World) → AreCopiesBetweenRounds f v → GhostsReach f.settings → (e home : ℕ)
+        (r : RealView) → real_in ((entity_flow e v).slot home) ≡ Some r → HauntsAllNear f home r → (k : ℕ) (p : Pos) →
+        k < cells_of f.tree → distance_to_cell f.tree k p ≤ f.settings.offload_hysteresis →
+        distance r.state.pos p ≤ f.settings.view_radius + f.settings.view_hysteresis →
+        (k ≡ home) ⊎ (copy_at e v k ≡ Some (present f r)) }
+{
+    seam_geo::triangle_inequality();
+}
+
 /// What these laws ask is true of an opened world and a worked batch (`seam_steps`: "a late ghost message"), which creates an entity near
 /// two borders of three cells and moves it over one. Where its calls leave the world quiet, both records hold, the haunt has the copy of
 /// what the entity is now, and the entity may be reaped.
@@ -117,5 +169,6 @@ pub fn a_worked_round_keeps_the_records()
     ensures ends { IsBetweenRounds (framed (first_frame builtin standard) late.batch) late.world_14 }
     ensures copies { AreCopiesBetweenRounds (framed (first_frame builtin standard) late.batch) late.world_14 }
     ensures present { copy_at 1 late.world_14 0 ≡ Some (row.copy_at 2 5100 4000) }
+    ensures near { HauntsAllNear (framed (first_frame builtin standard) late.batch) 1 late.moved_on }
     ensures reapable { AreReapable late.world_14 (1 ∷ []) }
 {}

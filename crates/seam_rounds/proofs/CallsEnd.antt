@@ -38,7 +38,8 @@ use Rattle.seam_between.proofs.Ready.{one_at_home}
 use Rattle.seam_between.proofs.Going.{frame_loaded, settled_loaded, one_loaded, spared_loaded, Keeps, kept_after, all_were_executed}
 use Rattle.seam_rounds.proofs.Shape.{Somewhere, Nowhere, search_real, frame_leads, many_leads}
 use Rattle.seam_rounds.proofs.Publics.{public_low}
-use Rattle.seam_rounds.proofs.RoadMoves.{entry_of, entry, brings, IsGoodRoute}
+use Rattle.seam_rounds.specs.Routes.{as_entry, route_entry, brings_route}
+use Rattle.seam_rounds.proofs.RoadMoves.{IsGoodRoute}
 use Rattle.seam_rounds.proofs.RoadRuns.{IsRouted, routed_leads, quiet_route}
 
 -- where there is one real, no other node has one
@@ -60,8 +61,8 @@ module _ (f : Frame) (w : World) (b : Batch) (between : IsBetweenRounds f w) (fi
     abbrev pub then : Flow Has Msg
     then = entity_flow e (loaded w b)
 
-    pub entry_is : (k : ℕ) → cell_count ≤ k → k < cell_count + f.settings.bases → entry (then.slot k) ≡ (r.generation, home)
-    entry_is k high low = ap entry_of (settled.routes k high low)
+    pub entry_is : (k : ℕ) → cell_count ≤ k → k < cell_count + f.settings.bases → route_entry (then.slot k) ≡ (r.generation, home)
+    entry_is k high low = ap as_entry (settled.routes k high low)
 
     abbrev pub routed_loaded : IsRouted g e (loaded w b)
     routed_loaded = record {
@@ -72,7 +73,7 @@ module _ (f : Frame) (w : World) (b : Batch) (between : IsBetweenRounds f w) (fi
       there = λ k high low. ap is_some (settled.routes k high low);
       known = λ k high low. record {
         here = subst (NotAbove r.generation home) (sym (entry_is k high low)) (inr (refl, refl));
-        away = λ x. subst (AllBring brings (NotAbove r.generation home)) (sym (no_mail f w b between fits e x k)) tt;
+        away = λ x. subst (AllBring brings_route (NotAbove r.generation home)) (sym (no_mail f w b between fits e x k)) tt;
         is_there = inl (entry_is k high low);
       };
     }

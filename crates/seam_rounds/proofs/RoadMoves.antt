@@ -28,6 +28,7 @@ use Rattle.seam_moves.specs.BaseMoves as base_move
 use Rattle.seam_moves.specs.BaseMoves.{BaseMoves, newer, strays_at}
 use Rattle.seam_moves.specs.Moves.{Moves, at_a_cell, at_a_base}
 use Rattle.seam_ones.specs.Ones.{real_in}
+use Rattle.seam_rounds.specs.Routes.{as_entry, route_entry, brings_route}
 use Rattle.seam_ones.proofs.Plain.{SeesNoGhost, ghosts_silent, mapped_silent, numbered_silent}
 use Rattle.seam_ones.proofs.Handling.{FindsRoom}
 
@@ -51,26 +52,6 @@ generation_of r = r.generation
 
 abbrev pub generation_in : Has → Option ℕ
 generation_in h = option_map generation_of (real_in h)
-
--- ---- the route of a base node
-
-abbrev pub entry_of : Option RouteView → ℕ × ℕ
-entry_of None = (0, 0)
-entry_of (Some r) = (r.generation, r.cell)
-
-abbrev pub entry : Has → ℕ × ℕ
-entry h = entry_of h.base.route
-
-abbrev pub brings : Msg → Option (ℕ × ℕ)
-brings (Call c) = None
-brings (BaseCall c) = None
-brings (Hand r) = None
-brings (Current e j g) = Some (g, j)
-brings (GhostSet e n c) = None
-brings (GhostDrop e n) = None
-brings Tick = None
-brings (Reap e) = None
-brings (Update u) = None
 
 not_both : (b : Bool) → b ≡ true → not b ≡ true → ⊥
 not_both true h k = cc
@@ -216,23 +197,23 @@ module _ (f : Frame) (e k : ℕ) (s : Has) (i : Option Msg) (t : Has) (sent : Li
     (routed : is_some s.base.route ≡ true) (good : (m : Msg) → i ≡ Some m → IsGoodRoute m) where
   pub record Reroutes : Type 0 where
     pub there : is_some t.base.route ≡ true
-    pub takes : entry t ≡ greater_entry (entry s) (entry_in brings i)
+    pub takes : route_entry t ≡ greater_entry (route_entry s) (entry_in brings_route i)
 
-  kept : (b : AtBase) → t.base ≡ b → b.route ≡ s.base.route → entry_in brings i ≡ None → Reroutes
+  kept : (b : AtBase) → t.base ≡ b → b.route ≡ s.base.route → entry_in brings_route i ≡ None → Reroutes
   kept b a same none =
       let is = ap (λ (x : AtBase). x.route) a ∙ same in
       record {
         there = ap is_some is ∙ routed;
-        takes = ap entry_of is ∙ sym (ap (greater_entry (entry s)) none);
+        takes = ap as_entry is ∙ sym (ap (greater_entry (route_entry s)) none);
       }
 
-  by_none : i ≡ None → entry_in brings i ≡ None
-  by_none n = ap (entry_in brings) n
+  by_none : i ≡ None → entry_in brings_route i ≡ None
+  by_none n = ap (entry_in brings_route) n
 
-  by_other : (m : Msg) → i ≡ Some m → brings m ≡ None → entry_in brings i ≡ None
-  by_other m n h = ap (entry_in brings) n ∙ h
+  by_other : (m : Msg) → i ≡ Some m → brings_route m ≡ None → entry_in brings_route i ≡ None
+  by_other m n h = ap (entry_in brings_route) n ∙ h
 
-  newer_by : (r new : RouteView) (b : Bool) → entry_of (Some (cond b new r)) ≡ cond b (new.generation, new.cell) (r.generation, r.cell)
+  newer_by : (r new : RouteView) (b : Bool) → as_entry (Some (cond b new r)) ≡ cond b (new.generation, new.cell) (r.generation, r.cell)
   newer_by r new true = refl
   newer_by r new false = refl
 
@@ -268,10 +249,10 @@ module _ (f : Frame) (e k : ℕ) (s : Has) (i : Option Msg) (t : Has) (sent : Li
       record {
         there = ap is_some now;
         takes =
-            ap entry_of now
+            ap as_entry now
             ∙ (newer_by r new (nat_lt r.generation new.generation)
-            ∙ sym (ap (λ o. greater_entry (entry_of o) (entry_in brings i)) has ∙ ap (greater_entry (r.generation, r.cell)) (ap
-            (entry_in brings) n)));
+            ∙ sym (ap (λ o. greater_entry (as_entry o) (entry_in brings_route i)) has ∙ ap (greater_entry (r.generation, r.cell)) (ap
+            (entry_in brings_route) n)));
       }
   base_reroutes cells (base_move.offers c p n own has may a z) = kept _ a refl (by_other _ n refl)
   base_reroutes cells (base_move.updates u n own b a z) = kept _ a refl (by_other _ n refl)

@@ -34,7 +34,8 @@ use Rattle.seam_ones.proofs.Sparing.{items_all}
 use Rattle.seam_ones.proofs.OneReal.{goes, room, one_happens, calm_of, spared_happens}
 use Rattle.seam_ones.proofs.Handling.{FindsRoom}
 use Rattle.seam_moves.specs.Moves.{MovesTo}
-use Rattle.seam_rounds.proofs.RoadMoves.{road_of, generation_of, entry_of, entry, brings, IsGoodRoute, Roads, plain, arrives, departs}
+use Rattle.seam_rounds.specs.Routes.{as_entry, route_entry, brings_route, IsKnownAt}
+use Rattle.seam_rounds.proofs.RoadMoves.{road_of, generation_of, IsGoodRoute, Roads, plain, arrives, departs}
 use Rattle.seam_rounds.proofs.RoadMoves.{roads, Reroutes, reroutes}
 
 -- ---- letters that bring no route and carry no real
@@ -53,7 +54,7 @@ no_carried (Some (Update u)) n = refl
 
 record Neither (m : Msg) : Type 0 where
   real : real_of m ≡ None
-  route : brings m ≡ None
+  route : brings_route m ≡ None
   good : IsGoodRoute m
 
 neither : (m : Msg) → road_of m ≡ None → Neither m
@@ -71,7 +72,7 @@ no_reals : (ps : List (ℕ × Msg)) → IsSilent road_of ps → IsSilent real_of
 no_reals [] h = tt
 no_reals (p ∷ ps) h = ((neither p.1 h.0).real, no_reals ps h.1)
 
-no_routes : (ps : List (ℕ × Msg)) → IsSilent road_of ps → AllByRecursion (λ p. brings p.1 ≡ None) ps
+no_routes : (ps : List (ℕ × Msg)) → IsSilent road_of ps → AllByRecursion (λ p. brings_route p.1 ≡ None) ps
 no_routes [] h = tt
 no_routes (p ∷ ps) h = ((neither p.1 h.0).route, no_routes ps h.1)
 
@@ -79,7 +80,7 @@ all_good : (ps : List (ℕ × Msg)) → IsSilent road_of ps → AllByRecursion (
 all_good [] h = tt
 all_good (p ∷ ps) h = ((neither p.1 h.0).good, all_good ps h.1)
 
-bring_none : (Q : ℕ × ℕ → Type 0) (ms : List Msg) → AllByRecursion (λ m. brings m ≡ None) ms → AllBring brings Q ms
+bring_none : (Q : ℕ × ℕ → Type 0) (ms : List Msg) → AllByRecursion (λ m. brings_route m ≡ None) ms → AllBring brings_route Q ms
 bring_none Q [] h = tt
 bring_none Q (m ∷ ms) h = (subst (OfEntry Q) (sym h.0) tt, bring_none Q ms h.1)
 
@@ -106,11 +107,6 @@ hand_good : (r : RealView) → IsGoodRoute (Hand r)
 hand_good r x j m is = absurd (let z = is in cc)
 
 module _ (f : Frame) (e : ℕ) where
-  -- what base node b knows of a real at that place
-  abbrev pub IsKnownAt : Place → RealView → Flow Had Msg → ℕ → Type 0
-  IsKnownAt (In k) r w b = Newest entry brings w b r.generation k
-  IsKnownAt (On a k) r w b = (key : ℕ) × (c : ℕ) × (key < r.generation) × Newest entry brings w b key c
-
   pub record IsRouted (w : World) : Type 0 where
     pub place : Place
     pub real : RealView
@@ -123,7 +119,7 @@ module _ (f : Frame) (e : ℕ) where
   Any r q = Unit {0}
 
   same_known : (p : Place) (r q : RealView) (w : Flow Had Msg) (b : ℕ) → q.generation ≡ r.generation → IsKnownAt p r w b → IsKnownAt p q w b
-  same_known (In k) r q w b is h = subst (λ n. Newest entry brings w b n k) (sym is) h
+  same_known (In k) r q w b is h = subst (λ n. Newest route_entry brings_route w b n k) (sym is) h
   same_known (On a k) r q w b is h = (h.0, h.1, (let lt = h.2 in omega (arith, lt, is)), h.3)
 
   told_good : (k : ℕ) (r : RealView) → real_burden r < limit → k < cell_count → (js : List ℕ) →
@@ -163,9 +159,9 @@ module _ (f : Frame) (e : ℕ) where
           reroutes f e g.k (before.slot g.k) (comes g.input) (after.slot g.k) sent high (h.there g.k high low) letter_good g.moves.0.moves
 
     module _ (b : ℕ) (high : cell_count ≤ b) (low : b < cell_count + f.settings.bases) where
-      takes : g.k ≡ b → entry (after.slot b) ≡ greater_entry (entry (before.slot b)) (entry_in brings (comes g.input))
+      takes : g.k ≡ b → route_entry (after.slot b) ≡ greater_entry (route_entry (before.slot b)) (entry_in brings_route (comes g.input))
       takes is =
-          subst (λ x. entry (after.slot x) ≡ greater_entry (entry (before.slot x)) (entry_in brings (comes g.input))) is
+          subst (λ x. route_entry (after.slot x) ≡ greater_entry (route_entry (before.slot x)) (entry_in brings_route (comes g.input))) is
           (turned (omega (arith, is, high)) (omega (arith, is, low))).takes
 
       there_then : is_some (after.slot b).base.route ≡ true
@@ -174,18 +170,19 @@ module _ (f : Frame) (e : ℕ) where
         | inr n ↦ ap (λ s. is_some s.base.route) (g.others b n) ∙ h.there b high low
       ]
 
-      no_out : (ps : List (ℕ × Msg)) → AllByRecursion (λ p. brings p.1 ≡ None) ps → sent ≡ ps → (key c : ℕ) →
-          AllBring brings (NotAbove key c) (g.out b)
+      no_out : (ps : List (ℕ × Msg)) → AllByRecursion (λ p. brings_route p.1 ≡ None) ps → sent ≡ ps → (key c : ℕ) →
+          AllBring brings_route (NotAbove key c) (g.out b)
       no_out ps none is key c =
           bring_none (NotAbove key c) (g.out b)
-          (subst (AllByRecursion (λ m. brings m ≡ None)) (sym (g.moves.0.items b ∙ ap (items_to b) is)) (items_all
-          (λ m. brings m ≡ None) b ps none))
+          (subst (AllByRecursion (λ m. brings_route m ≡ None)) (sym (g.moves.0.items b ∙ ap (items_to b) is)) (items_all
+          (λ m. brings_route m ≡ None) b ps none))
 
-      stays_new : (key c : ℕ) → Newest entry brings before b key c → (ps : List (ℕ × Msg)) → AllByRecursion (λ p. brings p.1 ≡ None) ps →
-          sent ≡ ps → Newest entry brings after b key c
-      stays_new key c n ps none is = newest_stays brings entry g b key c n takes (no_out ps none is key c)
+      stays_new : (key c : ℕ) → Newest route_entry brings_route before b key c → (ps : List (ℕ × Msg)) →
+          AllByRecursion (λ p. brings_route p.1 ≡ None) ps →
+          sent ≡ ps → Newest route_entry brings_route after b key c
+      stays_new key c n ps none is = newest_stays brings_route route_entry g b key c n takes (no_out ps none is key c)
 
-      known_stays : (p : Place) (r : RealView) → IsKnownAt p r before b → AllByRecursion (λ p. brings p.1 ≡ None) sent →
+      known_stays : (p : Place) (r : RealView) → IsKnownAt p r before b → AllByRecursion (λ p. brings_route p.1 ≡ None) sent →
           IsKnownAt p r after b
       known_stays (In k) r n none = stays_new r.generation k n sent none refl
       known_stays (On a k) r n none = (n.0, n.1, n.2, stays_new n.0 n.1 n.3 sent none refl)
@@ -242,7 +239,7 @@ module _ (f : Frame) (e : ℕ) where
 
     -- the real comes
     key_by : (p : Place) (a b : ℕ) → p ≡ On a g.k → IsKnownAt p h.real before b →
-        (key : ℕ) × (c : ℕ) × (key < h.real.generation) × Newest entry brings before b key c
+        (key : ℕ) × (c : ℕ) × (key < h.real.generation) × Newest route_entry brings_route before b key c
     key_by (On x y) a b is n = n
     key_by (In x) a b is n = cc
 
@@ -268,19 +265,19 @@ module _ (f : Frame) (e : ℕ) where
                 let out : g.out b ≡ Current r.entity g.k r.generation ∷ [] =
                 g.moves.0.items b ∙ (ap (items_to b) z ∙ told_here
                 (Current r.entity g.k r.generation) cell_count f.settings.bases b high below) in
-                newest_rises brings entry g b n.0 r.generation n.1 g.k n.3 (let lt = n.2 in let gen = ap generation_of from.2 in omega
-                (arith, lt, gen))
+                newest_rises brings_route route_entry g b n.0 r.generation n.1 g.k n.3
+                (let lt = n.2 in let gen = ap generation_of from.2 in omega (arith, lt, gen))
                 (λ same. absurd (omega (arith, same, low, high)))
-                (subst (AllBring brings (NotAbove r.generation g.k)) (sym out) (inr (refl, refl), tt))
-                (inr (subst (Has brings (r.generation, g.k)) (sym out) (inl refl)));
+                (subst (AllBring brings_route (NotAbove r.generation g.k)) (sym out) (inr (refl, refl), tt))
+                (inr (subst (Has brings_route (r.generation, g.k)) (sym out) (inl refl)));
           },
           ap generation_of from.2,
           refl,
         )
 
     -- the real goes
-    at_by : (p : Place) (b : ℕ) → p ≡ In g.k → IsKnownAt p h.real before b → Newest entry brings before b h.real.generation g.k
-    at_by (In x) b is n = let same : x ≡ g.k = let z = is in cc in subst (Newest entry brings before b h.real.generation) same n
+    at_by : (p : Place) (b : ℕ) → p ≡ In g.k → IsKnownAt p h.real before b → Newest route_entry brings_route before b h.real.generation g.k
+    at_by (In x) b is n = let same : x ≡ g.k = let z = is in cc in subst (Newest route_entry brings_route before b h.real.generation) same n
     at_by (On x y) b is n = cc
 
     departs_by : (r q : RealView) (j : ℕ) (first : List (ℕ × Msg)) → ((x : RealView) → comes g.input ≡ Some (Hand x) → ⊥) →
@@ -310,7 +307,7 @@ module _ (f : Frame) (e : ℕ) where
               g.k,
               rise,
               stays_new b high low h.real.generation g.k (at_by h.place b at.0 (h.known b high low)) (first ++ (j, Hand q) ∷ [])
-                  (all_append (λ p. brings p.1 ≡ None) first ((j, Hand q) ∷ []) (no_routes first silent) (refl, tt)) z,
+                  (all_append (λ p. brings_route p.1 ≡ None) first ((j, Hand q) ∷ []) (no_routes first silent) (refl, tt)) z,
             );
           },
           gen ∙ ap (λ x. generation_of x + 1) at.1,
@@ -364,7 +361,7 @@ module _ (f : Frame) (e : ℕ) where
 
   -- ---- where nothing is on its way
 
-  route_by : (o : Option RouteView) (key c : ℕ) → is_some o ≡ true → entry_of o ≡ (key, c) → o ≡ Some
+  route_by : (o : Option RouteView) (key c : ℕ) → is_some o ≡ true → as_entry o ≡ (key, c) → o ≡ Some
       (record { cell = c; generation = key })
   route_by None key c some is = cc
   route_by (Some x) key c some is =
@@ -375,8 +372,11 @@ module _ (f : Frame) (e : ℕ) where
 
   module _ (w : World) (h : IsRouted w) (still : (a k : ℕ) → (entity_flow e w).mail a k ≡ []) (k : ℕ) (r : RealView)
       (here : real_in ((entity_flow e w).slot k) ≡ Some r) (b : ℕ) (high : cell_count ≤ b) (low : b < cell_count + f.settings.bases) where
-    at_home : (p : Place) → p ≡ In k → IsKnownAt p h.real (entity_flow e w) b → Newest entry brings (entity_flow e w) b h.real.generation k
-    at_home (In x) is n = let same : x ≡ k = let z = is in cc in subst (Newest entry brings (entity_flow e w) b h.real.generation) same n
+    at_home : (p : Place) → p ≡ In k → IsKnownAt p h.real (entity_flow e w) b →
+        Newest route_entry brings_route (entity_flow e w) b h.real.generation k
+    at_home (In x) is n =
+        let same : x ≡ k = let z = is in cc in
+        subst (Newest route_entry brings_route (entity_flow e w) b h.real.generation) same n
     at_home (On x y) is n = cc
 
     pub quiet_route : ((entity_flow e w).slot b).base.route ≡ Some (record { cell = k; generation = r.generation })
@@ -384,5 +384,5 @@ module _ (f : Frame) (e : ℕ) where
         let at = sole_here real_in real_of (entity_flow e w) h.place h.real r k h.one here in
         let n = at_home h.place at.0 (h.known b high low) in
         route_by ((entity_flow e w).slot b).base.route r.generation k (h.there b high low)
-        (newest_rests brings entry (entity_flow e w) b h.real.generation k n (λ x. still x b)
+        (newest_rests brings_route route_entry (entity_flow e w) b h.real.generation k n (λ x. still x b)
         ∙ ap (λ m. let p : ℕ × ℕ = (m, k) in p) (sym (ap generation_of at.1)))

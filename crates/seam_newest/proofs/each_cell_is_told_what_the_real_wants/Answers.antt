@@ -1,5 +1,6 @@
 use Rattle.seam_newest.proofs.Running.{told_of}
 use Rattle.seam_newest.proofs.Rounding.{told_each, lost_then}
+use Rattle.seam_newest.proofs.Ending.{looks_told}
 use Rattle.seam_newest.proofs.each_cell_is_told_what_the_real_wants.Goals as goal
 
 pub returns-clause-flow : goal.returns-clause-flow
@@ -11,3 +12,6 @@ returns-clause-round c = told_each
 
 pub returns-clause-others : goal.returns-clause-others
 returns-clause-others c = lost_then
+
+pub returns-clause-looks : goal.returns-clause-looks
+returns-clause-looks c = looks_told

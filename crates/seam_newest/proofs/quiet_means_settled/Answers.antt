@@ -1,5 +1,6 @@
 use Rattle.seam_rounds.proofs.CallsEnd.{calls_end_between}
 use Rattle.seam_newest.proofs.Rounding.{calls_end_copied}
+use Rattle.seam_newest.proofs.Ending.{looks_stay}
 use Rattle.seam_newest.proofs.quiet_means_settled.Goals as goal
 
 pub returns-clause-copies : goal.returns-clause-copies
@@ -8,3 +9,6 @@ returns-clause-copies c = λ f w b between fits copies v es run quiet. (calls_en
 pub returns-clause-routes : goal.returns-clause-routes
 returns-clause-routes c = λ f w b between fits v es run quiet e k q at.
     ((calls_end_between f w b between fits v es run quiet).settled e k q at).routes
+
+pub returns-clause-looks : goal.returns-clause-looks
+returns-clause-looks c = looks_stay
