@@ -15,10 +15,10 @@ ghost use Rattle.seam_steps.specs.Loads.{new_part};
 ghost use Rattle.seam_steps.specs.BaseCases.{may_call as part_may_call, may_execute as part_may_execute, may_show as client_may_show, fits_base_part};
 ghost use Rattle.seam_base.specs.Parts.{part_of, proxy_of, lines_of};
 
-use crate::fitting::{can_be_done, may_rise};
+use crate::numbers::may_rise;
 use seam_call::{Call, ClientText, Line, Shown};
 use seam_defs::{Defs, Group, Part, Props, Settings, State};
-use seam_entity::Orders;
+use seam_entity::{Orders, can_do};
 use seam_geo::Pos;
 use seam_order::InOrder;
 use std::alloc::{AllocError, Global};
@@ -168,7 +168,7 @@ impl BasePart {
         ensures { (me : ℕ) → result ≡ fits_base_part (node_with defs.now me settings.now) self.now.ty call.now }
     {
         call.is_for(Part::Base, call.entity)
-            && can_be_done(
+            && can_do(
                 settings.size,
                 defs.type_at(self.body.ty),
                 Part::Base,

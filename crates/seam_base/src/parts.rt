@@ -7,13 +7,14 @@ ghost use Rattle.seam_steps.specs.Maps.{Map, number_of};
 ghost use Rattle.seam_defs.specs.declared.settings.Settings.{Settings as AllSettings};
 ghost use Rattle.seam_entity.specs.Preparing.{node_with};
 ghost use Rattle.seam_steps.specs.Loads.{with_proxy};
-ghost use Rattle.seam_steps.specs.BaseCases.{stray_update};
-ghost use Rattle.seam_base.specs.Nodes.{has_call, has_update, has_client, may_be_shown};
-ghost use Rattle.seam_base.specs.Parts.{changed_at, with_update, with_shown};
+ghost use Rattle.seam_steps.specs.BaseCases.{stray_base_call, stray_update, may_execute};
+ghost use Rattle.seam_base.specs.Nodes.{here_in, has_call, has_update, has_client, may_be_shown};
+ghost use Rattle.seam_base.specs.Parts.{changed_at, with_call, with_ready_call, with_update, with_shown};
 ghost use Rattle.seam_base.specs.Marks.{AreMarked, PassAlike, passes, marked, any_mark, least};
 
+use crate::known::Known;
 use crate::part::BasePart;
-use seam_call::Update;
+use seam_call::{Call, Update};
 use seam_defs::Defs;
 use seam_memory::NoMemoryFor;
 use seam_table::Table;
@@ -40,7 +41,7 @@ impl Model for Parts {
 
     ghost coded = { Prim.hlevel (codes, table.code) };
 
-    ghost use Rattle.seam_base.specs.Nodes.{has_call, has_update};
+    ghost use Rattle.seam_base.specs.Nodes.{here_in, has_call, has_update};
     ghost use Rattle.seam_base.specs.Marks.{AreMarked};
 
     ghost view = { λ p. p.items.items };
@@ -94,6 +95,58 @@ fn update_in(
     };
     let done = part.offer_update(update);
     mark(updates, e, part.is_client_ready());
+    let _none = items.put_reserved(e, part);
+    done
+}
+
+// Offers the call to the entity's part, which may be offered it.
+fn call_in(
+    items: &mut Table<BasePart>,
+    calls: &mut Table<()>,
+    known: &Known,
+    call: Call,
+) -> Result<(), NoMemoryFor<Call>>
+    requires fits { stray_base_call (here_in known.now) call (table.get items.old.items call.entity) ≡ false }
+    requires marks { AreMarked has_call calls.old.items items.old.items }
+    ensures after { OnOk result (items.new.items ≡ changed_at (with_call (here_in known.now) call) items.old.items call.entity) }
+    ensures err { OnErr result (items.new.items ≡ items.old.items) }
+    ensures err_item { IfErr result (λ e. e.item ≡ call) }
+    ensures marks { AreMarked has_call calls.new.items items.new.items }
+    ensures others { PassAlike has_update items.old.items items.new.items }
+{
+    let e = call.entity;
+    if calls.reserve(e).is_err() {
+        return Err(NoMemoryFor { item: call });
+    }
+    let Some(mut part) = items.take(e) else {
+        unreachable!()
+    };
+    let done = part.offer(&known.defs, call);
+    mark(calls, e, part.is_ready());
+    let _none = items.put_reserved(e, part);
+    done
+}
+
+// Executes a ready call of the entity's part.
+fn ready_in(
+    items: &mut Table<BasePart>,
+    calls: &mut Table<()>,
+    known: &Known,
+    e: u32,
+) -> Result<(), AllocError>
+    requires may { passes may_execute (table.get items.old.items e) ≡ true }
+    requires marks { AreMarked has_call calls.old.items items.old.items }
+    ensures after { OnOk result (items.new.items ≡ changed_at (with_ready_call (here_in known.now)) items.old.items e) }
+    ensures err { OnErr result (items.new.items ≡ items.old.items) }
+    ensures marks { AreMarked has_call calls.new.items items.new.items }
+    ensures others { PassAlike has_update items.old.items items.new.items }
+{
+    calls.reserve(e)?;
+    let Some(mut part) = items.take(e) else {
+        unreachable!()
+    };
+    let done = part.execute_ready(&known.defs);
+    mark(calls, e, part.is_ready());
     let _none = items.put_reserved(e, part);
     done
 }
@@ -183,6 +236,37 @@ impl Parts {
         ensures { result ≡ least has_update self.now }
     {
         least_of(&self.updates)
+    }
+
+    /// Whether the entity's part is not here, or may not be offered the call.
+    pub fn refuses(&self, known: &Known, call: &Call) -> bool
+        ensures { result ≡ stray_base_call (here_in known.now) call.now (table.get self.now call.now.entity) }
+    {
+        match self.get(call.entity) {
+            Some(part) => !part.may_call(&known.defs, &known.settings, call),
+            None => true,
+        }
+    }
+
+    /// Offers the call to the entity's part, which may be offered it.
+    pub fn offer(&mut self, known: &Known, call: Call) -> Result<(), NoMemoryFor<Call>>
+        requires { stray_base_call (here_in known.now) call (table.get self.old call.entity) ≡ false }
+        ensures after { OnOk result (self.new ≡ changed_at (with_call (here_in known.now) call) self.old call.entity) }
+
+        // If allocation fails, the call comes back and nothing has changed.
+        ensures err { OnErr result (self.new ≡ self.old) }
+        ensures err_item { IfErr result (λ e. e.item ≡ call) }
+    {
+        call_in(&mut self.items, &mut self.calls, known, call)
+    }
+
+    /// Executes the ready call of the least sender of the entity's part.
+    pub fn execute_ready(&mut self, known: &Known, e: u32) -> Result<(), AllocError>
+        requires { passes may_execute (table.get self.old e) ≡ true }
+        ensures after { OnOk result (self.new ≡ changed_at (with_ready_call (here_in known.now)) self.old e) }
+        ensures err { OnErr result (self.new ≡ self.old) }
+    {
+        ready_in(&mut self.items, &mut self.calls, known, e)
     }
 
     /// Offers the update to the client, if there is one, of the entity's part, which is here.
