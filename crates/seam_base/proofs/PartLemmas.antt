@@ -1,5 +1,5 @@
 -- Base parts after calls.
-use Rattle.std.proofs.Common.{◌≡◌, ℕ, ◌≤◌, ◌+◌, subst, Result, OnOk, OnErr, Ok, Err, List, [], ◌∷◌, Bool, true, false, ◌&&◌, not, is_some, if◌then◌else◌, Option, None, Some, refl, sym, ap, ◌∙◌, arith}
+use Rattle.std.proofs.Common.{◌≡◌, ℕ, ◌≤◌, ◌+◌, subst, Result, OnOk, OnErr, Ok, Err, List, [], ◌∷◌, Bool, true, false, ◌&&◌, not, find, is_some, if◌then◌else◌, Option, None, Some, refl, sym, ap, ◌∙◌, arith}
 use Rattle.std.specs.Prelude.{option_map, cond, ◌||◌}
 use Rattle.std.specs.List.{list_any, filter}
 use Rattle.seam_steps.specs.Maps.{has_any}
@@ -17,15 +17,16 @@ use Rattle.seam_call.specs.declared.call.Call.{Call}
 use Rattle.seam_call.specs.declared.shown.ClientText.{ClientText}
 use Rattle.seam_entity.specs.Here.{Here, type_at, properties}
 use Rattle.seam_steps.specs.Bases.{PartView, ProxyView, line_if, base_text, shown_to_client}
-use Rattle.seam_entity.specs.Calls.{may_offer, ready_order, ready_call, call_in, after_order, after_ready}
+use Rattle.seam_entity.specs.Calls.{order_is_ready, may_offer, ready_order, ready_call, call_in, after_order, after_ready}
 use Rattle.seam_order.specs.Held.{OrderView}
 use Rattle.seam_order.specs.Offers.{next_item}
+use Rattle.seam_steps.proofs.Tables.{entries_empty}
 use Rattle.seam_steps.specs.BaseCases
 use Rattle.seam_steps.specs.BaseCases.{proxy_is_ready, after_showing, with_deed, with_offer, executed, offered}
 use Rattle.seam_base.specs.Parts.{told, with_state, with_orders, with_call, with_ready_call, with_shown}
 use Rattle.seam_base.specs.Nodes.{has_call, has_update, has_client}
 use Rattle.seam_base.specs.Marks.{passes}
-use Rattle.seam_steps.specs.Loads.{new_proxy, with_proxy}
+use Rattle.seam_steps.specs.Loads.{new_part, new_proxy, with_proxy}
 use Rattle.seam_defs.specs.Deeds.{properties_of}
 use Rattle.seam_defs.specs.declared.flags.Group.TheVariants as group
 
@@ -201,3 +202,8 @@ module _ (h : Here) (k : Call) (p : PartView) (o : Option PartView) (at : Some p
 
 pub passes_there : (test : PartView → Bool) (p : PartView) (o : Option PartView) → Some p ≡ o → passes test o ≡ true → test p ≡ true
 passes_there test p o at is = ap (passes test) at ∙ is
+
+-- ---- a part that has done nothing
+
+pub new_has_no_call : (h : Here) (ty : ℕ) → has_call (new_part h ty) ≡ false
+new_has_no_call h ty = ap (λ es. is_some (find order_is_ready es)) entries_empty

@@ -4,13 +4,13 @@ ghost use Rattle.std.specs.Prelude.{◌≡◌, ◌≤◌, ◌<◌, ◌++◌, ◌
 ghost use Rattle.std.specs.FinMap as table;
 ghost use Rattle.seam_geo.specs.declared.pos.Pos.{Pos as AnyPos};
 ghost use Rattle.seam_steps.specs.Maps.{has_any};
-ghost use Rattle.seam_steps.specs.Loads.{empty_base, part_if, with_route, base_begins};
+ghost use Rattle.seam_steps.specs.Loads.{empty_base, part_if, with_route, attached, base_begins};
 ghost use Rattle.seam_steps.specs.Nodes.NodeView.{Base as BaseNodeView};
 ghost use Rattle.seam_steps.specs.Valid.{IsBase};
 ghost use Rattle.seam_steps.specs.BaseCases.{unless_stray, sends_none, stray_current, current, stray_update, update as update_case, stray_base_call};
-ghost use Rattle.seam_steps.specs.BaseCases.{base_call, is_stray, case_of, ready_part, task_without_orders, base_task, base_steps, base_has_work};
-ghost use Rattle.seam_base.specs.Nodes.{has_call, has_update};
-ghost use Rattle.seam_base.specs.Marks.{least};
+ghost use Rattle.seam_steps.specs.BaseCases.{base_call, is_stray, case_of, ready_part, task_without_orders, base_task, base_steps, base_has_work, is_base_node_of};
+ghost use Rattle.seam_base.specs.Nodes.{has_call, has_update, has_client};
+ghost use Rattle.seam_base.specs.Marks.{least, passes};
 ghost use Rattle.seam_base.specs.Machines.{base_peers, base_targets, base_keeps_peers, base_stays_valid};
 
 use crate::known::Known;
@@ -89,7 +89,42 @@ impl Base {
         self.parts.get(e)
     }
 
-    /// Appends an order to the node's list.
+    /// Load, point 1: the entity, which is created in that cell, gets a route, and its base part where this is its base node.
+    pub fn add_entity(&mut self, alloc: Global, e: u32, ty: u16, cell: u8) -> Result<(), AllocError>
+        requires { cell < CELLS }
+        ensures after { (pos : AnyPos) → OnOk result (self.new ≡ part_if (is_base_node_of self.old.here e) (with_route self.old e cell)
+            (record { entity = e; ty = ty; pos = pos })) }
+        ensures err { OnErr result (self.new ≡ self.old) }
+    {
+        self.routes.reserve(e)?;
+        self.parts.add(alloc, &self.known, e, ty)?;
+        let route = Route {
+            cell,
+            generation: 0,
+        };
+        let _old = self.routes.put_reserved(e, route);
+        Ok(())
+    }
+
+    /// Load, point 2: the entity's base part, where it is here, gets a client; it has none yet.
+    pub fn attach(&mut self, alloc: Global, e: u32) -> Result<(), AllocError>
+        requires { passes has_client (table.get self.old.parts e) ≡ false }
+        ensures after { OnOk result (BaseNodeView self.new ≡ attached e (BaseNodeView self.old)) }
+        ensures err { OnErr result (self.new ≡ self.old) }
+    {
+        self.parts.attach(alloc, &self.known.defs, e)
+    }
+
+    /// Load, point 3: a round begins, with a tree of so many cells; nothing was done and no line was shown in it yet.
+    pub fn start_round(&mut self, cells: u8)
+        requires { cells ≤ CELLS }
+        ensures { self.new ≡ base_begins cells self.old }
+    {
+        self.known.cells = cells;
+        self.parts.start_round();
+    }
+
+    /// Load, point 4: appends an order to the node's list.
     pub fn add_order(&mut self, order: Order) -> Result<(), NoMemoryFor<Order>>
         ensures after { OnOk result (self.new ≡ record self.old { orders = self.old.orders ++ order ∷ [] }) }
 

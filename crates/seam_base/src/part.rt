@@ -13,6 +13,7 @@ ghost use Rattle.seam_entity.specs.Calls.{may_offer};
 ghost use Rattle.seam_entity.specs.Preparing.{node_with};
 ghost use Rattle.seam_steps.specs.Loads.{new_part};
 ghost use Rattle.seam_steps.specs.BaseCases.{may_call as part_may_call, may_execute as part_may_execute, may_show as client_may_show, fits_base_part};
+ghost use Rattle.seam_base.specs.Nodes.{has_client as part_has_client};
 ghost use Rattle.seam_base.specs.Parts.{part_of, proxy_of, lines_of};
 
 use crate::numbers::may_rise;
@@ -136,6 +137,13 @@ impl BasePart {
             Some(proxy) => &proxy.lines,
             None => &[],
         }
+    }
+
+    /// Whether it has a client.
+    pub fn has_client(&self) -> bool
+        ensures { result ≡ part_has_client self.now }
+    {
+        self.body.proxy.is_some()
     }
 
     /// Whether a further line of its client, if it has one, has a number.

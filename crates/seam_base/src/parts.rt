@@ -1,13 +1,13 @@
 //! The base parts of a node, and marks of those that are ready.
 
-ghost use Rattle.std.specs.Prelude.{◌≡◌, ℕ, true, false, find, OnOk, OnErr, IfErr, option_copied, option_map, is_some};
+ghost use Rattle.std.specs.Prelude.{◌≡◌, ◌<◌, ◌≤◌, ◌^◌, if◌then◌else◌, ℕ, true, false, find, OnOk, OnErr, IfErr, option_copied, option_map, is_some};
 ghost use Rattle.std.specs.FinMap as table;
 ghost use Rattle.std.specs.FinSet as set;
-ghost use Rattle.seam_steps.specs.Maps.{Map, number_of};
+ghost use Rattle.seam_steps.specs.Maps.{number_of, each_value};
 ghost use Rattle.seam_defs.specs.declared.settings.Settings.{Settings as AllSettings};
 ghost use Rattle.seam_entity.specs.Preparing.{node_with};
-ghost use Rattle.seam_steps.specs.Loads.{with_proxy};
-ghost use Rattle.seam_steps.specs.BaseCases.{stray_base_call, stray_update, may_execute};
+ghost use Rattle.seam_steps.specs.Loads.{with_proxy, new_part, part_begins};
+ghost use Rattle.seam_steps.specs.BaseCases.{stray_base_call, stray_update, may_execute, is_base_node_of};
 ghost use Rattle.seam_base.specs.Nodes.{here_in, has_call, has_update, has_client, may_be_shown};
 ghost use Rattle.seam_base.specs.Parts.{changed_at, with_call, with_ready_call, with_update, with_shown};
 ghost use Rattle.seam_base.specs.Marks.{AreMarked, PassAlike, passes, marked, any_mark, least};
@@ -15,7 +15,7 @@ ghost use Rattle.seam_base.specs.Marks.{AreMarked, PassAlike, passes, marked, an
 use crate::known::Known;
 use crate::part::BasePart;
 use seam_call::{Call, Update};
-use seam_defs::Defs;
+use seam_defs::{Defs, MOST_BASE_NODES};
 use seam_memory::NoMemoryFor;
 use seam_table::Table;
 use std::alloc::{AllocError, Global};
@@ -192,6 +192,30 @@ fn attach_in(
     done
 }
 
+// Begins a round for the entity's part, which is here.
+fn begin(items: &mut Table<BasePart>, e: u32)
+    requires { is_some (table.get items.old.items e) ≡ true }
+    ensures after { items.new.items ≡ changed_at part_begins items.old.items e }
+    ensures small { e < 2 ^ 32 }
+{
+    let Some(mut part) = items.take(e) else {
+        unreachable!()
+    };
+    part.start_round();
+    let _none = items.put_reserved(e, part);
+}
+
+// Begins a round for every part.
+fn begin_all(items: &mut Table<BasePart>)
+    ensures { items.new.items ≡ each_value part_begins items.old.items }
+{
+    let mut last = None;
+    while let Some((e, _)) = items.next_after(last) {
+        begin(items, e);
+        last = Some(e);
+    }
+}
+
 impl Parts {
     /// No parts.
     pub fn new(alloc: Global) -> Self
@@ -299,6 +323,31 @@ impl Parts {
         ensures err { OnErr result (self.new ≡ self.old) }
     {
         attach_in(&mut self.items, alloc, defs, e)
+    }
+
+    /// Makes the entity's part, which has done nothing, where this is its base node.
+    pub fn add(&mut self, alloc: Global, known: &Known, e: u32, ty: u16) -> Result<(), AllocError>
+        requires bases { 1 ≤ known.now.settings.bases }
+        requires most { known.now.settings.bases ≤ MOST_BASE_NODES }
+        ensures after { let h = here_in known.now in
+            OnOk result (self.new ≡ (if is_base_node_of h e then table.insert self.old e (new_part h ty) else self.old)) }
+        ensures err { OnErr result (self.new ≡ self.old) }
+    {
+        if known.base_node_of(e) != known.me {
+            return Ok(());
+        }
+        let part = BasePart::create(alloc, &known.defs, ty)?;
+        match self.put_new(e, part) {
+            Ok(()) => return Ok(()),
+            Err(_) => return Err(AllocError),
+        }
+    }
+
+    /// Begins a round, in which no part has done anything and no client was shown anything yet.
+    pub fn start_round(&mut self)
+        ensures { self.new ≡ each_value part_begins self.old }
+    {
+        begin_all(&mut self.items);
     }
 
     /// Removes the entity's part.
