@@ -2,3 +2,4 @@ pub mod Marks
 pub mod PartLemmas
 pub mod RouteLemmas
 pub mod NodeLemmas
+pub mod Walk

@@ -25,7 +25,7 @@ second : (a b : Bool) → T (a && b) → T b
 second true b p = p
 second false b p = absurd p
 
-same_key : (q k : ℕ) → eq_by_cmp nat_cmp q k ≡ true → q ≡ k
+pub same_key : (q k : ℕ) → eq_by_cmp nat_cmp q k ≡ true → q ≡ k
 same_key q k is = grind (arith, nat_tests, is)
 
 apart_below : (q k n : ℕ) → nat_cmp q k ≡ Less → T (is_lt (nat_cmp k n)) → eq_by_cmp nat_cmp q n ≡ false
@@ -44,7 +44,7 @@ module _ {X : Type 0} where
       ap (λ b. cond b (Some p.1) (key_find nat_cmp q es)) (apart_below q k p.0 less (first _ _ h)) ∙ none_below q k es less (second _ _ h)
 
   -- the number comes before what was found
-  abbrev IsBefore : ℕ → Option (ℕ × X) → Type 0
+  abbrev pub IsBefore : ℕ → Option (ℕ × X) → Type 0
   IsBefore q None = Unit {0}
   IsBefore q (Some p) = nat_cmp q p.0 ≡ Less
 
@@ -78,7 +78,7 @@ module _ {X : Type 0} where
     fails_in (p ∷ es) o q x h is before at = fails_by p es o q x (first _ _ h) before at
         (λ found_is there. fails_in es o q x (second _ _ h) found_is before there) (t p) refl is
 
-    fails_before : (m : Map X) (o : Option (ℕ × X)) (q : ℕ) (x : X) → find t (table.entries m) ≡ o → IsBefore q o →
+    pub fails_before : (m : Map X) (o : Option (ℕ × X)) (q : ℕ) (x : X) → find t (table.entries m) ≡ o → IsBefore q o →
         table.get m q ≡ Some x → t (q, x) ≡ false
     fails_before m o q x is before at =
         fails_in (table.entries m) o q x (table.entries_sorted m) is before (sym (table.get-entries m q) ∙ at)

@@ -1,5 +1,5 @@
 -- Base parts after calls.
-use Rattle.std.proofs.Common.{◌≡◌, ℕ, ◌≤◌, ◌+◌, subst, Result, OnOk, OnErr, Ok, Err, List, [], ◌∷◌, Bool, true, false, ◌&&◌, is_some, if◌then◌else◌, Option, None, Some, refl, sym, ap, ◌∙◌, arith}
+use Rattle.std.proofs.Common.{◌≡◌, ℕ, ◌≤◌, ◌+◌, subst, Result, OnOk, OnErr, Ok, Err, List, [], ◌∷◌, Bool, true, false, ◌&&◌, not, find, is_some, if◌then◌else◌, Option, None, Some, refl, sym, ap, ◌∙◌, arith}
 use Rattle.std.specs.Prelude.{option_map, cond, ◌||◌}
 use Rattle.std.specs.List.{list_any, filter}
 use Rattle.seam_steps.specs.Maps.{has_any}
@@ -17,11 +17,16 @@ use Rattle.seam_call.specs.declared.call.Call.{Call}
 use Rattle.seam_call.specs.declared.shown.ClientText.{ClientText}
 use Rattle.seam_entity.specs.Here.{Here, type_at, properties}
 use Rattle.seam_steps.specs.Bases.{PartView, ProxyView, line_if, base_text, shown_to_client}
+use Rattle.seam_entity.specs.Calls.{order_is_ready, may_offer, ready_order, ready_call, call_in, after_order, after_ready}
+use Rattle.seam_order.specs.Held.{OrderView}
+use Rattle.seam_order.specs.Offers.{next_item}
+use Rattle.seam_steps.proofs.Tables.{entries_empty}
+use Rattle.seam_steps.specs.BaseCases
 use Rattle.seam_steps.specs.BaseCases.{proxy_is_ready, after_showing, with_deed, with_offer, executed, offered}
-use Rattle.seam_base.specs.Parts.{told, with_state, with_call, with_shown}
+use Rattle.seam_base.specs.Parts.{told, with_state, with_orders, with_call, with_ready_call, with_shown}
 use Rattle.seam_base.specs.Nodes.{has_call, has_update, has_client}
 use Rattle.seam_base.specs.Marks.{passes}
-use Rattle.seam_steps.specs.Loads.{new_proxy, with_proxy}
+use Rattle.seam_steps.specs.Loads.{new_part, new_proxy, with_proxy}
 use Rattle.seam_defs.specs.Deeds.{properties_of}
 use Rattle.seam_defs.specs.declared.flags.Group.TheVariants as group
 
@@ -140,3 +145,65 @@ shown_call p = by p.proxy
     by : (x : Option ProxyView) → has_call (after_showing p x) ≡ has_call p
     by None = refl
     by (Some x) = refl
+
+-- ---- ready calls
+
+pub ready_none : (h : Here) (p : PartView) → None ≡ ready_call p.orders → with_ready_call h p ≡ p
+ready_none h p is = by (ready_order p.orders) (sym is)
+  where
+    by : (o : Option (ℕ × OrderView Call)) → call_in o ≡ None → BaseCases.after_ready h p o ≡ p
+    by None none = refl
+    by (Some o) none = ap (BaseCases.executes_ready h p o) none
+
+-- what was known of a ready call before it is what the call leaves
+pub ready_from : (h : Here) (p : PartView) (s : State) (t : Option ClientText) (k : Call) → ready_call p.orders ≡ Some k →
+    s ≡ (with_deed h p k).state → told (with_deed h p k) t ≡ executed h p k →
+    with_orders (told (with_state p s k) t) (after_ready p.orders) ≡ with_ready_call h p
+ready_from h p s t k is state text = by (ready_order p.orders) is
+  where
+    by : (o : Option (ℕ × OrderView Call)) → call_in o ≡ Some k →
+        with_orders (told (with_state p s k) t) (after_order p.orders o) ≡ BaseCases.after_ready h p o
+    by None ready = cc
+    by (Some o) ready =
+        ap (λ a. with_orders (told (with_state p a k) t) (after_order p.orders (Some o))) state
+        ∙ (ap (λ q. with_orders q (after_order p.orders (Some o))) text ∙ sym (ap (BaseCases.executes_ready h p o) ready))
+
+pub ready_same : (h : Here) (p : PartView) → has_update (with_ready_call h p) ≡ has_update p
+ready_same h p = by (ready_order p.orders)
+  where
+    by_call : (o : ℕ × OrderView Call) (k : Option Call) → has_update (BaseCases.executes_ready h p o k) ≡ has_update p
+    by_call o None = refl
+    by_call o (Some k) = executed_same h p k
+
+    by : (o : Option (ℕ × OrderView Call)) → has_update (BaseCases.after_ready h p o) ≡ has_update p
+    by None = refl
+    by (Some o) = by_call o (next_item o.1)
+
+-- ---- what is known of a part that may be called
+
+module _ (h : Here) (k : Call) (p : PartView) (o : Option PartView) (at : Some p ≡ o) (fits : BaseCases.stray_base_call h k o ≡ false) where
+  may_be_called : BaseCases.may_call h p k ≡ true
+  may_be_called = by (BaseCases.may_call h p k) (ap (BaseCases.stray_base_call h k) at ∙ fits)
+    where
+      by : (b : Bool) → not b ≡ false → b ≡ true
+      by true n = refl
+      by false n = cc
+
+  both_of : (a b : Bool) → (a && b) ≡ true → (a ≡ true) × (b ≡ true)
+  both_of true b e = (refl, e)
+  both_of false b e = cc
+
+  pub call_is_offered : may_offer (order_of p.orders k.sender) k.number ≡ true
+  call_is_offered = (both_of _ _ (both_of (BaseCases.fits_base_part h p.ty k) _ may_be_called).1).0
+
+  pub part_executes : BaseCases.may_execute p ≡ true
+  part_executes =
+      (both_of (may_offer (order_of p.orders k.sender) k.number) _ (both_of (BaseCases.fits_base_part h p.ty k) _ may_be_called).1).1
+
+pub passes_there : (test : PartView → Bool) (p : PartView) (o : Option PartView) → Some p ≡ o → passes test o ≡ true → test p ≡ true
+passes_there test p o at is = ap (passes test) at ∙ is
+
+-- ---- a part that has done nothing
+
+pub new_has_no_call : (h : Here) (ty : ℕ) → has_call (new_part h ty) ≡ false
+new_has_no_call h ty = ap (λ es. is_some (find order_is_ready es)) entries_empty

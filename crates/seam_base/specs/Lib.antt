@@ -2,3 +2,4 @@ pub mod Parts
 pub mod Routes
 pub mod Marks
 pub mod Nodes
+pub mod Machines

@@ -10,7 +10,7 @@ use Rattle.seam_call.specs.declared.shown.ClientText.{ClientText}
 use Rattle.seam_call.specs.Senders.{rank_of}
 use Rattle.seam_call.specs.declared.shown.Update.{Update}
 use Rattle.seam_entity.specs.Here.{Here}
-use Rattle.seam_entity.specs.Orders.{order_of}
+use Rattle.seam_entity.specs.Orders.{Orders, order_of}
 use Rattle.seam_entity.specs.Calls.{ready_order}
 use Rattle.seam_steps.specs.Maps.{Map, set_at}
 use Rattle.seam_steps.specs.Bases.{PartView, ProxyView, with_line}
@@ -62,6 +62,9 @@ shows t x = with_line x t
 abbrev pub told : PartView → Option ClientText → PartView
 told p None = p
 told p (Some t) = record p { proxy = option_map (shows t) p.proxy }
+
+abbrev pub with_orders : PartView → Orders → PartView
+with_orders p os = record p { orders = os }
 
 -- ---- a part after a step
 

@@ -1,6 +1,6 @@
 //! Calls of a base part.
 
-ghost use Rattle.std.specs.Prelude.{◌≡◌, ◌<◌, ◌≤◌, ◌^◌, ◌&&◌, ℕ, IfOk, IfErr, OnOk, OnErr, true, false, is_some, option_map, Some, None, if◌then◌else◌};
+ghost use Rattle.std.specs.Prelude.{◌≡◌, ◌<◌, ◌≤◌, ◌^◌, ◌&&◌, ℕ, IfOk, IfErr, OnOk, OnErr, true, false, is_some, option_map, Some, None, if◌then◌else◌, vec_len, vec_capacity};
 ghost use Rattle.std.specs.Ordering.{nat_cmp};
 ghost use Rattle.std.specs.FinSet as set;
 ghost use Rattle.seam_defs.specs.Deeds.{client_of};
@@ -9,11 +9,13 @@ ghost use Rattle.seam_order.specs.Held.{item_at};
 ghost use Rattle.seam_call.specs.Senders.{rank_of};
 ghost use Rattle.seam_call.specs.declared.shown.ClientText.TheVariants as text;
 ghost use Rattle.seam_entity.specs.Orders.{order_of};
-ghost use Rattle.seam_entity.specs.Calls.{may_offer};
+ghost use Rattle.seam_entity.specs.Calls.{may_offer, ready_call, after_ready};
+ghost use Rattle.seam_call.specs.declared.call.Call.{Call as AnyCall};
+ghost use Rattle.seam_base.specs.Nodes.{has_call};
 ghost use Rattle.seam_entity.specs.Preparing.{node_with};
 ghost use Rattle.seam_steps.specs.Bases.{shown_to_client};
 ghost use Rattle.seam_steps.specs.BaseCases.{may_show, may_execute, with_deed, with_offer, executed};
-ghost use Rattle.seam_base.specs.Parts.{part_of, proxy_of, shows, told, with_state, with_call, HasLine, HasRoom};
+ghost use Rattle.seam_base.specs.Parts.{part_of, proxy_of, shows, told, with_state, with_orders, with_call, with_ready_call, HasLine, HasRoom};
 
 use crate::part::{BasePart, Body, Proxy};
 use seam_call::{Call, ClientText, Sender};
@@ -40,14 +42,24 @@ fn reserve_line(proxy: &mut Option<Proxy>) -> Result<(), AllocError>
     }
 }
 
+// Makes room for a done call, and for a line.
+fn make_place(body: &mut Body) -> Result<(), AllocError>
+    ensures same { part_of body.new ≡ part_of body.old }
+    ensures orders { body.new.orders ≡ body.old.orders }
+    ensures done { OnOk result (vec_len body.new.done < vec_capacity body.new.done) }
+    ensures line { OnOk result (HasLine body.new.proxy) }
+{
+    body.done.reserve(1)?;
+    reserve_line(&mut body.proxy)
+}
+
 // Makes room for a call of the sender whose turn it is, and for a line.
 fn make_room(body: &mut Body, sender: &Sender) -> Result<(), AllocError>
     ensures same { part_of body.new ≡ part_of body.old }
     ensures room { OnOk result (HasRoom body.new (rank_of sender.now)) }
 {
     body.orders.reserve(sender)?;
-    body.done.reserve(1)?;
-    reserve_line(&mut body.proxy)
+    make_place(body)
 }
 
 /// The text of the part at that version with that state, where it is due.
@@ -181,6 +193,42 @@ fn offer_in(body: &mut Body, defs: &Defs, call: Call) -> Result<(), NoMemoryFor<
     execute_turn(body, defs, call)
 }
 
+// Executes the ready call of the least sender that has one, from what was known of it before.
+fn execute_ready_after(body: &mut Body, after: After)
+    requires may { may_execute (part_of body.old) ≡ true }
+    requires done { vec_len body.old.done < vec_capacity body.old.done }
+    requires line { HasLine body.old.proxy }
+    requires ready { is_some (ready_call body.old.orders.orders) ≡ true }
+    ensures { (k : AnyCall) → ready_call body.old.orders.orders ≡ Some k → part_of body.new
+        ≡ with_orders (told (with_state (part_of body.old) after.state k) after.text) (after_ready body.old.orders.orders) }
+{
+    body.state = after.state;
+    body.version += 1;
+    if let Some(text) = after.text {
+        tell(&mut body.proxy, text);
+    }
+    match body.orders.take_ready() {
+        Some(call) => body.done.push_reserved(call),
+        None => unreachable!(),
+    }
+}
+
+// Executes the ready call of the least sender that has one.
+fn execute_ready_in(body: &mut Body, defs: &Defs) -> Result<(), AllocError>
+    requires { may_execute (part_of body.old) ≡ true }
+    ensures after { (me : ℕ) (settings : AllSettings) →
+        OnOk result (part_of body.new ≡ with_ready_call (node_with defs.now me settings) (part_of body.old)) }
+    ensures err { OnErr result (part_of body.new ≡ part_of body.old) }
+{
+    make_place(body)?;
+    let Some(call) = body.orders.ready_call() else {
+        return Ok(());
+    };
+    let after = look_ahead(body, defs, call)?;
+    execute_ready_after(body, after);
+    Ok(())
+}
+
 impl BasePart {
     /// Executes the call where it is its turn, holds it where it came early, and drops it where it came late.
     pub fn offer(&mut self, defs: &Defs, call: Call) -> Result<(), NoMemoryFor<Call>>
@@ -194,5 +242,22 @@ impl BasePart {
         ensures err_item { IfErr result (λ e. e.item ≡ call) }
     {
         offer_in(&mut self.body, defs, call)
+    }
+
+    /// Whether a sender has a ready call.
+    pub fn is_ready(&self) -> bool
+        ensures { result ≡ has_call self.now }
+    {
+        self.body.orders.is_ready()
+    }
+
+    /// Executes the ready call of the least sender that has one.
+    pub fn execute_ready(&mut self, defs: &Defs) -> Result<(), AllocError>
+        requires { may_execute self.old ≡ true }
+        ensures after { (me : ℕ) (settings : AllSettings) →
+            OnOk result (self.new ≡ with_ready_call (node_with defs.now me settings) self.old) }
+        ensures err { OnErr result (self.new ≡ self.old) }
+    {
+        execute_ready_in(&mut self.body, defs)
     }
 }

@@ -5,9 +5,9 @@
 #![tactic(auto)]
 
 mod calls;
-mod fitting;
 mod known;
 mod node;
+mod numbers;
 mod orders;
 mod part;
 mod parts;

@@ -1,21 +1,27 @@
 //! A base node.
 
-ghost use Rattle.std.specs.Prelude.{◌≡◌, ◌≤◌, ◌<◌, ◌++◌, ◌∷◌, [], ℕ, List, true, false, OnOk, OnErr, IfErr, Some, option_copied, option_map};
+ghost use Rattle.std.specs.Prelude.{◌≡◌, ◌≤◌, ◌<◌, ◌++◌, ◌∷◌, [], ℕ, List, true, false, OnOk, OnErr, IfErr, Some, None, option_copied, option_map};
 ghost use Rattle.std.specs.FinMap as table;
 ghost use Rattle.seam_geo.specs.declared.pos.Pos.{Pos as AnyPos};
-ghost use Rattle.seam_entity.specs.Here.{peers_of, base_of};
-ghost use Rattle.seam_steps.specs.Loads.{empty_base, part_if, with_route, base_begins};
-ghost use Rattle.seam_steps.specs.Nodes.{NodeView};
+ghost use Rattle.seam_steps.specs.Maps.{has_any};
+ghost use Rattle.seam_steps.specs.Loads.{empty_base, part_if, with_route, attached, base_begins};
 ghost use Rattle.seam_steps.specs.Nodes.NodeView.{Base as BaseNodeView};
 ghost use Rattle.seam_steps.specs.Valid.{IsBase};
-ghost use Rattle.seam_steps.specs.BaseCases.{unless_stray, sends_none, stray_current, current, stray_update, update as update_case};
+ghost use Rattle.seam_steps.specs.BaseCases.{unless_stray, sends_none, stray_current, current, stray_update, update as update_case, stray_base_call};
+ghost use Rattle.seam_steps.specs.BaseCases.{base_call, is_stray, case_of, ready_part, task_without_orders, base_task, base_steps, base_has_work, is_base_node_of};
+ghost use Rattle.seam_base.specs.Nodes.{has_call, has_update, has_client};
+ghost use Rattle.seam_base.specs.Marks.{least, passes};
+ghost use Rattle.seam_base.specs.Machines.{base_peers, base_targets, base_keeps_peers, base_stays_valid};
 
 use crate::known::Known;
+use crate::orders::execute;
 use crate::part::BasePart;
 use crate::parts::Parts;
-use crate::routes::{Route, gives_way};
-use seam_call::{Order, Update};
+use crate::routes::{CELLS, Route, gives_way};
+use seam_call::{Call, Order, Update};
 use seam_defs::{Defs, MOST_BASE_NODES, Settings};
+use seam_entity::Msg;
+use seam_machine::{Input, Machine, Out};
 use seam_memory::NoMemoryFor;
 use seam_table::Table;
 use std::alloc::{AllocError, Global};
@@ -83,7 +89,42 @@ impl Base {
         self.parts.get(e)
     }
 
-    /// Appends an order to the node's list.
+    /// Load, point 1: the entity, which is created in that cell, gets a route, and its base part where this is its base node.
+    pub fn add_entity(&mut self, alloc: Global, e: u32, ty: u16, cell: u8) -> Result<(), AllocError>
+        requires { cell < CELLS }
+        ensures after { (pos : AnyPos) → OnOk result (self.new ≡ part_if (is_base_node_of self.old.here e) (with_route self.old e cell)
+            (record { entity = e; ty = ty; pos = pos })) }
+        ensures err { OnErr result (self.new ≡ self.old) }
+    {
+        self.routes.reserve(e)?;
+        self.parts.add(alloc, &self.known, e, ty)?;
+        let route = Route {
+            cell,
+            generation: 0,
+        };
+        let _old = self.routes.put_reserved(e, route);
+        Ok(())
+    }
+
+    /// Load, point 2: the entity's base part, where it is here, gets a client; it has none yet.
+    pub fn attach(&mut self, alloc: Global, e: u32) -> Result<(), AllocError>
+        requires { passes has_client (table.get self.old.parts e) ≡ false }
+        ensures after { OnOk result (BaseNodeView self.new ≡ attached e (BaseNodeView self.old)) }
+        ensures err { OnErr result (self.new ≡ self.old) }
+    {
+        self.parts.attach(alloc, &self.known.defs, e)
+    }
+
+    /// Load, point 3: a round begins, with a tree of so many cells; nothing was done and no line was shown in it yet.
+    pub fn start_round(&mut self, cells: u8)
+        requires { cells ≤ CELLS }
+        ensures { self.new ≡ base_begins cells self.old }
+    {
+        self.known.cells = cells;
+        self.parts.start_round();
+    }
+
+    /// Load, point 4: appends an order to the node's list.
     pub fn add_order(&mut self, order: Order) -> Result<(), NoMemoryFor<Order>>
         ensures after { OnOk result (self.new ≡ record self.old { orders = self.old.orders ++ order ∷ [] }) }
 
@@ -99,6 +140,19 @@ impl Base {
                 });
             }
         }
+    }
+
+    // Base call: it is offered to the entity's part.
+    fn hear_call(&mut self, call: Call) -> Result<(), NoMemoryFor<Call>>
+        ensures after { OnOk result (self.new ≡ (unless_stray (stray_base_call self.old.here call (table.get self.old.parts call.entity)) self.old
+            (sends_none (base_call self.old call))).state) }
+        ensures err { OnErr result (self.new ≡ self.old) }
+        ensures err_item { IfErr result (λ e. e.item ≡ call) }
+    {
+        if self.parts.refuses(&self.known, &call) {
+            return Ok(());
+        }
+        self.parts.offer(&self.known, call)
     }
 
     // Update: it is offered to the client, if there is one, and shown in its turn.
@@ -124,6 +178,192 @@ impl Base {
     {
         if gives_way(self.routes.get(e), new) {
             let _old = self.routes.put_reserved(e, new);
+        }
+    }
+
+    // A message from another node.
+    fn hear(&mut self, message: Msg) -> Result<(), NoMemoryFor<Msg>>
+        ensures after { OnOk result (self.new ≡ (unless_stray (is_stray self.old message) self.old (sends_none (case_of self.old message))).state) }
+        ensures err { OnErr result (self.new ≡ self.old) }
+        ensures err_item { IfErr result (λ e. e.item ≡ message) }
+    {
+        match message {
+            Msg::BaseCall(call) => match self.hear_call(call) {
+                Ok(()) => return Ok(()),
+                Err(refused) => {
+                    return Err(NoMemoryFor {
+                        item: Msg::BaseCall(refused.item),
+                    });
+                }
+            },
+            Msg::Current(e, cell, generation) => {
+                self.hear_current(e, Route { cell, generation });
+                return Ok(());
+            }
+            Msg::Update(update) => match self.hear_update(update) {
+                Ok(()) => return Ok(()),
+                Err(refused) => {
+                    return Err(NoMemoryFor {
+                        item: Msg::Update(refused.item),
+                    });
+                }
+            },
+            Msg::Call(_) => return Ok(()),
+            Msg::Hand(_) => return Ok(()),
+            Msg::GhostSet(_, _, _) => return Ok(()),
+            Msg::GhostDrop(_, _) => return Ok(()),
+            Msg::Tick => return Ok(()),
+            Msg::Reap(_) => return Ok(()),
+        }
+    }
+
+    // The least part that has a ready call executes it.
+    fn ready_call_task(&mut self, e: u32) -> Result<(), AllocError>
+        requires { least has_call self.old.parts ≡ Some e }
+        ensures after { OnOk result (self.new ≡ (task_without_orders self.old (ready_part self.old)).state) }
+        ensures err { OnErr result (self.new ≡ self.old) }
+    {
+        let Some(part) = self.parts.get(e) else {
+            unreachable!()
+        };
+        if !part.may_execute() {
+            return Ok(());
+        }
+        self.parts.execute_ready(&self.known, e)
+    }
+
+    // Where no part has a ready call, the least client that has a ready update is shown it.
+    fn ready_update_task(&mut self, e: u32) -> Result<(), AllocError>
+        requires no_call { least has_call self.old.parts ≡ None }
+        requires update { least has_update self.old.parts ≡ Some e }
+        ensures after { OnOk result (self.new ≡ (task_without_orders self.old (ready_part self.old)).state) }
+        ensures err { OnErr result (self.new ≡ self.old) }
+    {
+        let Some(part) = self.parts.get(e) else {
+            unreachable!()
+        };
+        if !part.may_show() {
+            return Ok(());
+        }
+        self.parts.show_next(e)
+    }
+
+    // The task without orders: a ready call is executed, else a ready update is shown.
+    fn ready_task(&mut self) -> Result<(), AllocError>
+        ensures after { OnOk result (self.new ≡ (task_without_orders self.old (ready_part self.old)).state) }
+        ensures err { OnErr result (self.new ≡ self.old) }
+    {
+        if let Some(e) = self.parts.least_call() {
+            return self.ready_call_task(e);
+        }
+        if let Some(e) = self.parts.least_update() {
+            return self.ready_update_task(e);
+        }
+        Ok(())
+    }
+
+    // The first order is executed, and a stray one stays.
+    fn order_task(&mut self, out: &mut Out<Msg>) -> Result<(), AllocError>
+        requires { has_any self.old.orders ≡ true }
+        ensures state { OnOk result (self.new ≡ (base_task self.old self.old.orders).state) }
+        ensures sent { OnOk result (out.new.items ≡ out.old.items ++ (base_task self.old self.old.orders).sent) }
+        ensures err_state { OnErr result (self.new ≡ self.old) }
+        ensures err_out { OnErr result (out.new.items ≡ out.old.items) }
+    {
+        let Some(order) = self.orders.pop_front() else {
+            unreachable!()
+        };
+        match execute(&self.known, &self.routes, &mut self.parts, order, out) {
+            Ok(()) => return Ok(()),
+            Err(stays) => {
+                self.orders.push_front_reserved(stays.order);
+                return stays.result;
+            }
+        }
+    }
+
+    // The node's task.
+    fn task(&mut self, out: &mut Out<Msg>) -> Result<(), AllocError>
+        ensures state { OnOk result (self.new ≡ (base_task self.old self.old.orders).state) }
+        ensures sent { OnOk result (out.new.items ≡ out.old.items ++ (base_task self.old self.old.orders).sent) }
+        ensures err_state { OnErr result (self.new ≡ self.old) }
+        ensures err_out { OnErr result (out.new.items ≡ out.old.items) }
+    {
+        if self.has_orders() {
+            return self.order_task(out);
+        }
+        self.ready_task()
+    }
+
+    // Whether there is an order.
+    fn has_orders(&self) -> bool
+        ensures { result ≡ has_any self.now.orders }
+    {
+        !self.orders.is_empty()
+    }
+}
+
+impl Machine for Base {
+    type Msg = Msg;
+
+    ghost has_work = { base_has_work };
+
+    ghost peer_count = { base_peers };
+
+    ghost steps = { base_steps };
+
+    ghost valid = { IsBase };
+
+    ghost targets = { base_targets };
+
+    ghost keeps_peers = { base_keeps_peers };
+
+    ghost stays_valid = { base_stays_valid };
+
+    fn peers(&self) -> u8 {
+        CELLS + self.known.settings.bases as u8
+    }
+
+    fn has_task(&self) -> bool {
+        if self.has_orders() {
+            return true;
+        }
+        if self.parts.least_call().is_some() {
+            return true;
+        }
+        self.parts.least_update().is_some()
+    }
+
+    fn known(&self) {
+        let _ = &self.routes;
+    }
+
+    fn step(
+        &mut self,
+        _alloc: Global,
+        input: Input<Msg>,
+        out: &mut Out<Msg>,
+    ) -> Result<(), NoMemoryFor<Input<Msg>>>
+        requires { input ≡ Input.Task → base_has_work self.old ≡ true }
+        ensures state { OnOk result (self.new ≡ (base_steps self.old input).state) }
+        ensures sent { OnOk result (out.new.items ≡ out.old.items ++ (base_steps self.old input).sent) }
+        ensures err_state { OnErr result (self.new ≡ self.old) }
+        ensures err_out { OnErr result (out.new.items ≡ out.old.items) }
+        ensures err_input { IfErr result (λ e. e.item ≡ input) }
+    {
+        match input {
+            Input::Task => match self.task(out) {
+                Ok(()) => return Ok(()),
+                Err(_) => return Err(NoMemoryFor { item: Input::Task }),
+            },
+            Input::From(from, message) => match self.hear(message) {
+                Ok(()) => return Ok(()),
+                Err(refused) => {
+                    return Err(NoMemoryFor {
+                        item: Input::From(from, refused.item),
+                    });
+                }
+            },
         }
     }
 }

@@ -104,3 +104,89 @@ fn reap_order(
     parts.remove(e);
     Ok(())
 }
+
+// Base order: where this is the entity's base node as a base call, else the call goes to that node.
+fn base_order(known: &Known, parts: &mut Parts, call: Call, out: &mut Out<Msg>) -> Result<(), Stays>
+    requires bases { 1 ≤ known.now.settings.bases }
+    requires most { known.now.settings.bases ≤ MOST_BASE_NODES }
+    ensures parts { let h = here_in known.now in OnOk result (parts.new
+        ≡ (if is_base_node_of h call.entity then changed_at (with_call h call) parts.old call.entity else parts.old)) }
+    ensures sent { let h = here_in known.now in OnOk result (out.new.items ≡ out.old.items ++
+        (if is_base_node_of h call.entity then [] else (base_of h call.entity, message.BaseCall call) ∷ [])) }
+    ensures done { let h = here_in known.now in OnOk result
+        ((is_base_node_of h call.entity && stray_base_call h call (table.get parts.old call.entity)) ≡ false) }
+    ensures err_parts { OnErr result (parts.new ≡ parts.old) }
+    ensures err { OnErr result (out.new.items ≡ out.old.items) }
+    ensures stays { IfErr result (λ s. s.order ≡ order.Base call) }
+    ensures stray { let h = here_in known.now in IfErr result (λ s. OnOk s.result
+        ((is_base_node_of h call.entity && stray_base_call h call (table.get parts.old call.entity)) ≡ true)) }
+{
+    let node = known.base_node_of(call.entity);
+    if node == known.me {
+        return own_order(known, parts, call);
+    }
+    if let Err(error) = out.reserve(1) {
+        return Err(Stays {
+            order: Order::Base(call),
+            result: Err(error),
+        });
+    }
+    out.send(node, Msg::BaseCall(call));
+    Ok(())
+}
+
+// A base order for a part of this node.
+fn own_order(known: &Known, parts: &mut Parts, call: Call) -> Result<(), Stays>
+    ensures parts { OnOk result (parts.new ≡ changed_at (with_call (here_in known.now) call) parts.old call.entity) }
+    ensures done { OnOk result (stray_base_call (here_in known.now) call (table.get parts.old call.entity) ≡ false) }
+    ensures err { OnErr result (parts.new ≡ parts.old) }
+    ensures stays { IfErr result (λ s. s.order ≡ order.Base call) }
+    ensures stray { IfErr result (λ s. OnOk s.result (stray_base_call (here_in known.now) call (table.get parts.old call.entity) ≡ true)) }
+{
+    if parts.refuses(known, &call) {
+        return Err(Stays {
+            order: Order::Base(call),
+            result: Ok(()),
+        });
+    }
+    match parts.offer(known, call) {
+        Ok(()) => return Ok(()),
+        Err(refused) => {
+            return Err(Stays {
+                order: Order::Base(refused.item),
+                result: Err(AllocError),
+            });
+        }
+    }
+}
+
+/// Executes the order; a stray one stays.
+///
+/// The clauses speak of the node without the order, with any list of the others.
+pub fn execute(
+    known: &Known,
+    routes: &Table<Route>,
+    parts: &mut Parts,
+    order: Order,
+    out: &mut Out<Msg>,
+) -> Result<(), Stays>
+    requires bases { 1 ≤ known.now.settings.bases }
+    requires most { known.now.settings.bases ≤ MOST_BASE_NODES }
+    ensures state { (os : List AnyOrder) → OnOk result (node_of known.now os routes.now.items parts.new
+        ≡ (order_of_node (node_of known.now os routes.now.items parts.old) order).state) }
+    ensures sent { (os : List AnyOrder) → OnOk result (out.new.items
+        ≡ out.old.items ++ (order_of_node (node_of known.now os routes.now.items parts.old) order).sent) }
+    ensures done { (os : List AnyOrder) → OnOk result (stray_order (node_of known.now os routes.now.items parts.old) order ≡ false) }
+    ensures err_parts { OnErr result (parts.new ≡ parts.old) }
+    ensures err { OnErr result (out.new.items ≡ out.old.items) }
+    ensures stays { IfErr result (λ s. s.order ≡ order) }
+    ensures stray { (os : List AnyOrder) → IfErr result (λ s. OnOk s.result
+        (stray_order (node_of known.now os routes.now.items parts.old) order ≡ true)) }
+{
+    match order {
+        Order::Cell(call) => return cell_order(routes, call, out),
+        Order::Base(call) => return base_order(known, parts, call, out),
+        Order::Tick => return tick_order(known.cells, out),
+        Order::Reap(e) => return reap_order(routes, parts, e, out),
+    }
+}

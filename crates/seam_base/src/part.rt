@@ -13,12 +13,13 @@ ghost use Rattle.seam_entity.specs.Calls.{may_offer};
 ghost use Rattle.seam_entity.specs.Preparing.{node_with};
 ghost use Rattle.seam_steps.specs.Loads.{new_part};
 ghost use Rattle.seam_steps.specs.BaseCases.{may_call as part_may_call, may_execute as part_may_execute, may_show as client_may_show, fits_base_part};
+ghost use Rattle.seam_base.specs.Nodes.{has_client as part_has_client};
 ghost use Rattle.seam_base.specs.Parts.{part_of, proxy_of, lines_of};
 
-use crate::fitting::{can_be_done, may_rise};
+use crate::numbers::may_rise;
 use seam_call::{Call, ClientText, Line, Shown};
 use seam_defs::{Defs, Group, Part, Props, Settings, State};
-use seam_entity::Orders;
+use seam_entity::{Orders, can_do};
 use seam_geo::Pos;
 use seam_order::InOrder;
 use std::alloc::{AllocError, Global};
@@ -138,6 +139,13 @@ impl BasePart {
         }
     }
 
+    /// Whether it has a client.
+    pub fn has_client(&self) -> bool
+        ensures { result ≡ part_has_client self.now }
+    {
+        self.body.proxy.is_some()
+    }
+
     /// Whether a further line of its client, if it has one, has a number.
     pub fn may_show(&self) -> bool
         ensures { result ≡ client_may_show self.now.proxy }
@@ -168,7 +176,7 @@ impl BasePart {
         ensures { (me : ℕ) → result ≡ fits_base_part (node_with defs.now me settings.now) self.now.ty call.now }
     {
         call.is_for(Part::Base, call.entity)
-            && can_be_done(
+            && can_do(
                 settings.size,
                 defs.type_at(self.body.ty),
                 Part::Base,

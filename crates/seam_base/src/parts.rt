@@ -1,20 +1,21 @@
 //! The base parts of a node, and marks of those that are ready.
 
-ghost use Rattle.std.specs.Prelude.{◌≡◌, ℕ, true, false, find, OnOk, OnErr, IfErr, option_copied, option_map, is_some};
+ghost use Rattle.std.specs.Prelude.{◌≡◌, ◌<◌, ◌≤◌, ◌^◌, if◌then◌else◌, ℕ, true, false, find, OnOk, OnErr, IfErr, option_copied, option_map, is_some};
 ghost use Rattle.std.specs.FinMap as table;
 ghost use Rattle.std.specs.FinSet as set;
-ghost use Rattle.seam_steps.specs.Maps.{Map, number_of};
+ghost use Rattle.seam_steps.specs.Maps.{number_of, each_value};
 ghost use Rattle.seam_defs.specs.declared.settings.Settings.{Settings as AllSettings};
 ghost use Rattle.seam_entity.specs.Preparing.{node_with};
-ghost use Rattle.seam_steps.specs.Loads.{with_proxy};
-ghost use Rattle.seam_steps.specs.BaseCases.{stray_update};
-ghost use Rattle.seam_base.specs.Nodes.{has_call, has_update, has_client, may_be_shown};
-ghost use Rattle.seam_base.specs.Parts.{changed_at, with_update, with_shown};
+ghost use Rattle.seam_steps.specs.Loads.{with_proxy, new_part, part_begins};
+ghost use Rattle.seam_steps.specs.BaseCases.{stray_base_call, stray_update, may_execute, is_base_node_of};
+ghost use Rattle.seam_base.specs.Nodes.{here_in, has_call, has_update, has_client, may_be_shown};
+ghost use Rattle.seam_base.specs.Parts.{changed_at, with_call, with_ready_call, with_update, with_shown};
 ghost use Rattle.seam_base.specs.Marks.{AreMarked, PassAlike, passes, marked, any_mark, least};
 
+use crate::known::Known;
 use crate::part::BasePart;
-use seam_call::Update;
-use seam_defs::Defs;
+use seam_call::{Call, Update};
+use seam_defs::{Defs, MOST_BASE_NODES};
 use seam_memory::NoMemoryFor;
 use seam_table::Table;
 use std::alloc::{AllocError, Global};
@@ -40,7 +41,7 @@ impl Model for Parts {
 
     ghost coded = { Prim.hlevel (codes, table.code) };
 
-    ghost use Rattle.seam_base.specs.Nodes.{has_call, has_update};
+    ghost use Rattle.seam_base.specs.Nodes.{here_in, has_call, has_update};
     ghost use Rattle.seam_base.specs.Marks.{AreMarked};
 
     ghost view = { λ p. p.items.items };
@@ -98,6 +99,58 @@ fn update_in(
     done
 }
 
+// Offers the call to the entity's part, which may be offered it.
+fn call_in(
+    items: &mut Table<BasePart>,
+    calls: &mut Table<()>,
+    known: &Known,
+    call: Call,
+) -> Result<(), NoMemoryFor<Call>>
+    requires fits { stray_base_call (here_in known.now) call (table.get items.old.items call.entity) ≡ false }
+    requires marks { AreMarked has_call calls.old.items items.old.items }
+    ensures after { OnOk result (items.new.items ≡ changed_at (with_call (here_in known.now) call) items.old.items call.entity) }
+    ensures err { OnErr result (items.new.items ≡ items.old.items) }
+    ensures err_item { IfErr result (λ e. e.item ≡ call) }
+    ensures marks { AreMarked has_call calls.new.items items.new.items }
+    ensures others { PassAlike has_update items.old.items items.new.items }
+{
+    let e = call.entity;
+    if calls.reserve(e).is_err() {
+        return Err(NoMemoryFor { item: call });
+    }
+    let Some(mut part) = items.take(e) else {
+        unreachable!()
+    };
+    let done = part.offer(&known.defs, call);
+    mark(calls, e, part.is_ready());
+    let _none = items.put_reserved(e, part);
+    done
+}
+
+// Executes a ready call of the entity's part.
+fn ready_in(
+    items: &mut Table<BasePart>,
+    calls: &mut Table<()>,
+    known: &Known,
+    e: u32,
+) -> Result<(), AllocError>
+    requires may { passes may_execute (table.get items.old.items e) ≡ true }
+    requires marks { AreMarked has_call calls.old.items items.old.items }
+    ensures after { OnOk result (items.new.items ≡ changed_at (with_ready_call (here_in known.now)) items.old.items e) }
+    ensures err { OnErr result (items.new.items ≡ items.old.items) }
+    ensures marks { AreMarked has_call calls.new.items items.new.items }
+    ensures others { PassAlike has_update items.old.items items.new.items }
+{
+    calls.reserve(e)?;
+    let Some(mut part) = items.take(e) else {
+        unreachable!()
+    };
+    let done = part.execute_ready(&known.defs);
+    mark(calls, e, part.is_ready());
+    let _none = items.put_reserved(e, part);
+    done
+}
+
 // Shows the client of the entity's part the ready update.
 fn show_in(items: &mut Table<BasePart>, updates: &mut Table<()>, e: u32) -> Result<(), AllocError>
     requires may { passes may_be_shown (table.get items.old.items e) ≡ true }
@@ -137,6 +190,30 @@ fn attach_in(
     let done = part.attach(alloc, defs);
     let _none = items.put_reserved(e, part);
     done
+}
+
+// Begins a round for the entity's part, which is here.
+fn begin(items: &mut Table<BasePart>, e: u32)
+    requires { is_some (table.get items.old.items e) ≡ true }
+    ensures after { items.new.items ≡ changed_at part_begins items.old.items e }
+    ensures small { e < 2 ^ 32 }
+{
+    let Some(mut part) = items.take(e) else {
+        unreachable!()
+    };
+    part.start_round();
+    let _none = items.put_reserved(e, part);
+}
+
+// Begins a round for every part.
+fn begin_all(items: &mut Table<BasePart>)
+    ensures { items.new.items ≡ each_value part_begins items.old.items }
+{
+    let mut last = None;
+    while let Some((e, _)) = items.next_after(last) {
+        begin(items, e);
+        last = Some(e);
+    }
 }
 
 impl Parts {
@@ -185,6 +262,37 @@ impl Parts {
         least_of(&self.updates)
     }
 
+    /// Whether the entity's part is not here, or may not be offered the call.
+    pub fn refuses(&self, known: &Known, call: &Call) -> bool
+        ensures { result ≡ stray_base_call (here_in known.now) call.now (table.get self.now call.now.entity) }
+    {
+        match self.get(call.entity) {
+            Some(part) => !part.may_call(&known.defs, &known.settings, call),
+            None => true,
+        }
+    }
+
+    /// Offers the call to the entity's part, which may be offered it.
+    pub fn offer(&mut self, known: &Known, call: Call) -> Result<(), NoMemoryFor<Call>>
+        requires { stray_base_call (here_in known.now) call (table.get self.old call.entity) ≡ false }
+        ensures after { OnOk result (self.new ≡ changed_at (with_call (here_in known.now) call) self.old call.entity) }
+
+        // If allocation fails, the call comes back and nothing has changed.
+        ensures err { OnErr result (self.new ≡ self.old) }
+        ensures err_item { IfErr result (λ e. e.item ≡ call) }
+    {
+        call_in(&mut self.items, &mut self.calls, known, call)
+    }
+
+    /// Executes the ready call of the least sender of the entity's part.
+    pub fn execute_ready(&mut self, known: &Known, e: u32) -> Result<(), AllocError>
+        requires { passes may_execute (table.get self.old e) ≡ true }
+        ensures after { OnOk result (self.new ≡ changed_at (with_ready_call (here_in known.now)) self.old e) }
+        ensures err { OnErr result (self.new ≡ self.old) }
+    {
+        ready_in(&mut self.items, &mut self.calls, known, e)
+    }
+
     /// Offers the update to the client, if there is one, of the entity's part, which is here.
     pub fn offer_update(&mut self, update: Update) -> Result<(), NoMemoryFor<Update>>
         requires there { is_some (table.get self.old update.entity) ≡ true }
@@ -215,6 +323,31 @@ impl Parts {
         ensures err { OnErr result (self.new ≡ self.old) }
     {
         attach_in(&mut self.items, alloc, defs, e)
+    }
+
+    /// Makes the entity's part, which has done nothing, where this is its base node.
+    pub fn add(&mut self, alloc: Global, known: &Known, e: u32, ty: u16) -> Result<(), AllocError>
+        requires bases { 1 ≤ known.now.settings.bases }
+        requires most { known.now.settings.bases ≤ MOST_BASE_NODES }
+        ensures after { let h = here_in known.now in
+            OnOk result (self.new ≡ (if is_base_node_of h e then table.insert self.old e (new_part h ty) else self.old)) }
+        ensures err { OnErr result (self.new ≡ self.old) }
+    {
+        if known.base_node_of(e) != known.me {
+            return Ok(());
+        }
+        let part = BasePart::create(alloc, &known.defs, ty)?;
+        match self.put_new(e, part) {
+            Ok(()) => return Ok(()),
+            Err(_) => return Err(AllocError),
+        }
+    }
+
+    /// Begins a round, in which no part has done anything and no client was shown anything yet.
+    pub fn start_round(&mut self)
+        ensures { self.new ≡ each_value part_begins self.old }
+    {
+        begin_all(&mut self.items);
     }
 
     /// Removes the entity's part.

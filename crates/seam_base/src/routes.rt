@@ -5,7 +5,7 @@ ghost use Rattle.std.specs.FinMap as table;
 ghost use Rattle.seam_steps.specs.BaseCases.{stray_current};
 ghost use Rattle.seam_base.specs.Routes.{gives_way as route_gives_way};
 
-use crate::fitting::is_small;
+use crate::numbers::is_small;
 use std::marker::Model;
 
 /// How many nodes may be cells.

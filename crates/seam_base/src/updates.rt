@@ -17,7 +17,7 @@ ghost use Rattle.seam_steps.specs.BaseCases.{offered_update, shows_next, stray_p
 ghost use Rattle.seam_base.specs.Parts.{part_of, proxy_of, with_update, with_shown};
 
 use crate::calls::text_of;
-use crate::fitting::may_rise as number_may_rise;
+use crate::numbers::may_rise as number_may_rise;
 use crate::part::{BasePart, Proxy};
 use seam_call::{ClientText, Update};
 use seam_defs::{Defs, Group, Property, TypeDef};

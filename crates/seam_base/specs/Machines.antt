@@ -1,0 +1,25 @@
+-- What a machine has to say of its steps, of a base node: it is said of every node.
+use Rattle.std.specs.Prelude.{◌≡◌, ℕ}
+use Rattle.seam_machine.specs.Sends.{AllBelow}
+use Rattle.seam_machine.specs.declared.machines.Input.{Input}
+use Rattle.seam_entity.specs.declared.message.Msg.{Msg}
+use Rattle.seam_entity.specs.Here.{peers_of}
+use Rattle.seam_steps.specs.Bases.{BaseView}
+use Rattle.seam_steps.specs.BaseCases.{base_steps}
+use Rattle.seam_steps.specs.Nodes.NodeView.{Base}
+use Rattle.seam_steps.specs.Valid.{IsBase}
+use Rattle.seam_steps.proofs.Targets.{node_targets}
+use Rattle.seam_steps.proofs.Peers.{peers_stay, node_stays_valid}
+
+-- how many nodes there are
+abbrev pub base_peers : BaseView → ℕ
+base_peers b = peers_of b.here
+
+pub base_targets : (b : BaseView) (i : Input Msg) → IsBase b → AllBelow (base_peers b) (base_steps b i).sent
+base_targets b i is = node_targets (Base b) i is
+
+pub base_keeps_peers : (b : BaseView) (i : Input Msg) → IsBase b → base_peers (base_steps b i).state ≡ base_peers b
+base_keeps_peers b i is = peers_stay (Base b) i
+
+pub base_stays_valid : (b : BaseView) (i : Input Msg) → IsBase b → IsBase (base_steps b i).state
+base_stays_valid b i is = node_stays_valid (Base b) i is
