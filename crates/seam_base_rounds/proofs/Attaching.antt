@@ -22,7 +22,7 @@ use Rattle.seam_between.proofs.Loaded.{slot_is}
 use Rattle.seam_base_calls.specs.BaseTurns.{home_of}
 use Rattle.seam_base_calls.specs.Clients.{shown_by}
 use Rattle.seam_base_calls.specs.WitnessMoves.{sent_of, sent_by}
-use Rattle.seam_looks.specs.Telling.{IsFewView, SeesFew}
+use Rattle.seam_told.specs.Telling.{IsFewView, SeesFew}
 use Rattle.seam_base_rounds.specs.Parts.{AreInStep, AreFor, HasPartsBetweenRounds, lines_of, FitsParts}
 use Rattle.seam_base_rounds.proofs.PartLoads.{part_at}
 use Rattle.seam_base_rounds.proofs.Joining.{is_among, joined_if, peopled, real_at, real_joined, part_joined, real_peopled, part_peopled}

@@ -36,8 +36,8 @@ use Rattle.seam_base_calls.proofs.StrayRuns.{base_burden_leads}
 use Rattle.seam_base_calls.proofs.BaseQuiet.{all_executed}
 use Rattle.seam_base_rounds.specs.Parts.{next_to, base_calls_of, HasSettledPart, HasPartsBetweenRounds, MayBeLoaded, AreFor, lines_of}
 use Rattle.seam_base_rounds.specs.Parts.{HasSmallNumbers}
-use Rattle.seam_looks.specs.Telling.{SeesFew}
-use Rattle.seam_looks.proofs.Absent.{few_leads}
+use Rattle.seam_told.specs.Telling.{SeesFew}
+use Rattle.seam_told.proofs.Absent.{few_leads}
 use Rattle.seam_base_rounds.proofs.Ticking.{few_loaded}
 use Rattle.seam_base_rounds.proofs.Loaded.{LoadedPart}
 use Rattle.seam_base_rounds.proofs.Serving.{ends}

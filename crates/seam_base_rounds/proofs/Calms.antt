@@ -46,12 +46,12 @@ use Rattle.seam_base_calls.proofs.BaseRuns.{version_room}
 use Rattle.seam_base_calls.proofs.StrayRuns.{base_burden_leads}
 use Rattle.seam_base_calls.proofs.NoLooks.{NoTicks}
 use Rattle.seam_base_rounds.specs.Parts.{HasSettledPart, HasPartsBetweenRounds, AreFor, lines_of, HasSmallNumbers}
-use Rattle.seam_looks.specs.Telling.{most_entities, IsBlank, SeesFew, HasFewEntities, looks_left, most_shown}
+use Rattle.seam_told.specs.Telling.{most_entities, IsBlank, SeesFew, HasFewEntities, looks_left, most_shown}
 use Rattle.seam_base_calls.specs.PartMoves.{update_in}
-use Rattle.seam_looks.specs.Telling.{IsToldNothing}
-use Rattle.seam_looks.proofs.Silent.{tells_none}
+use Rattle.seam_told.specs.Telling.{IsToldNothing}
+use Rattle.seam_told.proofs.Silent.{tells_none}
 use Rattle.seam_base_rounds.proofs.Updates.{update_finds}
-use Rattle.seam_looks.proofs.Absent.{few_leads}
+use Rattle.seam_told.proofs.Absent.{few_leads}
 use Rattle.seam_base_rounds.proofs.Ticking.{most_told, tells_most, tells_few, sees_then, ticks_of, node_ticks, no_ticks, few_turned, looks_turned}
 use Rattle.seam_base_rounds.proofs.PartLoads.{part_at, parts_ordered}
 use Rattle.seam_base_rounds.proofs.Still.{still_settled}

@@ -29,7 +29,7 @@ use Rattle.seam_base_calls.proofs.BaseQuiet.{all_executed}
 use Rattle.seam_base_calls.proofs.StrayRuns.{alone_without_stray, client_without_stray}
 use Rattle.seam_base_calls.proofs.ClientLeads.{both_leads}
 use Rattle.seam_base_rounds.specs.Parts.{next_to, base_calls_of, MayBeLoaded, lines_of}
-use Rattle.seam_looks.specs.Telling.{SeesFew, looks_left}
+use Rattle.seam_told.specs.Telling.{SeesFew, looks_left}
 use Rattle.seam_base_rounds.proofs.Ticking.{most_told, TellsFew, tells_few, sees_then, few_loaded, looks_loaded}
 use Rattle.seam_base_rounds.proofs.Attaching.{are_for_loaded, lines_loaded, sees_loaded}
 use Rattle.seam_base_rounds.proofs.Updates.{update_finds}

@@ -40,9 +40,9 @@ use Rattle.seam_between.proofs.Room.{from_all, most, sum_most, rows_none}
 use Rattle.seam_between.proofs.Turns.{node_orders, node_none}
 use Rattle.seam_base_calls.specs.WitnessMoves.{sent_by}
 use Rattle.seam_base_calls.specs.Clients.{EachReal, HasToldAtMost}
-use Rattle.seam_looks.specs.Telling.{most_entities, IsBlank, BringsNone, IsAbsent, HasFewEntities, SeesFew}
-use Rattle.seam_looks.specs.Telling.{order_looks, node_looks, mine_looks, looks_left, most_shown}
-use Rattle.seam_looks.proofs.Telling.{tells_at_most, sees_few_then}
+use Rattle.seam_told.specs.Telling.{most_entities, IsBlank, BringsNone, IsAbsent, HasFewEntities, SeesFew}
+use Rattle.seam_told.specs.Telling.{order_looks, node_looks, mine_looks, looks_left, most_shown}
+use Rattle.seam_told.proofs.Telling.{tells_at_most, sees_few_then}
 use Rattle.seam_base_rounds.specs.Parts.{HasPartsBetweenRounds, FitsParts}
 use Rattle.seam_base_rounds.proofs.Joining.{is_among, peopled, real_at, real_joined, real_peopled}
 use Rattle.seam_base_rounds.proofs.Attaching.{real_from}

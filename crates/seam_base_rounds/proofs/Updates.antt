@@ -15,8 +15,8 @@ use Rattle.seam_base_calls.specs.Clients.{FindsClient}
 use Rattle.seam_base_calls.proofs.ClientLeads.{client_leads}
 use Rattle.seam_base_calls.proofs.ClientRuns.{finds_client}
 use Rattle.seam_base_calls.proofs.StrayRuns.{base_burden_leads}
-use Rattle.seam_looks.specs.Telling.{IsToldNothing}
-use Rattle.seam_looks.proofs.Silent.{unseen_told_none}
+use Rattle.seam_told.specs.Telling.{IsToldNothing}
+use Rattle.seam_told.proofs.Silent.{unseen_told_none}
 use Rattle.seam_base_rounds.proofs.Serving.{Serves, bare, served, HasNumbers}
 
 module _ (f : Frame) (e ty : ℕ) (w v : World) (es : List Event) (run : LeadsTo node_has_work node_steps w es v) (frame : IsInFrame f w)

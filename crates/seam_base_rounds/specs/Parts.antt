@@ -26,7 +26,7 @@ use Rattle.seam_base_calls.specs.PartMoves.{base_call_of}
 use Rattle.seam_base_calls.specs.BaseTurns.{home_of, HasNoClient}
 use Rattle.seam_base_calls.specs.WitnessMoves.{sent_by}
 use Rattle.seam_base_calls.specs.Clients.{shown_in}
-use Rattle.seam_looks.specs.Telling.{most_entities, IsBlank, SeesFew}
+use Rattle.seam_told.specs.Telling.{most_entities, IsBlank, SeesFew}
 
 -- ---- the record
 

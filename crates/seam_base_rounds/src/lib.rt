@@ -6,7 +6,7 @@
 //! whether it was there before or the batch creates it, and whether it has a client or not.
 //!
 //! Of a client the record says that it is in step with its entity's witness: all that the witness told was shown, and nothing is on its
-//! way. Its numbers have room by what `seam_looks` says of what a witness tells: the record says that entities have numbers below a bound.
+//! way. Its numbers have room by what `seam_told` says of what a witness tells: the record says that entities have numbers below a bound.
 //!
 //! Of `proofs/`, `PartLoads` (what a load makes of a base part at a node), `Joining` and `Attaching` (of a witness and of a client),
 //! `Loaded` (and in the world), `Turns` (its calls), `Serving` (a client over a list of events), `Ticking` (how much it is told), `Updates`
@@ -40,7 +40,7 @@ ghost use Rattle.seam_between.specs.Between.{framed, IsBetweenRounds};
 ghost use Rattle.seam_rounds.specs.Rounds.{first_frame, AreReapable};
 ghost use Rattle.seam_base_calls.specs.BaseTurns.{home_of, HasBaseCalls, HasNoClient};
 ghost use Rattle.seam_base_calls.specs.Clients.{FindsClient};
-ghost use Rattle.seam_looks.specs.Telling.{IsToldNothing};
+ghost use Rattle.seam_told.specs.Telling.{IsToldNothing};
 ghost use Rattle.seam_base_calls.specs.Strays.{HasRoutes, NothingIsStray};
 ghost use Rattle.seam_base_rounds.specs.Parts.{next_to, base_calls_of, HasSettledPart, HasPartsBetweenRounds, MayBeLoaded, IsAlone};
 ghost use Rattle.seam_base_rounds.specs.Parts.{HasSmallNumbers};

@@ -47,11 +47,11 @@ use Rattle.seam_base_calls.specs.WitnessMoves.{sent_of, sent_by}
 use Rattle.seam_base_calls.specs.Clients.{EachReal, HasToldAtMost}
 use Rattle.seam_base_calls.proofs.BaseSilent.{sees_no_real, numbered_unreal, base_silent}
 use Rattle.seam_base_calls.proofs.WitnessKept.{OfReal, none_carried, each_weaker}
-use Rattle.seam_looks.specs.Telling.{most_entities, HasFewEntities, IsFewView, SeesFew, looks_left, most_shown}
-use Rattle.seam_looks.proofs.Below.{AllBelow, known_to_below, known_to_few, view_few, few_after_looks, looks_few, mapped_few}
-use Rattle.seam_looks.proofs.Absent.{absent_happens}
-use Rattle.seam_looks.proofs.Looking.{NotTaken, as_often, gone, ticked, LooksAt, Look, still, elsewhere, looks, cell_looks}
-use Rattle.seam_looks.proofs.LooksLeft.{looks_left_happens, looks_left_falls}
+use Rattle.seam_told.specs.Telling.{most_entities, HasFewEntities, IsFewView, SeesFew, looks_left, most_shown}
+use Rattle.seam_told.proofs.Below.{AllBelow, known_to_below, known_to_few, view_few, few_after_looks, looks_few, mapped_few}
+use Rattle.seam_told.proofs.Absent.{absent_happens}
+use Rattle.seam_told.proofs.Looking.{NotTaken, as_often, gone, ticked, LooksAt, Look, still, elsewhere, looks, cell_looks}
+use Rattle.seam_told.proofs.LooksLeft.{looks_left_happens, looks_left_falls}
 
 no_real : SeesNoGhost real_of
 no_real = record { sets = λ e n c. refl; drops = λ e n. refl }

@@ -29,9 +29,9 @@ use Rattle.seam_base_calls.specs.Clients.{EachReal}
 use Rattle.seam_base_calls.proofs.BaseSilent.{sees_no_update, base_silent}
 use Rattle.seam_base_calls.proofs.WitnessKept.{IsSeen, each_happens}
 use Rattle.seam_base_calls.proofs.WitnessSteps.{witness_moves}
-use Rattle.seam_looks.specs.Telling.{node_looks, mine_looks, looks_left, IsToldNothing}
-use Rattle.seam_looks.proofs.LooksLeft.{looks_left_happens}
-use Rattle.seam_looks.proofs.Telling.{event_fact}
+use Rattle.seam_told.specs.Telling.{node_looks, mine_looks, looks_left, IsToldNothing}
+use Rattle.seam_told.proofs.LooksLeft.{looks_left_happens}
+use Rattle.seam_told.proofs.Telling.{event_fact}
 
 -- the node's real has no witness that is to look
 abbrev NeverLooks : AtCell → Type 0

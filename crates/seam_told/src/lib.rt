@@ -15,7 +15,7 @@ ghost use Rattle.seam_steps.specs.Nodes.{World, node_steps, node_has_work};
 ghost use Rattle.seam_moves.specs.Frames.{Frame, IsInFrame};
 ghost use Rattle.seam_ones.specs.Ones.{IsFrame};
 ghost use Rattle.seam_base_calls.specs.Clients.{EachReal, HasToldAtMost};
-ghost use Rattle.seam_looks.specs.Telling.{HasFewEntities, SeesFew, looks_left, most_shown, IsToldNothing};
+ghost use Rattle.seam_told.specs.Telling.{HasFewEntities, SeesFew, looks_left, most_shown, IsToldNothing};
 
 /// In a world whose entities have numbers below the bound, an entity's witness tells at most so many updates for each look that is left of
 /// the ticks ordered, on their way, or come.

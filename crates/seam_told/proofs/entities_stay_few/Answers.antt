@@ -1,6 +1,6 @@
-use Rattle.seam_looks.proofs.Absent.{few_leads}
-use Rattle.seam_looks.proofs.Telling.{sees_few_then}
-use Rattle.seam_looks.proofs.entities_stay_few.Goals as goal
+use Rattle.seam_told.proofs.Absent.{few_leads}
+use Rattle.seam_told.proofs.Telling.{sees_few_then}
+use Rattle.seam_told.proofs.entities_stay_few.Goals as goal
 
 pub returns-clause-entities : goal.returns-clause-entities
 returns-clause-entities c = few_leads

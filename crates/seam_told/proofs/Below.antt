@@ -26,7 +26,7 @@ use Rattle.seam_entity.specs.Reals.{RealView}
 use Rattle.seam_steps.specs.Maps.{Map}
 use Rattle.seam_steps.specs.Looks.{Known, seen_as}
 use Rattle.seam_steps.specs.Cells.{CellView, known_real, known_copy, known_in, is_of_another, known_to}
-use Rattle.seam_looks.specs.Telling.{most_entities, IsFewView}
+use Rattle.seam_told.specs.Telling.{most_entities, IsFewView}
 
 -- ---- lengths
 

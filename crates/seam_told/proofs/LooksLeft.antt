@@ -41,8 +41,8 @@ use Rattle.seam_ones.proofs.Easing.{event_eases}
 use Rattle.seam_ones.proofs.Plain.{ghosts_silent, drops_silent, mapped_silent}
 use Rattle.seam_base_calls.specs.Clients.{tick_in}
 use Rattle.seam_base_calls.proofs.NoLooks.{no_tick}
-use Rattle.seam_looks.specs.Telling.{order_looks, letter_looks, has_looks, node_looks, mine_looks, looks_left}
-use Rattle.seam_looks.proofs.Looking.{LooksAt}
+use Rattle.seam_told.specs.Telling.{order_looks, letter_looks, has_looks, node_looks, mine_looks, looks_left}
+use Rattle.seam_told.proofs.Looking.{LooksAt}
 
 -- ---- what is sent
 

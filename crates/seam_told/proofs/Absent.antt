@@ -26,7 +26,7 @@ use Rattle.seam_moves.specs.Moves.{Moves, at_a_cell, at_a_base}
 use Rattle.seam_moves.proofs.Classify.{event_moves, frame_happens}
 use Rattle.seam_ones.specs.Ones.{real_in}
 use Rattle.seam_ones.proofs.Sparing.{items_all}
-use Rattle.seam_looks.specs.Telling.{IsBlank, BringsNone, IsAbsent, HasFewEntities}
+use Rattle.seam_told.specs.Telling.{IsBlank, BringsNone, IsAbsent, HasFewEntities}
 
 -- a drop makes no copy
 no_copy : (g : Option (Ghost GhostCopy)) (beat : ℕ) → copy_in g ≡ None → copy_in (ghost_after g (record { beat = beat; copy = None })) ≡ None
