@@ -1,5 +1,5 @@
 -- Clients between rounds: what each shows is what its witness remembers that it told.
-use Rattle.std.specs.Prelude.{◌≡◌, ℕ, ◌≤◌, Option, Some, option_map}
+use Rattle.std.specs.Prelude.{◌≡◌, ℕ, ◌≤◌, Some, option_map}
 use Rattle.std.specs.FinMap as table
 use Rattle.seam_view.specs.Replica.{IsView}
 use Rattle.seam_defs.specs.declared.states.State.{State}
