@@ -1,0 +1,5 @@
+pub mod Sorted
+pub mod Near
+pub mod Knowing
+pub mod Rows
+pub mod OneLook

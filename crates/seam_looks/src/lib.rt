@@ -1,0 +1,51 @@
+//! Quiet means shown: what one look of a witness tells its client in a world between rounds is one look at the flat table.
+//!
+//! `specs/Tables` has the flat table of a world, in which each entity is as its real is now, and `specs/Clients` the record of clients
+//! between rounds, beside those of reals (`seam_between`), base parts (`seam_base_rounds`), places (`seam_places`) and copies
+//! (`seam_newest`): each client shows what its witness remembers that it told. The look at a flat table and what lines leave of a client
+//! are those of `seam_replica`. (After the witness and the area of interest of the BigWorld Server Overview: a cell knows whom a witness
+//! in it may see, by the real or by the ghost.)
+//!
+//! Crates above cite these modules of `proofs`: `Sorted` (what is found in a list in rising number), `Near` (a look at a flat table
+//! depends on those that are near), `Knowing` (what a cell knows of an entity), `Rows` (the rows of a world), `OneLook` (a look).
+#![tactic(auto)]
+
+ghost use Rattle.std.specs.Prelude.{◌≡◌, ℕ, None, Some, slice_get};
+ghost use Rattle.seam_defs.specs.Settings.{GhostsReach};
+ghost use Rattle.seam_entity.specs.Reals.{RealView, WitnessView};
+ghost use Rattle.seam_steps.specs.Holders.{holders};
+ghost use Rattle.seam_steps.specs.Looks.{shown_of};
+ghost use Rattle.seam_steps.specs.Cells.{CellView, known_to};
+ghost use Rattle.seam_steps.specs.Nodes.{World};
+ghost use Rattle.seam_steps.specs.Nodes.NodeView.{Cell};
+ghost use Rattle.seam_moves.specs.Frames.{Frame, here_at};
+ghost use Rattle.seam_moves.specs.Sights.{entity_flow};
+ghost use Rattle.seam_ones.specs.Ones.{real_in};
+ghost use Rattle.seam_between.specs.Between.{IsBetweenRounds};
+ghost use Rattle.seam_places.specs.Places.{ArePlaced};
+ghost use Rattle.seam_newest.specs.Copies.{AreCopiesBetweenRounds};
+ghost use Rattle.seam_replica.specs.Clients.{ClientReplica};
+ghost use Rattle.seam_replica.specs.Looks.{row_of, one_look};
+ghost use Rattle.seam_looks.specs.Tables.{row_of_real, rows_of};
+ghost use Rattle.seam_looks.specs.Clients.{FitsWitness};
+
+/// The flat table of a world between rounds has the row of each real, and no row of an entity that has none.
+pub fn the_table_has_each_real()
+    ensures there { (f : Frame) (w : World) → IsBetweenRounds f w → (e k : ℕ) (r : RealView) →
+        real_in ((entity_flow e w).slot k) ≡ Some r → row_of (rows_of w) e ≡ Some (row_of_real (here_at f k) (e, r)) }
+    ensures none { (f : Frame) (w : World) → IsBetweenRounds f w → (e : ℕ) → holders w e ≡ 0 → row_of (rows_of w) e ≡ None }
+{}
+
+/// In a world between rounds, with its copies and its places, and where ghosts reach as far as a witness sees, what the witness of an
+/// entity tells in a look, by what its cell knows of others, is one look of its client at the flat table. Whoever is near is known there,
+/// by the real or by the present copy, and both show the same; nothing known is older than what was shown.
+pub fn a_look_is_one_look_at_the_table()
+    ensures { (f : Frame) (w : World) → IsBetweenRounds f w → AreCopiesBetweenRounds f w → ArePlaced f w → GhostsReach f.settings →
+        (e k : ℕ) (r : RealView) → real_in ((entity_flow e w).slot k) ≡ Some r → (v : WitnessView) → (c : ClientReplica) →
+        FitsWitness f w r v c → (cell : CellView) → slice_get w.nodes k ≡ Some (Cell cell) →
+        shown_of cell.here r v (known_to cell e) ≡ one_look c e (rows_of w) }
+{
+    seam_places::who_may_be_seen_is_known();
+    seam_defs::laws::others_see_the_ghost();
+    seam_view::looks_are_plain();
+}
