@@ -9,7 +9,7 @@ use Rattle.seam_geo.specs.Rect.{IsProper}
 use Rattle.seam_tree.specs.Division.{area, cut_after, IsTree}
 use Rattle.seam_defs.specs.Builtin.{builtin}
 use Rattle.seam_defs.specs.Settings.{standard}
-use Rattle.seam_machine.specs.Nets.{LeadsTo}
+use Rattle.seam_machine.specs.Nets.{IsQuiet, LeadsTo}
 use Rattle.seam_delivery.specs.Numbered.{number_from}
 use Rattle.seam_call.specs.declared.order.Order.TheVariants as order
 use Rattle.seam_entity.specs.Orders.{order_or}
@@ -18,12 +18,11 @@ use Rattle.seam_entity.specs.Numbers.{may_rise}
 use Rattle.seam_steps.specs.Holders.{holders}
 use Rattle.seam_steps.specs.Nodes.{NodeView, node_steps, node_has_work}
 use Rattle.seam_steps.specs.Loads.{one_cell, loaded}
-use Rattle.seam_steps.specs.Rows.{empty_world, idle}
+use Rattle.seam_steps.specs.Rows.{empty_world, idle, IsRow}
 use Rattle.seam_steps.specs.Rows as rows
 use Rattle.seam_steps.specs.LateGhost.{three_cells, batch, made, moved_on, at_home, left, away, heard, base_16, base_17, new_parts}
 use Rattle.seam_steps.specs.LateGhost.{with_cells, world_0, world_14, steps, move_1, move_2}
 use Rattle.seam_steps.proofs.Tables.{computing}
-use Rattle.seam_steps.proofs.Late.{load, row, quiet}
 use Rattle.seam_moves.specs.Frames.{Frame}
 use Rattle.seam_moves.specs.Sights.{Has, has_of, entity_flow}
 use Rattle.seam_ones.specs.Example.{events_of}
@@ -134,11 +133,6 @@ one_first : holders world_0 1 ≡ 1
 unfolding world_0
 one_first = simp computing
 
-known : (e : ℕ) → Some 1 ≡ Some e → holders (loaded empty_world batch) e ≡ 1
-known e is =
-    let same : 1 ≡ e = cc in
-    subst (λ x. holders (loaded empty_world batch) x ≡ 1) same (ap (λ w. holders w 1) load ∙ one_first)
-
 from_one : (s : ℕ) → next_from s made ≡ 1
 from_one s = ap (λ o. (order_or o).next) (table.get-empty nat_cmp s)
 
@@ -182,51 +176,11 @@ for_made = record { fit = (λ e. refl, (λ e. refl, tt)); numbered = numbered }
 no_real : (e k : ℕ) (r : RealView) → real_in ((entity_flow e empty_world).slot k) ≡ Some r → ⊥
 no_real e k r at = let z = sym (opened_has_none builtin standard first_is (omega arith) e k) ∙ at in cc
 
-pub opened_fits : IsFitting first empty_world batch
-unfolding IsDistinct
-opened_fits = record {
-  tree = three_are_tree;
-  space = refl;
-  cells = omega arith;
-  creates = (
-    record {
-      new = opened_is_new builtin standard first_is (omega arith) 1;
-      type = omega arith;
-      inside = refl;
-    },
-    tt,
-  );
-  once = (tt, tt);
-  clients = tt;
-  unseen = tt;
-  one_each = tt;
-  destroys = tt;
-  ends_once = tt;
-  spares = (refl, (refl, tt));
-  known = (known, (known, tt));
-  calls = λ e k r at.
-      let is = is_made e k r (ap (λ w. real_in ((entity_flow e w).slot k)) (sym load) ∙ at) in
-      subst (λ x. IsForReal first batch x r) (sym is.0) (subst (IsForReal first batch 1) is.1 for_made);
-  few = omega arith;
-  small = λ e k r at. absurd (no_real e k r at);
-}
-
--- ---- the run
-
 pub between : IsBetweenRounds first empty_world
 between = opened_between builtin standard first_is (omega arith)
 
 copies : AreCopiesBetweenRounds first empty_world
 copies = opened_copied builtin standard first_is (omega arith)
-
-pub run : LeadsTo node_has_work node_steps (loaded empty_world batch) (events_of steps) world_14
-run = subst (λ w. LeadsTo node_has_work node_steps w (events_of steps) world_14) (sym load) (row_leads 1 1 world_0 steps row)
-
-pub ends_between : IsBetweenRounds (framed first batch) world_14
-ends_between = calls_end_between first empty_world batch between opened_fits world_14 (events_of steps) run quiet
-
-pub ends_copied : AreCopiesBetweenRounds (framed first batch) world_14
-ends_copied = calls_end_copied first empty_world batch between opened_fits copies world_14 (events_of steps) run quiet
 
 pub has_copy : copy_at 1 world_14 0 ≡ Some (rows.copy_at 2 5100 4000)
 unfolding world_14
@@ -250,3 +204,49 @@ moved_near zero low apart close = simp computing
 moved_near (suc zero) low apart close = absurd (apart refl)
 moved_near (suc (suc zero)) low apart close = absurd (omega (arith, close))
 moved_near (suc (suc (suc k))) low apart close = absurd (omega (arith, low))
+
+-- ---- with its load and its run
+
+module _ (load : loaded empty_world batch ≡ world_0) (row : IsRow 1 1 world_0 steps) (quiet : IsQuiet node_has_work world_14) where
+  known : (e : ℕ) → Some 1 ≡ Some e → holders (loaded empty_world batch) e ≡ 1
+  known e is =
+      let same : 1 ≡ e = cc in
+      subst (λ x. holders (loaded empty_world batch) x ≡ 1) same (ap (λ w. holders w 1) load ∙ one_first)
+
+  pub opened_fits : IsFitting first empty_world batch
+  unfolding IsDistinct
+  opened_fits = record {
+    tree = three_are_tree;
+    space = refl;
+    cells = omega arith;
+    creates = (
+      record {
+        new = opened_is_new builtin standard first_is (omega arith) 1;
+        type = omega arith;
+        inside = refl;
+      },
+      tt,
+    );
+    once = (tt, tt);
+    clients = tt;
+    unseen = tt;
+    one_each = tt;
+    destroys = tt;
+    ends_once = tt;
+    spares = (refl, (refl, tt));
+    known = (known, (known, tt));
+    calls = λ e k r at.
+        let is = is_made e k r (ap (λ w. real_in ((entity_flow e w).slot k)) (sym load) ∙ at) in
+        subst (λ x. IsForReal first batch x r) (sym is.0) (subst (IsForReal first batch 1) is.1 for_made);
+    few = omega arith;
+    small = λ e k r at. absurd (no_real e k r at);
+  }
+
+  pub run : LeadsTo node_has_work node_steps (loaded empty_world batch) (events_of steps) world_14
+  run = subst (λ w. LeadsTo node_has_work node_steps w (events_of steps) world_14) (sym load) (row_leads 1 1 world_0 steps row)
+
+  pub ends_between : IsBetweenRounds (framed first batch) world_14
+  ends_between = calls_end_between first empty_world batch between opened_fits world_14 (events_of steps) run quiet
+
+  pub ends_copied : AreCopiesBetweenRounds (framed first batch) world_14
+  ends_copied = calls_end_copied first empty_world batch between opened_fits copies world_14 (events_of steps) run quiet

@@ -281,58 +281,58 @@ module _ (f : Frame) (e : ℕ) (w v : World) {Moves : ℕ → Has → Option Msg
     module _ (q : RealView) (changed : Bool) (j : ℕ) (apart : j ≡ g.k → ⊥) (at : p ≡ In g.k) (acts : Executes f r q changed)
         (book : book_entry t ≡ greater_entry (book_entry s) (Some (left_entry f g.k j q)))
         (z : sent ≡ told_going f g.k j q changed ++ (j, Hand (going f g.k j q)) ∷ []) where
-      abbrev gone_as : RealView
-      gone_as = going f g.k j q
+      abbrev handed : RealView
+      handed = going f g.k j q
 
-      abbrev left_ms : List (ℕ × Msg)
-      left_ms = told_going f g.k j q changed
+      abbrev news : List (ℕ × Msg)
+      news = told_going f g.k j q changed
 
-      left_unseen : IsSilent real_of left_ms
-      left_unseen = ghosts_silent real_of reals_unseen (here_at f g.k) q j (haunts_going f g.k j q) changed
+      news_unseen : IsSilent real_of news
+      news_unseen = ghosts_silent real_of reals_unseen (here_at f g.k) q j (haunts_going f g.k j q) changed
 
-      sends : SendsOne real_of g.out j gone_as
+      sends : SendsOne real_of g.out j handed
       sends = record {
         here =
             ap (letters_of real_of) (items j ∙ ap (items_to j) z)
-            ∙ (sees_after_silent real_of j left_ms ((j, Hand gone_as) ∷ []) left_unseen ∙ sees_one_here real_of j (Hand gone_as));
+            ∙ (sees_after_silent real_of j news ((j, Hand handed) ∷ []) news_unseen ∙ sees_one_here real_of j (Hand handed));
         others = λ x n.
             ap (letters_of real_of) (items x ∙ ap (items_to x) z)
-            ∙ (sees_after_silent real_of x left_ms ((j, Hand gone_as) ∷ []) left_unseen ∙ sees_one_there real_of j x (Hand gone_as) n);
+            ∙ (sees_after_silent real_of x news ((j, Hand handed) ∷ []) news_unseen ∙ sees_one_there real_of j x (Hand handed) n);
       }
 
-      more : r.beat < gone_as.beat
+      more : r.beat < handed.beat
       more = let same = executes_beat f r q changed acts in omega (arith, same)
 
-      goal : set.contains gone_as.haunts j ≡ false
+      goal : set.contains handed.haunts j ≡ false
       goal = no_haunt_at_home (here_at f g.k) f.tree q.state.pos j (set.insert q.haunts g.k)
 
-      out : (k : ℕ) → g.out k ≡ items_to k left_ms ++ items_to k ((j, Hand gone_as) ∷ [])
-      out k = items k ∙ (ap (items_to k) z ∙ items_to-append k left_ms ((j, Hand gone_as) ∷ []))
+      out : (k : ℕ) → g.out k ≡ items_to k news ++ items_to k ((j, Hand handed) ∷ [])
+      out k = items k ∙ (ap (items_to k) z ∙ items_to-append k news ((j, Hand handed) ∷ []))
 
-      left_told : (k : ℕ) → k < cell_count → k ≡ g.k → IsTold f e v gone_as k
+      left_told : (k : ℕ) → k < cell_count → k ≡ g.k → IsTold f e v handed k
       left_told k low is =
-          let none_out : g.out k ≡ [] = out k ∙ (ap (λ l. l ++ items_to k ((j, Hand gone_as) ∷ [])) (ap (λ x. items_to x left_ms) is
-          ∙ none_here f g.k q j (haunts_going f g.k j q) changed) ∙ one_there j k (Hand gone_as) (λ x. apart (sym x ∙ is))) in
-          let now : book_entry (after.slot k) ≡ (gone_as.beat, wanted f gone_as k) =
-          subst (λ x. book_entry (after.slot x) ≡ (gone_as.beat, wanted f gone_as x)) (sym is)
-          (book ∙ taken_comes gone_as.beat (wanted f gone_as g.k) (book_entry s)
-          (under g.k (subst (IsTold f e w r) is (told.cells k low)) gone_as.beat more (wanted f gone_as g.k))) in
-          new_told r gone_as (omega (arith, more)) k (told.cells k low) more
-          (λ x. subst (NotAbove gone_as.beat (wanted f gone_as k)) (sym now) (inr (refl, refl)))
-          (subst (AllBring brings (NotAbove gone_as.beat (wanted f gone_as k))) (sym none_out) tt) (inl now)
+          let none_out : g.out k ≡ [] = out k ∙ (ap (λ l. l ++ items_to k ((j, Hand handed) ∷ [])) (ap (λ x. items_to x news) is
+          ∙ none_here f g.k q j (haunts_going f g.k j q) changed) ∙ one_there j k (Hand handed) (λ x. apart (sym x ∙ is))) in
+          let now : book_entry (after.slot k) ≡ (handed.beat, wanted f handed k) =
+          subst (λ x. book_entry (after.slot x) ≡ (handed.beat, wanted f handed x)) (sym is)
+          (book ∙ taken_comes handed.beat (wanted f handed g.k) (book_entry s)
+          (under g.k (subst (IsTold f e w r) is (told.cells k low)) handed.beat more (wanted f handed g.k))) in
+          new_told r handed (omega (arith, more)) k (told.cells k low) more
+          (λ x. subst (NotAbove handed.beat (wanted f handed k)) (sym now) (inr (refl, refl)))
+          (subst (AllBring brings (NotAbove handed.beat (wanted f handed k))) (sym none_out) tt) (inl now)
 
-      goal_told : (k : ℕ) → k < cell_count → k ≡ j → (k ≡ g.k → ⊥) → IsTold f e v gone_as k
+      goal_told : (k : ℕ) → k < cell_count → k ≡ j → (k ≡ g.k → ⊥) → IsTold f e v handed k
       goal_told k low is other =
-          let one_out : g.out k ≡ Hand gone_as ∷ [] = out k ∙ (ap (λ x. items_to x left_ms ++ items_to x ((j, Hand gone_as) ∷ [])) is
-          ∙ (ap (λ l. l ++ items_to j ((j, Hand gone_as) ∷ [])) (none_there (here_at f g.k) q j (haunts_going f g.k j q) changed
-          (subst (λ x. x < cell_count) is low)) ∙ one_here j (Hand gone_as))) in
-          let none : set.contains gone_as.haunts k ≡ false = ap (set.contains gone_as.haunts) is ∙ goal in
-          sent_told r gone_as (omega (arith, more)) k (told.cells k low) (λ x. other (sym x)) more (Hand gone_as) one_out
-          (ap (λ b. Some (gone_as.beat, copy_if b (present f gone_as))) (sym none))
+          let one_out : g.out k ≡ Hand handed ∷ [] = out k ∙ (ap (λ x. items_to x news ++ items_to x ((j, Hand handed) ∷ [])) is
+          ∙ (ap (λ l. l ++ items_to j ((j, Hand handed) ∷ [])) (none_there (here_at f g.k) q j (haunts_going f g.k j q) changed
+          (subst (λ x. x < cell_count) is low)) ∙ one_here j (Hand handed))) in
+          let none : set.contains handed.haunts k ≡ false = ap (set.contains handed.haunts) is ∙ goal in
+          sent_told r handed (omega (arith, more)) k (told.cells k low) (λ x. other (sym x)) more (Hand handed) one_out
+          (ap (λ b. Some (handed.beat, copy_if b (present f handed))) (sym none))
 
       departed : real_in s ≡ Some r → real_in t ≡ None → carried_in real_of i ≡ None → After
       departed has real none =
-          here (On g.k j) gone_as (sole_goes real_in real_of Any g p r one (leaves r gone_as j has real (inr tt) none sends))
+          here (On g.k j) handed (sole_goes real_in real_of Any g p r one (leaves r handed j has real (inr tt) none sends))
           (record {
             away = goal;
             cells = λ k low. elim (cases_eq k g.k) [
@@ -340,9 +340,9 @@ module _ (f : Frame) (e : ℕ) (w v : World) {Moves : ℕ → Has → Option Msg
               | inr other ↦ elim (cases_eq k j) [
                 | inl is ↦ goal_told k low is other
                 | inr n ↦
-                    gets_told r gone_as (omega (arith, more)) k (told.cells k low) (λ x. other (sym x)) (q.beat + 1)
-                    (set.contains q.haunts k) changed (items_to k left_ms)
-                    (out k ∙ (ap (λ l. items_to k left_ms ++ l) (one_there j k (Hand gone_as) n) ∙ append-nil (items_to k left_ms)))
+                    gets_told r handed (omega (arith, more)) k (told.cells k low) (λ x. other (sym x)) (q.beat + 1)
+                    (set.contains q.haunts k) changed (items_to k news)
+                    (out k ∙ (ap (λ l. items_to k news ++ l) (one_there j k (Hand handed) n) ∙ append-nil (items_to k news)))
                     (ap (λ h. set.contains h k) (executes_haunts f r q changed acts)) (executes_unseen f r q changed acts)
                     (λ m got. (refl, more)) (gets (here_at f g.k) q j (haunts_going f g.k j q) changed k low other n)
               ]

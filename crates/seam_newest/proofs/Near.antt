@@ -1,7 +1,7 @@
 -- What is near a cell is known there, where haunts have the present copies.
 use Rattle.std.proofs.lemmas.Bool.Decides.{nat_tests}
 use Rattle.std.proofs.Common.{Bool, true, false, cond, nat_le, refl, subst}
-use Rattle.std.proofs.Common.{◌≡◌, ℕ, ◌+◌, ◌<◌, ◌≤◌, ◌⊎◌, Some, sym, ap, ◌∙◌, arith, inl, inr}
+use Rattle.std.proofs.Common.{◌≡◌, ℕ, ◌+◌, ◌<◌, ◌≤◌, ◌⊎◌, ◌↔◌, IsTrue, Some, sym, ap, ◌∙◌, arith, inl, inr}
 use Rattle.std.specs.FinSet as set
 use Rattle.std.proofs.lemmas.Bool.{cases_eq}
 use Rattle.seam_geo.specs.declared.pos.Pos.{Pos}
@@ -10,8 +10,7 @@ use Rattle.seam_geo.specs.Rect.{Area, Holds, distance_to}
 use Rattle.seam_tree.specs.Division.{Division, area, cells_of, leaf_at, IsTree, IsInSpace}
 use Rattle.seam_tree.proofs.Areas.{leaf_at_is}
 use Rattle.seam_haunt.specs.Haunts.{distance_to_cell}
-use Rattle.seam_haunt.specs.Places.{Distances, Place, home_at, settled}
-use Rattle.seam_haunt.proofs.Settling.{ghosts_settled}
+use Rattle.seam_haunt.specs.Places.{Distances, Place, home_at, settled, HasGhost}
 use Rattle.seam_defs.specs.Settings.{GhostsReach}
 use Rattle.seam_entity.specs.Reals.{RealView}
 use Rattle.seam_steps.specs.Settle.{copy_if}
@@ -50,12 +49,17 @@ module _ (f : Frame) where
     far = f.settings.ghost_distance + f.settings.ghost_hysteresis;
   }
 
+  -- which cells have a ghost in a place that is settled
+  abbrev Ghosts : Type 0
+  Ghosts = (d : Distances) (t : Division) (was : Place) (p : Pos) (c : ℕ) → IsTrue (set.contains (settled d t was p).ghosts c)
+      ↔ HasGhost d t was p c
+
   -- a place that stays where it is settled again has a ghost in each cell near enough
-  pub placed_haunts_near : (home : ℕ) (r : RealView) → (let was : Place = record { home = home; ghosts = r.haunts } in
+  pub placed_haunts_near : Ghosts → (home : ℕ) (r : RealView) → (let was : Place = record { home = home; ghosts = r.haunts } in
       settled kept_at f.tree was r.state.pos ≡ was) → HauntsAllNear f home r
-  placed_haunts_near home r is k low apart close =
+  placed_haunts_near ghosts home r is k low apart close =
       let was : Place = record { home = home; ghosts = r.haunts } in
-      let held = (ghosts_settled kept_at f.tree was r.state.pos k).1 (record {
+      let held = (ghosts kept_at f.tree was r.state.pos k).1 (record {
         there = low;
         away = λ at. apart (at ∙ ap (λ (p : Place). p.home) is);
         close = inl close;

@@ -156,6 +156,7 @@ pub fn near_entities_are_known()
         (k ≡ home) ⊎ (copy_at e v k ≡ Some (present f r)) }
 {
     seam_geo::triangle_inequality();
+    seam_haunt::places_are_settled();
 }
 
 /// What these laws ask is true of an opened world and a worked batch (`seam_steps`: "a late ghost message"), which creates an entity near
@@ -171,4 +172,6 @@ pub fn a_worked_round_keeps_the_records()
     ensures present { copy_at 1 late.world_14 0 ≡ Some (row.copy_at 2 5100 4000) }
     ensures near { HauntsAllNear (framed (first_frame builtin standard) late.batch) 1 late.moved_on }
     ensures reapable { AreReapable late.world_14 (1 ∷ []) }
-{}
+{
+    seam_steps::rows::a_late_ghost_message_is_ignored();
+}

@@ -2,7 +2,7 @@ use Rattle.seam_newest.proofs.Near.{kept_near, placed_haunts_near, known_near}
 use Rattle.seam_newest.proofs.near_entities_are_known.Goals as goal
 
 pub returns-clause-placed : goal.returns-clause-placed
-returns-clause-placed c = placed_haunts_near
+returns-clause-placed c = λ f. placed_haunts_near f c.places_are_settled.ensures.ghosts
 
 pub returns-clause-kept : goal.returns-clause-kept
 returns-clause-kept c = kept_near
