@@ -32,7 +32,7 @@ use Rattle.seam_between.specs.Between.{AreNumbered, IsForReal, IsBetweenRounds, 
 use Rattle.seam_rounds.specs.Rounds.{first_frame, AreReapable}
 use Rattle.seam_rounds.proofs.Opened.{opened_is_new, opened_has_none, opened_between}
 use Rattle.seam_rounds.proofs.CallsEnd.{calls_end_between}
-use Rattle.seam_newest.specs.Copies.{copy_at, AreCopiesBetweenRounds, HauntsAllNear}
+use Rattle.seam_newest.specs.Copies.{copy_at, AreCopiesBetweenRounds}
 use Rattle.seam_newest.proofs.Rounding.{calls_end_copied}
 use Rattle.seam_newest.proofs.Ending.{opened_copied}
 
@@ -197,13 +197,6 @@ reapable = record {
   once = (tt, tt);
   small = λ e k r at. subst (λ (x : RealView). may_rise x.beat ≡ true) (is_moved e k r at).1 refl;
 }
-
--- the cell that is near enough is a haunt of it
-pub moved_near : HauntsAllNear (framed first batch) 1 moved_on
-moved_near zero low apart close = simp computing
-moved_near (suc zero) low apart close = absurd (apart refl)
-moved_near (suc (suc zero)) low apart close = absurd (omega (arith, close))
-moved_near (suc (suc (suc k))) low apart close = absurd (omega (arith, low))
 
 -- ---- with its load and its run
 

@@ -7,5 +7,4 @@ pub mod Rounding
 pub mod Phasing
 pub mod Ending
 pub mod Routing
-pub mod Near
 pub mod ExampleCopies

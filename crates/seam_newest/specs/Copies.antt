@@ -1,8 +1,6 @@
 -- Copies of an entity: what its real wants each cell to have of it, and that each cell is told so.
-use Rattle.std.specs.Prelude.{◌≡◌, ℕ, ◌<◌, ◌≤◌, true, false, Option, None, Some}
+use Rattle.std.specs.Prelude.{◌≡◌, ℕ, ◌<◌, ◌≤◌, false, Option, None, Some}
 use Rattle.std.specs.FinSet as set
-use Rattle.seam_tree.specs.Division.{cells_of}
-use Rattle.seam_haunt.specs.Haunts.{distance_to_cell}
 use Rattle.seam_flows.specs.Newest.{Newest}
 use Rattle.seam_flows.specs.Tokens.{Place, In, On}
 use Rattle.seam_call.specs.declared.shown.GhostCopy.{GhostCopy}
@@ -79,8 +77,3 @@ pub record AreCopiesBetweenRounds (f : Frame) (w : World) : Type 0 where
   pub none : (e : ℕ) → holders w e ≡ 0 → (k : ℕ) → k < cell_count → copy_at e w k ≡ None
 
 -- ---- what is near
-
--- each cell of the tree but the real's own, `home`, within the ghost distance of the real's position is one of its haunts
-abbrev pub HauntsAllNear : Frame → ℕ → RealView → Type 0
-HauntsAllNear f home r = (k : ℕ) → k < cells_of f.tree → (k ≡ home → ⊥) → distance_to_cell f.tree k r.state.pos ≤ f.settings.ghost_distance
-    → set.contains r.haunts k ≡ true

@@ -7,16 +7,12 @@
 //!
 //! Crates above cite these modules of `proofs`: `Telling` (what a settling tells a cell), `Moving` (a move), `Still` (where nothing is on
 //! its way), `Running` (every list of events), `Loading` (what a load leaves of copies), `Rounding`, `Phasing` and `Ending` (each phase),
-//! `Routing` (routes), `Near` (what is near).
+//! `Routing` (routes).
 #![tactic(auto)]
 
 ghost use Rattle.std.specs.Prelude.{◌≡◌, ℕ, ◌<◌, ◌+◌, ◌≤◌, ◌⊎◌, List, [], ◌∷◌, length, None, Some};
 ghost use Rattle.std.specs.List.{AllByRecursion};
-ghost use Rattle.seam_geo.specs.declared.pos.Pos.{Pos};
 ghost use Rattle.seam_geo.specs.Pos.{distance};
-ghost use Rattle.seam_tree.specs.Division.{Division, cells_of, IsTree, IsInSpace};
-ghost use Rattle.seam_haunt.specs.Haunts.{distance_to_cell};
-ghost use Rattle.seam_haunt.specs.Places.{home_at, settled};
 ghost use Rattle.seam_machine.specs.Nets.{IsQuiet, LeadsTo};
 ghost use Rattle.seam_machine.specs.declared.machines.Event.{Event};
 ghost use Rattle.seam_flows.specs.Tokens.{Place, In};
@@ -42,7 +38,8 @@ ghost use Rattle.seam_between.specs.Between.{IsBetweenRounds, IsFitting, framed}
 ghost use Rattle.seam_rounds.specs.Rounds.{first_frame, AreReapable};
 ghost use Rattle.seam_rounds.specs.Routes.{IsKnownAt};
 ghost use Rattle.seam_truths.specs.Truths.{IsTrue, IsHushed};
-ghost use Rattle.seam_newest.specs.Copies.{present, copy_at, AreTold, IsForgotten, AreSettled, AreCopiesBetweenRounds, HauntsAllNear};
+ghost use Rattle.seam_places.specs.Places.{ArePlaced};
+ghost use Rattle.seam_newest.specs.Copies.{present, copy_at, AreTold, IsForgotten, AreSettled, AreCopiesBetweenRounds};
 
 /// Where nothing about an entity is on its way and cells have what its real wants, each cell is told what the real wants after every list
 /// of events. So it is in a round, for each entity of the loaded world, whether it was there before or the batch creates it; and each cell
@@ -136,27 +133,16 @@ pub fn no_cell_keeps_a_copy_of_the_reaped()
         holders u e ≡ 1 → AllByRecursion (λ x. x ≡ e → ⊥) es → (k : ℕ) → k < cell_count → copy_at e v k ≡ copy_at e u k }
 {}
 
-/// A real whose place stays what it is when it is settled again has a haunt in each cell near enough, and its own cell is as near as a cell
-/// that keeps an entity. So where the record of copies holds, a cell has the real or the present copy of each entity that a witness there
-/// may have in view: by the settings ghosts reach as far as a view and the way from a cell to an entity that it keeps.
+/// So where the records of places and of copies are kept, and ghosts reach as far as a witness sees, the cell of an entity has the real or
+/// the present copy of each entity within the view's radius and hysteresis of it.
 pub fn near_entities_are_known()
-    ensures placed { (f : Frame) (home : ℕ) (r : RealView) → settled
-        (record {
-          kept = f.settings.offload_hysteresis;
-          near = f.settings.ghost_distance;
-          far = f.settings.ghost_distance + f.settings.ghost_hysteresis;
-        }) f.tree (record { home = home; ghosts = r.haunts }) r.state.pos
-        ≡ record { home = home; ghosts = r.haunts } → HauntsAllNear f home r }
-    ensures kept { (kept : ℕ) (t : Division) (home : ℕ) (p : Pos) → IsTree t → IsInSpace t p → home_at kept t home p ≡ home →
-        distance_to_cell t home p ≤ kept }
-    ensures known { (f : Frame) → IsFrame f → (v : World) → AreCopiesBetweenRounds f v → GhostsReach f.settings → (e home : ℕ)
-        (r : RealView) → real_in ((entity_flow e v).slot home) ≡ Some r → HauntsAllNear f home r → (k : ℕ) (p : Pos) →
-        k < cells_of f.tree → distance_to_cell f.tree k p ≤ f.settings.offload_hysteresis →
-        distance r.state.pos p ≤ f.settings.view_radius + f.settings.view_hysteresis →
-        (k ≡ home) ⊎ (copy_at e v k ≡ Some (present f r)) }
+    ensures { (f : Frame) (w : World) → IsBetweenRounds f w → ArePlaced f w → AreCopiesBetweenRounds f w → GhostsReach f.settings →
+        (e i : ℕ) (r : RealView) → real_in ((entity_flow e w).slot i) ≡ Some r → (x j : ℕ) (q : RealView) →
+        real_in ((entity_flow x w).slot j) ≡ Some q →
+        distance q.state.pos r.state.pos ≤ f.settings.view_radius + f.settings.view_hysteresis →
+        (i ≡ j) ⊎ (copy_at x w i ≡ Some (present f q)) }
 {
-    seam_geo::triangle_inequality();
-    seam_haunt::places_are_settled();
+    seam_places::who_may_be_seen_is_known();
 }
 
 /// What these laws ask is true of an opened world and a worked batch (`seam_steps`: "a late ghost message"), which creates an entity near
@@ -170,7 +156,6 @@ pub fn a_worked_round_keeps_the_records()
     ensures ends { IsBetweenRounds (framed (first_frame builtin standard) late.batch) late.world_14 }
     ensures copies { AreCopiesBetweenRounds (framed (first_frame builtin standard) late.batch) late.world_14 }
     ensures present { copy_at 1 late.world_14 0 ≡ Some (row.copy_at 2 5100 4000) }
-    ensures near { HauntsAllNear (framed (first_frame builtin standard) late.batch) 1 late.moved_on }
     ensures reapable { AreReapable late.world_14 (1 ∷ []) }
 {
     seam_steps::rows::a_late_ghost_message_is_ignored();

@@ -1,4 +1,4 @@
-use Rattle.seam_newest.proofs.ExampleCopies.{between, opened_fits, run, ends_between, ends_copied, has_copy, moved_near, reapable}
+use Rattle.seam_newest.proofs.ExampleCopies.{between, opened_fits, run, ends_between, ends_copied, has_copy, reapable}
 use Rattle.seam_newest.proofs.a_worked_round_keeps_the_records.Goals as goal
 
 pub returns-clause-between : goal.returns-clause-between
@@ -29,9 +29,6 @@ returns-clause-copies c =
 
 pub returns-clause-present : goal.returns-clause-present
 returns-clause-present c = has_copy
-
-pub returns-clause-near : goal.returns-clause-near
-returns-clause-near c = moved_near
 
 pub returns-clause-reapable : goal.returns-clause-reapable
 returns-clause-reapable c = reapable
