@@ -8,14 +8,15 @@ use Rattle.seam_tree.specs.Division.{Division, IsTree}
 use Rattle.seam_ghosts.specs.declared.Ghost.{Ghost}
 use Rattle.seam_ghosts.specs.Book.{BookView, beat_of, with_ghost, after_message, ghost_after}
 use Rattle.seam_machine.specs.declared.machines.Input.TheVariants.{From}
+use Rattle.seam_call.specs.declared.call.Call.{Call as CallData}
 use Rattle.seam_call.specs.declared.shown.GhostCopy.{GhostCopy}
 use Rattle.seam_entity.specs.Reals.{RealView}
-use Rattle.seam_entity.specs.declared.message.Msg.TheVariants.{GhostSet, GhostDrop}
+use Rattle.seam_entity.specs.declared.message.Msg.TheVariants.{GhostSet, GhostDrop, Call as CallTo}
 use Rattle.seam_entity.specs.Numbers.{is_small}
 use Rattle.seam_entity.specs.Here.{Here, cell_count}
 use Rattle.seam_steps.specs.Maps.{Map, set_at, number_of}
-use Rattle.seam_steps.specs.Slots.{unless_stray}
-use Rattle.seam_steps.specs.CellCases.{ghost_set, ghost_drop, stray_ghost_set}
+use Rattle.seam_steps.specs.Slots.{NextPlace, SlotStep, unless_stray}
+use Rattle.seam_steps.specs.CellCases.{ghost_set, ghost_drop, stray_ghost_set, stray_call, call, call_next_place, slot_steps}
 use Rattle.seam_steps.specs.Cells.{CellView, slot_of, stepped, cell_steps, real_is_ready, has_witness}
 use Rattle.seam_steps.proofs.Slots.{set_at-same}
 use Rattle.seam_cell.specs.Kept.{marked, IsKept}
@@ -70,6 +71,41 @@ pub stray_set : (c : CellView) (from e beat : ℕ) (copy : GhostCopy) → stray_
     c ≡ (cell_steps c (From from (GhostSet e beat copy))).state
 stray_set c from e beat copy stray =
     ap (λ b. (stepped c e (unless_stray b (ghost_set (slot_of c e) beat copy (table.get c.reals e)))).state) (sym stray)
+
+-- ---- a call whose real is not here
+
+module _ (c : CellView) (from : ℕ) (k : CallData) (gone : is_some (table.get c.reals k.entity) ≡ false) where
+  without_real : (o : Option RealView) → is_some o ≡ false → o ≡ None
+  without_real None e = refl
+  without_real (Some r) e = cc
+
+  Slotted : Option RealView → Option NextPlace → SlotStep
+  Slotted o n = unless_stray (stray_call c.here k o n) (call c.here c.tree (record (slot_of c k.entity) { next = n }) k o)
+
+  passed_step : (n : Option NextPlace) → Slotted None n ≡ call_next_place k n
+  unfolding Slotted
+  passed_step None = refl
+  passed_step (Some n) = refl
+
+  passed_slot : slot_steps c.here c.tree (slot_of c k.entity) (CallTo k) ≡ call_next_place k (table.get c.nexts k.entity)
+  unfolding Slotted
+  passed_slot =
+      ap (λ o. Slotted o (table.get c.nexts k.entity)) (without_real (table.get c.reals k.entity) gone)
+      ∙ passed_step (table.get c.nexts k.entity)
+
+  rests_there : (n : Option NextPlace) → (stepped c k.entity (call_next_place k n)).state ≡ c
+  rests_there None = refl
+  rests_there (Some n) = refl
+
+  pub passed_state : (cell_steps c (From from (CallTo k))).state ≡ c
+  passed_state = ap (λ t. (stepped c k.entity t).state) passed_slot ∙ rests_there (table.get c.nexts k.entity)
+
+  pub passed_none : table.get c.nexts k.entity ≡ None → (cell_steps c (From from (CallTo k))).sent ≡ []
+  passed_none e = ap (λ t. t.sent) passed_slot ∙ ap (λ n. (call_next_place k n).sent) e
+
+  pub passed_some : (n : NextPlace) → table.get c.nexts k.entity ≡ Some n →
+      (cell_steps c (From from (CallTo k))).sent ≡ (n.cell, CallTo k) ∷ []
+  passed_some n e = ap (λ t. t.sent) passed_slot ∙ ap (λ n. (call_next_place k n).sent) e
 
 -- ---- a cell without entities
 

@@ -1,2 +1,4 @@
 pub mod Sets
 pub mod Kept
+pub mod News
+pub mod Settling

@@ -1,7 +1,8 @@
 //! A cell, and what it hears of ghosts.
 
-ghost use Rattle.std.specs.Prelude.{◌≡◌, ℕ, ◌<◌, ◌≤◌, OnOk, OnErr, IfErr, [], Some, None};
+ghost use Rattle.std.specs.Prelude.{◌≡◌, ℕ, ◌<◌, ◌≤◌, OnOk, OnErr, IfErr, [], ◌++◌, Some, None, false, is_some};
 ghost use Rattle.std.specs.FinMap as table;
+ghost use Rattle.std.specs.FinSet as set;
 ghost use Rattle.seam_ghosts.specs.Book.{ghost_after};
 ghost use Rattle.seam_machine.specs.declared.machines.Input.TheVariants.{From};
 ghost use Rattle.seam_entity.specs.declared.message.Msg.TheVariants as msg;
@@ -16,10 +17,11 @@ ghost use Rattle.seam_entity.specs.Preparing.{node_with};
 
 use crate::entity_set::EntitySet;
 use crate::next::Next;
-use seam_call::GhostCopy;
+use seam_call::{Call, GhostCopy};
 use seam_defs::{Defs, Settings};
-use seam_entity::{Parcel, fits_copy};
+use seam_entity::{Msg, Parcel, fits_copy};
 use seam_ghosts::GhostBook;
+use seam_machine::Out;
 use seam_memory::NoMemoryFor;
 use seam_table::Table;
 use seam_tree::Tree;
@@ -98,7 +100,7 @@ fn is_stray_set(defs: &Defs, settings: &Settings, beat: u64, copy: &GhostCopy) -
 }
 
 // The book takes the copy at that beat.
-fn set_in(
+pub(crate) fn set_in(
     book: &mut GhostBook<GhostCopy>,
     e: u32,
     beat: u64,
@@ -108,6 +110,7 @@ fn set_in(
         ≡ set_at book.old.ghosts e (ghost_after (table.get book.old.ghosts e) (record { beat = beat; copy = Some copy }))) }
     ensures err { OnErr result (book.new.ghosts ≡ book.old.ghosts) }
     ensures err_item { IfErr result (λ r. r.item ≡ copy) }
+    ensures err_only_first { OnErr result (set.contains book.old.room e ≡ false) }
 {
     match book.set(e, beat, copy) {
         Ok(_) => Ok(()),
@@ -116,10 +119,11 @@ fn set_in(
 }
 
 // The book drops the copy at that beat.
-fn drop_in(book: &mut GhostBook<GhostCopy>, e: u32, beat: u64) -> Result<(), AllocError>
+pub(crate) fn drop_in(book: &mut GhostBook<GhostCopy>, e: u32, beat: u64) -> Result<(), AllocError>
     ensures ok { OnOk result (book.new.ghosts
         ≡ set_at book.old.ghosts e (ghost_after (table.get book.old.ghosts e) (record { beat = beat; copy = None }))) }
     ensures err { OnErr result (book.new.ghosts ≡ book.old.ghosts) }
+    ensures err_only_first { OnErr result (set.contains book.old.room e ≡ false) }
 {
     match book.drop_copy(e, beat) {
         Ok(_) => Ok(()),
@@ -192,6 +196,33 @@ impl Cell {
         ensures err { OnErr result (self.new ≡ self.old) }
     {
         self.looks = self.witnesses.copy()?;
+        Ok(())
+    }
+
+    /// Whether the entity's real is here.
+    pub fn has_real(&self, e: u32) -> bool
+        ensures { result ≡ is_some (table.get self.now.reals e) }
+    {
+        self.reals.get(e).is_some()
+    }
+
+    /// Call, next place: a call whose real is not here is sent to the next place as it is, where there is one.
+    pub fn pass_call_on(&self, call: Call, out: &mut Out<Msg>) -> Result<(), NoMemoryFor<Call>>
+        requires { is_some (table.get self.now.reals call.entity) ≡ false }
+        ensures state { (from : ℕ) → (cell_steps self.now (From from (msg.Call call))).state ≡ self.now }
+        ensures sent { (from : ℕ) →
+            OnOk result (out.new.items ≡ out.old.items ++ (cell_steps self.now (From from (msg.Call call))).sent) }
+        ensures err { OnErr result (out.new.items ≡ out.old.items) }
+        ensures err_item { IfErr result (λ r. r.item ≡ call) }
+    {
+        let Some(next) = self.nexts.get(call.entity) else {
+            return Ok(());
+        };
+        let to = next.cell;
+        if out.reserve(1).is_err() {
+            return Err(NoMemoryFor { item: call });
+        }
+        out.send(to, Msg::Call(call));
         Ok(())
     }
 }

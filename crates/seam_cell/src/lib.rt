@@ -7,8 +7,12 @@
 
 mod cell;
 mod entity_set;
+mod news;
 mod next;
+mod settle;
 
 pub use cell::Cell;
 pub use entity_set::EntitySet;
+pub use news::{Subject, Telling, Told};
 pub use next::Next;
+pub use settle::{Plan, Ready, get_ready, leave, make_plan, make_room, stay};
