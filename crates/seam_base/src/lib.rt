@@ -2,6 +2,9 @@
 //!
 //! A base node (BigWorld's BaseApp) keeps the base parts of its entities, of which those with a client are proxies, and for every
 //! entity the route to its real; it passes on the calls of its senders (BigWorld Server Overview, "Base entities and proxies").
+//!
+//! `specs/Parts` has what contracts see of a base part and what each step makes of it, `specs/Marks` which parts are marked as
+//! ready, `specs/Nodes` a node by its pieces, and `specs/Machines` what a machine has to say of its steps.
 #![tactic(auto)]
 
 mod calls;

@@ -89,6 +89,16 @@ impl Base {
         self.parts.get(e)
     }
 
+    /// Whether the entity's base part is here and has a client.
+    pub fn has_client(&self, e: u32) -> bool
+        ensures { result ≡ passes has_client (table.get self.now.parts e) }
+    {
+        match self.parts.get(e) {
+            Some(part) => part.has_client(),
+            None => false,
+        }
+    }
+
     /// Load, point 1: the entity, which is created in that cell, gets a route, and its base part where this is its base node.
     pub fn add_entity(&mut self, alloc: Global, e: u32, ty: u16, cell: u8) -> Result<(), AllocError>
         requires { cell < CELLS }
