@@ -38,11 +38,11 @@ use Rattle.seam_strays.proofs.NoStrays.{look_tasks}
 use Rattle.seam_strays.proofs.Unknown.{IsTickOrder}
 use Rattle.seam_base_calls.specs.PartMoves.{base_call_in, base_call_of, calls_ordered}
 use Rattle.seam_base_calls.proofs.WitnessKept.{all_weaker}
-use Rattle.seam_measure.specs.Weights.{Sizes, look_weight, tick_weight, part_weight, order_weight}
-use Rattle.seam_measure.specs.Events.{BaseCan, AllCan, is_pass, all_passes}
+use Rattle.seam_measure.specs.Weights.{Sizes, look_weight, tick_weight, part_weight}
+use Rattle.seam_measure.specs.Events.{BaseCan, AllCan, is_pass}
 use Rattle.seam_measure.specs.Looking.{LooksFit, ClientsKeepRoom, Always}
-use Rattle.seam_measure.specs.Phases.{HoldsNothing, sizes_of_looks, events_of_looks}
-use Rattle.seam_measure.proofs.Bare.{part_calls, HoldsNone, HoldsNoCall, IsUncalled, uncalled_leads}
+use Rattle.seam_measure.specs.Phases.{HoldsNothing, events_of_looks}
+use Rattle.seam_measure.proofs.Bare.{part_calls, IsUncalled, uncalled_leads}
 use Rattle.seam_measure.proofs.Batched.{OrderIs, calls_are}
 use Rattle.seam_measure.proofs.Cans.{none_is_ready, can_look}
 use Rattle.seam_measure.proofs.Given.{orders_add}
@@ -56,6 +56,10 @@ use Rattle.seam_measure.proofs.Starts.{IsPlain, parts_none}
 -- nothing
 no_sizes : Sizes
 no_sizes = record { bases = 0; lines = 0; witnesses = λ k. 0 }
+
+-- what is fixed in the phase of looks, where cell k has `witnesses k` witnesses and looks have at most so many lines for others
+abbrev pub sizes_of_looks : Frame → ℕ → (ℕ → ℕ) → Sizes
+sizes_of_looks f lines witnesses = record { bases = f.settings.bases; lines = lines; witnesses = witnesses }
 
 -- what a tick order weighs
 ticks_sum : (z : Sizes) (from len : ℕ) →
@@ -101,7 +105,7 @@ module _ (f : Frame) (u : World) (between : IsBetweenRounds f u) (none : HoldsNo
   abbrev start : World
   start = look_loaded u
 
-  frame_start : IsInFrame f start
+  pub frame_start : IsInFrame f start
   frame_start = look_framed f u between.nodes tick
 
   plain_start : EachNode (λ k s. IsPlain IsTickOrder s) start.nodes
@@ -118,7 +122,7 @@ module _ (f : Frame) (u : World) (between : IsBetweenRounds f u) (none : HoldsNo
   orders_start : EachNode (λ k s. OrdersAre IsTickOrder s) start.nodes
   orders_start k s at = orders_of_plain s (plain_start k s at)
 
-  empty_start : (x y : ℕ) → link start.rows x y ≡ []
+  pub empty_start : (x y : ℕ) → link start.rows x y ≡ []
   empty_start x y = empty_links no_sizes f u between none x y
 
   -- ---- no base part is called

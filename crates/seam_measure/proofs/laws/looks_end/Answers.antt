@@ -1,5 +1,5 @@
-use Rattle.seam_measure.proofs.LookPhase.{looks_end}
+use Rattle.seam_measure.proofs.LookStarts.{looks_are_bounded}
 use Rattle.seam_measure.proofs.laws.looks_end.Goals as goal
 
 pub returns : goal.returns
-returns c = λ f u between none n witnesses few client vs v run. looks_end f u between none n witnesses few client vs v run
+returns c = λ f u between none us ws among client vs v run. looks_are_bounded f u between none us ws among client vs v run
