@@ -26,3 +26,4 @@ mod AmongSlots
 pub mod Among
 mod LookStarts
 mod Opening
+mod ClientLines

@@ -1,8 +1,7 @@
 -- What the laws ask of where a phase begins is true of an opened world.
-use Rattle.std.proofs.Common.{◌≡◌, ℕ, ◌≤◌, false, List, [], Option, None, Some, refl, sym, ap, ◌∙◌}
-use Rattle.std.specs.Prelude.{◌∷◌, option_map, slice_get}
+use Rattle.std.proofs.Common.{◌≡◌, ℕ, ◌≤◌, false, List, [], Some, refl, sym, ap, ◌∙◌}
+use Rattle.std.specs.Prelude.{slice_get}
 use Rattle.std.proofs.Common.{arith}
-use Rattle.std.proofs.lemmas.Option.{slice_get-map}
 use Rattle.std.specs.List.{AllByRecursion}
 use Rattle.std.specs.FinMap as table
 use Rattle.seam_flows.specs.Flows.{slot_at}
@@ -14,24 +13,19 @@ use Rattle.seam_steps.specs.Cells.{CellView}
 use Rattle.seam_steps.specs.Bases.{BaseView, PartView}
 use Rattle.seam_steps.specs.Nodes.{NodeView, World}
 use Rattle.seam_steps.specs.Nodes.NodeView.{Cell, Base}
-use Rattle.seam_steps.specs.Loads.{ordered_at, opened, look_loaded}
+use Rattle.seam_steps.specs.Loads.{opened}
 use Rattle.seam_steps.specs.Rows.{empty_world}
 use Rattle.seam_moves.specs.Sights.{Has, has_of, has_none}
 use Rattle.seam_ones.specs.Ones.{real_in, IsFrame}
 use Rattle.seam_rounds.specs.Rounds.{first_frame}
-use Rattle.seam_rounds.proofs.Giving.{look_framed}
-use Rattle.seam_rounds.proofs.Looking.{tick}
-use Rattle.seam_base_calls.specs.Reaps.{HasNoPart}
-use Rattle.seam_base_calls.proofs.Reaped.{part_stays_gone}
-use Rattle.seam_base_rounds.proofs.PartLoads.{parts_ordered}
 use Rattle.seam_defs.specs.Builtin.{builtin}
 use Rattle.seam_defs.specs.Settings.{standard}
-use Rattle.seam_rounds.proofs.Opened.{opened_is_new, opened_between}
+use Rattle.seam_rounds.proofs.Opened.{opened_is_new}
 use Rattle.seam_base_calls.specs.Clients.{is_tick_order}
 use Rattle.seam_base_rounds.specs.Parts.{IsAlone}
 use Rattle.seam_base_rounds.specs.Example.{opening, first_batch}
 use Rattle.seam_base_rounds.proofs.ExampleFits.{may_be_loaded}
-use Rattle.seam_measure.specs.Looking.{ClientsKeepRoom, Always, LooksAmong}
+use Rattle.seam_measure.specs.Looking.{LooksAmong, ShownAtMost}
 use Rattle.seam_measure.specs.Phases.{HoldsNothing, AllLinesKeepRoom}
 use Rattle.seam_measure.proofs.RoundPhase.{alone_room}
 
@@ -61,28 +55,8 @@ module _ (defs : List TypeDef) (settings : Settings) (frame : IsFrame (first_fra
     witnesses = λ k c at e r x there has. absurd (no_real k c at e r there);
   }
 
-  -- ---- no part comes
-
-  node_part : (e : ℕ) (s : NodeView) → (has_of e (ordered_at tick s)).base.part ≡ (has_of e s).base.part
-  node_part e s = parts_ordered e (tick ∷ []) s
-
-  start_part : (e k : ℕ) (o : Option NodeView) → slice_get w.nodes k ≡ o →
-      (slot_at (has_of e) has_none (option_map (ordered_at tick) o)).base.part ≡ None
-  start_part e k None at = refl
-  start_part e k (Some s) at = node_part e s ∙ ap (λ (h : Has). h.base.part) (has_is e k s at)
-
-  none_start : (e : ℕ) → HasNoPart e (look_loaded w)
-  none_start e k =
-      ap (λ o. (slot_at (has_of e) has_none o).base.part) (slice_get-map (ordered_at tick) w.nodes k)
-      ∙ start_part e k (slice_get w.nodes k) refl
-
-  pub opened_clients : Always ClientsKeepRoom (look_loaded w)
-  opened_clients v es run k b node e p there =
-      let f = first_frame defs settings in
-      let q = look_framed f w (opened_between defs settings frame bases).nodes tick in
-      let none = part_stays_gone f e (look_loaded w) v es q (none_start e) run k in
-      let same = ap (λ o. (slot_at (has_of e) has_none o).base.part) node in
-      absurd (let z = sym none ∙ (same ∙ there) in cc)
+  pub opened_clients : ShownAtMost 0 w
+  opened_clients k b at e p there x has = absurd (no_part k b at e p there)
 
 -- ---- a first batch
 

@@ -1,6 +1,6 @@
 //! The laws, each on a function that does nothing.
 
-ghost use Rattle.std.specs.Prelude.{◌≡◌, ℕ, ◌+◌, ◌*◌, ◌≤◌, true, false, List, [], length};
+ghost use Rattle.std.specs.Prelude.{◌≡◌, ℕ, ◌+◌, ◌*◌, ◌<◌, ◌≤◌, true, false, List, [], length};
 ghost use Rattle.std.specs.List.{AllByRecursion, range_with_len};
 ghost use Rattle.seam_machine.specs.Nets.{link, enabled, IsQuiet, LeadsTo};
 ghost use Rattle.seam_machine.specs.Totals.{total};
@@ -12,6 +12,7 @@ ghost use Rattle.seam_steps.specs.Nodes.{World, node_steps, node_has_work};
 ghost use Rattle.seam_steps.specs.Loads.{opened, loaded, reaps_loaded, look_loaded};
 ghost use Rattle.seam_steps.specs.Rows.{empty_world};
 ghost use Rattle.seam_entity.specs.Here.{cell_count};
+ghost use Rattle.seam_entity.specs.Numbers.{limit};
 ghost use Rattle.seam_moves.specs.Frames.{Frame, IsInFrame};
 ghost use Rattle.seam_between.specs.Between.{IsBetweenRounds};
 ghost use Rattle.seam_rounds.specs.Rounds.{first_frame, AreReapable};
@@ -23,7 +24,7 @@ ghost use Rattle.seam_measure.specs.Weights.{Sizes, world_weight};
 ghost use Rattle.seam_measure.specs.Events.{is_pass, NodeCan, AllCan, all_passes};
 ghost use Rattle.seam_base_calls.specs.Clients.{is_tick_order};
 ghost use Rattle.seam_base_rounds.specs.Parts.{MayBeLoaded, IsAlone};
-ghost use Rattle.seam_measure.specs.Looking.{LooksFit, ClientsKeepRoom, Always, LooksAmong};
+ghost use Rattle.seam_measure.specs.Looking.{LooksFit, ClientsKeepRoom, Always, ShownAtMost, LooksAmong};
 ghost use Rattle.seam_measure.specs.Phases.{HoldsNothing, AllLinesKeepRoom, entities, cell_orders, base_orders, tick_orders};
 ghost use Rattle.seam_measure.specs.Phases.{events_of_round, events_of_looks};
 
@@ -70,12 +71,18 @@ pub fn reaps_end()
 {}
 
 /// Where the witnesses of such a world look, those of `ws k` in cell k, no list of events is longer than the table says, where reals,
-/// copies and views are of the entities of a list, and each client's next line always has a number.
+/// copies and views are of the entities of a list, and the numbers of the lines that clients were shown have room for as many more. Each
+/// client's next line always has a number.
 pub fn looks_end()
-    ensures { (f : Frame) (u : World) → IsBetweenRounds f u → HoldsNothing u → (us : List ℕ) (ws : ℕ → List ℕ) → LooksAmong us ws u →
-        Always ClientsKeepRoom (look_loaded u) → (vs : List Event) (v : World) →
-        LeadsTo node_has_work node_steps (look_loaded u) vs v →
+    ensures bound { (f : Frame) (u : World) → IsBetweenRounds f u → HoldsNothing u → (us : List ℕ) (ws : ℕ → List ℕ) → LooksAmong us ws u →
+        (last : ℕ) → ShownAtMost last u →
+        last + events_of_looks (length us) (total (λ k. length (ws k)) (range_with_len 0 cell_count)) + 1 < limit → (vs : List Event)
+        (v : World) → LeadsTo node_has_work node_steps (look_loaded u) vs v →
         length vs ≤ events_of_looks (length us) (total (λ k. length (ws k)) (range_with_len 0 cell_count)) }
+    ensures clients { (f : Frame) (u : World) → IsBetweenRounds f u → HoldsNothing u → (us : List ℕ) (ws : ℕ → List ℕ) →
+        LooksAmong us ws u → (last : ℕ) → ShownAtMost last u →
+        last + events_of_looks (length us) (total (λ k. length (ws k)) (range_with_len 0 cell_count)) + 1 < limit →
+        Always ClientsKeepRoom (look_loaded u) }
 {}
 
 /// A look has at most a line for each entity that there is to look at (`few`). And no event brings more to look at, in any phase, where
@@ -102,6 +109,6 @@ pub fn an_opened_world_has_what_the_laws_ask()
     ensures among { (defs : List TypeDef) (settings : Settings) → IsFrame (first_frame defs settings) → 1 ≤ settings.bases →
         LooksAmong [] (λ k. []) (opened defs settings) }
     ensures clients { (defs : List TypeDef) (settings : Settings) → IsFrame (first_frame defs settings) → 1 ≤ settings.bases →
-        Always ClientsKeepRoom (look_loaded (opened defs settings)) }
+        ShownAtMost 0 (opened defs settings) }
     ensures first { AllLinesKeepRoom opening empty_world first_batch × AllByRecursion (λ o. is_tick_order o.1 ≡ false) first_batch.orders }
 {}
