@@ -1,5 +1,5 @@
 -- Over every list of events cells know, and witnesses view, no other entities than those at the start.
-use Rattle.std.proofs.Common.{◌≡◌, ℕ, ◌+◌, Bool, true, false, cond, List, [], ◌∷◌, ◌++◌, drop, Option, None, Some, refl, sym, subst}
+use Rattle.std.proofs.Common.{◌≡◌, ℕ, Bool, true, false, cond, List, [], ◌∷◌, drop, Option, None, Some, refl, sym, subst}
 use Rattle.std.proofs.Common.{arith}
 use Rattle.std.specs.Prelude.{not, slice_get}
 use Rattle.std.specs.List.{AllByRecursion, range_with_len}
@@ -7,7 +7,7 @@ use Rattle.std.specs.Ordering.{nat_cmp, eq_by_cmp}
 use Rattle.std.specs.FinMap as table
 use Rattle.std.proofs.lemmas.Bool.Decides.{nat_tests}
 use Rattle.seam_machine.specs.Views.{Stepped}
-use Rattle.seam_machine.specs.Nets.{link, letter, input_from, happens, enabled, LeadsTo}
+use Rattle.seam_machine.specs.Nets.{link, letter, input_from, happens, enabled}
 use Rattle.seam_machine.specs.Events.{Occurs, EachNode, EachLink}
 use Rattle.seam_machine.specs.declared.machines.Input.{Input}
 use Rattle.seam_machine.specs.declared.machines.Input.TheVariants.{Task, From}
@@ -21,8 +21,7 @@ use Rattle.seam_call.specs.declared.call.Call.{Call as CallData}
 use Rattle.seam_call.specs.declared.order.Order.{Order}
 use Rattle.seam_call.specs.declared.order.Order.TheVariants as order
 use Rattle.seam_entity.specs.declared.message.Msg.{Msg}
-use Rattle.seam_entity.specs.declared.message.Msg.TheVariants.{Call, BaseCall, Reap}
-use Rattle.seam_entity.specs.Reals.{RealView}
+use Rattle.seam_entity.specs.declared.message.Msg.TheVariants.{Call, Reap}
 use Rattle.seam_steps.specs.Slots.{Slot, SlotStep, slot_after}
 use Rattle.seam_steps.specs.CellCases.{about, slot_steps, stray_survey, stray_ready_call}
 use Rattle.seam_steps.specs.Looks.{stray_look}

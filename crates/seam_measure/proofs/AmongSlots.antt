@@ -1,8 +1,8 @@
 -- A step of one entity's slot names no other entities than those that there are.
-use Rattle.std.proofs.Common.{◌≡◌, ℕ, ◌+◌, ◌<◌, Bool, true, false, cond, ◌||◌, ◌==◌, eqb, List, [], ◌∷◌, ◌++◌, map, length, Option, None, Some}
-use Rattle.std.proofs.Common.{find, refl, sym, ap, ◌∙◌, subst}
-use Rattle.std.specs.Prelude.{filter_map, nat_lt, option_map}
-use Rattle.std.specs.List.{AllByRecursion, cons_option, range_with_len}
+use Rattle.std.proofs.Common.{◌≡◌, ℕ, ◌+◌, Bool, true, false, cond, ◌||◌, ◌==◌, eqb, List, [], ◌∷◌, map, Option, None, Some}
+use Rattle.std.proofs.Common.{refl, sym, ap, ◌∙◌, subst}
+use Rattle.std.specs.Prelude.{filter_map, nat_lt}
+use Rattle.std.specs.List.{AllByRecursion, cons_option}
 use Rattle.std.specs.Map.{keys_of}
 use Rattle.std.specs.Ordering.{nat_cmp}
 use Rattle.std.specs.declared.cmp.Ordering.{Ordering}
@@ -13,7 +13,7 @@ use Rattle.seam_tree.specs.Division.{Division}
 use Rattle.seam_tree.specs.Cells.{Cells}
 use Rattle.seam_flows.proofs.Following.{all_append}
 use Rattle.seam_ghosts.specs.declared.Ghost.{Ghost}
-use Rattle.seam_ghosts.specs.Book.{copy_in, beat_in, ghost_after}
+use Rattle.seam_ghosts.specs.Book.{copy_in, beat_in}
 use Rattle.seam_order.specs.Held.{OrderView}
 use Rattle.seam_order.specs.Offers.{next_item}
 use Rattle.seam_view.specs.declared.Seen.{Seen}
@@ -30,11 +30,11 @@ use Rattle.seam_entity.specs.declared.message.Msg.{Msg}
 use Rattle.seam_entity.specs.declared.message.Msg.TheVariants.{Call, BaseCall, Hand, Current, GhostSet, GhostDrop, Tick, Reap, Update}
 use Rattle.seam_entity.specs.Here.{Here, cell_numbers, base_numbers, base_of}
 use Rattle.seam_entity.specs.Calls.{ready_order}
-use Rattle.seam_entity.specs.Executing.{copy_of_real, executed, executed_ready, shows, with_offer, settled_to}
+use Rattle.seam_entity.specs.Executing.{copy_of_real, executed, executed_ready, shows, settled_to}
 use Rattle.seam_steps.specs.Slots.{Slot, NextPlace, SlotStep, rests, unless_stray, slot_after, heard}
 use Rattle.seam_steps.specs.Settle.{told, told_unless, ghost_message, ghost_messages, haunts_at, home_after, stays, goes, settled_by, settled}
-use Rattle.seam_steps.specs.CellCases.{about, offered, call_real_here, call_next_place, call, current_to, currents, hand_over_comes, ghost_set}
-use Rattle.seam_steps.specs.CellCases.{ghost_drop, drop_if, drop_at, drops, reap, survey_task, executes_ready, ready_in, ready_call_task}
+use Rattle.seam_steps.specs.CellCases.{about, offered, call_next_place, call, current_to, hand_over_comes, ghost_set}
+use Rattle.seam_steps.specs.CellCases.{ghost_drop, drop_if, drop_at, reap, survey_task, executes_ready, ready_in, ready_call_task}
 use Rattle.seam_steps.specs.CellCases.{is_stray, case_of, slot_steps}
 use Rattle.seam_steps.specs.Looks.{Known, seen_as, numbered, shown_of, looks_of, looks_with, look_by, look_task}
 use Rattle.seam_measure.specs.Looking.{is_among, AllAmong}

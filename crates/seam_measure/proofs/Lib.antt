@@ -1,26 +1,29 @@
-pub mod Counts
-pub mod SlotWeights
-pub mod CellWeights
-pub mod BaseWeights
+mod Counts
+mod SlotWeights
+mod CellWeights
+mod BaseWeights
 pub mod NetWeights
-pub mod Bare
+mod Bare
 pub mod Ordered
-pub mod Starts
-pub mod Cans
-pub mod Given
+mod Starts
+mod Cans
+mod Given
 pub mod QuietWeights
-pub mod NoPasses
-pub mod ReapPhase
-pub mod LoadedNodes
+mod NoPasses
+mod ReapPhase
+mod LoadedNodes
 pub mod HandOvers
-pub mod RoundStart
+mod RoundStart
 pub mod Batched
-pub mod PassSums
-pub mod RoundPhase
-pub mod Tickless
-pub mod RoundTicks
-pub mod LookPhase
-pub mod Pigeons
-pub mod LookCounts
-pub mod AmongSlots
+mod PassSums
+mod RoundPhase
+mod Tickless
+mod RoundTicks
+mod LookPhase
+mod Pigeons
+mod LookCounts
+mod AmongSlots
 pub mod Among
+mod LookStarts
+mod Opening
+mod ClientLines

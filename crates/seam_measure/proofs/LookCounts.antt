@@ -18,7 +18,6 @@ use Rattle.seam_ghosts.specs.Book.{copy_in, with_copy, copied}
 use Rattle.seam_geo.specs.declared.pos.Pos.{Pos}
 use Rattle.seam_geo.specs.Pos.{distance}
 use Rattle.seam_view.specs.declared.Seen.{Seen}
-use Rattle.seam_view.specs.declared.Look.{Look}
 use Rattle.seam_view.specs.declared.Look.TheVariants.{Leave, Set as LookSet, Enter as LookEnter}
 use Rattle.seam_view.specs.Looks.{one_look, leaving, changed, entering, leaves, has_changed, enters, in_view, is_far, not_older}
 use Rattle.seam_view.specs.Replica.{Replica, IsView, seen_of}
@@ -29,10 +28,8 @@ use Rattle.seam_steps.specs.Looks.{Known, seen_as, looks_of}
 use Rattle.seam_steps.specs.Cells.{known_real, known_copy}
 use Rattle.seam_steps.specs.Cells.{CellView, is_of_another, known_in, known_to, has_witness, witnesses}
 use Rattle.seam_steps.specs.Nodes.{World}
-use Rattle.seam_steps.specs.Nodes.NodeView.{Cell}
 use Rattle.seam_steps.proofs.Tables.{entries_empty}
 use Rattle.seam_table.proofs.Found.{found}
-use Rattle.seam_measure.specs.Weights.{Sizes}
 use Rattle.seam_measure.specs.Looking.{is_among, AllAmong, LooksAmong, LooksFit}
 use Rattle.seam_measure.proofs.Pigeons.{Distinct, distinct_from, apart, pigeons, NoneAmong, distinct_append}
 

@@ -1,10 +1,9 @@
 -- The phase of reaps ends.
-use Rattle.std.proofs.Common.{◌≡◌, ℕ, ◌+◌, ◌*◌, ◌<◌, ◌≤◌, ◌⊎◌, Bool, true, false, cond, eqb, List, [], ◌∷◌, length, Option, None, Some, refl}
-use Rattle.std.proofs.Common.{not, sym, ap, ◌∙◌, subst, arith, inl, inr}
+use Rattle.std.proofs.Common.{◌≡◌, ℕ, ◌+◌, ◌*◌, ◌<◌, ◌≤◌, Bool, true, false, eqb, List, [], ◌∷◌, length, Option, None, Some, refl}
+use Rattle.std.proofs.Common.{not, sym, ap, ◌∙◌, subst, arith, inl}
 use Rattle.std.specs.Prelude.{is_none, slice_get}
 use Rattle.std.specs.List.{AllByRecursion}
 use Rattle.std.specs.FinMap as table
-use Rattle.std.proofs.lemmas.Bool.{eqb-true}
 use Rattle.std.proofs.lemmas.List.{length-map}
 use Rattle.std.proofs.lemmas.Option.{slice_get-map, slice_get_within}
 use Rattle.seam_machine.specs.Nets.{link, LeadsTo}
@@ -12,7 +11,7 @@ use Rattle.seam_machine.specs.Events.{Occurs, EachNode}
 use Rattle.seam_machine.specs.declared.machines.Event.{Event}
 use Rattle.seam_machine.proofs.Quiet.{quiet_tasks}
 use Rattle.seam_runs.specs.Sums.{weight_or}
-use Rattle.seam_flows.specs.Flows.{slot_at, letters_of}
+use Rattle.seam_flows.specs.Flows.{slot_at}
 use Rattle.seam_flows.proofs.Following.{all_append}
 use Rattle.seam_call.specs.declared.call.Call.{Call as CallData}
 use Rattle.seam_call.specs.declared.order.Order.{Order}
@@ -31,22 +30,17 @@ use Rattle.seam_steps.specs.Nodes.{NodeView, World, node_steps, node_has_work}
 use Rattle.seam_steps.specs.Nodes.NodeView.{Cell, Base}
 use Rattle.seam_steps.specs.Loads.{order_if, with_nodes, reap_ordered_at, reaps_loaded}
 use Rattle.seam_moves.specs.Frames.{Frame, IsInFrame}
-use Rattle.seam_moves.specs.Sights.{mine, order_concerns, orders_of, has_of, has_none, entity_flow}
-use Rattle.seam_ones.specs.Ones.{real_in, real_of}
-use Rattle.seam_ones.proofs.Counting.{none_counts}
+use Rattle.seam_moves.specs.Sights.{has_of, has_none, entity_flow}
 use Rattle.seam_between.specs.Between.{IsBetweenRounds}
 use Rattle.seam_between.proofs.Loading.{each, node_there}
 use Rattle.seam_between.proofs.Ready.{quiet_home}
 use Rattle.seam_rounds.specs.Rounds.{AreReapable}
-use Rattle.seam_rounds.proofs.Shape.{Somewhere, Nowhere, search_real, frame_leads, many_leads}
-use Rattle.seam_rounds.proofs.Calm.{IsCalmTo}
+use Rattle.seam_rounds.proofs.Shape.{frame_leads, many_leads}
 use Rattle.seam_rounds.proofs.Giving.{reaps_framed, reaps_cell, reals_stay}
 use Rattle.seam_rounds.proofs.Phases.{calm_leads}
 use Rattle.seam_rounds.proofs.Reaping as reaping
 use Rattle.seam_rounds.proofs.Reaping.{is_told}
 use Rattle.seam_strays.proofs.NoStrays.{reaps_tasks}
-use Rattle.seam_strays.proofs.Strays.{seen_first}
-use Rattle.seam_strays.proofs.Unknown.{IsTickOrder, IsTick, IsUnknown, unknown_leads}
 use Rattle.seam_base_calls.specs.PartMoves.{base_call_of}
 use Rattle.seam_base_calls.specs.Clients.{is_tick_order}
 use Rattle.seam_measure.specs.Weights.{Sizes, part_weight}

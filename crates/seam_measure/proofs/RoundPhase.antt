@@ -1,14 +1,12 @@
 -- How long a round is, where its nodes can do what they are to do.
-use Rattle.std.proofs.Common.{◌≡◌, ℕ, ◌+◌, ◌*◌, ◌≤◌, ◌⊎◌, Bool, true, false, List, [], ◌∷◌, length, None, Some, refl, sym, ap}
+use Rattle.std.proofs.Common.{◌≡◌, ℕ, ◌+◌, ◌*◌, ◌≤◌, ◌⊎◌, Bool, true, false, List, [], ◌∷◌, length, Some, refl, sym, ap}
 use Rattle.std.proofs.Common.{◌∙◌, subst, arith, inl, inr}
 use Rattle.std.specs.Prelude.{not, slice_get}
 use Rattle.std.specs.List.{AllByRecursion}
 use Rattle.std.specs.FinMap as table
-use Rattle.std.proofs.lemmas.Bool.{eqb-true}
 use Rattle.std.proofs.lemmas.Option.{slice_get-map}
 use Rattle.seam_machine.specs.Nets.{link, LeadsTo}
-use Rattle.seam_machine.specs.Events.{Occurs, EachNode}
-use Rattle.seam_machine.specs.Totals.{total}
+use Rattle.seam_machine.specs.Events.{EachNode}
 use Rattle.seam_machine.specs.declared.machines.Event.{Event}
 use Rattle.seam_machine.proofs.Quiet.{quiet_links}
 use Rattle.seam_runs.specs.Sums.{weight_or}
@@ -32,7 +30,7 @@ use Rattle.seam_steps.specs.Nodes.{NodeView, World, node_steps, node_has_work}
 use Rattle.seam_steps.specs.Nodes.NodeView.{Cell, Base}
 use Rattle.seam_steps.specs.Loads.{loaded}
 use Rattle.seam_moves.specs.Frames.{Frame, IsInFrame}
-use Rattle.seam_moves.specs.Sights.{order_about, order_concerns, has_of, has_none}
+use Rattle.seam_moves.specs.Sights.{order_about, has_of, has_none}
 use Rattle.seam_between.specs.Between.{framed}
 use Rattle.seam_between.proofs.Framing.{in_frame}
 use Rattle.seam_between.proofs.Going.{settled_loaded, spared_loaded}
@@ -42,23 +40,19 @@ use Rattle.seam_strays.proofs.Beginning.{unknown_loaded}
 use Rattle.seam_strays.proofs.InRound.{nobody}
 use Rattle.seam_strays.proofs.NoStrays.{round_tasks}
 use Rattle.seam_ranks.proofs.HandedOver.{passed_few}
-use Rattle.seam_base_calls.specs.PartMoves.{base_call_of}
-use Rattle.seam_base_calls.specs.Clients.{is_tick_order, HasNoLooks}
 use Rattle.seam_base_calls.specs.Strays.{NoneIsStray}
 use Rattle.seam_base_calls.proofs.NodeStray.{none_is_stray}
-use Rattle.seam_base_calls.proofs.NoLooks.{looks_lead}
 use Rattle.seam_base_rounds.specs.Parts.{MayBeLoaded, no_client, IsAlone}
 use Rattle.seam_base_rounds.proofs.Loaded.{alone_loaded}
 use Rattle.seam_base_rounds.proofs.Going.{none_strays}
 use Rattle.seam_measure.specs.Weights.{part_weight}
-use Rattle.seam_measure.specs.Weights.{Sizes, settle_weight, settling, order_weight, world_weight}
+use Rattle.seam_measure.specs.Weights.{Sizes, settle_weight, settling, order_weight}
 use Rattle.seam_measure.specs.Events.{BaseCan, AllCan, all_passes}
-use Rattle.seam_measure.specs.Phases.{HoldsNothing, entities, one_if_cell, one_if_tick, cell_orders, base_orders, tick_orders}
-use Rattle.seam_measure.specs.Phases.{AllLinesKeepRoom, events_of_round}
+use Rattle.seam_measure.specs.Phases.{HoldsNothing, entities, one_if_cell, cell_orders, base_orders, tick_orders}
+use Rattle.seam_measure.specs.Phases.{AllLinesKeepRoom}
 use Rattle.seam_measure.proofs.Bare.{IsIdle, idle_leads}
 use Rattle.seam_measure.proofs.Batched.{OrderIs, calls_are}
 use Rattle.seam_measure.proofs.Cans.{base_can}
-use Rattle.seam_measure.proofs.Counts.{none_times}
 use Rattle.seam_measure.proofs.HandOvers.{hands_few}
 use Rattle.seam_measure.proofs.LoadedNodes.{loaded_plain}
 use Rattle.seam_measure.proofs.NetWeights.{run_ends}

@@ -8,15 +8,19 @@ use Rattle.seam_call.specs.declared.order.Order.TheVariants as order
 use Rattle.seam_call.specs.declared.order.Batch.{Batch}
 use Rattle.seam_entity.specs.Here.{cell_count}
 use Rattle.seam_steps.specs.Nodes.{World, node_steps, node_has_work}
+use Rattle.seam_steps.specs.Loads.{loaded}
 use Rattle.seam_moves.specs.Frames.{Frame}
 use Rattle.seam_base_rounds.specs.Parts.{MayBeLoaded}
 use Rattle.seam_measure.specs.Weights.{Sizes, look_weight, tick_weight, order_weight}
 use Rattle.seam_measure.specs.Events.{AllCan}
 use Rattle.seam_measure.specs.Looking.{LooksFit, Always}
 use Rattle.seam_measure.specs.Phases.{HoldsNothing, AllLinesKeepRoom, entities, cell_orders, base_orders, tick_orders, events_of_round}
-use Rattle.seam_measure.specs.Phases.{sizes_of_round}
 use Rattle.seam_measure.proofs.Cans.{can_look}
 use Rattle.seam_measure.proofs.RoundPhase.{g, start, frame_then, base_then, cell_then, round_long}
+
+-- what is fixed in a round in which no cell has more than n witnesses: a look is about the entities that are there
+abbrev pub sizes_of_round : Frame → World → Batch → ℕ → Sizes
+sizes_of_round f w b n = record { bases = f.settings.bases; lines = entities (loaded w b); witnesses = λ k. n }
 
 -- what a tick order weighs where each cell has as many witnesses
 ticks_flat : (z : Sizes) (n from len : ℕ) → ((k : ℕ) → z.witnesses k ≡ n) →

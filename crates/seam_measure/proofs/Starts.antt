@@ -85,12 +85,12 @@ module _ (f : Frame) (e : ℕ) (w : World) (frame : IsInFrame f w) (empty : (a k
   ticks_none [] h = tt
   ticks_none (o ∷ os) h = ticks_by o (orders_of e os) (order_concerns e o) h.0 (ticks_none os h.1)
 
-  record Has0 (h : Has) : Type 0 where
+  record HasPlain (h : Has) : Type 0 where
     looks : h.cell.looks ≡ 0
     orders : AllByRecursion (λ o. is_tick_order o ≡ false) h.base.orders
     part : HoldsNone h.base
 
-  has_by : (s : NodeView) → IsPlain Ok s → Has0 (has_of e s)
+  has_by : (s : NodeView) → IsPlain Ok s → HasPlain (has_of e s)
   has_by (Cell c) h = record { looks = ap (times e) h; orders = tt; part = refl }
   has_by (Base b) h = record {
     looks = refl;
@@ -98,11 +98,11 @@ module _ (f : Frame) (e : ℕ) (w : World) (frame : IsInFrame f w) (empty : (a k
     part = part_none_by (table.get b.parts e) (h.1 e);
   }
 
-  slot_by : (o : Option NodeView) (k : ℕ) → slice_get w.nodes k ≡ o → Has0 (slot_at (has_of e) has_none o)
+  slot_by : (o : Option NodeView) (k : ℕ) → slice_get w.nodes k ≡ o → HasPlain (slot_at (has_of e) has_none o)
   slot_by None k at = record { looks = refl; orders = tt; part = refl }
   slot_by (Some s) k at = has_by s (nodes k s at)
 
-  slots : (k : ℕ) → Has0 ((entity_flow e w).slot k)
+  slots : (k : ℕ) → HasPlain ((entity_flow e w).slot k)
   slots k = slot_by (slice_get w.nodes k) k refl
 
   pub looks_start : HasNoLooks e w

@@ -1,20 +1,20 @@
 -- A round without ticks ends.
-use Rattle.std.proofs.Common.{◌≡◌, ℕ, ◌+◌, ◌*◌, ◌≤◌, false, List, [], ◌∷◌, length, Option, None, Some, refl, ap, arith}
+use Rattle.std.proofs.Common.{◌≡◌, ℕ, ◌+◌, ◌*◌, ◌≤◌, false, List, [], ◌∷◌, length, refl, arith}
 use Rattle.std.specs.List.{AllByRecursion}
 use Rattle.seam_machine.specs.Nets.{LeadsTo}
-use Rattle.seam_machine.specs.Events.{Occurs, EachNode}
+use Rattle.seam_machine.specs.Events.{EachNode}
 use Rattle.seam_machine.specs.Totals.{total}
 use Rattle.seam_machine.specs.declared.machines.Event.{Event}
 use Rattle.seam_call.specs.declared.order.Order.{Order}
 use Rattle.seam_call.specs.declared.order.Order.TheVariants as order
 use Rattle.seam_call.specs.declared.order.Batch.{Batch}
-use Rattle.seam_steps.specs.Nodes.{NodeView, World, node_steps, node_has_work}
+use Rattle.seam_steps.specs.Nodes.{World, node_steps, node_has_work}
 use Rattle.seam_moves.specs.Frames.{Frame}
 use Rattle.seam_base_calls.specs.Clients.{is_tick_order, HasNoLooks}
 use Rattle.seam_base_calls.proofs.NoLooks.{looks_lead}
 use Rattle.seam_base_rounds.specs.Parts.{MayBeLoaded}
 use Rattle.seam_measure.specs.Weights.{Sizes, order_weight}
-use Rattle.seam_measure.specs.Events.{NodeCan, AllCan}
+use Rattle.seam_measure.specs.Events.{AllCan}
 use Rattle.seam_measure.specs.Phases.{HoldsNothing, AllLinesKeepRoom, entities, one_if_tick, cell_orders, base_orders, tick_orders}
 use Rattle.seam_measure.specs.Phases.{events_of_round}
 use Rattle.seam_measure.proofs.Cans.{can_by}

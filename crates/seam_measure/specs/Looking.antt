@@ -11,7 +11,7 @@ use Rattle.seam_call.specs.declared.shown.GhostCopy.{GhostCopy}
 use Rattle.seam_entity.specs.Reals.{RealView, WitnessView}
 use Rattle.seam_steps.specs.Looks.{looks_of}
 use Rattle.seam_steps.specs.Cells.{CellView, known_to, witnesses}
-use Rattle.seam_steps.specs.Bases.{BaseView, PartView}
+use Rattle.seam_steps.specs.Bases.{BaseView, PartView, ProxyView}
 use Rattle.seam_steps.specs.BaseCases.{may_show}
 use Rattle.seam_steps.specs.Nodes.{World, node_steps, node_has_work}
 use Rattle.seam_steps.specs.Nodes.NodeView.{Cell, Base}
@@ -28,6 +28,12 @@ abbrev pub ClientsKeepRoom : World → Type 0
 ClientsKeepRoom w =
     (k : ℕ) (b : BaseView) → slice_get w.nodes k ≡ Some (Base b) → (e : ℕ) (p : PartView) → table.get b.parts e ≡ Some p →
     may_show p.proxy ≡ true
+
+-- no client was shown a line with a greater number than n
+abbrev pub ShownAtMost : ℕ → World → Type 0
+ShownAtMost n w =
+    (k : ℕ) (b : BaseView) → slice_get w.nodes k ≡ Some (Base b) → (e : ℕ) (p : PartView) → table.get b.parts e ≡ Some p →
+    (x : ProxyView) → p.proxy ≡ Some x → x.last ≤ n
 
 -- the fact holds over every list of events from w
 abbrev pub Always : (World → Type 0) → World → Type 0

@@ -17,7 +17,7 @@ use Rattle.seam_moves.specs.Sights.{entity_flow}
 use Rattle.seam_ones.specs.Ones.{real_in}
 use Rattle.seam_between.specs.Between.{framed}
 use Rattle.seam_base_rounds.specs.Parts.{LinesKeepRoom}
-use Rattle.seam_measure.specs.Weights.{Sizes, part_weight}
+use Rattle.seam_measure.specs.Weights.{part_weight}
 
 -- no base part holds a call, and no client an update
 abbrev pub HoldsNothing : World → Type 0
@@ -74,14 +74,6 @@ tick_orders b = total (λ o. one_if_tick o.1) b.orders
 abbrev pub events_of_round : (bases c d k e w : ℕ) → ℕ
 events_of_round bases c d k e w =
     c * (c + 4) + (3 * d + (17 * k + (e + ((e + c) * (17 + bases) + 16 * k * w * (3 + 2 * e)))))
-
--- what is fixed in a round in which no cell has more than n witnesses: a look is about the entities that are there
-abbrev pub sizes_of_round : Frame → World → Batch → ℕ → Sizes
-sizes_of_round f w b n = record { bases = f.settings.bases; lines = entities (loaded w b); witnesses = λ k. n }
-
--- what is fixed in the phase of looks, where cell k has `witnesses k` witnesses and looks have at most so many lines for others
-abbrev pub sizes_of_looks : Frame → ℕ → (ℕ → ℕ) → Sizes
-sizes_of_looks f lines witnesses = record { bases = f.settings.bases; lines = lines; witnesses = witnesses }
 
 -- the table of the phase of looks: n lines for others, and w witnesses
 abbrev pub events_of_looks : (n w : ℕ) → ℕ

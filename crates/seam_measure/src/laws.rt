@@ -1,26 +1,32 @@
 //! The laws, each on a function that does nothing.
 
-ghost use Rattle.std.specs.Prelude.{◌≡◌, ℕ, ◌+◌, ◌*◌, ◌≤◌, true, false, List, length};
+ghost use Rattle.std.specs.Prelude.{◌≡◌, ℕ, ◌+◌, ◌*◌, ◌<◌, ◌≤◌, true, false, List, [], length};
 ghost use Rattle.std.specs.List.{AllByRecursion, range_with_len};
-ghost use Rattle.seam_machine.specs.Nets.{enabled, IsQuiet, LeadsTo};
+ghost use Rattle.seam_machine.specs.Nets.{link, enabled, IsQuiet, LeadsTo};
 ghost use Rattle.seam_machine.specs.Totals.{total};
 ghost use Rattle.seam_machine.specs.Events.{Occurs};
 ghost use Rattle.seam_machine.specs.declared.machines.Event.{Event};
 ghost use Rattle.seam_runs.specs.Weights.{Lowers};
 ghost use Rattle.seam_call.specs.declared.order.Batch.{Batch};
 ghost use Rattle.seam_steps.specs.Nodes.{World, node_steps, node_has_work};
-ghost use Rattle.seam_steps.specs.Loads.{loaded, reaps_loaded, look_loaded};
+ghost use Rattle.seam_steps.specs.Loads.{opened, loaded, reaps_loaded, look_loaded};
+ghost use Rattle.seam_steps.specs.Rows.{empty_world};
 ghost use Rattle.seam_entity.specs.Here.{cell_count};
+ghost use Rattle.seam_entity.specs.Numbers.{limit};
 ghost use Rattle.seam_moves.specs.Frames.{Frame, IsInFrame};
 ghost use Rattle.seam_between.specs.Between.{IsBetweenRounds};
-ghost use Rattle.seam_rounds.specs.Rounds.{AreReapable};
+ghost use Rattle.seam_rounds.specs.Rounds.{first_frame, AreReapable};
+ghost use Rattle.seam_ones.specs.Ones.{IsFrame};
+ghost use Rattle.seam_defs.specs.declared.settings.Settings.{Settings};
+ghost use Rattle.seam_defs.specs.declared.types.TypeDef.{TypeDef};
+ghost use Rattle.seam_base_rounds.specs.Example.{opening, first_batch};
 ghost use Rattle.seam_measure.specs.Weights.{Sizes, world_weight};
 ghost use Rattle.seam_measure.specs.Events.{is_pass, NodeCan, AllCan, all_passes};
 ghost use Rattle.seam_base_calls.specs.Clients.{is_tick_order};
 ghost use Rattle.seam_base_rounds.specs.Parts.{MayBeLoaded, IsAlone};
-ghost use Rattle.seam_measure.specs.Looking.{LooksFit, ClientsKeepRoom, Always};
+ghost use Rattle.seam_measure.specs.Looking.{LooksFit, ClientsKeepRoom, Always, ShownAtMost, LooksAmong};
 ghost use Rattle.seam_measure.specs.Phases.{HoldsNothing, AllLinesKeepRoom, entities, cell_orders, base_orders, tick_orders};
-ghost use Rattle.seam_measure.specs.Phases.{events_of_round, sizes_of_round, sizes_of_looks, events_of_looks};
+ghost use Rattle.seam_measure.specs.Phases.{events_of_round, events_of_looks};
 
 /// An enabled event whose node can do what it is to do lowers the weight of the world, but for one that passes a call on, which does not
 /// raise it.
@@ -35,14 +41,14 @@ pub fn a_run_is_no_longer_than_its_start_weighs()
         LeadsTo node_has_work node_steps w es v → length es + world_weight z v ≤ world_weight z w + all_passes w es }
 {}
 
-/// A round is no longer than its table says, over every list of events: where the lines of clients keep room, no cell ever has more than
-/// n witnesses, and no look more lines for other entities than there are entities.
+/// A round is no longer than its table says, over every list of events, where the lines of clients keep room: where the loaded world has no
+/// reals, copies and views but of entities of a list that is no longer than there are entities, and no witnesses but those of `ws`.
 pub fn a_round_ends()
-    ensures { (f : Frame) (w : World) (b : Batch) → MayBeLoaded f w b → HoldsNothing w → AllLinesKeepRoom f w b → (n : ℕ) →
-        Always (LooksFit (sizes_of_round f w b n)) (loaded w b) → (v : World) (es : List Event) →
+    ensures { (f : Frame) (w : World) (b : Batch) → MayBeLoaded f w b → HoldsNothing w → AllLinesKeepRoom f w b → (us ws : List ℕ) →
+        length us ≤ entities (loaded w b) → LooksAmong us (λ k. ws) (loaded w b) → (v : World) (es : List Event) →
         LeadsTo node_has_work node_steps (loaded w b) es v →
         length es
-        ≤ events_of_round f.settings.bases (cell_orders b) (base_orders b) (tick_orders b) (entities (loaded w b)) n }
+        ≤ events_of_round f.settings.bases (cell_orders b) (base_orders b) (tick_orders b) (entities (loaded w b)) (length ws) }
 {}
 
 /// So is one whose batch has no tick, whatever there is to look at. The lines of clients keep room where there are none (`alone`).
@@ -64,13 +70,28 @@ pub fn reaps_end()
         (vs : List Event) (v : World) → LeadsTo node_has_work node_steps (reaps_loaded u es) vs v → HoldsNothing v }
 {}
 
-/// Where the witnesses of such a world look, no list of events is longer than the table says, where no look has more than n lines for other
-/// entities, cell k never has more than `witnesses k` witnesses, and each client's next line always has a number.
+/// Where the witnesses of such a world look, those of `ws k` in cell k, no list of events is longer than the table says, where reals,
+/// copies and views are of the entities of a list, and the numbers of the lines that clients were shown have room for as many more. Each
+/// client's next line always has a number.
 pub fn looks_end()
-    ensures { (f : Frame) (u : World) → IsBetweenRounds f u → HoldsNothing u → (n : ℕ) (witnesses : ℕ → ℕ) →
-        Always (LooksFit (sizes_of_looks f n witnesses)) (look_loaded u) → Always ClientsKeepRoom (look_loaded u) → (vs : List Event)
+    ensures bound { (f : Frame) (u : World) → IsBetweenRounds f u → HoldsNothing u → (us : List ℕ) (ws : ℕ → List ℕ) → LooksAmong us ws u →
+        (last : ℕ) → ShownAtMost last u →
+        last + events_of_looks (length us) (total (λ k. length (ws k)) (range_with_len 0 cell_count)) + 1 < limit → (vs : List Event)
         (v : World) → LeadsTo node_has_work node_steps (look_loaded u) vs v →
-        length vs ≤ events_of_looks n (total witnesses (range_with_len 0 cell_count)) }
+        length vs ≤ events_of_looks (length us) (total (λ k. length (ws k)) (range_with_len 0 cell_count)) }
+    ensures clients { (f : Frame) (u : World) → IsBetweenRounds f u → HoldsNothing u → (us : List ℕ) (ws : ℕ → List ℕ) →
+        LooksAmong us ws u → (last : ℕ) → ShownAtMost last u →
+        last + events_of_looks (length us) (total (λ k. length (ws k)) (range_with_len 0 cell_count)) + 1 < limit →
+        Always ClientsKeepRoom (look_loaded u) }
+{}
+
+/// A look has at most a line for each entity that there is to look at (`few`). And no event brings more to look at, in any phase, where
+/// none is on its way at the start (`kept`).
+pub fn looks_are_about_what_there_is()
+    ensures few { (us : List ℕ) (ws : ℕ → List ℕ) (bases : ℕ) (w : World) → LooksAmong us ws w →
+        LooksFit (record { bases = bases; lines = length us; witnesses = λ k. length (ws k) }) w }
+    ensures kept { (us ws : List ℕ) (f : Frame) (w : World) → IsInFrame f w → ((a b : ℕ) → link w.rows a b ≡ []) →
+        LooksAmong us (λ k. ws) w → Always (LooksAmong us (λ k. ws)) w }
 {}
 
 /// So to take enabled events, whichever, ends: where no list of them is longer than n, a list of n of them leaves the world quiet.
@@ -78,4 +99,16 @@ pub fn a_longest_run_is_quiet()
     ensures { (w v : World) (es : List Event) (n : ℕ) →
         ((u : World) (ds : List Event) → LeadsTo node_has_work node_steps w ds u → length ds ≤ n) →
         LeadsTo node_has_work node_steps w es v → n ≤ length es → IsQuiet node_has_work v }
+{}
+
+/// What these laws ask is true of an opened world (`nothing`, `among`, `clients`), and of it with a batch that creates an entity and has
+/// calls to its base part (`first`; `MayBeLoaded` of it is a law of `seam_base_rounds`).
+pub fn an_opened_world_has_what_the_laws_ask()
+    ensures nothing { (defs : List TypeDef) (settings : Settings) → IsFrame (first_frame defs settings) → 1 ≤ settings.bases →
+        HoldsNothing (opened defs settings) }
+    ensures among { (defs : List TypeDef) (settings : Settings) → IsFrame (first_frame defs settings) → 1 ≤ settings.bases →
+        LooksAmong [] (λ k. []) (opened defs settings) }
+    ensures clients { (defs : List TypeDef) (settings : Settings) → IsFrame (first_frame defs settings) → 1 ≤ settings.bases →
+        ShownAtMost 0 (opened defs settings) }
+    ensures first { AllLinesKeepRoom opening empty_world first_batch × AllByRecursion (λ o. is_tick_order o.1 ≡ false) first_batch.orders }
 {}

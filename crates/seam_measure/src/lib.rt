@@ -6,16 +6,18 @@
 //! a load brings weighs what the table of its phase says (`specs/Phases`): so taking enabled events in any order ends, and the numbers of
 //! the table are the most that it takes.
 //!
-//! What there is to look at is a premise where witnesses look (`specs/Looking`): how many witnesses a cell may have, how many lines a look,
-//! and that clients' lines have numbers. Without ticks a round asks nothing of that.
+//! Where witnesses look, the bound is by what there is to look at where the phase begins (`specs/Looking`): no event brings more, and a look
+//! has at most a line for each. An event shows a client at most one line, so in the phase of looks their numbers have room if they have it
+//! at its start; in a round's calls that they keep room is a premise.
 //!
 //! Crates above cite these modules of `proofs`: `NetWeights` (an event and a run), `QuietWeights` (a quiet world), `Ordered` (orders only
-//! go), `Batched` (calls on their way were ordered), `HandOvers` (how often a real is handed over).
+//! go), `Batched` (calls on their way were ordered), `HandOvers` (how often a real is handed over), `Among` (what there is to look at).
 #![tactic(auto)]
 
 mod laws;
 
 pub use laws::{
     a_longest_run_is_quiet, a_round_ends, a_round_without_ticks_ends,
-    a_run_is_no_longer_than_its_start_weighs, an_event_lowers_the_weight, looks_end, reaps_end,
+    a_run_is_no_longer_than_its_start_weighs, an_event_lowers_the_weight,
+    an_opened_world_has_what_the_laws_ask, looks_are_about_what_there_is, looks_end, reaps_end,
 };

@@ -1,5 +1,9 @@
-use Rattle.seam_measure.proofs.LookPhase.{looks_end}
+use Rattle.seam_measure.proofs.LookStarts.{looks_are_bounded, clients_keep_room}
 use Rattle.seam_measure.proofs.laws.looks_end.Goals as goal
 
-pub returns : goal.returns
-returns c = λ f u between none n witnesses few client vs v run. looks_end f u between none n witnesses few client vs v run
+pub returns-clause-bound : goal.returns-clause-bound
+returns-clause-bound c = λ f u between none us ws among last shown room vs v run.
+    looks_are_bounded f u between none us ws among last shown room vs v run
+
+pub returns-clause-clients : goal.returns-clause-clients
+returns-clause-clients c = λ f u between none us ws among last shown room. clients_keep_room f u between none us ws among last shown room

@@ -1,0 +1,9 @@
+use Rattle.seam_measure.proofs.Among.{always_among}
+use Rattle.seam_measure.proofs.LookCounts.{looks_fit}
+use Rattle.seam_measure.proofs.laws.looks_are_about_what_there_is.Goals as goal
+
+pub returns-clause-few : goal.returns-clause-few
+returns-clause-few c = looks_fit
+
+pub returns-clause-kept : goal.returns-clause-kept
+returns-clause-kept c = always_among
