@@ -52,7 +52,8 @@ use Rattle.seam_told.specs.Telling.{IsToldNothing}
 use Rattle.seam_told.proofs.Silent.{tells_none}
 use Rattle.seam_base_rounds.proofs.Updates.{update_finds}
 use Rattle.seam_told.proofs.Absent.{few_leads}
-use Rattle.seam_base_rounds.proofs.Ticking.{most_told, tells_most, tells_few, sees_then, ticks_of, node_ticks, no_ticks, few_turned, looks_turned}
+use Rattle.seam_base_rounds.proofs.Ticking.{most_told, tells_most, tells_few, sees_then, ticks_of, node_ticks, no_ticks, few_turned}
+use Rattle.seam_base_rounds.proofs.Ticking.{looks_turned}
 use Rattle.seam_base_rounds.proofs.PartLoads.{part_at, parts_ordered}
 use Rattle.seam_base_rounds.proofs.Still.{still_settled}
 use Rattle.seam_base_rounds.proofs.Serving.{HasItStill, Serves, starts, HasNumbers, serves_then, ends}

@@ -34,7 +34,8 @@ use Rattle.seam_rounds.proofs.Opened.{opened_is_new, opened_has_none, opened_bet
 use Rattle.seam_base_calls.specs.BaseTurns.{home_of}
 use Rattle.seam_base_calls.specs.Example.{pay, part_alone, base_with, world_alone}
 use Rattle.seam_base_calls.proofs.ExampleClient.{load_alone, one_alone}
-use Rattle.seam_base_rounds.specs.Parts.{next_to, base_calls_of, base_calls_at, AreBaseNumbered, IsForPart, FitsParts, HasPartsBetweenRounds, MayBeLoaded, IsAlone}
+use Rattle.seam_base_rounds.specs.Parts.{next_to, base_calls_of, base_calls_at, AreBaseNumbered, IsForPart, FitsParts}
+use Rattle.seam_base_rounds.specs.Parts.{HasPartsBetweenRounds, MayBeLoaded, IsAlone}
 use Rattle.seam_base_rounds.specs.Example.{opening, first_batch}
 
 -- ---- the world

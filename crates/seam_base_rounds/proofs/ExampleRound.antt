@@ -94,7 +94,7 @@ module _ (e k : ℕ) where
   part_is_new : (p : PartView) → ((entity_flow e (loaded empty_world batch_1)).slot k).base.part ≡ Some p → PartHasNoOrders p
   part_is_new = part_by (slice_get empty_world.nodes k) refl
 
-next_is_one : (os : Orders) (s : ℕ) → os ≡ table.empty → (order_or (table.get os s)).next ≡ 1
+pub next_is_one : (os : Orders) (s : ℕ) → os ≡ table.empty → (order_or (table.get os s)).next ≡ 1
 next_is_one os s none = ap (λ o. (order_or (table.get o s)).next) none ∙ ap (λ o. (order_or o).next) (table.get-empty nat_cmp s)
 
 -- ---- so the batch, which has no orders, fits

@@ -13,3 +13,4 @@ pub mod Idling
 pub mod Calms
 pub mod ExampleFits
 pub mod ExampleRound
+pub mod ExampleCalls

@@ -134,3 +134,14 @@ pub fn a_round_of_a_client_ends_between_rounds()
     ensures shown { lines_of_client view.first_look_5 17 1 ≡
         Some (view.base_line ∷ view.line 2 view.own ∷ view.line 3 view.enter_2 ∷ []) }
 {}
+
+/// And the next round of that world: a batch with a call that moves the other entity, the events of its calls, and those of the looks, in
+/// which the client is shown where it is now.
+pub fn the_next_round_of_a_client_ends_between_rounds()
+    ensures fits { MayBeLoaded opening view.first_look_5 (view.batch_of (view.move_to 1 1310)) }
+    ensures calls { LeadsTo node_has_work node_steps (loaded view.first_look_5 (view.batch_of (view.move_to 1 1310)))
+        (events_of view.second_steps) view.second_4 }
+    ensures looks { LeadsTo node_has_work node_steps (look_loaded view.second_4) (events_of view.second_looks) view.second_look_4 }
+    ensures after { IsBetweenRounds opening view.second_look_4 × HasPartsBetweenRounds opening view.second_look_4 }
+    ensures shown { lines_of_client view.second_look_4 17 1 ≡ Some (view.line 4 view.set_2 ∷ []) }
+{}
