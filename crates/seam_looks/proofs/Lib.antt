@@ -3,3 +3,5 @@ pub mod Near
 pub mod Knowing
 pub mod Rows
 pub mod OneLook
+pub mod After
+pub mod ExampleLooks

@@ -7,24 +7,28 @@
 //! in it may see, by the real or by the ghost.)
 //!
 //! Crates above cite these modules of `proofs`: `Sorted` (what is found in a list in rising number), `Near` (a look at a flat table
-//! depends on those that are near), `Knowing` (what a cell knows of an entity), `Rows` (the rows of a world), `OneLook` (a look).
+//! depends on those that are near), `Knowing` (what a cell knows of an entity), `Rows` (the rows of a world), `OneLook` (a look), `After` (what
+//! it leaves of a client).
 #![tactic(auto)]
 
 ghost use Rattle.std.specs.Prelude.{◌≡◌, ℕ, None, Some, slice_get};
-ghost use Rattle.seam_defs.specs.Settings.{GhostsReach};
+ghost use Rattle.seam_defs.specs.Builtin.{builtin};
+ghost use Rattle.seam_defs.specs.Settings.{GhostsReach, standard};
 ghost use Rattle.seam_entity.specs.Reals.{RealView, WitnessView};
 ghost use Rattle.seam_steps.specs.Holders.{holders};
-ghost use Rattle.seam_steps.specs.Looks.{shown_of};
+ghost use Rattle.seam_steps.specs.Looks.{looks_of, shown_of, after_looking};
 ghost use Rattle.seam_steps.specs.Cells.{CellView, known_to};
 ghost use Rattle.seam_steps.specs.Nodes.{World};
 ghost use Rattle.seam_steps.specs.Nodes.NodeView.{Cell};
+ghost use Rattle.seam_steps.specs.ViewRounds as view;
 ghost use Rattle.seam_moves.specs.Frames.{Frame, here_at};
 ghost use Rattle.seam_moves.specs.Sights.{entity_flow};
 ghost use Rattle.seam_ones.specs.Ones.{real_in};
 ghost use Rattle.seam_between.specs.Between.{IsBetweenRounds};
+ghost use Rattle.seam_rounds.specs.Rounds.{first_frame};
 ghost use Rattle.seam_places.specs.Places.{ArePlaced};
 ghost use Rattle.seam_newest.specs.Copies.{AreCopiesBetweenRounds};
-ghost use Rattle.seam_replica.specs.Clients.{ClientReplica};
+ghost use Rattle.seam_replica.specs.Clients.{ClientReplica, new_client, after_all_shown};
 ghost use Rattle.seam_replica.specs.Looks.{row_of, one_look};
 ghost use Rattle.seam_looks.specs.Tables.{row_of_real, rows_of};
 ghost use Rattle.seam_looks.specs.Clients.{FitsWitness};
@@ -48,4 +52,30 @@ pub fn a_look_is_one_look_at_the_table()
     seam_places::who_may_be_seen_is_known();
     seam_defs::laws::others_see_the_ghost();
     seam_view::looks_are_plain();
+}
+
+/// After such a look the client, which was shown its lines one after another, fits its witness again, in the same world.
+pub fn a_client_fits_after_a_look()
+    ensures { (f : Frame) (w : World) → IsBetweenRounds f w → AreCopiesBetweenRounds f w → ArePlaced f w → GhostsReach f.settings →
+        (e k : ℕ) (r : RealView) → real_in ((entity_flow e w).slot k) ≡ Some r → (v : WitnessView) → (c : ClientReplica) →
+        FitsWitness f w r v c → (cell : CellView) → slice_get w.nodes k ≡ Some (Cell cell) → (after : WitnessView) →
+        after ≡ after_looking (known_to cell e) (looks_of r v (known_to cell e)) (shown_of cell.here r v (known_to cell e)) r v →
+        FitsWitness f w (record r { witness = Some after }) after (after_all_shown c (one_look c e (rows_of w))) }
+{
+    a_look_is_one_look_at_the_table();
+    seam_defs::laws::others_see_the_ghost();
+    seam_view::versions_shown_never_fall();
+}
+
+/// What these laws ask is true of a worked world (`seam_steps`: "view hysteresis"), in which a batch created an entity with a client, which
+/// was shown nothing yet, and another one near it, and which is quiet.
+pub fn a_worked_client_fits_its_witness()
+    ensures between { IsBetweenRounds (first_frame builtin standard) view.first_2 }
+    ensures copies { AreCopiesBetweenRounds (first_frame builtin standard) view.first_2 }
+    ensures placed { ArePlaced (first_frame builtin standard) view.first_2 }
+    ensures reach { GhostsReach standard }
+    ensures real { real_in ((entity_flow 1 view.first_2).slot 0) ≡ Some (view.watcher view.blind) }
+    ensures fits { FitsWitness (first_frame builtin standard) view.first_2 (view.watcher view.blind) view.blind (new_client standard) }
+{
+    seam_places::a_round_keeps_the_record_of_places();
 }
