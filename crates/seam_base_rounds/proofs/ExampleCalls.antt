@@ -316,6 +316,7 @@ fits : IsFitting opening first_look_5 batch
 unfolding IsDistinct
 fits = record {
   tree = one_is_tree;
+  space = refl;
   cells = omega arith;
   creates = tt;
   once = tt;

@@ -135,6 +135,7 @@ fits : IsFitting opening empty_world batch_1
 unfolding IsDistinct
 fits = record {
   tree = one_is_tree;
+  space = refl;
   cells = omega arith;
   creates = (record { new = is_new 1; type = omega arith; inside = refl }, (record { new = is_new 2; type = omega arith; inside = refl }, tt));
   once = ((refl, tt), (tt, tt));
