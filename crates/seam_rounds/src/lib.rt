@@ -6,8 +6,8 @@
 //!
 //! Crates above cite these modules of `proofs`: `Shape` (the frame and the nodes stay; where a real is; what is sent, by node), `Publics`
 //! (public versions), `Calm`, `CalmMoves` and `CalmRuns` (a calm entity), `Starting` and `Giving` (what a load gives it), `Phases` (calm
-//! over every list of events), `Reaping`, `Looking`, `RoadMoves` and `RoadRuns` (generations and routes), `CallsEnd` (where a
-//! round's calls end), `Opened` (an opened world).
+//! over every list of events), `Ending` (what is left of it), `Reaping`, `Looking`, `RoadMoves` and `RoadRuns` (generations and routes),
+//! `CallsEnd` (where a round's calls end), `Opened` (an opened world).
 #![tactic(auto)]
 
 ghost use Rattle.std.specs.Prelude.{◌≡◌, ℕ, ◌≤◌, List, [], ◌∷◌, if◌then◌else◌};
