@@ -56,7 +56,8 @@ use Rattle.seam_base_rounds.proofs.Ticking.{most_told, tells_most, tells_few, se
 use Rattle.seam_base_rounds.proofs.Ticking.{looks_turned}
 use Rattle.seam_base_rounds.proofs.PartLoads.{part_at, parts_ordered}
 use Rattle.seam_base_rounds.proofs.Still.{still_settled}
-use Rattle.seam_base_rounds.proofs.Serving.{HasItStill, Serves, starts, HasNumbers, serves_then, ends}
+use Rattle.seam_base_rounds.specs.Parts.{IsServed}
+use Rattle.seam_base_rounds.proofs.Serving.{HasItStill, starts, HasNumbers, serves_then, ends}
 use Rattle.seam_base_rounds.proofs.Idling.{still_then, few_lines, few_part}
 
 same_type : (r q : RealView) → IsSame r q → r.ty ≡ q.ty
@@ -182,12 +183,12 @@ module _ (f : Frame) (u : World) (between : IsBetweenRounds f u) (parts : HasPar
               tells_few f e r.ty r had.part (with_nodes u turn) still few (parts.views e home r here) n given.left given.few_left v vs run;
         }
 
-    first_serves : Serves f e r.ty (with_nodes u turn)
+    first_serves : IsServed f e r.ty (with_nodes u turn)
     first_serves =
         let lines = few_first in
         starts f e r.ty r had.part (with_nodes u turn) still (parts.clients e home r here had.part had.here) (omega (arith, lines))
 
-    serves : Serves f e r.ty v
+    serves : IsServed f e r.ty v
     serves = serves_then f e r.ty (with_nodes u turn) v vs run frame still.spared (sent_by r + most_told) numbers first_serves
 
     finds_it : (a k : ℕ) (m : UpdateData) (ms : List Msg) → (entity_flow e v).mail a k ≡ Update m ∷ ms →
@@ -389,6 +390,11 @@ module _ (f : Frame) (u : World) (between : IsBetweenRounds f u) (parts : HasPar
         FindsClient f e k ((entity_flow e v).slot k).base m
     look_finds =
         finds_it f u between parts small (ordered_at tick) in_looks look_cells look_parts v vs run e home r here 48 looks_given
+        (looking.calm f u between e home r here)
+
+    pub look_serves : IsServed f e r.ty v
+    look_serves =
+        serves f u between parts small (ordered_at tick) in_looks look_cells look_parts v vs run e home r here 48 looks_given
         (looking.calm f u between e home r here)
 
     look_are : IsQuiet node_has_work v → (k : ℕ) (q : RealView) → real_in ((entity_flow e v).slot k) ≡ Some q → (p : PartView) →

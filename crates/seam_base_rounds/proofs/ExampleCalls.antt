@@ -358,7 +358,8 @@ next_looks_lead =
     (row_leads 2 1 second_look_0 second_looks views.second_look_row)
 
 calls_between : IsBetweenRounds opening second_4
-calls_between = calls_end_between opening first_look_5 batch after_looks.0 fits second_4 (events_of second_steps) next_leads views.second_quiet
+calls_between =
+    calls_end_between opening first_look_5 batch after_looks.0 fits second_4 (events_of second_steps) next_leads views.second_quiet
 
 calls_parts : HasPartsBetweenRounds opening second_4
 calls_parts =

@@ -86,7 +86,8 @@ module _ (e k : ℕ) where
   part_by (Some s) at p has =
       let q =
       part_from (is_among e batch_1.clients) (here_at opening k) (part_at e (peopled batch_1 s)) p
-      (sym (part_joined e opening batch_1 k s (between.nodes.nodes k s at)) ∙ (sym (ap (λ h. h.base.part) (slot_there (Some s) at)) ∙ has)) in
+      (sym (part_joined e opening batch_1 k s (between.nodes.nodes k s at))
+      ∙ (sym (ap (λ h. h.base.part) (slot_there (Some s) at)) ∙ has)) in
       subst PartHasNoOrders q.2
       (part_none (is_among e batch_1.clients) (here_at opening k) q.0
       (new_peopled e PartHasNoOrders (λ h ty. refl) batch_1 s (ap (λ h. h.base.part) (new_at s at)) q.0 q.1))
@@ -137,7 +138,10 @@ fits = record {
   tree = one_is_tree;
   space = refl;
   cells = omega arith;
-  creates = (record { new = is_new 1; type = omega arith; inside = refl }, (record { new = is_new 2; type = omega arith; inside = refl }, tt));
+  creates = (
+    record { new = is_new 1; type = omega arith; inside = refl },
+    (record { new = is_new 2; type = omega arith; inside = refl }, tt),
+  );
   once = ((refl, tt), (tt, tt));
   clients = (holder_is, tt);
   unseen = (λ k r at. absurd (no_real 1 k r at), tt);

@@ -33,7 +33,8 @@ use Rattle.seam_told.specs.Telling.{SeesFew, looks_left}
 use Rattle.seam_base_rounds.proofs.Ticking.{most_told, TellsFew, tells_few, sees_then, few_loaded, looks_loaded}
 use Rattle.seam_base_rounds.proofs.Attaching.{are_for_loaded, lines_loaded, sees_loaded}
 use Rattle.seam_base_rounds.proofs.Updates.{update_finds}
-use Rattle.seam_base_rounds.proofs.Serving.{HasItStill, Serves, bare, served, starts, HasNumbers, serves_then}
+use Rattle.seam_base_rounds.specs.Parts.{IsServed, bare, served}
+use Rattle.seam_base_rounds.proofs.Serving.{HasItStill, starts, HasNumbers, serves_then}
 use Rattle.seam_base_rounds.proofs.Loaded.{LoadedPart, part_loaded}
 use Rattle.seam_base_rounds.proofs.Turns.{few_more, calls_loaded, routes_loaded}
 
@@ -72,7 +73,7 @@ module _ (f : Frame) (w : World) (b : Batch) (may : MayBeLoaded f w b) (e k : â„
   few_lines =
       lines_loaded f w b may.between may.fits may.parts e may.brings k r here its_part.settled.part its_part.settled.here its_part.small
 
-  serves_loaded : Serves (framed f b) e r.ty (loaded w b)
+  serves_loaded : IsServed (framed f b) e r.ty (loaded w b)
   serves_loaded =
       let few = few_lines in
       starts (framed f b) e r.ty r its_part.settled.part (loaded w b) still_loaded
@@ -116,7 +117,7 @@ module _ (f : Frame) (w : World) (b : Batch) (may : MayBeLoaded f w b) (e k : â„
         let more = few_more f w b may e k r here its_part in
         record { room = omega (arith, few, more); most = told }
 
-    calls_by : Serves g e r.ty (loaded w b) â†’ HasBaseCalls g e r.ty first (base_calls_of b e) v
+    calls_by : IsServed g e r.ty (loaded w b) â†’ HasBaseCalls g e r.ty first (base_calls_of b e) v
     calls_by (bare none unseen) = (alone_leads g e r.ty first (base_calls_of b e) (loaded w b) v es loaded_calls none run).calls
     calls_by (served update low client seen) =
         (both_leads g e r.ty first (base_calls_of b e) update most (loaded w b) v es
@@ -125,7 +126,7 @@ module _ (f : Frame) (w : World) (b : Batch) (may : MayBeLoaded f w b) (e k : â„
     pub calls_then : HasBaseCalls g e r.ty first (base_calls_of b e) v
     calls_then = calls_by serves_loaded
 
-    pub serves_after : Serves g e r.ty v
+    pub serves_after : IsServed g e r.ty v
     serves_after =
         serves_then g e r.ty (loaded w b) v es run (in_frame f w b may.between may.fits) still_loaded.spared most numbers serves_loaded
 
@@ -139,7 +140,7 @@ module _ (f : Frame) (w : World) (b : Batch) (may : MayBeLoaded f w b) (e k : â„
     executed_then quiet j q there s =
         all_executed g e v calls_then.part.frame quiet first (base_calls_of b e) calls_then.turns j q there s
 
-    strays_by : Serves g e r.ty (loaded w b) â†’ NothingIsStray g e v
+    strays_by : IsServed g e r.ty (loaded w b) â†’ NothingIsStray g e v
     strays_by (bare none unseen) =
         alone_without_stray g e r.ty first (base_calls_of b e) (loaded w b) v es loaded_calls (routes_loaded f w b may e k r here its_part)
         run still_loaded.frame still_loaded.known still_loaded.one none

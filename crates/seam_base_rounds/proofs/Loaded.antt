@@ -97,18 +97,19 @@ module _ (f : Frame) (w : World) (b : Batch) (e ty : ℕ) where
   -- ---- one that was there
 
   pub was_there : AreOthers e b.creates → (h : HasSettledPart f e ty w) → h.part.version < 2 ^ 61 → LoadedPart
-  was_there others h small = part_of_origin (part_begins h.part) (λ k. option_map part_begins ((entity_flow e w).slot k).base.part) (record {
-    becomes = λ k.
-        subst (λ s. SamePart (option_map part_begins ((entity_flow e w).slot k).base.part) s.base.part) (sym (slot_is w b e k))
-        (becomes_by (slice_get w.nodes k));
-    here = ap (option_map part_begins) h.here;
-    others = λ k n. ap (option_map part_begins) (h.others k n);
-    type = h.type;
-    none_held = h.none_held;
-    from_one = h.from_one;
-    idle = refl;
-    small = small;
-  })
+  was_there others h few =
+      part_of_origin (part_begins h.part) (λ k. option_map part_begins ((entity_flow e w).slot k).base.part) (record {
+        becomes = λ k.
+            subst (λ s. SamePart (option_map part_begins ((entity_flow e w).slot k).base.part) s.base.part) (sym (slot_is w b e k))
+            (becomes_by (slice_get w.nodes k));
+        here = ap (option_map part_begins) h.here;
+        others = λ k n. ap (option_map part_begins) (h.others k n);
+        type = h.type;
+        none_held = h.none_held;
+        from_one = h.from_one;
+        idle = refl;
+        small = few;
+      })
     where
       becomes_by : (o : Option NodeView) → SamePart (option_map part_begins (slot_at (has_of e) has_none o).base.part)
           (slot_at (has_of e) has_none (option_map (node_loaded b) o)).base.part

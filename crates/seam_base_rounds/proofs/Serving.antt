@@ -27,7 +27,7 @@ use Rattle.seam_base_calls.proofs.AloneRuns.{bare_leads}
 use Rattle.seam_base_calls.proofs.BaseQuiet.{all_shown}
 use Rattle.seam_base_calls.proofs.ClientLeads.{client_leads}
 use Rattle.seam_base_calls.proofs.WitnessKept.{IsSeen, seen_leads}
-use Rattle.seam_base_rounds.specs.Parts.{AreInStep, AreFor}
+use Rattle.seam_base_rounds.specs.Parts.{AreInStep, AreFor, IsServed, bare, served}
 
 -- a world that has an entity's one real and its base part, with nothing about it on its way
 pub record HasItStill (f : Frame) (e ty : ℕ) (r : RealView) (p : PartView) (w : World) : Type 0 where
@@ -39,11 +39,6 @@ pub record HasItStill (f : Frame) (e ty : ℕ) (r : RealView) (p : PartView) (w 
   pub real : (k : ℕ) (q : RealView) → real_in ((entity_flow e w).slot k) ≡ Some q → r ≡ q
   pub here : ((entity_flow e w).slot (home_of f e)).base.part ≡ Some p
   pub others : (k : ℕ) → (k ≡ home_of f e → ⊥) → ((entity_flow e w).slot k).base.part ≡ None
-
--- what becomes of a client: there is none, or one that was shown the updates from `first` on
-pub data Serves (f : Frame) (e ty : ℕ) (w : World) : Type 0 where
-  bare : HasNoClient e w → EachReal e (IsSeen f e false) w → Serves f e ty w
-  served : (first : ℕ) → 1 ≤ first → HasClient f e ty first w → EachReal e (IsSeen f e true) w → Serves f e ty w
 
 module _ (f : Frame) (e ty : ℕ) (r : RealView) (p : PartView) (w : World) (h : HasItStill f e ty r p w) where
   abbrev home : ℕ
@@ -106,7 +101,7 @@ module _ (f : Frame) (e ty : ℕ) (r : RealView) (p : PartView) (w : World) (h :
           };
         }
 
-    starts_served : (v : WitnessView) → r.witness ≡ Some v → AreInStep v x p.version → v.sent < 2 ^ 62 → Serves f e ty w
+    starts_served : (v : WitnessView) → r.witness ≡ Some v → AreInStep v x p.version → v.sent < 2 ^ 62 → IsServed f e ty w
     starts_served v seen step few =
         let next = step.next in
         let among = step.shown in
@@ -132,13 +127,13 @@ module _ (f : Frame) (e ty : ℕ) (r : RealView) (p : PartView) (w : World) (h :
         from m n lt = (n - m, omega (arith, lt), omega (arith, lt))
 
   starts_by : (a : Option WitnessView) (b : Option ProxyView) → r.witness ≡ a → p.proxy ≡ b → AreFor a b p.version →
-      sent_of a < 2 ^ 62 → Serves f e ty w
+      sent_of a < 2 ^ 62 → IsServed f e ty w
   starts_by None None seen has are few = bare (no_client has) (each_real (IsSeen f e false) (ap is_some seen))
   starts_by None (Some x) seen has are few = absurd are
   starts_by (Some v) None seen has are few = absurd are
   starts_by (Some v) (Some x) seen has are few = starts_served x has v seen are few
 
-  pub starts : AreFor r.witness p.proxy p.version → sent_by r < 2 ^ 62 → Serves f e ty w
+  pub starts : AreFor r.witness p.proxy p.version → sent_by r < 2 ^ 62 → IsServed f e ty w
   starts are few = starts_by r.witness p.proxy refl refl are few
 
 -- what its witness told
@@ -155,7 +150,7 @@ pub record HasNumbers (e n : ℕ) (w v : World) : Type 0 where
 
 module _ (f : Frame) (e ty : ℕ) (w v : World) (es : List Event) (run : LeadsTo node_has_work node_steps w es v) (frame : IsInFrame f w)
     (spared : IsSpared e w) (n : ℕ) (numbers : HasNumbers e n w v) where
-  pub serves_then : Serves f e ty w → Serves f e ty v
+  pub serves_then : IsServed f e ty w → IsServed f e ty v
   serves_then (bare none unseen) = bare (bare_leads f e w v es frame spared none run) (seen_leads f e false w v es frame unseen run)
   serves_then (served first low client seen) =
       served first low (client_leads f e ty first n w v es client spared numbers.room run numbers.most)
@@ -235,7 +230,7 @@ module _ (f : Frame) (e ty : ℕ) (v : World) (frame : IsInFrame f v) (quiet : I
         subst (λ a. AreFor a p.proxy p.version) (sym w.1)
         (subst (λ b. AreFor (Some w.0) b p.version) (sym has) (in_step w.0 w.1))
 
-  pub ends : Serves f e ty v → AreFor q.witness p.proxy p.version
+  pub ends : IsServed f e ty v → AreFor q.witness p.proxy p.version
   ends (bare none unseen) =
       subst (λ a. AreFor a p.proxy p.version) (sym (none_seen q.witness (unseen.cells k q at)))
       (subst (λ b. AreFor None b p.version) (sym (none (home_of f e) p there)) tt)

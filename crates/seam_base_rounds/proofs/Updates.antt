@@ -17,7 +17,8 @@ use Rattle.seam_base_calls.proofs.ClientRuns.{finds_client}
 use Rattle.seam_base_calls.proofs.StrayRuns.{base_burden_leads}
 use Rattle.seam_told.specs.Telling.{IsToldNothing}
 use Rattle.seam_told.proofs.Silent.{unseen_told_none}
-use Rattle.seam_base_rounds.proofs.Serving.{Serves, bare, served, HasNumbers}
+use Rattle.seam_base_rounds.specs.Parts.{IsServed, bare, served}
+use Rattle.seam_base_rounds.proofs.Serving.{HasNumbers}
 
 module _ (f : Frame) (e ty : ℕ) (w v : World) (es : List Event) (run : LeadsTo node_has_work node_steps w es v) (frame : IsInFrame f w)
     (spared : IsSpared e w) (n : ℕ) (numbers : HasNumbers e n w v) (still : (a k : ℕ) → (entity_flow e w).mail a k ≡ []) where
@@ -25,7 +26,7 @@ module _ (f : Frame) (e ty : ℕ) (w v : World) (es : List Event) (run : LeadsTo
   nothing a k = subst (AllByRecursion (λ m. update_in m ≡ None)) (sym (still a k)) tt
 
   module _ (a k : ℕ) (u : UpdateData) (ms : List Msg) (at : (entity_flow e v).mail a k ≡ Update u ∷ ms) where
-    pub update_finds : Serves f e ty w → FindsClient f e k ((entity_flow e v).slot k).base u
+    pub update_finds : IsServed f e ty w → FindsClient f e k ((entity_flow e v).slot k).base u
     update_finds (bare none unseen) =
         let all : AllByRecursion (λ m. update_in m ≡ None) (Update u ∷ ms) =
         subst (AllByRecursion (λ m. update_in m ≡ None)) at (unseen_told_none f e w v es frame unseen nothing run a k) in

@@ -1,5 +1,5 @@
 -- The record of base parts and of clients between rounds, and what a fitting batch brings to them.
-use Rattle.std.specs.Prelude.{◌≡◌, ℕ, ◌+◌, ◌^◌, ◌<◌, ◌≤◌, true, List, [], map, length, Option, None, Some}
+use Rattle.std.specs.Prelude.{◌≡◌, ℕ, ◌+◌, ◌^◌, ◌<◌, ◌≤◌, true, false, is_some, List, [], map, length, Option, None, Some}
 use Rattle.std.specs.List.{AllByRecursion}
 use Rattle.std.specs.FinMap as table
 use Rattle.seam_machine.specs.Sends.{items_to}
@@ -25,7 +25,7 @@ use Rattle.seam_between.specs.Between.{order_in, numbers_of, IsBetweenRounds, Is
 use Rattle.seam_base_calls.specs.PartMoves.{base_call_of}
 use Rattle.seam_base_calls.specs.BaseTurns.{home_of, HasNoClient}
 use Rattle.seam_base_calls.specs.WitnessMoves.{sent_by}
-use Rattle.seam_base_calls.specs.Clients.{shown_in}
+use Rattle.seam_base_calls.specs.Clients.{shown_in, EachReal, HasClient}
 use Rattle.seam_told.specs.Telling.{most_entities, IsBlank, SeesFew}
 
 -- ---- the record
@@ -145,3 +145,10 @@ pub record HasSmallNumbers (f : Frame) (u : World) : Type 0 where
   pub reals : (e k : ℕ) (r : RealView) → real_in ((entity_flow e u).slot k) ≡ Some r → numbers_of r < 2 ^ 61 + 2 ^ 60
   pub clients : (e k : ℕ) (r : RealView) → real_in ((entity_flow e u).slot k) ≡ Some r → (p : PartView) →
       ((entity_flow e u).slot (home_of f e)).base.part ≡ Some p → lines_of r p < 2 ^ 61 + 2 ^ 60
+
+-- ---- over a list of events
+
+-- an entity without a witness and a client, or one whose client is shown what its witness told from update `first` on
+pub data IsServed (f : Frame) (e ty : ℕ) (w : World) : Type 0 where
+  bare : HasNoClient e w → EachReal e (λ r. is_some r.witness ≡ false) w → IsServed f e ty w
+  served : (first : ℕ) → 1 ≤ first → HasClient f e ty first w → EachReal e (λ r. is_some r.witness ≡ true) w → IsServed f e ty w

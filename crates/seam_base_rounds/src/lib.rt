@@ -10,11 +10,11 @@
 //!
 //! Of `proofs/`, `PartLoads` (what a load makes of a base part at a node), `Joining` and `Attaching` (of a witness and of a client),
 //! `Loaded` (and in the world), `Turns` (its calls), `Serving` (a client over a list of events), `Ticking` (how much it is told), `Updates`
-//! (what an update finds), `Going` (every list of events), `CallsEnd` (a quiet world after them), `Still` (a part that no one calls), `Idling` and `Calms` (reaps and
-//! looks) are for callers.
+//! (what an update finds), `Going` (every list of events), `CallsEnd` (a quiet world after them), `Still` (a part that no one calls),
+//! `Idling` and `Calms` (reaps and looks) are for callers.
 #![tactic(auto)]
 
-ghost use Rattle.std.specs.Prelude.{◌≡◌, ℕ, ◌≤◌, List, [], ◌∷◌, Some};
+ghost use Rattle.std.specs.Prelude.{◌≡◌, ℕ, ◌≤◌, List, [], ◌∷◌, ◌++◌, Some};
 ghost use Rattle.seam_machine.specs.Nets.{IsQuiet, LeadsTo};
 ghost use Rattle.seam_machine.specs.declared.machines.Event.{Event};
 ghost use Rattle.seam_flows.specs.Flows.{letters_of};
@@ -39,11 +39,11 @@ ghost use Rattle.seam_once.specs.CellTurns.{from_sender};
 ghost use Rattle.seam_between.specs.Between.{framed, IsBetweenRounds};
 ghost use Rattle.seam_rounds.specs.Rounds.{first_frame, AreReapable};
 ghost use Rattle.seam_base_calls.specs.BaseTurns.{home_of, HasBaseCalls, HasNoClient};
-ghost use Rattle.seam_base_calls.specs.Clients.{FindsClient};
+ghost use Rattle.seam_base_calls.specs.Clients.{shown_at, HasClient, FindsClient};
 ghost use Rattle.seam_told.specs.Telling.{IsToldNothing};
 ghost use Rattle.seam_base_calls.specs.Strays.{HasRoutes, NothingIsStray};
 ghost use Rattle.seam_base_rounds.specs.Parts.{next_to, base_calls_of, HasSettledPart, HasPartsBetweenRounds, MayBeLoaded, IsAlone};
-ghost use Rattle.seam_base_rounds.specs.Parts.{HasSmallNumbers};
+ghost use Rattle.seam_base_rounds.specs.Parts.{HasSmallNumbers, IsServed};
 ghost use Rattle.seam_base_rounds.specs.Example.{opening, first_batch};
 
 /// Each entity of a loaded world has its base part, of its type, at its base node. The batch's calls to it are in turn, numbered from each
@@ -82,6 +82,22 @@ pub fn nothing_about_a_loaded_entity_is_stray_at_a_base_node()
         real_in ((entity_flow e (loaded w b)).slot k) ≡ Some r → (v : World) (es : List Event) →
         LeadsTo node_has_work node_steps (loaded w b) es v →
         NothingIsStray (framed f b) e v }
+{}
+
+/// At each moment of a round, and of the looks at its end, an entity has neither a witness nor a client, or it has both, and the client was
+/// shown the first ones of what its witness told since the load, in order; each of the others is held or on its way, once. In a quiet world
+/// it was shown all.
+pub fn each_client_is_shown_its_updates_in_order()
+    ensures round { (f : Frame) (w : World) (b : Batch) → MayBeLoaded f w b → (e k : ℕ) (r : RealView) →
+        real_in ((entity_flow e (loaded w b)).slot k) ≡ Some r → (v : World) (es : List Event) →
+        LeadsTo node_has_work node_steps (loaded w b) es v → IsServed (framed f b) e r.ty v }
+    ensures looks { (f : Frame) (u : World) → IsBetweenRounds f u → HasPartsBetweenRounds f u → HasSmallNumbers f u →
+        (vs : List Event) (v : World) → LeadsTo node_has_work node_steps (look_loaded u) vs v → (e k : ℕ) (r : RealView) →
+        real_in ((entity_flow e u).slot k) ≡ Some r → IsServed f e r.ty v }
+    ensures shown { (f : Frame) (e ty first : ℕ) (w : World) (h : HasClient f e ty first w) →
+        h.issued ≡ shown_at ((entity_flow e w).slot (home_of f e)) ++ h.delivery.rest }
+    ensures all { (f : Frame) (e ty first : ℕ) (w : World) (h : HasClient f e ty first w) → IsQuiet node_has_work w →
+        shown_at ((entity_flow e w).slot (home_of f e)) ≡ h.issued }
 {}
 
 /// An update about an entity that is the first of its link finds the entity's client, which may be offered it: in a round, and where the

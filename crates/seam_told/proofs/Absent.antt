@@ -29,7 +29,8 @@ use Rattle.seam_ones.proofs.Sparing.{items_all}
 use Rattle.seam_told.specs.Telling.{IsBlank, BringsNone, IsAbsent, HasFewEntities}
 
 -- a drop makes no copy
-no_copy : (g : Option (Ghost GhostCopy)) (beat : ℕ) → copy_in g ≡ None → copy_in (ghost_after g (record { beat = beat; copy = None })) ≡ None
+no_copy : (g : Option (Ghost GhostCopy)) (beat : ℕ) → copy_in g ≡ None →
+    copy_in (ghost_after g (record { beat = beat; copy = None })) ≡ None
 no_copy g beat none = by (nat_lt (beat_in g) beat)
   where
     by : (b : Bool) → copy_in (cond b (Some (record { beat = beat; copy = None })) g) ≡ None

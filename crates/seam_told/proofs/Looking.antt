@@ -110,6 +110,10 @@ pub data NotTaken (s : AtCell) (i : Option Msg) (t : AtCell) : Type 0 where
   gone : t.slot.real ≡ None → NotTaken s i t
   ticked : i ≡ Some Tick → NotTaken s i t
 
+-- the real after its witness w looked at what is known
+abbrev pub looked_at : Here → List Known → RealView → WitnessView → RealView
+looked_at h known r w = record r { witness = Some (after_looking known (looks_of r w known) (shown_of h r w known) r w) }
+
 -- the witness w of the real r looks at what is known
 pub record LooksAt (b e : ℕ) (h : Here) (known : List Known) (s t : AtCell) (sent : List (ℕ × Msg)) : Type 0 where
   pub real : RealView
@@ -117,8 +121,7 @@ pub record LooksAt (b e : ℕ) (h : Here) (known : List Known) (s t : AtCell) (s
   pub was : s.slot.real ≡ Some real
   pub seen : real.witness ≡ Some witness
   pub taken : s.looks ≡ t.looks + 1
-  pub is : t.slot.real
-      ≡ Some (record real { witness = Some (after_looking known (looks_of real witness known) (shown_of h real witness known) real witness) })
+  pub is : t.slot.real ≡ Some (looked_at h known real witness)
   pub tells : sent ≡ numbered b e witness.sent (shown_of h real witness known)
 
 -- what a cell that knows this of others than e does with its witness

@@ -51,7 +51,7 @@ use Rattle.seam_base_calls.proofs.WitnessKept.{OfReal, none_carried, each_weaker
 use Rattle.seam_told.specs.Telling.{most_entities, HasFewEntities, IsFewView, SeesFew, looks_left, most_shown}
 use Rattle.seam_told.proofs.Below.{AllBelow, known_to_below, known_to_few, view_few, few_after_looks, looks_few, mapped_few}
 use Rattle.seam_told.proofs.Absent.{absent_happens}
-use Rattle.seam_told.proofs.Looking.{NotTaken, as_often, gone, ticked, LooksAt, Look, still, elsewhere, looks, cell_looks}
+use Rattle.seam_told.proofs.Looking.{NotTaken, as_often, gone, ticked, looked_at, LooksAt, Look, still, elsewhere, looks, cell_looks}
 use Rattle.seam_told.proofs.LooksLeft.{looks_left_happens, looks_left_falls}
 
 no_real : SeesNoGhost real_of
@@ -207,7 +207,7 @@ module _ (f : Frame) (most : cells_of f.tree ≤ cell_count) (e b : ℕ) where
   -- after a look one less is left
   within_look : (h : Here) (known : List Known) → AllBelow known → length known ≤ most_entities → (r : RealView) (w : WitnessView) →
       r.witness ≡ Some w → (m n : ℕ) → m + 1 ≤ n → IsWithin n r →
-      IsWithin m (record r { witness = Some (after_looking known (looks_of r w known) (shown_of h r w known) r w) })
+      IsWithin m (looked_at h known r w)
   within_look h known below few r w seen m n le it =
       let view = it.sees w seen in
       let more = told_few h r w known view few in
@@ -290,10 +290,7 @@ module _ (f : Frame) (most : cells_of f.tree ≤ cell_count) (e b : ℕ) where
           let new = within_look at known below few l.real l.witness l.seen left (looks_left e w) less (h.each.cells g.k l.real l.was) in
           keeps_each IsLook g
           (λ r has.
-          let one : record l.real {
-            witness =
-                Some (after_looking known (looks_of l.real l.witness known) (shown_of at l.real l.witness known) l.real l.witness);
-          } ≡ r = let z = sym l.is ∙ has in cc in
+          let one : looked_at at known l.real l.witness ≡ r = let z = sym l.is ∙ has in cc in
           subst (IsWithin left) one new)
           (none_carried (IsWithin left) g.moves.0.sent (subst (IsSilent real_of) (sym l.tells) (numbered_unreal j e l.witness.sent _)))
 
