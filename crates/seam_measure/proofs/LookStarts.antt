@@ -48,7 +48,8 @@ use Rattle.seam_measure.proofs.RoundTicks.{sizes_of_round, round_ends}
 
 -- with more lines allowed it fits as well
 more_lines : (bases lines most : ℕ) (ws : ℕ → ℕ) (w : World) → lines ≤ most →
-    LooksFit (record { bases = bases; lines = lines; witnesses = ws }) w → LooksFit (record { bases = bases; lines = most; witnesses = ws }) w
+    LooksFit (record { bases = bases; lines = lines; witnesses = ws }) w →
+    LooksFit (record { bases = bases; lines = most; witnesses = ws }) w
 more_lines bases lines most ws w le h = record {
   lines = λ k c node e es r x is at has. let few = h.lines k c node e es r x is at has in omega (arith, few, le);
   witnesses = h.witnesses;
@@ -62,7 +63,8 @@ module _ (f : Frame) (w : World) (b : Batch) (may : MayBeLoaded f w b) (none : H
   round_fits v es run =
       more_lines f.settings.bases (length us) (entities (loaded w b)) (λ k. length ws) v many
       (looks_fit us (λ k. ws) f.settings.bases v
-      (always_among us ws (g f w b may none room) (loaded w b) (round.frame_start f w b may none room) (round.empty_start f w b may none room)
+      (always_among us ws (g f w b may none room) (loaded w b) (round.frame_start f w b may none room)
+      (round.empty_start f w b may none room)
       among v es run))
 
   pub round_is_bounded : (v : World) (es : List Event) → LeadsTo node_has_work node_steps (loaded w b) es v →
