@@ -25,7 +25,8 @@ use Rattle.seam_entity.specs.declared.message.Msg.TheVariants.{Call, Reap}
 use Rattle.seam_steps.specs.Slots.{Slot, SlotStep, slot_after}
 use Rattle.seam_steps.specs.CellCases.{about, slot_steps, stray_survey, stray_ready_call}
 use Rattle.seam_steps.specs.Looks.{stray_look}
-use Rattle.seam_steps.specs.Cells.{CellView, slot_of, stepped, known_to, surveys, calls_ready, looks_around, ready_entity, look_next, ready_next}
+use Rattle.seam_steps.specs.Cells.{CellView, slot_of, stepped, known_to, surveys, calls_ready, looks_around, ready_entity, look_next}
+use Rattle.seam_steps.specs.Cells.{ready_next}
 use Rattle.seam_steps.specs.Cells.{cell_task, cell_hears, cell_steps}
 use Rattle.seam_steps.specs.Bases.{BaseView, PartView, RouteView}
 use Rattle.seam_steps.specs.BaseCases.{unless_stray, on_route, base_order, is_base_node_of, tick_to, order_of_node, stray_order, ready_part}
@@ -37,7 +38,8 @@ use Rattle.seam_steps.proofs.Slots.{slot_stepped}
 use Rattle.seam_moves.specs.Frames.{Frame, IsInFrame}
 use Rattle.seam_moves.proofs.Classify.{frame_happens}
 use Rattle.seam_measure.specs.Looking.{LooksAmong, Always}
-use Rattle.seam_measure.proofs.AmongSlots.{SlotOk, LetterOk, SentOk, StepOk, unless_ok, message_ok, survey_ok, ready_ok, look_ok, all_mapped}
+use Rattle.seam_measure.proofs.AmongSlots.{SlotOk, LetterOk, SentOk, StepOk, unless_ok, message_ok, survey_ok, ready_ok, look_ok}
+use Rattle.seam_measure.proofs.AmongSlots.{all_mapped}
 use Rattle.seam_measure.proofs.LookCounts.{known_named, seen_are_named}
 
 module _ (us ws : List ℕ) where

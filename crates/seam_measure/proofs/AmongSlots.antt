@@ -32,7 +32,8 @@ use Rattle.seam_entity.specs.Here.{Here, cell_numbers, base_numbers, base_of}
 use Rattle.seam_entity.specs.Calls.{ready_order}
 use Rattle.seam_entity.specs.Executing.{copy_of_real, executed, executed_ready, shows, settled_to}
 use Rattle.seam_steps.specs.Slots.{Slot, NextPlace, SlotStep, rests, unless_stray, slot_after, heard}
-use Rattle.seam_steps.specs.Settle.{told, told_unless, ghost_message, ghost_messages, haunts_at, home_after, stays, goes, settled_by, settled}
+use Rattle.seam_steps.specs.Settle.{told, told_unless, ghost_message, ghost_messages, haunts_at, home_after, stays, goes, settled_by}
+use Rattle.seam_steps.specs.Settle.{settled}
 use Rattle.seam_steps.specs.CellCases.{about, offered, call_next_place, call, current_to, hand_over_comes, ghost_set}
 use Rattle.seam_steps.specs.CellCases.{ghost_drop, drop_if, drop_at, reap, survey_task, executes_ready, ready_in, ready_call_task}
 use Rattle.seam_steps.specs.CellCases.{is_stray, case_of, slot_steps}
@@ -121,8 +122,12 @@ module _ (us ws : List ℕ) where
 
       told_ok : (k : ℕ) (now old changed : Bool) (m : Msg) → told r.entity (r.beat + 1) (copy_of_real h r) now old changed ≡ Some m →
           LetterOk m
-      told_ok k true false changed m is = let same : GhostSet r.entity (r.beat + 1) (copy_of_real h r) ≡ m = cc in subst LetterOk same own_named
-      told_ok k true true true m is = let same : GhostSet r.entity (r.beat + 1) (copy_of_real h r) ≡ m = cc in subst LetterOk same own_named
+      told_ok k true false changed m is =
+          let same : GhostSet r.entity (r.beat + 1) (copy_of_real h r) ≡ m = cc in
+          subst LetterOk same own_named
+      told_ok k true true true m is =
+          let same : GhostSet r.entity (r.beat + 1) (copy_of_real h r) ≡ m = cc in
+          subst LetterOk same own_named
       told_ok k true true false m is = cc
       told_ok k false true changed m is = let same : GhostDrop r.entity (r.beat + 1) ≡ m = cc in subst LetterOk same tt
       told_ok k false false changed m is = cc
@@ -199,11 +204,13 @@ module _ (us ws : List ℕ) where
       kept_copy true g o c none is = absurd (let z = sym none ∙ is in cc)
       kept_copy false g o c none is = is
 
-      dropped_ok : (x : Slot) (beat : ℕ) → ((r : RealView) → x.real ≡ Some r → RealOk e r) → x.ghost ≡ s.ghost → SlotOk e (heard x beat None)
+      dropped_ok : (x : Slot) (beat : ℕ) → ((r : RealView) → x.real ≡ Some r → RealOk e r) → x.ghost ≡ s.ghost →
+          SlotOk e (heard x beat None)
       dropped_ok x beat real same = record {
         real = λ r is. real r is;
         copy = λ c is.
-            ok.copy c (ap copy_in (sym same) ∙ kept_copy (nat_lt (beat_in x.ghost) beat) (record { beat = beat; copy = None }) x.ghost c refl is);
+            let was = kept_copy (nat_lt (beat_in x.ghost) beat) (record { beat = beat; copy = None }) x.ghost c refl is in
+            ok.copy c (ap copy_in (sym same) ∙ was);
       }
 
       drop_ok : (beat : ℕ) → StepOk e s (ghost_drop s beat)
@@ -302,7 +309,8 @@ module _ (us ws : List ℕ) where
 
   module _ (e : ℕ) (h : Here) (s : Slot) (ok : SlotOk e s) (known : List Known)
       (named : AllByRecursion (λ x. IsNamed x.entity) (map seen_as known)) where
-    witness_ok : (r : RealView) (w : WitnessView) → RealOk e r → r.witness ≡ Some w → StepOk e s (looks_with h s r w known (shown_of h r w known))
+    witness_ok : (r : RealView) (w : WitnessView) → RealOk e r → r.witness ≡ Some w →
+        StepOk e s (looks_with h s r w known (shown_of h r w known))
     witness_ok r w its has =
         let was = its.witness w has in
         record {

@@ -36,7 +36,8 @@ use Rattle.seam_steps.specs.BaseCases.{ready_part, executes_ready, after_ready, 
 use Rattle.seam_steps.specs.BaseCases.{after_showing, proxy_task, task_without_orders, base_task, newer_route, current, offered_update}
 use Rattle.seam_steps.specs.BaseCases.{updated_proxy, update, is_stray, case_of, base_steps, base_has_work}
 use Rattle.seam_ones.proofs.HeldCounts.{turn_counts, early_counts, taken_counts}
-use Rattle.seam_measure.specs.Weights.{Sizes, settle_weight, tick_weight, proxy_weight, part_weight, order_weight, base_weight, letter_weight}
+use Rattle.seam_measure.specs.Weights.{Sizes, settle_weight, tick_weight, proxy_weight, part_weight, order_weight, base_weight}
+use Rattle.seam_measure.specs.Weights.{letter_weight}
 use Rattle.seam_measure.specs.Events.{BaseCan}
 use Rattle.seam_measure.proofs.Counts.{offer_adds, taking_removes, compared_equal, compared_greater}
 
@@ -52,7 +53,8 @@ module _ (h : Here) (p : PartView) (k : CallData) where
   executed_weighs : weight_or proxy_weight (executed h p k).proxy ≡ weight_or proxy_weight p.proxy
   executed_weighs = line_weighs _ _ p.proxy
 
-  offered_weighs : (o : Ordering) → nat_cmp k.number (order_of p.orders k.sender).next ≡ o → part_weight (offered h p k o) ≤ part_weight p + 1
+  offered_weighs : (o : Ordering) → nat_cmp k.number (order_of p.orders k.sender).next ≡ o →
+      part_weight (offered h p k o) ≤ part_weight p + 1
   offered_weighs Less is = omega arith
   offered_weighs Equal is =
       let one = turn_counts p.orders (rank_of k.sender) k.number k (compared_equal k.number (order_of p.orders k.sender).next is) in

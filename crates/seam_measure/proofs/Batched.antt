@@ -133,7 +133,8 @@ module _ (P : CallData → Type 0) where
 
   -- ---- a world
 
-  filtered_by : (o : Order) (os : List Order) (d : Bool) → OrderIs o → AllByRecursion OrderIs os → AllByRecursion OrderIs (cond d (o ∷ os) os)
+  filtered_by : (o : Order) (os : List Order) (d : Bool) → OrderIs o → AllByRecursion OrderIs os →
+      AllByRecursion OrderIs (cond d (o ∷ os) os)
   filtered_by o os true h all = (h, all)
   filtered_by o os false h all = all
 

@@ -28,8 +28,10 @@ use Rattle.seam_entity.specs.declared.message.Msg.{Msg}
 use Rattle.seam_entity.specs.declared.message.Msg.TheVariants.{Call, BaseCall, Hand, Current, GhostSet, GhostDrop, Tick, Reap, Update}
 use Rattle.seam_steps.specs.Bases.{BaseView, PartView, ProxyView, RouteView, with_part, line_if}
 use Rattle.seam_steps.specs.BaseCases.{unless_stray, may_show, may_execute, executed, offered, part_called, base_order, is_base_node_of}
-use Rattle.seam_steps.specs.BaseCases.{order_of_node, stray_order, ready_part, executes_ready, after_ready, ready_proxy, shows_next, after_showing}
-use Rattle.seam_steps.specs.BaseCases.{proxy_task, task_without_orders, base_task, newer_route, current, offered_update, updated_proxy, update}
+use Rattle.seam_steps.specs.BaseCases.{order_of_node, stray_order, ready_part, executes_ready, after_ready, ready_proxy, shows_next}
+use Rattle.seam_steps.specs.BaseCases.{after_showing}
+use Rattle.seam_steps.specs.BaseCases.{proxy_task, task_without_orders, base_task, newer_route, current, offered_update, updated_proxy}
+use Rattle.seam_steps.specs.BaseCases.{update}
 use Rattle.seam_steps.specs.BaseCases.{is_stray, case_of, base_steps, client_is_ready, part_is_ready}
 use Rattle.seam_steps.specs.Nodes.{NodeView, World, node_steps}
 use Rattle.seam_steps.specs.Nodes.NodeView.{Cell, Base}

@@ -281,7 +281,8 @@ module _ (us : List ℕ) (c : CellView) (reals : (e : ℕ) (r : RealView) → ta
       (named_again (known_copy c.here) (copied (table.entries c.ghosts)) (λ p. refl)
       (copied_named (table.entries c.ghosts) (entries_pass names_copy c.ghosts copy_named))))
 
-as_seen : (us : List ℕ) (ks : List Known) → AllAmong us (map (λ p. p.0) ks) → AllByRecursion (λ x. is_among us x.entity ≡ true) (map seen_as ks)
+as_seen : (us : List ℕ) (ks : List Known) → AllAmong us (map (λ p. p.0) ks) →
+    AllByRecursion (λ x. is_among us x.entity ≡ true) (map seen_as ks)
 as_seen us [] h = tt
 as_seen us (k ∷ ks) h = (h.0, as_seen us ks h.1)
 

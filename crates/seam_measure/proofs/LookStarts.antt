@@ -1,5 +1,5 @@
 -- The bounds of a round with ticks and of looks, by what there is to look at where they begin.
-use Rattle.std.proofs.Common.{◌≡◌, ℕ, ◌+◌, ◌≤◌, ◌⊎◌, List, length, Option, None, Some, refl, sym, ap, ◌∙◌, subst, arith, inl, inr, ◌<◌}
+use Rattle.std.proofs.Common.{[], ◌∷◌, ◌≡◌, ℕ, ◌+◌, ◌≤◌, ◌⊎◌, List, length, Option, None, Some, refl, sym, ap, ◌∙◌, subst, arith, inl, inr, ◌<◌}
 use Rattle.std.specs.Prelude.{Bool, true, false, slice_get}
 use Rattle.std.specs.List.{AllByRecursion, range_with_len}
 use Rattle.std.specs.FinMap as table
@@ -20,13 +20,15 @@ use Rattle.seam_entity.specs.Reals.{RealView, WitnessView}
 use Rattle.seam_steps.specs.Cells.{CellView}
 use Rattle.seam_steps.specs.Nodes.{NodeView, World, node_steps, node_has_work}
 use Rattle.seam_steps.specs.Nodes.NodeView.{Cell, Base}
-use Rattle.seam_steps.specs.Loads.{order_if, ordered_at, loaded, look_loaded}
+use Rattle.seam_steps.specs.Loads.{order_if, ordered_at, loaded, look_loaded, reap_ordered_at, reaps_loaded}
 use Rattle.seam_moves.specs.Frames.{Frame, IsInFrame}
 use Rattle.seam_moves.specs.Sights.{mine, has_of, has_none, entity_flow}
 use Rattle.seam_moves.proofs.Classify.{frame_happens}
 use Rattle.seam_ones.specs.Ones.{real_in, real_of}
 use Rattle.seam_between.specs.Between.{IsBetweenRounds}
-use Rattle.seam_between.proofs.Loading.{node_there}
+use Rattle.seam_between.proofs.Loading.{each, node_there}
+use Rattle.seam_rounds.specs.Rounds.{AreReapable}
+use Rattle.seam_measure.proofs.ReapPhase as reap
 use Rattle.seam_rounds.proofs.Shape.{Somewhere, Nowhere, search_real}
 use Rattle.seam_rounds.proofs.Calm.{IsCalm}
 use Rattle.seam_rounds.proofs.Giving.{look_cell, reals_stay}
@@ -48,7 +50,8 @@ use Rattle.seam_measure.proofs.RoundTicks.{sizes_of_round, round_ends}
 
 -- with more lines allowed it fits as well
 more_lines : (bases lines most : ℕ) (ws : ℕ → ℕ) (w : World) → lines ≤ most →
-    LooksFit (record { bases = bases; lines = lines; witnesses = ws }) w → LooksFit (record { bases = bases; lines = most; witnesses = ws }) w
+    LooksFit (record { bases = bases; lines = lines; witnesses = ws }) w →
+    LooksFit (record { bases = bases; lines = most; witnesses = ws }) w
 more_lines bases lines most ws w le h = record {
   lines = λ k c node e es r x is at has. let few = h.lines k c node e es r x is at has in omega (arith, few, le);
   witnesses = h.witnesses;
@@ -62,7 +65,8 @@ module _ (f : Frame) (w : World) (b : Batch) (may : MayBeLoaded f w b) (none : H
   round_fits v es run =
       more_lines f.settings.bases (length us) (entities (loaded w b)) (λ k. length ws) v many
       (looks_fit us (λ k. ws) f.settings.bases v
-      (always_among us ws (g f w b may none room) (loaded w b) (round.frame_start f w b may none room) (round.empty_start f w b may none room)
+      (always_among us ws (g f w b may none room) (loaded w b) (round.frame_start f w b may none room)
+      (round.empty_start f w b may none room)
       among v es run))
 
   pub round_is_bounded : (v : World) (es : List Event) → LeadsTo node_has_work node_steps (loaded w b) es v →
@@ -222,3 +226,35 @@ module _ (f : Frame) (u : World) (between : IsBetweenRounds f u) (none : HoldsNo
   clients_keep_room last shown room =
       clients_always f u between none (length us) (λ k. length (ws k))
       (λ x ds on. looks_fit us ws f.settings.bases x (looks_among x ds on)) last shown room
+
+-- ---- reaps bring no more
+
+reaps_same : (es : List ℕ) (c : CellView) (s : NodeView) → each reap_ordered_at es s ≡ Cell c → s ≡ Cell c
+reaps_same [] c s h = h
+reaps_same (e ∷ es) c (Cell d) h = reaps_same es c (Cell d) h
+reaps_same (e ∷ es) c (Base b) h = absurd (no_cell (reaps_same es c (reap_ordered_at e (Base b)) h))
+  where
+    no_cell : reap_ordered_at e (Base b) ≡ Cell c → ⊥
+    no_cell is = cc
+
+module _ (f : Frame) (u : World) (between : IsBetweenRounds f u) (none : HoldsNothing u) (es : List ℕ) (may : AreReapable u es)
+    (us ws : List ℕ) (among : LooksAmong us (λ k. ws) u) where
+  reaped_cell : (k : ℕ) (c : CellView) → slice_get (reaps_loaded u es).nodes k ≡ Some (Cell c) → slice_get u.nodes k ≡ Some (Cell c)
+  reaped_cell k c at =
+      let now = sym (ap (λ v. slice_get v.nodes k) (reap.loaded_is f u between none es may)) ∙ at in
+      let was =
+      node_there (slice_get u.nodes k) (each reap_ordered_at es) (Cell c) (sym (slice_get-map (each reap_ordered_at es) u.nodes k) ∙ now) in
+      was.1 ∙ ap Some (reaps_same es c was.0 was.2)
+
+  reaped_among : LooksAmong us (λ k. ws) (reaps_loaded u es)
+  reaped_among = record {
+    reals = λ k c at e r there. among.reals k c (reaped_cell k c at) e r there;
+    copies = λ k c at e x there. among.copies k c (reaped_cell k c at) e x there;
+    views = λ k c at e r x there has. among.views k c (reaped_cell k c at) e r x there has;
+    witnesses = λ k c at e r x there has. among.witnesses k c (reaped_cell k c at) e r x there has;
+  }
+
+  pub reaps_always_among : Always (LooksAmong us (λ k. ws)) (reaps_loaded u es)
+  reaps_always_among =
+      always_among us ws f (reaps_loaded u es) (reap.frame_loaded f u between none es may) (reap.empty_start f u between none es may)
+      reaped_among

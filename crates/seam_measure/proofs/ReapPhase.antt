@@ -104,7 +104,7 @@ module _ (f : Frame) (u : World) (between : IsBetweenRounds f u) (none : HoldsNo
   abbrev start : World
   start = reaps_loaded u es
 
-  loaded_is : start ≡ with_nodes u turn
+  pub loaded_is : start ≡ with_nodes u turn
   loaded_is = reaping.loaded_is f u between es may
 
   plain_idle : (k : ℕ) (s : NodeView) → slice_get u.nodes k ≡ Some s → node_has_work s ≡ false → IsPlain (IsReap u) s
@@ -128,7 +128,7 @@ module _ (f : Frame) (u : World) (between : IsBetweenRounds f u) (none : HoldsNo
       (bare_start f e (with_nodes u turn) (reaps_framed f u between.nodes es) (empty_links no_sizes f u between none)
       (IsReap u) plain_nodes (no_tick u) (sole_real e) (λ o is own. no_call u o is))
 
-  frame_loaded : IsInFrame f start
+  pub frame_loaded : IsInFrame f start
   frame_loaded = subst (IsInFrame f) (sym loaded_is) (reaps_framed f u between.nodes es)
 
   orders_of_plain : (s : NodeView) → IsPlain (IsReap u) s → OrdersAre (IsReap u) s
@@ -140,7 +140,7 @@ module _ (f : Frame) (u : World) (between : IsBetweenRounds f u) (none : HoldsNo
       subst (λ w. EachNode (λ k s. OrdersAre (IsReap u) s) w.nodes) (sym loaded_is)
       (λ k s at. orders_of_plain s (plain_nodes k s at))
 
-  empty_start : (x y : ℕ) → link start.rows x y ≡ []
+  pub empty_start : (x y : ℕ) → link start.rows x y ≡ []
   empty_start x y = ap (λ w. link w.rows x y) loaded_is ∙ empty_links no_sizes f u between none x y
 
   -- ---- over every list of events

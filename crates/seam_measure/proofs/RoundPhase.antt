@@ -67,7 +67,8 @@ pub weaker : {X : Type 0} (P Q : X → Type 0) (xs : List X) → ((x : X) → P 
 weaker P Q [] g all = tt
 weaker P Q (x ∷ xs) g all = (g x all.0, weaker P Q xs g all.1)
 
-pub both_all : {X : Type 0} (P Q : X → Type 0) (xs : List X) → AllByRecursion P xs → AllByRecursion Q xs → AllByRecursion (λ x. P x × Q x) xs
+pub both_all : {X : Type 0} (P Q : X → Type 0) (xs : List X) → AllByRecursion P xs → AllByRecursion Q xs →
+    AllByRecursion (λ x. P x × Q x) xs
 both_all P Q [] a b = tt
 both_all P Q (x ∷ xs) a b = ((a.0, b.0), both_all P Q xs a.1 b.1)
 
@@ -89,7 +90,8 @@ order_later os o (order.Reap e) h = tt
 orders_in : (os : List (ℕ × Order)) → AllByRecursion (λ o. OrderIs (IsIn os) o.1) os
 orders_in [] = tt
 orders_in (o ∷ os) =
-    (order_in os o, weaker (λ x. OrderIs (IsIn os) x.1) (λ x. OrderIs (IsIn (o ∷ os)) x.1) os (λ x h. order_later os o x.1 h) (orders_in os))
+    let later = weaker (λ x. OrderIs (IsIn os) x.1) (λ x. OrderIs (IsIn (o ∷ os)) x.1) os (λ x h. order_later os o x.1 h) (orders_in os) in
+    (order_in os o, later)
 
 module _ (f : Frame) (w : World) (b : Batch) (may : MayBeLoaded f w b) (none : HoldsNothing w)
     (room : AllLinesKeepRoom f w b) where

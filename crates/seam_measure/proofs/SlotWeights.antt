@@ -25,13 +25,15 @@ use Rattle.seam_entity.specs.declared.message.Msg.{Msg}
 use Rattle.seam_entity.specs.declared.message.Msg.TheVariants.{Call, BaseCall, Hand, Current, GhostSet, GhostDrop, Tick, Reap, Update}
 use Rattle.seam_entity.specs.Here.{Here, cell_count, base_of}
 use Rattle.seam_entity.specs.Calls.{has_ready, ready_order, order_is_ready}
-use Rattle.seam_entity.specs.Executing.{copy_of_real, may_settle, may_execute, may_call, with_offer, executed, executed_ready, shows, settled_to}
+use Rattle.seam_entity.specs.Executing.{copy_of_real, may_settle, may_execute, may_call, with_offer, executed, executed_ready, shows}
+use Rattle.seam_entity.specs.Executing.{settled_to}
 use Rattle.seam_table.proofs.Found.{found}
 use Rattle.seam_steps.specs.Slots.{Slot, NextPlace, SlotStep, unless_stray, slot_after}
 use Rattle.seam_steps.specs.Settle.{told, told_unless, ghost_message, ghost_messages, gone_to, stays, settled_by, settled}
 use Rattle.seam_steps.specs.Settle.{home_after, haunts_at}
 use Rattle.seam_steps.specs.CellCases.{offered, call_real_here, call_next_place, call, stray_call, hand_over_comes, stray_hand}
-use Rattle.seam_steps.specs.CellCases.{ghost_set, stray_ghost_set, ghost_drop, drop_at, drop_if, reap, stray_reap, survey_task, stray_survey}
+use Rattle.seam_steps.specs.CellCases.{ghost_set, stray_ghost_set, ghost_drop, drop_at, drop_if, reap, stray_reap, survey_task}
+use Rattle.seam_steps.specs.CellCases.{stray_survey}
 use Rattle.seam_steps.specs.CellCases.{executes_ready, ready_in, is_stray, slot_steps, ready_call_task, stray_ready_call}
 use Rattle.seam_steps.specs.Looks.{Known, numbered, own_due, shown_for, all_shown, looks_of, shown_of, look_by, look_task}
 use Rattle.seam_steps.specs.Looks.{stray_look}

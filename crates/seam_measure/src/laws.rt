@@ -86,12 +86,14 @@ pub fn looks_end()
 {}
 
 /// A look has at most a line for each entity that there is to look at (`few`). And no event brings more to look at, in any phase, where
-/// none is on its way at the start (`kept`).
+/// none is on its way at the start (`kept`), as where reaps are loaded (`reaps`).
 pub fn looks_are_about_what_there_is()
     ensures few { (us : List ℕ) (ws : ℕ → List ℕ) (bases : ℕ) (w : World) → LooksAmong us ws w →
         LooksFit (record { bases = bases; lines = length us; witnesses = λ k. length (ws k) }) w }
     ensures kept { (us ws : List ℕ) (f : Frame) (w : World) → IsInFrame f w → ((a b : ℕ) → link w.rows a b ≡ []) →
         LooksAmong us (λ k. ws) w → Always (LooksAmong us (λ k. ws)) w }
+    ensures reaps { (f : Frame) (u : World) → IsBetweenRounds f u → HoldsNothing u → (es : List ℕ) → AreReapable u es → (us ws : List ℕ) →
+        LooksAmong us (λ k. ws) u → Always (LooksAmong us (λ k. ws)) (reaps_loaded u es) }
 {}
 
 /// So to take enabled events, whichever, ends: where no list of them is longer than n, a list of n of them leaves the world quiet.
