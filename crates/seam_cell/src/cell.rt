@@ -225,4 +225,11 @@ impl Cell {
         out.send(to, Msg::Call(call));
         Ok(())
     }
+
+    /// The copies of entities of other cells.
+    pub fn copies(&self) -> &GhostBook<GhostCopy>
+        ensures { result.now.ghosts ≡ self.now.ghosts }
+    {
+        &self.copies
+    }
 }

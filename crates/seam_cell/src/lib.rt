@@ -16,3 +16,6 @@ pub use entity_set::EntitySet;
 pub use news::{Subject, Telling, Told};
 pub use next::Next;
 pub use settle::{Plan, Ready, get_ready, leave, make_plan, make_room, stay};
+
+#[cfg(test)]
+mod tests;
