@@ -87,7 +87,8 @@ order_later os o (order.Reap e) h = tt
 orders_in : (os : List (ℕ × Order)) → AllByRecursion (λ o. OrderIs (IsIn os) o.1) os
 orders_in [] = tt
 orders_in (o ∷ os) =
-    let later = all_weaker (λ x. OrderIs (IsIn os) x.1) (λ x. OrderIs (IsIn (o ∷ os)) x.1) os (λ x h. order_later os o x.1 h) (orders_in os) in
+    let later =
+    all_weaker (λ x. OrderIs (IsIn os) x.1) (λ x. OrderIs (IsIn (o ∷ os)) x.1) os (λ x h. order_later os o x.1 h) (orders_in os) in
     (order_in os o, later)
 
 module _ (f : Frame) (w : World) (b : Batch) (may : MayBeLoaded f w b) (none : HoldsNothing w)
