@@ -36,10 +36,11 @@ use Rattle.seam_steps.specs.BaseCases.{ready_part, executes_ready, after_ready, 
 use Rattle.seam_steps.specs.BaseCases.{after_showing, proxy_task, task_without_orders, base_task, newer_route, current, offered_update}
 use Rattle.seam_steps.specs.BaseCases.{updated_proxy, update, is_stray, case_of, base_steps, base_has_work}
 use Rattle.seam_ones.proofs.HeldCounts.{turn_counts, early_counts, taken_counts}
+use Rattle.seam_base_calls.proofs.PartSteps.{equal_of, greater_of}
 use Rattle.seam_measure.specs.Weights.{Sizes, settle_weight, tick_weight, proxy_weight, part_weight, order_weight, base_weight}
 use Rattle.seam_measure.specs.Weights.{letter_weight}
 use Rattle.seam_measure.specs.Events.{BaseCan}
-use Rattle.seam_measure.proofs.Counts.{offer_adds, taking_removes, compared_equal, compared_greater}
+use Rattle.seam_measure.proofs.Counts.{offer_adds, taking_removes}
 
 -- ---- parts
 
@@ -57,11 +58,11 @@ module _ (h : Here) (p : PartView) (k : CallData) where
       part_weight (offered h p k o) ≤ part_weight p + 1
   offered_weighs Less is = omega arith
   offered_weighs Equal is =
-      let one = turn_counts p.orders (rank_of k.sender) k.number k (compared_equal k.number (order_of p.orders k.sender).next is) in
+      let one = turn_counts p.orders (rank_of k.sender) k.number k (equal_of k.number (order_of p.orders k.sender).next is) in
       let two = executed_weighs in
       omega (arith, one, two)
   offered_weighs Greater is =
-      let one = early_counts p.orders (rank_of k.sender) k.number k (compared_greater k.number (order_of p.orders k.sender).next is) in
+      let one = early_counts p.orders (rank_of k.sender) k.number k (greater_of k.number (order_of p.orders k.sender).next is) in
       omega (arith, one)
 
 ready_weighs : (h : Here) (p : PartView) (o : ℕ × OrderView CallData) (i : Option CallData) → ready_order p.orders ≡ Some o →

@@ -1,5 +1,5 @@
 -- Sums of weights: lists that grow or shrink, maps that are set, and items that are held.
-use Rattle.std.proofs.Common.{◌≡◌, ℕ, zero, suc, ◌+◌, ◌*◌, ◌<◌, ◌≤◌, Bool, true, false, cond, eqb, ltb, List, [], ◌∷◌, length}
+use Rattle.std.proofs.Common.{◌≡◌, ℕ, zero, suc, ◌+◌, ◌*◌, ◌≤◌, Bool, true, false, cond, eqb, ltb, List, [], ◌∷◌, length}
 use Rattle.std.proofs.Common.{Option, None, Some, filter, refl, ap, ◌∙◌, arith}
 use Rattle.std.specs.Prelude.{filter_map}
 use Rattle.std.specs.List.{cons_option}
@@ -7,7 +7,6 @@ use Rattle.std.specs.Ordering.{nat_cmp, match_ordering}
 use Rattle.std.specs.declared.cmp.Ordering.{Ordering}
 use Rattle.std.specs.declared.cmp.Ordering.TheVariants.{Less, Equal, Greater}
 use Rattle.std.specs.FinMap as table
-use Rattle.std.proofs.lemmas.Bool.Decides.{nat_tests}
 use Rattle.seam_order.specs.Held.{OrderView, item_at, with_item, without}
 use Rattle.seam_order.specs.Offers.{next_item, after_offer, after_item, after_taking}
 use Rattle.seam_runs.specs.Sums.{weight_or, map_total}
@@ -99,9 +98,3 @@ module _ {T : Type 0} where
       let one = ap (λ i. length (after_item o i).held) e in
       let two = without_counts o.next x o.held e in
       omega (arith, one, two)
-
-pub compared_equal : (a b : ℕ) → nat_cmp a b ≡ Equal → a ≡ b
-compared_equal a b is = grind (arith, nat_tests, is)
-
-pub compared_greater : (a b : ℕ) → nat_cmp a b ≡ Greater → b < a
-compared_greater a b is = grind (arith, nat_tests, is)

@@ -1,5 +1,6 @@
 -- The bounds of a round with ticks and of looks, by what there is to look at where they begin.
-use Rattle.std.proofs.Common.{[], ◌∷◌, ◌≡◌, ℕ, ◌+◌, ◌≤◌, ◌⊎◌, List, length, Option, None, Some, refl, sym, ap, ◌∙◌, subst, arith, inl, inr, ◌<◌}
+use Rattle.std.proofs.Common.{[], ◌∷◌, ◌≡◌, ℕ, ◌+◌, ◌≤◌, ◌⊎◌, List, length, Option, None, Some, refl, sym}
+use Rattle.std.proofs.Common.{ap, ◌∙◌, subst, arith, inl, inr, ◌<◌}
 use Rattle.std.specs.Prelude.{Bool, true, false, slice_get}
 use Rattle.std.specs.List.{AllByRecursion, range_with_len}
 use Rattle.std.specs.FinMap as table

@@ -41,6 +41,7 @@ use Rattle.seam_strays.proofs.InRound.{nobody}
 use Rattle.seam_strays.proofs.NoStrays.{round_tasks}
 use Rattle.seam_ranks.proofs.HandedOver.{passed_few}
 use Rattle.seam_base_calls.specs.Strays.{NoneIsStray}
+use Rattle.seam_base_calls.proofs.WitnessKept.{all_weaker}
 use Rattle.seam_base_calls.proofs.NodeStray.{none_is_stray}
 use Rattle.seam_base_rounds.specs.Parts.{MayBeLoaded, no_client, IsAlone}
 use Rattle.seam_base_rounds.proofs.Loaded.{alone_loaded}
@@ -62,10 +63,6 @@ use Rattle.seam_measure.proofs.RoundStart.{blank_at, loaded_weighs, left_few}
 use Rattle.seam_measure.proofs.Starts.{IsPlain, IsSoleReal, parts_none}
 
 -- ---- each order is one of the batch's
-
-pub weaker : {X : Type 0} (P Q : X → Type 0) (xs : List X) → ((x : X) → P x → Q x) → AllByRecursion P xs → AllByRecursion Q xs
-weaker P Q [] g all = tt
-weaker P Q (x ∷ xs) g all = (g x all.0, weaker P Q xs g all.1)
 
 pub both_all : {X : Type 0} (P Q : X → Type 0) (xs : List X) → AllByRecursion P xs → AllByRecursion Q xs →
     AllByRecursion (λ x. P x × Q x) xs
@@ -90,7 +87,8 @@ order_later os o (order.Reap e) h = tt
 orders_in : (os : List (ℕ × Order)) → AllByRecursion (λ o. OrderIs (IsIn os) o.1) os
 orders_in [] = tt
 orders_in (o ∷ os) =
-    let later = weaker (λ x. OrderIs (IsIn os) x.1) (λ x. OrderIs (IsIn (o ∷ os)) x.1) os (λ x h. order_later os o x.1 h) (orders_in os) in
+    let later =
+    all_weaker (λ x. OrderIs (IsIn os) x.1) (λ x. OrderIs (IsIn (o ∷ os)) x.1) os (λ x h. order_later os o x.1 h) (orders_in os) in
     (order_in os o, later)
 
 module _ (f : Frame) (w : World) (b : Batch) (may : MayBeLoaded f w b) (none : HoldsNothing w)
@@ -204,7 +202,7 @@ module _ (f : Frame) (w : World) (b : Batch) (may : MayBeLoaded f w b) (none : H
       where
         ordered_by : (s : NodeView) → OrdersAre Ok s → OrdersAre (OrderIs (IsIn b.orders)) s
         ordered_by (Cell c) h = tt
-        ordered_by (Base n) h = weaker Ok (OrderIs (IsIn b.orders)) n.orders (λ o h. h.1) h
+        ordered_by (Base n) h = all_weaker Ok (OrderIs (IsIn b.orders)) n.orders (λ o h. h.1) h
 
   -- ---- how long a round is
 
@@ -231,7 +229,7 @@ module _ (f : Frame) (w : World) (b : Batch) (may : MayBeLoaded f w b) (none : H
     passes_few : all_passes start es ≤ cell_orders b * most
     passes_few =
         let each =
-        weaker (λ o. IsKnown o.1) (λ o. passed_in start es o.1 ≤ one_if_cell o.1 * most) b.orders (λ o h. order_few o.1 h)
+        all_weaker (λ o. IsKnown o.1) (λ o. passed_in start es o.1 ≤ one_if_cell o.1 * most) b.orders (λ o h. order_few o.1 h)
         may.fits.known in
         let few = cells_bound (passed_in start es) most b.orders each in
         let sum = passes_are_ordered b.orders start (λ u ds on a k c ms at. calls_then u ds on a k c ms at) es run.each in

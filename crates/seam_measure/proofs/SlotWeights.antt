@@ -38,9 +38,10 @@ use Rattle.seam_steps.specs.CellCases.{executes_ready, ready_in, is_stray, slot_
 use Rattle.seam_steps.specs.Looks.{Known, numbered, own_due, shown_for, all_shown, looks_of, shown_of, look_by, look_task}
 use Rattle.seam_steps.specs.Looks.{stray_look}
 use Rattle.seam_ones.proofs.HeldCounts.{turn_counts, early_counts, taken_counts}
+use Rattle.seam_base_calls.proofs.PartSteps.{equal_of, greater_of}
 use Rattle.seam_measure.specs.Weights.{Sizes, settle_weight, settling, look_weight, real_weight, letter_weight}
 use Rattle.seam_measure.specs.Events.{is_left}
-use Rattle.seam_measure.proofs.Counts.{one_more, chosen_are_few, compared_equal, compared_greater}
+use Rattle.seam_measure.proofs.Counts.{one_more, chosen_are_few}
 
 module _ (z : Sizes) where
   abbrev g : ℕ → Msg → ℕ
@@ -123,10 +124,10 @@ module _ (z : Sizes) where
   offered_weigh h t s r k Less is e = let w = had s r is in omega (arith, w)
   offered_weigh h t s r k Equal is e =
       let one = settled_weigh h t s (executed h r k) (shows h r k) in
-      let two = executed_weighs h r k (compared_equal k.number (order_of r.orders k.sender).next e) in
+      let two = executed_weighs h r k (equal_of k.number (order_of r.orders k.sender).next e) in
       omega (arith, one, two)
   offered_weigh h t s r k Greater is e =
-      let one = held_weighs r k (compared_greater k.number (order_of r.orders k.sender).next e) in
+      let one = held_weighs r k (greater_of k.number (order_of r.orders k.sender).next e) in
       omega (arith, one)
 
   rests_by : (b : Bool) (s : Slot) (t : SlotStep) (n : ℕ) → slot_weight s ≤ n → step_weight s t ≤ n → step_weight s (unless_stray b t) ≤ n
