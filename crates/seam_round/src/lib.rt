@@ -4,5 +4,5 @@
 mod laws;
 mod limits;
 
-pub use laws::command_is_one;
+pub use laws::{command_is_one, verdict_is_one};
 pub use limits::MOST_CLIENTS;
