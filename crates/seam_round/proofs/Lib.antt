@@ -1,2 +1,4 @@
 pub mod Commands
 pub mod Verdicts
+pub mod Public
+pub mod WithoutTick

@@ -1,16 +1,15 @@
 -- A line has one verdict.
-use Rattle.std.proofs.Common.{◌≡◌, ◌≤◌, ◌<◌, ◌⊎◌, ℕ, Bool, true, false, List, [], ◌∷◌, get_or, inl, inr, refl, sym, ap, ◌∙◌, subst, arith}
+use Rattle.std.proofs.Common.{◌≡◌, ◌≤◌, ◌⊎◌, ℕ, Bool, true, false, List, get_or, inl, inr, refl, sym, ap, ◌∙◌, subst, arith}
 use Rattle.std.specs.Prelude.{◌==◌}
 use Rattle.seam_io.specs.Lines.{Line, Content, Long}
-use Rattle.seam_geo.specs.Rect.{Area, IsProper}
-use Rattle.seam_value.specs.NumberWords.{SpellsNumber, SpellsPositive}
+use Rattle.seam_geo.specs.Rect.{Area}
 use Rattle.seam_value.proofs.NumberWords.{spells_one_number}
 use Rattle.seam_words.specs.Faults.{Refuses}
 use Rattle.seam_words.specs.Texts.{HasWords}
 use Rattle.seam_words.specs.declared.words.WordsError.{WordsError}
 use Rattle.seam_words.specs.declared.words.WordsError.TheVariants.{NotUtf8}
 use Rattle.seam_words.proofs.WordTexts.{words_are_one_list, no_words_at_fault, fault_is_first}
-use Rattle.seam_tree.specs.Boundary.{LeavesPartEmpty, RunsThrough, place_along}
+use Rattle.seam_tree.specs.Boundary.{LeavesPartEmpty, RunsThrough}
 use Rattle.seam_tree.specs.Division.{Division, cells_of, area, HasBoundary}
 use Rattle.seam_tree.specs.Change.{with_cut, with_place}
 use Rattle.seam_tree.specs.declared.boundary.Axis.{Axis}
@@ -41,8 +40,8 @@ use Rattle.seam_transcript.proofs.Verdicts as known
 use Rattle.seam_round.specs.Language as language
 use Rattle.seam_round.specs.Book as book
 use Rattle.seam_round.specs.Book.{Book, Entry, creates_and_calls, live_as, accepted, tree_of}
-use Rattle.seam_round.specs.Judging.{NamesSender, NamesLive, NamesCall, RefusesCut, RefusesShift, AddsTaken, Adds, Cause, Taken, CutRefused}
-use Rattle.seam_round.specs.Judging.{ShiftRefused, rank, HoldsAgainstTaken, HoldsAgainst, HoldsAgainstWords, Holds, IsFirst, Verdict, Skipped}
+use Rattle.seam_round.specs.Judging.{NamesLive, NamesCall, RefusesCut, RefusesShift, AddsTaken, Adds, Cause, Taken, CutRefused}
+use Rattle.seam_round.specs.Judging.{ShiftRefused, rank, HoldsAgainst, Holds, IsFirst, Verdict, Skipped}
 use Rattle.seam_round.specs.Judging.{Refused, Accepted, Synced, Spells, Judges}
 use Rattle.seam_round.proofs.Commands.{one_command, line_spells_one}
 
@@ -241,21 +240,21 @@ spelled content ws d has is = subst (HasWords content) is has
 cut_is_one : (h : Header) (b : Book) (line : Line) (e f : CutError) → Holds h b line (CutRefused e) → Holds h b line (CutRefused f) → e ≡ f
 cut_is_one h b line e f (content, ws, same, has, (d, is, against)) other =
     let there = against_command h b content d (spelled content ws d has is) (CutRefused f)
-        (subst (λ (l : Line). Holds h b l (CutRefused f)) same other) in
+    (subst (λ (l : Line). Holds h b l (CutRefused f)) same other) in
     cut_against h b d e f against there
 
 shift_is_one : (h : Header) (b : Book) (line : Line) (e f : ShiftError) → Holds h b line (ShiftRefused e) →
     Holds h b line (ShiftRefused f) → e ≡ f
 shift_is_one h b line e f (content, ws, same, has, (d, is, against)) other =
     let there = against_command h b content d (spelled content ws d has is) (ShiftRefused f)
-        (subst (λ (l : Line). Holds h b l (ShiftRefused f)) same other) in
+    (subst (λ (l : Line). Holds h b l (ShiftRefused f)) same other) in
     shift_against h b d e f against there
 
 not_cut_and_shift : (h : Header) (b : Book) (line : Line) (e : CutError) (f : ShiftError) → Holds h b line (CutRefused e) →
     Holds h b line (ShiftRefused f) → ⊥
 not_cut_and_shift h b line e f (content, ws, same, has, (d, is, against)) other =
     let there = against_command h b content d (spelled content ws d has is) (ShiftRefused f)
-        (subst (λ (l : Line). Holds h b l (ShiftRefused f)) same other) in
+    (subst (λ (l : Line). Holds h b l (ShiftRefused f)) same other) in
     not_both h b d e f against there
 
 below_trees : (k : TakenCause) → taken.rank k ≤ 12

@@ -107,9 +107,9 @@ is_new b e = list_any (makes e) b.current
 abbrev pub is_new_client : Book → ℕ → Bool
 is_new_client b e = list_any (joins e) b.current
 
--- whether the entity has a client at some time of the open round: it was given one, and was not dead before
+-- whether the entity has a client at some time of the open round: it was made and given one, and was not dead before
 abbrev pub is_shown : Book → ℕ → Bool
-is_shown b e = list_any (joins e) (entries b) && not (was_dead b e)
+is_shown b e = is_some (created_as b e) && list_any (joins e) (entries b) && not (was_dead b e)
 
 -- ---- cells, looks and balances
 

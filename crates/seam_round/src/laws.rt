@@ -1,9 +1,18 @@
 // What the definitions say together, each law on a function that does nothing.
-ghost use Rattle.std.specs.Prelude.{◌≡◌};
+ghost use Rattle.std.specs.Prelude.{◌≡◌, ◌⊎◌, ℕ, ◌<◌, ◌≤◌, IsTrue, IsFalse, List};
 ghost use Rattle.seam_io.specs.Lines.{Line};
 ghost use Rattle.seam_defs.specs.Types.{AreDefs};
+ghost use Rattle.seam_call.specs.declared.call.Call.{Call};
+ghost use Rattle.seam_call.specs.declared.create.Create.{Create};
+ghost use Rattle.seam_defs.specs.declared.flags.Part.TheVariants as part;
 ghost use Rattle.seam_toml.specs.declared.header.Header.{Header};
-ghost use Rattle.seam_round.specs.Book.{Book};
+ghost use Rattle.seam_transcript.specs.Orders.{Orders};
+ghost use Rattle.seam_transcript.specs.Round.{Lists};
+ghost use Rattle.seam_round.specs.Book.{Book, live_as, has_tick};
+ghost use Rattle.seam_round.specs.FlatTable.{has_changed_at, public_at, rows_of};
+ghost use Rattle.seam_round.specs.Standing.{Standing, replica_of};
+ghost use Rattle.seam_round.specs.Lines.{RoundData};
+ghost use Rattle.seam_round.specs.Round.{IsRound};
 ghost use Rattle.seam_round.specs.Judging.{Verdict, Judges};
 ghost use Rattle.seam_round.specs.Language.{Command, words_of};
 
@@ -15,4 +24,28 @@ pub fn command_is_one()
 /// The book is a function of the lines: a line has one verdict at most. (That it has one, the calls are to show that judge it.)
 pub fn verdict_is_one()
     ensures { (h : Header) (b : Book) (line : Line) (v w : Verdict) → AreDefs h.defs → Judges h b line v → Judges h b line w → v ≡ w }
+{}
+
+/// An entity's public version is the last one up to its version at which what ghosts hold of it changed, or 0.
+pub fn public_version_is_the_last_change()
+    ensures at_most { (h : Header) (c : Create) (order : List Call) (v : ℕ) → public_at h c order v ≤ v }
+    ensures changed { (h : Header) (c : Create) (order : List Call) (v : ℕ) →
+        (public_at h c order v ≡ 0) ⊎ IsTrue (has_changed_at h part.Cell c order (public_at h c order v)) }
+    ensures last { (h : Header) (c : Create) (order : List Call) (v w : ℕ) → public_at h c order v < w → w ≤ v →
+        IsFalse (has_changed_at h part.Cell c order w) }
+{}
+
+/// There is one flat table of a book's live entities after given orders.
+pub fn table_is_one()
+    ensures { (h : Header) (b : Book) (orders : Orders) (xs ys : List Create) → Lists (live_as b) xs → Lists (live_as b) ys →
+        rows_of h orders xs ≡ rows_of h orders ys }
+{}
+
+/// In a round without a tick what its parts executed decides what every client is told: two legal rounds that begin alike and execute the
+/// same calls in the same order tell each client the same lines, and it shows the same after them.
+pub fn lines_are_one_without_a_tick()
+    ensures told { (h : Header) (s t u : Standing) (r q : RoundData) → IsFalse (has_tick s.book) → IsRound h s r t → IsRound h s q u →
+        t.orders ≡ u.orders → (e : ℕ) → t.told e ≡ u.told e }
+    ensures replica { (h : Header) (s t u : Standing) (r q : RoundData) → IsFalse (has_tick s.book) → IsRound h s r t → IsRound h s q u →
+        t.orders ≡ u.orders → (e : ℕ) → replica_of h t e ≡ replica_of h u e }
 {}

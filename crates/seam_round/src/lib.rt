@@ -4,5 +4,8 @@
 mod laws;
 mod limits;
 
-pub use laws::{command_is_one, verdict_is_one};
+pub use laws::{
+    command_is_one, lines_are_one_without_a_tick, public_version_is_the_last_change, table_is_one,
+    verdict_is_one,
+};
 pub use limits::MOST_CLIENTS;
