@@ -2,3 +2,4 @@ pub mod Commands
 pub mod Verdicts
 pub mod Public
 pub mod WithoutTick
+pub mod OneCell

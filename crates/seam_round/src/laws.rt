@@ -7,7 +7,13 @@ ghost use Rattle.seam_call.specs.declared.create.Create.{Create};
 ghost use Rattle.seam_defs.specs.declared.flags.Part.TheVariants as part;
 ghost use Rattle.seam_toml.specs.declared.header.Header.{Header};
 ghost use Rattle.seam_transcript.specs.Orders.{Orders};
+ghost use Rattle.seam_defs.specs.declared.types.TypeDef.{TypeDef};
+ghost use Rattle.seam_transcript.specs.Round as taken;
 ghost use Rattle.seam_transcript.specs.Round.{Lists};
+ghost use Rattle.seam_transcript.specs.Standing as taken_standing;
+ghost use Rattle.seam_transcript.specs.Texts as texts;
+ghost use Rattle.seam_round.specs.Texts.{round_text};
+ghost use Rattle.seam_round.specs.OneCell.{whole_standing, whole_round, plain_standing, plain_round};
 ghost use Rattle.seam_round.specs.Book.{Book, live_as, has_tick};
 ghost use Rattle.seam_round.specs.FlatTable.{has_changed_at, public_at, rows_of};
 ghost use Rattle.seam_round.specs.Standing.{Standing, replica_of};
@@ -48,4 +54,14 @@ pub fn lines_are_one_without_a_tick()
         t.orders ≡ u.orders → (e : ℕ) → t.told e ≡ u.told e }
     ensures replica { (h : Header) (s t u : Standing) (r q : RoundData) → IsFalse (has_tick s.book) → IsRound h s r t → IsRound h s q u →
         t.orders ≡ u.orders → (e : ℕ) → replica_of h t e ≡ replica_of h u e }
+{}
+
+/// In a space of one cell, in which no entity has a client and none is destroyed, the rounds that the program runs so far are the legal
+/// ones: each of them is legal as a whole, and none other is. They have no ghosts and show no client anything, so their texts are the same.
+pub fn round_of_one_cell()
+    ensures whole { (h : Header) (s t : taken_standing.Standing) (r : taken.RoundData) → taken.IsRound h s r t →
+        IsRound h (whole_standing h s) (whole_round r) (whole_standing h t) }
+    ensures no_other { (h : Header) (s : taken_standing.Standing) (t : Standing) (r : RoundData) → IsRound h (whole_standing h s) r t →
+        (r ≡ whole_round (plain_round r)) × taken.IsRound h s (plain_round r) (plain_standing t) }
+    ensures text { (defs : List TypeDef) (r : taken.RoundData) → round_text defs (whole_round r) ≡ texts.round_text defs r }
 {}
