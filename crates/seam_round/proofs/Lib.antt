@@ -3,3 +3,4 @@ pub mod Verdicts
 pub mod Public
 pub mod WithoutTick
 pub mod OneCell
+pub mod Example

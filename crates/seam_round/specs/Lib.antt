@@ -10,3 +10,4 @@ pub mod Round
 pub mod Texts
 pub mod Transcript
 pub mod OneCell
+pub mod Example

@@ -13,6 +13,7 @@ ghost use Rattle.seam_transcript.specs.Round.{Lists};
 ghost use Rattle.seam_transcript.specs.Standing as taken_standing;
 ghost use Rattle.seam_transcript.specs.Texts as texts;
 ghost use Rattle.seam_round.specs.Texts.{round_text};
+ghost use Rattle.seam_round.specs.Example.{header, begun, round, ended, text_of_round};
 ghost use Rattle.seam_round.specs.OneCell.{whole_standing, whole_round, plain_standing, plain_round};
 ghost use Rattle.seam_round.specs.Book.{Book, live_as, has_tick};
 ghost use Rattle.seam_round.specs.FlatTable.{has_changed_at, public_at, rows_of};
@@ -64,4 +65,11 @@ pub fn round_of_one_cell()
     ensures no_other { (h : Header) (s : taken_standing.Standing) (t : Standing) (r : RoundData) → IsRound h (whole_standing h s) r t →
         (r ≡ whole_round (plain_round r)) × taken.IsRound h s (plain_round r) (plain_standing t) }
     ensures text { (defs : List TypeDef) (r : taken.RoundData) → round_text defs (whole_round r) ≡ texts.round_text defs r }
+{}
+
+/// The round of two chests on both sides of a boundary is legal, and has this text: each has a ghost in the other's cell, and the client
+/// of the first is shown the second across the boundary.
+pub fn a_round_is_legal()
+    ensures legal { IsRound header begun round ended }
+    ensures text { round_text header.defs round ≡ text_of_round }
 {}
