@@ -1,2 +1,4 @@
 pub mod Older
 pub mod InParts
+pub mod Wrong
+pub mod Table

@@ -16,7 +16,7 @@ use Rattle.seam_replica.specs.Lines.{MayShow, MayShowAll}
 -- ---- others
 
 -- the version last shown of an entity, once one was shown
-got : (m : table.FinMap nat_cmp ℕ) (e v q : ℕ) (t : Bool) → is_eq (nat_cmp q e) ≡ t →
+pub got : (m : table.FinMap nat_cmp ℕ) (e v q : ℕ) (t : Bool) → is_eq (nat_cmp q e) ≡ t →
     table.get (table.insert m e v) q ≡ cond t (Some v) (table.get m q)
 got m e v q t is = table.get-insert nat_cmp_total m e v q ∙ ap (λ b. cond b (Some v) (table.get m q)) is
 

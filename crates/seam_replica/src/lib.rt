@@ -8,4 +8,7 @@
 
 mod laws;
 
-pub use laws::{lines_follow_lines, no_line_is_older, view_has_hysteresis};
+pub use laws::{
+    lines_follow_lines, look_shows_the_table, no_line_is_older, view_has_hysteresis,
+    wrong_lines_may_not_come,
+};
