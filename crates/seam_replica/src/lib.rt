@@ -4,6 +4,8 @@
 //! is now (*one_look*). Which lines may come is a relation, one line at a time (*MayShow*), beside which each line is to be true
 //! (*ShowsTruth*). The laws of cells and the rounds that are printed both speak of these. (After the witness and the area of interest
 //! of the BigWorld Server Overview.)
+//!
+//! Of `proofs/`, `InParts`, `Older` (what lines leave of a replica) and `Table` (a look that shows nothing) are for callers.
 #![tactic(auto)]
 
 mod laws;

@@ -1,4 +1,13 @@
-//! Every command and the whole legal round, as definitions.
+//! Every command, and the whole legal round: definitions and laws of them, and nothing else.
+//!
+//! They stand over the definitions of what the program takes so far (`seam_transcript`), of which they use all that stays as it is: a
+//! command, an entry of the book and a cause is one of those, or a further one. A reader begins with `Language`, `Book` and `Judging` (what
+//! lines say, and what becomes of them), goes on with `FlatTable`, `Places` and `Clients` (what is true of entities, where they are held,
+//! what clients are shown), and finds all of it in `Round`, whose fields are the points of a legal round. (Cells, ghosts, witnesses and
+//! clients after the BigWorld Server Overview.)
+//!
+//! Of `proofs/`, `Commands` and `Verdicts` (a line has one command and one verdict), `Public` (the public version, the one table),
+//! `WithoutTick` (what a round without a tick tells clients), `OneCell` (books and places in one cell) and `Example` are for callers.
 #![tactic(auto)]
 
 mod laws;
