@@ -3,4 +3,5 @@ pub mod Verdicts
 pub mod Public
 pub mod WithoutTick
 pub mod OneCell
+pub mod SoFar
 pub mod Example

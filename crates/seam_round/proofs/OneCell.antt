@@ -41,7 +41,7 @@ none_passes : (test : Entry → Bool) → ((x : TakenEntry) → test (Taken x) �
 none_passes test none [] = refl
 none_passes test none (x ∷ xs) = ap (λ (b : Bool). b || list_any test (map Taken xs)) (none x) ∙ none_passes test none xs
 
-none_of_both : (test : Entry → Bool) → ((x : TakenEntry) → test (Taken x) ≡ false) → (xs ys : List TakenEntry) →
+pub none_of_both : (test : Entry → Bool) → ((x : TakenEntry) → test (Taken x) ≡ false) → (xs ys : List TakenEntry) →
     list_any test (map Taken xs ++ map Taken ys) ≡ false
 none_of_both test none [] ys = none_passes test none ys
 none_of_both test none (x ∷ xs) ys =
@@ -55,13 +55,13 @@ module _ (h : Header) (b : taken.Book) where
   book : Book
   book = whole_book h b
 
-  back : creates_and_calls (whole_book h b) ≡ b
+  pub back : creates_and_calls (whole_book h b) ≡ b
   back = let past = takes_back b.past in let current = takes_back b.current in λ i. record { past = past i; current = current i }
 
   none_destroyed : (e : ℕ) → list_any (destroys e) (map Taken b.past ++ map Taken b.current) ≡ false
   none_destroyed e = none_of_both (destroys e) (λ x. refl) b.past b.current
 
-  all_live : (e : ℕ) → live_as (whole_book h b) e ≡ taken.live_as b e
+  pub all_live : (e : ℕ) → live_as (whole_book h b) e ≡ taken.live_as b e
   all_live e =
       ap (λ (x : Bool). cond x None (created_as (whole_book h b) e)) (none_destroyed e) ∙ ap (λ (k : taken.Book). taken.created_as k e) back
 

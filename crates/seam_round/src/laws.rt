@@ -8,13 +8,16 @@ ghost use Rattle.seam_defs.specs.declared.flags.Part.TheVariants as part;
 ghost use Rattle.seam_toml.specs.declared.header.Header.{Header};
 ghost use Rattle.seam_transcript.specs.Orders.{Orders};
 ghost use Rattle.seam_defs.specs.declared.types.TypeDef.{TypeDef};
+ghost use Rattle.seam_transcript.specs.Book as taken_book;
+ghost use Rattle.seam_transcript.specs.declared.verdict.Verdict as taken_verdict;
 ghost use Rattle.seam_transcript.specs.Round as taken;
 ghost use Rattle.seam_transcript.specs.Round.{Lists};
 ghost use Rattle.seam_transcript.specs.Standing as taken_standing;
 ghost use Rattle.seam_transcript.specs.Texts as texts;
 ghost use Rattle.seam_round.specs.Texts.{round_text};
 ghost use Rattle.seam_round.specs.Example.{header, begun, round, ended, text_of_round};
-ghost use Rattle.seam_round.specs.OneCell.{whole_standing, whole_round, plain_standing, plain_round};
+ghost use Rattle.seam_round.specs.OneCell.{whole_book, whole_standing, whole_round, plain_standing, plain_round};
+ghost use Rattle.seam_round.specs.OneCell.{NamesFurther, whole_verdict};
 ghost use Rattle.seam_round.specs.Book.{Book, live_as, has_tick};
 ghost use Rattle.seam_round.specs.FlatTable.{has_changed_at, public_at, rows_of};
 ghost use Rattle.seam_round.specs.Standing.{Standing, replica_of};
@@ -65,6 +68,13 @@ pub fn round_of_one_cell()
     ensures no_other { (h : Header) (s : taken_standing.Standing) (t : Standing) (r : RoundData) → IsRound h (whole_standing h s) r t →
         (r ≡ whole_round (plain_round r)) × taken.IsRound h s (plain_round r) (plain_standing t) }
     ensures text { (defs : List TypeDef) (r : taken.RoundData) → round_text defs (whole_round r) ≡ texts.round_text defs r }
+{}
+
+/// In such a space the verdict on a line is the one that the program gives so far, but on a line whose first word is that of a further
+/// command, which the program answers `command`.
+pub fn verdicts_so_far()
+    ensures { (h : Header) (b : taken_book.Book) (line : Line) (v : taken_verdict.Verdict) → ¬ (NamesFurther line) →
+        taken_book.Judges h b line v → Judges h (whole_book h b) line (whole_verdict v) }
 {}
 
 /// The round of two chests on both sides of a boundary is legal, and has this text: each has a ghost in the other's cell, and the client
