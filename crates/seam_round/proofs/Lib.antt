@@ -4,4 +4,5 @@ pub mod Public
 pub mod WithoutTick
 pub mod OneCell
 pub mod SoFar
+pub mod Transcripts
 pub mod Example

@@ -16,6 +16,7 @@ use Rattle.seam_round.specs.Judging as judging
 use Rattle.seam_round.specs.Judging.{Verdict, Skipped, Refused, Accepted, Synced}
 use Rattle.seam_round.specs.Standing.{Standing, in_first_cell}
 use Rattle.seam_round.specs.Lines.{RoundData}
+use Rattle.seam_round.specs.Transcript.{Play}
 
 -- a book of creates and calls alone, in a space of one cell
 abbrev pub whole_book : Header → taken.Book → Book
@@ -64,3 +65,7 @@ whole_verdict verdict.Skipped = Skipped
 whole_verdict (verdict.Refused k) = Refused (judging.Taken k)
 whole_verdict (verdict.Accepted x) = Accepted (Taken x)
 whole_verdict verdict.Synced = Synced
+
+-- however nodes play it
+abbrev pub however : Play
+however h s r t = Unit {0}

@@ -1,5 +1,6 @@
 // What the definitions say together, each law on a function that does nothing.
 ghost use Rattle.std.specs.Prelude.{◌≡◌, ◌⊎◌, ℕ, ◌<◌, ◌≤◌, IsTrue, IsFalse, List};
+ghost use Rattle.std.specs.List.{All};
 ghost use Rattle.seam_io.specs.Lines.{Line};
 ghost use Rattle.seam_defs.specs.Types.{AreDefs};
 ghost use Rattle.seam_call.specs.declared.call.Call.{Call};
@@ -11,13 +12,15 @@ ghost use Rattle.seam_defs.specs.declared.types.TypeDef.{TypeDef};
 ghost use Rattle.seam_transcript.specs.Book as taken_book;
 ghost use Rattle.seam_transcript.specs.declared.verdict.Verdict as taken_verdict;
 ghost use Rattle.seam_transcript.specs.Round as taken;
+ghost use Rattle.seam_transcript.specs.Transcript as taken_transcript;
 ghost use Rattle.seam_transcript.specs.Round.{Lists};
 ghost use Rattle.seam_transcript.specs.Standing as taken_standing;
 ghost use Rattle.seam_transcript.specs.Texts as texts;
 ghost use Rattle.seam_round.specs.Texts.{round_text};
 ghost use Rattle.seam_round.specs.Example.{header, begun, round, ended, text_of_round};
 ghost use Rattle.seam_round.specs.OneCell.{whole_book, whole_standing, whole_round, plain_standing, plain_round};
-ghost use Rattle.seam_round.specs.OneCell.{NamesFurther, whole_verdict};
+ghost use Rattle.seam_round.specs.OneCell.{NamesFurther, whole_verdict, however};
+ghost use Rattle.seam_round.specs.Transcript.{IsEnded, IsOpen};
 ghost use Rattle.seam_round.specs.Book.{Book, live_as, has_tick};
 ghost use Rattle.seam_round.specs.FlatTable.{has_changed_at, public_at, rows_of};
 ghost use Rattle.seam_round.specs.Standing.{Standing, replica_of};
@@ -75,6 +78,15 @@ pub fn round_of_one_cell()
 pub fn verdicts_so_far()
     ensures { (h : Header) (b : taken_book.Book) (line : Line) (v : taken_verdict.Verdict) → ¬ (NamesFurther line) →
         taken_book.Judges h b line v → Judges h (whole_book h b) line (whole_verdict v) }
+{}
+
+/// What the program prints so far is a transcript of every command: for an input without further commands, each transcript that it may
+/// print is one as a whole, however nodes play its rounds.
+pub fn transcript_so_far()
+    ensures ended { (lines : List Line) (text : List ℕ) → All (λ l. ¬ (NamesFurther l)) lines → taken_transcript.IsEnded lines text →
+        IsEnded however lines text }
+    ensures open_ { (lines : List Line) (text : List ℕ) → All (λ l. ¬ (NamesFurther l)) lines → taken_transcript.IsOpen lines text →
+        IsOpen however lines text }
 {}
 
 /// The round of two chests on both sides of a boundary is legal, and has this text: each has a ghost in the other's cell, and the client

@@ -15,7 +15,7 @@ mod limits;
 
 pub use laws::{
     a_round_is_legal, command_is_one, lines_are_one_without_a_tick,
-    public_version_is_the_last_change, round_of_one_cell, table_is_one, verdict_is_one,
-    verdicts_so_far,
+    public_version_is_the_last_change, round_of_one_cell, table_is_one, transcript_so_far,
+    verdict_is_one, verdicts_so_far,
 };
 pub use limits::MOST_CLIENTS;
