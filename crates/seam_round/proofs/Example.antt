@@ -77,10 +77,10 @@ two_cells home g x y first_is second_is = λ i. cond (first_is i) (0 ∷ cond (s
 abbrev none : Cells
 none = set.empty
 
-not_in : (k q : ℕ) → (q == k) ≡ false → set.contains (set.insert none k) q ≡ false
+pub not_in : (k q : ℕ) → (q == k) ≡ false → set.contains (set.insert none k) q ≡ false
 not_in k q is = contains_insert_nat none k q ∙ ap (λ (b : Bool). b || set.contains none q) is ∙ set.contains-empty nat_cmp q
 
-is_in : (k : ℕ) → (k == k) ≡ true → set.contains (set.insert none k) k ≡ true
+pub is_in : (k : ℕ) → (k == k) ≡ true → set.contains (set.insert none k) k ≡ true
 is_in k is = contains_insert_nat none k k ∙ ap (λ (b : Bool). b || set.contains none k) is
 
 ghosts_of_first : ghost_cells halves (place_of 1) ≡ 1 ∷ []

@@ -6,3 +6,4 @@ pub mod OneCell
 pub mod SoFar
 pub mod Transcripts
 pub mod Example
+pub mod Edges

@@ -1,6 +1,7 @@
 -- A round in a space of two cells: two chests on both sides of the boundary, each with a ghost in the other's cell; the first has a
 -- client, which is shown the second.
 use Rattle.std.specs.Prelude.{ℕ, pos, ◌==◌, List, [], ◌∷◌, map, filter, None, if◌then◌else◌, ◌++◌, codes}
+use Rattle.std.specs.FinSet as set
 use Rattle.seam_geo.specs.declared.pos.Pos.{Pos}
 use Rattle.seam_tree.specs.Division.{Division}
 use Rattle.seam_tree.specs.Change.{with_cut}
@@ -15,13 +16,14 @@ use Rattle.seam_value.specs.declared.values.Value.TheVariants.{Number}
 use Rattle.seam_call.specs.declared.sender.Sender.TheVariants.{Base}
 use Rattle.seam_call.specs.declared.call.Call.{Call}
 use Rattle.seam_call.specs.declared.create.Create.{Create}
+use Rattle.seam_call.specs.declared.shown.GhostCopy.{GhostCopy}
 use Rattle.seam_call.specs.declared.shown.Shown.TheVariants.{Own, Enter}
 use Rattle.seam_call.specs.declared.shown.ClientText.TheVariants as text
 use Rattle.seam_toml.specs.declared.header.Header.{Header}
 use Rattle.seam_transcript.specs.declared.verdict.Entry.TheVariants.{Created, Called}
 use Rattle.seam_transcript.specs.Book as taken
 use Rattle.seam_transcript.specs.InOrder.{in_order}
-use Rattle.seam_round.specs.Book.{Taken, Joined, Divided, one_cell, creates_and_calls, with_round_ended}
+use Rattle.seam_round.specs.Book.{Entry, Taken, Joined, Divided, Destroyed, Book, one_cell, creates_and_calls, with_round_ended}
 use Rattle.seam_round.specs.Standing.{Standing, after_header}
 use Rattle.seam_round.specs.Places.{distances, place_before}
 use Rattle.seam_round.specs.Lines.{ClientLine, RoundData}
@@ -115,3 +117,27 @@ abbrev pub text_of_round : List ℕ
 text_of_round =
     codes "round 1\ndid 2 b1 1 lift\nhome 1 0 0 4900 100 lid=0\nhome 2 1 1 5100 100 lid=1\nbase 1 0\nbase 2 0\n"
     ++ codes "ghost 1 1 0\nghost 2 0 1\nto 1 1 own 0 4900 100 lid=0\nto 1 2 enter 2 Chest 1 5100 100 lid=1\nend 1\n"
+
+-- ---- edges
+
+-- an entity that was held there is settled at x, by the standard settings: 10 for homes, 400 for ghosts, and 20 more for those that are
+abbrev pub settled_at : Place → ℕ → Place
+settled_at was x = settled (distances standard) halves was (at x)
+
+-- in cell 0, and with a ghost in cell 1
+abbrev pub with_ghost : Place
+with_ghost = record { home = 0; ghosts = set.insert set.empty 1 }
+
+-- entity 1 was made and given a client, and is destroyed: all in one round, or the round is the next one
+abbrev pub lines_of_one : List Entry
+lines_of_one = Taken (Created first) ∷ Joined 1 ∷ Destroyed 1 ∷ []
+
+abbrev pub in_one_round : Book
+in_one_round = record { past = []; tree = one_cell 10000; current = lines_of_one }
+
+abbrev pub in_the_next : Book
+in_the_next = record { past = lines_of_one; tree = one_cell 10000; current = [] }
+
+-- the second chest as other clients may be shown it, at a version and with this lid
+abbrev pub copy_of_second : ℕ → ℕ → GhostCopy
+copy_of_second version n = record { ty = 1; version = version; state = lid 5100 n }

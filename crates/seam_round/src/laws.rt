@@ -1,6 +1,7 @@
 // What the definitions say together, each law on a function that does nothing.
 ghost use Rattle.std.specs.Prelude.{◌≡◌, ◌⊎◌, ℕ, ◌<◌, ◌≤◌, IsTrue, IsFalse, List};
 ghost use Rattle.std.specs.List.{All};
+ghost use Rattle.std.specs.FinSet as set;
 ghost use Rattle.seam_io.specs.Lines.{Line};
 ghost use Rattle.seam_defs.specs.Types.{AreDefs};
 ghost use Rattle.seam_call.specs.declared.call.Call.{Call};
@@ -18,12 +19,14 @@ ghost use Rattle.seam_transcript.specs.Standing as taken_standing;
 ghost use Rattle.seam_transcript.specs.Texts as texts;
 ghost use Rattle.seam_round.specs.Texts.{round_text};
 ghost use Rattle.seam_round.specs.Example.{header, begun, round, ended, text_of_round};
+ghost use Rattle.seam_round.specs.Example.{settled_at, with_ghost, in_one_round, in_the_next, copy_of_second};
+ghost use Rattle.seam_round.specs.Clients.{IsOther};
 ghost use Rattle.seam_round.specs.OneCell.{whole_book, whole_standing, whole_round, plain_standing, plain_round};
 ghost use Rattle.seam_round.specs.OneCell.{NamesFurther, whole_verdict, however};
 ghost use Rattle.seam_round.specs.Transcript.{IsEnded, IsOpen};
-ghost use Rattle.seam_round.specs.Book.{Book, live_as, has_tick};
+ghost use Rattle.seam_round.specs.Book.{Book, live_as, has_client, is_shown, has_tick};
 ghost use Rattle.seam_round.specs.FlatTable.{has_changed_at, public_at, rows_of};
-ghost use Rattle.seam_round.specs.Standing.{Standing, replica_of};
+ghost use Rattle.seam_round.specs.Standing.{Standing, in_first_cell, replica_of};
 ghost use Rattle.seam_round.specs.Lines.{RoundData};
 ghost use Rattle.seam_round.specs.Round.{IsRound};
 ghost use Rattle.seam_round.specs.Judging.{Verdict, Judges};
@@ -94,4 +97,34 @@ pub fn transcript_so_far()
 pub fn a_round_is_legal()
     ensures legal { IsRound header begun round ended }
     ensures text { round_text header.defs round ≡ text_of_round }
+{}
+
+/// The two hystereses of a place, at a boundary at x = 5000: a home is kept at the distance 10 from its area and left at 11; a cell gets a
+/// ghost at the distance 400 and none at 401; one that has a ghost keeps it at 420 and loses it at 421.
+pub fn places_have_hystereses()
+    ensures home_kept { (settled_at in_first_cell 5009).home ≡ 0 }
+    ensures home_left { (settled_at in_first_cell 5010).home ≡ 1 }
+    ensures ghost_comes { IsTrue (set.contains (settled_at in_first_cell 4600).ghosts 1) }
+    ensures no_ghost { ¬ (IsTrue (set.contains (settled_at in_first_cell 4599).ghosts 1)) }
+    ensures ghost_stays { IsTrue (set.contains (settled_at with_ghost 4580).ghosts 1) }
+    ensures ghost_goes { ¬ (IsTrue (set.contains (settled_at with_ghost 4579).ghosts 1)) }
+{}
+
+/// A client that is made and whose entity is destroyed in one round is one of that round, though its entity does not live at its end; it
+/// is none of the next.
+pub fn clients_of_a_round()
+    ensures of_the_round { IsTrue (is_shown in_one_round 1) }
+    ensures has_none { IsFalse (has_client in_one_round 1) }
+    ensures not_of_the_next { IsFalse (is_shown in_the_next 1) }
+{}
+
+/// What is true in the round of two chests: the second was seen with its lid down at version 0 and up at version 1, and never otherwise; so
+/// a client may be shown it at a version of its own with the state of that version alone.
+pub fn wrong_states_are_not_true()
+    ensures down { IsOther header begun ended 2 (copy_of_second 0 0) }
+    ensures up { IsOther header begun ended 2 (copy_of_second 1 1) }
+    ensures not_up_before { ¬ (IsOther header begun ended 2 (copy_of_second 0 1)) }
+    ensures not_down_after { ¬ (IsOther header begun ended 2 (copy_of_second 1 0)) }
+    ensures not_later { ¬ (IsOther header begun ended 2 (copy_of_second 2 1)) }
+    ensures not_made { ¬ (IsOther header begun ended 3 (copy_of_second 0 0)) }
 {}
