@@ -56,7 +56,8 @@ line_never_falls me c (Set e k) may =
     omega (arith, one, up))
 line_never_falls me c (Leave e) may = nothing_falls c.others
 
-pub lines_never_fall : (me : ℕ) (c : ClientReplica) (xs : List Shown) → MayShowAll me c xs → NeverFalls c.others (after_all_shown c xs).others
+pub lines_never_fall : (me : ℕ) (c : ClientReplica) (xs : List Shown) → MayShowAll me c xs →
+    NeverFalls c.others (after_all_shown c xs).others
 lines_never_fall me c [] may = nothing_falls c.others
 lines_never_fall me c (x ∷ xs) may =
     in_turn c.others (after_shown c x).others (after_all_shown (after_shown c x) xs).others

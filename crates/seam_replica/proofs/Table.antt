@@ -29,7 +29,8 @@ second_is_empty [] ys is = is
 second_is_empty (x ∷ xs) ys is = cc
 
 -- what is made of items that pass a test is nothing only where none passes, where each of them makes something
-made_none : {A B : Type 0} (make : A → Option B) (test : A → Bool) (x : A) (rest : List A) (t : Bool) (o : Option B) → test x ≡ t → make x ≡ o →
+made_none : {A B : Type 0} (make : A → Option B) (test : A → Bool) (x : A) (rest : List A) (t : Bool) (o : Option B) → test x ≡ t →
+    make x ≡ o →
     is_some (make x) ≡ true → filter_map make (cond t (x ∷ rest) rest) ≡ [] → (test x ≡ false) × (filter_map make rest ≡ [])
 made_none make test x rest false o at made some none = (at, none)
 made_none make test x rest true None at made some none = let no : false ≡ true = sym (ap is_some made) ∙ some in absurd cc
@@ -49,7 +50,8 @@ none_passes make test (x ∷ xs) makes none =
     by false at none = (at, none)
     by true at none = made_none make test x (filter test xs) true (make x) at refl (makes.0 at) none
 
-made_of_map : {A B C : Type 0} (make : B → Option C) (f : A → B) (xs : List A) → filter_map make (map f xs) ≡ filter_map (λ x. make (f x)) xs
+made_of_map : {A B C : Type 0} (make : B → Option C) (f : A → B) (xs : List A) →
+    filter_map make (map f xs) ≡ filter_map (λ x. make (f x)) xs
 made_of_map make f [] = refl
 made_of_map make f (x ∷ xs) = ap (cons_option (make (f x))) (made_of_map make f xs)
 

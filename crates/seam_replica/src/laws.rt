@@ -19,7 +19,8 @@ pub fn lines_follow_lines()
 /// No client is shown an older state than it was shown before: the version last shown of an entity never falls, also after it left the
 /// view, and neither does that of the client's own entity.
 pub fn no_line_is_older()
-    ensures others { (me : ℕ) (c : ClientReplica) (xs : List Shown) → MayShowAll me c xs → NeverFalls c.others (after_all_shown c xs).others }
+    ensures others { (me : ℕ) (c : ClientReplica) (xs : List Shown) → MayShowAll me c xs
+        → NeverFalls c.others (after_all_shown c xs).others }
     ensures own { (me : ℕ) (c : ClientReplica) (xs : List Shown) → MayShowAll me c xs → (v : ℕ) (s : State) → c.own ≡ Some (v, s)
         → (w : ℕ) × (t : State) × ((after_all_shown c xs).own ≡ Some (w, t)) × (v ≤ w) }
 {}

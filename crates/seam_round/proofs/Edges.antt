@@ -55,7 +55,8 @@ pub up : IsOther header begun ended 2 (copy_of_second 1 1)
 up = record { made = second; is = refl; lived = refl; version = 1; had = (omega arith, omega arith); same = refl }
 
 -- it was so at version 0 or 1
-either : (copy : GhostCopy) (v : ℕ) → v ≤ 1 → copy ≡ other_at header second (ended.orders part.Cell 2) (public_at header second (ended.orders part.Cell 2) v) →
+either : (copy : GhostCopy) (v : ℕ) → v ≤ 1 →
+    copy ≡ other_at header second (ended.orders part.Cell 2) (public_at header second (ended.orders part.Cell 2) v) →
     (copy ≡ copy_of_second 0 0) ⊎ (copy ≡ copy_of_second 1 1)
 either copy zero most same = inl same
 either copy (suc zero) most same = inr same

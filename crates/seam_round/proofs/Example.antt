@@ -28,7 +28,8 @@ use Rattle.seam_round.specs.Clients.{ShowsClient, HasShown, HasLooked, texts_to,
 use Rattle.seam_round.specs.Round.{ghost_lines, IsRound}
 use Rattle.seam_round.specs.Texts.{round_text}
 use Rattle.seam_value.specs.Values.{decimal_of}
-use Rattle.seam_round.specs.Example.{header, halves, first, second, begun, own_line, other_line, ended, live, round, place_of, text_of_round}
+use Rattle.seam_round.specs.Example.{header, halves, first, second, begun, own_line, other_line, ended, live, round}
+use Rattle.seam_round.specs.Example.{place_of, text_of_round}
 
 -- who is found among the two
 found : (c : Create) → cond (1 == c.entity) (Some first) (cond (2 == c.entity) (Some second) None) ≡ Some c → (first ≡ c) ⊎ (second ≡ c)
@@ -113,7 +114,15 @@ shows = record {
   right = record {
     in_turn = (
       refl,
-      (record { another = λ same. absurd (omega (arith, same)); away = refl; not_older = λ v old. absurd (none-some v (sym (table.get-empty nat_cmp 2) ∙ old)); near = omega arith }, tt),
+      (
+        record {
+          another = λ same. absurd (omega (arith, same));
+          away = refl;
+          not_older = λ v old. absurd (none-some v (sym (table.get-empty nat_cmp 2) ∙ old));
+          near = omega arith;
+        },
+        tt,
+      ),
     );
     true_ = (
       ((omega arith, omega arith), refl),
@@ -146,9 +155,11 @@ shown = record {
 
 looked : HasLooked header begun round ended live
 looked = record {
-  nothing_left = λ e is. subst (λ (n : ℕ). one_look (replica_of header ended n) n (rows_of header ended.orders live) ≡ []) (is_first e is) refl;
+  nothing_left = λ e is. subst (λ (n : ℕ). one_look (replica_of header ended n) n (rows_of header ended.orders live) ≡ [])
+      (is_first e is) refl;
   one_each = λ none e is. subst (λ (n : ℕ). texts_to round n
-      ≡ base_texts round n ++ map text.Shown (one_look (replica_of header begun n) n (rows_of header ended.orders live))) (is_first e is) refl;
+      ≡ base_texts round n ++ map text.Shown (one_look (replica_of header begun n) n (rows_of header ended.orders live)))
+      (is_first e is) refl;
 }
 
 pub legal : IsRound header begun round ended

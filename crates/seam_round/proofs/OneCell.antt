@@ -21,8 +21,8 @@ use Rattle.seam_transcript.specs.Standing as taken_standing
 use Rattle.seam_transcript.specs.Round as taken_round
 use Rattle.seam_transcript.specs.Round.{Lists, HomeLine}
 use Rattle.seam_transcript.proofs.Lists.{listed_is_one}
-use Rattle.seam_round.specs.Book.{Entry, Taken, Book, one_cell, taken_entry, creates_and_calls, created_as, destroys, joins, live_as, divided}
-use Rattle.seam_round.specs.Book.{tree_of, is_new, is_balance, has_balance, is_shown, with_round_ended}
+use Rattle.seam_round.specs.Book.{Entry, Taken, Book, one_cell, taken_entry, creates_and_calls, created_as, destroys, joins}
+use Rattle.seam_round.specs.Book.{live_as, divided, tree_of, is_new, is_balance, has_balance, is_shown, with_round_ended}
 use Rattle.seam_round.specs.Standing.{Standing, in_first_cell}
 use Rattle.seam_round.specs.Places.{distances, place_before, HasPlace, ghost_cells}
 use Rattle.seam_round.specs.FlatTable.{version_of, position_at, positions_past}
@@ -37,7 +37,8 @@ takes_back [] = refl
 takes_back (x ∷ xs) = ap (λ (ys : List TakenEntry). x ∷ ys) (takes_back xs)
 
 -- no entry of the book passes a test that no create or call passes
-none_passes : (test : Entry → Bool) → ((x : TakenEntry) → test (Taken x) ≡ false) → (xs : List TakenEntry) → list_any test (map Taken xs) ≡ false
+none_passes : (test : Entry → Bool) → ((x : TakenEntry) → test (Taken x) ≡ false) → (xs : List TakenEntry) →
+    list_any test (map Taken xs) ≡ false
 none_passes test none [] = refl
 none_passes test none (x ∷ xs) = ap (λ (b : Bool). b || list_any test (map Taken xs)) (none x) ∙ none_passes test none xs
 
@@ -177,7 +178,8 @@ module _ (h : Header) (s : taken_standing.Standing) where
   was_home : (c : Create) → (place_before (whole_standing h s) c).home ≡ 0
   was_home c = by (is_new (whole_book h s.book) c.entity)
     where
-      by : (b : Bool) → (cond b (record { home = leaf_at (tree_of (whole_book h s.book)) c.pos; ghosts = set.empty }) in_first_cell).home ≡ 0
+      by : (b : Bool) →
+          (cond b (record { home = leaf_at (tree_of (whole_book h s.book)) c.pos; ghosts = set.empty }) in_first_cell).home ≡ 0
       by true = ap (λ (t : Division). leaf_at t c.pos) tree
       by false = refl
 
@@ -210,7 +212,8 @@ module _ (h : Header) (s : taken_standing.Standing) where
     no_ghosts : (c : Create) → ghost_lines h (tree_of (whole_book h s.book)) (whole_standing h t) c ≡ []
     no_ghosts c =
         ap (λ (x : Division). ghost_lines h x (whole_standing h t) c) tree
-        ∙ ap (map (λ (cell : ℕ). record { entity = c.entity; cell = cell; version = _ })) (no_ghost_cells (distances h.settings) h.settings.size)
+        ∙ ap (map (λ (cell : ℕ). record { entity = c.entity; cell = cell; version = _ }))
+        (no_ghost_cells (distances h.settings) h.settings.size)
 
     same_live : one.bases.live ≡ one.homes.live
     same_live = listed_is_one (taken.live_as s.book) one.bases.live one.homes.live one.bases.listed one.homes.listed
@@ -289,7 +292,8 @@ module _ (h : Header) (s : taken_standing.Standing) where
       bounds = bounds.0 i;
     }
 
-    home_is_taken : (c : Create) → HasPlace h (whole_standing h s) t c → home_line h t c ≡ taken_round.home_line h (t.orders part.Cell c.entity) c
+    home_is_taken : (c : Create) → HasPlace h (whole_standing h s) t c →
+        home_line h t c ≡ taken_round.home_line h (t.orders part.Cell c.entity) c
     home_is_taken c has =
         ap (λ (k : Place). record (taken_round.home_line h (t.orders part.Cell c.entity) c) { cell = k.home }) (place c has)
 

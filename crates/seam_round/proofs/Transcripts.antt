@@ -24,7 +24,8 @@ use Rattle.seam_round.specs.Book.{Book, Taken, with_entry}
 use Rattle.seam_round.specs.Judging as judging
 use Rattle.seam_round.specs.Standing.{Standing, with_book}
 use Rattle.seam_round.specs.Texts.{round_text}
-use Rattle.seam_round.specs.Transcript.{Piece, Refusal, Ended, text_of, EndsRound, Keeps, Follows, Step, PrintLines, IsOpen, EndsInput, IsEnded}
+use Rattle.seam_round.specs.Transcript.{Piece, Refusal, Ended, text_of, EndsRound, Keeps, Follows, Step, PrintLines}
+use Rattle.seam_round.specs.Transcript.{IsOpen, EndsInput, IsEnded}
 use Rattle.seam_round.specs.OneCell.{whole_book, whole_standing, whole_round, whole_verdict, NamesFurther, however}
 use Rattle.seam_round.proofs.OneCell.{whole_is_legal}
 use Rattle.seam_round.proofs.SoFar.{verdict_there}
@@ -146,7 +147,8 @@ both : (h : Header) (xs ys : List taken.Piece) → pieces h (xs ++ ys) ≡ piece
 unfolding pieces
 both h xs ys = map-append (whole_piece h) xs ys
 
-pub ended_there : (lines : List Line) (text : List ℕ) → All (λ l. ¬ (NamesFurther l)) lines → taken.IsEnded lines text → IsEnded however lines text
+pub ended_there : (lines : List Line) (text : List ℕ) → All (λ l. ¬ (NamesFurther l)) lines → taken.IsEnded lines text →
+    IsEnded however lines text
 ended_there lines text all (h, ps, last, t, one, ends, is) = (
   h,
   pieces h ps,
@@ -157,7 +159,8 @@ ended_there lines text all (h, ps, last, t, one, ends, is) = (
   is ∙ sym (same_text h (ps ++ last)) ∙ ap (text_of h.defs) (both h ps last),
 )
 
-pub open_there : (lines : List Line) (text : List ℕ) → All (λ l. ¬ (NamesFurther l)) lines → taken.IsOpen lines text → IsOpen however lines text
+pub open_there : (lines : List Line) (text : List ℕ) → All (λ l. ¬ (NamesFurther l)) lines → taken.IsOpen lines text →
+    IsOpen however lines text
 open_there lines text all (inl awaits) = inl awaits
 open_there lines text all (inr (h, ps, t, one, is)) =
     inr (

@@ -1,5 +1,6 @@
 -- Two rounds without a tick that begin alike and execute the same tell each client the same.
-use Rattle.std.proofs.Common.{◌≡◌, ◌+◌, ℕ, Bool, true, false, cond, List, [], ◌∷◌, ◌++◌, length, map, Option, None, Some, refl, sym, ap, ◌∙◌, subst}
+use Rattle.std.proofs.Common.{◌≡◌, ◌+◌, ℕ, Bool, true, false, cond, List, [], ◌∷◌, ◌++◌, length, map, Option, None, Some, refl}
+use Rattle.std.proofs.Common.{sym, ap, ◌∙◌, subst}
 use Rattle.std.proofs.Common.{arith, drop, get_or}
 use Rattle.std.specs.Prelude.{◌==◌, filter, is_some, ◌&&◌, not}
 use Rattle.std.specs.List.{range_with_len, AllByRecursion, list_any}
@@ -89,7 +90,8 @@ module _ (h : Header) (s t u : Standing) (r q : RoundData) (none : has_tick s.bo
       texts : texts_to r c.entity ≡ texts_to q c.entity
       texts =
           one.looked.one_each none c.entity is
-          ∙ ap (λ (bs : List ClientText). bs ++ map text.Shown (one_look (replica_of h s c.entity) c.entity (rows_of h t.orders one.live))) bases
+          ∙ ap (λ (bs : List ClientText). bs ++ map text.Shown
+          (one_look (replica_of h s c.entity) c.entity (rows_of h t.orders one.live))) bases
           ∙ ap (λ (x : List Row). base_texts q c.entity ++ map text.Shown (one_look (replica_of h s c.entity) c.entity x)) rows
           ∙ sym (other.looked.one_each none c.entity is)
 

@@ -137,9 +137,11 @@ IsNoAxis axis_name = (a : Axis) → ¬ (language.axis_text a ≡ axis_name)
 
 -- which causes hold against a command that the program takes
 abbrev pub HoldsAgainstTaken : Header → Book → words.Command → TakenCause → Type 0
-HoldsAgainstTaken h b (words.Create entity type_name x z) k = taken.HoldsAgainst h (creates_and_calls b) (words.Create entity type_name x z) k
+HoldsAgainstTaken h b (words.Create entity type_name x z) k =
+    taken.HoldsAgainst h (creates_and_calls b) (words.Create entity type_name x z) k
 HoldsAgainstTaken h b (words.Call sender_name entity method_name arguments) cause.BadNumber = taken.IsNoEntity entity
-HoldsAgainstTaken h b (words.Call sender_name entity method_name arguments) cause.NoSender = (s : Sender) → ¬ (NamesSender h b sender_name s)
+HoldsAgainstTaken h b (words.Call sender_name entity method_name arguments) cause.NoSender =
+    (s : Sender) → ¬ (NamesSender h b sender_name s)
 HoldsAgainstTaken h b (words.Call sender_name entity method_name arguments) cause.Dead = IsDead b entity
 HoldsAgainstTaken h b (words.Call sender_name entity method_name arguments) cause.UnknownMethod =
     (made : Create) × NamesLive b entity made

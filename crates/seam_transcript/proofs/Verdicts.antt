@@ -146,7 +146,8 @@ same_fields c d entity part sender number deed =
 abbrev pub AskForOne : List TypeDef → (TypeDef → Deed → Type 0) → Type 0
 AskForOne defs Asks = (ty : ℕ) (d e : Deed) → Asks (type_of defs ty) d → Asks (type_of defs ty) e → d ≡ e
 
-pub deed_is_one : (defs : List TypeDef) (name : List ℕ) (arguments : List (List ℕ)) → AreDefs defs → AskForOne defs (NamesDeed arguments name)
+pub deed_is_one : (defs : List TypeDef) (name : List ℕ) (arguments : List (List ℕ)) → AreDefs defs →
+    AskForOne defs (NamesDeed arguments name)
 deed_is_one defs name arguments are ty d e (m, args, named, one, is) (n, args', named', other, is') =
     is ∙ ap (λ (k : ℕ). Method k args) (method_is_one defs ty name m n are named named')
     ∙ ap (Method n) (values_are_one args args' (one.spelled ∙ sym other.spelled)) ∙ sym is'
