@@ -1,6 +1,7 @@
 pub mod Commands
 pub mod Verdicts
 pub mod Public
+pub mod Shown
 pub mod WithoutTick
 pub mod OneCell
 pub mod SoFar

@@ -43,6 +43,16 @@ pub record IsOther (h : Header) (s t : Standing) (e : ℕ) (copy : GhostCopy) : 
   pub had : HadVersion s t part.Cell made version
   pub same : copy ≡ other_at h made (t.orders part.Cell e) (public_at h made (t.orders part.Cell e) version)
 
+-- The same by its version alone: a public version, not below that with which the round began, and the entity as it was for others then.
+pub record IsShownAt (h : Header) (s t : Standing) (e : ℕ) (copy : GhostCopy) : Type 0 where
+  pub made : Create
+  pub is : created_as s.book e ≡ Some made
+  pub lived : IsFalse (was_dead s.book e)
+  pub public : public_at h made (t.orders part.Cell e) copy.version ≡ copy.version
+  pub from_start : public_at h made (t.orders part.Cell e) (version_of s.orders part.Cell made) ≤ copy.version
+  pub up_to : copy.version ≤ version_of t.orders part.Cell made
+  pub same : copy ≡ other_at h made (t.orders part.Cell e) copy.version
+
 -- what is true of entities in the round, for the client of this one
 abbrev pub truth_of : Header → Standing → Standing → Create → Truth
 truth_of h s t c = record { own = IsOwn h s t c; other = IsOther h s t }

@@ -6,6 +6,7 @@ ghost use Rattle.seam_io.specs.Lines.{Line};
 ghost use Rattle.seam_defs.specs.Types.{AreDefs};
 ghost use Rattle.seam_call.specs.declared.call.Call.{Call};
 ghost use Rattle.seam_call.specs.declared.create.Create.{Create};
+ghost use Rattle.seam_call.specs.declared.shown.GhostCopy.{GhostCopy};
 ghost use Rattle.seam_defs.specs.declared.flags.Part.TheVariants as part;
 ghost use Rattle.seam_toml.specs.declared.header.Header.{Header};
 ghost use Rattle.seam_transcript.specs.Orders.{Orders};
@@ -20,7 +21,7 @@ ghost use Rattle.seam_transcript.specs.Texts as texts;
 ghost use Rattle.seam_round.specs.Texts.{round_text};
 ghost use Rattle.seam_round.specs.Example.{header, begun, round, ended, text_of_round};
 ghost use Rattle.seam_round.specs.Example.{settled_at, with_ghost, in_one_round, in_the_next, copy_of_second};
-ghost use Rattle.seam_round.specs.Clients.{IsOther};
+ghost use Rattle.seam_round.specs.Clients.{IsOther, IsShownAt};
 ghost use Rattle.seam_round.specs.OneCell.{whole_book, whole_standing, whole_round, plain_standing, plain_round};
 ghost use Rattle.seam_round.specs.OneCell.{NamesFurther, whole_verdict, however};
 ghost use Rattle.seam_round.specs.Transcript.{IsEnded, IsOpen};
@@ -49,6 +50,14 @@ pub fn public_version_is_the_last_change()
         (public_at h c order v ≡ 0) ⊎ IsTrue (has_changed_at h part.Cell c order (public_at h c order v)) }
     ensures last { (h : Header) (c : Create) (order : List Call) (v w : ℕ) → public_at h c order v < w → w ≤ v →
         IsFalse (has_changed_at h part.Cell c order w) }
+{}
+
+/// What other clients may be shown of an entity in a round is what the rules say by its version: the version is a public one, at least the
+/// public version with which the round began, and the entity is shown as it was for others then. (No version falls in a round.)
+pub fn shown_versions_are_public()
+    ensures by_version { (h : Header) (s t : Standing) (e : ℕ) (copy : GhostCopy) → IsOther h s t e copy → IsShownAt h s t e copy }
+    ensures in_round { (h : Header) (s t : Standing) (r : RoundData) (e : ℕ) (copy : GhostCopy) → IsRound h s r t →
+        IsShownAt h s t e copy → IsOther h s t e copy }
 {}
 
 /// There is one flat table of a book's live entities after given orders.

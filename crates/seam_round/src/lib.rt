@@ -15,7 +15,8 @@ mod limits;
 
 pub use laws::{
     a_round_is_legal, clients_of_a_round, command_is_one, lines_are_one_without_a_tick,
-    places_have_hystereses, public_version_is_the_last_change, round_of_one_cell, table_is_one,
-    transcript_so_far, verdict_is_one, verdicts_so_far, wrong_states_are_not_true,
+    places_have_hystereses, public_version_is_the_last_change, round_of_one_cell,
+    shown_versions_are_public, table_is_one, transcript_so_far, verdict_is_one, verdicts_so_far,
+    wrong_states_are_not_true,
 };
 pub use limits::MOST_CLIENTS;
