@@ -8,3 +8,4 @@ pub mod SoFar
 pub mod Transcripts
 pub mod Example
 pub mod Edges
+pub mod Lines

@@ -1,5 +1,5 @@
 -- At which versions others are shown in a round.
-use Rattle.std.proofs.Common.{◌≡◌, ◌≤◌, ◌<◌, ◌⊎◌, ℕ, Bool, true, false, List, Option, None, Some, refl, sym, ap, ◌∙◌, subst, inl, inr, arith}
+use Rattle.std.proofs.Common.{◌≡◌, ◌≤◌, ◌<◌, ◌⊎◌, ℕ, Bool, true, false, List, Some, refl, sym, ap, ◌∙◌, subst, inl, inr, arith}
 use Rattle.std.proofs.Common.{length, length-append}
 use Rattle.std.specs.Prelude.{nat_le}
 use Rattle.std.proofs.lemmas.Bool.{true≢false}
@@ -9,7 +9,7 @@ use Rattle.seam_call.specs.declared.call.Call.{Call}
 use Rattle.seam_call.specs.declared.create.Create.{Create}
 use Rattle.seam_call.specs.declared.shown.GhostCopy.{GhostCopy}
 use Rattle.seam_toml.specs.declared.header.Header.{Header}
-use Rattle.seam_round.specs.Book.{created_as, was_dead}
+use Rattle.seam_round.specs.Book.{created_as}
 use Rattle.seam_round.specs.FlatTable.{version_of, has_changed_at, public_at, other_at}
 use Rattle.seam_round.specs.Standing.{Standing}
 use Rattle.seam_round.specs.Clients.{IsOther, IsShownAt}

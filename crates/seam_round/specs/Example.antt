@@ -11,13 +11,17 @@ use Rattle.seam_defs.specs.Builtin.{builtin}
 use Rattle.seam_defs.specs.Settings.{standard}
 use Rattle.seam_defs.specs.declared.flags.Part.TheVariants as part
 use Rattle.seam_defs.specs.declared.states.State.{State}
-use Rattle.seam_defs.specs.declared.states.Deed.TheVariants.{Method}
+use Rattle.seam_defs.specs.declared.states.Deed.TheVariants as deed
+use Rattle.seam_defs.specs.declared.types.Method.{Method}
+use Rattle.seam_defs.specs.Types.{type_of, method_of}
+use Rattle.seam_value.specs.declared.values.Value.{Value}
 use Rattle.seam_value.specs.declared.values.Value.TheVariants.{Number}
 use Rattle.seam_call.specs.declared.sender.Sender.TheVariants.{Base}
 use Rattle.seam_call.specs.declared.call.Call.{Call}
 use Rattle.seam_call.specs.declared.create.Create.{Create}
 use Rattle.seam_call.specs.declared.shown.GhostCopy.{GhostCopy}
 use Rattle.seam_call.specs.declared.shown.Shown.TheVariants.{Own, Enter}
+use Rattle.seam_call.specs.declared.shown.ClientText.{ClientText}
 use Rattle.seam_call.specs.declared.shown.ClientText.TheVariants as text
 use Rattle.seam_toml.specs.declared.header.Header.{Header}
 use Rattle.seam_transcript.specs.declared.verdict.Entry.TheVariants.{Created, Called}
@@ -51,7 +55,7 @@ second = chest 2 5100
 
 -- base node 1 lifts the lid of the second
 abbrev pub lift : Call
-lift = record { entity = 2; part = part.Cell; sender = Base 1; number = 1; deed = Method 0 [] }
+lift = record { entity = 2; part = part.Cell; sender = Base 1; number = 1; deed = deed.Method 0 [] }
 
 -- a chest's state there
 abbrev pub lid : ℕ → ℕ → State
@@ -141,3 +145,33 @@ in_the_next = record { past = lines_of_one; tree = one_cell 10000; current = [] 
 -- the second chest as other clients may be shown it, at a version and with this lid
 abbrev pub copy_of_second : ℕ → ℕ → GhostCopy
 copy_of_second version n = record { ty = 1; version = version; state = lid 5100 n }
+
+-- ---- texts and senders
+
+-- a line that the client of avatar 1, of type 0 of the built-in types, is shown
+abbrev pub to_avatar : ℕ → ClientText → ClientLine
+to_avatar number told = record { entity = 1; ty = 0; line = record { number = number; text = told } }
+
+abbrev pub numbers : List ℕ → List Value
+numbers ns = map (λ n. Number (pos n)) ns
+
+-- avatar 2 as other clients are shown it
+abbrev pub avatar_2 : GhostCopy
+avatar_2 = record { ty = 0; version = 4; state = record { pos = record { x = 7; z = 8 }; props = numbers (75 ∷ 0 ∷ []) } }
+
+-- avatar 1 as its client is shown it
+abbrev pub own_avatar : State
+own_avatar = record { pos = record { x = 7; z = 8 }; props = numbers (100 ∷ 50 ∷ 0 ∷ []) }
+
+-- methods of an avatar: exposed or not, of the cell part and of the base part
+abbrev pub hit : Method
+hit = method_of (type_of builtin 0) 3
+
+abbrev pub mark : Method
+mark = method_of (type_of builtin 0) 4
+
+abbrev pub pay : Method
+pay = method_of (type_of builtin 0) 5
+
+abbrev pub promote : Method
+promote = method_of (type_of builtin 0) 6

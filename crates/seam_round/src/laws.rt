@@ -1,5 +1,5 @@
 // What the definitions say together, each law on a function that does nothing.
-ghost use Rattle.std.specs.Prelude.{◌≡◌, ◌⊎◌, ℕ, ◌<◌, ◌≤◌, IsTrue, IsFalse, List};
+ghost use Rattle.std.specs.Prelude.{◌≡◌, ◌⊎◌, ℕ, ◌<◌, ◌≤◌, IsTrue, IsFalse, List, [], ◌∷◌, Some, codes};
 ghost use Rattle.std.specs.List.{All};
 ghost use Rattle.std.specs.FinSet as set;
 ghost use Rattle.seam_io.specs.Lines.{Line};
@@ -18,10 +18,17 @@ ghost use Rattle.seam_transcript.specs.Transcript as taken_transcript;
 ghost use Rattle.seam_transcript.specs.Round.{Lists};
 ghost use Rattle.seam_transcript.specs.Standing as taken_standing;
 ghost use Rattle.seam_transcript.specs.Texts as texts;
-ghost use Rattle.seam_round.specs.Texts.{round_text};
+ghost use Rattle.seam_round.specs.Texts.{round_text, client_text, bounds_text, refusal};
 ghost use Rattle.seam_round.specs.Example.{header, begun, round, ended, text_of_round};
 ghost use Rattle.seam_round.specs.Example.{settled_at, with_ghost, in_one_round, in_the_next, copy_of_second};
+ghost use Rattle.seam_round.specs.Example.{halves, to_avatar, numbers, avatar_2, own_avatar, hit, mark, pay, promote};
 ghost use Rattle.seam_round.specs.Clients.{IsOther, IsShownAt};
+ghost use Rattle.seam_call.specs.declared.sender.Sender.TheVariants as sender;
+ghost use Rattle.seam_call.specs.declared.shown.Shown.TheVariants.{Own, Enter, Set, Leave};
+ghost use Rattle.seam_call.specs.declared.shown.ClientText.TheVariants as text;
+ghost use Rattle.seam_defs.specs.Builtin.{builtin};
+ghost use Rattle.seam_tree.specs.declared.tree.CutError.TheVariants.{TooManyCells};
+ghost use Rattle.seam_tree.specs.declared.tree.ShiftError.TheVariants.{WouldEmpty};
 ghost use Rattle.seam_round.specs.OneCell.{whole_book, whole_standing, whole_round, plain_standing, plain_round};
 ghost use Rattle.seam_round.specs.OneCell.{NamesFurther, whole_verdict, however};
 ghost use Rattle.seam_round.specs.Transcript.{IsEnded, IsOpen};
@@ -30,7 +37,7 @@ ghost use Rattle.seam_round.specs.FlatTable.{has_changed_at, public_at, rows_of}
 ghost use Rattle.seam_round.specs.Standing.{Standing, in_first_cell, replica_of};
 ghost use Rattle.seam_round.specs.Lines.{RoundData};
 ghost use Rattle.seam_round.specs.Round.{IsRound};
-ghost use Rattle.seam_round.specs.Judging.{Verdict, Judges};
+ghost use Rattle.seam_round.specs.Judging.{Verdict, Judges, CutRefused, ShiftRefused, MayCall, MayMove};
 ghost use Rattle.seam_round.specs.Language.{Command, words_of};
 
 /// No words spell two commands.
@@ -136,4 +143,29 @@ pub fn wrong_states_are_not_true()
     ensures not_down_after { ¬ (IsOther header begun ended 2 (copy_of_second 1 0)) }
     ensures not_later { ¬ (IsOther header begun ended 2 (copy_of_second 2 1)) }
     ensures not_made { ¬ (IsOther header begun ended 3 (copy_of_second 0 0)) }
+{}
+
+/// How lines to clients, boundaries and refusals by a tree are written.
+pub fn texts_of_lines()
+    ensures own { client_text builtin (to_avatar 1 (text.Shown (Own 0 own_avatar))) ≡ codes "to 1 1 own 0 7 8 hp=100 mana=50 xp=0\n" }
+    ensures base { client_text builtin (to_avatar 2 (text.Base 1 (numbers (2 ∷ [])))) ≡ codes "to 1 2 base 1 rank=2\n" }
+    ensures enter { client_text builtin (to_avatar 3 (text.Shown (Enter 2 avatar_2))) ≡ codes "to 1 3 enter 2 Avatar 4 7 8 hp=75 mood=0\n" }
+    ensures set_ { client_text builtin (to_avatar 4 (text.Shown (Set 2 avatar_2))) ≡ codes "to 1 4 set 2 4 7 8 hp=75 mood=0\n" }
+    ensures leave { client_text builtin (to_avatar 5 (text.Shown (Leave 2))) ≡ codes "to 1 5 leave 2\n" }
+    ensures bound { bounds_text (Some halves) ≡ codes "bound 1 x 5000\n" }
+    ensures cut { refusal 7 (CutRefused TooManyCells) ≡ codes "line 7 tree 3\n" }
+    ensures shift { refusal 8 (ShiftRefused WouldEmpty) ≡ codes "line 8 tree 2\n" }
+{}
+
+/// A client may call the exposed methods of every entity's cell part and of its own entity's base part, and move its own entity alone; a base
+/// node may do all of it.
+pub fn who_may_call()
+    ensures exposed { MayCall (sender.Client 1) 2 hit }
+    ensures not_exposed { ¬ (MayCall (sender.Client 1) 1 mark) }
+    ensures own_base { MayCall (sender.Client 1) 1 promote }
+    ensures other_base { ¬ (MayCall (sender.Client 1) 2 promote) }
+    ensures own_base_not_exposed { ¬ (MayCall (sender.Client 1) 1 pay) }
+    ensures base_node { MayCall (sender.Base 1) 1 mark }
+    ensures own_move { MayMove (sender.Client 1) 1 }
+    ensures other_move { ¬ (MayMove (sender.Client 1) 2) }
 {}

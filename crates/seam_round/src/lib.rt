@@ -7,7 +7,8 @@
 //! clients after the BigWorld Server Overview.)
 //!
 //! Of `proofs/`, `Commands` and `Verdicts` (a line has one command and one verdict), `Public` (the public version, the one table),
-//! `WithoutTick` (what a round without a tick tells clients), `OneCell` (books and places in one cell) and `Example` are for callers.
+//! `Shown` (the versions shown in a round), `WithoutTick` (what a round without a tick tells clients), `OneCell`, `SoFar` and `Transcripts`
+//! (books, places, verdicts and transcripts in one cell) and `Example` are for callers.
 #![tactic(auto)]
 
 mod laws;
@@ -16,7 +17,7 @@ mod limits;
 pub use laws::{
     a_round_is_legal, clients_of_a_round, command_is_one, lines_are_one_without_a_tick,
     places_have_hystereses, public_version_is_the_last_change, round_of_one_cell,
-    shown_versions_are_public, table_is_one, transcript_so_far, verdict_is_one, verdicts_so_far,
-    wrong_states_are_not_true,
+    shown_versions_are_public, table_is_one, texts_of_lines, transcript_so_far, verdict_is_one,
+    verdicts_so_far, who_may_call, wrong_states_are_not_true,
 };
 pub use limits::MOST_CLIENTS;
