@@ -1,3 +1,4 @@
+pub mod EachOne
 pub mod Older
 pub mod InParts
 pub mod Wrong

@@ -16,6 +16,7 @@ use Rattle.seam_view.specs.Looks.{is_far, has_changed, in_view}
 use Rattle.seam_view.specs.Plain.{is_gone, is_new, plain_look}
 use Rattle.seam_call.specs.declared.shown.Shown.TheVariants.{Own, Enter, Set}
 use Rattle.seam_replica.specs.Clients.{ClientReplica}
+use Rattle.seam_replica.proofs.EachOne.{all_of, turned}
 use Rattle.seam_replica.specs.Looks.{Row, row_of, seen, shown_for, is_newer, own_shown, look_at, IsShownNow, ShowsTable}
 
 -- ---- lists
@@ -62,14 +63,6 @@ all_mapped P f (x ∷ xs) (one, more) = (one, all_mapped P f xs more)
 map_all : {A B : Type 0} (P : B → Type 0) (f : A → B) (xs : List A) → AllByRecursion (λ x. P (f x)) xs → AllByRecursion P (map f xs)
 map_all P f [] all = tt
 map_all P f (x ∷ xs) (one, more) = (one, map_all P f xs more)
-
-all_of : {A : Type 0} (P : A → Type 0) → ((x : A) → P x) → (xs : List A) → AllByRecursion P xs
-all_of P each [] = tt
-all_of P each (x ∷ xs) = (each x, all_of P each xs)
-
-turned : {A : Type 0} (P Q : A → Type 0) → ((x : A) → P x → Q x) → (xs : List A) → AllByRecursion P xs → AllByRecursion Q xs
-turned P Q each [] all = tt
-turned P Q each (x ∷ xs) (one, more) = (each x one, turned P Q each xs more)
 
 both_of : {A : Type 0} (P Q : A → Type 0) (xs : List A) → AllByRecursion P xs → AllByRecursion Q xs → AllByRecursion (λ x. P x × Q x) xs
 both_of P Q [] p q = tt

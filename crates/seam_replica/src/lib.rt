@@ -5,7 +5,8 @@
 //! (*ShowsTruth*). The laws of cells and the rounds that are printed both speak of these. (After the witness and the area of interest
 //! of the BigWorld Server Overview.)
 //!
-//! Of `proofs/`, `InParts`, `Older` (what lines leave of a replica) and `Table` (a look that shows nothing) are for callers.
+//! Of `proofs/`, `InParts`, `Older` (what lines leave of a replica), `Table` (a look that shows nothing) and `EachOne` (what holds of each
+//! item of a list) are for callers.
 #![tactic(auto)]
 
 mod laws;

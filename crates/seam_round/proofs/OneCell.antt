@@ -21,6 +21,7 @@ use Rattle.seam_transcript.specs.Standing as taken_standing
 use Rattle.seam_transcript.specs.Round as taken_round
 use Rattle.seam_transcript.specs.Round.{Lists, HomeLine}
 use Rattle.seam_transcript.proofs.Lists.{listed_is_one}
+use Rattle.seam_replica.proofs.EachOne.{all_of, turned}
 use Rattle.seam_round.specs.Book.{Entry, Taken, Book, one_cell, taken_entry, creates_and_calls, created_as, destroys, joins}
 use Rattle.seam_round.specs.Book.{live_as, divided, tree_of, is_new, is_balance, has_balance, is_shown, with_round_ended}
 use Rattle.seam_round.specs.Standing.{Standing, in_first_cell}
@@ -143,14 +144,6 @@ nothing_flat f (x ∷ xs) (is, all) = ap (λ ys. ys ++ flat_map f xs) is ∙ not
 same_map : {A B : Type 0} (f g : A → B) (xs : List A) → AllByRecursion (λ x. f x ≡ g x) xs → map f xs ≡ map g xs
 same_map f g [] all = refl
 same_map f g (x ∷ xs) (is, all) = λ i. is i ∷ same_map f g xs all i
-
-all_of : {A : Type 0} (P : A → Type 0) → ((x : A) → P x) → (xs : List A) → AllByRecursion P xs
-all_of P each [] = tt
-all_of P each (x ∷ xs) = (each x, all_of P each xs)
-
-turned : {A : Type 0} (P Q : A → Type 0) → ((x : A) → P x → Q x) → (xs : List A) → AllByRecursion P xs → AllByRecursion Q xs
-turned P Q each [] all = tt
-turned P Q each (x ∷ xs) (is, all) = (each x is, turned P Q each xs all)
 
 none_shown_at_all : (test : ℕ → Bool) → ((e : ℕ) → test e ≡ false) → (ls : List ClientLine) →
     AllByRecursion (λ (l : ClientLine). test l.entity ≡ true) ls → ls ≡ []

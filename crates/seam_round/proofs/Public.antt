@@ -1,7 +1,8 @@
 -- The last of the first numbers that pass a test.
 use Rattle.std.proofs.Common.{◌≡◌, ◌≤◌, ◌<◌, ◌⊎◌, ◌+◌, ◌-◌, ℕ, zero, suc, Bool, true, false, cond, List, [], ◌∷◌, ◌++◌, Option, None, Some}
 use Rattle.std.proofs.Common.{inl, inr, refl, sym, ap, ◌∙◌, subst, arith, unwrap_or, append-nil}
-use Rattle.std.specs.Prelude.{filter, ◌==◌}
+use Rattle.std.specs.Prelude.{filter, ◌==◌, nat_le}
+use Rattle.std.proofs.lemmas.Bool.Decides.{nat_tests}
 use Rattle.std.specs.List.{last_or, range_with_len}
 use Rattle.std.proofs.lemmas.List.Elements.{filter-append}
 use Rattle.seam_defs.specs.declared.flags.Part.TheVariants as part
@@ -13,6 +14,14 @@ use Rattle.seam_transcript.specs.Round.{Lists}
 use Rattle.seam_transcript.proofs.Lists.{listed_is_one}
 use Rattle.seam_round.specs.Book.{Book, live_as}
 use Rattle.seam_round.specs.FlatTable.{has_changed_at, public_at, rows_of}
+
+-- a number is at most another one that is not below it
+pub at_most_unless : (m n : ℕ) → (n < m → ⊥) → m ≤ n
+at_most_unless m n refute = by (nat_le m n) refl
+  where
+    by : (t : Bool) → nat_le m n ≡ t → m ≤ n
+    by true is = grind (arith, nat_tests, is)
+    by false is = absurd (refute (grind (arith, nat_tests, is)))
 
 range_more : (a n : ℕ) → range_with_len a (suc n) ≡ range_with_len a n ++ (a + n) ∷ []
 range_more a zero = let same : a ≡ a + 0 = omega arith in ap (λ (k : ℕ). k ∷ []) same

@@ -15,14 +15,7 @@ use Rattle.seam_round.specs.Standing.{Standing}
 use Rattle.seam_round.specs.Clients.{IsOther, IsShownAt}
 use Rattle.seam_round.specs.Lines.{RoundData}
 use Rattle.seam_round.specs.Round.{IsRound}
-use Rattle.seam_round.proofs.Public.{public_at_most, public_changed, public_last}
-
-not_below : (a b : ℕ) → (a < b → ⊥) → b ≤ a
-not_below a b refute = by (nat_le b a) refl
-  where
-    by : (t : Bool) → nat_le b a ≡ t → b ≤ a
-    by true is = grind (arith, nat_tests, is)
-    by false is = absurd (refute (grind (arith, nat_tests, is)))
+use Rattle.seam_round.proofs.Public.{at_most_unless, public_at_most, public_changed, public_last}
 
 module _ (h : Header) (c : Create) (order : List Call) where
   -- no version past the public one and up to this is one of a change
@@ -33,7 +26,7 @@ module _ (h : Header) (c : Create) (order : List Call) where
   -- public versions rise with versions
   rises : (v w : ℕ) → v ≤ w → public_at h c order v ≤ public_at h c order w
   rises v w up =
-      not_below (public_at h c order w) (public_at h c order v)
+      at_most_unless (public_at h c order v) (public_at h c order w)
       (λ above. let most = public_at_most h c order v in
       past_is_none w (public_at h c order v) above (omega (arith, most, up)) (public_changed h c order v))
 
@@ -42,7 +35,7 @@ module _ (h : Header) (c : Create) (order : List Call) where
   is_its_own v =
       let most = public_at_most h c order (public_at h c order v) in
       let least =
-      not_below (public_at h c order (public_at h c order v)) (public_at h c order v)
+      at_most_unless (public_at h c order v) (public_at h c order (public_at h c order v))
       (λ above. past_is_none (public_at h c order v) (public_at h c order v) above (omega arith) (public_changed h c order v)) in
       omega (arith, most, least)
 

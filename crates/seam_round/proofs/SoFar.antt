@@ -1,8 +1,7 @@
 -- Verdicts in a book of creates and calls alone.
-use Rattle.std.proofs.Common.{◌≡◌, ◌≤◌, ◌<◌, ◌⊎◌, ℕ, Bool, true, false, List, [], ◌∷◌, ◌++◌, refl, sym, ap, ◌∙◌, subst}
+use Rattle.std.proofs.Common.{◌≡◌, ◌≤◌, ◌⊎◌, ℕ, Bool, true, false, List, [], ◌∷◌, ◌++◌, refl, sym, ap, ◌∙◌, subst}
 use Rattle.std.proofs.Common.{inl, inr, arith}
-use Rattle.std.specs.Prelude.{◌&&◌, is_some, Contains, codes, nat_le}
-use Rattle.std.proofs.lemmas.Bool.Decides.{nat_tests}
+use Rattle.std.specs.Prelude.{◌&&◌, is_some, Contains, codes}
 use Rattle.std.specs.Prelude.{length, ◌+◌}
 use Rattle.seam_defs.specs.Types.{type_of, method_of}
 use Rattle.seam_defs.specs.declared.types.TypeDef.{TypeDef}
@@ -31,6 +30,7 @@ use Rattle.seam_round.specs.Judging.{NamesSender, NamesLive, NamesCall, AddsTake
 use Rattle.seam_round.specs.Judging.{HoldsAgainstTaken, HoldsAgainst, Holds, Judges, MayCall, MayMove, Spells}
 use Rattle.seam_round.specs.OneCell.{whole_book, NamesFurther, whole_verdict}
 use Rattle.seam_round.proofs.OneCell.{back, all_live, none_of_both}
+use Rattle.seam_round.proofs.Public.{at_most_unless}
 
 -- ---- names of commands
 
@@ -64,13 +64,6 @@ in_both x a b c d more has = elim (contains_cases a x (b ∷ c ∷ d ∷ []) has
     ]
   ]
 ]
-
-not_above : (m n : ℕ) → ((n < m) → ⊥) → m ≤ n
-not_above m n refute = by (nat_le m n) refl
-  where
-    by : (t : Bool) → nat_le m n ≡ t → m ≤ n
-    by true is = grind (arith, nat_tests, is)
-    by false is = absurd (refute (grind (arith, nat_tests, is)))
 
 spells_there : (line : Line) (c : words.Command) → taken.Spells line c → Spells line (language.Taken c)
 spells_there (Content line) c spells = spells
@@ -298,7 +291,7 @@ module _ (h : Header) (b : taken.Book) where
       not,
       record {
         here = holds_there k first.here;
-        first = λ d holds. not_above (taken.rank k) (rank d)
+        first = λ d holds. at_most_unless (taken.rank k) (rank d)
             (λ above. holds_back d holds (λ l so_far low. let high = first.first l so_far in omega (arith, above, low, high)));
       },
     )

@@ -157,8 +157,8 @@ pub fn texts_of_lines()
     ensures shift { refusal 8 (ShiftRefused WouldEmpty) ≡ codes "line 8 tree 2\n" }
 {}
 
-/// A client may call the exposed methods of every entity's cell part and of its own entity's base part, and move its own entity alone; a base
-/// node may do all of it.
+/// A client may call the exposed methods of every entity's cell part and of its own entity's base part, and move its own entity alone; a
+/// base node may do all of it.
 pub fn who_may_call()
     ensures exposed { MayCall (sender.Client 1) 2 hit }
     ensures not_exposed { ¬ (MayCall (sender.Client 1) 1 mark) }
