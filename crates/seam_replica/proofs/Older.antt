@@ -16,7 +16,7 @@ use Rattle.seam_replica.specs.Lines.{MayShow, MayShowAll}
 -- ---- others
 
 -- the version last shown of an entity, once one was shown
-got : (m : table.FinMap nat_cmp ℕ) (e v q : ℕ) (t : Bool) → is_eq (nat_cmp q e) ≡ t →
+pub got : (m : table.FinMap nat_cmp ℕ) (e v q : ℕ) (t : Bool) → is_eq (nat_cmp q e) ≡ t →
     table.get (table.insert m e v) q ≡ cond t (Some v) (table.get m q)
 got m e v q t is = table.get-insert nat_cmp_total m e v q ∙ ap (λ b. cond b (Some v) (table.get m q)) is
 
@@ -56,7 +56,8 @@ line_never_falls me c (Set e k) may =
     omega (arith, one, up))
 line_never_falls me c (Leave e) may = nothing_falls c.others
 
-pub lines_never_fall : (me : ℕ) (c : ClientReplica) (xs : List Shown) → MayShowAll me c xs → NeverFalls c.others (after_all_shown c xs).others
+pub lines_never_fall : (me : ℕ) (c : ClientReplica) (xs : List Shown) → MayShowAll me c xs →
+    NeverFalls c.others (after_all_shown c xs).others
 lines_never_fall me c [] may = nothing_falls c.others
 lines_never_fall me c (x ∷ xs) may =
     in_turn c.others (after_shown c x).others (after_all_shown (after_shown c x) xs).others

@@ -32,3 +32,7 @@ once = after_look_at (table_of 0 1300) (new_client standard)
 
 abbrev pub twice : ClientReplica
 twice = after_look_at (table_of 1 1310) once
+
+-- and once more when it had gone one farther, and left the view
+abbrev pub left : ClientReplica
+left = after_look_at (table_of 2 1311) twice

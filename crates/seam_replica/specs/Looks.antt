@@ -1,10 +1,12 @@
 -- One look: what a client is shown of a flat table, in which each live entity is as it is now.
-use Rattle.std.specs.Prelude.{ℕ, Bool, true, not, ◌==◌, nat_lt, List, [], ◌∷◌, ◌++◌, map, filter, find, Option, None, Some, option_map}
-use Rattle.std.specs.Prelude.{if◌then◌else◌}
-use Rattle.std.specs.List.{filter_map}
+use Rattle.std.specs.Prelude.{◌≡◌, ℕ, ◌+◌, ◌≤◌, IsTrue, IsFalse, Bool, true, not, ◌==◌, nat_lt, List, [], ◌∷◌, ◌++◌, map}
+use Rattle.std.specs.Prelude.{filter, find, Option, None, Some, option_map, if◌then◌else◌}
+use Rattle.std.specs.List.{filter_map, AllByRecursion}
+use Rattle.seam_geo.specs.Pos.{distance}
 use Rattle.seam_view.specs.declared.Seen.{Seen}
 use Rattle.seam_view.specs.declared.Look.{Look}
 use Rattle.seam_view.specs.declared.Look.TheVariants as look
+use Rattle.seam_view.specs.Looks.{in_view}
 use Rattle.seam_view.specs.Plain.{plain_look}
 use Rattle.seam_defs.specs.declared.states.State.{State}
 use Rattle.seam_call.specs.declared.shown.GhostCopy.{GhostCopy}
@@ -60,3 +62,17 @@ look_by c (Some r) others = look_at c r others
 -- one look of an entity's client at the table: nothing where the entity does not live
 abbrev pub one_look : ClientReplica → ℕ → List Row → List Shown
 one_look c e rows = look_by c (row_of rows e) (rows_but e rows)
+
+-- an entity in view, last shown at a version, is one of the table within radius and hysteresis, and has no newer public version
+pub record IsShownNow (c : ClientReplica) (r : Row) (others : List Row) (e v : ℕ) : Type 0 where
+  pub row : Row
+  pub is : row_of others e ≡ Some row
+  pub within : distance r.own.pos row.other.state.pos ≤ c.others.radius + c.others.hysteresis
+  pub newest : row.other.version ≤ v
+
+-- What a client shows is the table: its own version; each other entity within the radius is in view; and each in view is an entity of
+-- the table within radius and hysteresis, at its public version.
+pub record ShowsTable (c : ClientReplica) (r : Row) (others : List Row) : Type 0 where
+  pub own : IsFalse (is_newer c.own r.version)
+  pub near : AllByRecursion (λ f. distance r.own.pos f.other.state.pos ≤ c.others.radius → IsTrue (in_view c.others f.entity)) others
+  pub in_view_ : AllByRecursion (λ p. IsShownNow c r others p.0 p.1) c.others.entries

@@ -57,7 +57,7 @@ pub in_order_of_append : (xs ys : List Entry) (p : Part) (e : ℕ) → in_order 
 in_order_of_append xs ys p e =
     ap (filter (is_for p e)) (filter_map-append called xs ys) ∙ filter-append (is_for p e) (calls_of xs) (calls_of ys)
 
-extends : (b : Book) (p : Part) (live : List Create) (before : ℕ → List Call) → Lists (created_as b) live →
+pub extends : (b : Book) (p : Part) (live : List Create) (before : ℕ → List Call) → Lists (created_as b) live →
     ((e : ℕ) → before e ≡ in_order b.past p e)
     → ExtendsOrders b p before (in_order (entries b) p) (done_lines (in_order b.current p) live)
 extends b p live before listed same = record {

@@ -97,7 +97,7 @@ sender_is_one (sender.Client d) (sender.Base n) same =
     let first = ap (λ (bytes : List ℕ). get_or bytes 0 0) same in
     absurd (omega (arith, first))
 
-type_is_one : (defs : List TypeDef) (name : List ℕ) (a b : ℕ) → AreDefs defs → NamesType defs name a → NamesType defs name b → a ≡ b
+pub type_is_one : (defs : List TypeDef) (name : List ℕ) (a b : ℕ) → AreDefs defs → NamesType defs name a → NamesType defs name b → a ≡ b
 type_is_one defs name a b are one other =
     one_place (λ (t : TypeDef). t.name) defs are.names name a b (place_of_type defs name a one.has one.named)
     (place_of_type defs name b other.has other.named)
@@ -108,7 +108,7 @@ method_is_one defs ty name a b are one other =
     one_place (λ (m : Methods). m.name) (type_of defs ty).methods (rising-methods defs are ty) name a b
     (place_of_method (type_of defs ty) name a one.has one.named) (place_of_method (type_of defs ty) name b other.has other.named)
 
-values_are_one : (xs ys : List Value) → map text_of xs ≡ map text_of ys → xs ≡ ys
+pub values_are_one : (xs ys : List Value) → map text_of xs ≡ map text_of ys → xs ≡ ys
 values_are_one [] [] same = refl
 values_are_one (x ∷ xs) (y ∷ ys) same =
     ap (λ (v : Value). v ∷ xs) (text_of-injective x y (ap (λ (ts : List (List ℕ)). get_or ts 0 []) same))
@@ -119,7 +119,7 @@ values_are_one (x ∷ xs) [] same = cc
 pub positive_is_one : (w : List ℕ) (m n : ℕ) → SpellsPositive w m → SpellsPositive w n → m ≡ n
 positive_is_one w m n one other = spells_one_number w m n one.number other.number
 
-position_is_one : (h : Header) (x z : List ℕ) (p q : Pos) → SpellsPosition h x z p → SpellsPosition h x z q → p ≡ q
+pub position_is_one : (h : Header) (x z : List ℕ) (p q : Pos) → SpellsPosition h x z p → SpellsPosition h x z q → p ≡ q
 position_is_one h x z p q one other =
     let same_x = spells_one_number x p.x q.x one.spelled_x other.spelled_x in
     let same_z = spells_one_number z p.z q.z one.spelled_z other.spelled_z in
@@ -138,20 +138,21 @@ pub live_is_one : (b : Book) (e : List ℕ) (c d : Create) → NamesLive b e c �
 live_is_one b e c d one other =
     same_Some c d (sym one.lives ∙ ap (live_as b) (positive_is_one e c.entity d.entity one.number other.number) ∙ other.lives)
 
-same_fields : (c d : Call) → c.entity ≡ d.entity → c.part ≡ d.part → c.sender ≡ d.sender → c.number ≡ d.number → c.deed ≡ d.deed → c ≡ d
+pub same_fields : (c d : Call) → c.entity ≡ d.entity → c.part ≡ d.part → c.sender ≡ d.sender → c.number ≡ d.number → c.deed ≡ d.deed → c ≡ d
 same_fields c d entity part sender number deed =
     λ i. record { entity = entity i; part = part i; sender = sender i; number = number i; deed = deed i }
 
 -- at most one deed of each type is asked for
-abbrev AskForOne : List TypeDef → (TypeDef → Deed → Type 0) → Type 0
+abbrev pub AskForOne : List TypeDef → (TypeDef → Deed → Type 0) → Type 0
 AskForOne defs Asks = (ty : ℕ) (d e : Deed) → Asks (type_of defs ty) d → Asks (type_of defs ty) e → d ≡ e
 
-deed_is_one : (defs : List TypeDef) (name : List ℕ) (arguments : List (List ℕ)) → AreDefs defs → AskForOne defs (NamesDeed arguments name)
+pub deed_is_one : (defs : List TypeDef) (name : List ℕ) (arguments : List (List ℕ)) → AreDefs defs →
+    AskForOne defs (NamesDeed arguments name)
 deed_is_one defs name arguments are ty d e (m, args, named, one, is) (n, args', named', other, is') =
     is ∙ ap (λ (k : ℕ). Method k args) (method_is_one defs ty name m n are named named')
     ∙ ap (Method n) (values_are_one args args' (one.spelled ∙ sym other.spelled)) ∙ sym is'
 
-move_is_one : (h : Header) (x z : List ℕ) → AskForOne h.defs (λ t. NamesMove h x z)
+pub move_is_one : (h : Header) (x z : List ℕ) → AskForOne h.defs (λ t. NamesMove h x z)
 move_is_one h x z ty d e (p, one, is) (q, other, is') = is ∙ ap Move (position_is_one h x z p q one other) ∙ sym is'
 
 call_is_one : (h : Header) (b : Book) (s e : List ℕ) (Asks : TypeDef → Deed → Type 0) (c d : Call) → AskForOne h.defs Asks →
@@ -187,14 +188,14 @@ content_of : Line → List ℕ
 content_of (Content line) = line
 content_of Long = []
 
-same_content : (line other : List ℕ) → Content line ≡ Content other → line ≡ other
+pub same_content : (line other : List ℕ) → Content line ≡ Content other → line ≡ other
 unfolding content_of
 same_content line other same = ap content_of same
 
 long_is_no_content : (line : List ℕ) → Long ≡ Content line → ⊥
 long_is_no_content line same = cc
 
-content_is_not_long : (line : List ℕ) → Content line ≡ Long → ⊥
+pub content_is_not_long : (line : List ℕ) → Content line ≡ Long → ⊥
 content_is_not_long line same = cc
 
 -- the first word of a command names one
@@ -210,7 +211,7 @@ same_fault h b line e f (one, same, refuses) (other, same', refuses') =
     fault_is_first other e f (subst (λ (l : List ℕ). Refuses l e) (same_content one other (sym same ∙ same')) refuses) refuses'
 
 -- the cause of a rank, with this fault of words
-abbrev of_rank : WordsError → ℕ → Cause
+abbrev pub of_rank : WordsError → ℕ → Cause
 of_rank e n =
     get_or
     (cause.TooLong ∷ cause.BadWords e ∷ cause.NoCommand ∷ cause.WrongCount ∷ cause.BadNumber ∷ cause.Exists ∷ cause.NoType
@@ -218,11 +219,11 @@ of_rank e n =
     n cause.NoCommand
 
 -- the fault of words that a cause tells, else this one
-abbrev fault_or : WordsError → Cause → WordsError
+abbrev pub fault_or : WordsError → Cause → WordsError
 fault_or e (cause.BadWords f) = f
 fault_or e k = e
 
-is_of_rank : (e : WordsError) (k : Cause) → k ≡ of_rank (fault_or e k) (rank k)
+pub is_of_rank : (e : WordsError) (k : Cause) → k ≡ of_rank (fault_or e k) (rank k)
 is_of_rank e cause.TooLong = refl
 is_of_rank e (cause.BadWords f) = refl
 is_of_rank e cause.NoCommand = refl
@@ -237,7 +238,7 @@ is_of_rank e cause.Dead = refl
 is_of_rank e cause.UnknownMethod = refl
 is_of_rank e cause.IllTyped = refl
 
-is_bad_words : (k : Cause) → rank k ≡ 1 → (f : WordsError) × (k ≡ cause.BadWords f)
+pub is_bad_words : (k : Cause) → rank k ≡ 1 → (f : WordsError) × (k ≡ cause.BadWords f)
 is_bad_words cause.TooLong is = absurd (omega (arith, is))
 is_bad_words (cause.BadWords f) is = (f, refl)
 is_bad_words cause.NoCommand is = absurd (omega (arith, is))
@@ -252,7 +253,7 @@ is_bad_words cause.Dead is = absurd (omega (arith, is))
 is_bad_words cause.UnknownMethod is = absurd (omega (arith, is))
 is_bad_words cause.IllTyped is = absurd (omega (arith, is))
 
-no_fault : (e : WordsError) (k : Cause) → ¬ (rank k ≡ 1) → fault_or e k ≡ e
+pub no_fault : (e : WordsError) (k : Cause) → ¬ (rank k ≡ 1) → fault_or e k ≡ e
 no_fault e cause.TooLong not = refl
 no_fault e (cause.BadWords f) not = absurd (not refl)
 no_fault e cause.NoCommand not = refl

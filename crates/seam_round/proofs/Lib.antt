@@ -1,0 +1,11 @@
+pub mod Commands
+pub mod Verdicts
+pub mod Public
+pub mod Shown
+pub mod WithoutTick
+pub mod OneCell
+pub mod SoFar
+pub mod Transcripts
+pub mod Example
+pub mod Edges
+pub mod Lines

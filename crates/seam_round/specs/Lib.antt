@@ -1,0 +1,13 @@
+pub mod Language
+pub mod Book
+pub mod Judging
+pub mod FlatTable
+pub mod Standing
+pub mod Places
+pub mod Lines
+pub mod Clients
+pub mod Round
+pub mod Texts
+pub mod Transcript
+pub mod OneCell
+pub mod Example
