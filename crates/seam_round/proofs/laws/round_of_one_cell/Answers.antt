@@ -1,8 +1,0 @@
-use Rattle.seam_round.proofs.OneCell.{whole_is_legal, is_whole, is_taken}
-use Rattle.seam_round.proofs.laws.round_of_one_cell.Goals as goal
-
-pub returns-clause-whole : goal.returns-clause-whole
-returns-clause-whole c = whole_is_legal
-
-pub returns-clause-no_other : goal.returns-clause-no_other
-returns-clause-no_other c = λ h s t r one. (is_whole h s t r one, is_taken h s t r one)
