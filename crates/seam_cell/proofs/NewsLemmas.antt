@@ -1,5 +1,6 @@
 -- What more cells are told, and that all of it is what the definitions of steps say.
-use Rattle.std.proofs.Common.{◌≡◌, ◌+◌, ◌++◌, ◌||◌, ℕ, zero, suc, Bool, true, false, cond, eqb, List, [], ◌∷◌, Option, None, Some, refl, ap, sym, ◌∙◌, arith}
+use Rattle.std.proofs.Common.{◌≡◌, ◌+◌, ◌++◌, ◌||◌, ℕ, zero, suc, Bool, true, false, cond, eqb, List, [], ◌∷◌, Option, None, Some}
+use Rattle.std.proofs.Common.{refl, ap, sym, ◌∙◌, arith}
 use Rattle.std.specs.List.{filter_map, cons_option, range_with_len}
 use Rattle.std.specs.FinSet as set
 use Rattle.std.proofs.lemmas.List.Elements.{filter_map-append}

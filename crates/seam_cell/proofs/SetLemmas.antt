@@ -42,7 +42,8 @@ removed_step : (e x : ℕ) (xs : List ℕ) (b : Bool) → is_eq (nat_cmp e x) �
     remove_key (is_at (nat_cmp e)) xs ≡ without e xs → cond b xs (x ∷ remove_key (is_at (nat_cmp e)) xs) ≡ without e (x ∷ xs)
 removed_step e x xs true t h more =
     let same = equal_number e x t in
-    sym (subst (λ y. without e (y ∷ xs) ≡ xs) (sym same) (first_goes e xs (subst (λ y. AllByRecursion (λ z. nat_cmp y z ≡ Less) xs) same h)))
+    let above = subst (λ y. AllByRecursion (λ z. nat_cmp y z ≡ Less) xs) same h in
+    sym (subst (λ y. without e (y ∷ xs) ≡ xs) (sym same) (first_goes e xs above))
 removed_step e x xs false t h more =
     ap (λ l. x ∷ l) more ∙ sym (ap (λ b. cond (not b) (x ∷ without e xs) (without e xs)) (other_number e x t))
 

@@ -36,6 +36,7 @@ pub struct Telling {
 }
 
 /// The real of which is told: its type, its public version and its state.
+#[derive(Drop)]
 pub struct Subject<'a> {
     pub defs: &'a Defs,
     pub ty: u16,
@@ -75,8 +76,9 @@ fn add(
     k: u8,
     so_far: &mut VecDeque<(u8, Msg)>,
 ) -> Result<(), AllocError>
-    ensures { (me : ℕ) (settings : AllSettings) → OnOk result (so_far.new.items ≡ so_far.old.items
-        ++ listed (said t.now (copy_with (node_with of.now.defs.now me settings) of.now.ty of.now.version of.now.state.now) k (word t.now k))) }
+    ensures { (me : ℕ) (settings : AllSettings) →
+        let copy = copy_with (node_with of.now.defs.now me settings) of.now.ty of.now.version of.now.state.now in
+        OnOk result (so_far.new.items ≡ so_far.old.items ++ listed (said t.now copy k (word t.now k))) }
 {
     match word(t, k) {
         Told::Nothing => Ok(()),

@@ -1,13 +1,10 @@
 // What the calls that take memory give with ample memory.
-use crate::{Cell, EntitySet, Next, Ready, Subject, Telling, get_ready, leave, make_room};
+use crate::{Cell, EntitySet};
 use seam_call::{Call, GhostCopy, Sender};
 use seam_defs::{Deed, Defs, Part, Settings};
-use seam_entity::{Msg, Real};
+use seam_entity::Real;
 use seam_geo::Pos;
-use seam_ghosts::GhostBook;
 use seam_machine::Out;
-use seam_table::Table;
-use seam_tree::CellSet;
 use std::alloc::{AllocError, Global};
 use std::test::Fail;
 
@@ -60,63 +57,6 @@ fn a_call_without_a_place_goes_nowhere(rt: HostRuntime) -> Result<(), Fail> {
     }
     assert!(rt; cell.pass_call_on(call, &mut out).is_ok());
     assert!(rt; out.is_empty());
-    Ok(())
-}
-
-// All that is made for a real of cell 0 that goes to cell 1 and has ghosts in cells 0 and 2.
-fn made_ready(alloc: Global, real: &Real, defs: &Defs) -> Result<Ready, AllocError> {
-    let telling = Telling {
-        me: 0,
-        home: 1,
-        old: CellSet::none(),
-        haunts: CellSet::none().with(0).with(2),
-        changed: false,
-        entity: 1,
-        beat: 1,
-    };
-    let of = Subject {
-        defs,
-        ty: real.ty(),
-        version: real.public_version(),
-        state: real.state(),
-    };
-    get_ready(alloc, telling, &of)
-}
-
-// To whom is sent what the real leaves behind it, and whether the own book has its copy.
-fn left(alloc: Global, real: Real, ready: Ready) -> Result<(Option<u8>, Option<u8>, bool), Fail> {
-    let mut nexts: Table<Next> = Table::new(alloc);
-    let mut book = GhostBook::new(alloc);
-    let mut out = Out::new(alloc);
-    make_room(&ready, &mut nexts, &mut book, &mut out)?;
-    if real.beat() >= 1 << 62 {
-        Err("a great beat")?;
-    }
-    if real.generation() >= 1 << 62 {
-        Err("a great generation")?;
-    }
-    if ready.telling.entity != real.entity() {
-        Err("another entity")?;
-    }
-    if ready.telling.home == ready.telling.me {
-        Err("it stays")?;
-    }
-    leave(real, ready, &mut nexts, &mut book, &mut out);
-    let first = out.take().map(|sent| sent.0);
-    let second = match out.take() {
-        Some((to, Msg::Hand(_))) => Some(to),
-        _ => None,
-    };
-    Ok((first, second, book.get(1).is_some()))
-}
-
-#[test]
-fn a_real_is_sent_after_what_its_haunts_are_told(rt: HostRuntime) -> Result<(), Fail> {
-    let alloc = rt.alloc();
-    let defs = builtin(alloc)?;
-    let real = create(alloc, &defs)?;
-    let ready = made_ready(alloc, &real, &defs)?;
-    assert_eq!(rt; left(alloc, real, ready)?, (Some(2), Some(1), true));
     Ok(())
 }
 

@@ -10,7 +10,8 @@ first_passes : (b c : Bool) → b ≡ true → (b && c) ≡ c
 first_passes true c e = refl
 first_passes false c e = cc
 
-module _ {X : Type 0} (test : X → Bool) (all left rest : List X) (x : X) (same : list_all test left ≡ list_all test all) (head : left ≡ x ∷ rest) where
+module _ {X : Type 0} (test : X → Bool) (all left rest : List X) (x : X) (same : list_all test left ≡ list_all test all)
+    (head : left ≡ x ∷ rest) where
   pub one_fails : test x ≡ false → false ≡ list_all test all
   one_fails e = sym (first_fails (test x) (list_all test rest) e) ∙ ap (list_all test) (sym head) ∙ same
 

@@ -1,5 +1,6 @@
 -- Which order is ready, by places.
-use Rattle.std.proofs.Common.{◌≡◌, ◌≤◌, ◌<◌, ℕ, zero, suc, Bool, true, false, cond, List, [], ◌∷◌, length, get_or, None, Some, Option, refl, sym, ap}
+use Rattle.std.proofs.Common.{◌≡◌, ◌≤◌, ◌<◌, ℕ, zero, suc, Bool, true, false, cond, List, [], ◌∷◌, length, get_or, None, Some, Option}
+use Rattle.std.proofs.Common.{refl, sym, ap}
 use Rattle.std.proofs.Common.{◌∙◌, ◌+◌, ◌&&◌, subst, arith, find, is_some, IfSome, IfNone, set}
 use Rattle.std.specs.Ordering.{nat_cmp}
 use Rattle.std.specs.declared.cmp.Ordering.TheVariants.{Less}
@@ -60,7 +61,8 @@ not_ready_new o false e r = refl
 
 none_here : (p : Entry) (ps : Entries) → is_ready p.1 ≡ false → find order_is_ready (shown (p ∷ ps)) ≡ find order_is_ready (shown ps)
 none_here p ps w =
-    elim (is_new p.1) as (λ b. find order_is_ready (cond b (shown ps) ((rank_of p.0, p.1) ∷ shown ps)) ≡ find order_is_ready (shown ps)) [
+    elim (is_new p.1) as (λ b. find order_is_ready (cond b (shown ps) ((rank_of p.0, p.1) ∷ shown ps))
+    ≡ find order_is_ready (shown ps)) [
       | true ↦ refl
       | false ↦ ap (λ b. cond b (Some (rank_of p.0, p.1)) (find order_is_ready (shown ps))) w
     ]

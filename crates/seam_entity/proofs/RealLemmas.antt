@@ -25,7 +25,8 @@ pub executed_from : (h : Here) (r p : RealView) (a : After) (k : Call) → p ≡
 executed_from h r p a k e s c = ap (λ q. with_offer (with_after q a k) k) e ∙ ap (λ q. with_offer q k) (same_deed h r a k s c)
 
 pub ready_from : (h : Here) (r p : RealView) (a : After) (o : ℕ × OrderView Call) (k : Call) → p ≡ r →
-    a.state ≡ (with_deed h r k).state → a.changed ≡ shows h r k → with_order (with_after p a k) o.0 (after_taking o.1) ≡ executed_ready h r o k
+    a.state ≡ (with_deed h r k).state → a.changed ≡ shows h r k →
+    with_order (with_after p a k) o.0 (after_taking o.1) ≡ executed_ready h r o k
 ready_from h r p a o k e s c =
     ap (λ q. with_order (with_after q a k) o.0 (after_taking o.1)) e
     ∙ ap (λ q. with_order q o.0 (after_taking o.1)) (same_deed h r a k s c)
