@@ -1,5 +1,6 @@
 -- Marks beside base parts: what they say of the parts, and how they follow them.
-use Rattle.std.proofs.Common.{◌≡◌, ℕ, Bool, true, false, cond, ◌&&◌, T, is_some, List, [], ◌∷◌, find, Option, None, Some, refl, sym, ap, ◌∙◌, arith}
+use Rattle.std.proofs.Common.{◌≡◌, ℕ, Bool, true, false, cond, ◌&&◌, T, is_some, List}
+use Rattle.std.proofs.Common.{[], ◌∷◌, find, Option, None, Some, refl, sym, ap, ◌∙◌, arith}
 use Rattle.std.specs.Prelude.{option_map}
 use Rattle.std.specs.Ordering.{nat_cmp, is_lt, is_eq, eq_by_cmp, ordering_reverse}
 use Rattle.std.specs.declared.cmp.Ordering.{Ordering}
@@ -136,7 +137,8 @@ is_some_cond : {A : Type 0} (b : Bool) (x y : Option A) → is_some (cond b x y)
 is_some_cond true x y = refl
 is_some_cond false x y = refl
 
-passes_cond : (test : PartView → Bool) (b : Bool) (x y : Option PartView) → passes test (cond b x y) ≡ cond b (passes test x) (passes test y)
+passes_cond : (test : PartView → Bool) (b : Bool) (x y : Option PartView) →
+    passes test (cond b x y) ≡ cond b (passes test x) (passes test y)
 passes_cond test true x y = refl
 passes_cond test false x y = refl
 

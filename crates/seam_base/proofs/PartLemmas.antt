@@ -1,5 +1,6 @@
 -- Base parts after calls.
-use Rattle.std.proofs.Common.{◌≡◌, ℕ, ◌≤◌, ◌+◌, subst, Result, OnOk, OnErr, Ok, Err, List, [], ◌∷◌, Bool, true, false, ◌&&◌, not, find, is_some, if◌then◌else◌, Option, None, Some, refl, sym, ap, ◌∙◌, arith}
+use Rattle.std.proofs.Common.{◌≡◌, ℕ, ◌≤◌, ◌+◌, subst, Result, OnOk, OnErr, Ok, Err, List, [], ◌∷◌, Bool}
+use Rattle.std.proofs.Common.{true, false, ◌&&◌, not, find, is_some, if◌then◌else◌, Option, None, Some, refl, sym, ap, ◌∙◌, arith}
 use Rattle.std.specs.Prelude.{option_map, cond, ◌||◌}
 use Rattle.std.specs.List.{list_any, filter}
 use Rattle.seam_steps.specs.Maps.{has_any}

@@ -1,5 +1,6 @@
 -- A walk over all parts, from each to the next one, in which each begins a round.
-use Rattle.std.proofs.Common.{◌≡◌, ℕ, ◌<◌, ◌-◌, ◌+◌, Bool, true, false, cond, is_some, map, find, List, [], ◌∷◌, Option, None, Some, refl, sym, ap, ◌∙◌, arith}
+use Rattle.std.proofs.Common.{◌≡◌, ℕ, ◌<◌, ◌-◌, Bool, true, false, cond, is_some, map, find}
+use Rattle.std.proofs.Common.{List, [], ◌∷◌, Option, None, Some, refl, sym, ap, ◌∙◌, arith}
 use Rattle.std.specs.Prelude.{option_map, nat_lt}
 use Rattle.std.specs.Ordering.{nat_cmp, eq_by_cmp, is_eq}
 use Rattle.std.specs.declared.cmp.Ordering.{Ordering}
@@ -16,7 +17,7 @@ use Rattle.seam_steps.specs.Loads.{proxy_begins, part_begins}
 use Rattle.seam_base.specs.Nodes.{has_call, has_update}
 use Rattle.seam_base.specs.Parts.{changed_at}
 use Rattle.seam_base.specs.Marks.{passes, AreMarked}
-use Rattle.seam_base.proofs.Marks.{IsBefore, fails_before, same_key, changed_there}
+use Rattle.seam_base.proofs.Marks.{IsBefore, fails_before, changed_there}
 
 abbrev pub comes_after : Option ℕ → ℕ × PartView → Bool
 comes_after last p = is_after last p.0
@@ -44,7 +45,9 @@ module _ (last : Option ℕ) (old now : Map PartView) (are : AreBegun last old n
       by_part : (v : Option PartView) → table.get now q ≡ v → is_after last q ≡ true → table.get now q ≡ table.get old q →
           table.get now q ≡ option_map part_begins (table.get old q)
       by_part None at after same = at ∙ ap (option_map part_begins) (sym at ∙ same)
-      by_part (Some x) at after same = let fails = fails_before (comes_after last) now o q x is before at in absurd (let z = sym after ∙ fails in cc)
+      by_part (Some x) at after same =
+          let fails = fails_before (comes_after last) now o q x is before at in
+          absurd (let z = sym after ∙ fails in cc)
 
       by : (b : Bool) → is_after last q ≡ b → table.get now q ≡ option_map part_begins (table.get old q)
       by true after = by_part (table.get now q) refl after (as_before q true after refl)
@@ -130,8 +133,8 @@ marks_by : (test : PartView → Bool) → ((p : PartView) → test (part_begins 
 marks_by test same None = refl
 marks_by test same (Some p) = same p
 
-marks_begun : {M : Type 0} (test : PartView → Bool) → ((p : PartView) → test (part_begins p) ≡ test p) → (marks : Map M) (m n : Map PartView)
-    → n ≡ each_value part_begins m → AreMarked test marks m → AreMarked test marks n
+marks_begun : {M : Type 0} (test : PartView → Bool) → ((p : PartView) → test (part_begins p) ≡ test p) → (marks : Map M)
+    (m n : Map PartView) → n ≡ each_value part_begins m → AreMarked test marks m → AreMarked test marks n
 marks_begun test same marks m n is are q =
     are q
     ∙ (sym (marks_by test same (table.get m q))

@@ -1,5 +1,5 @@
 -- What contracts see of a base part, and what it gets ready before it executes a call.
-use Rattle.std.specs.Prelude.{◌≡◌, ℕ, ◌+◌, ◌<◌, true, List, [], ◌∷◌, ◌++◌, Option, None, Some, option_map, vec_len, vec_capacity}
+use Rattle.std.specs.Prelude.{◌≡◌, ℕ, ◌+◌, ◌<◌, true, List, [], ◌∷◌, ◌++◌, Option, None, Some, option_map, box_value, vec_len, vec_capacity}
 use Rattle.std.specs.Ordering.{nat_cmp}
 use Rattle.std.specs.FinMap as table
 use Rattle.std.specs.FinSet as set
@@ -15,11 +15,15 @@ use Rattle.seam_entity.specs.Calls.{ready_order}
 use Rattle.seam_steps.specs.Maps.{Map, set_at}
 use Rattle.seam_steps.specs.Bases.{PartView, ProxyView, with_line}
 use Rattle.seam_steps.specs.BaseCases.{offered, offered_update, after_ready, after_showing}
+use Rattle.std.specs.declared.boxed.Box.{Box}
 use Rattle.seam_base.specs.declared.part.Proxy.{Proxy}
 use Rattle.seam_base.specs.declared.part.Body.{Body}
 
 abbrev pub proxy_of : Proxy → ProxyView
 proxy_of x = record { updates = x.updates; lines = x.lines.items; last = x.last }
+
+abbrev pub client_in : {Z : Type 0} → Box Proxy Z → ProxyView
+client_in x = proxy_of (box_value x)
 
 -- the part; the room that was made in it is not seen
 abbrev pub part_of : Body → PartView
@@ -29,7 +33,7 @@ part_of b = record {
   version = b.version;
   orders = b.orders.orders;
   done = b.done.items;
-  proxy = option_map proxy_of b.proxy;
+  proxy = option_map client_in b.proxy;
 }
 
 abbrev pub lines_or : Option ProxyView → List Line
@@ -41,9 +45,9 @@ abbrev pub lines_of : PartView → List Line
 lines_of p = lines_or p.proxy
 
 -- the client, if there is one, has room for a line
-abbrev pub HasLine : Option Proxy → Type 0
+abbrev pub HasLine : {Z : Type 0} → Option (Box Proxy Z) → Type 0
 HasLine None = Unit {0}
-HasLine (Some x) = vec_len x.lines < vec_capacity x.lines
+HasLine (Some x) = vec_len (box_value x).lines < vec_capacity (box_value x).lines
 
 -- there is room for a call whose turn it is, and for a line
 pub record HasRoom (b : Body) (rank : ℕ) : Type 0 where

@@ -1,5 +1,5 @@
 -- Routes: which give way to a new one.
-use Rattle.std.specs.Prelude.{ℕ, Bool, false, not, ◌&&◌, nat_lt, Option, None, Some}
+use Rattle.std.specs.Prelude.{Bool, false, ◌&&◌, nat_lt, Option, None, Some}
 use Rattle.seam_entity.specs.Here.{cell_count}
 use Rattle.seam_entity.specs.Numbers.{is_small}
 use Rattle.seam_steps.specs.Bases.{RouteView}

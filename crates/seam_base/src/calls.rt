@@ -1,7 +1,7 @@
 //! Calls of a base part.
 
-ghost use Rattle.std.specs.Prelude.{◌≡◌, ◌<◌, ◌≤◌, ◌^◌, ◌&&◌, ℕ, IfOk, IfErr, OnOk, OnErr, true, false, is_some, option_map, Some, None, if◌then◌else◌, vec_len, vec_capacity};
-ghost use Rattle.std.specs.Ordering.{nat_cmp};
+ghost use Rattle.std.specs.Prelude.{◌≡◌, ◌<◌, ◌≤◌, ◌^◌, ◌&&◌, ℕ, IfOk, IfErr, OnOk};
+ghost use Rattle.std.specs.Prelude.{OnErr, true, false, is_some, option_map, Some, None, if◌then◌else◌, vec_len, vec_capacity};
 ghost use Rattle.std.specs.FinSet as set;
 ghost use Rattle.seam_defs.specs.Deeds.{client_of};
 ghost use Rattle.seam_defs.specs.declared.settings.Settings.{Settings as AllSettings};
@@ -13,9 +13,9 @@ ghost use Rattle.seam_entity.specs.Calls.{may_offer, ready_call, after_ready};
 ghost use Rattle.seam_call.specs.declared.call.Call.{Call as AnyCall};
 ghost use Rattle.seam_base.specs.Nodes.{has_call};
 ghost use Rattle.seam_entity.specs.Preparing.{node_with};
-ghost use Rattle.seam_steps.specs.Bases.{shown_to_client};
 ghost use Rattle.seam_steps.specs.BaseCases.{may_show, may_execute, with_deed, with_offer, executed};
-ghost use Rattle.seam_base.specs.Parts.{part_of, proxy_of, shows, told, with_state, with_orders, with_call, with_ready_call, HasLine, HasRoom};
+ghost use Rattle.seam_base.specs.Parts.{part_of, client_in, shows, told, with_state};
+ghost use Rattle.seam_base.specs.Parts.{with_orders, with_call, with_ready_call, HasLine, HasRoom};
 
 use crate::part::{BasePart, Body, Proxy};
 use seam_call::{Call, ClientText, Sender};
@@ -32,8 +32,8 @@ struct After {
 }
 
 // Makes room for a line.
-fn reserve_line(proxy: &mut Option<Proxy>) -> Result<(), AllocError>
-    ensures same { option_map proxy_of proxy.new ≡ option_map proxy_of proxy.old }
+fn reserve_line(proxy: &mut Option<Box<Proxy>>) -> Result<(), AllocError>
+    ensures same { option_map client_in proxy.new ≡ option_map client_in proxy.old }
     ensures room { OnOk result (HasLine proxy.new) }
 {
     match proxy {
@@ -79,8 +79,8 @@ pub(crate) fn text_of(
 }
 
 // Whether a client is shown the part where it has changed.
-fn is_due(changed: bool, proxy: &Option<Proxy>) -> bool
-    ensures { result ≡ (changed && is_some (option_map proxy_of proxy.now)) }
+fn is_due(changed: bool, proxy: &Option<Box<Proxy>>) -> bool
+    ensures { result ≡ (changed && is_some (option_map client_in proxy.now)) }
 {
     changed && proxy.is_some()
 }
@@ -101,10 +101,10 @@ fn look_ahead(body: &Body, defs: &Defs, call: &Call) -> Result<After, AllocError
 }
 
 // Shows the client, if there is one, the text, under its next number.
-fn tell(proxy: &mut Option<Proxy>, text: ClientText)
+fn tell(proxy: &mut Option<Box<Proxy>>, text: ClientText)
     requires room { HasLine proxy.old }
-    requires small { may_show (option_map proxy_of proxy.old) ≡ true }
-    ensures { option_map proxy_of proxy.new ≡ option_map (shows text) (option_map proxy_of proxy.old) }
+    requires small { may_show (option_map client_in proxy.old) ≡ true }
+    ensures { option_map client_in proxy.new ≡ option_map (shows text) (option_map client_in proxy.old) }
 {
     match proxy {
         Some(proxy) => proxy.show(text),

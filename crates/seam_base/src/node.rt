@@ -1,14 +1,17 @@
 //! A base node.
 
-ghost use Rattle.std.specs.Prelude.{◌≡◌, ◌≤◌, ◌<◌, ◌++◌, ◌∷◌, [], ℕ, List, true, false, OnOk, OnErr, IfErr, Some, None, option_copied, option_map};
+ghost use Rattle.std.specs.Prelude.{◌≡◌, ◌≤◌, ◌<◌, ◌++◌, ◌∷◌, [], ℕ, List};
+ghost use Rattle.std.specs.Prelude.{true, false, OnOk, OnErr, IfErr, Some, None, option_copied, option_map};
 ghost use Rattle.std.specs.FinMap as table;
 ghost use Rattle.seam_geo.specs.declared.pos.Pos.{Pos as AnyPos};
 ghost use Rattle.seam_steps.specs.Maps.{has_any};
 ghost use Rattle.seam_steps.specs.Loads.{empty_base, part_if, with_route, attached, base_begins};
 ghost use Rattle.seam_steps.specs.Nodes.NodeView.{Base as BaseNodeView};
 ghost use Rattle.seam_steps.specs.Valid.{IsBase};
-ghost use Rattle.seam_steps.specs.BaseCases.{unless_stray, sends_none, stray_current, current, stray_update, update as update_case, stray_base_call};
-ghost use Rattle.seam_steps.specs.BaseCases.{base_call, is_stray, case_of, ready_part, task_without_orders, base_task, base_steps, base_has_work, is_base_node_of};
+ghost use Rattle.seam_steps.specs.BaseCases.{unless_stray, sends_none, stray_current};
+ghost use Rattle.seam_steps.specs.BaseCases.{current, stray_update, update as update_case, stray_base_call};
+ghost use Rattle.seam_steps.specs.BaseCases.{base_call, is_stray, case_of, ready_part};
+ghost use Rattle.seam_steps.specs.BaseCases.{task_without_orders, base_task, base_steps, base_has_work, is_base_node_of};
 ghost use Rattle.seam_base.specs.Nodes.{has_call, has_update, has_client};
 ghost use Rattle.seam_base.specs.Marks.{least, passes};
 ghost use Rattle.seam_base.specs.Machines.{base_peers, base_targets, base_keeps_peers, base_stays_valid};
@@ -154,7 +157,8 @@ impl Base {
 
     // Base call: it is offered to the entity's part.
     fn hear_call(&mut self, call: Call) -> Result<(), NoMemoryFor<Call>>
-        ensures after { OnOk result (self.new ≡ (unless_stray (stray_base_call self.old.here call (table.get self.old.parts call.entity)) self.old
+        ensures after { OnOk result (self.new
+            ≡ (unless_stray (stray_base_call self.old.here call (table.get self.old.parts call.entity)) self.old
             (sends_none (base_call self.old call))).state) }
         ensures err { OnErr result (self.new ≡ self.old) }
         ensures err_item { IfErr result (λ e. e.item ≡ call) }
@@ -193,7 +197,8 @@ impl Base {
 
     // A message from another node.
     fn hear(&mut self, message: Msg) -> Result<(), NoMemoryFor<Msg>>
-        ensures after { OnOk result (self.new ≡ (unless_stray (is_stray self.old message) self.old (sends_none (case_of self.old message))).state) }
+        ensures after { OnOk result (self.new
+            ≡ (unless_stray (is_stray self.old message) self.old (sends_none (case_of self.old message))).state) }
         ensures err { OnErr result (self.new ≡ self.old) }
         ensures err_item { IfErr result (λ e. e.item ≡ message) }
     {

@@ -1,6 +1,6 @@
 //! The orders of a base node.
 
-ghost use Rattle.std.specs.Prelude.{◌≡◌, ◌≤◌, ◌<◌, ◌++◌, ◌∷◌, [], ◌&&◌, ℕ, List, true, false, OnOk, OnErr, IfErr, is_none, map, if◌then◌else◌};
+ghost use Rattle.std.specs.Prelude.{◌≡◌, ◌≤◌, ◌++◌, ◌∷◌, [], ◌&&◌, ℕ, List, true, false, OnOk, OnErr, IfErr, is_none, map, if◌then◌else◌};
 ghost use Rattle.std.specs.List.{range_with_len};
 ghost use Rattle.std.specs.FinMap as table;
 ghost use Rattle.seam_call.specs.declared.order.Order.{Order as AnyOrder};

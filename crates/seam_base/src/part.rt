@@ -1,18 +1,15 @@
 //! The base part of an entity.
 
-ghost use Rattle.std.specs.Prelude.{◌≡◌, ◌<◌, ◌≤◌, ◌^◌, ◌==◌, ℕ, IfOk, IfErr, OnOk, OnErr, true, false, is_some, Some, vec_len, vec_capacity};
-ghost use Rattle.std.specs.Ordering.{nat_cmp};
+ghost use Rattle.std.specs.Prelude.{◌≡◌, ◌<◌, ℕ, IfOk, true, false, is_some, Some, vec_len, vec_capacity};
 ghost use Rattle.seam_defs.specs.declared.settings.Settings.{Settings as AllSettings};
-ghost use Rattle.seam_call.specs.Senders.{rank_of};
-ghost use Rattle.seam_order.specs.Held.{item_at};
-ghost use Rattle.seam_entity.specs.Here.{Here};
 ghost use Rattle.seam_entity.specs.Numbers.{may_rise as number_may_rise};
 ghost use Rattle.seam_steps.specs.Bases.{with_line};
 ghost use Rattle.seam_entity.specs.Orders.{order_of};
 ghost use Rattle.seam_entity.specs.Calls.{may_offer};
 ghost use Rattle.seam_entity.specs.Preparing.{node_with};
 ghost use Rattle.seam_steps.specs.Loads.{new_part};
-ghost use Rattle.seam_steps.specs.BaseCases.{may_call as part_may_call, may_execute as part_may_execute, may_show as client_may_show, fits_base_part};
+ghost use Rattle.seam_steps.specs.BaseCases.{may_call as part_may_call, may_execute as part_may_execute};
+ghost use Rattle.seam_steps.specs.BaseCases.{may_show as client_may_show, fits_base_part};
 ghost use Rattle.seam_base.specs.Nodes.{has_client as part_has_client};
 ghost use Rattle.seam_base.specs.Parts.{part_of, proxy_of, lines_of};
 
@@ -54,7 +51,8 @@ pub(crate) struct Body {
     pub version: u64,
     pub orders: Orders,
     pub done: Vec<Call>,
-    pub proxy: Option<Proxy>,
+    // In a box of its own, since most parts have none.
+    pub proxy: Option<Box<Proxy>>,
 }
 
 /// The base part of an entity, which may have a client.

@@ -1,6 +1,7 @@
 //! The base parts of a node, and marks of those that are ready.
 
-ghost use Rattle.std.specs.Prelude.{◌≡◌, ◌<◌, ◌≤◌, ◌^◌, if◌then◌else◌, ℕ, true, false, find, OnOk, OnErr, IfErr, option_copied, option_map, is_some};
+ghost use Rattle.std.specs.Prelude.{◌≡◌, ◌<◌, ◌≤◌, ◌^◌, if◌then◌else◌, ℕ, true};
+ghost use Rattle.std.specs.Prelude.{false, find, OnOk, OnErr, IfErr, option_copied, option_map, is_some};
 ghost use Rattle.std.specs.FinMap as table;
 ghost use Rattle.std.specs.FinSet as set;
 ghost use Rattle.seam_steps.specs.Maps.{number_of, each_value};

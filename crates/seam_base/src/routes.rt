@@ -1,8 +1,7 @@
 //! The routes of a base node: the cell where each entity's real was when it had that generation.
 
-ghost use Rattle.std.specs.Prelude.{◌≡◌, option_map, option_copied, not};
+ghost use Rattle.std.specs.Prelude.{◌≡◌, option_copied};
 ghost use Rattle.std.specs.FinMap as table;
-ghost use Rattle.seam_steps.specs.BaseCases.{stray_current};
 ghost use Rattle.seam_base.specs.Routes.{gives_way as route_gives_way};
 
 use crate::numbers::is_small;

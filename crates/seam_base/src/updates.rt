@@ -1,6 +1,6 @@
 //! Clients of base parts, and what they are told.
 
-ghost use Rattle.std.specs.Prelude.{◌≡◌, ◌<◌, ◌&&◌, ℕ, IfErr, OnOk, OnErr, true, false, option_map, Some, None, vec_len, vec_capacity};
+ghost use Rattle.std.specs.Prelude.{◌≡◌, ◌&&◌, ℕ, IfErr, OnOk, OnErr, true, false, Some, None};
 ghost use Rattle.std.specs.Ordering.{nat_cmp};
 ghost use Rattle.std.specs.List.{list_any};
 ghost use Rattle.seam_defs.specs.Groups.{in_group};
@@ -14,7 +14,7 @@ ghost use Rattle.seam_entity.specs.Preparing.{node_with};
 ghost use Rattle.seam_steps.specs.Maps.{has_any};
 ghost use Rattle.seam_steps.specs.Loads.{with_proxy, part_begins, new_proxy as empty_proxy};
 ghost use Rattle.seam_steps.specs.BaseCases.{offered_update, shows_next, stray_proxy_update, proxy_is_ready, may_show};
-ghost use Rattle.seam_base.specs.Parts.{part_of, proxy_of, with_update, with_shown};
+ghost use Rattle.seam_base.specs.Parts.{proxy_of, with_update, with_shown};
 
 use crate::calls::text_of;
 use crate::numbers::may_rise as number_may_rise;
@@ -170,7 +170,7 @@ impl BasePart {
         if let Some(text) = text {
             proxy.show(text);
         }
-        self.body.proxy = Some(proxy);
+        self.body.proxy = Some(Box::new(alloc, proxy)?);
         Ok(())
     }
 

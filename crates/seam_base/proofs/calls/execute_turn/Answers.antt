@@ -8,6 +8,7 @@ use Rattle.seam_base.proofs.calls.execute_turn.Goals as goal
 pub returns-clause-after : goal.returns-clause-after
 returns-clause-after c = λ me settings.
     c.execute_after.ensures
-    ∙ (executed_from (node_with c.args.defs.now me settings) (part_of c.make_room.new.body) c.in-Ok.after.state c.in-Ok.after.text c.args.call
+    ∙ (executed_from (node_with c.args.defs.now me settings) (part_of c.make_room.new.body) c.in-Ok.after.state c.in-Ok.after.text
+    c.args.call
     (c.in-Ok.ensures.state me settings) (c.in-Ok.ensures.text me settings)
     ∙ ap (λ p. with_offer (executed (node_with c.args.defs.now me settings) p c.args.call) c.args.call) c.make_room.ensures.same)

@@ -37,7 +37,8 @@ pub returns-clause-calls : goal.returns-clause-calls
 returns-clause-calls c =
     pass_alike c.args.items.now.items c.args.e c.in-Some.part c.attach-done.new.self _ c.in-Some.ensures.item (put_is c) has_call
     (either_way has_call (with_proxy (node_with c.args.defs.now 0 standard)) c.in-Some.part c.attach-done.new.self c.attach-done.result
-    (attached_call (node_with c.args.defs.now 0 standard) c.in-Some.part) (c.attach-done.ensures.after 0 standard) c.attach-done.ensures.err)
+    (attached_call (node_with c.args.defs.now 0 standard) c.in-Some.part) (c.attach-done.ensures.after 0 standard)
+    c.attach-done.ensures.err)
 
 pub returns-clause-updates : goal.returns-clause-updates
 returns-clause-updates c =

@@ -8,7 +8,8 @@ use Rattle.seam_base.proofs.node.Base.hear_update.Goals as goal
 pub returns-clause-after : goal.returns-clause-after
 returns-clause-after c =
     subst
-    (λ b. OnOk c.offer_update.result (node_of c.self.inside.known c.self.inside.orders.items c.self.inside.routes.items c.offer_update.new.self
+    (λ b. OnOk c.offer_update.result
+    (node_of c.self.inside.known c.self.inside.orders.items c.self.inside.routes.items c.offer_update.new.self
     ≡ (unless_stray (stray_update c.args.update (table.get b.parts c.args.update.entity)) b
     (sends_none (update b c.args.update (table.get b.parts c.args.update.entity)))).state)) c.self.view_is
     (update_left (node_of c.self.inside.known c.self.inside.orders.items c.self.inside.routes.items c.self.inside.parts) c.args.update
