@@ -141,6 +141,14 @@ module _ (f : Frame) (w : World) (b : Batch) (may : MayBeLoaded f w b) (none : H
     nowhere_none : (e : ℕ) → Nowhere e start → holders start e ≡ 0
     nowhere_none e n = nobody f w b may.between may.fits v es run e n
 
+    pub idle_then : (e : ℕ) → Nowhere e start → IsIdle g e v
+    idle_then e no_one =
+        idle_leads g e start v es
+        (record {
+          unknown = unknown_loaded f w b may.between may.fits e (nowhere_none e no_one);
+          parts = parts_none Ok start plain_start e;
+        }) run
+
     module _ (k : ℕ) (n : BaseView) (node : slice_get v.nodes k ≡ Some (Base n)) where
       free : (e : ℕ) → Somewhere e start → NoneIsStray e v k n
       free e p =
@@ -161,14 +169,6 @@ module _ (f : Frame) (w : World) (b : Batch) (may : MayBeLoaded f w b) (none : H
       first_free o os is =
           let all = subst (AllByRecursion Ok) is (orders_lead Ok start v es orders_start run k (Base n) node) in
           first_by o os is all.0.0
-
-      idle_then : (e : ℕ) → Nowhere e start → IsIdle g e v
-      idle_then e no_one =
-          idle_leads g e start v es
-          (record {
-            unknown = unknown_loaded f w b may.between may.fits e (nowhere_none e no_one);
-            parts = parts_none Ok start plain_start e;
-          }) run
 
       part_by : (e : ℕ) (p : PartView) → table.get n.parts e ≡ Some p → Somewhere e start ⊎ Nowhere e start →
           (part_weight p ≡ 0) ⊎ (base.may_execute p ≡ true)

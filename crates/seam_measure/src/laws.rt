@@ -22,7 +22,7 @@ ghost use Rattle.seam_base_rounds.specs.Example.{first_batch};
 ghost use Rattle.seam_measure.specs.Weights.{Sizes, world_weight};
 ghost use Rattle.seam_measure.specs.Events.{is_pass, NodeCan, AllCan, all_passes};
 ghost use Rattle.seam_base_calls.specs.Clients.{is_tick_order};
-ghost use Rattle.seam_base_rounds.specs.Parts.{MayBeLoaded};
+ghost use Rattle.seam_base_rounds.specs.Parts.{MayBeLoaded, HasPartsBetweenRounds, HasSmallNumbers};
 ghost use Rattle.seam_measure.specs.Looking.{LooksFit, ClientsKeepRoom, Always, ShownAtMost, LooksAmong};
 ghost use Rattle.seam_measure.specs.Phases.{HoldsNothing, entities, cell_orders, base_orders, tick_orders};
 ghost use Rattle.seam_measure.specs.Phases.{events_of_round, events_of_looks};
@@ -68,6 +68,17 @@ pub fn reaps_end()
         (vs : List Event) (v : World) → LeadsTo node_has_work node_steps (reaps_loaded u es) vs v → HoldsNothing v }
 {}
 
+/// Base parts and clients hold nothing where a world is opened, and again where a round's calls leave it quiet, and where looks do. (Where
+/// entities are reaped they hold nothing at each moment, by `reaps_end`.)
+pub fn nothing_held_goes_from_record_to_record()
+    ensures opened { (defs : List TypeDef) (settings : Settings) → IsFrame (first_frame defs settings) → 1 ≤ settings.bases →
+        HoldsNothing (opened defs settings) }
+    ensures calls { (f : Frame) (w : World) (b : Batch) → MayBeLoaded f w b → HoldsNothing w → (v : World) (es : List Event) →
+        LeadsTo node_has_work node_steps (loaded w b) es v → IsQuiet node_has_work v → HoldsNothing v }
+    ensures looks { (f : Frame) (u : World) → IsBetweenRounds f u → HasPartsBetweenRounds f u → HasSmallNumbers f u → HoldsNothing u →
+        (vs : List Event) (v : World) → LeadsTo node_has_work node_steps (look_loaded u) vs v → IsQuiet node_has_work v → HoldsNothing v }
+{}
+
 /// Where the witnesses of such a world look, those of `ws k` in cell k, no list of events is longer than the table says, where reals,
 /// copies and views are of the entities of a list, and the numbers of the lines that clients were shown have room for as many more. Each
 /// client's next line always has a number.
@@ -101,11 +112,9 @@ pub fn a_longest_run_is_quiet()
         LeadsTo node_has_work node_steps w es v → n ≤ length es → IsQuiet node_has_work v }
 {}
 
-/// What these laws ask is true of an opened world (`nothing`, `among`, `clients`), and of it with a batch that creates an entity and has
+/// What these laws ask is true of an opened world (`among`, `clients`), and of it with a batch that creates an entity and has
 /// calls to its base part (`first`; `MayBeLoaded` of it is a law of `seam_base_rounds`).
 pub fn an_opened_world_has_what_the_laws_ask()
-    ensures nothing { (defs : List TypeDef) (settings : Settings) → IsFrame (first_frame defs settings) → 1 ≤ settings.bases →
-        HoldsNothing (opened defs settings) }
     ensures among { (defs : List TypeDef) (settings : Settings) → IsFrame (first_frame defs settings) → 1 ≤ settings.bases →
         LooksAmong [] (λ k. []) (opened defs settings) }
     ensures clients { (defs : List TypeDef) (settings : Settings) → IsFrame (first_frame defs settings) → 1 ≤ settings.bases →
