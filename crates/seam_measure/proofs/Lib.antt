@@ -27,3 +27,4 @@ pub mod Among
 mod LookStarts
 mod Opening
 mod ClientLines
+mod Nothing

@@ -115,7 +115,7 @@ module _ (f : Frame) (u : World) (between : IsBetweenRounds f u) (none : HoldsNo
   pub frame_start : IsInFrame f start
   frame_start = look_framed f u between.nodes tick
 
-  plain_start : EachNode (λ k s. IsPlain IsTickOrder s) start.nodes
+  pub plain_start : EachNode (λ k s. IsPlain IsTickOrder s) start.nodes
   plain_start k t at =
       let was = node_there (slice_get u.nodes k) (ordered_at tick) t (sym (slice_get-map (ordered_at tick) u.nodes k) ∙ at) in
       let blank : IsBlank was.0 =

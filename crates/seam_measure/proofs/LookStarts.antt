@@ -40,7 +40,7 @@ use Rattle.seam_base_calls.specs.Clients.{EachReal}
 use Rattle.seam_base_calls.proofs.WitnessKept.{each_happens}
 use Rattle.seam_base_rounds.specs.Parts.{MayBeLoaded}
 use Rattle.seam_measure.specs.Looking.{LooksFit, ClientsKeepRoom, Always, is_among, LooksAmong, ShownAtMost}
-use Rattle.seam_measure.specs.Phases.{HoldsNothing, AllLinesKeepRoom, entities, cell_orders, base_orders, tick_orders, events_of_round}
+use Rattle.seam_measure.specs.Phases.{HoldsNothing, entities, cell_orders, base_orders, tick_orders, events_of_round}
 use Rattle.seam_measure.specs.Phases.{events_of_looks}
 use Rattle.seam_measure.proofs.Among.{always_among}
 use Rattle.seam_measure.proofs.LookCounts.{looks_fit}
@@ -60,20 +60,20 @@ more_lines bases lines most ws w le h = record {
 
 -- ---- a round
 
-module _ (f : Frame) (w : World) (b : Batch) (may : MayBeLoaded f w b) (none : HoldsNothing w) (room : AllLinesKeepRoom f w b)
+module _ (f : Frame) (w : World) (b : Batch) (may : MayBeLoaded f w b) (none : HoldsNothing w)
     (us ws : List ℕ) (many : length us ≤ entities (loaded w b)) (among : LooksAmong us (λ k. ws) (loaded w b)) where
   round_fits : Always (LooksFit (sizes_of_round f w b (length ws))) (loaded w b)
   round_fits v es run =
       more_lines f.settings.bases (length us) (entities (loaded w b)) (λ k. length ws) v many
       (looks_fit us (λ k. ws) f.settings.bases v
-      (always_among us ws (g f w b may none room) (loaded w b) (round.frame_start f w b may none room)
-      (round.empty_start f w b may none room)
+      (always_among us ws (g f w b may none) (loaded w b) (round.frame_start f w b may none)
+      (round.empty_start f w b may none)
       among v es run))
 
   pub round_is_bounded : (v : World) (es : List Event) → LeadsTo node_has_work node_steps (loaded w b) es v →
       length es
       ≤ events_of_round f.settings.bases (cell_orders b) (base_orders b) (tick_orders b) (entities (loaded w b)) (length ws)
-  round_is_bounded v es run = round_ends f w b may none room (length ws) round_fits v es run
+  round_is_bounded v es run = round_ends f w b may none (length ws) round_fits v es run
 
 -- ---- looks
 

@@ -1,7 +1,6 @@
 -- What the laws ask of where a phase begins is true of an opened world.
 use Rattle.std.proofs.Common.{◌≡◌, ℕ, ◌≤◌, false, List, [], Some, refl, sym, ap, ◌∙◌}
 use Rattle.std.specs.Prelude.{slice_get}
-use Rattle.std.proofs.Common.{arith}
 use Rattle.std.specs.List.{AllByRecursion}
 use Rattle.std.specs.FinMap as table
 use Rattle.seam_flows.specs.Flows.{slot_at}
@@ -14,20 +13,14 @@ use Rattle.seam_steps.specs.Bases.{BaseView, PartView}
 use Rattle.seam_steps.specs.Nodes.{NodeView, World}
 use Rattle.seam_steps.specs.Nodes.NodeView.{Cell, Base}
 use Rattle.seam_steps.specs.Loads.{opened}
-use Rattle.seam_steps.specs.Rows.{empty_world}
 use Rattle.seam_moves.specs.Sights.{Has, has_of, has_none}
 use Rattle.seam_ones.specs.Ones.{real_in, IsFrame}
 use Rattle.seam_rounds.specs.Rounds.{first_frame}
-use Rattle.seam_defs.specs.Builtin.{builtin}
-use Rattle.seam_defs.specs.Settings.{standard}
 use Rattle.seam_rounds.proofs.Opened.{opened_is_new}
 use Rattle.seam_base_calls.specs.Clients.{is_tick_order}
-use Rattle.seam_base_rounds.specs.Parts.{IsAlone}
-use Rattle.seam_base_rounds.specs.Example.{opening, first_batch}
-use Rattle.seam_base_rounds.proofs.ExampleFits.{may_be_loaded}
+use Rattle.seam_base_rounds.specs.Example.{first_batch}
 use Rattle.seam_measure.specs.Looking.{LooksAmong, ShownAtMost}
-use Rattle.seam_measure.specs.Phases.{HoldsNothing, AllLinesKeepRoom}
-use Rattle.seam_measure.proofs.RoundPhase.{alone_room}
+use Rattle.seam_measure.specs.Phases.{HoldsNothing}
 
 module _ (defs : List TypeDef) (settings : Settings) (frame : IsFrame (first_frame defs settings)) (bases : 1 ≤ settings.bases) where
   abbrev w : World
@@ -60,13 +53,5 @@ module _ (defs : List TypeDef) (settings : Settings) (frame : IsFrame (first_fra
 
 -- ---- a first batch
 
-all_alone : (e : ℕ) → IsAlone e empty_world first_batch
-all_alone e = record {
-  none = λ k p at.
-      let gone = ap (λ (h : Has). h.base.part) (opened_is_new builtin standard may_be_loaded.between.frame (omega arith) e k) in
-      absurd (let z = sym gone ∙ at in cc);
-  attached = tt;
-}
-
-pub first_room : AllLinesKeepRoom opening empty_world first_batch × AllByRecursion (λ o. is_tick_order o.1 ≡ false) first_batch.orders
-first_room = (alone_room opening empty_world first_batch all_alone, (refl, (refl, (refl, tt))))
+pub first_ticks : AllByRecursion (λ o. is_tick_order o.1 ≡ false) first_batch.orders
+first_ticks = (refl, (refl, (refl, tt)))

@@ -43,14 +43,12 @@ use Rattle.seam_ranks.proofs.HandedOver.{passed_few}
 use Rattle.seam_base_calls.specs.Strays.{NoneIsStray}
 use Rattle.seam_base_calls.proofs.WitnessKept.{all_weaker}
 use Rattle.seam_base_calls.proofs.NodeStray.{none_is_stray}
-use Rattle.seam_base_rounds.specs.Parts.{MayBeLoaded, no_client, IsAlone}
-use Rattle.seam_base_rounds.proofs.Loaded.{alone_loaded}
+use Rattle.seam_base_rounds.specs.Parts.{MayBeLoaded}
 use Rattle.seam_base_rounds.proofs.Going.{none_strays}
 use Rattle.seam_measure.specs.Weights.{part_weight}
 use Rattle.seam_measure.specs.Weights.{Sizes, settle_weight, settling, order_weight}
 use Rattle.seam_measure.specs.Events.{BaseCan, AllCan, all_passes}
 use Rattle.seam_measure.specs.Phases.{HoldsNothing, entities, one_if_cell, cell_orders, base_orders, tick_orders}
-use Rattle.seam_measure.specs.Phases.{AllLinesKeepRoom}
 use Rattle.seam_measure.proofs.Bare.{IsIdle, idle_leads}
 use Rattle.seam_measure.proofs.Batched.{OrderIs, calls_are}
 use Rattle.seam_measure.proofs.Cans.{base_can}
@@ -91,8 +89,7 @@ orders_in (o ∷ os) =
     all_weaker (λ x. OrderIs (IsIn os) x.1) (λ x. OrderIs (IsIn (o ∷ os)) x.1) os (λ x h. order_later os o x.1 h) (orders_in os) in
     (order_in os o, later)
 
-module _ (f : Frame) (w : World) (b : Batch) (may : MayBeLoaded f w b) (none : HoldsNothing w)
-    (room : AllLinesKeepRoom f w b) where
+module _ (f : Frame) (w : World) (b : Batch) (may : MayBeLoaded f w b) (none : HoldsNothing w) where
   abbrev pub g : Frame
   g = framed f b
 
@@ -144,10 +141,18 @@ module _ (f : Frame) (w : World) (b : Batch) (may : MayBeLoaded f w b) (none : H
     nowhere_none : (e : ℕ) → Nowhere e start → holders start e ≡ 0
     nowhere_none e n = nobody f w b may.between may.fits v es run e n
 
+    pub idle_then : (e : ℕ) → Nowhere e start → IsIdle g e v
+    idle_then e no_one =
+        idle_leads g e start v es
+        (record {
+          unknown = unknown_loaded f w b may.between may.fits e (nowhere_none e no_one);
+          parts = parts_none Ok start plain_start e;
+        }) run
+
     module _ (k : ℕ) (n : BaseView) (node : slice_get v.nodes k ≡ Some (Base n)) where
       free : (e : ℕ) → Somewhere e start → NoneIsStray e v k n
       free e p =
-          none_is_stray g e v frame_then (none_strays f w b may e p.0 p.1 p.2 v es run (room v es run e p.0 p.1 p.2)) k n node
+          none_is_stray g e v frame_then (none_strays f w b may e p.0 p.1 p.2 v es run) k n node
 
       order_by : (o : Order) (os : List Order) (e : ℕ) → n.orders ≡ o ∷ os → order_about o ≡ Some e → holders start e ≡ 1 →
           Somewhere e start ⊎ Nowhere e start → stray_order n o ≡ false
@@ -164,14 +169,6 @@ module _ (f : Frame) (w : World) (b : Batch) (may : MayBeLoaded f w b) (none : H
       first_free o os is =
           let all = subst (AllByRecursion Ok) is (orders_lead Ok start v es orders_start run k (Base n) node) in
           first_by o os is all.0.0
-
-      idle_then : (e : ℕ) → Nowhere e start → IsIdle g e v
-      idle_then e no_one =
-          idle_leads g e start v es
-          (record {
-            unknown = unknown_loaded f w b may.between may.fits e (nowhere_none e no_one);
-            parts = parts_none Ok start plain_start e;
-          }) run
 
       part_by : (e : ℕ) (p : PartView) → table.get n.parts e ≡ Some p → Somewhere e start ⊎ Nowhere e start →
           (part_weight p ≡ 0) ⊎ (base.may_execute p ≡ true)
@@ -244,7 +241,3 @@ module _ (f : Frame) (w : World) (b : Batch) (may : MayBeLoaded f w b) (none : H
         let passed = passes_few in
         let weighs = loaded_weighs f w b may.between may.fits none z in
         omega (arith, long, passed, weighs)
-
--- entities without clients keep room
-pub alone_room : (f : Frame) (w : World) (b : Batch) → ((e : ℕ) → IsAlone e w b) → AllLinesKeepRoom f w b
-alone_room f w b alone v es run e k r at = no_client (alone_loaded w b e (alone e))

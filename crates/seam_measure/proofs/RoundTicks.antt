@@ -14,7 +14,7 @@ use Rattle.seam_base_rounds.specs.Parts.{MayBeLoaded}
 use Rattle.seam_measure.specs.Weights.{Sizes, look_weight, tick_weight, order_weight}
 use Rattle.seam_measure.specs.Events.{AllCan}
 use Rattle.seam_measure.specs.Looking.{LooksFit, Always}
-use Rattle.seam_measure.specs.Phases.{HoldsNothing, AllLinesKeepRoom, entities, cell_orders, base_orders, tick_orders, events_of_round}
+use Rattle.seam_measure.specs.Phases.{HoldsNothing, entities, cell_orders, base_orders, tick_orders, events_of_round}
 use Rattle.seam_measure.proofs.Cans.{can_look}
 use Rattle.seam_measure.proofs.RoundPhase.{g, start, frame_then, base_then, cell_then, round_long}
 
@@ -45,23 +45,23 @@ the_table : (b c d k e w tick : ℕ) → tick ≡ 1 + 16 * (1 + w * (3 + 2 * e))
     e * (1 + (17 + b)) + (c * (3 + (17 + b)) + (3 * d + k * tick)) + c * (1 + c) ≡ events_of_round b c d k e w
 the_table b c d k e w tick h = let at = ap (λ t. k * t) h in grind (arith, at)
 
-module _ (f : Frame) (w : World) (b : Batch) (may : MayBeLoaded f w b) (none : HoldsNothing w) (room : AllLinesKeepRoom f w b) (n : ℕ)
-    (few : Always (LooksFit (sizes_of_round f w b n)) (start f w b may none room)) where
+module _ (f : Frame) (w : World) (b : Batch) (may : MayBeLoaded f w b) (none : HoldsNothing w) (n : ℕ)
+    (few : Always (LooksFit (sizes_of_round f w b n)) (start f w b may none)) where
   abbrev s0 : World
-  s0 = start f w b may none room
+  s0 = start f w b may none
 
   abbrev z : Sizes
   z = sizes_of_round f w b n
 
   can : AllCan z s0
   can v es run x o =
-      can_look z (g f w b may none room) v (omega arith) (frame_then f w b may none room v es run) (few v es run)
-      (cell_then f w b may none room v es run) (base_then f w b may none room v es run) x.node o.node o.input o.is_node
+      can_look z (g f w b may none) v (omega arith) (frame_then f w b may none v es run) (few v es run)
+      (cell_then f w b may none v es run) (base_then f w b may none v es run) x.node o.node o.input o.is_node
 
   pub round_ends : (v : World) (es : List Event) → LeadsTo node_has_work node_steps s0 es v →
       length es ≤ events_of_round f.settings.bases (cell_orders b) (base_orders b) (tick_orders b) (entities s0) n
   round_ends v es run =
-      let long = round_long f w b may none room v es run z can in
+      let long = round_long f w b may none v es run z can in
       let sum =
       the_table f.settings.bases (cell_orders b) (base_orders b) (tick_orders b) (entities s0) n (order_weight z order.Tick)
       (tick_is z n (λ k. refl)) in

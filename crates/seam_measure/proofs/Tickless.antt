@@ -15,7 +15,7 @@ use Rattle.seam_base_calls.proofs.NoLooks.{looks_lead}
 use Rattle.seam_base_rounds.specs.Parts.{MayBeLoaded}
 use Rattle.seam_measure.specs.Weights.{Sizes, order_weight}
 use Rattle.seam_measure.specs.Events.{AllCan}
-use Rattle.seam_measure.specs.Phases.{HoldsNothing, AllLinesKeepRoom, entities, one_if_tick, cell_orders, base_orders, tick_orders}
+use Rattle.seam_measure.specs.Phases.{HoldsNothing, entities, one_if_tick, cell_orders, base_orders, tick_orders}
 use Rattle.seam_measure.specs.Phases.{events_of_round}
 use Rattle.seam_measure.proofs.Cans.{can_by}
 use Rattle.seam_measure.proofs.Counts.{none_times}
@@ -41,38 +41,38 @@ the_sum b c d k e w = let same = plain b c d e in omega (arith, same)
         e * (1 + (17 + b)) + (c * (3 + (17 + b)) + 3 * d) + c * (1 + c) ≡ c * (c + 4) + (3 * d + (e + (e + c) * (17 + b)))
     plain b c d e = grind arith
 
-module _ (f : Frame) (w : World) (b : Batch) (may : MayBeLoaded f w b) (none : HoldsNothing w) (room : AllLinesKeepRoom f w b)
+module _ (f : Frame) (w : World) (b : Batch) (may : MayBeLoaded f w b) (none : HoldsNothing w)
     (no_ticks : AllByRecursion (λ o. is_tick_order o.1 ≡ false) b.orders) where
   abbrev s0 : World
-  s0 = start f w b may none room
+  s0 = start f w b may none
 
   abbrev h : Frame
-  h = g f w b may none room
+  h = g f w b may none
 
   abbrev NoTick : Order → Type 0
   NoTick o = is_tick_order o ≡ false
 
   plain : EachNode (λ k s. IsPlain NoTick s) s0.nodes
-  plain = plain_with f w b may none room NoTick no_ticks
+  plain = plain_with f w b may none NoTick no_ticks
 
   looks_then : (v : World) (es : List Event) → LeadsTo node_has_work node_steps s0 es v → (e : ℕ) → HasNoLooks e v
   looks_then v es run e =
-      let frame = frame_start f w b may none room in
-      let empty = empty_start f w b may none room in
-      let sole = sole_start f w b may none room e in
+      let frame = frame_start f w b may none in
+      let empty = empty_start f w b may none in
+      let sole = sole_start f w b may none e in
       let t = told_start h e s0 frame empty NoTick plain (λ o is. is) sole in
       (looks_lead h e t.0 s0 v es frame (looks_start h e s0 frame empty NoTick plain (λ o is. is) sole) t.1 run).looks
 
   can : (z : Sizes) → f.settings.bases ≤ z.bases → AllCan z s0
   can z enough v es run x o =
-      can_by z h v enough (frame_then f w b may none room v es run) (looks_then v es run) (cell_then f w b may none room v es run)
-      (base_then f w b may none room v es run) x.node x.from o.node o.input o.is_node o.is_fed
+      can_by z h v enough (frame_then f w b may none v es run) (looks_then v es run) (cell_then f w b may none v es run)
+      (base_then f w b may none v es run) x.node x.from o.node o.input o.is_node o.is_fed
 
   pub tickless_ends : (v : World) (es : List Event) → LeadsTo node_has_work node_steps s0 es v → (n : ℕ) →
       length es ≤ events_of_round f.settings.bases (cell_orders b) (base_orders b) (tick_orders b) (entities s0) n
   tickless_ends v es run n =
       let z : Sizes = record { bases = f.settings.bases; lines = 0; witnesses = λ k. 0 } in
-      let long = round_long f w b may none room v es run z (can z (omega arith)) in
+      let long = round_long f w b may none v es run z (can z (omega arith)) in
       let quiet = none_times (tick_orders b) (order_weight z order.Tick) (ticks_none b.orders no_ticks) in
       let sum = the_sum f.settings.bases (cell_orders b) (base_orders b) (tick_orders b) (entities s0) n in
       omega (arith, long, quiet, sum)

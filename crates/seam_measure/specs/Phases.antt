@@ -1,34 +1,19 @@
 -- What a phase begins with, and how many events it may take.
-use Rattle.std.specs.Prelude.{◌≡◌, ℕ, ◌+◌, ◌*◌, List, length, Some, slice_get}
+use Rattle.std.specs.Prelude.{◌≡◌, ℕ, ◌+◌, ◌*◌, length, Some, slice_get}
 use Rattle.std.specs.FinMap as table
-use Rattle.seam_machine.specs.Nets.{LeadsTo}
 use Rattle.seam_machine.specs.Totals.{total}
-use Rattle.seam_machine.specs.declared.machines.Event.{Event}
 use Rattle.seam_call.specs.declared.order.Order.{Order}
 use Rattle.seam_call.specs.declared.order.Order.TheVariants as order
 use Rattle.seam_call.specs.declared.order.Batch.{Batch}
-use Rattle.seam_entity.specs.Reals.{RealView}
 use Rattle.seam_steps.specs.Bases.{BaseView, PartView}
-use Rattle.seam_steps.specs.Nodes.{NodeView, World, node_steps, node_has_work}
+use Rattle.seam_steps.specs.Nodes.{NodeView, World}
 use Rattle.seam_steps.specs.Nodes.NodeView.{Cell, Base}
-use Rattle.seam_steps.specs.Loads.{loaded}
-use Rattle.seam_moves.specs.Frames.{Frame}
-use Rattle.seam_moves.specs.Sights.{entity_flow}
-use Rattle.seam_ones.specs.Ones.{real_in}
-use Rattle.seam_between.specs.Between.{framed}
-use Rattle.seam_base_rounds.specs.Parts.{LinesKeepRoom}
 use Rattle.seam_measure.specs.Weights.{part_weight}
 
 -- no base part holds a call, and no client an update
 abbrev pub HoldsNothing : World → Type 0
 HoldsNothing w =
     (k : ℕ) (b : BaseView) → slice_get w.nodes k ≡ Some (Base b) → (e : ℕ) (p : PartView) → table.get b.parts e ≡ Some p → part_weight p ≡ 0
-
--- over every list of events of the round, the lines that each entity's client is shown keep room
-abbrev pub AllLinesKeepRoom : Frame → World → Batch → Type 0
-AllLinesKeepRoom f w b =
-    (v : World) (es : List Event) → LeadsTo node_has_work node_steps (loaded w b) es v → (e k : ℕ) (r : RealView) →
-    real_in ((entity_flow e (loaded w b)).slot k) ≡ Some r → LinesKeepRoom (framed f b) e r.ty (loaded w b) v
 
 -- ---- what a world has, and what a batch brings
 

@@ -10,7 +10,6 @@ ghost use Rattle.seam_runs.specs.Weights.{Lowers};
 ghost use Rattle.seam_call.specs.declared.order.Batch.{Batch};
 ghost use Rattle.seam_steps.specs.Nodes.{World, node_steps, node_has_work};
 ghost use Rattle.seam_steps.specs.Loads.{opened, loaded, reaps_loaded, look_loaded};
-ghost use Rattle.seam_steps.specs.Rows.{empty_world};
 ghost use Rattle.seam_entity.specs.Here.{cell_count};
 ghost use Rattle.seam_entity.specs.Numbers.{limit};
 ghost use Rattle.seam_moves.specs.Frames.{Frame, IsInFrame};
@@ -19,13 +18,13 @@ ghost use Rattle.seam_rounds.specs.Rounds.{first_frame, AreReapable};
 ghost use Rattle.seam_ones.specs.Ones.{IsFrame};
 ghost use Rattle.seam_defs.specs.declared.settings.Settings.{Settings};
 ghost use Rattle.seam_defs.specs.declared.types.TypeDef.{TypeDef};
-ghost use Rattle.seam_base_rounds.specs.Example.{opening, first_batch};
+ghost use Rattle.seam_base_rounds.specs.Example.{first_batch};
 ghost use Rattle.seam_measure.specs.Weights.{Sizes, world_weight};
 ghost use Rattle.seam_measure.specs.Events.{is_pass, NodeCan, AllCan, all_passes};
 ghost use Rattle.seam_base_calls.specs.Clients.{is_tick_order};
-ghost use Rattle.seam_base_rounds.specs.Parts.{MayBeLoaded, IsAlone};
+ghost use Rattle.seam_base_rounds.specs.Parts.{MayBeLoaded, HasPartsBetweenRounds, HasSmallNumbers};
 ghost use Rattle.seam_measure.specs.Looking.{LooksFit, ClientsKeepRoom, Always, ShownAtMost, LooksAmong};
-ghost use Rattle.seam_measure.specs.Phases.{HoldsNothing, AllLinesKeepRoom, entities, cell_orders, base_orders, tick_orders};
+ghost use Rattle.seam_measure.specs.Phases.{HoldsNothing, entities, cell_orders, base_orders, tick_orders};
 ghost use Rattle.seam_measure.specs.Phases.{events_of_round, events_of_looks};
 
 /// An enabled event whose node can do what it is to do lowers the weight of the world, but for one that passes a call on, which does not
@@ -41,24 +40,23 @@ pub fn a_run_is_no_longer_than_its_start_weighs()
         LeadsTo node_has_work node_steps w es v → length es + world_weight z v ≤ world_weight z w + all_passes w es }
 {}
 
-/// A round is no longer than its table says, over every list of events, where the lines of clients keep room: where the loaded world has no
-/// reals, copies and views but of entities of a list that is no longer than there are entities, and no witnesses but those of `ws`.
+/// A round is no longer than its table says, over every list of events, where the loaded world has no reals, copies and views but of entities
+/// of a list that is no longer than there are entities, and no witnesses but those of `ws`.
 pub fn a_round_ends()
-    ensures { (f : Frame) (w : World) (b : Batch) → MayBeLoaded f w b → HoldsNothing w → AllLinesKeepRoom f w b → (us ws : List ℕ) →
+    ensures { (f : Frame) (w : World) (b : Batch) → MayBeLoaded f w b → HoldsNothing w → (us ws : List ℕ) →
         length us ≤ entities (loaded w b) → LooksAmong us (λ k. ws) (loaded w b) → (v : World) (es : List Event) →
         LeadsTo node_has_work node_steps (loaded w b) es v →
         length es
         ≤ events_of_round f.settings.bases (cell_orders b) (base_orders b) (tick_orders b) (entities (loaded w b)) (length ws) }
 {}
 
-/// So is one whose batch has no tick, whatever there is to look at. The lines of clients keep room where there are none (`alone`).
+/// So is one whose batch has no tick, whatever there is to look at.
 pub fn a_round_without_ticks_ends()
-    ensures bound { (f : Frame) (w : World) (b : Batch) → MayBeLoaded f w b → HoldsNothing w → AllLinesKeepRoom f w b →
+    ensures { (f : Frame) (w : World) (b : Batch) → MayBeLoaded f w b → HoldsNothing w →
         AllByRecursion (λ o. is_tick_order o.1 ≡ false) b.orders → (v : World) (es : List Event) →
         LeadsTo node_has_work node_steps (loaded w b) es v → (n : ℕ) →
         length es
         ≤ events_of_round f.settings.bases (cell_orders b) (base_orders b) (tick_orders b) (entities (loaded w b)) n }
-    ensures alone { (f : Frame) (w : World) (b : Batch) → ((e : ℕ) → IsAlone e w b) → AllLinesKeepRoom f w b }
 {}
 
 /// Where a world between rounds, in which base parts and clients hold nothing, is told to reap entities, no list of events is longer than
@@ -68,6 +66,17 @@ pub fn reaps_end()
         (vs : List Event) (v : World) → LeadsTo node_has_work node_steps (reaps_loaded u es) vs v → length vs ≤ 18 * length es }
     ensures nothing { (f : Frame) (u : World) → IsBetweenRounds f u → HoldsNothing u → (es : List ℕ) → AreReapable u es →
         (vs : List Event) (v : World) → LeadsTo node_has_work node_steps (reaps_loaded u es) vs v → HoldsNothing v }
+{}
+
+/// Base parts and clients hold nothing where a world is opened, and again where a round's calls leave it quiet, and where looks do. (Where
+/// entities are reaped they hold nothing at each moment, by `reaps_end`.)
+pub fn nothing_held_goes_from_record_to_record()
+    ensures opened { (defs : List TypeDef) (settings : Settings) → IsFrame (first_frame defs settings) → 1 ≤ settings.bases →
+        HoldsNothing (opened defs settings) }
+    ensures calls { (f : Frame) (w : World) (b : Batch) → MayBeLoaded f w b → HoldsNothing w → (v : World) (es : List Event) →
+        LeadsTo node_has_work node_steps (loaded w b) es v → IsQuiet node_has_work v → HoldsNothing v }
+    ensures looks { (f : Frame) (u : World) → IsBetweenRounds f u → HasPartsBetweenRounds f u → HasSmallNumbers f u → HoldsNothing u →
+        (vs : List Event) (v : World) → LeadsTo node_has_work node_steps (look_loaded u) vs v → IsQuiet node_has_work v → HoldsNothing v }
 {}
 
 /// Where the witnesses of such a world look, those of `ws k` in cell k, no list of events is longer than the table says, where reals,
@@ -103,14 +112,12 @@ pub fn a_longest_run_is_quiet()
         LeadsTo node_has_work node_steps w es v → n ≤ length es → IsQuiet node_has_work v }
 {}
 
-/// What these laws ask is true of an opened world (`nothing`, `among`, `clients`), and of it with a batch that creates an entity and has
+/// What these laws ask is true of an opened world (`among`, `clients`), and of it with a batch that creates an entity and has
 /// calls to its base part (`first`; `MayBeLoaded` of it is a law of `seam_base_rounds`).
 pub fn an_opened_world_has_what_the_laws_ask()
-    ensures nothing { (defs : List TypeDef) (settings : Settings) → IsFrame (first_frame defs settings) → 1 ≤ settings.bases →
-        HoldsNothing (opened defs settings) }
     ensures among { (defs : List TypeDef) (settings : Settings) → IsFrame (first_frame defs settings) → 1 ≤ settings.bases →
         LooksAmong [] (λ k. []) (opened defs settings) }
     ensures clients { (defs : List TypeDef) (settings : Settings) → IsFrame (first_frame defs settings) → 1 ≤ settings.bases →
         ShownAtMost 0 (opened defs settings) }
-    ensures first { AllLinesKeepRoom opening empty_world first_batch × AllByRecursion (λ o. is_tick_order o.1 ≡ false) first_batch.orders }
+    ensures first { AllByRecursion (λ o. is_tick_order o.1 ≡ false) first_batch.orders }
 {}

@@ -8,7 +8,7 @@
 //!
 //! Where witnesses look, the bound is by what there is to look at where the phase begins (`specs/Looking`): no event brings more, and a
 //! look has at most a line for each. An event shows a client at most one line, so in the phase of looks their numbers have room if they
-//! have it at its start; in a round's calls that they keep room is a premise.
+//! have it at its start; in a round's calls they have it by the record of base parts and clients.
 //!
 //! Crates above cite these modules of `proofs`: `NetWeights` (an event and a run), `QuietWeights` (a quiet world), `Ordered` (orders only
 //! go), `Batched` (calls on their way were ordered), `HandOvers` (how often a real is handed over), `Among` (what there is to look at).
@@ -19,5 +19,6 @@ mod laws;
 pub use laws::{
     a_longest_run_is_quiet, a_round_ends, a_round_without_ticks_ends,
     a_run_is_no_longer_than_its_start_weighs, an_event_lowers_the_weight,
-    an_opened_world_has_what_the_laws_ask, looks_are_about_what_there_is, looks_end, reaps_end,
+    an_opened_world_has_what_the_laws_ask, looks_are_about_what_there_is, looks_end,
+    nothing_held_goes_from_record_to_record, reaps_end,
 };
