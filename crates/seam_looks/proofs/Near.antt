@@ -69,7 +69,7 @@ module _ {A B : Type 0} (f : A → B) where
   all_by P x xs true h rest = (h refl, rest)
   all_by P x xs false h rest = rest
 
-  all_filtered : (P : B → Type 0) (Q : A → Type 0) (t : A → Bool) → ((x : A) → t x ≡ true → Q x → P (f x)) → (xs : List A) →
+  pub all_filtered : (P : B → Type 0) (Q : A → Type 0) (t : A → Bool) → ((x : A) → t x ≡ true → Q x → P (f x)) → (xs : List A) →
       AllByRecursion Q xs → AllByRecursion P (map f (filter t xs))
   all_filtered P Q t h [] q = tt
   all_filtered P Q t h (x ∷ xs) q = all_by P x (filter t xs) (t x) (λ is. h x is q.0) (all_filtered P Q t h xs q.1)

@@ -8,17 +8,21 @@
 //!
 //! Crates above cite these modules of `proofs`: `Sorted` (what is found in a list in rising number), `Near` (a look at a flat table
 //! depends on those that are near), `Knowing` (what a cell knows of an entity), `Rows` (the rows of a world), `OneLook` (a look), `After` (what
-//! it leaves of a client).
+//! it leaves of a client), `LookCells`, `LookBases`, `LookRuns` and `LookEnds` (the phase of looks: a cell, a base node, every list of events
+//! and its quiet end).
 #![tactic(auto)]
 
-ghost use Rattle.std.specs.Prelude.{◌≡◌, ℕ, None, Some, slice_get};
+ghost use Rattle.std.specs.Prelude.{◌≡◌, ℕ, List, None, Some, slice_get};
+ghost use Rattle.seam_machine.specs.Nets.{IsQuiet, LeadsTo};
+ghost use Rattle.seam_machine.specs.declared.machines.Event.{Event};
 ghost use Rattle.seam_defs.specs.Builtin.{builtin};
 ghost use Rattle.seam_defs.specs.Settings.{GhostsReach, standard};
 ghost use Rattle.seam_entity.specs.Reals.{RealView, WitnessView};
 ghost use Rattle.seam_steps.specs.Holders.{holders};
 ghost use Rattle.seam_steps.specs.Looks.{looks_of, shown_of, after_looking};
 ghost use Rattle.seam_steps.specs.Cells.{CellView, known_to};
-ghost use Rattle.seam_steps.specs.Nodes.{World};
+ghost use Rattle.seam_steps.specs.Nodes.{World, node_steps, node_has_work};
+ghost use Rattle.seam_steps.specs.Loads.{look_loaded};
 ghost use Rattle.seam_steps.specs.Nodes.NodeView.{Cell};
 ghost use Rattle.seam_steps.specs.ViewRounds as view;
 ghost use Rattle.seam_moves.specs.Frames.{Frame, here_at};
@@ -32,6 +36,7 @@ ghost use Rattle.seam_replica.specs.Clients.{ClientReplica, new_client, after_al
 ghost use Rattle.seam_replica.specs.Looks.{row_of, one_look};
 ghost use Rattle.seam_looks.specs.Tables.{row_of_real, rows_of};
 ghost use Rattle.seam_looks.specs.Clients.{FitsWitness};
+ghost use Rattle.seam_looks.specs.Phases.{having_looked, HaveRoomToLook};
 
 /// The flat table of a world between rounds has the row of each real, and no row of an entity that has none.
 pub fn the_table_has_each_real()
@@ -66,6 +71,15 @@ pub fn a_client_fits_after_a_look()
     seam_defs::laws::others_see_the_ghost();
     seam_view::versions_shown_never_fall();
 }
+
+/// Where the witnesses of a world between rounds look, each has looked exactly once when the world is quiet again: each real is in the same
+/// cell, and is what one look makes of it by what the cell knew before the phase, whatever the order of the events.
+pub fn each_witness_looks_once()
+    ensures { (f : Frame) (u : World) → IsBetweenRounds f u → HaveRoomToLook u → (vs : List Event) (v : World) →
+        LeadsTo node_has_work node_steps (look_loaded u) vs v → IsQuiet node_has_work v → (e k : ℕ) (r : RealView) →
+        real_in ((entity_flow e u).slot k) ≡ Some r → (cell : CellView) → slice_get u.nodes k ≡ Some (Cell cell) →
+        real_in ((entity_flow e v).slot k) ≡ Some (having_looked cell e r) }
+{}
 
 /// What these laws ask is true of a worked world (`seam_steps`: "view hysteresis"), in which a batch created an entity with a client, which
 /// was shown nothing yet, and another one near it, and which is quiet.
