@@ -9,3 +9,4 @@ pub mod LookCells
 pub mod LookBases
 pub mod LookRuns
 pub mod LookEnds
+pub mod LookFits

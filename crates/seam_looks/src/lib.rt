@@ -8,7 +8,7 @@
 //!
 //! Crates above cite these modules of `proofs`: `Sorted` (what is found in a list in rising number), `Near` (a look at a flat table
 //! depends on those that are near), `Knowing` (what a cell knows of an entity), `Rows` (the rows of a world), `OneLook` (a look), `After` (what
-//! it leaves of a client), `LookCells`, `LookBases`, `LookRuns` and `LookEnds` (the phase of looks: a cell, a base node, every list of events
+//! it leaves of a client), `LookCells`, `LookBases`, `LookRuns`, `LookEnds` and `LookFits` (the phase of looks: a cell, a base node, every list of events
 //! and its quiet end).
 #![tactic(auto)]
 
@@ -35,7 +35,7 @@ ghost use Rattle.seam_newest.specs.Copies.{AreCopiesBetweenRounds};
 ghost use Rattle.seam_replica.specs.Clients.{ClientReplica, new_client, after_all_shown};
 ghost use Rattle.seam_replica.specs.Looks.{row_of, one_look};
 ghost use Rattle.seam_looks.specs.Tables.{row_of_real, rows_of};
-ghost use Rattle.seam_looks.specs.Clients.{FitsWitness};
+ghost use Rattle.seam_looks.specs.Clients.{FitsWitness, ClientsFit};
 ghost use Rattle.seam_looks.specs.Phases.{having_looked, HaveRoomToLook};
 
 /// The flat table of a world between rounds has the row of each real, and no row of an entity that has none.
@@ -80,6 +80,18 @@ pub fn each_witness_looks_once()
         real_in ((entity_flow e u).slot k) ≡ Some r → (cell : CellView) → slice_get u.nodes k ≡ Some (Cell cell) →
         real_in ((entity_flow e v).slot k) ≡ Some (having_looked cell e r) }
 {}
+
+/// And where each client fitted its witness before the phase, it fits it again at the quiet end, shown exactly one look at the flat table
+/// from before.
+pub fn clients_fit_after_the_looks()
+    ensures { (f : Frame) (u : World) → IsBetweenRounds f u → AreCopiesBetweenRounds f u → ArePlaced f u → GhostsReach f.settings →
+        HaveRoomToLook u → (clients : ℕ → ClientReplica) → ClientsFit f clients u → (vs : List Event) (v : World) →
+        LeadsTo node_has_work node_steps (look_loaded u) vs v → IsQuiet node_has_work v →
+        ClientsFit f (λ e. after_all_shown (clients e) (one_look (clients e) e (rows_of u))) v }
+{
+    seam_places::the_last_phases_leave_places();
+    a_client_fits_after_a_look();
+}
 
 /// What these laws ask is true of a worked world (`seam_steps`: "view hysteresis"), in which a batch created an entity with a client, which
 /// was shown nothing yet, and another one near it, and which is quiet.
