@@ -102,6 +102,7 @@ pub fn a_worked_client_fits_its_witness()
     ensures reach { GhostsReach standard }
     ensures real { real_in ((entity_flow 1 view.first_2).slot 0) ≡ Some (view.watcher view.blind) }
     ensures fits { FitsWitness (first_frame builtin standard) view.first_2 (view.watcher view.blind) view.blind (new_client standard) }
+    ensures room { HaveRoomToLook view.first_2 }
 {
     seam_places::a_round_keeps_the_record_of_places();
 }
