@@ -216,10 +216,12 @@ are_here : (e k : ℕ) → AreHere e k ((entity_flow e first_2).slot k)
 unfolding first_2
 are_here e =
     slots (λ j h. AreHere e j h) e first_2
-    (each_node (λ j n. AreHere e j (has_of e n)) first_2.nodes
-    ((λ r at. record { which = two_of e r at; first_cell = refl }), idle_each (λ j n. AreHere e j (has_of e n)) (λ k r at. absurd (none_there e r at)) 1 15
-    (base_16 [] ∷ base_17 (part_of 1 (base_line ∷ []) 1) ∷ [])
-    ((λ r at. absurd (let z = at in cc)), ((λ r at. absurd (let z = at in cc)), tt)))) (λ k r at. absurd (let z = at in cc))
+    (each_node (λ j n. AreHere e j (has_of e n)) first_2.nodes (
+      (λ r at. record { which = two_of e r at; first_cell = refl }),
+      idle_each (λ j n. AreHere e j (has_of e n)) (λ k r at. absurd (none_there e r at)) 1 15
+          (base_16 [] ∷ base_17 (part_of 1 (base_line ∷ []) 1) ∷ [])
+          ((λ r at. absurd (let z = at in cc)), ((λ r at. absurd (let z = at in cc)), tt)),
+    )) (λ k r at. absurd (let z = at in cc))
 
 HasRoom : ℕ → RealView → WitnessView → CellView → Type 0
 HasRoom e r v cell = is_small (v.sent + length (shown_of cell.here r v (known_to cell e))) ≡ true

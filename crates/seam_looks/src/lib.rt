@@ -12,9 +12,11 @@
 //! and its quiet end).
 #![tactic(auto)]
 
-ghost use Rattle.std.specs.Prelude.{◌≡◌, ℕ, List, None, Some, slice_get};
+ghost use Rattle.std.specs.Prelude.{◌≡◌, ℕ, ◌≤◌, List, None, Some, slice_get};
 ghost use Rattle.seam_machine.specs.Nets.{IsQuiet, LeadsTo};
 ghost use Rattle.seam_machine.specs.declared.machines.Event.{Event};
+ghost use Rattle.seam_defs.specs.declared.settings.Settings.{Settings};
+ghost use Rattle.seam_defs.specs.declared.types.TypeDef.{TypeDef};
 ghost use Rattle.seam_defs.specs.Builtin.{builtin};
 ghost use Rattle.seam_defs.specs.Settings.{GhostsReach, standard};
 ghost use Rattle.seam_entity.specs.Reals.{RealView, WitnessView};
@@ -22,12 +24,12 @@ ghost use Rattle.seam_steps.specs.Holders.{holders};
 ghost use Rattle.seam_steps.specs.Looks.{looks_of, shown_of, after_looking};
 ghost use Rattle.seam_steps.specs.Cells.{CellView, known_to};
 ghost use Rattle.seam_steps.specs.Nodes.{World, node_steps, node_has_work};
-ghost use Rattle.seam_steps.specs.Loads.{look_loaded};
+ghost use Rattle.seam_steps.specs.Loads.{opened, look_loaded};
 ghost use Rattle.seam_steps.specs.Nodes.NodeView.{Cell};
 ghost use Rattle.seam_steps.specs.ViewRounds as view;
 ghost use Rattle.seam_moves.specs.Frames.{Frame, here_at};
 ghost use Rattle.seam_moves.specs.Sights.{entity_flow};
-ghost use Rattle.seam_ones.specs.Ones.{real_in};
+ghost use Rattle.seam_ones.specs.Ones.{real_in, IsFrame};
 ghost use Rattle.seam_between.specs.Between.{IsBetweenRounds};
 ghost use Rattle.seam_rounds.specs.Rounds.{first_frame};
 ghost use Rattle.seam_places.specs.Places.{ArePlaced};
@@ -92,6 +94,12 @@ pub fn clients_fit_after_the_looks()
     seam_places::the_last_phases_leave_places();
     a_client_fits_after_a_look();
 }
+
+/// The record of clients holds of a world as it is opened, whatever clients show: none has a witness.
+pub fn clients_of_an_opened_world_fit()
+    ensures { (defs : List TypeDef) (settings : Settings) → IsFrame (first_frame defs settings) → 1 ≤ settings.bases →
+        (clients : ℕ → ClientReplica) → ClientsFit (first_frame defs settings) clients (opened defs settings) }
+{}
 
 /// What these laws ask is true of a worked world (`seam_steps`: "view hysteresis"), in which a batch created an entity with a client, which
 /// was shown nothing yet, and another one near it, and which is quiet.
