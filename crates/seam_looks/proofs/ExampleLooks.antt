@@ -19,7 +19,8 @@ use Rattle.std.specs.Cmp.{nat_cmp_total}
 use Rattle.seam_looks.proofs.Sorted.{tied_same}
 use Rattle.seam_steps.specs.Rows.{empty_world, idle}
 use Rattle.seam_steps.specs.Rows as rows
-use Rattle.seam_steps.specs.ViewRounds.{batch_1, first_0, first_2, first_steps, watcher, blind, still, space, both, base_16, base_17, part_of, base_line}
+use Rattle.seam_steps.specs.ViewRounds.{batch_1, first_0, first_2, first_steps, watcher, blind, still, space, both}
+use Rattle.seam_steps.specs.ViewRounds.{base_16, base_17, part_of, base_line}
 use Rattle.seam_steps.proofs.Tables.{computing}
 use Rattle.seam_steps.proofs.Views.{first_load, first_row, first_quiet}
 use Rattle.seam_moves.specs.Frames.{Frame}
@@ -162,7 +163,9 @@ pub between : IsBetweenRounds first empty_world
 between = opened_between builtin standard first_is (omega arith)
 
 pub run : LeadsTo node_has_work node_steps (loaded empty_world batch_1) (events_of first_steps) first_2
-run = subst (λ w. LeadsTo node_has_work node_steps w (events_of first_steps) first_2) (sym first_load) (row_leads 2 1 first_0 first_steps first_row)
+run =
+    subst (λ w. LeadsTo node_has_work node_steps w (events_of first_steps) first_2) (sym first_load)
+    (row_leads 2 1 first_0 first_steps first_row)
 
 pub ends_between : IsBetweenRounds first first_2
 ends_between = calls_end_between first empty_world batch_1 between opened_fits first_2 (events_of first_steps) run first_quiet

@@ -16,7 +16,8 @@ use Rattle.seam_entity.specs.declared.message.Msg.TheVariants.{Call, BaseCall, H
 use Rattle.seam_entity.specs.Here.{Here, cell_count, base_of}
 use Rattle.seam_steps.specs.Looks.{numbered}
 use Rattle.seam_steps.specs.Bases.{BaseView, PartView, ProxyView, RouteView, with_part}
-use Rattle.seam_steps.specs.BaseCases.{sends_none, unless_stray, part_called, newer_route, current, updated_proxy, update, case_of, is_stray}
+use Rattle.seam_steps.specs.BaseCases.{sends_none, unless_stray, part_called, newer_route, current, updated_proxy, update}
+use Rattle.seam_steps.specs.BaseCases.{case_of, is_stray}
 use Rattle.seam_steps.specs.BaseCases.{ready_part, ready_proxy, proxy_task, task_without_orders, base_task, base_steps, tick_to}
 use Rattle.seam_steps.specs.BaseCases.{may_execute, may_show, after_ready, after_showing, ready_part}
 use Rattle.seam_entity.specs.Calls.{ready_order}

@@ -1,5 +1,6 @@
 -- A cell in the phase of looks: some of its witnesses have looked, and the others wait in its look list.
-use Rattle.std.proofs.Common.{◌≡◌, ℕ, ◌+◌, Bool, true, false, cond, not, ◌||◌, ◌&&◌, is_some, T, List, [], ◌∷◌, map, filter, find, length, Option, None, Some}
+use Rattle.std.proofs.Common.{◌≡◌, ℕ, ◌+◌, Bool, true, false, cond, not, ◌||◌, ◌&&◌, is_some, T, List, [], ◌∷◌, map, filter, find, length}
+use Rattle.std.proofs.Common.{Option, None, Some}
 use Rattle.std.proofs.Common.{refl, sym, ap, ◌∙◌, arith}
 use Rattle.std.specs.Prelude.{option_map}
 use Rattle.std.specs.List.{AllByRecursion, list_any}
@@ -18,7 +19,8 @@ use Rattle.seam_entity.specs.Reals.{RealView, WitnessView}
 use Rattle.seam_entity.specs.declared.message.Msg.{Msg}
 use Rattle.seam_steps.specs.Maps.{number_of, has_any}
 use Rattle.seam_steps.specs.Slots.{unless_stray}
-use Rattle.seam_steps.specs.Looks.{other_of_real, other_of_copy, looks_of, shown_of, after_looking, looks_with, look_by, stray_look_by, numbered}
+use Rattle.seam_steps.specs.Looks.{other_of_real, other_of_copy, looks_of, shown_of, after_looking, looks_with, look_by}
+use Rattle.seam_steps.specs.Looks.{stray_look_by, numbered}
 use Rattle.seam_steps.specs.Cells.{CellView, slot_of, stepped, known_to, has_witness, witnesses, tick, cell_task, ready_next, look_next}
 use Rattle.seam_steps.specs.Cells.{ready_entity, real_is_ready, looks_around, cell_has_work}
 use Rattle.seam_steps.proofs.Slots.{get-set_at}
@@ -49,13 +51,15 @@ pub record IsMidway (c d : CellView) (rest : List ℕ) : Type 0 where
   pub survey : d.survey ≡ []
   pub looks : d.looks ≡ rest
   pub ghosts : (x : ℕ) → table.get d.ghosts x ≡ table.get c.ghosts x
-  pub reals : (x : ℕ) → table.get d.reals x ≡ cond (is_in x rest) (table.get c.reals x) (option_map (having_looked c x) (table.get c.reals x))
+  pub reals : (x : ℕ) → table.get d.reals x
+      ≡ cond (is_in x rest) (table.get c.reals x) (option_map (having_looked c x) (table.get c.reals x))
   pub once : NoneTwice rest
   pub may : AllByRecursion (MayLook c) rest
 
 -- ---- what a look leaves of what is known
 
-same_shown : (h : Here) (c : CellView) (x : ℕ) (r : RealView) (w : Option WitnessView) → other_of_real h (looked_by c x r w) ≡ other_of_real h r
+same_shown : (h : Here) (c : CellView) (x : ℕ) (r : RealView) (w : Option WitnessView) →
+    other_of_real h (looked_by c x r w) ≡ other_of_real h r
 same_shown h c x r None = refl
 same_shown h c x r (Some v) = refl
 
@@ -93,7 +97,8 @@ module _ (c : CellView) (unready : (x : ℕ) (r : RealView) → table.get c.real
         ap (λ h. known_by h (table.get d.reals x) (copy_in (table.get d.ghosts x))) m.here
         ∙ ap (λ g. known_by c.here (table.get d.reals x) (copy_in g)) (m.ghosts x)
         ∙ ap (λ o. known_by c.here o (copy_in (table.get c.ghosts x))) (m.reals x)
-        ∙ ap (λ o. or_else o (option_map (other_of_copy c.here) (copy_in (table.get c.ghosts x)))) (known_same c.here c x (is_in x rest) (table.get c.reals x))
+        ∙ ap (λ o. or_else o (option_map (other_of_copy c.here) (copy_in (table.get c.ghosts x))))
+        (known_same c.here c x (is_in x rest) (table.get c.reals x))
 
     pub known_to_same : (e : ℕ) → known_to d e ≡ known_to c e
     known_to_same e =
@@ -149,7 +154,8 @@ module _ (c : CellView) (unready : (x : ℕ) (r : RealView) → table.get c.real
         ∙ ap (λ o. stepped e y (unless_stray (stray_look_by d.here can.real o (known_to d y))
         (look_by d.here (slot_of d y) can.real o (known_to d y)))) can.has
         ∙ ap (λ b. stepped e y (unless_stray (not b)
-        (looks_with d.here (slot_of d y) can.real can.witness (known_to d y) (shown_of d.here can.real can.witness (known_to d y))))) small_now
+        (looks_with d.here (slot_of d y) can.real can.witness (known_to d y) (shown_of d.here can.real can.witness (known_to d y)))))
+        small_now
 
     abbrev pub now : CellView
     now = (look_step d y ys can.real can.witness).state

@@ -39,7 +39,8 @@ use Rattle.seam_looks.proofs.LookRuns.{tick_order, unready, CellAt, ordered, tol
 none_within : (xs : List NodeView) (i : ℕ) → slice_get xs i ≡ None → i < length xs → ⊥
 none_within xs i none lt = by (slice_get_cases xs i).1
   where
-    by : ((x : NodeView) × (i < length xs) × (slice_get xs i ≡ Some x) × (slice_index_or xs i x ≡ x)) ⊎ ((length xs ≤ i) × (slice_get xs i ≡ None)) → ⊥
+    by : ((x : NodeView) × (i < length xs) × (slice_get xs i ≡ Some x) × (slice_index_or xs i x ≡ x))
+        ⊎ ((length xs ≤ i) × (slice_get xs i ≡ None)) → ⊥
     by (inl p) = let z = sym none ∙ p.2 in cc
     by (inr p) = let le = p.0 in omega (arith, le, lt)
 
@@ -108,20 +109,23 @@ module _ (f : Frame) (u : World) (between : IsBetweenRounds f u) (room : HaveRoo
     bases = λ j b at. bases_by j b (slice_get u.nodes j) refl (sym (node_loaded j) ∙ at);
     there = λ j d at. there_by j d (slice_get u.nodes j) refl (sym (node_loaded j) ∙ at);
     cells = λ k c low at.
-        ordered refl (node_loaded k ∙ ap (option_map turned) at) (λ a. quiet_links node_has_work u between.nodes.sound.square between.quiet a k);
+        ordered refl (node_loaded k ∙ ap (option_map turned) at)
+        (λ a. quiet_links node_has_work u between.nodes.sound.square between.quiet a k);
   }
 
   -- ---- the end
 
   module _ (vs : List Event) (v : World) (run : LeadsTo node_has_work node_steps (look_loaded u) vs v) where
     pub looking : IsLooking f u between may v
-    looking = leads_keeps node_has_work node_steps (IsLooking f u between may) (looking_more f u between may) (look_loaded u) v vs starts run
+    looking =
+        leads_keeps node_has_work node_steps (IsLooking f u between may) (looking_more f u between may) (look_loaded u) v vs starts run
 
     module _ (quiet : IsQuiet node_has_work v) where
       first_is : (o : Option NodeView) → slice_get v.nodes cell_count ≡ o → 1 ≤ f.settings.bases → (b : BaseView) ×
           (slice_get v.nodes cell_count ≡ Some (Base b))
       first_is None at some =
-          absurd (none_within v.nodes cell_count at (let many = many_leads (look_loaded u) v vs run ∙ (length-map u.nodes turned ∙ between.many) in
+          absurd (none_within v.nodes cell_count at (let many = many_leads (look_loaded u) v vs run
+          ∙ (length-map u.nodes turned ∙ between.many) in
           omega (arith, many, some)))
       first_is (Some (Cell c)) at some =
           let low = (looking.frame.nodes cell_count (Cell c) at).low in absurd (omega (arith, low))

@@ -221,7 +221,8 @@ module _ (f : Frame) (u : World) (between : IsBetweenRounds f u)
       cell_told k c lt at os first ticks (ordered one node empty) = elim (cases_lt k (cells_of f.tree)) [
         | inl within ↦
             told refl there
-            (link_next cell_count k ∙ ap (λ l. l ++ link_added v.node sent cell_count k) (left_other k cell_count (away k lt) ∙ empty cell_count)
+            (link_next cell_count k
+            ∙ ap (λ l. l ++ link_added v.node sent cell_count k) (left_other k cell_count (away k lt) ∙ empty cell_count)
             ∙ ap (λ t. cond t (items_to k sent) []) (eq-eqb cell_count v.node (sym first))
             ∙ ap (items_to k) ticks
             ∙ ticks_within k 0 b.cells (omega arith) (let many = cells in omega (arith, many, within)))
@@ -229,7 +230,8 @@ module _ (f : Frame) (u : World) (between : IsBetweenRounds f u)
             ∙ ap (λ t. cond t (items_to k sent) []) (ne_eqb a v.node (λ same. n (same ∙ first))))
         | inr beyond ↦
             midway c [] refl there (no_reals beyond)
-            (λ a. link_empty k a (empty a) (ap (items_to k) ticks ∙ ticks_beyond k 0 b.cells (let many = cells in omega (arith, many, beyond))))
+            (λ a. link_empty k a (empty a) (ap (items_to k) ticks
+            ∙ ticks_beyond k 0 b.cells (let many = cells in omega (arith, many, beyond))))
       ]
         where
           there : slice_get next.nodes k ≡ Some (Cell c)
@@ -282,7 +284,9 @@ module _ (f : Frame) (u : World) (between : IsBetweenRounds f u)
       base_by : (i : Input Msg) → o.input ≡ i → (h.orders ≡ order.Tick ∷ []) ⊎ (h.orders ≡ []) → IsLooking next
       base_by (From a m) fed which =
           base_rests (subst (λ i. ((base_steps b i).state.orders ≡ b.orders) × ((base_steps b i).sent ≡ [])) (sym fed) (hears_still b a m))
-      base_by Task fed (inr none) = rests_without (h.bases v.node b base_there ∙ ap (λ l. cond (eqb cell_count v.node) l []) none ∙ nothing (eqb cell_count v.node))
+      base_by Task fed (inr none) =
+          rests_without (h.bases v.node b base_there
+          ∙ ap (λ l. cond (eqb cell_count v.node) l []) none ∙ nothing (eqb cell_count v.node))
         where
           nothing : (t : Bool) → cond {A = List Order} t [] [] ≡ []
           nothing true = refl
@@ -370,7 +374,8 @@ module _ (f : Frame) (u : World) (between : IsBetweenRounds f u)
           goes_on c at (λ k lt. ap (items_to k) none)
           (midway (tick c) (witnesses c) os (cell_now ∙ ap (λ s. Some (Cell s.state)) step)
           (tick_midway c (no_survey c (idle c v.node at)) (may v.node c at))
-          (λ x. link_next x v.node ∙ ap (λ l. link_left w.rows v.node v.from x v.node ++ l) (none_added v.node x (ap (items_to v.node) none))
+          (λ x. link_next x v.node
+          ∙ ap (λ l. link_left w.rows v.node v.from x v.node ++ l) (none_added v.node x (ap (items_to v.node) none))
           ∙ ap (λ b. cond (is_from v.from x && b) (drop 1 (link w.rows x v.node)) (link w.rows x v.node) ++ []) (eq-eqb v.node v.node refl)
           ∙ ap (λ q. cond (is_from q x && true) (drop 1 (link w.rows x v.node)) (link w.rows x v.node) ++ []) t.1
           ∙ taken x (cases_eq x cell_count) one others))

@@ -7,4 +7,5 @@ pub returns : goal.returns
 returns c f u between copies placed reach room clients fit vs v run quiet =
     fit_again f u between room vs v run quiet (c.the_last_phases_leave_places.ensures.looks f u between vs v run) clients fit
     (λ e k r at w fits cell node.
-    c.a_client_fits_after_a_look.ensures f u between copies placed reach e k r at w (clients e) fits cell node (witness_looked cell e r w) refl)
+    c.a_client_fits_after_a_look.ensures f u between copies placed reach e k r at w (clients e) fits cell node
+    (witness_looked cell e r w) refl)
