@@ -10,7 +10,7 @@ use Rattle.seam_defs.specs.Builtin.{builtin}
 use Rattle.seam_defs.specs.Settings.{standard}
 use Rattle.seam_machine.specs.Nets.{LeadsTo}
 use Rattle.seam_entity.specs.Orders.{order_or}
-use Rattle.seam_entity.specs.Reals.{RealView}
+use Rattle.seam_entity.specs.Reals.{RealView, WitnessView}
 use Rattle.seam_steps.specs.Holders.{holders}
 use Rattle.seam_steps.specs.Nodes.{NodeView, node_steps, node_has_work}
 use Rattle.seam_steps.specs.Loads.{loaded, one_cell}
@@ -19,7 +19,8 @@ use Rattle.std.specs.Cmp.{nat_cmp_total}
 use Rattle.seam_looks.proofs.Sorted.{tied_same}
 use Rattle.seam_steps.specs.Rows.{empty_world, idle}
 use Rattle.seam_steps.specs.Rows as rows
-use Rattle.seam_steps.specs.ViewRounds.{batch_1, first_0, first_2, first_steps, watcher, blind, still, space, both, base_16, base_17, part_of, base_line}
+use Rattle.seam_steps.specs.ViewRounds.{batch_1, first_0, first_2, first_steps, watcher, blind, still, space, both}
+use Rattle.seam_steps.specs.ViewRounds.{base_16, base_17, part_of, base_line}
 use Rattle.seam_steps.proofs.Tables.{computing}
 use Rattle.seam_steps.proofs.Views.{first_load, first_row, first_quiet}
 use Rattle.seam_moves.specs.Frames.{Frame}
@@ -35,6 +36,12 @@ use Rattle.seam_newest.specs.Copies.{AreCopiesBetweenRounds}
 use Rattle.seam_newest.proofs.Rounding.{calls_end_copied}
 use Rattle.seam_newest.proofs.Ending.{opened_copied}
 use Rattle.seam_replica.specs.Clients.{new_client}
+use Rattle.std.specs.Prelude.{slice_get, length}
+use Rattle.seam_steps.specs.Nodes.NodeView.{Cell}
+use Rattle.seam_entity.specs.Numbers.{is_small}
+use Rattle.seam_steps.specs.Looks.{shown_of}
+use Rattle.seam_steps.specs.Cells.{CellView, known_to}
+use Rattle.seam_looks.specs.Phases.{HaveRoomToLook}
 use Rattle.seam_looks.specs.Clients.{FitsWitness}
 
 abbrev pub first : Frame
@@ -156,7 +163,9 @@ pub between : IsBetweenRounds first empty_world
 between = opened_between builtin standard first_is (omega arith)
 
 pub run : LeadsTo node_has_work node_steps (loaded empty_world batch_1) (events_of first_steps) first_2
-run = subst (λ w. LeadsTo node_has_work node_steps w (events_of first_steps) first_2) (sym first_load) (row_leads 2 1 first_0 first_steps first_row)
+run =
+    subst (λ w. LeadsTo node_has_work node_steps w (events_of first_steps) first_2) (sym first_load)
+    (row_leads 2 1 first_0 first_steps first_row)
 
 pub ends_between : IsBetweenRounds first first_2
 ends_between = calls_end_between first empty_world batch_1 between opened_fits first_2 (events_of first_steps) run first_quiet
@@ -186,3 +195,58 @@ client_fits = record {
   others_not_ahead = λ x j version q at here. absurd (none_shown x version at);
   others_known = λ x version at k base. absurd (none_shown x version at);
 }
+
+-- ---- its look has room
+
+abbrev the_cell : CellView
+the_cell = rows.cell space 0 (both (watcher blind) still) rows.no rows.no [] []
+
+first_node : slice_get first_2.nodes 0 ≡ Some (Cell the_cell)
+unfolding first_2
+first_node = refl
+
+few_lines : is_small (blind.sent + length (shown_of the_cell.here (watcher blind) blind (known_to the_cell 1))) ≡ true
+few_lines = simp computing
+
+record IsHere (e k : ℕ) (r : RealView) : Type 0 where
+  which : IsOneOf e r
+  first_cell : k ≡ 0
+
+abbrev AreHere : ℕ → ℕ → Has → Type 0
+AreHere e k h = (r : RealView) → real_in h ≡ Some r → IsHere e k r
+
+are_here : (e k : ℕ) → AreHere e k ((entity_flow e first_2).slot k)
+unfolding first_2
+are_here e =
+    slots (λ j h. AreHere e j h) e first_2
+    (each_node (λ j n. AreHere e j (has_of e n)) first_2.nodes (
+      (λ r at. record { which = two_of e r at; first_cell = refl }),
+      idle_each (λ j n. AreHere e j (has_of e n)) (λ k r at. absurd (none_there e r at)) 1 15
+          (base_16 [] ∷ base_17 (part_of 1 (base_line ∷ []) 1) ∷ [])
+          ((λ r at. absurd (let z = at in cc)), ((λ r at. absurd (let z = at in cc)), tt)),
+    )) (λ k r at. absurd (let z = at in cc))
+
+HasRoom : ℕ → RealView → WitnessView → CellView → Type 0
+HasRoom e r v cell = is_small (v.sent + length (shown_of cell.here r v (known_to cell e))) ≡ true
+
+room_by : (e : ℕ) (r : RealView) → IsOneOf e r → (v : WitnessView) → r.witness ≡ Some v → (cell : CellView) → the_cell ≡ cell →
+    HasRoom e r v cell
+unfolding HasRoom
+room_by e r (watches is same) v has cell node =
+    let seen : blind ≡ v = witness_is (ap (λ (y : RealView). y.witness) same ∙ has) in
+    subst (λ x. HasRoom x r v cell) (sym is)
+    (subst (λ y. HasRoom 1 y v cell) same
+    (subst (λ w. HasRoom 1 (watcher blind) w cell) seen (subst (λ c. HasRoom 1 (watcher blind) blind c) node few_lines)))
+  where
+    witness_is : {a b : WitnessView} → Some a ≡ Some b → a ≡ b
+    witness_is h = cc
+room_by e r (walks is same) v has cell node = absurd (let z = ap (λ (y : RealView). y.witness) same ∙ has in cc)
+
+cell_is : {a b : CellView} → Some (Cell a) ≡ Some (Cell b) → a ≡ b
+cell_is h = cc
+
+pub room : HaveRoomToLook first_2
+unfolding HasRoom
+room e k r at v has cell node =
+    let here = are_here e k r at in
+    room_by e r here.which v has cell (cell_is (sym first_node ∙ ap (slice_get first_2.nodes) (sym here.first_cell) ∙ node))

@@ -5,3 +5,8 @@ pub mod Rows
 pub mod OneLook
 pub mod After
 pub mod ExampleLooks
+pub mod LookCells
+pub mod LookBases
+pub mod LookRuns
+pub mod LookEnds
+pub mod LookFits

@@ -1,5 +1,6 @@
 -- A look at a flat table depends on those that are near alone.
-use Rattle.std.proofs.Common.{◌≡◌, ℕ, ◌+◌, Bool, true, false, not, cond, ◌&&◌, T, List, [], ◌∷◌, ◌++◌, map, Option, None, Some, refl, sym, ap, ◌∙◌, subst, arith}
+use Rattle.std.proofs.Common.{◌≡◌, ℕ, ◌+◌, Bool, true, false, not, cond, ◌&&◌, T, List, [], ◌∷◌, ◌++◌, map, Option, None, Some}
+use Rattle.std.proofs.Common.{refl, sym, ap, ◌∙◌, subst, arith}
 use Rattle.std.specs.Prelude.{nat_lt, nat_le, nat_eq, option_map}
 use Rattle.std.specs.List.{AllByRecursion, filter, filter_map, cons_option}
 use Rattle.std.specs.Ordering.{nat_cmp, eq_by_cmp}
@@ -69,7 +70,7 @@ module _ {A B : Type 0} (f : A → B) where
   all_by P x xs true h rest = (h refl, rest)
   all_by P x xs false h rest = rest
 
-  all_filtered : (P : B → Type 0) (Q : A → Type 0) (t : A → Bool) → ((x : A) → t x ≡ true → Q x → P (f x)) → (xs : List A) →
+  pub all_filtered : (P : B → Type 0) (Q : A → Type 0) (t : A → Bool) → ((x : A) → t x ≡ true → Q x → P (f x)) → (xs : List A) →
       AllByRecursion Q xs → AllByRecursion P (map f (filter t xs))
   all_filtered P Q t h [] q = tt
   all_filtered P Q t h (x ∷ xs) q = all_by P x (filter t xs) (t x) (λ is. h x is q.0) (all_filtered P Q t h xs q.1)

@@ -164,7 +164,8 @@ module _ (f : Frame) (w : World) (between : IsBetweenRounds f w) where
 abbrev pub table_at : World → ℕ → Option GhostCopy
 table_at w x = option_map (λ r. r.other) (found_in x w.nodes)
 
-pub own_by : (h : Here) (r : RealView) (w : WitnessView) (known : List Known) (looks : List Look) (b : Bool) → own_due w.told r.version ≡ b →
+pub own_by : (h : Here) (r : RealView) (w : WitnessView) (known : List Known) (looks : List Look) (b : Bool) →
+    own_due w.told r.version ≡ b →
     all_shown h r w known looks
     ≡ cond b (Own r.version (own_of (properties h r.ty) r.state) ∷ []) [] ++ filter_map (shown_for known) looks
 own_by h r w known looks true due = rw due refl

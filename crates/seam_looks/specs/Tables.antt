@@ -31,7 +31,7 @@ rows_at (Base b) = []
 abbrev pub row_in : ℕ × Row → Row
 row_in p = p.1
 
--- the flat table of a world: the rows of all its cells, in rising number. Between rounds, when no real is on its way and each entity has one
--- at most, it has just the entities that are there.
+-- the flat table of a world: the rows of all its cells, in rising number. Between rounds, when no real is on its way and each entity has
+-- one at most, it has just the entities that are there.
 abbrev pub rows_of : World → List Row
 rows_of w = map row_in (table.entries (table.from_entries {R = nat_cmp} (flat_map rows_at w.nodes)))

@@ -7,23 +7,29 @@
 //! in it may see, by the real or by the ghost.)
 //!
 //! Crates above cite these modules of `proofs`: `Sorted` (what is found in a list in rising number), `Near` (a look at a flat table
-//! depends on those that are near), `Knowing` (what a cell knows of an entity), `Rows` (the rows of a world), `OneLook` (a look), `After` (what
-//! it leaves of a client).
+//! depends on those that are near), `Knowing` (what a cell knows of an entity), `Rows` (the rows of a world), `OneLook` (a look), `After`
+//! (what it leaves of a client), `LookCells`, `LookBases`, `LookRuns`, `LookEnds` and `LookFits` (the phase of looks: a cell, a base node,
+//! every list of events, its quiet end, and its clients).
 #![tactic(auto)]
 
-ghost use Rattle.std.specs.Prelude.{◌≡◌, ℕ, None, Some, slice_get};
+ghost use Rattle.std.specs.Prelude.{◌≡◌, ℕ, ◌≤◌, List, None, Some, slice_get};
+ghost use Rattle.seam_machine.specs.Nets.{IsQuiet, LeadsTo};
+ghost use Rattle.seam_machine.specs.declared.machines.Event.{Event};
+ghost use Rattle.seam_defs.specs.declared.settings.Settings.{Settings};
+ghost use Rattle.seam_defs.specs.declared.types.TypeDef.{TypeDef};
 ghost use Rattle.seam_defs.specs.Builtin.{builtin};
 ghost use Rattle.seam_defs.specs.Settings.{GhostsReach, standard};
 ghost use Rattle.seam_entity.specs.Reals.{RealView, WitnessView};
 ghost use Rattle.seam_steps.specs.Holders.{holders};
 ghost use Rattle.seam_steps.specs.Looks.{looks_of, shown_of, after_looking};
 ghost use Rattle.seam_steps.specs.Cells.{CellView, known_to};
-ghost use Rattle.seam_steps.specs.Nodes.{World};
+ghost use Rattle.seam_steps.specs.Nodes.{World, node_steps, node_has_work};
+ghost use Rattle.seam_steps.specs.Loads.{opened, look_loaded};
 ghost use Rattle.seam_steps.specs.Nodes.NodeView.{Cell};
 ghost use Rattle.seam_steps.specs.ViewRounds as view;
 ghost use Rattle.seam_moves.specs.Frames.{Frame, here_at};
 ghost use Rattle.seam_moves.specs.Sights.{entity_flow};
-ghost use Rattle.seam_ones.specs.Ones.{real_in};
+ghost use Rattle.seam_ones.specs.Ones.{real_in, IsFrame};
 ghost use Rattle.seam_between.specs.Between.{IsBetweenRounds};
 ghost use Rattle.seam_rounds.specs.Rounds.{first_frame};
 ghost use Rattle.seam_places.specs.Places.{ArePlaced};
@@ -31,7 +37,8 @@ ghost use Rattle.seam_newest.specs.Copies.{AreCopiesBetweenRounds};
 ghost use Rattle.seam_replica.specs.Clients.{ClientReplica, new_client, after_all_shown};
 ghost use Rattle.seam_replica.specs.Looks.{row_of, one_look};
 ghost use Rattle.seam_looks.specs.Tables.{row_of_real, rows_of};
-ghost use Rattle.seam_looks.specs.Clients.{FitsWitness};
+ghost use Rattle.seam_looks.specs.Clients.{FitsWitness, ClientsFit};
+ghost use Rattle.seam_looks.specs.Phases.{having_looked, HaveRoomToLook};
 
 /// The flat table of a world between rounds has the row of each real, and no row of an entity that has none.
 pub fn the_table_has_each_real()
@@ -67,6 +74,33 @@ pub fn a_client_fits_after_a_look()
     seam_view::versions_shown_never_fall();
 }
 
+/// Where the witnesses of a world between rounds look, each has looked exactly once when the world is quiet again: each real is in the same
+/// cell, and is what one look makes of it by what the cell knew before the phase, whatever the order of the events.
+pub fn each_witness_looks_once()
+    ensures { (f : Frame) (u : World) → IsBetweenRounds f u → HaveRoomToLook u → (vs : List Event) (v : World) →
+        LeadsTo node_has_work node_steps (look_loaded u) vs v → IsQuiet node_has_work v → (e k : ℕ) (r : RealView) →
+        real_in ((entity_flow e u).slot k) ≡ Some r → (cell : CellView) → slice_get u.nodes k ≡ Some (Cell cell) →
+        real_in ((entity_flow e v).slot k) ≡ Some (having_looked cell e r) }
+{}
+
+/// And where each client fitted its witness before the phase, it fits it again at the quiet end, shown exactly one look at the flat table
+/// from before.
+pub fn clients_fit_after_the_looks()
+    ensures { (f : Frame) (u : World) → IsBetweenRounds f u → AreCopiesBetweenRounds f u → ArePlaced f u → GhostsReach f.settings →
+        HaveRoomToLook u → (clients : ℕ → ClientReplica) → ClientsFit f clients u → (vs : List Event) (v : World) →
+        LeadsTo node_has_work node_steps (look_loaded u) vs v → IsQuiet node_has_work v →
+        ClientsFit f (λ e. after_all_shown (clients e) (one_look (clients e) e (rows_of u))) v }
+{
+    seam_places::the_last_phases_leave_places();
+    a_client_fits_after_a_look();
+}
+
+/// The record of clients holds of a world as it is opened, whatever clients show: none has a witness.
+pub fn clients_of_an_opened_world_fit()
+    ensures { (defs : List TypeDef) (settings : Settings) → IsFrame (first_frame defs settings) → 1 ≤ settings.bases →
+        (clients : ℕ → ClientReplica) → ClientsFit (first_frame defs settings) clients (opened defs settings) }
+{}
+
 /// What these laws ask is true of a worked world (`seam_steps`: "view hysteresis"), in which a batch created an entity with a client, which
 /// was shown nothing yet, and another one near it, and which is quiet.
 pub fn a_worked_client_fits_its_witness()
@@ -76,6 +110,7 @@ pub fn a_worked_client_fits_its_witness()
     ensures reach { GhostsReach standard }
     ensures real { real_in ((entity_flow 1 view.first_2).slot 0) ≡ Some (view.watcher view.blind) }
     ensures fits { FitsWitness (first_frame builtin standard) view.first_2 (view.watcher view.blind) view.blind (new_client standard) }
+    ensures room { HaveRoomToLook view.first_2 }
 {
     seam_places::a_round_keeps_the_record_of_places();
 }

@@ -3,7 +3,7 @@ use Rattle.seam_steps.specs.Rows.{empty_world}
 use Rattle.seam_steps.specs.ViewRounds.{batch_1, first_2, first_steps}
 use Rattle.seam_steps.proofs.Views.{first_quiet}
 use Rattle.seam_ones.specs.Example.{events_of}
-use Rattle.seam_looks.proofs.ExampleLooks.{first, between, opened_fits, run, ends_between, ends_copied, watches_here, client_fits}
+use Rattle.seam_looks.proofs.ExampleLooks.{first, between, opened_fits, run, ends_between, ends_copied, watches_here, client_fits, room}
 use Rattle.seam_looks.proofs.a_worked_client_fits_its_witness.Goals as goal
 
 pub returns-clause-between : goal.returns-clause-between
@@ -25,3 +25,6 @@ returns-clause-real c = watches_here
 
 pub returns-clause-fits : goal.returns-clause-fits
 returns-clause-fits c = client_fits
+
+pub returns-clause-room : goal.returns-clause-room
+returns-clause-room c = room
