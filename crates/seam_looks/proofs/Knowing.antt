@@ -1,5 +1,5 @@
 -- What a cell knows of an entity: its real, or its copy.
-use Rattle.std.proofs.Common.{◌≡◌, ℕ, Bool, true, false, cond, ◌&&◌, T, List, [], ◌∷◌, map, Option, None, Some, refl, sym, ap, ◌∙◌}
+use Rattle.std.proofs.Common.{◌≡◌, ℕ, Bool, true, false, cond, T, List, [], ◌∷◌, map, Option, None, Some, refl, sym, ap, ◌∙◌}
 use Rattle.std.specs.Prelude.{option_map}
 use Rattle.std.specs.Ordering.{nat_cmp, eq_by_cmp, is_lt}
 use Rattle.std.specs.FinMap as table
@@ -12,19 +12,7 @@ use Rattle.seam_entity.specs.Reals.{RealView}
 use Rattle.seam_steps.specs.Looks.{other_of_real, other_of_copy}
 use Rattle.seam_steps.specs.Cells.{CellView, known_real, known_copy, known_in, known_to, is_another, is_of_another}
 use Rattle.seam_looks.proofs.Sorted.{tied_same, none_below, passing, find_filter, sorted_filter, or_else, find_mapped, find_append}
-use Rattle.seam_looks.proofs.Sorted.{find_entries}
-
-first : (a b : Bool) → T (a && b) → T a
-first true b p = tt
-first false b p = p
-
-second : (a b : Bool) → T (a && b) → T b
-second true b p = p
-second false b p = absurd p
-
-both : (a b : Bool) → T a → T b → T (a && b)
-both true b p q = q
-both false b p q = p
+use Rattle.seam_looks.proofs.Sorted.{find_entries, both, first, second}
 
 -- ---- the copies of a book
 

@@ -1,5 +1,5 @@
 -- A cell in the phase of looks: some of its witnesses have looked, and the others wait in its look list.
-use Rattle.std.proofs.Common.{◌≡◌, ℕ, ◌+◌, Bool, true, false, cond, not, ◌||◌, ◌&&◌, is_some, T, List, [], ◌∷◌, map, filter, find, length}
+use Rattle.std.proofs.Common.{◌≡◌, ℕ, ◌+◌, Bool, true, false, cond, not, ◌||◌, is_some, T, List, [], ◌∷◌, map, filter, find, length}
 use Rattle.std.proofs.Common.{Option, None, Some}
 use Rattle.std.proofs.Common.{refl, sym, ap, ◌∙◌, arith}
 use Rattle.std.specs.Prelude.{option_map}
@@ -25,6 +25,7 @@ use Rattle.seam_steps.specs.Cells.{CellView, slot_of, stepped, known_to, has_wit
 use Rattle.seam_steps.specs.Cells.{ready_entity, real_is_ready, looks_around, cell_has_work}
 use Rattle.seam_steps.proofs.Slots.{get-set_at}
 use Rattle.seam_looks.specs.Phases.{witness_looked, looked_by, having_looked}
+use Rattle.seam_looks.proofs.Sorted.{first, second}
 use Rattle.seam_looks.proofs.Sorted.{tied_same, none_below, passing, find_filter, sorted_filter, or_else}
 use Rattle.seam_looks.proofs.Knowing.{known_by, known_at, unless_self, known_rises, known_to_is}
 
@@ -227,14 +228,6 @@ module _ (c : CellView) where
   none_twice [] h = tt
   none_twice (e ∷ es) h =
       (sym (is_some-find nat_cmp e.0 es) ∙ ap is_some (none_below e.0 es (first _ _ h)), none_twice es (second _ _ h))
-    where
-      first : (a b : Bool) → T (a && b) → T a
-      first true b p = tt
-      first false b p = p
-
-      second : (a b : Bool) → T (a && b) → T b
-      second true b p = p
-      second false b p = absurd p
 
   pub tick_midway : c.survey ≡ [] → AllByRecursion (MayLook c) (witnesses c) → IsMidway c (tick c) (witnesses c)
   tick_midway idle may = record {
