@@ -1,20 +1,19 @@
 -- Looks at different entities do not meet: what may be shown for each of them at once may be shown for one after another.
-use Rattle.std.proofs.Common.{◌≡◌, ℕ, ◌+◌, ◌<◌, ◌≤◌, Bool, true, false, cond, eqb, ◌||◌, List, [], ◌∷◌, ◌++◌, map, Option, None, Some, refl, sym, ap}
+use Rattle.std.proofs.Common.{◌≡◌, ℕ, ◌+◌, Bool, true, false, cond, eqb, ◌||◌, List, [], ◌∷◌, ◌++◌, map, Option, None, Some, refl, sym, ap}
 use Rattle.std.proofs.Common.{◌∙◌, subst, arith}
 use Rattle.std.specs.Prelude.{option_map}
 use Rattle.std.specs.List.{AllByRecursion, filter, filter_map, cons_option, list_any}
-use Rattle.std.specs.Map.{keys_of}
 use Rattle.std.specs.FinMap as table
 use Rattle.std.proofs.lemmas.Bool.Decides.{nat_tests}
 use Rattle.seam_flows.proofs.Following.{all_append}
 use Rattle.seam_view.specs.declared.Look.{Look}
 use Rattle.seam_view.specs.declared.Look.TheVariants as look
-use Rattle.seam_view.specs.Replica.{Replica, placed, without, entity_of}
+use Rattle.seam_view.specs.Replica.{placed, without, entity_of}
 use Rattle.seam_view.specs.Looks.{in_view}
 use Rattle.seam_view.proofs.Kept.{get_by_shown}
 use Rattle.seam_call.specs.declared.shown.GhostCopy.{GhostCopy}
 use Rattle.seam_call.specs.declared.shown.Shown.{Shown}
-use Rattle.seam_call.specs.declared.shown.Shown.TheVariants.{Own, Enter, Set, Leave}
+use Rattle.seam_call.specs.declared.shown.Shown.TheVariants.{Enter, Set, Leave}
 use Rattle.seam_steps.specs.Looks.{Known, known_of, shown_for}
 use Rattle.seam_replica.specs.Clients.{ClientReplica, after_shown}
 use Rattle.seam_replica.specs.Lines.{IsNear, MayEnter, MaySet, MayShow, MayShowAll}

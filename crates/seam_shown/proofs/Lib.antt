@@ -1,3 +1,10 @@
 pub mod Apart
 pub mod Lines
 pub mod Looking
+pub mod Silent
+pub mod Reals
+pub mod InTurn
+pub mod Along
+pub mod Starts
+pub mod RoundTruth
+pub mod Ending

@@ -1,8 +1,8 @@
 -- What a look tells of others may be shown, and is true.
-use Rattle.std.proofs.Common.{◌≡◌, ℕ, ◌+◌, ◌<◌, ◌≤◌, Bool, true, false, not, cond, eqb, leb, ltb, ◌&&◌, ◌||◌, T, List, [], ◌∷◌, ◌++◌, map, Option}
+use Rattle.std.proofs.Common.{◌≡◌, ℕ, ◌+◌, ◌<◌, ◌≤◌, Bool, true, false, not, eqb, leb, ltb, ◌&&◌, ◌||◌, T, List, [], ◌∷◌, ◌++◌, map, Option}
 use Rattle.std.proofs.Common.{None, Some, refl, sym, ap, ◌∙◌, subst, arith, unwrap_or}
 use Rattle.std.specs.Prelude.{option_map}
-use Rattle.std.specs.List.{AllByRecursion, IsDistinct, filter, filter_map, cons_option, list_any}
+use Rattle.std.specs.List.{AllByRecursion, IsDistinct, filter_map, cons_option, list_any}
 use Rattle.std.specs.Ordering.{nat_cmp, is_lt}
 use Rattle.std.specs.Map.{keys_of}
 use Rattle.std.specs.FinMap as table
@@ -21,12 +21,12 @@ use Rattle.seam_defs.specs.declared.states.State.{State}
 use Rattle.seam_call.specs.declared.shown.GhostCopy.{GhostCopy}
 use Rattle.seam_call.specs.declared.shown.Shown.{Shown}
 use Rattle.seam_call.specs.declared.shown.Shown.TheVariants.{Enter, Set, Leave}
-use Rattle.seam_steps.specs.Looks.{Known, seen_as, known_of, shown_for}
+use Rattle.seam_steps.specs.Looks.{Known, seen_as, shown_for}
 use Rattle.seam_replica.specs.Clients.{ClientReplica}
 use Rattle.seam_replica.specs.Lines.{IsNear, MayShow, MayShowAll, Truth, ShowsTruth}
 use Rattle.seam_looks.proofs.Sorted.{each_found}
 use Rattle.seam_looks.proofs.Near.{as_seen, seen_found, known_found}
-use Rattle.seam_shown.proofs.Apart.{MayLook, AreApart, AreApartBy, may_show_looks, all_turn, picked_all, picked_apart, apart_append, not_eq}
+use Rattle.seam_shown.proofs.Apart.{MayLook, AreApart, AreApartBy, may_show_looks, all_turn, picked_all, picked_apart, apart_append}
 
 first_of : (a b : Bool) → (a && b) ≡ true → a ≡ true
 first_of true b h = refl

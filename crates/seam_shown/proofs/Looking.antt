@@ -1,8 +1,8 @@
 -- A look: what it tells may be shown and is true, and what the client shows after it fits what it leaves of the witness.
-use Rattle.std.proofs.Common.{◌≡◌, ℕ, ◌≤◌, Bool, true, false, not, cond, eqb, ltb, T, List, [], ◌∷◌, ◌++◌, map, Option, None, Some, refl, sym, ap}
-use Rattle.std.proofs.Common.{◌∙◌, subst, arith}
+use Rattle.std.proofs.Common.{◌≡◌, ℕ, ◌≤◌, Bool, true, false, not, cond, eqb, ltb, List, [], ◌∷◌, ◌++◌, map, Option, None, Some, refl, sym}
+use Rattle.std.proofs.Common.{ap, ◌∙◌, subst, arith}
 use Rattle.std.specs.Prelude.{option_map}
-use Rattle.std.specs.List.{AllByRecursion, filter_map}
+use Rattle.std.specs.List.{filter_map}
 use Rattle.std.specs.Ordering.{nat_cmp}
 use Rattle.std.specs.FinMap as table
 use Rattle.std.proofs.lemmas.Bool.Decides.{nat_tests}
@@ -19,7 +19,7 @@ use Rattle.seam_steps.specs.Cells.{CellView, known_to}
 use Rattle.seam_moves.specs.Frames.{Frame, here_at}
 use Rattle.seam_replica.specs.Clients.{ClientReplica, after_shown, after_all_shown}
 use Rattle.seam_replica.specs.Looks.{is_newer}
-use Rattle.seam_replica.specs.Lines.{Truth, ShowsTruth, ShowsRightly}
+use Rattle.seam_replica.specs.Lines.{Truth, ShowsRightly}
 use Rattle.seam_looks.specs.Clients.{version_in, own_now}
 use Rattle.seam_looks.proofs.Near.{known_found}
 use Rattle.seam_looks.proofs.Knowing.{known_at, known_rises, known_to_is}

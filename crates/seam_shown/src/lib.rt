@@ -3,16 +3,38 @@
 //! What a look tells depends on what the cell knows, which within a round may be old: but it is what each entity was at some version, and
 //! the view keeps out what is older than what was shown. So the client is shown rightly (*ShowsRightly* of `seam_replica`): one line after
 //! another may come, and each is true. (After the witness and the area of interest of the BigWorld Server Overview.)
+//!
+//! `specs/Fits` has what a client and its witness agree on within a round, `specs/Telling` what a witness told over a list of events, and
+//! `specs/Rounds` what is true between two worlds: nothing of before the first.
+//!
+//! Crates above cite these modules of `proofs`: `Apart` (looks at different entities), `Lines` (what a look tells of others), `Looking` (a
+//! look), `Silent` (where none is taken), `Reals` (a real that goes on), `InTurn` (lines in parts), `Along` (every list of events), `Starts`
+//! (where a witness begins to tell, and where all was shown), `RoundTruth` (what cells know in a round), `Ending` (where
+//! the calls of a round end).
 #![tactic(auto)]
 
-ghost use Rattle.std.specs.Prelude.{◌≡◌, ℕ, Some};
+ghost use Rattle.std.specs.Prelude.{◌≡◌, ℕ, List, [], Some};
+ghost use Rattle.seam_machine.specs.Nets.{IsQuiet, LeadsTo};
+ghost use Rattle.seam_machine.specs.declared.machines.Event.{Event};
+ghost use Rattle.seam_call.specs.declared.order.Batch.{Batch};
 ghost use Rattle.seam_entity.specs.Reals.{RealView, WitnessView};
 ghost use Rattle.seam_steps.specs.Looks.{looks_of, shown_of, after_looking};
 ghost use Rattle.seam_steps.specs.Cells.{CellView, known_to};
+ghost use Rattle.seam_steps.specs.Loads.{loaded};
+ghost use Rattle.seam_steps.specs.Nodes.{World, node_steps, node_has_work};
 ghost use Rattle.seam_moves.specs.Frames.{Frame, here_at};
+ghost use Rattle.seam_moves.specs.Sights.{entity_flow};
+ghost use Rattle.seam_ones.specs.Ones.{IsSpared};
+ghost use Rattle.seam_base_calls.specs.BaseTurns.{home_of};
+ghost use Rattle.seam_base_calls.specs.Clients.{shown_at, HasClient, HasToldAtMost, HasRoomFor};
+ghost use Rattle.seam_between.specs.Between.{IsBetweenRounds, IsFitting, framed};
+ghost use Rattle.seam_newest.specs.Copies.{AreCopiesBetweenRounds};
 ghost use Rattle.seam_replica.specs.Clients.{ClientReplica, after_all_shown};
 ghost use Rattle.seam_replica.specs.Lines.{ShowsRightly};
+ghost use Rattle.seam_looks.specs.Clients.{FitsWitness};
 ghost use Rattle.seam_shown.specs.Fits.{FitsWithin, truth_of_look};
+ghost use Rattle.seam_shown.specs.Rounds.{known_between, true_between};
+ghost use Rattle.seam_shown.specs.Telling.{ComesBetween, TellsRightly};
 
 /// Where a client fits the witness of its entity's real, the client is shown rightly what the witness tells in a look: one line after
 /// another may come, and shows what the real is now, or what the cell knows of another (`shows`). Once it is, it fits the witness again
@@ -26,3 +48,57 @@ pub fn a_look_is_shown_rightly()
         after ≡ after_looking (known_to cell e) (looks_of r v (known_to cell e)) (shown_of cell.here r v (known_to cell e)) r v →
         FitsWithin f (record r { witness = Some after }) after (after_all_shown c (shown_of cell.here r v (known_to cell e))) }
 {}
+
+/// A witness tells its client rightly over every list of events, of calls and of ticks, whatever the order in which copies come: each line
+/// may be shown when it is its turn. `starts`: where a round has told nothing yet and the client fits. `known`: each shows what the real
+/// was, or what a cell knew, in some world since. `round`: in a round, what entities were since its load, and nothing of before. No more
+/// is asked than that the witness's updates stay few, which `seam_told` has.
+pub fn a_witness_tells_rightly()
+    ensures starts { (f : Frame) (e ty first : ℕ) (w v : World) (h : HasClient f e ty first w) → h.issued ≡ [] → (x : WitnessView) →
+        h.one.real.witness ≡ Some x → (c : ClientReplica) → FitsWithin f h.one.real x c →
+        TellsRightly f e ty first (known_between f e w v) c w × TellsRightly f e ty first (true_between f e w v) c w }
+    ensures known { (f : Frame) (e ty first n : ℕ) (w v : World) (es : List Event) (c : ClientReplica) →
+        TellsRightly f e ty first (known_between f e w v) c w → HasClient f e ty first w → IsSpared e w → HasRoomFor e n w →
+        ((u : World) → ComesBetween w v u → HasToldAtMost e n u) → LeadsTo node_has_work node_steps w es v →
+        TellsRightly f e ty first (known_between f e w v) c v }
+    ensures round { (f : Frame) (w : World) (b : Batch) → IsBetweenRounds f w → IsFitting f w b → AreCopiesBetweenRounds f w →
+        (e ty first n : ℕ) (v : World) (es : List Event) (c : ClientReplica) →
+        TellsRightly (framed f b) e ty first (true_between (framed f b) e (loaded w b) v) c (loaded w b) →
+        HasClient (framed f b) e ty first (loaded w b) → IsSpared e (loaded w b) → HasRoomFor e n (loaded w b) →
+        ((u : World) → ComesBetween (loaded w b) v u → HasToldAtMost e n u) → LeadsTo node_has_work node_steps (loaded w b) es v →
+        TellsRightly (framed f b) e ty first (true_between (framed f b) e (loaded w b) v) c v }
+{
+    seam_newest::ghosts_of_a_round_are_true();
+    seam_newest::copies_go_from_record_to_record();
+    seam_defs::laws::others_see_the_ghost();
+}
+
+/// What a client was shown is a first part of what its witness told, so it was shown rightly, too: no line is older than one before it, and
+/// none shows what was not so. Where the world is quiet it was shown all of it, and fits the witness.
+pub fn a_client_is_shown_rightly()
+    ensures known { (f : Frame) (e ty first : ℕ) (w v u : World) (c : ClientReplica) →
+        TellsRightly f e ty first (known_between f e w v) c u →
+        ShowsRightly (known_between f e w v) e c (shown_at ((entity_flow e u).slot (home_of f e))) }
+    ensures round { (f : Frame) (e ty first : ℕ) (w v u : World) (c : ClientReplica) →
+        TellsRightly f e ty first (true_between f e w v) c u →
+        ShowsRightly (true_between f e w v) e c (shown_at ((entity_flow e u).slot (home_of f e))) }
+    ensures quiet { (f : Frame) (e ty first : ℕ) (w v u : World) (c : ClientReplica) →
+        (h : TellsRightly f e ty first (true_between f e w v) c u) → HasClient f e ty first u → IsQuiet node_has_work u →
+        FitsWithin f h.one.real h.witness (after_all_shown c (shown_at ((entity_flow e u).slot (home_of f e)))) }
+{}
+
+/// Where a round's calls leave the world quiet, a client that fitted its witness at the load and was shown what that told since fits it
+/// again, also in what it was shown of others: nothing at a version above the public one, and each has a route at each base node. So the
+/// record of clients goes on to reaps and looks.
+pub fn a_client_fits_where_calls_end()
+    ensures { (f : Frame) (w : World) (b : Batch) → IsBetweenRounds f w → IsFitting f w b → AreCopiesBetweenRounds f w → (v : World)
+        (es : List Event) → LeadsTo node_has_work node_steps (loaded w b) es v → IsQuiet node_has_work v → (e ty first : ℕ)
+        (c : ClientReplica) (r : RealView) (x : WitnessView) → FitsWitness (framed f b) (loaded w b) r x c →
+        (h : TellsRightly (framed f b) e ty first (true_between (framed f b) e (loaded w b) v) c v) →
+        HasClient (framed f b) e ty first v → FitsWitness (framed f b) v h.one.real h.witness
+        (after_all_shown c (shown_at ((entity_flow e v).slot (home_of (framed f b) e)))) }
+{
+    seam_newest::ghosts_of_a_round_are_true();
+    seam_newest::copies_go_from_record_to_record();
+    seam_defs::laws::others_see_the_ghost();
+}

@@ -13,5 +13,7 @@ returns-clause-shows c f k e r v client cell here fits =
 
 pub returns-clause-fits : goal.returns-clause-fits
 returns-clause-fits c f k e r v client cell here fits after is =
-    subst (λ (x : WitnessView). FitsWithin f (record r { witness = Some x }) x (after_all_shown client (shown_of cell.here r v (known_to cell e))))
+    subst
+    (λ (x : WitnessView).
+    FitsWithin f (record r { witness = Some x }) x (after_all_shown client (shown_of cell.here r v (known_to cell e))))
     (sym is) (look_fits f k e r v client fits cell here)

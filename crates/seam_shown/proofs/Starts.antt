@@ -1,0 +1,70 @@
+-- Where a client's witness begins to tell, and where it was shown all.
+use Rattle.std.proofs.Common.{◌≡◌, ℕ, ◌+◌, List, [], length, Some, sym, ap, subst, arith}
+use Rattle.seam_machine.specs.Nets.{IsQuiet}
+use Rattle.seam_delivery.specs.Deliveries.{Delivery}
+use Rattle.seam_call.specs.declared.shown.Shown.{Shown}
+use Rattle.seam_entity.specs.Reals.{WitnessView}
+use Rattle.seam_steps.specs.Nodes.{World, node_has_work}
+use Rattle.seam_moves.specs.Frames.{Frame}
+use Rattle.seam_moves.specs.Sights.{entity_flow}
+use Rattle.seam_base_calls.specs.WitnessMoves.{sent_of, sent_by}
+use Rattle.seam_base_calls.specs.BaseTurns.{home_of}
+use Rattle.seam_base_calls.specs.Clients.{updates_at, shown_at, tells, HasClient}
+use Rattle.seam_base_calls.proofs.WitnessKept.{each_weaker}
+use Rattle.seam_base_calls.proofs.ClientRuns.{one_of}
+use Rattle.seam_base_calls.proofs.BaseQuiet.{all_shown}
+use Rattle.seam_replica.specs.Clients.{ClientReplica, after_all_shown}
+use Rattle.seam_replica.specs.Lines.{Truth, ShowsRightly}
+use Rattle.seam_shown.specs.Fits.{FitsWithin}
+use Rattle.seam_shown.specs.Telling.{TellsRightly}
+use Rattle.seam_shown.proofs.Reals.{each_of}
+use Rattle.seam_shown.proofs.InTurn.{rightly_first}
+
+module _ (f : Frame) (e ty first : ℕ) (t : Truth) (w : World) where
+  -- a witness that has told nothing yet tells rightly
+  pub rightly_starts : (h : HasClient f e ty first w) → h.issued ≡ [] → (x : WitnessView) → h.one.real.witness ≡ Some x →
+      (c : ClientReplica) → FitsWithin f h.one.real x c → TellsRightly f e ty first t c w
+  rightly_starts h none x has c fits =
+      let sent = one_of (λ r. sent_by r + 1 ≡ first + length h.issued) e w h.one.place h.one.real h.one.one h.told in
+      let is = ap sent_of has in
+      let few = ap length none in
+      record {
+        one = h.one;
+        witness = x;
+        has = has;
+        told = [];
+        number = let s : x.sent + 1 ≡ first + length {A = Shown} [] = omega (arith, sent, is, few) in s;
+        delivery =
+            subst (λ us. Delivery updates_at shown_at tells (entity_flow e w) (home_of f e) first us) none h.delivery;
+        rightly = record { in_turn = tt; true_ = tt };
+        fits = fits;
+      }
+
+  module _ (c : ClientReplica) (h : TellsRightly f e ty first t c w) where
+    abbrev shown : List Shown
+    shown = shown_at ((entity_flow e w).slot (home_of f e))
+
+    -- what was shown is a first part of what was told
+    pub shown_rightly : ShowsRightly t e c shown
+    shown_rightly = rightly_first t e c shown h.delivery.rest (subst (ShowsRightly t e c) h.delivery.parts h.rightly)
+
+    pub shown_all : HasClient f e ty first w → IsQuiet node_has_work w → shown ≡ h.told
+    shown_all client quiet = all_shown f e w client.one.fits.frame quiet ty first (record {
+      frame = client.frame;
+      known = client.known;
+      one = client.one;
+      part = client.part;
+      here = client.here;
+      proxy = client.proxy;
+      has = client.has;
+      lines = client.lines;
+      issued = h.told;
+      told =
+          each_weaker (λ r. r.witness ≡ Some h.witness) (λ r. sent_by r + 1 ≡ first + length h.told) e w
+          (λ r is. let a = ap sent_of is in let b = h.number in omega (arith, a, b))
+          (each_of (λ r. r.witness ≡ Some h.witness) e w h.one.place h.one.real h.one.one h.has);
+      delivery = h.delivery;
+    })
+
+    pub fits_shown : HasClient f e ty first w → IsQuiet node_has_work w → FitsWithin f h.one.real h.witness (after_all_shown c shown)
+    fits_shown client quiet = subst (λ us. FitsWithin f h.one.real h.witness (after_all_shown c us)) (sym (shown_all client quiet)) h.fits
