@@ -8,3 +8,4 @@ pub mod Along
 pub mod Starts
 pub mod RoundTruth
 pub mod Ending
+pub mod ExampleShown

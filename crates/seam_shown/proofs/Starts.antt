@@ -1,12 +1,14 @@
 -- Where a client's witness begins to tell, and where it was shown all.
-use Rattle.std.proofs.Common.{◌≡◌, ℕ, ◌+◌, List, [], length, Some, sym, ap, subst, arith}
+use Rattle.std.proofs.Common.{◌≡◌, ℕ, ◌+◌, List, [], ◌∷◌, length, Some, refl, sym, ap, ◌∙◌, subst, arith}
 use Rattle.seam_machine.specs.Nets.{IsQuiet}
+use Rattle.seam_flows.proofs.TokenLemmas.{sole_here}
 use Rattle.seam_delivery.specs.Deliveries.{Delivery}
 use Rattle.seam_call.specs.declared.shown.Shown.{Shown}
-use Rattle.seam_entity.specs.Reals.{WitnessView}
+use Rattle.seam_entity.specs.Reals.{RealView, WitnessView}
 use Rattle.seam_steps.specs.Nodes.{World, node_has_work}
 use Rattle.seam_moves.specs.Frames.{Frame}
 use Rattle.seam_moves.specs.Sights.{entity_flow}
+use Rattle.seam_ones.specs.Ones.{real_in, real_of}
 use Rattle.seam_base_calls.specs.WitnessMoves.{sent_of, sent_by}
 use Rattle.seam_base_calls.specs.BaseTurns.{home_of}
 use Rattle.seam_base_calls.specs.Clients.{updates_at, shown_at, tells, HasClient}
@@ -20,24 +22,32 @@ use Rattle.seam_shown.specs.Telling.{TellsRightly}
 use Rattle.seam_shown.proofs.Reals.{each_of}
 use Rattle.seam_shown.proofs.InTurn.{rightly_first}
 
+none_of : (us : List Shown) → length us ≡ 0 → us ≡ []
+none_of [] is = refl
+none_of (u ∷ us) is = absurd (omega (arith, is))
+
 module _ (f : Frame) (e ty first : ℕ) (t : Truth) (w : World) where
-  -- a witness that has told nothing yet tells rightly
-  pub rightly_starts : (h : HasClient f e ty first w) → h.issued ≡ [] → (x : WitnessView) → h.one.real.witness ≡ Some x →
-      (c : ClientReplica) → FitsWithin f h.one.real x c → TellsRightly f e ty first t c w
-  rightly_starts h none x has c fits =
-      let sent = one_of (λ r. sent_by r + 1 ≡ first + length h.issued) e w h.one.place h.one.real h.one.one h.told in
-      let is = ap sent_of has in
-      let few = ap length none in
+  -- a witness whose next number is the first tells rightly
+  pub rightly_starts : (h : HasClient f e ty first w) (k : ℕ) (r : RealView) → real_in ((entity_flow e w).slot k) ≡ Some r →
+      (x : WitnessView) → r.witness ≡ Some x → x.sent + 1 ≡ first → (c : ClientReplica) → FitsWithin f r x c →
+      TellsRightly f e ty first t c w
+  rightly_starts h k r here x has due c fits =
+      let same : r ≡ h.one.real =
+      (sole_here real_in real_of (entity_flow e w) h.one.place h.one.real r k h.one.one here).1 in
+      let its : h.one.real.witness ≡ Some x = ap (λ (y : RealView). y.witness) (sym same) ∙ has in
+      let sent = one_of (λ y. sent_by y + 1 ≡ first + length h.issued) e w h.one.place h.one.real h.one.one h.told in
+      let is = ap sent_of its in
+      let none : h.issued ≡ [] = none_of h.issued (omega (arith, sent, is, due)) in
       record {
         one = h.one;
         witness = x;
-        has = has;
+        has = its;
         told = [];
-        number = let s : x.sent + 1 ≡ first + length {A = Shown} [] = omega (arith, sent, is, few) in s;
+        number = let s : x.sent + 1 ≡ first + length {A = Shown} [] = omega (arith, due) in s;
         delivery =
             subst (λ us. Delivery updates_at shown_at tells (entity_flow e w) (home_of f e) first us) none h.delivery;
         rightly = record { in_turn = tt; true_ = tt };
-        fits = fits;
+        fits = subst (λ y. FitsWithin f y x c) same fits;
       }
 
   module _ (c : ClientReplica) (h : TellsRightly f e ty first t c w) where

@@ -10,10 +10,11 @@
 //! Crates above cite these modules of `proofs`: `Apart` (looks at different entities), `Lines` (what a look tells of others), `Looking` (a
 //! look), `Silent` (where none is taken), `Reals` (a real that goes on), `InTurn` (lines in parts), `Along` (every list of events), `Starts`
 //! (where a witness begins to tell, and where all was shown), `RoundTruth` (what cells know in a round), `Ending` (where
-//! the calls of a round end).
+//! the calls of a round end), `ExampleShown` (a worked world).
 #![tactic(auto)]
 
-ghost use Rattle.std.specs.Prelude.{◌≡◌, ℕ, List, [], Some};
+ghost use Rattle.std.specs.Prelude.{◌≡◌, ◌+◌, ℕ, List, [], ◌∷◌, Some};
+ghost use Rattle.seam_defs.specs.Settings.{standard};
 ghost use Rattle.seam_machine.specs.Nets.{IsQuiet, LeadsTo};
 ghost use Rattle.seam_machine.specs.declared.machines.Event.{Event};
 ghost use Rattle.seam_call.specs.declared.order.Batch.{Batch};
@@ -22,14 +23,17 @@ ghost use Rattle.seam_steps.specs.Looks.{looks_of, shown_of, after_looking};
 ghost use Rattle.seam_steps.specs.Cells.{CellView, known_to};
 ghost use Rattle.seam_steps.specs.Loads.{loaded};
 ghost use Rattle.seam_steps.specs.Nodes.{World, node_steps, node_has_work};
+ghost use Rattle.seam_steps.specs.Rows.{empty_world};
 ghost use Rattle.seam_moves.specs.Frames.{Frame, here_at};
 ghost use Rattle.seam_moves.specs.Sights.{entity_flow};
-ghost use Rattle.seam_ones.specs.Ones.{IsSpared};
+ghost use Rattle.seam_ones.specs.Ones.{real_in, IsSpared};
+ghost use Rattle.seam_ones.specs.Example.{frame};
+ghost use Rattle.seam_base_calls.specs.Example as example;
 ghost use Rattle.seam_base_calls.specs.BaseTurns.{home_of};
 ghost use Rattle.seam_base_calls.specs.Clients.{shown_at, HasClient, HasToldAtMost, HasRoomFor};
 ghost use Rattle.seam_between.specs.Between.{IsBetweenRounds, IsFitting, framed};
 ghost use Rattle.seam_newest.specs.Copies.{AreCopiesBetweenRounds};
-ghost use Rattle.seam_replica.specs.Clients.{ClientReplica, after_all_shown};
+ghost use Rattle.seam_replica.specs.Clients.{ClientReplica, new_client, after_all_shown};
 ghost use Rattle.seam_replica.specs.Lines.{ShowsRightly};
 ghost use Rattle.seam_looks.specs.Clients.{FitsWitness};
 ghost use Rattle.seam_shown.specs.Fits.{FitsWithin, truth_of_look};
@@ -50,12 +54,14 @@ pub fn a_look_is_shown_rightly()
 {}
 
 /// A witness tells its client rightly over every list of events, of calls and of ticks, whatever the order in which copies come: each line
-/// may be shown when it is its turn. `starts`: where a round has told nothing yet and the client fits. `known`: each shows what the real
+/// may be shown when it is its turn. `starts`: where the client fits and the first number is
+/// the witness's next. `known`: each shows what the real
 /// was, or what a cell knew, in some world since. `round`: in a round, what entities were since its load, and nothing of before. No more
 /// is asked than that the witness's updates stay few, which `seam_told` has.
 pub fn a_witness_tells_rightly()
-    ensures starts { (f : Frame) (e ty first : ℕ) (w v : World) (h : HasClient f e ty first w) → h.issued ≡ [] → (x : WitnessView) →
-        h.one.real.witness ≡ Some x → (c : ClientReplica) → FitsWithin f h.one.real x c →
+    ensures starts { (f : Frame) (e ty first : ℕ) (w v : World) → HasClient f e ty first w → (k : ℕ) (r : RealView) →
+        real_in ((entity_flow e w).slot k) ≡ Some r → (x : WitnessView) → r.witness ≡ Some x → x.sent + 1 ≡ first → (c : ClientReplica) →
+        FitsWithin f r x c →
         TellsRightly f e ty first (known_between f e w v) c w × TellsRightly f e ty first (true_between f e w v) c w }
     ensures known { (f : Frame) (e ty first n : ℕ) (w v : World) (es : List Event) (c : ClientReplica) →
         TellsRightly f e ty first (known_between f e w v) c w → HasClient f e ty first w → IsSpared e w → HasRoomFor e n w →
@@ -102,3 +108,13 @@ pub fn a_client_fits_where_calls_end()
     seam_newest::copies_go_from_record_to_record();
     seam_defs::laws::others_see_the_ghost();
 }
+
+/// What these laws ask is true of a loaded world with an entity that has a client, which was shown nothing of it yet (`starts`), and so
+/// they speak of every list of events from there (`runs`).
+pub fn a_worked_witness_tells_rightly()
+    ensures loads { loaded empty_world (example.batch_with (1 ∷ [])) ≡ example.world_shown }
+    ensures starts { (v : World) →
+        TellsRightly frame 1 0 1 (true_between frame 1 example.world_shown v) (new_client standard) example.world_shown }
+    ensures runs { (v : World) (es : List Event) → LeadsTo node_has_work node_steps example.world_shown es v →
+        TellsRightly frame 1 0 1 (known_between frame 1 example.world_shown v) (new_client standard) v }
+{}

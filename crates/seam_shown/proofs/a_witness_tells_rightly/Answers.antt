@@ -9,9 +9,9 @@ use Rattle.seam_shown.proofs.Starts.{rightly_starts}
 use Rattle.seam_shown.proofs.a_witness_tells_rightly.Goals as goal
 
 pub returns-clause-starts : goal.returns-clause-starts
-returns-clause-starts c f e ty first w v h none x has client fits = (
-  rightly_starts f e ty first (known_between f e w v) w h none x has client fits,
-  rightly_starts f e ty first (true_between f e w v) w h none x has client fits,
+returns-clause-starts c f e ty first w v h k r here x has due client fits = (
+  rightly_starts f e ty first (known_between f e w v) w h k r here x has due client fits,
+  rightly_starts f e ty first (true_between f e w v) w h k r here x has due client fits,
 )
 
 pub returns-clause-known : goal.returns-clause-known
