@@ -28,3 +28,4 @@ mod LookStarts
 mod Opening
 mod ClientLines
 mod Nothing
+mod There

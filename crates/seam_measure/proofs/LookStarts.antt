@@ -92,7 +92,7 @@ no_real_then f u between v vs run e n k q at =
     cc
 
 -- a real that an entity's flow shows is in the cell
-in_cell : (w : World) (e k : ℕ) (r : RealView) → real_in ((entity_flow e w).slot k) ≡ Some r →
+pub in_cell : (w : World) (e k : ℕ) (r : RealView) → real_in ((entity_flow e w).slot k) ≡ Some r →
     (c : CellView) × (slice_get w.nodes k ≡ Some (Cell c)) × (table.get c.reals e ≡ Some r)
 in_cell w e k r at = by (slice_get w.nodes k) refl at
   where

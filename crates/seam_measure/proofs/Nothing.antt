@@ -1,6 +1,5 @@
 -- A world that holds nothing, and has both records between rounds, holds nothing again at the end of each phase.
 use Rattle.std.proofs.Common.{◌≡◌, ℕ, ◌⊎◌, List, [], length, Option, None, Some, refl, sym, ap, ◌∙◌, subst, arith, inl, inr}
-use Rattle.std.specs.Prelude.{slice_get}
 use Rattle.std.specs.FinMap as table
 use Rattle.std.proofs.lemmas.Bool.{cases_eq}
 use Rattle.seam_machine.specs.Nets.{IsQuiet, LeadsTo}
@@ -12,9 +11,8 @@ use Rattle.seam_call.specs.declared.order.Batch.{Batch}
 use Rattle.seam_entity.specs.Orders.{order_or}
 use Rattle.seam_entity.specs.Reals.{RealView, WitnessView}
 use Rattle.seam_steps.specs.Holders.{holders}
-use Rattle.seam_steps.specs.Bases.{BaseView, PartView, ProxyView}
+use Rattle.seam_steps.specs.Bases.{PartView, ProxyView}
 use Rattle.seam_steps.specs.Nodes.{World, node_steps, node_has_work}
-use Rattle.seam_steps.specs.Nodes.NodeView.{Base}
 use Rattle.seam_steps.specs.Loads.{loaded, look_loaded}
 use Rattle.seam_moves.specs.Frames.{Frame}
 use Rattle.seam_moves.specs.Sights.{mine, has_of, has_none, entity_flow}
@@ -34,7 +32,7 @@ use Rattle.seam_base_rounds.proofs.CallsEnd.{calls_end_with_parts}
 use Rattle.seam_base_rounds.proofs.Calms.{look_ends_with_parts}
 use Rattle.seam_measure.specs.Weights.{proxy_weight, part_weight}
 use Rattle.seam_measure.specs.Phases.{HoldsNothing}
-use Rattle.seam_measure.proofs.Bare.{HoldsNone, IsIdle, idle_leads}
+use Rattle.seam_measure.proofs.Bare.{HoldsNone, idle_leads}
 use Rattle.seam_measure.proofs.LookPhase.{plain_start}
 use Rattle.seam_measure.proofs.RoundPhase.{idle_then}
 use Rattle.seam_measure.proofs.Starts.{parts_none}

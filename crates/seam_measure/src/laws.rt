@@ -18,13 +18,14 @@ ghost use Rattle.seam_rounds.specs.Rounds.{first_frame, AreReapable};
 ghost use Rattle.seam_ones.specs.Ones.{IsFrame};
 ghost use Rattle.seam_defs.specs.declared.settings.Settings.{Settings};
 ghost use Rattle.seam_defs.specs.declared.types.TypeDef.{TypeDef};
+ghost use Rattle.seam_newest.specs.Copies.{AreCopiesBetweenRounds};
 ghost use Rattle.seam_base_rounds.specs.Example.{first_batch};
 ghost use Rattle.seam_measure.specs.Weights.{Sizes, world_weight};
 ghost use Rattle.seam_measure.specs.Events.{is_pass, NodeCan, AllCan, all_passes};
 ghost use Rattle.seam_base_calls.specs.Clients.{is_tick_order};
 ghost use Rattle.seam_base_rounds.specs.Parts.{MayBeLoaded, HasPartsBetweenRounds, HasSmallNumbers};
-ghost use Rattle.seam_measure.specs.Looking.{LooksFit, ClientsKeepRoom, Always, ShownAtMost, LooksAmong};
-ghost use Rattle.seam_measure.specs.Phases.{HoldsNothing, entities, cell_orders, base_orders, tick_orders};
+ghost use Rattle.seam_measure.specs.Looking.{LooksFit, ClientsKeepRoom, Always, ShownAtMost, SeesWhatIsThere, LooksAmong};
+ghost use Rattle.seam_measure.specs.Phases.{HoldsNothing, entities, all_witnesses, cell_orders, base_orders, tick_orders};
 ghost use Rattle.seam_measure.specs.Phases.{events_of_round, events_of_looks};
 
 /// An enabled event whose node can do what it is to do lowers the weight of the world, but for one that passes a call on, which does not
@@ -40,10 +41,15 @@ pub fn a_run_is_no_longer_than_its_start_weighs()
         LeadsTo node_has_work node_steps w es v → length es + world_weight z v ≤ world_weight z w + all_passes w es }
 {}
 
-/// A round is no longer than its table says, over every list of events, where the loaded world has no reals, copies and views but of entities
-/// of a list that is no longer than there are entities, and no witnesses but those of `ws`.
+/// A round is no longer than its table says, over every list of events, where the world has the records between rounds, holds nothing, and
+/// its witnesses have in view what is there (`records`). So it is as well where the loaded world has no reals, copies and views but of
+/// entities of a list that is no longer than there are entities, and no witnesses but those of `ws` (`among`).
 pub fn a_round_ends()
-    ensures { (f : Frame) (w : World) (b : Batch) → MayBeLoaded f w b → HoldsNothing w → (us ws : List ℕ) →
+    ensures records { (f : Frame) (w : World) (b : Batch) → MayBeLoaded f w b → HoldsNothing w → AreCopiesBetweenRounds f w →
+        SeesWhatIsThere w → (v : World) (es : List Event) → LeadsTo node_has_work node_steps (loaded w b) es v →
+        length es ≤ events_of_round f.settings.bases (cell_orders b) (base_orders b) (tick_orders b) (entities (loaded w b))
+        (all_witnesses (loaded w b)) }
+    ensures among { (f : Frame) (w : World) (b : Batch) → MayBeLoaded f w b → HoldsNothing w → (us ws : List ℕ) →
         length us ≤ entities (loaded w b) → LooksAmong us (λ k. ws) (loaded w b) → (v : World) (es : List Event) →
         LeadsTo node_has_work node_steps (loaded w b) es v →
         length es
