@@ -29,3 +29,4 @@ mod Opening
 mod ClientLines
 mod Nothing
 mod There
+mod LookRecords

@@ -24,7 +24,7 @@ use Rattle.seam_entity.specs.declared.message.Msg.{Msg}
 use Rattle.seam_entity.specs.declared.message.Msg.TheVariants.{Call}
 use Rattle.seam_steps.specs.Cells.{CellView}
 use Rattle.seam_steps.specs.Bases.{BaseView, PartView, ProxyView}
-use Rattle.seam_steps.specs.BaseCases.{stray_order, may_show}
+use Rattle.seam_steps.specs.BaseCases.{stray_order, proxy_is_ready, may_show}
 use Rattle.seam_steps.specs.Nodes.{NodeView, World, node_steps, node_has_work}
 use Rattle.seam_steps.specs.Nodes.NodeView.{Cell, Base}
 use Rattle.seam_steps.specs.Loads.{ordered_at, look_loaded, order_if}
@@ -108,6 +108,12 @@ calls_none : (e : ℕ) (os : List Order) → AllByRecursion IsTickOrder os → l
 calls_none e [] h = refl
 calls_none e (o ∷ os) h = calls_by e o (orders_of e os) (order_concerns e o) h.0 (calls_none e os h.1)
 
+-- a client that has a ready update may be shown it
+abbrev pub ReadyMayShow : World → Type 0
+ReadyMayShow v =
+    (k : ℕ) (b : BaseView) → slice_get v.nodes k ≡ Some (Base b) → (e : ℕ) (p : PartView) → table.get b.parts e ≡ Some p →
+    proxy_is_ready p.proxy ≡ true → may_show p.proxy ≡ true
+
 module _ (f : Frame) (u : World) (between : IsBetweenRounds f u) (none : HoldsNothing u) where
   abbrev start : World
   start = look_loaded u
@@ -169,12 +175,12 @@ module _ (f : Frame) (u : World) (between : IsBetweenRounds f u) (none : HoldsNo
         let its = ap (weight_or part_calls) at in
         none_is_ready b.here (record p { proxy = None }) (omega (arith, zero, same, its)) ready
 
-    base_then : ClientsKeepRoom v → (k : ℕ) (b : BaseView) → slice_get v.nodes k ≡ Some (Base b) → BaseCan b
+    base_then : ReadyMayShow v → (k : ℕ) (b : BaseView) → slice_get v.nodes k ≡ Some (Base b) → BaseCan b
     base_then client k b node = record {
       orders = λ o os is.
           tick_is_free b o (subst (AllByRecursion IsTickOrder) is (orders_lead IsTickOrder start v vs orders_start run k (Base b) node)).0;
       parts = λ e p at ready. absurd (part_by k b node e p at ready);
-      clients = λ e p at ready. client k b node e p at;
+      clients = λ e p at ready. client k b node e p at ready;
     }
 
     allowed : (x : Bool) → not x ≡ false → x ≡ true
@@ -196,10 +202,9 @@ module _ (f : Frame) (u : World) (between : IsBetweenRounds f u) (none : HoldsNo
     no_pass : (x : Event) → is_pass v x ≡ false
     no_pass x = no_pass_by v x (λ a c ms at. no_call_comes a x.node c ms at)
 
-  -- ---- how long the phase is, where clients were shown at most `last` lines at its start
+  -- ---- how long the phase is
 
-  module _ (n : ℕ) (wits : ℕ → ℕ) (few : Always (LooksFit (sizes_of_looks f n wits)) start) (last : ℕ) (shown : ShownAtMost last u)
-      (room : last + events_of_looks n (total wits (range_with_len 0 cell_count)) + 1 < limit) where
+  module _ (n : ℕ) (wits : ℕ → ℕ) (few : Always (LooksFit (sizes_of_looks f n wits)) start) where
     abbrev z : Sizes
     z = sizes_of_looks f n wits
 
@@ -213,85 +218,93 @@ module _ (f : Frame) (u : World) (between : IsBetweenRounds f u) (none : HoldsNo
         let sum = ticks_sum z 0 cell_count in
         omega (arith, at_start, quiet, sum)
 
-    -- a world that is reached: as many events as happened the weight fell at least, and no client was shown more lines
-    record Counted (v : World) : Type 0 where
-      events : List Event
-      run : LeadsTo node_has_work node_steps start events v
-      falls : length events + world_weight z v ≤ world_weight z start
-      lines : ShownAtMost (last + length events) v
+    -- where each client that is ready may be shown its update
+    module _ (shows : Always ReadyMayShow start) where
+      can : AllCan z start
+      can v vs run x o =
+          can_look z f v (omega arith) (frame_then vs v run) (few v vs run) (cell_then vs v run)
+          (base_then vs v run (shows v vs run)) x.node o.node o.input o.is_node
 
-    keeps_room : (v : World) → Counted v → ClientsKeepRoom v
-    keeps_room v h k b node e p at = by p.proxy refl
-      where
-        small : (m : ℕ) → m < limit → nat_lt m limit ≡ true
-        small m lt = grind (arith, nat_tests)
+      pub looks_end_where : (vs : List Event) (v : World) → LeadsTo node_has_work node_steps start vs v → length vs ≤ most
+      looks_end_where vs v run =
+          let long = run_ends z f start frame_start can v vs run in
+          let passed = passes_none start (λ x ds on. no_pass ds x on) vs run.each in
+          let weighs = start_weighs in
+          omega (arith, long, passed, weighs)
 
-        by : (o : Option ProxyView) → p.proxy ≡ o → may_show o ≡ true
-        by None has = refl
-        by (Some x) has =
-            let line = h.lines k b node e p at x has in
-            let fall = h.falls in
-            let weight = start_weighs in
-            small (x.last + 1) (omega (arith, line, fall, weight, room))
+    -- where clients were shown at most `last` lines at its start
+    module _ (last : ℕ) (shown : ShownAtMost last u)
+        (room : last + events_of_looks n (total wits (range_with_len 0 cell_count)) + 1 < limit) where
+      -- a world that is reached: as many events as happened the weight fell at least, and no client was shown more lines
+      record Counted (v : World) : Type 0 where
+        events : List Event
+        run : LeadsTo node_has_work node_steps start events v
+        falls : length events + world_weight z v ≤ world_weight z start
+        lines : ShownAtMost (last + length events) v
 
-    counted_more : (v : World) (x : Event) → Counted v → enabled node_has_work v x ≡ true → Counted (happens node_steps v x)
-    counted_more v x h on =
-        let o = occurs node_has_work v x on in
-        let frame = frame_then h.events v h.run in
-        let can =
-        can_look z f v (omega arith) frame (few v h.events h.run) (cell_then h.events v h.run)
-        (base_then h.events v h.run (keeps_room v h)) x.node o.node o.input o.is_node in
-        let lower = event_lowers z f v x o frame can on in
-        let pass = ap (λ b. cond {A = ℕ} b 1 0) (no_pass h.events v h.run x) in
-        let fall = h.falls in
-        let longer = length-append h.events (x ∷ []) in
-        let more : last + length h.events + 1 ≡ last + length (h.events ++ x ∷ []) = omega (arith, longer) in
-        record {
-          events = h.events ++ x ∷ [];
-          run = leads_extend node_has_work node_steps start v h.events x h.run on;
-          falls = omega (arith, lower, pass, fall, longer);
-          lines =
-              subst (λ m. ShownAtMost m (happens node_steps v x)) more (event_shows (last + length h.events) v x o h.lines);
-        }
+      keeps_room : (v : World) → Counted v → ClientsKeepRoom v
+      keeps_room v h k b node e p at = by p.proxy refl
+        where
+          small : (m : ℕ) → m < limit → nat_lt m limit ≡ true
+          small m lt = grind (arith, nat_tests)
 
-    counted_start : Counted start
-    counted_start = record {
-      events = [];
-      run = leads_nowhere node_has_work node_steps start;
-      falls = omega arith;
-      lines = shown_start;
-    }
-      where
-        node_lines : (s : NodeView) → ((b : BaseView) → s ≡ Base b → BaseShown (last + 0) b) → (b : BaseView) →
-            ordered_at tick s ≡ Base b → BaseShown (last + 0) b
-        node_lines (Cell c) h b is = cc
-        node_lines (Base d) h b is = by _ is
-          where
-            by : (t : Bool) → Base (order_if t d tick.1) ≡ Base b → BaseShown (last + 0) b
-            by true same = let one : record d { orders = d.orders ++ tick.1 ∷ [] } ≡ b = cc in subst (BaseShown (last + 0)) one (h d refl)
-            by false same = let one : d ≡ b = cc in subst (BaseShown (last + 0)) one (h d refl)
+          by : (o : Option ProxyView) → p.proxy ≡ o → may_show o ≡ true
+          by None has = refl
+          by (Some x) has =
+              let line = h.lines k b node e p at x has in
+              let fall = h.falls in
+              let weight = start_weighs in
+              small (x.last + 1) (omega (arith, line, fall, weight, room))
 
-        plain : last + 0 ≡ last
-        plain = omega arith
+      counted_more : (v : World) (x : Event) → Counted v → enabled node_has_work v x ≡ true → Counted (happens node_steps v x)
+      counted_more v x h on =
+          let o = occurs node_has_work v x on in
+          let frame = frame_then h.events v h.run in
+          let can =
+          can_look z f v (omega arith) frame (few v h.events h.run) (cell_then h.events v h.run)
+          (base_then h.events v h.run (λ k b node e p at ready. keeps_room v h k b node e p at)) x.node o.node o.input o.is_node in
+          let lower = event_lowers z f v x o frame can on in
+          let pass = ap (λ b. cond {A = ℕ} b 1 0) (no_pass h.events v h.run x) in
+          let fall = h.falls in
+          let longer = length-append h.events (x ∷ []) in
+          let more : last + length h.events + 1 ≡ last + length (h.events ++ x ∷ []) = omega (arith, longer) in
+          record {
+            events = h.events ++ x ∷ [];
+            run = leads_extend node_has_work node_steps start v h.events x h.run on;
+            falls = omega (arith, lower, pass, fall, longer);
+            lines =
+                subst (λ m. ShownAtMost m (happens node_steps v x)) more (event_shows (last + length h.events) v x o h.lines);
+          }
 
-        shown_start : ShownAtMost (last + 0) start
-        shown_start k b at e p there x has =
-            let was = node_there (slice_get u.nodes k) (ordered_at tick) (Base b) (sym (slice_get-map (ordered_at tick) u.nodes k) ∙ at) in
-            node_lines was.0
-            (λ d is q y seen z its. let line = shown k d (was.1 ∙ ap Some is) q y seen z its in omega (arith, line)) b was.2 e p there x has
+      counted_start : Counted start
+      counted_start = record {
+        events = [];
+        run = leads_nowhere node_has_work node_steps start;
+        falls = omega arith;
+        lines = shown_start;
+      }
+        where
+          node_lines : (s : NodeView) → ((b : BaseView) → s ≡ Base b → BaseShown (last + 0) b) → (b : BaseView) →
+              ordered_at tick s ≡ Base b → BaseShown (last + 0) b
+          node_lines (Cell c) h b is = cc
+          node_lines (Base d) h b is = by _ is
+            where
+              by : (t : Bool) → Base (order_if t d tick.1) ≡ Base b → BaseShown (last + 0) b
+              by true same = let one : record d { orders = d.orders ++ tick.1 ∷ [] } ≡ b = cc in subst (BaseShown (last + 0)) one (h d refl)
+              by false same = let one : d ≡ b = cc in subst (BaseShown (last + 0)) one (h d refl)
 
-    pub clients_always : Always ClientsKeepRoom start
-    clients_always v vs run =
-        keeps_room v (leads_keeps node_has_work node_steps Counted counted_more start v vs counted_start run)
+          plain : last + 0 ≡ last
+          plain = omega arith
 
-    can : AllCan z start
-    can v vs run x o =
-        can_look z f v (omega arith) (frame_then vs v run) (few v vs run) (cell_then vs v run)
-        (base_then vs v run (clients_always v vs run)) x.node o.node o.input o.is_node
+          shown_start : ShownAtMost (last + 0) start
+          shown_start k b at e p there x has =
+              let was = node_there (slice_get u.nodes k) (ordered_at tick) (Base b) (sym (slice_get-map (ordered_at tick) u.nodes k) ∙ at) in
+              node_lines was.0
+              (λ d is q y seen z its. let line = shown k d (was.1 ∙ ap Some is) q y seen z its in omega (arith, line)) b was.2 e p there x has
 
-    pub looks_end : (vs : List Event) (v : World) → LeadsTo node_has_work node_steps start vs v → length vs ≤ most
-    looks_end vs v run =
-        let long = run_ends z f start frame_start can v vs run in
-        let passed = passes_none start (λ x ds on. no_pass ds x on) vs run.each in
-        let weighs = start_weighs in
-        omega (arith, long, passed, weighs)
+      pub clients_always : Always ClientsKeepRoom start
+      clients_always v vs run =
+          keeps_room v (leads_keeps node_has_work node_steps Counted counted_more start v vs counted_start run)
+
+      pub looks_end : (vs : List Event) (v : World) → LeadsTo node_has_work node_steps start vs v → length vs ≤ most
+      looks_end = looks_end_where (λ v vs run k b node e p at ready. clients_always v vs run k b node e p at)

@@ -202,7 +202,7 @@ module _ (f : Frame) (u : World) (between : IsBetweenRounds f u) (none : HoldsNo
       gone_by : Nowhere e u → ⊥
       gone_by n = no_real_then f u between v vs run e n k q at
 
-  looks_among : Always (LooksAmong us ws) start
+  pub looks_among : Always (LooksAmong us ws) start
   looks_among v vs run =
       let views = always_among us us f start (frame_start f u between none) (empty_start f u between none) among_start v vs run in
       record {

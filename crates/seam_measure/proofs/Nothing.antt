@@ -32,7 +32,7 @@ use Rattle.seam_base_rounds.proofs.CallsEnd.{calls_end_with_parts}
 use Rattle.seam_base_rounds.proofs.Calms.{look_ends_with_parts}
 use Rattle.seam_measure.specs.Weights.{proxy_weight, part_weight}
 use Rattle.seam_measure.specs.Phases.{HoldsNothing}
-use Rattle.seam_measure.proofs.Bare.{HoldsNone, idle_leads}
+use Rattle.seam_measure.proofs.Bare.{HoldsNone, IsIdle, idle_leads}
 use Rattle.seam_measure.proofs.LookPhase.{plain_start}
 use Rattle.seam_measure.proofs.RoundPhase.{idle_then}
 use Rattle.seam_measure.proofs.Starts.{parts_none}
@@ -92,6 +92,12 @@ module _ (f : Frame) (w : World) (b : Batch) (may : MayBeLoaded f w b) (none : H
 
 -- ---- after looks
 
+pub idle_in_looks : (f : Frame) (u : World) (between : IsBetweenRounds f u) → HoldsNothing u → (vs : List Event) (v : World) →
+    LeadsTo node_has_work node_steps (look_loaded u) vs v → (e : ℕ) → Nowhere e u → IsIdle f e v
+idle_in_looks f u between none vs v run e n =
+    idle_leads f e (look_loaded u) v vs
+    (record { unknown = unknown_look f u between e n; parts = parts_none IsTickOrder (look_loaded u) (plain_start f u between none) e }) run
+
 module _ (f : Frame) (u : World) (between : IsBetweenRounds f u) (parts : HasPartsBetweenRounds f u) (small : HasSmallNumbers f u)
     (none : HoldsNothing u) (vs : List Event) (v : World) (run : LeadsTo node_has_work node_steps (look_loaded u) vs v)
     (quiet : IsQuiet node_has_work v) where
@@ -103,9 +109,7 @@ module _ (f : Frame) (u : World) (between : IsBetweenRounds f u) (parts : HasPar
       absurd (not_nowhere f v (look_ends_between f u between vs v run quiet) e
       (look_keeps f u between vs v run e (one_holder f u e p.0 p.1 (between.settled e p.0 p.1 p.2) (still e))) n)
   looks_gone e n (inr m) k =
-      (idle_leads f e (look_loaded u) v vs
-      (record { unknown = unknown_look f u between e m; parts = parts_none IsTickOrder (look_loaded u) (plain_start f u between none) e })
-      run).parts k
+      (idle_in_looks f u between none vs v run e m).parts k
 
   pub looks_end_nothing : HoldsNothing v
   looks_end_nothing =

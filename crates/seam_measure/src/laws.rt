@@ -86,9 +86,13 @@ pub fn nothing_held_goes_from_record_to_record()
 {}
 
 /// Where the witnesses of such a world look, those of `ws k` in cell k, no list of events is longer than the table says, where reals,
-/// copies and views are of the entities of a list, and the numbers of the lines that clients were shown have room for as many more. Each
-/// client's next line always has a number.
+/// copies and views are of the entities of a list, and it has the record of base parts and clients, with small numbers (`records`), or the
+/// numbers of the lines that clients were shown have room for as many more (`bound`); then each client's next line always has a number.
 pub fn looks_end()
+    ensures records { (f : Frame) (u : World) → IsBetweenRounds f u → HasPartsBetweenRounds f u → HasSmallNumbers f u → HoldsNothing u →
+        (us : List ℕ) (ws : ℕ → List ℕ) → LooksAmong us ws u → (vs : List Event) (v : World) →
+        LeadsTo node_has_work node_steps (look_loaded u) vs v →
+        length vs ≤ events_of_looks (length us) (total (λ k. length (ws k)) (range_with_len 0 cell_count)) }
     ensures bound { (f : Frame) (u : World) → IsBetweenRounds f u → HoldsNothing u → (us : List ℕ) (ws : ℕ → List ℕ) → LooksAmong us ws u →
         (last : ℕ) → ShownAtMost last u →
         last + events_of_looks (length us) (total (λ k. length (ws k)) (range_with_len 0 cell_count)) + 1 < limit → (vs : List Event)
