@@ -1,5 +1,5 @@
 -- The phase of looks ends by the records: no client runs out of numbers in it.
-use Rattle.std.proofs.Common.{◌≡◌, ℕ, ◌+◌, ◌≤◌, ◌⊎◌, Bool, true, List, length, Option, None, Some, sym, ap, ◌∙◌, subst, arith, inl, inr}
+use Rattle.std.proofs.Common.{◌≡◌, ℕ, ◌+◌, ◌≤◌, ◌⊎◌, true, List, length, Some, sym, ap, ◌∙◌, arith, inl, inr}
 use Rattle.std.specs.Prelude.{slice_get}
 use Rattle.std.specs.List.{range_with_len}
 use Rattle.std.specs.FinMap as table
@@ -29,11 +29,11 @@ use Rattle.seam_base_rounds.specs.Parts.{HasPartsBetweenRounds, HasSmallNumbers,
 use Rattle.seam_base_rounds.proofs.Calms.{look_settles, look_numbers, look_serves}
 use Rattle.seam_base_rounds.proofs.Ticking.{most_told}
 use Rattle.seam_measure.specs.Weights.{part_weight}
-use Rattle.seam_measure.specs.Looking.{Always, LooksAmong}
+use Rattle.seam_measure.specs.Looking.{Always, LooksAmong, ClientsKeepRoom}
 use Rattle.seam_measure.specs.Phases.{HoldsNothing, events_of_looks}
 use Rattle.seam_measure.proofs.Cans.{none_is_shown}
 use Rattle.seam_measure.proofs.LookCounts.{looks_fit}
-use Rattle.seam_measure.proofs.LookPhase.{frame_start, ReadyMayShow, looks_end_where}
+use Rattle.seam_measure.proofs.LookPhase.{frame_start, looks_end}
 use Rattle.seam_measure.proofs.LookStarts.{looks_among}
 use Rattle.seam_measure.proofs.Nothing.{idle_in_looks}
 
@@ -72,12 +72,12 @@ module _ (f : Frame) (u : World) (between : IsBetweenRounds f u) (parts : HasPar
         let its = ap (weight_or part_weight) has in
         absurd (none_is_shown b.here p (omega (arith, zero, its)) ready)
 
-  ready_may_show : Always ReadyMayShow (look_loaded u)
-  ready_may_show v vs run k b node e p at = shows_by v vs run k b node e p at (search_real e u)
+  pub clients_keep_room : Always ClientsKeepRoom (look_loaded u)
+  clients_keep_room v vs run k b node e p at = shows_by v vs run k b node e p at (search_real e u)
 
-  pub looks_end_by_records : (us : List ℕ) (ws : ℕ → List ℕ) → LooksAmong us ws u → (vs : List Event) (v : World) →
+  pub looks_are_bounded : (us : List ℕ) (ws : ℕ → List ℕ) → LooksAmong us ws u → (vs : List Event) (v : World) →
       LeadsTo node_has_work node_steps (look_loaded u) vs v →
       length vs ≤ events_of_looks (length us) (total (λ k. length (ws k)) (range_with_len 0 cell_count))
-  looks_end_by_records us ws among vs v run =
-      looks_end_where f u between none (length us) (λ k. length (ws k))
-      (λ x ds on. looks_fit us ws f.settings.bases x (looks_among f u between none us ws among x ds on)) ready_may_show vs v run
+  looks_are_bounded us ws among vs v run =
+      looks_end f u between none (length us) (λ k. length (ws k))
+      (λ x ds on. looks_fit us ws f.settings.bases x (looks_among f u between none us ws among x ds on)) clients_keep_room vs v run

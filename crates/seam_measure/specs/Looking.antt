@@ -12,8 +12,8 @@ use Rattle.seam_entity.specs.Reals.{RealView, WitnessView}
 use Rattle.seam_steps.specs.Holders.{holders}
 use Rattle.seam_steps.specs.Looks.{looks_of}
 use Rattle.seam_steps.specs.Cells.{CellView, known_to, witnesses}
-use Rattle.seam_steps.specs.Bases.{BaseView, PartView, ProxyView}
-use Rattle.seam_steps.specs.BaseCases.{may_show}
+use Rattle.seam_steps.specs.Bases.{BaseView, PartView}
+use Rattle.seam_steps.specs.BaseCases.{proxy_is_ready, may_show}
 use Rattle.seam_steps.specs.Nodes.{World, node_steps, node_has_work}
 use Rattle.seam_steps.specs.Nodes.NodeView.{Cell, Base}
 use Rattle.seam_moves.specs.Sights.{entity_flow}
@@ -26,17 +26,11 @@ pub record LooksFit (z : Sizes) (w : World) : Type 0 where
       c.looks ≡ e ∷ es → table.get c.reals e ≡ Some r → r.witness ≡ Some x → length (looks_of r x (known_to c e)) ≤ z.lines
   pub witnesses : (k : ℕ) (c : CellView) → slice_get w.nodes k ≡ Some (Cell c) → length (witnesses c) ≤ z.witnesses k
 
--- each client's next line has a number
+-- each client that has a ready update may be shown it: its next line has a number
 abbrev pub ClientsKeepRoom : World → Type 0
 ClientsKeepRoom w =
     (k : ℕ) (b : BaseView) → slice_get w.nodes k ≡ Some (Base b) → (e : ℕ) (p : PartView) → table.get b.parts e ≡ Some p →
-    may_show p.proxy ≡ true
-
--- no client was shown a line with a greater number than n
-abbrev pub ShownAtMost : ℕ → World → Type 0
-ShownAtMost n w =
-    (k : ℕ) (b : BaseView) → slice_get w.nodes k ≡ Some (Base b) → (e : ℕ) (p : PartView) → table.get b.parts e ≡ Some p →
-    (x : ProxyView) → p.proxy ≡ Some x → x.last ≤ n
+    proxy_is_ready p.proxy ≡ true → may_show p.proxy ≡ true
 
 -- the fact holds over every list of events from w
 abbrev pub Always : (World → Type 0) → World → Type 0

@@ -1,6 +1,6 @@
 //! The laws, each on a function that does nothing.
 
-ghost use Rattle.std.specs.Prelude.{◌≡◌, ℕ, ◌+◌, ◌*◌, ◌<◌, ◌≤◌, true, false, List, [], length};
+ghost use Rattle.std.specs.Prelude.{◌≡◌, ℕ, ◌+◌, ◌*◌, ◌≤◌, true, false, List, [], length};
 ghost use Rattle.std.specs.List.{AllByRecursion, range_with_len};
 ghost use Rattle.seam_machine.specs.Nets.{link, enabled, IsQuiet, LeadsTo};
 ghost use Rattle.seam_machine.specs.Totals.{total};
@@ -11,7 +11,6 @@ ghost use Rattle.seam_call.specs.declared.order.Batch.{Batch};
 ghost use Rattle.seam_steps.specs.Nodes.{World, node_steps, node_has_work};
 ghost use Rattle.seam_steps.specs.Loads.{opened, loaded, reaps_loaded, look_loaded};
 ghost use Rattle.seam_entity.specs.Here.{cell_count};
-ghost use Rattle.seam_entity.specs.Numbers.{limit};
 ghost use Rattle.seam_moves.specs.Frames.{Frame, IsInFrame};
 ghost use Rattle.seam_between.specs.Between.{IsBetweenRounds};
 ghost use Rattle.seam_rounds.specs.Rounds.{first_frame, AreReapable};
@@ -24,7 +23,7 @@ ghost use Rattle.seam_measure.specs.Weights.{Sizes, world_weight};
 ghost use Rattle.seam_measure.specs.Events.{is_pass, NodeCan, AllCan, all_passes};
 ghost use Rattle.seam_base_calls.specs.Clients.{is_tick_order};
 ghost use Rattle.seam_base_rounds.specs.Parts.{MayBeLoaded, HasPartsBetweenRounds, HasSmallNumbers};
-ghost use Rattle.seam_measure.specs.Looking.{LooksFit, ClientsKeepRoom, Always, ShownAtMost, SeesWhatIsThere, LooksAmong};
+ghost use Rattle.seam_measure.specs.Looking.{LooksFit, ClientsKeepRoom, Always, SeesWhatIsThere, LooksAmong};
 ghost use Rattle.seam_measure.specs.Phases.{HoldsNothing, entities, all_witnesses, cell_orders, base_orders, tick_orders};
 ghost use Rattle.seam_measure.specs.Phases.{events_of_round, events_of_looks};
 
@@ -85,22 +84,15 @@ pub fn nothing_held_goes_from_record_to_record()
         (vs : List Event) (v : World) → LeadsTo node_has_work node_steps (look_loaded u) vs v → IsQuiet node_has_work v → HoldsNothing v }
 {}
 
-/// Where the witnesses of such a world look, those of `ws k` in cell k, no list of events is longer than the table says, where reals,
-/// copies and views are of the entities of a list, and it has the record of base parts and clients, with small numbers (`records`), or the
-/// numbers of the lines that clients were shown have room for as many more (`bound`); then each client's next line always has a number.
+/// Where the witnesses of such a world look, those of `ws k` in cell k, and it has the record of base parts and clients, with small numbers,
+/// no list of events is longer than the table says, where reals, copies and views are of the entities of a list (`bound`). No client runs out
+/// of numbers for its lines (`clients`).
 pub fn looks_end()
-    ensures records { (f : Frame) (u : World) → IsBetweenRounds f u → HasPartsBetweenRounds f u → HasSmallNumbers f u → HoldsNothing u →
+    ensures bound { (f : Frame) (u : World) → IsBetweenRounds f u → HasPartsBetweenRounds f u → HasSmallNumbers f u → HoldsNothing u →
         (us : List ℕ) (ws : ℕ → List ℕ) → LooksAmong us ws u → (vs : List Event) (v : World) →
         LeadsTo node_has_work node_steps (look_loaded u) vs v →
         length vs ≤ events_of_looks (length us) (total (λ k. length (ws k)) (range_with_len 0 cell_count)) }
-    ensures bound { (f : Frame) (u : World) → IsBetweenRounds f u → HoldsNothing u → (us : List ℕ) (ws : ℕ → List ℕ) → LooksAmong us ws u →
-        (last : ℕ) → ShownAtMost last u →
-        last + events_of_looks (length us) (total (λ k. length (ws k)) (range_with_len 0 cell_count)) + 1 < limit → (vs : List Event)
-        (v : World) → LeadsTo node_has_work node_steps (look_loaded u) vs v →
-        length vs ≤ events_of_looks (length us) (total (λ k. length (ws k)) (range_with_len 0 cell_count)) }
-    ensures clients { (f : Frame) (u : World) → IsBetweenRounds f u → HoldsNothing u → (us : List ℕ) (ws : ℕ → List ℕ) →
-        LooksAmong us ws u → (last : ℕ) → ShownAtMost last u →
-        last + events_of_looks (length us) (total (λ k. length (ws k)) (range_with_len 0 cell_count)) + 1 < limit →
+    ensures clients { (f : Frame) (u : World) → IsBetweenRounds f u → HasPartsBetweenRounds f u → HasSmallNumbers f u → HoldsNothing u →
         Always ClientsKeepRoom (look_loaded u) }
 {}
 
@@ -122,12 +114,10 @@ pub fn a_longest_run_is_quiet()
         LeadsTo node_has_work node_steps w es v → n ≤ length es → IsQuiet node_has_work v }
 {}
 
-/// What these laws ask is true of an opened world (`among`, `clients`), and of it with a batch that creates an entity and has
+/// What these laws ask is true of an opened world (`among`), and of it with a batch that creates an entity and has
 /// calls to its base part (`first`; `MayBeLoaded` of it is a law of `seam_base_rounds`).
 pub fn an_opened_world_has_what_the_laws_ask()
     ensures among { (defs : List TypeDef) (settings : Settings) → IsFrame (first_frame defs settings) → 1 ≤ settings.bases →
         LooksAmong [] (λ k. []) (opened defs settings) }
-    ensures clients { (defs : List TypeDef) (settings : Settings) → IsFrame (first_frame defs settings) → 1 ≤ settings.bases →
-        ShownAtMost 0 (opened defs settings) }
     ensures first { AllByRecursion (λ o. is_tick_order o.1 ≡ false) first_batch.orders }
 {}
