@@ -380,16 +380,25 @@ module _ (f : Frame) (u : World) (between : IsBetweenRounds f u) (parts : HasPar
       few_left = omega arith;
     }
 
+    pub look_settles : HasSettledPart f e r.ty v
+    look_settles =
+        settles f u between parts small (ordered_at tick) in_looks look_cells look_parts v vs run e home r here 48 looks_given
+        (looking.calm f u between e home r here)
+
     look_settled : (k : ℕ) (q : RealView) → real_in ((entity_flow e v).slot k) ≡ Some q → HasSettledPart f e q.ty v
     look_settled k q at =
-        subst (λ t. HasSettledPart f e t v) (same_type r q ((looked.nodes k).real q at).1)
-        (settles f u between parts small (ordered_at tick) in_looks look_cells look_parts v vs run e home r here 48 looks_given
-        (looking.calm f u between e home r here))
+        subst (λ t. HasSettledPart f e t v) (same_type r q ((looked.nodes k).real q at).1) look_settles
 
     pub look_finds : (a k : ℕ) (m : UpdateData) (ms : List Msg) → (entity_flow e v).mail a k ≡ Update m ∷ ms →
         FindsClient f e k ((entity_flow e v).slot k).base m
     look_finds =
         finds_it f u between parts small (ordered_at tick) in_looks look_cells look_parts v vs run e home r here 48 looks_given
+        (looking.calm f u between e home r here)
+
+    -- its client has numbers for all that its witness tells
+    pub look_numbers : HasNumbers e (sent_by r + most_told) (look_loaded u) v
+    look_numbers =
+        numbers f u between parts small (ordered_at tick) in_looks look_cells look_parts v vs run e home r here 48 looks_given
         (looking.calm f u between e home r here)
 
     pub look_serves : IsServed f e r.ty v

@@ -42,7 +42,7 @@ module _ (h : Here) (p : PartView) (none : part_weight p ≡ 0) where
   pub none_is_ready : has_ready p.orders ≡ true → ⊥
   none_is_ready ready = let less = after_ready_weighs h p (ready_order p.orders) refl ready in omega (arith, less, none)
 
-  none_is_shown : proxy_is_ready p.proxy ≡ true → ⊥
+  pub none_is_shown : proxy_is_ready p.proxy ≡ true → ⊥
   none_is_shown ready = let less = showing_weighs p p.proxy refl ready in omega (arith, less, none)
 
 pub base_can : (b : BaseView) → ((o : Order) (os : List Order) → b.orders ≡ o ∷ os → stray_order b o ≡ false) →

@@ -26,5 +26,6 @@ mod AmongSlots
 pub mod Among
 mod LookStarts
 mod Opening
-mod ClientLines
 mod Nothing
+mod There
+mod LookRecords

@@ -1,12 +1,12 @@
 -- The phase of looks ends.
 use Rattle.std.proofs.Common.{◌≡◌, ℕ, zero, suc, ◌+◌, ◌*◌, ◌≤◌, Bool, true, false, cond, List, [], ◌∷◌, length, Option, None, Some, refl}
-use Rattle.std.proofs.Common.{sym, ◌<◌, ◌++◌}
+use Rattle.std.proofs.Common.{sym}
 use Rattle.std.proofs.Common.{ap, ◌∙◌, subst, arith}
-use Rattle.std.specs.Prelude.{not, slice_get, nat_lt}
+use Rattle.std.specs.Prelude.{not, slice_get}
 use Rattle.std.specs.List.{AllByRecursion, range_with_len}
 use Rattle.std.specs.FinMap as table
 use Rattle.std.proofs.lemmas.Option.{slice_get-map}
-use Rattle.seam_machine.specs.Nets.{link, LeadsTo, happens, enabled}
+use Rattle.seam_machine.specs.Nets.{link, LeadsTo}
 use Rattle.seam_machine.specs.Events.{EachNode}
 use Rattle.seam_machine.specs.Totals.{total}
 use Rattle.seam_machine.specs.declared.machines.Event.{Event}
@@ -23,11 +23,11 @@ use Rattle.seam_entity.specs.Here.{cell_count}
 use Rattle.seam_entity.specs.declared.message.Msg.{Msg}
 use Rattle.seam_entity.specs.declared.message.Msg.TheVariants.{Call}
 use Rattle.seam_steps.specs.Cells.{CellView}
-use Rattle.seam_steps.specs.Bases.{BaseView, PartView, ProxyView}
-use Rattle.seam_steps.specs.BaseCases.{stray_order, may_show}
+use Rattle.seam_steps.specs.Bases.{BaseView, PartView}
+use Rattle.seam_steps.specs.BaseCases.{stray_order}
 use Rattle.seam_steps.specs.Nodes.{NodeView, World, node_steps, node_has_work}
 use Rattle.seam_steps.specs.Nodes.NodeView.{Cell, Base}
-use Rattle.seam_steps.specs.Loads.{ordered_at, look_loaded, order_if}
+use Rattle.seam_steps.specs.Loads.{ordered_at, look_loaded}
 use Rattle.seam_moves.specs.Frames.{Frame, IsInFrame}
 use Rattle.seam_moves.specs.Sights.{mine, order_concerns, orders_of, has_of, has_none, entity_flow}
 use Rattle.seam_between.specs.Between.{IsBetweenRounds}
@@ -41,20 +41,14 @@ use Rattle.seam_base_calls.specs.PartMoves.{base_call_in, base_call_of, calls_or
 use Rattle.seam_base_calls.proofs.WitnessKept.{all_weaker}
 use Rattle.seam_measure.specs.Weights.{Sizes, look_weight, tick_weight, part_weight, world_weight}
 use Rattle.seam_measure.specs.Events.{BaseCan, AllCan, is_pass}
-use Rattle.seam_measure.specs.Looking.{LooksFit, ClientsKeepRoom, Always, ShownAtMost}
+use Rattle.seam_measure.specs.Looking.{LooksFit, ClientsKeepRoom, Always}
 use Rattle.seam_measure.specs.Phases.{HoldsNothing, events_of_looks}
 use Rattle.seam_measure.proofs.Bare.{part_calls, IsUncalled, uncalled_leads}
 use Rattle.seam_measure.proofs.Batched.{OrderIs, calls_are}
-use Rattle.seam_measure.proofs.ClientLines.{BaseShown, event_shows}
-use Rattle.seam_entity.specs.Numbers.{limit}
-use Rattle.std.proofs.lemmas.Bool.Decides.{nat_tests}
-use Rattle.std.proofs.lemmas.List.{length-append}
-use Rattle.seam_machine.proofs.Occurring.{occurs}
-use Rattle.seam_runs.proofs.Runs.{leads_nowhere, leads_extend, leads_keeps}
 use Rattle.seam_measure.proofs.Cans.{none_is_ready, can_look}
 use Rattle.seam_measure.proofs.Given.{orders_add}
 use Rattle.seam_measure.proofs.LoadedNodes.{IsBlank, idle_blank, plain_by, blank_is_plain}
-use Rattle.seam_measure.proofs.NetWeights.{run_ends, event_lowers}
+use Rattle.seam_measure.proofs.NetWeights.{run_ends}
 use Rattle.seam_measure.proofs.NoPasses.{no_pass_by, passes_none}
 use Rattle.seam_measure.proofs.Ordered.{OrdersAre, orders_lead}
 use Rattle.seam_measure.proofs.QuietWeights.{empty_links, quiet_weighs}
@@ -174,7 +168,7 @@ module _ (f : Frame) (u : World) (between : IsBetweenRounds f u) (none : HoldsNo
       orders = λ o os is.
           tick_is_free b o (subst (AllByRecursion IsTickOrder) is (orders_lead IsTickOrder start v vs orders_start run k (Base b) node)).0;
       parts = λ e p at ready. absurd (part_by k b node e p at ready);
-      clients = λ e p at ready. client k b node e p at;
+      clients = λ e p at ready. client k b node e p at ready;
     }
 
     allowed : (x : Bool) → not x ≡ false → x ≡ true
@@ -196,10 +190,9 @@ module _ (f : Frame) (u : World) (between : IsBetweenRounds f u) (none : HoldsNo
     no_pass : (x : Event) → is_pass v x ≡ false
     no_pass x = no_pass_by v x (λ a c ms at. no_call_comes a x.node c ms at)
 
-  -- ---- how long the phase is, where clients were shown at most `last` lines at its start
+  -- ---- how long the phase is
 
-  module _ (n : ℕ) (wits : ℕ → ℕ) (few : Always (LooksFit (sizes_of_looks f n wits)) start) (last : ℕ) (shown : ShownAtMost last u)
-      (room : last + events_of_looks n (total wits (range_with_len 0 cell_count)) + 1 < limit) where
+  module _ (n : ℕ) (wits : ℕ → ℕ) (few : Always (LooksFit (sizes_of_looks f n wits)) start) where
     abbrev z : Sizes
     z = sizes_of_looks f n wits
 
@@ -213,85 +206,16 @@ module _ (f : Frame) (u : World) (between : IsBetweenRounds f u) (none : HoldsNo
         let sum = ticks_sum z 0 cell_count in
         omega (arith, at_start, quiet, sum)
 
-    -- a world that is reached: as many events as happened the weight fell at least, and no client was shown more lines
-    record Counted (v : World) : Type 0 where
-      events : List Event
-      run : LeadsTo node_has_work node_steps start events v
-      falls : length events + world_weight z v ≤ world_weight z start
-      lines : ShownAtMost (last + length events) v
+    -- where each client keeps room
+    module _ (shows : Always ClientsKeepRoom start) where
+      can : AllCan z start
+      can v vs run x o =
+          can_look z f v (omega arith) (frame_then vs v run) (few v vs run) (cell_then vs v run)
+          (base_then vs v run (shows v vs run)) x.node o.node o.input o.is_node
 
-    keeps_room : (v : World) → Counted v → ClientsKeepRoom v
-    keeps_room v h k b node e p at = by p.proxy refl
-      where
-        small : (m : ℕ) → m < limit → nat_lt m limit ≡ true
-        small m lt = grind (arith, nat_tests)
-
-        by : (o : Option ProxyView) → p.proxy ≡ o → may_show o ≡ true
-        by None has = refl
-        by (Some x) has =
-            let line = h.lines k b node e p at x has in
-            let fall = h.falls in
-            let weight = start_weighs in
-            small (x.last + 1) (omega (arith, line, fall, weight, room))
-
-    counted_more : (v : World) (x : Event) → Counted v → enabled node_has_work v x ≡ true → Counted (happens node_steps v x)
-    counted_more v x h on =
-        let o = occurs node_has_work v x on in
-        let frame = frame_then h.events v h.run in
-        let can =
-        can_look z f v (omega arith) frame (few v h.events h.run) (cell_then h.events v h.run)
-        (base_then h.events v h.run (keeps_room v h)) x.node o.node o.input o.is_node in
-        let lower = event_lowers z f v x o frame can on in
-        let pass = ap (λ b. cond {A = ℕ} b 1 0) (no_pass h.events v h.run x) in
-        let fall = h.falls in
-        let longer = length-append h.events (x ∷ []) in
-        let more : last + length h.events + 1 ≡ last + length (h.events ++ x ∷ []) = omega (arith, longer) in
-        record {
-          events = h.events ++ x ∷ [];
-          run = leads_extend node_has_work node_steps start v h.events x h.run on;
-          falls = omega (arith, lower, pass, fall, longer);
-          lines =
-              subst (λ m. ShownAtMost m (happens node_steps v x)) more (event_shows (last + length h.events) v x o h.lines);
-        }
-
-    counted_start : Counted start
-    counted_start = record {
-      events = [];
-      run = leads_nowhere node_has_work node_steps start;
-      falls = omega arith;
-      lines = shown_start;
-    }
-      where
-        node_lines : (s : NodeView) → ((b : BaseView) → s ≡ Base b → BaseShown (last + 0) b) → (b : BaseView) →
-            ordered_at tick s ≡ Base b → BaseShown (last + 0) b
-        node_lines (Cell c) h b is = cc
-        node_lines (Base d) h b is = by _ is
-          where
-            by : (t : Bool) → Base (order_if t d tick.1) ≡ Base b → BaseShown (last + 0) b
-            by true same = let one : record d { orders = d.orders ++ tick.1 ∷ [] } ≡ b = cc in subst (BaseShown (last + 0)) one (h d refl)
-            by false same = let one : d ≡ b = cc in subst (BaseShown (last + 0)) one (h d refl)
-
-        plain : last + 0 ≡ last
-        plain = omega arith
-
-        shown_start : ShownAtMost (last + 0) start
-        shown_start k b at e p there x has =
-            let was = node_there (slice_get u.nodes k) (ordered_at tick) (Base b) (sym (slice_get-map (ordered_at tick) u.nodes k) ∙ at) in
-            node_lines was.0
-            (λ d is q y seen z its. let line = shown k d (was.1 ∙ ap Some is) q y seen z its in omega (arith, line)) b was.2 e p there x has
-
-    pub clients_always : Always ClientsKeepRoom start
-    clients_always v vs run =
-        keeps_room v (leads_keeps node_has_work node_steps Counted counted_more start v vs counted_start run)
-
-    can : AllCan z start
-    can v vs run x o =
-        can_look z f v (omega arith) (frame_then vs v run) (few v vs run) (cell_then vs v run)
-        (base_then vs v run (clients_always v vs run)) x.node o.node o.input o.is_node
-
-    pub looks_end : (vs : List Event) (v : World) → LeadsTo node_has_work node_steps start vs v → length vs ≤ most
-    looks_end vs v run =
-        let long = run_ends z f start frame_start can v vs run in
-        let passed = passes_none start (λ x ds on. no_pass ds x on) vs run.each in
-        let weighs = start_weighs in
-        omega (arith, long, passed, weighs)
+      pub looks_end : (vs : List Event) (v : World) → LeadsTo node_has_work node_steps start vs v → length vs ≤ most
+      looks_end vs v run =
+          let long = run_ends z f start frame_start can v vs run in
+          let passed = passes_none start (λ x ds on. no_pass ds x on) vs run.each in
+          let weighs = start_weighs in
+          omega (arith, long, passed, weighs)

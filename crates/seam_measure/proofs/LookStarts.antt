@@ -1,22 +1,19 @@
 -- The bounds of a round with ticks and of looks, by what there is to look at where they begin.
-use Rattle.std.proofs.Common.{[], ◌∷◌, ◌≡◌, ℕ, ◌+◌, ◌≤◌, ◌⊎◌, List, length, Option, None, Some, refl, sym}
-use Rattle.std.proofs.Common.{ap, ◌∙◌, subst, arith, inl, inr, ◌<◌}
+use Rattle.std.proofs.Common.{[], ◌∷◌, ◌≡◌, ℕ, ◌≤◌, ◌⊎◌, List, length, Option, None, Some, refl, sym}
+use Rattle.std.proofs.Common.{ap, ◌∙◌, subst, arith, inl, inr}
 use Rattle.std.specs.Prelude.{Bool, true, false, slice_get}
-use Rattle.std.specs.List.{AllByRecursion, range_with_len}
+use Rattle.std.specs.List.{AllByRecursion}
 use Rattle.std.specs.FinMap as table
 use Rattle.std.proofs.lemmas.Bool.{cases_eq}
 use Rattle.std.proofs.lemmas.Option.{slice_get-map}
 use Rattle.seam_machine.proofs.Quiet.{quiet_links}
 use Rattle.seam_ones.proofs.Counting.{counted_none, none_counts}
 use Rattle.seam_machine.specs.Nets.{happens, enabled, LeadsTo}
-use Rattle.seam_machine.specs.Totals.{total}
 use Rattle.seam_machine.specs.declared.machines.Event.{Event}
 use Rattle.seam_machine.proofs.Occurring.{occurs}
 use Rattle.seam_runs.proofs.Runs.{leads_keeps}
 use Rattle.seam_flows.specs.Flows.{slot_at, letters_of}
 use Rattle.seam_call.specs.declared.order.Batch.{Batch}
-use Rattle.seam_entity.specs.Numbers.{limit}
-use Rattle.seam_entity.specs.Here.{cell_count}
 use Rattle.seam_entity.specs.Reals.{RealView, WitnessView}
 use Rattle.seam_steps.specs.Cells.{CellView}
 use Rattle.seam_steps.specs.Nodes.{NodeView, World, node_steps, node_has_work}
@@ -39,12 +36,11 @@ use Rattle.seam_rounds.proofs.Phases.{calm_leads}
 use Rattle.seam_base_calls.specs.Clients.{EachReal}
 use Rattle.seam_base_calls.proofs.WitnessKept.{each_happens}
 use Rattle.seam_base_rounds.specs.Parts.{MayBeLoaded}
-use Rattle.seam_measure.specs.Looking.{LooksFit, ClientsKeepRoom, Always, is_among, LooksAmong, ShownAtMost}
+use Rattle.seam_measure.specs.Looking.{LooksFit, Always, is_among, LooksAmong}
 use Rattle.seam_measure.specs.Phases.{HoldsNothing, entities, cell_orders, base_orders, tick_orders, events_of_round}
-use Rattle.seam_measure.specs.Phases.{events_of_looks}
 use Rattle.seam_measure.proofs.Among.{always_among}
 use Rattle.seam_measure.proofs.LookCounts.{looks_fit}
-use Rattle.seam_measure.proofs.LookPhase.{frame_start, empty_start, looks_end, clients_always}
+use Rattle.seam_measure.proofs.LookPhase.{frame_start, empty_start}
 use Rattle.seam_measure.proofs.RoundPhase.{g}
 use Rattle.seam_measure.proofs.RoundPhase as round
 use Rattle.seam_measure.proofs.RoundTicks.{sizes_of_round, round_ends}
@@ -92,7 +88,7 @@ no_real_then f u between v vs run e n k q at =
     cc
 
 -- a real that an entity's flow shows is in the cell
-in_cell : (w : World) (e k : ℕ) (r : RealView) → real_in ((entity_flow e w).slot k) ≡ Some r →
+pub in_cell : (w : World) (e k : ℕ) (r : RealView) → real_in ((entity_flow e w).slot k) ≡ Some r →
     (c : CellView) × (slice_get w.nodes k ≡ Some (Cell c)) × (table.get c.reals e ≡ Some r)
 in_cell w e k r at = by (slice_get w.nodes k) refl at
   where
@@ -202,7 +198,7 @@ module _ (f : Frame) (u : World) (between : IsBetweenRounds f u) (none : HoldsNo
       gone_by : Nowhere e u → ⊥
       gone_by n = no_real_then f u between v vs run e n k q at
 
-  looks_among : Always (LooksAmong us ws) start
+  pub looks_among : Always (LooksAmong us ws) start
   looks_among v vs run =
       let views = always_among us us f start (frame_start f u between none) (empty_start f u between none) among_start v vs run in
       record {
@@ -212,21 +208,6 @@ module _ (f : Frame) (u : World) (between : IsBetweenRounds f u) (none : HoldsNo
         witnesses = λ k c at e r x there has.
             among_then v vs run k e r x (ap (λ o. real_in (slot_at (has_of e) has_none o)) at ∙ there) has (search_real e u);
       }
-
-  pub looks_are_bounded : (last : ℕ) → ShownAtMost last u →
-      last + events_of_looks (length us) (total (λ k. length (ws k)) (range_with_len 0 cell_count)) + 1 < limit → (vs : List Event)
-      (v : World) → LeadsTo node_has_work node_steps start vs v →
-      length vs ≤ events_of_looks (length us) (total (λ k. length (ws k)) (range_with_len 0 cell_count))
-  looks_are_bounded last shown room vs v run =
-      looks_end f u between none (length us) (λ k. length (ws k)) (λ x ds on. looks_fit us ws f.settings.bases x (looks_among x ds on)) last
-      shown room vs v run
-
-  pub clients_keep_room : (last : ℕ) → ShownAtMost last u →
-      last + events_of_looks (length us) (total (λ k. length (ws k)) (range_with_len 0 cell_count)) + 1 < limit →
-      Always ClientsKeepRoom start
-  clients_keep_room last shown room =
-      clients_always f u between none (length us) (λ k. length (ws k))
-      (λ x ds on. looks_fit us ws f.settings.bases x (looks_among x ds on)) last shown room
 
 -- ---- reaps bring no more
 

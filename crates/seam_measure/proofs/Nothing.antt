@@ -1,6 +1,5 @@
 -- A world that holds nothing, and has both records between rounds, holds nothing again at the end of each phase.
 use Rattle.std.proofs.Common.{◌≡◌, ℕ, ◌⊎◌, List, [], length, Option, None, Some, refl, sym, ap, ◌∙◌, subst, arith, inl, inr}
-use Rattle.std.specs.Prelude.{slice_get}
 use Rattle.std.specs.FinMap as table
 use Rattle.std.proofs.lemmas.Bool.{cases_eq}
 use Rattle.seam_machine.specs.Nets.{IsQuiet, LeadsTo}
@@ -12,9 +11,8 @@ use Rattle.seam_call.specs.declared.order.Batch.{Batch}
 use Rattle.seam_entity.specs.Orders.{order_or}
 use Rattle.seam_entity.specs.Reals.{RealView, WitnessView}
 use Rattle.seam_steps.specs.Holders.{holders}
-use Rattle.seam_steps.specs.Bases.{BaseView, PartView, ProxyView}
+use Rattle.seam_steps.specs.Bases.{PartView, ProxyView}
 use Rattle.seam_steps.specs.Nodes.{World, node_steps, node_has_work}
-use Rattle.seam_steps.specs.Nodes.NodeView.{Base}
 use Rattle.seam_steps.specs.Loads.{loaded, look_loaded}
 use Rattle.seam_moves.specs.Frames.{Frame}
 use Rattle.seam_moves.specs.Sights.{mine, has_of, has_none, entity_flow}
@@ -94,6 +92,12 @@ module _ (f : Frame) (w : World) (b : Batch) (may : MayBeLoaded f w b) (none : H
 
 -- ---- after looks
 
+pub idle_in_looks : (f : Frame) (u : World) (between : IsBetweenRounds f u) → HoldsNothing u → (vs : List Event) (v : World) →
+    LeadsTo node_has_work node_steps (look_loaded u) vs v → (e : ℕ) → Nowhere e u → IsIdle f e v
+idle_in_looks f u between none vs v run e n =
+    idle_leads f e (look_loaded u) v vs
+    (record { unknown = unknown_look f u between e n; parts = parts_none IsTickOrder (look_loaded u) (plain_start f u between none) e }) run
+
 module _ (f : Frame) (u : World) (between : IsBetweenRounds f u) (parts : HasPartsBetweenRounds f u) (small : HasSmallNumbers f u)
     (none : HoldsNothing u) (vs : List Event) (v : World) (run : LeadsTo node_has_work node_steps (look_loaded u) vs v)
     (quiet : IsQuiet node_has_work v) where
@@ -105,9 +109,7 @@ module _ (f : Frame) (u : World) (between : IsBetweenRounds f u) (parts : HasPar
       absurd (not_nowhere f v (look_ends_between f u between vs v run quiet) e
       (look_keeps f u between vs v run e (one_holder f u e p.0 p.1 (between.settled e p.0 p.1 p.2) (still e))) n)
   looks_gone e n (inr m) k =
-      (idle_leads f e (look_loaded u) v vs
-      (record { unknown = unknown_look f u between e m; parts = parts_none IsTickOrder (look_loaded u) (plain_start f u between none) e })
-      run).parts k
+      (idle_in_looks f u between none vs v run e m).parts k
 
   pub looks_end_nothing : HoldsNothing v
   looks_end_nothing =

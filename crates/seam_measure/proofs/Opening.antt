@@ -19,7 +19,7 @@ use Rattle.seam_rounds.specs.Rounds.{first_frame}
 use Rattle.seam_rounds.proofs.Opened.{opened_is_new}
 use Rattle.seam_base_calls.specs.Clients.{is_tick_order}
 use Rattle.seam_base_rounds.specs.Example.{first_batch}
-use Rattle.seam_measure.specs.Looking.{LooksAmong, ShownAtMost}
+use Rattle.seam_measure.specs.Looking.{LooksAmong}
 use Rattle.seam_measure.specs.Phases.{HoldsNothing}
 
 module _ (defs : List TypeDef) (settings : Settings) (frame : IsFrame (first_frame defs settings)) (bases : 1 ≤ settings.bases) where
@@ -47,9 +47,6 @@ module _ (defs : List TypeDef) (settings : Settings) (frame : IsFrame (first_fra
     views = λ k c at e r x there has. absurd (no_real k c at e r there);
     witnesses = λ k c at e r x there has. absurd (no_real k c at e r there);
   }
-
-  pub opened_clients : ShownAtMost 0 w
-  opened_clients k b at e p there x has = absurd (no_part k b at e p there)
 
 -- ---- a first batch
 

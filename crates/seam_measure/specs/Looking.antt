@@ -9,12 +9,15 @@ use Rattle.seam_ghosts.specs.Book.{copy_in}
 use Rattle.seam_view.specs.Replica.{IsView}
 use Rattle.seam_call.specs.declared.shown.GhostCopy.{GhostCopy}
 use Rattle.seam_entity.specs.Reals.{RealView, WitnessView}
+use Rattle.seam_steps.specs.Holders.{holders}
 use Rattle.seam_steps.specs.Looks.{looks_of}
 use Rattle.seam_steps.specs.Cells.{CellView, known_to, witnesses}
-use Rattle.seam_steps.specs.Bases.{BaseView, PartView, ProxyView}
-use Rattle.seam_steps.specs.BaseCases.{may_show}
+use Rattle.seam_steps.specs.Bases.{BaseView, PartView}
+use Rattle.seam_steps.specs.BaseCases.{proxy_is_ready, may_show}
 use Rattle.seam_steps.specs.Nodes.{World, node_steps, node_has_work}
 use Rattle.seam_steps.specs.Nodes.NodeView.{Cell, Base}
+use Rattle.seam_moves.specs.Sights.{entity_flow}
+use Rattle.seam_ones.specs.Ones.{real_in}
 use Rattle.seam_measure.specs.Weights.{Sizes}
 
 -- the look that is due next in a cell has no more lines for other entities, and the cell has no more witnesses, than there are
@@ -23,23 +26,23 @@ pub record LooksFit (z : Sizes) (w : World) : Type 0 where
       c.looks ≡ e ∷ es → table.get c.reals e ≡ Some r → r.witness ≡ Some x → length (looks_of r x (known_to c e)) ≤ z.lines
   pub witnesses : (k : ℕ) (c : CellView) → slice_get w.nodes k ≡ Some (Cell c) → length (witnesses c) ≤ z.witnesses k
 
--- each client's next line has a number
+-- each client that has a ready update may be shown it: its next line has a number
 abbrev pub ClientsKeepRoom : World → Type 0
 ClientsKeepRoom w =
     (k : ℕ) (b : BaseView) → slice_get w.nodes k ≡ Some (Base b) → (e : ℕ) (p : PartView) → table.get b.parts e ≡ Some p →
-    may_show p.proxy ≡ true
-
--- no client was shown a line with a greater number than n
-abbrev pub ShownAtMost : ℕ → World → Type 0
-ShownAtMost n w =
-    (k : ℕ) (b : BaseView) → slice_get w.nodes k ≡ Some (Base b) → (e : ℕ) (p : PartView) → table.get b.parts e ≡ Some p →
-    (x : ProxyView) → p.proxy ≡ Some x → x.last ≤ n
+    proxy_is_ready p.proxy ≡ true → may_show p.proxy ≡ true
 
 -- the fact holds over every list of events from w
 abbrev pub Always : (World → Type 0) → World → Type 0
 Always P w = (v : World) (es : List Event) → LeadsTo node_has_work node_steps w es v → P v
 
 -- ---- what a world has to look at
+
+-- each entity that a witness has in view has a holder
+abbrev pub SeesWhatIsThere : World → Type 0
+SeesWhatIsThere w =
+    (e k : ℕ) (r : RealView) → real_in ((entity_flow e w).slot k) ≡ Some r → (x : WitnessView) → r.witness ≡ Some x →
+    AllByRecursion (λ p. holders w p.0 ≡ 1) x.view.entries
 
 abbrev pub is_among : List ℕ → ℕ → Bool
 is_among es e = list_any (nat_eq e) es

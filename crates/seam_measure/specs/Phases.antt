@@ -5,6 +5,7 @@ use Rattle.seam_machine.specs.Totals.{total}
 use Rattle.seam_call.specs.declared.order.Order.{Order}
 use Rattle.seam_call.specs.declared.order.Order.TheVariants as order
 use Rattle.seam_call.specs.declared.order.Batch.{Batch}
+use Rattle.seam_steps.specs.Cells.{witnesses}
 use Rattle.seam_steps.specs.Bases.{BaseView, PartView}
 use Rattle.seam_steps.specs.Nodes.{NodeView, World}
 use Rattle.seam_steps.specs.Nodes.NodeView.{Cell, Base}
@@ -25,6 +26,15 @@ reals_at (Base b) = 0
 -- how many entities a world has whose reals are all in cells, as they are where a round begins
 abbrev pub entities : World → ℕ
 entities w = total reals_at w.nodes
+
+-- how many of a cell's reals have a witness
+abbrev pub witnesses_at : NodeView → ℕ
+witnesses_at (Cell c) = length (witnesses c)
+witnesses_at (Base b) = 0
+
+-- how many of a world's entities have one
+abbrev pub all_witnesses : World → ℕ
+all_witnesses w = total witnesses_at w.nodes
 
 abbrev pub one_if_cell : Order → ℕ
 one_if_cell (order.Cell k) = 1

@@ -1,6 +1,6 @@
 //! The laws, each on a function that does nothing.
 
-ghost use Rattle.std.specs.Prelude.{◌≡◌, ℕ, ◌+◌, ◌*◌, ◌<◌, ◌≤◌, true, false, List, [], length};
+ghost use Rattle.std.specs.Prelude.{◌≡◌, ℕ, ◌+◌, ◌*◌, ◌≤◌, true, false, List, [], length};
 ghost use Rattle.std.specs.List.{AllByRecursion, range_with_len};
 ghost use Rattle.seam_machine.specs.Nets.{link, enabled, IsQuiet, LeadsTo};
 ghost use Rattle.seam_machine.specs.Totals.{total};
@@ -11,20 +11,20 @@ ghost use Rattle.seam_call.specs.declared.order.Batch.{Batch};
 ghost use Rattle.seam_steps.specs.Nodes.{World, node_steps, node_has_work};
 ghost use Rattle.seam_steps.specs.Loads.{opened, loaded, reaps_loaded, look_loaded};
 ghost use Rattle.seam_entity.specs.Here.{cell_count};
-ghost use Rattle.seam_entity.specs.Numbers.{limit};
 ghost use Rattle.seam_moves.specs.Frames.{Frame, IsInFrame};
 ghost use Rattle.seam_between.specs.Between.{IsBetweenRounds};
 ghost use Rattle.seam_rounds.specs.Rounds.{first_frame, AreReapable};
 ghost use Rattle.seam_ones.specs.Ones.{IsFrame};
 ghost use Rattle.seam_defs.specs.declared.settings.Settings.{Settings};
 ghost use Rattle.seam_defs.specs.declared.types.TypeDef.{TypeDef};
+ghost use Rattle.seam_newest.specs.Copies.{AreCopiesBetweenRounds};
 ghost use Rattle.seam_base_rounds.specs.Example.{first_batch};
 ghost use Rattle.seam_measure.specs.Weights.{Sizes, world_weight};
 ghost use Rattle.seam_measure.specs.Events.{is_pass, NodeCan, AllCan, all_passes};
 ghost use Rattle.seam_base_calls.specs.Clients.{is_tick_order};
 ghost use Rattle.seam_base_rounds.specs.Parts.{MayBeLoaded, HasPartsBetweenRounds, HasSmallNumbers};
-ghost use Rattle.seam_measure.specs.Looking.{LooksFit, ClientsKeepRoom, Always, ShownAtMost, LooksAmong};
-ghost use Rattle.seam_measure.specs.Phases.{HoldsNothing, entities, cell_orders, base_orders, tick_orders};
+ghost use Rattle.seam_measure.specs.Looking.{LooksFit, ClientsKeepRoom, Always, SeesWhatIsThere, LooksAmong};
+ghost use Rattle.seam_measure.specs.Phases.{HoldsNothing, entities, all_witnesses, cell_orders, base_orders, tick_orders};
 ghost use Rattle.seam_measure.specs.Phases.{events_of_round, events_of_looks};
 
 /// An enabled event whose node can do what it is to do lowers the weight of the world, but for one that passes a call on, which does not
@@ -40,10 +40,15 @@ pub fn a_run_is_no_longer_than_its_start_weighs()
         LeadsTo node_has_work node_steps w es v → length es + world_weight z v ≤ world_weight z w + all_passes w es }
 {}
 
-/// A round is no longer than its table says, over every list of events, where the loaded world has no reals, copies and views but of entities
-/// of a list that is no longer than there are entities, and no witnesses but those of `ws`.
+/// A round is no longer than its table says, over every list of events, where the world has the records between rounds, holds nothing, and
+/// its witnesses have in view what is there (`records`). So it is as well where the loaded world has no reals, copies and views but of
+/// entities of a list that is no longer than there are entities, and no witnesses but those of `ws` (`among`).
 pub fn a_round_ends()
-    ensures { (f : Frame) (w : World) (b : Batch) → MayBeLoaded f w b → HoldsNothing w → (us ws : List ℕ) →
+    ensures records { (f : Frame) (w : World) (b : Batch) → MayBeLoaded f w b → HoldsNothing w → AreCopiesBetweenRounds f w →
+        SeesWhatIsThere w → (v : World) (es : List Event) → LeadsTo node_has_work node_steps (loaded w b) es v →
+        length es ≤ events_of_round f.settings.bases (cell_orders b) (base_orders b) (tick_orders b) (entities (loaded w b))
+        (all_witnesses (loaded w b)) }
+    ensures among { (f : Frame) (w : World) (b : Batch) → MayBeLoaded f w b → HoldsNothing w → (us ws : List ℕ) →
         length us ≤ entities (loaded w b) → LooksAmong us (λ k. ws) (loaded w b) → (v : World) (es : List Event) →
         LeadsTo node_has_work node_steps (loaded w b) es v →
         length es
@@ -79,18 +84,15 @@ pub fn nothing_held_goes_from_record_to_record()
         (vs : List Event) (v : World) → LeadsTo node_has_work node_steps (look_loaded u) vs v → IsQuiet node_has_work v → HoldsNothing v }
 {}
 
-/// Where the witnesses of such a world look, those of `ws k` in cell k, no list of events is longer than the table says, where reals,
-/// copies and views are of the entities of a list, and the numbers of the lines that clients were shown have room for as many more. Each
-/// client's next line always has a number.
+/// Where the witnesses of such a world look, those of `ws k` in cell k, and it has the record of base parts and clients, with small numbers,
+/// no list of events is longer than the table says, where reals, copies and views are of the entities of a list (`bound`). No client runs out
+/// of numbers for its lines (`clients`).
 pub fn looks_end()
-    ensures bound { (f : Frame) (u : World) → IsBetweenRounds f u → HoldsNothing u → (us : List ℕ) (ws : ℕ → List ℕ) → LooksAmong us ws u →
-        (last : ℕ) → ShownAtMost last u →
-        last + events_of_looks (length us) (total (λ k. length (ws k)) (range_with_len 0 cell_count)) + 1 < limit → (vs : List Event)
-        (v : World) → LeadsTo node_has_work node_steps (look_loaded u) vs v →
+    ensures bound { (f : Frame) (u : World) → IsBetweenRounds f u → HasPartsBetweenRounds f u → HasSmallNumbers f u → HoldsNothing u →
+        (us : List ℕ) (ws : ℕ → List ℕ) → LooksAmong us ws u → (vs : List Event) (v : World) →
+        LeadsTo node_has_work node_steps (look_loaded u) vs v →
         length vs ≤ events_of_looks (length us) (total (λ k. length (ws k)) (range_with_len 0 cell_count)) }
-    ensures clients { (f : Frame) (u : World) → IsBetweenRounds f u → HoldsNothing u → (us : List ℕ) (ws : ℕ → List ℕ) →
-        LooksAmong us ws u → (last : ℕ) → ShownAtMost last u →
-        last + events_of_looks (length us) (total (λ k. length (ws k)) (range_with_len 0 cell_count)) + 1 < limit →
+    ensures clients { (f : Frame) (u : World) → IsBetweenRounds f u → HasPartsBetweenRounds f u → HasSmallNumbers f u → HoldsNothing u →
         Always ClientsKeepRoom (look_loaded u) }
 {}
 
@@ -112,12 +114,10 @@ pub fn a_longest_run_is_quiet()
         LeadsTo node_has_work node_steps w es v → n ≤ length es → IsQuiet node_has_work v }
 {}
 
-/// What these laws ask is true of an opened world (`among`, `clients`), and of it with a batch that creates an entity and has
+/// What these laws ask is true of an opened world (`among`), and of it with a batch that creates an entity and has
 /// calls to its base part (`first`; `MayBeLoaded` of it is a law of `seam_base_rounds`).
 pub fn an_opened_world_has_what_the_laws_ask()
     ensures among { (defs : List TypeDef) (settings : Settings) → IsFrame (first_frame defs settings) → 1 ≤ settings.bases →
         LooksAmong [] (λ k. []) (opened defs settings) }
-    ensures clients { (defs : List TypeDef) (settings : Settings) → IsFrame (first_frame defs settings) → 1 ≤ settings.bases →
-        ShownAtMost 0 (opened defs settings) }
     ensures first { AllByRecursion (λ o. is_tick_order o.1 ≡ false) first_batch.orders }
 {}

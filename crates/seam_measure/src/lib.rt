@@ -7,8 +7,8 @@
 //! the table are the most that it takes.
 //!
 //! Where witnesses look, the bound is by what there is to look at where the phase begins (`specs/Looking`): no event brings more, and a
-//! look has at most a line for each. An event shows a client at most one line, so in the phase of looks their numbers have room if they
-//! have it at its start; in a round's calls they have it by the record of base parts and clients.
+//! look has at most a line for each. Of a loaded world that is what it has, by the records. So it is by the record of base parts and
+//! clients that clients' lines have numbers.
 //!
 //! Crates above cite these modules of `proofs`: `NetWeights` (an event and a run), `QuietWeights` (a quiet world), `Ordered` (orders only
 //! go), `Batched` (calls on their way were ordered), `HandOvers` (how often a real is handed over), `Among` (what there is to look at).
