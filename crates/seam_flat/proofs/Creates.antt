@@ -15,7 +15,8 @@ use Rattle.seam_transcript.specs.Book.{Book, entries, created_as, with_entry}
 use Rattle.seam_transcript.specs.FlatTable.{first_state}
 use Rattle.seam_transcript.specs.InOrder.{in_order}
 use Rattle.seam_transcript.specs.declared.verdict.Entry.TheVariants as entry
-use Rattle.seam_flat.specs.Tables.{Refines, EntityRefines, PartRefines, IsNew, IsFresh, AreByEntity, done_by, of_entity, as_done, accepted_of}
+use Rattle.seam_flat.specs.Tables.{Refines, EntityRefines, PartRefines, IsNew, IsFresh, AreByEntity}
+use Rattle.seam_flat.specs.Tables.{done_by, of_entity, as_done, accepted_of}
 use Rattle.seam_flat.specs.declared.entity.DoneCall.{DoneCall}
 use Rattle.seam_flat.specs.declared.entity.FlatPart.{FlatPart}
 use Rattle.seam_flat.specs.declared.entity.FlatEntity.{FlatEntity}

@@ -1,7 +1,7 @@
 -- What the table holds after it executed a call.
-use Rattle.std.proofs.Common.{◌≡◌, ◌≢◌, ℕ, Bool, true, false, List, [], ◌∷◌, ◌++◌, map, refl, sym, ◌∙◌, ap, subst, inl}
+use Rattle.std.proofs.Common.{◌≡◌, ◌≢◌, ℕ, Bool, true, false, List, [], ◌∷◌, ◌++◌, refl, sym, ◌∙◌, ap, subst, inl}
 use Rattle.std.proofs.Common.{inr, Option, Some, None, append-nil}
-use Rattle.std.specs.Prelude.{MatchOption, ◌==◌, ◌&&◌, cond, filter}
+use Rattle.std.specs.Prelude.{MatchOption, ◌==◌, ◌&&◌, cond}
 use Rattle.std.specs.Ordering.{nat_cmp}
 use Rattle.std.specs.BTreeMap.{get}
 use Rattle.std.proofs.lemmas.Bool.Decides.{eqb_tells}

@@ -1,5 +1,5 @@
 -- Items in the order of their numbers are the groups of all numbers, one after another.
-use Rattle.std.proofs.Common.{◌≡◌, ◌≢◌, ◌≤◌, ◌<◌, ◌+◌, ℕ, Bool, true, false, List, [], ◌∷◌, ◌++◌, length, map, refl, sym, ◌∙◌, ap, inl, inr}
+use Rattle.std.proofs.Common.{◌≡◌, ◌≢◌, ◌≤◌, ◌<◌, ℕ, Bool, true, false, List, [], ◌∷◌, ◌++◌, map, refl, sym, ◌∙◌, ap, inl, inr}
 use Rattle.std.proofs.Common.{arith, cond, Option, Some, None}
 use Rattle.std.specs.Prelude.{◌==◌, ◌&&◌, filter, find, not}
 use Rattle.std.specs.List.{flat_map, All}
@@ -146,7 +146,8 @@ tie_is e k = elim (eqb_tells k e) [
       answers e k Equal Equal (nat_cmp_is e k Equal (sym is.1)) (nat_cmp_is k e Equal is.1) ∙ sym is.0
   | inr other ↦ elim (leb_tells e k) [
     | inl low ↦
-        answers e k Less Greater (nat_cmp_is e k Less (omega (arith, low.1, other.1))) (nat_cmp_is k e Greater (omega (arith, low.1, other.1)))
+        answers e k Less Greater (nat_cmp_is e k Less (omega (arith, low.1, other.1)))
+            (nat_cmp_is k e Greater (omega (arith, low.1, other.1)))
         ∙ sym other.0
     | inr high ↦ answers e k Greater Less (nat_cmp_is e k Greater high.1) (nat_cmp_is k e Less high.1) ∙ sym other.0
   ]

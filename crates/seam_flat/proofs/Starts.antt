@@ -1,8 +1,8 @@
 -- What the table holds when a round begins.
-use Rattle.std.proofs.Common.{◌≡◌, ◌≤◌, ℕ, List, [], refl, sym, ◌∙◌, ap, subst, Option, Some, None, arith, Vec, Global}
+use Rattle.std.proofs.Common.{◌≡◌, ℕ, List, [], refl, sym, ◌∙◌, ap, subst, Option, Some, None, arith, Vec, Global}
 use Rattle.std.specs.Prelude.{MatchOption, find, ◌==◌}
 use Rattle.std.specs.Ordering.{nat_cmp}
-use Rattle.std.specs.BTreeMap.{get, is_at, IsOrdered, BTreeMap}
+use Rattle.std.specs.BTreeMap.{get, is_at, IsOrdered}
 use Rattle.std.specs.Map.{lookup}
 use Rattle.seam_defs.specs.declared.flags.Part.{Part}
 use Rattle.seam_defs.specs.declared.flags.Part.TheVariants as part
@@ -57,7 +57,8 @@ abbrev pub without_calls : FlatTable → Vec DoneCall Global → Vec DoneCall Gl
 without_calls t did dob = record t { did = did; dob = dob }
 
 -- the table at the beginning of a round
-pub round_starts : (h : Header) (b : Book) (t : FlatTable) (did dob : Vec DoneCall Global) → Refines h b t → did.items ≡ [] → dob.items ≡ [] →
+pub round_starts : (h : Header) (b : Book) (t : FlatTable) (did dob : Vec DoneCall Global) → Refines h b t →
+    did.items ≡ [] → dob.items ≡ [] →
     Refines h (with_round_ended b) (without_calls t did dob)
 round_starts h b t did dob was no_did no_dob = record {
   holds = record {

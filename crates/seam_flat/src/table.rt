@@ -78,8 +78,8 @@ impl FlatTable {
         self.dob.clear();
     }
 
-    /// Makes the entities that a round's batch creates, and then executes its calls, those of each entity in the order of the batch. If allocation
-    /// fails the table has no use.
+    /// Makes the entities that a round's batch creates, and then executes its calls, those of each entity in the order of the
+    /// batch. If allocation fails the table has no use.
     pub fn run(&mut self, batch: Batch) -> Result<(), AllocError>
         ensures { OnOk result ((h : Headers) (b : Book) → Refines h (before_round b) self.old → Brings b batch → CallsTheMade b
             → Refines h b self.new) }
@@ -111,7 +111,8 @@ impl FlatTable {
     // Executes the calls of orders in the order of their entities, so that each is found beside the one before it.
     fn execute_in_order(&mut self, mut orders: Vec<(u8, Order)>) -> Result<(), AllocError>
         ensures { OnOk result ((h : Headers) (b : Book) → Holds h b self.old → (sorted : List (ℕ × Orders))
-            × SameCalls (calls_of_orders orders.items) (calls_of_orders sorted) × Holds h (with_calls b (calls_of_orders sorted)) self.new) }
+            × SameCalls (calls_of_orders orders.items) (calls_of_orders sorted)
+            × Holds h (with_calls b (calls_of_orders sorted)) self.new) }
     {
         orders.sort_by_key(|order| entity_of(&order.1))?;
         self.execute_all(orders)

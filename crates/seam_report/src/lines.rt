@@ -1,8 +1,8 @@
 // The lines of rounds.
 ghost use Rattle.std.specs.Prelude.{◌≡◌, ◌++◌, OnOk};
-ghost use Rattle.seam_transcript.specs.Texts.{number_text, done_text, home_text, base_text};
+ghost use Rattle.seam_transcript.specs.Texts.{field, number_text, done_text, home_text, base_text};
 
-use crate::values::{push_deed, push_field, push_number, push_sender};
+use crate::values::{LONGEST_FIELD, push_deed, push_field, push_number, push_sender, write_field};
 use seam_call::Call;
 use seam_defs::{Defs, Group, Props, State};
 use std::alloc::AllocError;
@@ -71,15 +71,26 @@ pub fn push_home(out: &mut Vec<u8>, defs: &Defs, line: &HomeLine) -> Result<(), 
           state = line.now.state.now;
         })) }
 {
-    out.extend_from_slice(b"home ")?;
-    push_number(out, u64::from(line.entity))?;
-    push_field(out, u64::from(line.cell))?;
-    push_field(out, line.version)?;
-    push_field(out, u64::from(line.state.pos.x))?;
-    push_field(out, u64::from(line.state.pos.z))?;
+    out.extend_from_slice(b"home")?;
+    push_home_numbers(out, line)?;
     defs.type_at(line.ty)
         .write_props(Group::Real, &line.state.props, out)?;
     out.extend_from_slice(b"\n")
+}
+
+// The numbers of a home line, which are gathered from the last to the first and appended at once.
+fn push_home_numbers(out: &mut Vec<u8>, line: &HomeLine) -> Result<(), AllocError>
+    ensures { OnOk result (out.new.items ≡ out.old.items
+        ++ field line.now.entity ++ field line.now.cell ++ field line.now.version ++ field line.now.state.now.pos.x
+        ++ field line.now.state.now.pos.z) }
+{
+    let mut text = [0; 5 * LONGEST_FIELD];
+    let at = write_field(u64::from(line.state.pos.z), &mut text, 5 * LONGEST_FIELD);
+    let at = write_field(u64::from(line.state.pos.x), &mut text, at);
+    let at = write_field(line.version, &mut text, at);
+    let at = write_field(u64::from(line.cell), &mut text, at);
+    let at = write_field(u64::from(line.entity), &mut text, at);
+    out.extend_from_slice(&text[at..])
 }
 
 /// Appends the line of an entity's base part.
@@ -92,9 +103,11 @@ pub fn push_base(out: &mut Vec<u8>, defs: &Defs, line: &BaseLine) -> Result<(), 
           props = line.now.props.now;
         })) }
 {
-    out.extend_from_slice(b"base ")?;
-    push_number(out, u64::from(line.entity))?;
-    push_field(out, line.version)?;
+    let mut text = [0; 2 * LONGEST_FIELD];
+    let at = write_field(line.version, &mut text, 2 * LONGEST_FIELD);
+    let at = write_field(u64::from(line.entity), &mut text, at);
+    out.extend_from_slice(b"base")?;
+    out.extend_from_slice(&text[at..])?;
     defs.type_at(line.ty)
         .write_props(Group::Base, line.props, out)?;
     out.extend_from_slice(b"\n")

@@ -1,12 +1,12 @@
 // Numbers, senders and deeds.
-ghost use Rattle.std.specs.Prelude.{◌≡◌, ◌++◌, ◌∷◌, OnOk};
+ghost use Rattle.std.specs.Prelude.{◌≡◌, ◌≤◌, ◌+◌, ◌++◌, ◌∷◌, length, drop, OnOk};
 ghost use Rattle.std.specs.List.{flat_map};
 ghost use Rattle.seam_value.specs.Values.{decimal_of, text_of};
 ghost use Rattle.seam_defs.specs.Types.{method_of};
 ghost use Rattle.seam_transcript.specs.Language.{sender_text};
 ghost use Rattle.seam_transcript.specs.Texts.{field, deed_text};
 
-use itoa::Buffer;
+use itoa::{Buffer, write_digits};
 use seam_call::Sender;
 use seam_defs::{Deed, TypeDef};
 use seam_value::Value;
@@ -15,6 +15,10 @@ use std::alloc::AllocError;
 pub(crate) fn push_number(out: &mut Vec<u8>, number: u64) -> Result<(), AllocError>
     ensures { OnOk result (out.new.items ≡ out.old.items ++ decimal_of number) }
 {
+    if number < 10 {
+        out.push(b'0' + number as u8)?;
+        return Ok(());
+    }
     let mut buffer = Buffer::new();
     out.extend_from_slice(buffer.format(number).as_bytes())
 }
@@ -25,6 +29,21 @@ pub(crate) fn push_field(out: &mut Vec<u8>, number: u64) -> Result<(), AllocErro
 {
     out.extend_from_slice(b" ")?;
     push_number(out, number)
+}
+
+// The room that the longest field takes.
+pub(crate) const LONGEST_FIELD: usize = 21;
+
+// Writes a space and a number into the bytes before `end`, and answers where they start.
+pub(crate) fn write_field(number: u64, text: &mut [u8], end: usize) -> usize
+    requires { (21 ≤ end) × (end ≤ length text.old) }
+    ensures start { (end ≤ result + 21) × (result ≤ end) }
+    ensures length { length text.new ≡ length text.old }
+    ensures written { drop result text.new ≡ field number ++ drop end text.old }
+{
+    let start = write_digits(number, text, end) - 1;
+    text[start] = b' ';
+    start
 }
 
 // A space and a sender.

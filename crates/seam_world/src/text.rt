@@ -41,6 +41,7 @@ fn push_calls(
     Ok(())
 }
 
+// What the line of a call is written from.
 fn line(done: &DoneCall) -> DoneLine
     ensures { (result.ty ≡ done.now.ty) × (result.call.now ≡ done.now.call) }
 {

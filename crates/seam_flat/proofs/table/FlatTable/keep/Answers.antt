@@ -1,4 +1,4 @@
-use Rattle.std.proofs.Common.{refl, sym}
+use Rattle.std.proofs.Common.{refl}
 use Rattle.seam_flat.proofs.Writing.{comes_to_cell, comes_to_base}
 use Rattle.seam_flat.proofs.table.FlatTable.keep.Goals as goal
 
