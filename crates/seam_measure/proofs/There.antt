@@ -170,7 +170,8 @@ module _ {X : Type 0} (t : ℕ × X → Bool) where
   passing_has e x (p ∷ es) at is = by (eq_by_cmp nat_cmp e p.0) (t p) refl refl at (λ there. passing_has e x es there is)
     where
       by : (b d : Bool) → eq_by_cmp nat_cmp e p.0 ≡ b → t p ≡ d → cond b (Some p.1) (key_find nat_cmp e es) ≡ Some x →
-          (key_find nat_cmp e es ≡ Some x → is_among (passing es) e ≡ true) → is_among (map number_of (cond d (p ∷ filter t es) (filter t es))) e ≡ true
+          (key_find nat_cmp e es ≡ Some x → is_among (passing es) e ≡ true) →
+          is_among (map number_of (cond d (p ∷ filter t es) (filter t es))) e ≡ true
       by true true tie has at more =
           let same : e ≡ p.0 = grind (arith, nat_tests, tie) in
           or_left (eqb e p.0) (is_among (passing es) e) (eq-eqb e p.0 same)

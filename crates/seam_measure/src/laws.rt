@@ -92,9 +92,9 @@ pub fn views_name_what_is_there()
         (v : World) (es : List Event) → LeadsTo node_has_work node_steps (loaded w b) es v → SeesWhatIsThere v }
 {}
 
-/// Where the witnesses of such a world look, those of `ws k` in cell k, and it has the record of base parts and clients, with small numbers,
-/// no list of events is longer than the table says, where reals, copies and views are of the entities of a list (`bound`). No client runs out
-/// of numbers for its lines (`clients`).
+/// Where the witnesses of such a world look, those of `ws k` in cell k, and it has the record of base parts and clients, with small
+/// numbers, no list of events is longer than the table says, where reals, copies and views are of the entities of a list (`bound`). No
+/// client runs out of numbers for its lines (`clients`).
 pub fn looks_end()
     ensures bound { (f : Frame) (u : World) → IsBetweenRounds f u → HasPartsBetweenRounds f u → HasSmallNumbers f u → HoldsNothing u →
         (us : List ℕ) (ws : ℕ → List ℕ) → LooksAmong us ws u → (vs : List Event) (v : World) →
