@@ -16,10 +16,10 @@ use Rattle.seam_steps.specs.Loads.{opened}
 use Rattle.seam_moves.specs.Sights.{Has, has_of, has_none}
 use Rattle.seam_ones.specs.Ones.{real_in, IsFrame}
 use Rattle.seam_rounds.specs.Rounds.{first_frame}
-use Rattle.seam_rounds.proofs.Opened.{opened_is_new}
+use Rattle.seam_rounds.proofs.Opened.{opened_is_new, opened_has_none}
 use Rattle.seam_base_calls.specs.Clients.{is_tick_order}
 use Rattle.seam_base_rounds.specs.Example.{first_batch}
-use Rattle.seam_measure.specs.Looking.{LooksAmong}
+use Rattle.seam_measure.specs.Looking.{LooksAmong, SeesWhatIsThere}
 use Rattle.seam_measure.specs.Phases.{HoldsNothing}
 
 module _ (defs : List TypeDef) (settings : Settings) (frame : IsFrame (first_frame defs settings)) (bases : 1 ≤ settings.bases) where
@@ -47,6 +47,9 @@ module _ (defs : List TypeDef) (settings : Settings) (frame : IsFrame (first_fra
     views = λ k c at e r x there has. absurd (no_real k c at e r there);
     witnesses = λ k c at e r x there has. absurd (no_real k c at e r there);
   }
+
+  pub opened_sees : SeesWhatIsThere w
+  opened_sees e k r at = absurd (let z = sym (opened_has_none defs settings frame bases e k) ∙ at in cc)
 
 -- ---- a first batch
 

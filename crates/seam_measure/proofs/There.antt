@@ -12,7 +12,8 @@ use Rattle.std.proofs.lemmas.Bool.Decides.{nat_tests}
 use Rattle.std.proofs.lemmas.List.{length-append, length-map}
 use Rattle.std.proofs.lemmas.List.Folds.{list_any-append}
 use Rattle.seam_tree.specs.Division.{Division, leaf_at, cells_of}
-use Rattle.seam_machine.specs.Nets.{LeadsTo}
+use Rattle.seam_machine.specs.Nets.{link, LeadsTo}
+use Rattle.seam_machine.proofs.Quiet.{quiet_links}
 use Rattle.seam_machine.specs.Totals.{total}
 use Rattle.seam_machine.specs.declared.machines.Event.{Event}
 use Rattle.seam_flows.specs.Flows.{slot_at, letters_of}
@@ -35,8 +36,10 @@ use Rattle.seam_moves.specs.Frames.{Frame}
 use Rattle.seam_moves.specs.Sights.{has_of, has_none, entity_flow}
 use Rattle.seam_ones.specs.Ones.{real_in, real_of}
 use Rattle.seam_ones.proofs.Counting.{none_counts}
+use Rattle.seam_between.specs.Between.{framed}
 use Rattle.seam_between.proofs.Framing.{in_frame}
-use Rattle.seam_between.proofs.Loading.{each_keeps, Any, any, made, node_loaded, get-each_value}
+use Rattle.seam_between.proofs.Going.{one_after}
+use Rattle.seam_between.proofs.Loading.{each_keeps, Any, any, made, node_loaded, loaded_is, get-each_value}
 use Rattle.seam_between.proofs.Loaded.{slot_is, no_mail, holds_kept}
 use Rattle.seam_rounds.proofs.Shape.{Somewhere, Nowhere, search_real}
 use Rattle.seam_newest.specs.Copies.{AreCopiesBetweenRounds}
@@ -47,6 +50,7 @@ use Rattle.seam_base_rounds.proofs.Attaching.{sees_loaded}
 use Rattle.seam_measure.specs.Looking.{is_among, AllAmong, LooksAmong, SeesWhatIsThere}
 use Rattle.seam_measure.specs.Phases.{HoldsNothing, entities, reals_at, all_witnesses, witnesses_at, cell_orders, base_orders, tick_orders}
 use Rattle.seam_measure.specs.Phases.{events_of_round}
+use Rattle.seam_measure.proofs.Among.{always_among}
 use Rattle.seam_measure.proofs.LookStarts.{in_cell, round_is_bounded}
 
 -- ---- what each real has, each real of a loaded world has
@@ -166,7 +170,8 @@ module _ {X : Type 0} (t : ℕ × X → Bool) where
   passing_has e x (p ∷ es) at is = by (eq_by_cmp nat_cmp e p.0) (t p) refl refl at (λ there. passing_has e x es there is)
     where
       by : (b d : Bool) → eq_by_cmp nat_cmp e p.0 ≡ b → t p ≡ d → cond b (Some p.1) (key_find nat_cmp e es) ≡ Some x →
-          (key_find nat_cmp e es ≡ Some x → is_among (passing es) e ≡ true) → is_among (map number_of (cond d (p ∷ filter t es) (filter t es))) e ≡ true
+          (key_find nat_cmp e es ≡ Some x → is_among (passing es) e ≡ true) →
+          is_among (map number_of (cond d (p ∷ filter t es) (filter t es))) e ≡ true
       by true true tie has at more =
           let same : e ≡ p.0 = grind (arith, nat_tests, tie) in
           or_left (eqb e p.0) (is_among (passing es) e) (eq-eqb e p.0 same)
@@ -279,3 +284,59 @@ module _ (f : Frame) (w : World) (b : Batch) (may : MayBeLoaded f w b) (copies :
       (λ n. length es ≤ events_of_round f.settings.bases (cell_orders b) (base_orders b) (tick_orders b) (entities start) n)
       (numbers_many seers_of witnesses_at seers_many start.nodes)
       (round_is_bounded f w b may none us ws (omega (arith, many)) among_loaded v es run)
+
+-- ---- and after its calls views name what is there
+
+named_found : {X : Type 0} (e : ℕ) (es : List (ℕ × X)) → is_among (map number_of (filter (λ p. true) es)) e ≡ true →
+    (x : X) × (key_find nat_cmp e es ≡ Some x)
+named_found e [] h = cc
+named_found {X} e (p ∷ es) h = by (eq_by_cmp nat_cmp e p.0) refl h (named_found e es)
+  where
+    by : (b : Bool) → eq_by_cmp nat_cmp e p.0 ≡ b → (eqb e p.0 || is_among (map number_of (filter (λ p. true) es)) e) ≡ true →
+        (is_among (map number_of (filter (λ p. true) es)) e ≡ true → (x : X) × (key_find nat_cmp e es ≡ Some x)) →
+        (x : X) × (cond b (Some p.1) (key_find nat_cmp e es) ≡ Some x)
+    by true tie h more = (p.1, refl)
+    by false tie h more =
+        let apart : eqb e p.0 ≡ false = grind (arith, nat_tests, tie) in
+        more (sym (ap (λ d. d || is_among (map number_of (filter (λ p. true) es)) e) apart) ∙ h)
+
+real_found : (e : ℕ) (s : NodeView) → is_among (reals_of s) e ≡ true → (r : RealView) × (real_in (has_of e s) ≡ Some r)
+real_found e (Base b) h = cc
+real_found e (Cell c) h =
+    let x = named_found e (table.entries c.reals) h in
+    (x.0, table.get-entries c.reals e ∙ x.1)
+
+somewhere_in : (e : ℕ) (ss : List NodeView) → is_among (numbers_in reals_of ss) e ≡ true →
+    (k : ℕ) × (r : RealView) × (real_in (slot_at (has_of e) has_none (slice_get ss k)) ≡ Some r)
+somewhere_in e [] h = cc
+somewhere_in e (s ∷ ss) h = by (is_among (reals_of s) e) refl (somewhere_in e ss)
+  where
+    both : (is_among (reals_of s) e || is_among (numbers_in reals_of ss) e) ≡ true
+    both = sym (list_any-append (nat_eq e) (reals_of s) (numbers_in reals_of ss)) ∙ h
+
+    by : (b : Bool) → is_among (reals_of s) e ≡ b → (is_among (numbers_in reals_of ss) e ≡ true →
+        (k : ℕ) × (r : RealView) × (real_in (slot_at (has_of e) has_none (slice_get ss k)) ≡ Some r)) →
+        (k : ℕ) × (r : RealView) × (real_in (slot_at (has_of e) has_none (slice_get (s ∷ ss) k)) ≡ Some r)
+    by true is more = let x = real_found e s is in (0, x.0, x.1)
+    by false is more =
+        let x = more (sym (ap (λ d. d || is_among (numbers_in reals_of ss) e) is) ∙ both) in
+        (suc x.0, x.1, x.2)
+
+module _ (f : Frame) (w : World) (b : Batch) (may : MayBeLoaded f w b) (copies : AreCopiesBetweenRounds f w)
+    (sees : SeesWhatIsThere w) (v : World) (es : List Event) (run : LeadsTo node_has_work node_steps (loaded w b) es v) where
+  among_then : LooksAmong (us f w b may copies sees) (λ k. ws f w b may copies sees) v
+  among_then =
+      always_among (us f w b may copies sees) (ws f w b may copies sees) (framed f b) (loaded w b) (in_frame f w b may.between may.fits)
+      (λ x y. ap (λ q. link q.rows x y) (loaded_is w b) ∙ quiet_links node_has_work w may.between.nodes.sound.square may.between.quiet x y)
+      (among_loaded f w b may copies sees) v es run
+
+  held_then : (ps : List (ℕ × ℕ)) → AllAmong (us f w b may copies sees) (keys_of ps) → AllByRecursion (λ p. holders v p.0 ≡ 1) ps
+  held_then [] h = tt
+  held_then (p ∷ ps) h =
+      let x = somewhere_in p.0 (loaded w b).nodes h.0 in
+      (one_after f w b may.between may.fits p.0 x.0 x.1 x.2 v es run, held_then ps h.1)
+
+  pub sees_then : SeesWhatIsThere v
+  sees_then e k r here x has =
+      let cell = in_cell v e k r here in
+      held_then x.view.entries (among_then.views k cell.0 cell.1 e r x cell.2 has).1

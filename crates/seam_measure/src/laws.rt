@@ -84,9 +84,17 @@ pub fn nothing_held_goes_from_record_to_record()
         (vs : List Event) (v : World) → LeadsTo node_has_work node_steps (look_loaded u) vs v → IsQuiet node_has_work v → HoldsNothing v }
 {}
 
-/// Where the witnesses of such a world look, those of `ws k` in cell k, and it has the record of base parts and clients, with small numbers,
-/// no list of events is longer than the table says, where reals, copies and views are of the entities of a list (`bound`). No client runs out
-/// of numbers for its lines (`clients`).
+/// Views name what is there where a world is opened, and again after a round's calls, whatever its witnesses looked at.
+pub fn views_name_what_is_there()
+    ensures opened { (defs : List TypeDef) (settings : Settings) → IsFrame (first_frame defs settings) → 1 ≤ settings.bases →
+        SeesWhatIsThere (opened defs settings) }
+    ensures calls { (f : Frame) (w : World) (b : Batch) → MayBeLoaded f w b → AreCopiesBetweenRounds f w → SeesWhatIsThere w →
+        (v : World) (es : List Event) → LeadsTo node_has_work node_steps (loaded w b) es v → SeesWhatIsThere v }
+{}
+
+/// Where the witnesses of such a world look, those of `ws k` in cell k, and it has the record of base parts and clients, with small
+/// numbers, no list of events is longer than the table says, where reals, copies and views are of the entities of a list (`bound`). No
+/// client runs out of numbers for its lines (`clients`).
 pub fn looks_end()
     ensures bound { (f : Frame) (u : World) → IsBetweenRounds f u → HasPartsBetweenRounds f u → HasSmallNumbers f u → HoldsNothing u →
         (us : List ℕ) (ws : ℕ → List ℕ) → LooksAmong us ws u → (vs : List Event) (v : World) →
