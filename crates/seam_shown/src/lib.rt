@@ -8,9 +8,9 @@
 //! `specs/Rounds` what is true between two worlds: nothing of before the first.
 //!
 //! Crates above cite these modules of `proofs`: `Apart` (looks at different entities), `Lines` (what a look tells of others), `Looking` (a
-//! look), `Silent` (where none is taken), `Reals` (a real that goes on), `InTurn` (lines in parts), `Along` (every list of events), `Starts`
-//! (where a witness begins to tell, and where all was shown), `RoundTruth` (what cells know in a round), `Ending` (where
-//! the calls of a round end), `ExampleShown` (a worked world).
+//! look), `Silent` (where none is taken), `Reals` (a real that goes on), `InTurn` (lines in parts), `Along` (every list of events),
+//! `Starts` (where a witness begins to tell, and where all was shown), `RoundTruth` (what cells know in a round), `Ending` (where the calls
+//! of a round end), `ExampleShown` (a worked world).
 #![tactic(auto)]
 
 ghost use Rattle.std.specs.Prelude.{◌≡◌, ◌+◌, ℕ, List, [], ◌∷◌, Some};
