@@ -147,7 +147,7 @@ tie_is e k = elim (eqb_tells k e) [
   | inr other ↦ elim (leb_tells e k) [
     | inl low ↦
         answers e k Less Greater (nat_cmp_is e k Less (omega (arith, low.1, other.1)))
-            (nat_cmp_is k e Greater (omega (arith, low.1, other.1)))
+        (nat_cmp_is k e Greater (omega (arith, low.1, other.1)))
         ∙ sym other.0
     | inr high ↦ answers e k Greater Less (nat_cmp_is e k Greater high.1) (nat_cmp_is k e Less high.1) ∙ sym other.0
   ]

@@ -39,13 +39,13 @@ calls_among p e ((k, o) ∷ xs) = cases o (calls_among p e xs)
         filter (is_for p e) (calls_of_orders ((k, o) ∷ xs)) ≡ those (entity_of o == e) o
     cases (order.Cell c) again = elim (eqb_tells c.entity e) [
       | inl is ↦
-        ap (λ (calls : List Call). cond (is_for p e c) (c ∷ calls) calls) again ∙ ap (λ (b : Bool). those b (order.Cell c)) (sym is.0)
+          ap (λ (calls : List Call). cond (is_for p e c) (c ∷ calls) calls) again ∙ ap (λ (b : Bool). those b (order.Cell c)) (sym is.0)
       | inr other ↦ ap (λ (b : Bool). cond b (c ∷ all) all) (not_for_other c p e other.1) ∙ again
           ∙ ap (λ (b : Bool). those b (order.Cell c)) (sym other.0)
     ]
     cases (order.Base c) again = elim (eqb_tells c.entity e) [
       | inl is ↦
-        ap (λ (calls : List Call). cond (is_for p e c) (c ∷ calls) calls) again ∙ ap (λ (b : Bool). those b (order.Base c)) (sym is.0)
+          ap (λ (calls : List Call). cond (is_for p e c) (c ∷ calls) calls) again ∙ ap (λ (b : Bool). those b (order.Base c)) (sym is.0)
       | inr other ↦ ap (λ (b : Bool). cond b (c ∷ all) all) (not_for_other c p e other.1) ∙ again
           ∙ ap (λ (b : Bool). those b (order.Base c)) (sym other.0)
     ]
