@@ -13,7 +13,7 @@
 //! of a round end), `ExampleShown` (a worked world).
 #![tactic(auto)]
 
-ghost use Rattle.std.specs.Prelude.{◌≡◌, ◌+◌, ℕ, List, [], ◌∷◌, Some};
+ghost use Rattle.std.specs.Prelude.{◌≡◌, ◌+◌, ℕ, List, [], ◌∷◌, None, Some};
 ghost use Rattle.seam_defs.specs.Settings.{standard};
 ghost use Rattle.seam_machine.specs.Nets.{IsQuiet, LeadsTo};
 ghost use Rattle.seam_machine.specs.declared.machines.Event.{Event};
@@ -32,10 +32,11 @@ ghost use Rattle.seam_base_calls.specs.Example as example;
 ghost use Rattle.seam_base_calls.specs.BaseTurns.{home_of};
 ghost use Rattle.seam_base_calls.specs.Clients.{shown_at, HasClient, HasToldAtMost, HasRoomFor};
 ghost use Rattle.seam_between.specs.Between.{IsBetweenRounds, IsFitting, framed};
+ghost use Rattle.seam_base_rounds.specs.Parts.{MayBeLoaded};
 ghost use Rattle.seam_newest.specs.Copies.{AreCopiesBetweenRounds};
 ghost use Rattle.seam_replica.specs.Clients.{ClientReplica, new_client, after_all_shown};
 ghost use Rattle.seam_replica.specs.Lines.{ShowsRightly};
-ghost use Rattle.seam_looks.specs.Clients.{FitsWitness};
+ghost use Rattle.seam_looks.specs.Clients.{FitsWitness, ClientsFit};
 ghost use Rattle.seam_shown.specs.Fits.{FitsWithin, truth_of_look};
 ghost use Rattle.seam_shown.specs.Rounds.{known_between, true_between};
 ghost use Rattle.seam_shown.specs.Telling.{ComesBetween, TellsRightly};
@@ -118,3 +119,28 @@ pub fn a_worked_witness_tells_rightly()
     ensures runs { (v : World) (es : List Event) → LeadsTo node_has_work node_steps example.world_shown es v →
         TellsRightly frame 1 0 1 (known_between frame 1 example.world_shown v) (new_client standard) v }
 {}
+
+/// A whole round, of a world that keeps the records between rounds and a batch that fits them, where each client fits its witness as the
+/// batch is loaded. Over every list of events each client is shown rightly what its proxy was shown since (`shown`), and an entity without
+/// a witness has none that is shown anything (`bare`). Where the calls leave the world quiet, the clients, which were shown that, fit
+/// their witnesses again (`fits`): the record of clients goes on.
+pub fn clients_of_a_round_are_shown_rightly()
+    ensures shown { (f : Frame) (w : World) (b : Batch) → MayBeLoaded f w b → AreCopiesBetweenRounds f w → (clients : ℕ → ClientReplica) →
+        ClientsFit (framed f b) clients (loaded w b) → (v : World) (es : List Event) → LeadsTo node_has_work node_steps (loaded w b) es v →
+        (e k : ℕ) (r : RealView) → real_in ((entity_flow e (loaded w b)).slot k) ≡ Some r → (x : WitnessView) → r.witness ≡ Some x →
+        ShowsRightly (true_between (framed f b) e (loaded w b) v) e (clients e)
+        (shown_at ((entity_flow e v).slot (home_of (framed f b) e))) }
+    ensures bare { (f : Frame) (w : World) (b : Batch) → MayBeLoaded f w b → (v : World) (es : List Event) →
+        LeadsTo node_has_work node_steps (loaded w b) es v → (e k : ℕ) (r : RealView) →
+        real_in ((entity_flow e (loaded w b)).slot k) ≡ Some r → r.witness ≡ None →
+        shown_at ((entity_flow e v).slot (home_of (framed f b) e)) ≡ [] }
+    ensures fits { (f : Frame) (w : World) (b : Batch) → MayBeLoaded f w b → AreCopiesBetweenRounds f w → (clients : ℕ → ClientReplica) →
+        ClientsFit (framed f b) clients (loaded w b) → (v : World) (es : List Event) → LeadsTo node_has_work node_steps (loaded w b) es v →
+        IsQuiet node_has_work v →
+        ClientsFit (framed f b) (λ e. after_all_shown (clients e) (shown_at ((entity_flow e v).slot (home_of (framed f b) e)))) v }
+{
+    seam_newest::ghosts_of_a_round_are_true();
+    seam_newest::copies_go_from_record_to_record();
+    seam_defs::laws::others_see_the_ghost();
+    a_client_fits_where_calls_end();
+}
