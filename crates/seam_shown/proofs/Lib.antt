@@ -10,3 +10,4 @@ pub mod RoundTruth
 pub mod Ending
 pub mod Joined
 pub mod ExampleShown
+pub mod ExampleRound

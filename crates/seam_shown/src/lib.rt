@@ -24,15 +24,17 @@ ghost use Rattle.seam_steps.specs.Cells.{CellView, known_to};
 ghost use Rattle.seam_steps.specs.Loads.{loaded};
 ghost use Rattle.seam_steps.specs.Nodes.{World, node_steps, node_has_work};
 ghost use Rattle.seam_steps.specs.Rows.{empty_world};
+ghost use Rattle.seam_steps.specs.ViewRounds as view;
 ghost use Rattle.seam_moves.specs.Frames.{Frame, here_at};
 ghost use Rattle.seam_moves.specs.Sights.{entity_flow};
 ghost use Rattle.seam_ones.specs.Ones.{real_in, IsSpared};
-ghost use Rattle.seam_ones.specs.Example.{frame};
+ghost use Rattle.seam_ones.specs.Example.{frame, events_of};
 ghost use Rattle.seam_base_calls.specs.Example as example;
 ghost use Rattle.seam_base_calls.specs.BaseTurns.{home_of};
 ghost use Rattle.seam_base_calls.specs.Clients.{shown_at, HasClient, HasToldAtMost, HasRoomFor};
 ghost use Rattle.seam_between.specs.Between.{IsBetweenRounds, IsFitting, framed};
 ghost use Rattle.seam_base_rounds.specs.Parts.{MayBeLoaded};
+ghost use Rattle.seam_base_rounds.specs.Example.{opening};
 ghost use Rattle.seam_newest.specs.Copies.{AreCopiesBetweenRounds};
 ghost use Rattle.seam_replica.specs.Clients.{ClientReplica, new_client, after_all_shown};
 ghost use Rattle.seam_replica.specs.Lines.{ShowsRightly};
@@ -144,3 +146,14 @@ pub fn clients_of_a_round_are_shown_rightly()
     seam_defs::laws::others_see_the_ghost();
     a_client_fits_where_calls_end();
 }
+
+/// What that law asks is true of a worked round (`seam_steps`: "view hysteresis"), of an opened world: the batch creates two entities, the
+/// first of them with a client that was shown nothing yet; and its calls end in a quiet world.
+pub fn a_worked_round_of_clients_is_such()
+    ensures may { MayBeLoaded opening empty_world view.batch_1 }
+    ensures copies { AreCopiesBetweenRounds opening empty_world }
+    ensures fits { ClientsFit (framed opening view.batch_1) (λ e. new_client standard) (loaded empty_world view.batch_1) }
+    ensures real { real_in ((entity_flow 1 (loaded empty_world view.batch_1)).slot 0) ≡ Some (view.watcher view.blind) }
+    ensures calls { LeadsTo node_has_work node_steps (loaded empty_world view.batch_1) (events_of view.first_steps) view.first_2 }
+    ensures quiet { IsQuiet node_has_work view.first_2 }
+{}
