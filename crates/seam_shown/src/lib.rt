@@ -10,7 +10,7 @@
 //! Crates above cite these modules of `proofs`: `Apart` (looks at different entities), `Lines` (what a look tells of others), `Looking` (a
 //! look), `Silent` (where none is taken), `Reals` (a real that goes on), `InTurn` (lines in parts), `Along` (every list of events),
 //! `Starts` (where a witness begins to tell, and where all was shown), `RoundTruth` (what cells know in a round), `Ending` (where the calls
-//! of a round end), `ExampleShown` (a worked world).
+//! of a round end), `Joined` (the clients of a round), `ExampleShown` and `ExampleRound` (a worked world and a worked round).
 #![tactic(auto)]
 
 ghost use Rattle.std.specs.Prelude.{◌≡◌, ◌+◌, ℕ, List, [], ◌∷◌, None, Some};
@@ -122,10 +122,10 @@ pub fn a_worked_witness_tells_rightly()
         TellsRightly frame 1 0 1 (known_between frame 1 example.world_shown v) (new_client standard) v }
 {}
 
-/// A whole round, of a world that keeps the records between rounds and a batch that fits them, where each client fits its witness as the
-/// batch is loaded. Over every list of events each client is shown rightly what its proxy was shown since (`shown`), and an entity without
-/// a witness has none that is shown anything (`bare`). Where the calls leave the world quiet, the clients, which were shown that, fit
-/// their witnesses again (`fits`): the record of clients goes on.
+/// The clients of a whole round. Where a world keeps the records between rounds, a batch fits them, and each client fits its witness as the
+/// batch is loaded, each client is shown rightly, over every list of events, what its proxy showed since (`shown`); an entity without a
+/// witness is shown nothing (`bare`). Where the calls leave the world quiet, the clients, which were shown that, fit their witnesses again
+/// (`fits`): so the record of clients goes on to reaps and looks.
 pub fn clients_of_a_round_are_shown_rightly()
     ensures shown { (f : Frame) (w : World) (b : Batch) → MayBeLoaded f w b → AreCopiesBetweenRounds f w → (clients : ℕ → ClientReplica) →
         ClientsFit (framed f b) clients (loaded w b) → (v : World) (es : List Event) → LeadsTo node_has_work node_steps (loaded w b) es v →
