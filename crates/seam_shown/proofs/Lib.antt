@@ -8,4 +8,6 @@ pub mod Along
 pub mod Starts
 pub mod RoundTruth
 pub mod Ending
+pub mod Joined
 pub mod ExampleShown
+pub mod ExampleRound

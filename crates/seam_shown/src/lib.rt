@@ -10,10 +10,10 @@
 //! Crates above cite these modules of `proofs`: `Apart` (looks at different entities), `Lines` (what a look tells of others), `Looking` (a
 //! look), `Silent` (where none is taken), `Reals` (a real that goes on), `InTurn` (lines in parts), `Along` (every list of events),
 //! `Starts` (where a witness begins to tell, and where all was shown), `RoundTruth` (what cells know in a round), `Ending` (where the calls
-//! of a round end), `ExampleShown` (a worked world).
+//! of a round end), `Joined` (the clients of a round), `ExampleShown` and `ExampleRound` (a worked world and a worked round).
 #![tactic(auto)]
 
-ghost use Rattle.std.specs.Prelude.{◌≡◌, ◌+◌, ℕ, List, [], ◌∷◌, Some};
+ghost use Rattle.std.specs.Prelude.{◌≡◌, ◌+◌, ℕ, List, [], ◌∷◌, None, Some};
 ghost use Rattle.seam_defs.specs.Settings.{standard};
 ghost use Rattle.seam_machine.specs.Nets.{IsQuiet, LeadsTo};
 ghost use Rattle.seam_machine.specs.declared.machines.Event.{Event};
@@ -24,18 +24,21 @@ ghost use Rattle.seam_steps.specs.Cells.{CellView, known_to};
 ghost use Rattle.seam_steps.specs.Loads.{loaded};
 ghost use Rattle.seam_steps.specs.Nodes.{World, node_steps, node_has_work};
 ghost use Rattle.seam_steps.specs.Rows.{empty_world};
+ghost use Rattle.seam_steps.specs.ViewRounds as view;
 ghost use Rattle.seam_moves.specs.Frames.{Frame, here_at};
 ghost use Rattle.seam_moves.specs.Sights.{entity_flow};
 ghost use Rattle.seam_ones.specs.Ones.{real_in, IsSpared};
-ghost use Rattle.seam_ones.specs.Example.{frame};
+ghost use Rattle.seam_ones.specs.Example.{frame, events_of};
 ghost use Rattle.seam_base_calls.specs.Example as example;
 ghost use Rattle.seam_base_calls.specs.BaseTurns.{home_of};
 ghost use Rattle.seam_base_calls.specs.Clients.{shown_at, HasClient, HasToldAtMost, HasRoomFor};
 ghost use Rattle.seam_between.specs.Between.{IsBetweenRounds, IsFitting, framed};
+ghost use Rattle.seam_base_rounds.specs.Parts.{MayBeLoaded};
+ghost use Rattle.seam_base_rounds.specs.Example.{opening};
 ghost use Rattle.seam_newest.specs.Copies.{AreCopiesBetweenRounds};
 ghost use Rattle.seam_replica.specs.Clients.{ClientReplica, new_client, after_all_shown};
 ghost use Rattle.seam_replica.specs.Lines.{ShowsRightly};
-ghost use Rattle.seam_looks.specs.Clients.{FitsWitness};
+ghost use Rattle.seam_looks.specs.Clients.{FitsWitness, ClientsFit};
 ghost use Rattle.seam_shown.specs.Fits.{FitsWithin, truth_of_look};
 ghost use Rattle.seam_shown.specs.Rounds.{known_between, true_between};
 ghost use Rattle.seam_shown.specs.Telling.{ComesBetween, TellsRightly};
@@ -117,4 +120,40 @@ pub fn a_worked_witness_tells_rightly()
         TellsRightly frame 1 0 1 (true_between frame 1 example.world_shown v) (new_client standard) example.world_shown }
     ensures runs { (v : World) (es : List Event) → LeadsTo node_has_work node_steps example.world_shown es v →
         TellsRightly frame 1 0 1 (known_between frame 1 example.world_shown v) (new_client standard) v }
+{}
+
+/// The clients of a whole round. Where a world keeps the records between rounds, a batch fits them, and each client fits its witness as the
+/// batch is loaded, each client is shown rightly, over every list of events, what its proxy showed since (`shown`); an entity without a
+/// witness is shown nothing (`bare`). Where the calls leave the world quiet, the clients, which were shown that, fit their witnesses again
+/// (`fits`): so the record of clients goes on to reaps and looks.
+pub fn clients_of_a_round_are_shown_rightly()
+    ensures shown { (f : Frame) (w : World) (b : Batch) → MayBeLoaded f w b → AreCopiesBetweenRounds f w → (clients : ℕ → ClientReplica) →
+        ClientsFit (framed f b) clients (loaded w b) → (v : World) (es : List Event) → LeadsTo node_has_work node_steps (loaded w b) es v →
+        (e k : ℕ) (r : RealView) → real_in ((entity_flow e (loaded w b)).slot k) ≡ Some r → (x : WitnessView) → r.witness ≡ Some x →
+        ShowsRightly (true_between (framed f b) e (loaded w b) v) e (clients e)
+        (shown_at ((entity_flow e v).slot (home_of (framed f b) e))) }
+    ensures bare { (f : Frame) (w : World) (b : Batch) → MayBeLoaded f w b → (v : World) (es : List Event) →
+        LeadsTo node_has_work node_steps (loaded w b) es v → (e k : ℕ) (r : RealView) →
+        real_in ((entity_flow e (loaded w b)).slot k) ≡ Some r → r.witness ≡ None →
+        shown_at ((entity_flow e v).slot (home_of (framed f b) e)) ≡ [] }
+    ensures fits { (f : Frame) (w : World) (b : Batch) → MayBeLoaded f w b → AreCopiesBetweenRounds f w → (clients : ℕ → ClientReplica) →
+        ClientsFit (framed f b) clients (loaded w b) → (v : World) (es : List Event) → LeadsTo node_has_work node_steps (loaded w b) es v →
+        IsQuiet node_has_work v →
+        ClientsFit (framed f b) (λ e. after_all_shown (clients e) (shown_at ((entity_flow e v).slot (home_of (framed f b) e)))) v }
+{
+    seam_newest::ghosts_of_a_round_are_true();
+    seam_newest::copies_go_from_record_to_record();
+    seam_defs::laws::others_see_the_ghost();
+    a_client_fits_where_calls_end();
+}
+
+/// What that law asks is true of a worked round (`seam_steps`: "view hysteresis"), of an opened world: the batch creates two entities, the
+/// first of them with a client that was shown nothing yet; and its calls end in a quiet world.
+pub fn a_worked_round_of_clients_is_such()
+    ensures may { MayBeLoaded opening empty_world view.batch_1 }
+    ensures copies { AreCopiesBetweenRounds opening empty_world }
+    ensures fits { ClientsFit (framed opening view.batch_1) (λ e. new_client standard) (loaded empty_world view.batch_1) }
+    ensures real { real_in ((entity_flow 1 (loaded empty_world view.batch_1)).slot 0) ≡ Some (view.watcher view.blind) }
+    ensures calls { LeadsTo node_has_work node_steps (loaded empty_world view.batch_1) (events_of view.first_steps) view.first_2 }
+    ensures quiet { IsQuiet node_has_work view.first_2 }
 {}
