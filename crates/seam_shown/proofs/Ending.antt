@@ -1,5 +1,5 @@
 -- Where a round's calls end a client fits its witness, also in what it was shown of others.
-use Rattle.std.proofs.Common.{◌≡◌, ℕ, ◌+◌, ◌≤◌, ◌<◌, ◌⊎◌, Bool, true, false, cond, is_some, List, [], ◌∷◌, length, Option, None, Some, refl}
+use Rattle.std.proofs.Common.{◌≡◌, ℕ, ◌+◌, ◌≤◌, ◌⊎◌, Bool, true, false, cond, is_some, List, [], ◌∷◌, Option, None, Some, refl}
 use Rattle.std.proofs.Common.{sym, ap, ◌∙◌, subst, arith, inl, inr}
 use Rattle.std.specs.List.{AllByRecursion}
 use Rattle.std.specs.Ordering.{nat_cmp, eq_by_cmp}
@@ -32,7 +32,7 @@ use Rattle.seam_moves.specs.BaseMoves as move
 use Rattle.seam_moves.specs.BaseMoves.{BaseMoves}
 use Rattle.seam_moves.specs.Moves.{Moves, at_a_cell, at_a_base}
 use Rattle.seam_moves.proofs.Classify.{event_moves, frame_happens}
-use Rattle.seam_ones.specs.Ones.{real_in, real_of, IsSpared, IsFrame, HasOne, OneFrom}
+use Rattle.seam_ones.specs.Ones.{real_in, real_of, IsSpared, HasOne}
 use Rattle.seam_ones.specs.Replays.{Account, account_of, after_call, after_calls, Replays}
 use Rattle.seam_ones.proofs.OneReal.{one_leads, spared_happens}
 use Rattle.seam_between.specs.Between.{IsBetweenRounds, IsFitting, framed}
@@ -49,7 +49,7 @@ use Rattle.seam_looks.specs.Clients.{FitsWitness}
 use Rattle.seam_looks.proofs.Sorted.{tied_same}
 use Rattle.seam_told.specs.Telling.{IsAbsent}
 use Rattle.seam_shown.specs.Fits.{FitsWithin}
-use Rattle.seam_shown.specs.Telling.{ComesBetween, TellsRightly}
+use Rattle.seam_shown.specs.Telling.{TellsRightly}
 use Rattle.seam_shown.specs.Rounds.{WasOther, true_between}
 use Rattle.seam_shown.proofs.Starts.{shown_rightly, fits_shown}
 use Rattle.seam_shown.proofs.RoundTruth.{absent_leads}

@@ -1,5 +1,5 @@
 -- A worked world with a client that was shown nothing yet.
-use Rattle.std.proofs.Common.{◌≡◌, ℕ, ◌+◌, List, Some, refl, arith}
+use Rattle.std.proofs.Common.{◌≡◌, List, Some, refl}
 use Rattle.std.specs.List.{IsDistinct}
 use Rattle.seam_machine.specs.Nets.{LeadsTo}
 use Rattle.seam_machine.specs.declared.machines.Event.{Event}

@@ -4,8 +4,10 @@ pub mod Looking
 pub mod Silent
 pub mod Reals
 pub mod InTurn
+pub mod Tells
 pub mod Along
 pub mod Starts
+pub mod ShownOnce
 pub mod RoundTruth
 pub mod Ending
 pub mod ExampleShown
