@@ -11,3 +11,4 @@ pub mod ShownOnce
 pub mod RoundTruth
 pub mod Ending
 pub mod ExampleShown
+pub mod Further
