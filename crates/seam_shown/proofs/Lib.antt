@@ -4,10 +4,13 @@ pub mod Looking
 pub mod Silent
 pub mod Reals
 pub mod InTurn
+pub mod Tells
 pub mod Along
 pub mod Starts
+pub mod ShownOnce
 pub mod RoundTruth
 pub mod Ending
 pub mod Joined
 pub mod ExampleShown
 pub mod ExampleRound
+pub mod Further

@@ -20,11 +20,32 @@ use Rattle.seam_replica.specs.Lines.{Truth, ShowsRightly}
 use Rattle.seam_shown.specs.Fits.{FitsWithin}
 use Rattle.seam_shown.specs.Telling.{TellsRightly}
 use Rattle.seam_shown.proofs.Reals.{each_of}
+use Rattle.seam_shown.proofs.Tells.{Tells}
 use Rattle.seam_shown.proofs.InTurn.{rightly_first}
 
-none_of : (us : List Shown) → length us ≡ 0 → us ≡ []
+pub none_of : (us : List Shown) → length us ≡ 0 → us ≡ []
 none_of [] is = refl
 none_of (u ∷ us) is = absurd (omega (arith, is))
+
+-- where the world is quiet all that the witness told was shown
+pub all_told : (f : Frame) (e ty first : ℕ) (P : List Shown → RealView → WitnessView → Type 0) (w : World) (h : Tells f e ty first P w) →
+    HasClient f e ty first w → IsQuiet node_has_work w → shown_at ((entity_flow e w).slot (home_of f e)) ≡ h.told
+all_told f e ty first P w h client quiet = all_shown f e w client.one.fits.frame quiet ty first (record {
+  frame = client.frame;
+  known = client.known;
+  one = client.one;
+  part = client.part;
+  here = client.here;
+  proxy = client.proxy;
+  has = client.has;
+  lines = client.lines;
+  issued = h.told;
+  told =
+      each_weaker (λ r. r.witness ≡ Some h.witness) (λ r. sent_by r + 1 ≡ first + length h.told) e w
+      (λ r is. let a = ap sent_of is in let b = h.number in omega (arith, a, b))
+      (each_of (λ r. r.witness ≡ Some h.witness) e w h.one.place h.one.real h.one.one h.has);
+  delivery = h.delivery;
+})
 
 module _ (f : Frame) (e ty first : ℕ) (t : Truth) (w : World) where
   -- a witness whose next number is the first tells rightly
@@ -59,22 +80,15 @@ module _ (f : Frame) (e ty first : ℕ) (t : Truth) (w : World) where
     shown_rightly = rightly_first t e c shown h.delivery.rest (subst (ShowsRightly t e c) h.delivery.parts h.rightly)
 
     pub shown_all : HasClient f e ty first w → IsQuiet node_has_work w → shown ≡ h.told
-    shown_all client quiet = all_shown f e w client.one.fits.frame quiet ty first (record {
-      frame = client.frame;
-      known = client.known;
-      one = client.one;
-      part = client.part;
-      here = client.here;
-      proxy = client.proxy;
-      has = client.has;
-      lines = client.lines;
-      issued = h.told;
-      told =
-          each_weaker (λ r. r.witness ≡ Some h.witness) (λ r. sent_by r + 1 ≡ first + length h.told) e w
-          (λ r is. let a = ap sent_of is in let b = h.number in omega (arith, a, b))
-          (each_of (λ r. r.witness ≡ Some h.witness) e w h.one.place h.one.real h.one.one h.has);
+    shown_all client quiet = all_told f e ty first (λ us r x. Unit {0}) w (record {
+      one = h.one;
+      witness = h.witness;
+      has = h.has;
+      told = h.told;
+      number = h.number;
       delivery = h.delivery;
-    })
+      holds = tt;
+    }) client quiet
 
     pub fits_shown : HasClient f e ty first w → IsQuiet node_has_work w → FitsWithin f h.one.real h.witness (after_all_shown c shown)
     fits_shown client quiet = subst (λ us. FitsWithin f h.one.real h.witness (after_all_shown c us)) (sym (shown_all client quiet)) h.fits

@@ -8,20 +8,21 @@
 //! `specs/Rounds` what is true between two worlds: nothing of before the first.
 //!
 //! Crates above cite these modules of `proofs`: `Apart` (looks at different entities), `Lines` (what a look tells of others), `Looking` (a
-//! look), `Silent` (where none is taken), `Reals` (a real that goes on), `InTurn` (lines in parts), `Along` (every list of events),
-//! `Starts` (where a witness begins to tell, and where all was shown), `RoundTruth` (what cells know in a round), `Ending` (where the calls
-//! of a round end), `Joined` (the clients of a round), `ExampleShown` and `ExampleRound` (a worked world and a worked round).
+//! look), `Silent` (where none is taken), `Reals` (a real that goes on), `InTurn` (lines in parts), `Tells` (what is true of what a
+//! witness told, over every list of events), `Along` (that it is right), `Starts` (where a witness begins to tell, and where all was
+//! shown), `ShownOnce` (the phase of looks), `RoundTruth` (what cells know in a round), `Ending` (where the calls of a round end), `Joined`
+//! (the clients of a round), `Further` (a look after a look), `ExampleShown` and `ExampleRound` (a worked world and a worked round).
 #![tactic(auto)]
 
-ghost use Rattle.std.specs.Prelude.{◌≡◌, ◌+◌, ℕ, List, [], ◌∷◌, None, Some};
-ghost use Rattle.seam_defs.specs.Settings.{standard};
+ghost use Rattle.std.specs.Prelude.{◌≡◌, ◌+◌, ℕ, List, [], ◌∷◌, ◌++◌, None, Some};
+ghost use Rattle.seam_defs.specs.Settings.{GhostsReach, standard};
 ghost use Rattle.seam_machine.specs.Nets.{IsQuiet, LeadsTo};
 ghost use Rattle.seam_machine.specs.declared.machines.Event.{Event};
 ghost use Rattle.seam_call.specs.declared.order.Batch.{Batch};
 ghost use Rattle.seam_entity.specs.Reals.{RealView, WitnessView};
 ghost use Rattle.seam_steps.specs.Looks.{looks_of, shown_of, after_looking};
 ghost use Rattle.seam_steps.specs.Cells.{CellView, known_to};
-ghost use Rattle.seam_steps.specs.Loads.{loaded};
+ghost use Rattle.seam_steps.specs.Loads.{loaded, look_loaded};
 ghost use Rattle.seam_steps.specs.Nodes.{World, node_steps, node_has_work};
 ghost use Rattle.seam_steps.specs.Rows.{empty_world};
 ghost use Rattle.seam_steps.specs.ViewRounds as view;
@@ -33,12 +34,16 @@ ghost use Rattle.seam_base_calls.specs.Example as example;
 ghost use Rattle.seam_base_calls.specs.BaseTurns.{home_of};
 ghost use Rattle.seam_base_calls.specs.Clients.{shown_at, HasClient, HasToldAtMost, HasRoomFor};
 ghost use Rattle.seam_between.specs.Between.{IsBetweenRounds, IsFitting, framed};
-ghost use Rattle.seam_base_rounds.specs.Parts.{MayBeLoaded};
 ghost use Rattle.seam_base_rounds.specs.Example.{opening};
 ghost use Rattle.seam_newest.specs.Copies.{AreCopiesBetweenRounds};
+ghost use Rattle.seam_places.specs.Places.{ArePlaced};
+ghost use Rattle.seam_base_rounds.specs.Parts.{MayBeLoaded, HasPartsBetweenRounds, HasSmallNumbers};
 ghost use Rattle.seam_replica.specs.Clients.{ClientReplica, new_client, after_all_shown};
 ghost use Rattle.seam_replica.specs.Lines.{ShowsRightly};
+ghost use Rattle.seam_replica.specs.Looks.{one_look};
 ghost use Rattle.seam_looks.specs.Clients.{FitsWitness, ClientsFit};
+ghost use Rattle.seam_looks.specs.Phases.{HaveRoomToLook};
+ghost use Rattle.seam_looks.specs.Tables.{rows_of};
 ghost use Rattle.seam_shown.specs.Fits.{FitsWithin, truth_of_look};
 ghost use Rattle.seam_shown.specs.Rounds.{known_between, true_between};
 ghost use Rattle.seam_shown.specs.Telling.{ComesBetween, TellsRightly};
@@ -110,6 +115,19 @@ pub fn a_client_fits_where_calls_end()
     seam_newest::ghosts_of_a_round_are_true();
     seam_newest::copies_go_from_record_to_record();
     seam_defs::laws::others_see_the_ghost();
+}
+
+/// Where the witnesses of a world between rounds look, each client is shown exactly one look, at the flat table from before, when the world
+/// is quiet again: its proxy showed those lines, in order, after what it had shown in the round, whatever the order of the events.
+pub fn each_client_is_shown_one_look()
+    ensures { (f : Frame) (u : World) → IsBetweenRounds f u → HasPartsBetweenRounds f u → HasSmallNumbers f u → AreCopiesBetweenRounds f u →
+        ArePlaced f u → GhostsReach f.settings → HaveRoomToLook u → (clients : ℕ → ClientReplica) → ClientsFit f clients u →
+        (vs : List Event) (v : World) → LeadsTo node_has_work node_steps (look_loaded u) vs v → IsQuiet node_has_work v → (e k : ℕ)
+        (r : RealView) → real_in ((entity_flow e u).slot k) ≡ Some r → (x : WitnessView) → r.witness ≡ Some x →
+        shown_at ((entity_flow e v).slot (home_of f e))
+        ≡ shown_at ((entity_flow e u).slot (home_of f e)) ++ one_look (clients e) e (rows_of u) }
+{
+    seam_looks::a_look_is_one_look_at_the_table();
 }
 
 /// What these laws ask is true of a loaded world with an entity that has a client, which was shown nothing of it yet (`starts`), and so
