@@ -12,3 +12,4 @@ pub mod RoundTruth
 pub mod Ending
 pub mod ExampleShown
 pub mod Further
+pub mod FurtherLooks
