@@ -315,7 +315,8 @@ module _ (r : Replica) (own : Pos) (known : List Seen) (view : IsView r)
   begins_out x (Some s) found here true is =
       let of_it : s.entity ≡ x = entity_is known found in
       inr (any_second x (leaves ++ sets) enters
-      (any_known (is_new r own) x s (ap (λ b. not b && near s) (ap (in_view r) of_it ∙ not_viewed x r.entries here) ∙ is s refl) known found))
+      (any_known (is_new r own) x s
+      (ap (λ b. not b && near s) (ap (in_view r) of_it ∙ not_viewed x r.entries here) ∙ is s refl) known found))
     where
       entity_by : (y : Seen) (ss : List Seen) (b : Bool) → eqb y.entity x ≡ b → cond b (Some y) (seen_of x ss) ≡ Some s →
           (seen_of x ss ≡ Some s → s.entity ≡ x) → s.entity ≡ x

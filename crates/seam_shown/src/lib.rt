@@ -10,8 +10,8 @@
 //! Crates above cite these modules of `proofs`: `Apart` (looks at different entities), `Lines` (what a look tells of others), `Looking` (a
 //! look), `Silent` (where none is taken), `Reals` (a real that goes on), `InTurn` (lines in parts), `Tells` (what is true of what a witness
 //! told, over every list of events), `Along` (that it is right), `Starts` (where a witness begins to tell, and where all was shown),
-//! `ShownOnce` (the phase of looks), `Further` and `FurtherLooks` (a further look, at what a view knows and at the flat table), `RoundTruth`
-//! (what cells know in a round), `Ending` (where the calls of a round end), `ExampleShown` (a worked world).
+//! `ShownOnce` (the phase of looks), `Further` and `FurtherLooks` (a further look, at what a view knows and at the flat table),
+//! `RoundTruth` (what cells know in a round), `Ending` (where the calls of a round end), `ExampleShown` (a worked world).
 #![tactic(auto)]
 
 ghost use Rattle.std.specs.Prelude.{◌≡◌, ◌+◌, ℕ, List, [], ◌∷◌, ◌++◌, Some};
@@ -20,6 +20,7 @@ ghost use Rattle.seam_defs.specs.Settings.{GhostsReach, standard};
 ghost use Rattle.seam_machine.specs.Nets.{IsQuiet, LeadsTo};
 ghost use Rattle.seam_machine.specs.declared.machines.Event.{Event};
 ghost use Rattle.seam_call.specs.declared.order.Batch.{Batch};
+ghost use Rattle.seam_call.specs.declared.shown.Shown.{Shown};
 ghost use Rattle.seam_entity.specs.Reals.{RealView, WitnessView};
 ghost use Rattle.seam_steps.specs.Looks.{looks_of, shown_of, after_looking};
 ghost use Rattle.seam_steps.specs.Cells.{CellView, known_to};
@@ -117,13 +118,20 @@ pub fn a_client_fits_where_calls_end()
 }
 
 /// Where the witnesses of a world between rounds look, each client is shown exactly one look, at the flat table from before, when the world
-/// is quiet again: its proxy showed those lines, in order, after what it had shown in the round, whatever the order of the events.
+/// is quiet again: its proxy showed those lines, in order, after what it had shown in the round, whatever the order of the events (`all`).
+/// At each moment until then it showed a first part of them (`until`).
 pub fn each_client_is_shown_one_look()
-    ensures { (f : Frame) (u : World) → IsBetweenRounds f u → HasPartsBetweenRounds f u → HasSmallNumbers f u →
-        AreCopiesBetweenRounds f u → ArePlaced f u → GhostsReach f.settings → HaveRoomToLook u → (clients : ℕ → ClientReplica) → ClientsFit f clients u →
-        (vs : List Event) (v : World) → LeadsTo node_has_work node_steps (look_loaded u) vs v → IsQuiet node_has_work v → (e k : ℕ)
+    ensures until { (f : Frame) (u : World) → IsBetweenRounds f u → HasPartsBetweenRounds f u → HasSmallNumbers f u →
+        AreCopiesBetweenRounds f u → ArePlaced f u → GhostsReach f.settings → HaveRoomToLook u → (clients : ℕ → ClientReplica) →
+        ClientsFit f clients u → (vs : List Event) (v : World) → LeadsTo node_has_work node_steps (look_loaded u) vs v → (e k : ℕ)
         (r : RealView) → real_in ((entity_flow e u).slot k) ≡ Some r → (x : WitnessView) → r.witness ≡ Some x →
-        shown_at ((entity_flow e v).slot (home_of f e))
+        (rest : List Shown) × (shown_at ((entity_flow e v).slot (home_of f e)) ++ rest
+        ≡ shown_at ((entity_flow e u).slot (home_of f e)) ++ one_look (clients e) e (rows_of u)) }
+    ensures all { (f : Frame) (u : World) → IsBetweenRounds f u → HasPartsBetweenRounds f u → HasSmallNumbers f u →
+        AreCopiesBetweenRounds f u → ArePlaced f u → GhostsReach f.settings → HaveRoomToLook u → (clients : ℕ → ClientReplica) →
+        ClientsFit f clients u → (vs : List Event) (v : World) → LeadsTo node_has_work node_steps (look_loaded u) vs v →
+        IsQuiet node_has_work v → (e k : ℕ) (r : RealView) → real_in ((entity_flow e u).slot k) ≡ Some r → (x : WitnessView) →
+        r.witness ≡ Some x → shown_at ((entity_flow e v).slot (home_of f e))
         ≡ shown_at ((entity_flow e u).slot (home_of f e)) ++ one_look (clients e) e (rows_of u) }
 {
     seam_looks::a_look_is_one_look_at_the_table();
