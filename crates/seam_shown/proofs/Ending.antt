@@ -207,7 +207,8 @@ module _ (f : Frame) (w : World) (b : Batch) (between : IsBetweenRounds f w) (fi
         o.between.from in
         let has : HasOne g x o.first.ty o.world =
         record { fits = its.one.has.fits; place = o.place; real = o.real; one = o.one } in
-        let end = one_leads g (frame_loaded f w b between fits) x o.first.ty settled.type o.world v o.between.after has spared o.between.to in
+        let end =
+        one_leads g (frame_loaded f w b between fits) x o.first.ty settled.type o.world v o.between.after has spared o.between.to in
         let one : q ≡ end.has.real =
         (sole_here real_in real_of (entity_flow x v) end.has.place end.has.real q j end.has.one here).1 in
         let low = (public_rises g o.first o.real o.replays settled.public).1 in
