@@ -1,11 +1,9 @@
 -- After one look a further one shows nothing.
 use Rattle.std.proofs.Common.{◌≡◌, ℕ, ◌≤◌, ◌⊎◌, Bool, true, false, cond, not, ◌&&◌, ◌||◌, eqb, List, [], ◌∷◌, ◌++◌, map, Option, None}
 use Rattle.std.proofs.Common.{Some, refl, sym, ap, ◌∙◌, subst, arith, inl, inr}
-use Rattle.std.specs.Prelude.{nat_lt, nat_le, is_some, option_map}
+use Rattle.std.specs.Prelude.{nat_lt, nat_le}
 use Rattle.std.specs.Map.{keys_of, lookup}
-use Rattle.std.specs.List.{AllByRecursion, IsDistinct, list_any, filter, filter_map}
-use Rattle.std.specs.Ordering.{nat_cmp}
-use Rattle.std.specs.FinMap as table
+use Rattle.std.specs.List.{AllByRecursion, IsDistinct, list_any, filter}
 use Rattle.std.proofs.lemmas.Bool.Decides.{nat_tests}
 use Rattle.std.proofs.lemmas.Map.Keys.{IsDistinct-head, IsDistinct-tail}
 use Rattle.seam_geo.specs.declared.pos.Pos.{Pos}
@@ -17,6 +15,7 @@ use Rattle.seam_view.specs.declared.Look.TheVariants.{Leave, Set, Enter}
 use Rattle.seam_view.specs.Replica.{Replica, IsView, seen_of, placed, without, after_showing, after_look, after_looks, entity_of}
 use Rattle.seam_view.specs.Looks.{is_far, has_changed, in_view}
 use Rattle.seam_view.specs.Plain.{is_gone, is_new, plain_look}
+use Rattle.seam_view.proofs.Kept.{view_after_looks}
 use Rattle.seam_replica.proofs.EachOne.{all_of, turned}
 use Rattle.seam_looks.proofs.Near.{all_filtered}
 use Rattle.seam_looks.proofs.After.{same_distances}
@@ -178,7 +177,6 @@ module _ (t : Seen → Bool) (x : ℕ) (s : Seen) (yes_ : t s ≡ true) where
 -- ---- a look
 
 module _ (r : Replica) (own : Pos) (known : List Seen) (view : IsView r)
-    (stays : (r : Replica) (known : List Seen) (looks : List Look) → IsView r → IsView (after_looks known r looks))
     (once : AllByRecursion (λ (s : Seen). seen_of s.entity known ≡ Some s) known) where
   abbrev far : Seen → Bool
   far s = is_far r own s.pos
@@ -242,7 +240,7 @@ module _ (r : Replica) (own : Pos) (known : List Seen) (view : IsView r)
   settles [] q x v all (inl is) = is
   settles [] q x v all (inr some) = absurd (let z = some in cc)
   settles (l ∷ ls) q x v all now =
-      settles ls (after_look known q l) x (stays q known (l ∷ []) v) all.1 (by (IsAbout x l) refl now)
+      settles ls (after_look known q l) x (view_after_looks known q (l ∷ []) v) all.1 (by (IsAbout x l) refl now)
     where
       by : (b : Bool) → IsAbout x l ≡ b → IsRightIn q.entries x ⊎ ((b || list_any (IsAbout x) ls) ≡ true) →
           IsRightIn (after_look known q l).entries x ⊎ (list_any (IsAbout x) ls ≡ true)
@@ -317,7 +315,8 @@ module _ (r : Replica) (own : Pos) (known : List Seen) (view : IsView r)
   begins_out x (Some s) found here true is =
       let of_it : s.entity ≡ x = entity_is known found in
       inr (any_second x (leaves ++ sets) enters
-      (any_known (is_new r own) x s (ap (λ b. not b && near s) (ap (in_view r) of_it ∙ not_viewed x r.entries here) ∙ is s refl) known found))
+      (any_known (is_new r own) x s
+      (ap (λ b. not b && near s) (ap (in_view r) of_it ∙ not_viewed x r.entries here) ∙ is s refl) known found))
     where
       entity_by : (y : Seen) (ss : List Seen) (b : Bool) → eqb y.entity x ≡ b → cond b (Some y) (seen_of x ss) ≡ Some s →
           (seen_of x ss ≡ Some s → s.entity ≡ x) → s.entity ≡ x
@@ -379,7 +378,7 @@ module _ (r : Replica) (own : Pos) (known : List Seen) (view : IsView r)
 
   pub none_further : plain_look after own known ≡ []
   none_further =
-      let each = entries_stay after.entries (each_version after.entries (stays r known looks view).once) in
+      let each = entries_stay after.entries (each_version after.entries (view_after_looks known r looks view).once) in
       λ i.
       (map (λ p. Leave p.0) (filter_none (λ p. is_gone after own (seen_of p.0 known)) after.entries
       (turned (λ p. (is_gone after own (seen_of p.0 known) ≡ false) × (has_changed after own p.1 (seen_of p.0 known) ≡ false))

@@ -14,3 +14,4 @@ pub mod Joined
 pub mod ExampleShown
 pub mod ExampleRound
 pub mod Further
+pub mod FurtherLooks

@@ -5,7 +5,7 @@ use Rattle.std.specs.Prelude.{option_map, slice_get}
 use Rattle.std.specs.Ordering.{nat_cmp, eq_by_cmp}
 use Rattle.std.specs.FinMap as table
 use Rattle.std.proofs.lemmas.Bool.Decides.{nat_tests}
-use Rattle.std.proofs.lemmas.List.{length-append, append-nil}
+use Rattle.std.proofs.lemmas.List.{length-append, append-nil, append_assoc}
 use Rattle.seam_machine.specs.Nets.{IsQuiet, LeadsTo}
 use Rattle.seam_machine.specs.declared.machines.Event.{Event}
 use Rattle.seam_machine.proofs.Quiet.{quiet_tasks}
@@ -230,10 +230,9 @@ module _ (f : Frame) (u : World) (between : IsBetweenRounds f u) (parts : HasPar
       looks_by os (midway x rest is too mid empty) =
           looks_so rest (subst (λ z. IsMidway c z rest) (same_cell (sym too ∙ at_d)) mid)
 
-    -- ---- to the quiet end
+    -- ---- on the way, and to the quiet end
 
-    module _ (vs : List Event) (end : World) (run : LeadsTo node_has_work node_steps start vs end)
-        (quiet : IsQuiet node_has_work end) where
+    module _ (vs : List Event) (end : World) (run : LeadsTo node_has_work node_steps start vs end) where
       most : (w : World) → ComesBetween start end w → HasToldAtMost e (sent_by r + most_told) w
       most w m = (look_numbers f u between parts small m.before w m.from e home r here).most
 
@@ -253,39 +252,63 @@ module _ (f : Frame) (u : World) (between : IsBetweenRounds f u) (parts : HasPar
           tells_lead f e r.ty first (sent_by r + most_told) IsTold (λ us q p y z so. so) start end most asks vs begins client still.spared
           numbers.room run
 
-      sent_end : v.sent + length look ≡ tells_end.witness.sent
-      sent_end =
-          let at = ends.looked f u between room vs end run quiet e home r here cell node in
-          let same =
-          (sole_here real_in real_of (entity_flow e end) tells_end.one.place tells_end.one.real (having_looked cell e r) home
-          tells_end.one.one at).1 in
-          let is : Some (witness_looked cell e r v) ≡ Some tells_end.witness =
-          sym (ap (λ o. (looked_by cell e r o).witness) seen) ∙ ap (λ (z : RealView). z.witness) same ∙ tells_end.has in
-          ap (λ (z : WitnessView). z.sent) (same_witness is)
+      -- what was shown is a first part of it
+      first_part : (us : List Shown) → shown_at ((entity_flow e end).slot (home_of f e)) ++ us ≡ tells_end.told →
+          (tells_end.told ≡ before) ⊎ (tells_end.told ≡ before ++ look) →
+          (rest : List Shown) × (shown_at ((entity_flow e end).slot (home_of f e)) ++ rest ≡ before ++ look)
+      first_part us parts (inr is) = (us, parts ∙ is)
+      first_part us parts (inl is) = (
+        us ++ look,
+        sym (append_assoc (shown_at ((entity_flow e end).slot (home_of f e))) us look) ∙ ap (λ l. l ++ look) (parts ∙ is),
+      )
 
-      told_end : (us : List Shown) → us ≡ tells_end.told → (us ≡ before) ⊎ (us ≡ before ++ look) → us ≡ before ++ look
-      told_end us same (inr is) = is
-      told_end us same (inl is) =
-          let a = sent_end in
-          let b = tells_end.number in
-          let c = next_is in
-          let d = ap length same in
-          let g = ap length is in
-          let none = none_of look (omega (arith, a, b, c, d, g)) in
-          is ∙ sym (append-nil before) ∙ ap (λ l. before ++ l) (sym none)
+      shown_part : (rest : List Shown) × (shown_at ((entity_flow e end).slot (home_of f e)) ++ rest ≡ before ++ look)
+      shown_part = first_part tells_end.delivery.rest (sym tells_end.delivery.parts) tells_end.holds
 
-      shown_end : shown_at ((entity_flow e end).slot (home_of f e)) ≡ before ++ look
-      shown_end =
-          all_told f e r.ty first IsTold end tells_end
-          (client_leads f e r.ty first (sent_by r + most_told) start end vs client still.spared numbers.room run numbers.most) quiet
-          ∙ told_end tells_end.told refl tells_end.holds
+      module _ (quiet : IsQuiet node_has_work end) where
+        sent_end : v.sent + length look ≡ tells_end.witness.sent
+        sent_end =
+            let at = ends.looked f u between room vs end run quiet e home r here cell node in
+            let same =
+            (sole_here real_in real_of (entity_flow e end) tells_end.one.place tells_end.one.real (having_looked cell e r) home
+            tells_end.one.one at).1 in
+            let is : Some (witness_looked cell e r v) ≡ Some tells_end.witness =
+            sym (ap (λ o. (looked_by cell e r o).witness) seen) ∙ ap (λ (z : RealView). z.witness) same ∙ tells_end.has in
+            ap (λ (z : WitnessView). z.sent) (same_witness is)
 
-  module _ (vs : List Event) (end : World) (run : LeadsTo node_has_work node_steps start vs end)
-      (quiet : IsQuiet node_has_work end) where
-    shown_by : IsServed f e r.ty start → shown_at ((entity_flow e end).slot (home_of f e)) ≡ before ++ look
-    shown_by (bare none unseen) = absurd (let z = sym (none (home_of f e) had.part still.here) ∙ proxy.1 in cc)
-    shown_by (served first low client some) = shown_end first client vs end run quiet
+        told_end : (us : List Shown) → us ≡ tells_end.told → (us ≡ before) ⊎ (us ≡ before ++ look) → us ≡ before ++ look
+        told_end us same (inr is) = is
+        told_end us same (inl is) =
+            let a = sent_end in
+            let b = tells_end.number in
+            let c = next_is in
+            let d = ap length same in
+            let g = ap length is in
+            let none = none_of look (omega (arith, a, b, c, d, g)) in
+            is ∙ sym (append-nil before) ∙ ap (λ l. before ++ l) (sym none)
 
-    pub shown_once : shown_at ((entity_flow e end).slot (home_of f e)) ≡ before ++ look
-    shown_once =
-        shown_by (look_serves f u between parts small [] start (leads_nowhere node_has_work node_steps start) e home r here)
+        shown_end : shown_at ((entity_flow e end).slot (home_of f e)) ≡ before ++ look
+        shown_end =
+            all_told f e r.ty first IsTold end tells_end
+            (client_leads f e r.ty first (sent_by r + most_told) start end vs client still.spared numbers.room run numbers.most) quiet
+            ∙ told_end tells_end.told refl tells_end.holds
+
+  module _ (vs : List Event) (end : World) (run : LeadsTo node_has_work node_steps start vs end) where
+    served_at : IsServed f e r.ty start
+    served_at = look_serves f u between parts small [] start (leads_nowhere node_has_work node_steps start) e home r here
+
+    part_by : IsServed f e r.ty start →
+        (rest : List Shown) × (shown_at ((entity_flow e end).slot (home_of f e)) ++ rest ≡ before ++ look)
+    part_by (bare none unseen) = absurd (let z = sym (none (home_of f e) had.part still.here) ∙ proxy.1 in cc)
+    part_by (served first low client some) = shown_part first client vs end run
+
+    pub shown_until : (rest : List Shown) × (shown_at ((entity_flow e end).slot (home_of f e)) ++ rest ≡ before ++ look)
+    shown_until = part_by served_at
+
+    module _ (quiet : IsQuiet node_has_work end) where
+      shown_by : IsServed f e r.ty start → shown_at ((entity_flow e end).slot (home_of f e)) ≡ before ++ look
+      shown_by (bare none unseen) = absurd (let z = sym (none (home_of f e) had.part still.here) ∙ proxy.1 in cc)
+      shown_by (served first low client some) = shown_end first client vs end run quiet
+
+      pub shown_once : shown_at ((entity_flow e end).slot (home_of f e)) ≡ before ++ look
+      shown_once = shown_by served_at

@@ -8,17 +8,20 @@
 //! `specs/Rounds` what is true between two worlds: nothing of before the first.
 //!
 //! Crates above cite these modules of `proofs`: `Apart` (looks at different entities), `Lines` (what a look tells of others), `Looking` (a
-//! look), `Silent` (where none is taken), `Reals` (a real that goes on), `InTurn` (lines in parts), `Tells` (what is true of what a
-//! witness told, over every list of events), `Along` (that it is right), `Starts` (where a witness begins to tell, and where all was
-//! shown), `ShownOnce` (the phase of looks), `RoundTruth` (what cells know in a round), `Ending` (where the calls of a round end), `Joined`
-//! (the clients of a round), `Further` (a look after a look), `ExampleShown` and `ExampleRound` (a worked world and a worked round).
+//! look), `Silent` (where none is taken), `Reals` (a real that goes on), `InTurn` (lines in parts), `Tells` (what is true of what a witness
+//! told, over every list of events), `Along` (that it is right), `Starts` (where a witness begins to tell, and where all was shown),
+//! `ShownOnce` (the phase of looks), `Further` and `FurtherLooks` (a further look, at what a view knows and at the flat table),
+//! `RoundTruth` (what cells know in a round), `Ending` (where the calls of a round end), `Joined` (the clients of a round), `ExampleShown`
+//! and `ExampleRound` (a worked world and a worked round).
 #![tactic(auto)]
 
 ghost use Rattle.std.specs.Prelude.{◌≡◌, ◌+◌, ℕ, List, [], ◌∷◌, ◌++◌, None, Some};
+ghost use Rattle.seam_view.specs.Replica.{IsView};
 ghost use Rattle.seam_defs.specs.Settings.{GhostsReach, standard};
 ghost use Rattle.seam_machine.specs.Nets.{IsQuiet, LeadsTo};
 ghost use Rattle.seam_machine.specs.declared.machines.Event.{Event};
 ghost use Rattle.seam_call.specs.declared.order.Batch.{Batch};
+ghost use Rattle.seam_call.specs.declared.shown.Shown.{Shown};
 ghost use Rattle.seam_entity.specs.Reals.{RealView, WitnessView};
 ghost use Rattle.seam_steps.specs.Looks.{looks_of, shown_of, after_looking};
 ghost use Rattle.seam_steps.specs.Cells.{CellView, known_to};
@@ -118,16 +121,37 @@ pub fn a_client_fits_where_calls_end()
 }
 
 /// Where the witnesses of a world between rounds look, each client is shown exactly one look, at the flat table from before, when the world
-/// is quiet again: its proxy showed those lines, in order, after what it had shown in the round, whatever the order of the events.
+/// is quiet again: its proxy showed those lines, in order, after what it had shown in the round, whatever the order of the events (`all`).
+/// At each moment until then it showed a first part of them (`until`).
 pub fn each_client_is_shown_one_look()
-    ensures { (f : Frame) (u : World) → IsBetweenRounds f u → HasPartsBetweenRounds f u → HasSmallNumbers f u → AreCopiesBetweenRounds f u →
-        ArePlaced f u → GhostsReach f.settings → HaveRoomToLook u → (clients : ℕ → ClientReplica) → ClientsFit f clients u →
-        (vs : List Event) (v : World) → LeadsTo node_has_work node_steps (look_loaded u) vs v → IsQuiet node_has_work v → (e k : ℕ)
+    ensures until { (f : Frame) (u : World) → IsBetweenRounds f u → HasPartsBetweenRounds f u → HasSmallNumbers f u →
+        AreCopiesBetweenRounds f u → ArePlaced f u → GhostsReach f.settings → HaveRoomToLook u → (clients : ℕ → ClientReplica) →
+        ClientsFit f clients u → (vs : List Event) (v : World) → LeadsTo node_has_work node_steps (look_loaded u) vs v → (e k : ℕ)
         (r : RealView) → real_in ((entity_flow e u).slot k) ≡ Some r → (x : WitnessView) → r.witness ≡ Some x →
-        shown_at ((entity_flow e v).slot (home_of f e))
+        (rest : List Shown) × (shown_at ((entity_flow e v).slot (home_of f e)) ++ rest
+        ≡ shown_at ((entity_flow e u).slot (home_of f e)) ++ one_look (clients e) e (rows_of u)) }
+    ensures all { (f : Frame) (u : World) → IsBetweenRounds f u → HasPartsBetweenRounds f u → HasSmallNumbers f u →
+        AreCopiesBetweenRounds f u → ArePlaced f u → GhostsReach f.settings → HaveRoomToLook u → (clients : ℕ → ClientReplica) →
+        ClientsFit f clients u → (vs : List Event) (v : World) → LeadsTo node_has_work node_steps (look_loaded u) vs v →
+        IsQuiet node_has_work v → (e k : ℕ) (r : RealView) → real_in ((entity_flow e u).slot k) ≡ Some r → (x : WitnessView) →
+        r.witness ≡ Some x → shown_at ((entity_flow e v).slot (home_of f e))
         ≡ shown_at ((entity_flow e u).slot (home_of f e)) ++ one_look (clients e) e (rows_of u) }
 {
     seam_looks::a_look_is_one_look_at_the_table();
+}
+
+/// Once it was shown one look, a client is shown nothing by a further one: at the flat table of any world (`same`), since none is in it
+/// twice; and so at that of the quiet end of the looks (`after`), which leave the table (`table`).
+pub fn a_further_look_shows_nothing()
+    ensures same { (w : World) (c : ClientReplica) → IsView c.others → (e : ℕ) →
+        one_look (after_all_shown c (one_look c e (rows_of w))) e (rows_of w) ≡ [] }
+    ensures table { (f : Frame) (u : World) → IsBetweenRounds f u → HaveRoomToLook u → (vs : List Event) (v : World) →
+        LeadsTo node_has_work node_steps (look_loaded u) vs v → IsQuiet node_has_work v → rows_of v ≡ rows_of u }
+    ensures after { (f : Frame) (u : World) → IsBetweenRounds f u → HaveRoomToLook u → (vs : List Event) (v : World) →
+        LeadsTo node_has_work node_steps (look_loaded u) vs v → IsQuiet node_has_work v → (c : ClientReplica) → IsView c.others → (e : ℕ) →
+        one_look (after_all_shown c (one_look c e (rows_of u))) e (rows_of v) ≡ [] }
+{
+    seam_places::the_last_phases_leave_places();
 }
 
 /// What these laws ask is true of a loaded world with an entity that has a client, which was shown nothing of it yet (`starts`), and so
