@@ -3,7 +3,6 @@ ghost use Rattle.std.specs.Prelude.{◌≡◌, ◌≢◌, ◌<◌, ℕ, List, If
 ghost use Rattle.seam_value.specs.Values.{Fits, text_of};
 ghost use Rattle.seam_value.specs.declared.values.Value.{Value as Values};
 ghost use Rattle.seam_defs.specs.Types.{IsType, method_of};
-ghost use Rattle.seam_defs.specs.Deeds.{part_of_deed};
 ghost use Rattle.seam_transcript.specs.Book.{SpellsArgs, NamesDeed};
 ghost use Rattle.seam_accept.specs.Commands.{texts_of};
 ghost use Rattle.seam_accept.specs.Judging.{Asks, NoMethod, NoDeed, IsIllTyped};
@@ -11,7 +10,7 @@ ghost use Rattle.seam_accept.specs.Judging.{Asks, NoMethod, NoDeed, IsIllTyped};
 use crate::answers::Refusal;
 use crate::command::{DeedWords, MethodWords};
 use crate::naming::{method_named, position_named};
-use seam_defs::{Args, Deed, Method, Part, TypeDef};
+use seam_defs::{Args, Deed, Method, TypeDef};
 use seam_transcript::{Cause, Header};
 use seam_value::{Value, ValueError, ValueType};
 use std::alloc::Global;
@@ -77,18 +76,5 @@ fn value_named(alloc: Global, word: &[u8], t: ValueType) -> Result<Value, Refusa
         Ok(value) => Ok(value),
         Err(ValueError::NoMemory) => Err(Refusal::NoMemory),
         Err(_) => Err(Refusal::Cause(Cause::IllTyped)),
-    }
-}
-
-/// The part of an entity that a deed is for.
-pub fn part_of(t: &TypeDef, deed: &Deed) -> Part
-    ensures { result ≡ part_of_deed t.now deed.now }
-{
-    match deed {
-        Deed::Move(_) => Part::Cell,
-        Deed::Method(number, _) => match t.method(*number) {
-            Some(method) => method.part,
-            None => Part::Cell,
-        },
     }
 }

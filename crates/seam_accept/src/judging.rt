@@ -7,7 +7,7 @@ ghost use Rattle.seam_accept.specs.Judging.{Accepts, Refuses};
 
 use crate::answers::Refusal;
 use crate::command::{CallWords, CreateWords};
-use crate::deeds::{deed_named, part_of};
+use crate::deeds::deed_named;
 use crate::entity::Entity;
 use crate::naming::{base_named, type_named};
 use seam_call::{BaseNode, Call, Create, Sender};
@@ -87,7 +87,7 @@ pub fn judge_call(
     header.defs.known();
     let t = header.defs.type_at(called.ty);
     let deed = deed_named(alloc, header, t, &words.deed)?;
-    let part = part_of(t, &deed);
+    let part = t.part_of(&deed);
     let number = called.next_number(part, node)?;
     let call = Call {
         entity,

@@ -10,7 +10,6 @@
 mod calls;
 mod known;
 mod node;
-mod numbers;
 mod orders;
 mod part;
 mod parts;

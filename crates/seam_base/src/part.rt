@@ -13,10 +13,9 @@ ghost use Rattle.seam_steps.specs.BaseCases.{may_show as client_may_show, fits_b
 ghost use Rattle.seam_base.specs.Nodes.{has_client as part_has_client};
 ghost use Rattle.seam_base.specs.Parts.{part_of, proxy_of, lines_of};
 
-use crate::numbers::may_rise;
 use seam_call::{Call, ClientText, Line, Shown};
 use seam_defs::{Defs, Group, Part, Props, Settings, State};
-use seam_entity::{Orders, can_do};
+use seam_entity::{Orders, can_do, may_rise};
 use seam_geo::Pos;
 use seam_order::InOrder;
 use std::alloc::{AllocError, Global};

@@ -4,7 +4,7 @@ ghost use Rattle.std.specs.Prelude.{◌≡◌, option_copied};
 ghost use Rattle.std.specs.FinMap as table;
 ghost use Rattle.seam_base.specs.Routes.{gives_way as route_gives_way};
 
-use crate::numbers::is_small;
+use seam_entity::is_small;
 use std::marker::Model;
 
 /// How many nodes may be cells.

@@ -17,10 +17,10 @@ ghost use Rattle.seam_steps.specs.BaseCases.{offered_update, shows_next, stray_p
 ghost use Rattle.seam_base.specs.Parts.{proxy_of, with_update, with_shown};
 
 use crate::calls::text_of;
-use crate::numbers::may_rise as number_may_rise;
 use crate::part::{BasePart, Proxy};
 use seam_call::{ClientText, Update};
 use seam_defs::{Defs, Group, Property, TypeDef};
+use seam_entity::may_rise as number_may_rise;
 use seam_memory::NoMemoryFor;
 use seam_order::{InOrder, Offer};
 use std::alloc::{AllocError, Global};

@@ -1,17 +1,10 @@
 -- Which part of an entity a call is for, and from whom.
-use Rattle.std.specs.Prelude.{ℕ, Bool, true, false, ◌&&◌, ◌==◌}
+use Rattle.std.specs.Prelude.{ℕ, Bool, ◌&&◌, ◌==◌}
 use Rattle.seam_defs.specs.declared.flags.Part.{Part}
-use Rattle.seam_defs.specs.declared.flags.Part.TheVariants as part
+pub use Rattle.seam_defs.specs.Tests.{same_part}
 use Rattle.seam_call.specs.declared.call.Call.{Call}
 use Rattle.seam_call.specs.declared.sender.Sender.{Sender}
 use Rattle.seam_call.specs.Senders.{same_sender}
-
--- whether two parts are the same
-abbrev pub same_part : Part → Part → Bool
-same_part part.Cell part.Cell = true
-same_part part.Base part.Base = true
-same_part part.Cell part.Base = false
-same_part part.Base part.Cell = false
 
 -- whether a call is for a part of an entity
 abbrev pub is_for : Part → ℕ → Call → Bool

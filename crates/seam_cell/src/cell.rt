@@ -7,7 +7,6 @@ ghost use Rattle.seam_ghosts.specs.Book.{ghost_after};
 ghost use Rattle.seam_machine.specs.declared.machines.Input.TheVariants.{From};
 ghost use Rattle.seam_entity.specs.declared.message.Msg.TheVariants as msg;
 ghost use Rattle.seam_entity.specs.Here.{cell_count};
-ghost use Rattle.seam_entity.specs.Numbers.{is_small as is_small_number};
 ghost use Rattle.seam_steps.specs.CellCases.{stray_ghost_set};
 ghost use Rattle.seam_steps.specs.Cells.{cell_steps, has_witness, real_is_ready};
 ghost use Rattle.seam_steps.specs.Loads.{empty_cell};
@@ -19,7 +18,7 @@ use crate::entity_set::EntitySet;
 use crate::next::Next;
 use seam_call::{Call, GhostCopy};
 use seam_defs::{Defs, Settings};
-use seam_entity::{Msg, Parcel, fits_copy};
+use seam_entity::{Msg, Parcel, fits_copy, is_small};
 use seam_ghosts::GhostBook;
 use seam_machine::Out;
 use seam_memory::NoMemoryFor;
@@ -77,13 +76,6 @@ impl Model for Cell {
       survey = c.survey;
       looks = c.looks;
     }) c.ready c.witnesses };
-}
-
-// Whether the number is small enough to be a beat or a version.
-fn is_small(n: u64) -> bool
-    ensures { result ≡ is_small_number n }
-{
-    n < 1 << 62
 }
 
 // Whether a copy that comes at that beat does not fit, or a number is not small.

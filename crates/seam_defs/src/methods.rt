@@ -1,12 +1,12 @@
 // The methods of a type.
 ghost use Rattle.std.specs.Prelude.{◌≡◌, ◌<◌, ◌≤◌, ◌↔◌, ℕ, IsTrue, IfSome, IfNone, Some, length, slice_get};
-ghost use Rattle.seam_defs.specs.Deeds.{TakesArgs, FitsDeed};
+ghost use Rattle.seam_defs.specs.Deeds.{TakesArgs, FitsDeed, part_of_deed};
 ghost use Rattle.seam_defs.specs.Tests.{fit_values, fits_deed};
 ghost use Rattle.seam_defs.specs.Types.{IsType, IsMethod, method_of, no_method, names_of_methods};
 
 use crate::defs::order;
 use crate::groups::fits_at;
-use crate::{Deed, Method, TypeDef};
+use crate::{Deed, Method, Part, TypeDef};
 use seam_value::{Value, ValueType};
 
 impl TypeDef {
@@ -55,6 +55,19 @@ impl TypeDef {
             Deed::Method(number, args) => match self.method(*number) {
                 Some(method) => method.takes(args.values()),
                 None => false,
+            },
+        }
+    }
+
+    /// The part of an entity that the deed is for.
+    pub fn part_of(&self, deed: &Deed) -> Part
+        ensures { result ≡ part_of_deed self.now deed.now }
+    {
+        match deed {
+            Deed::Move(_) => Part::Cell,
+            Deed::Method(number, _) => match self.method(*number) {
+                Some(method) => method.part,
+                None => Part::Cell,
             },
         }
     }

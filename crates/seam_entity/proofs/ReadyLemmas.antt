@@ -47,7 +47,8 @@ entries_shown (p ∷ ps) o =
       | true ↦ rest
       | false ↦
           table.entries-insert nat_cmp_total _ (rank_of p.0) p.1
-          ∙ (ap (table.put nat_cmp (rank_of p.0) p.1) rest ∙ put_below (rank_of p.0) p.1 ps (sorted_head nat_cmp (rank_of p.0) (ranks ps) o))
+          ∙ (ap (table.put nat_cmp (rank_of p.0) p.1) rest
+          ∙ put_below (rank_of p.0) p.1 ps (sorted_head nat_cmp (rank_of p.0) (ranks ps) o))
     ]
 
 -- ---- the first that is ready

@@ -2,7 +2,6 @@
 
 ghost use Rattle.std.specs.Prelude.{◌≡◌, ℕ};
 ghost use Rattle.std.specs.List.{list_all};
-ghost use Rattle.seam_defs.specs.Deeds.{part_of_deed};
 ghost use Rattle.seam_entity.specs.Calls.{item_passes};
 ghost use Rattle.seam_entity.specs.Fitting.{is_inside as is_in_space, stays_inside as stays_in_space, can_do as can_part_do};
 ghost use Rattle.seam_entity.specs.Executing.{fits_cell_part as call_fits, fits_copy as copy_fits};
@@ -30,24 +29,11 @@ fn stays_inside(size: u32, deed: &Deed) -> bool
     }
 }
 
-// The part that a deed is for.
-fn part_of(t: &TypeDef, deed: &Deed) -> Part
-    ensures { result ≡ part_of_deed t.now deed.now }
-{
-    match deed {
-        Deed::Move(_) => Part::Cell,
-        Deed::Method(number, _) => match t.method(*number) {
-            Some(method) => method.part,
-            None => Part::Cell,
-        },
-    }
-}
-
 /// Whether the deed is one of that part of the type, fits it, and does not leave a space of that size.
 pub fn can_do(size: u32, t: &TypeDef, part: Part, deed: &Deed) -> bool
     ensures { result ≡ can_part_do size t.now part deed.now }
 {
-    part_of(t, deed) == part && (t.fits(deed) && stays_inside(size, deed))
+    t.part_of(deed) == part && (t.fits(deed) && stays_inside(size, deed))
 }
 
 /// Whether the call is for the cell part of that entity, and fits that type.

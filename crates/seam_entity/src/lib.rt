@@ -11,12 +11,14 @@
 
 mod fitting;
 mod message;
+mod numbers;
 mod orders;
 mod real;
 mod witness;
 
 pub use fitting::{can_do, fits_cell_part, fits_copy, is_inside};
 pub use message::{Msg, Parcel};
+pub use numbers::{is_small, may_rise};
 pub use orders::Orders;
 pub use real::{After, Did, Real, ghost_copy};
 pub use seam_memory::NoMemoryFor;

@@ -63,8 +63,8 @@ found_or_none held None answer = answer
 found_or_none held (Some len) answer = no_feed_denied held len answer
 
 -- bytes were read after those that were moved to the start
-pub no_feed_after_read : (old new : List ℕ) (a b f : ℕ) → take (b - a) new ≡ slice_range old a b → b - a ≤ f → HasNoFeed (slice_range old a b)
-    → HasNoFeed (slice_range new (b - a) f) → HasNoFeed (slice_range new 0 f)
+pub no_feed_after_read : (old new : List ℕ) (a b f : ℕ) → take (b - a) new ≡ slice_range old a b → b - a ≤ f
+    → HasNoFeed (slice_range old a b) → HasNoFeed (slice_range new (b - a) f) → HasNoFeed (slice_range new 0 f)
 no_feed_after_read old new a b f kept order whole more =
     let moved : slice_range new 0 (b - a) ≡ slice_range old a b = ap (λ n. take n new) (sub-zero (b - a)) ∙ kept in
     subst HasNoFeed (sym (range_split new 0 (b - a) f (omega arith) order))

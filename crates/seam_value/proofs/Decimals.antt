@@ -1,6 +1,7 @@
 -- Numbers in decimal: what their digits are, and that they give the number back.
 use Rattle.std.proofs.Common.{◌≡◌, ◌≢◌, ℕ, ◌+◌, ◌*◌, ◌/◌, ◌%◌, ◌<◌, ◌≤◌, ◌^◌, Bool, true, false, List, [], ◌∷◌, ◌++◌, length, refl, sym}
 use Rattle.std.proofs.Common.{◌∙◌, ap, subst, arith, zero, suc, ℤ, pos, negsuc, ltb, ltb-true, ltb-false, zero-add, append_assoc}
+use Rattle.std.proofs.Common.{◌≤ℤ◌, ◌<ℤ◌, of_z, w8}
 use Rattle.std.specs.Prelude.{map, slice_index, ◌&&◌}
 use Rattle.std.specs.List.{list_all}
 use Rattle.std.specs.Char.{digit_value}
@@ -8,6 +9,7 @@ use Rattle.std.specs.Fmt.{decimal, signed_decimal}
 use Rattle.std.specs.Int.Digits.{digits_of}
 use Rattle.std.specs.Str.Parse.{digits_value, digits_value_after}
 use Rattle.std.proofs.lemmas.Int.Digits.{digits_of_step, digits_value_push}
+use Rattle.std.proofs.lemmas.Int.{ints}
 use Rattle.std.proofs.lemmas.Fmt.{decimal_by_steps_wide}
 use Rattle.std.proofs.lemmas.Str.{digit_value_digit}
 use Rattle.std.proofs.lemmas.Grind.{common_steps}
@@ -52,6 +54,11 @@ decimal_of_is n h =
 pub number_text_is : (z : ℤ) → SFits w128 z → number_text z ≡ signed_decimal z
 number_text_is (pos n) f = decimal_of_is n (omega (arith, f))
 number_text_is (negsuc n) f = ap (λ (xs : List ℕ). 45 ∷ xs) (decimal_of_is (suc n) (omega (arith, f)))
+
+-- a number of one digit
+pub number_text_of_digit : (z : ℤ) → pos 0 ≤ℤ z → z <ℤ pos 10 → number_text z ≡ (48 + of_z w8 z) ∷ []
+number_text_of_digit (pos n) h lt = decimal_of_digit n (omega (arith, ints))
+number_text_of_digit (negsuc n) h lt = absurd (omega (arith, ints))
 
 -- a fact of a number and its digits, from the digits one after another
 from_step : (P : ℕ → List ℕ → Type 0) → ((n : ℕ) → n < 10 → P n ((48 + n) ∷ [])) →

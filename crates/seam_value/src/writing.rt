@@ -25,6 +25,11 @@ fn push_number(out: &mut Vec<u8>, number: i128) -> Result<(), AllocError>
     ensures ok { OnOk result (out.new.items ≡ out.old.items ++ number_text number) }
     ensures err { OnErr result (out.new.items ≡ out.old.items) }
 {
+    // Most numbers of a game are small, and digits of 128 bits are dear.
+    if 0 <= number && number < 10 {
+        out.push(b'0' + number as u8)?;
+        return Ok(());
+    }
     let mut buffer = Buffer::new();
     out.extend_from_slice(buffer.format(number).as_bytes())
 }
