@@ -110,7 +110,7 @@ reap_orders e q (Cell c) h = h
 reap_orders e q (Base n) h = reap_not_tick e q n (eqb (base_of n.here q) n.here.me) h
 
 -- reaps are no ticks
-reaps_without_ticks : (e : ℕ) (es : List ℕ) (s : NodeView) → NoTicks (has_of e s).base.orders →
+pub reaps_without_ticks : (e : ℕ) (es : List ℕ) (s : NodeView) → NoTicks (has_of e s).base.orders →
     NoTicks (has_of e (each reap_ordered_at es s)).base.orders
 reaps_without_ticks e [] s h = h
 reaps_without_ticks e (q ∷ es) s h = reaps_without_ticks e es (reap_ordered_at q s) (reap_orders e q s h)

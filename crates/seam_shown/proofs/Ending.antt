@@ -160,7 +160,7 @@ module _ (f : Frame) (x : ℕ) (start : World) where
             g.moves.sent (h.routes g.k was) g.moves.moves);
       }
 
-  routes_stay : (v : World) (es : List Event) → IsInFrame f start → LeadsTo node_has_work node_steps start es v → (k : ℕ) →
+  pub routes_stay : (v : World) (es : List Event) → IsInFrame f start → LeadsTo node_has_work node_steps start es v → (k : ℕ) →
       is_some ((entity_flow x start).slot k).base.route ≡ true → is_some ((entity_flow x v).slot k).base.route ≡ true
   routes_stay v es frame run =
       (leads_keeps node_has_work node_steps RoutesStay routes_more start v es (record { frame = frame; routes = λ k h. h }) run).routes

@@ -33,7 +33,7 @@ use Rattle.seam_looks.specs.Clients.{FitsWitness, ClientsFit}
 
 -- ---- a new client fits a new witness
 
-new_fits : (f : Frame) (w : World) (r : RealView) → FitsWitness f w r (new_witness f.settings) (new_client f.settings)
+pub new_fits : (f : Frame) (w : World) (r : RealView) → FitsWitness f w r (new_witness f.settings) (new_client f.settings)
 unfolding IsDistinct
 new_fits f w r = record {
   others = refl;
@@ -48,7 +48,7 @@ new_fits f w r = record {
 }
 
 -- the witness that a real gets in a load that had none
-new_seen : (joins : Bool) (h : Here) (q r : RealView) (x : WitnessView) → q.witness ≡ None → real_begins (real_if joins h q) ≡ r →
+pub new_seen : (joins : Bool) (h : Here) (q r : RealView) (x : WitnessView) → q.witness ≡ None → real_begins (real_if joins h q) ≡ r →
     r.witness ≡ Some x → new_witness h.settings ≡ x
 new_seen true h q r x none is has = let z = ap (λ (y : RealView). y.witness) is ∙ has in cc
 new_seen false h q r x none is has = absurd (let z = sym none ∙ (ap (λ (y : RealView). y.witness) is ∙ has) in cc)
