@@ -89,7 +89,7 @@ reap_part : (e q : ℕ) (s : NodeView) → part_at e (reap_ordered_at q s) ≡ p
 reap_part e q (Cell c) = refl
 reap_part e q (Base n) = reap_if e q n (eqb (base_of n.here q) n.here.me)
 
-reaps_part : (e : ℕ) (es : List ℕ) (s : NodeView) → part_at e (each reap_ordered_at es s) ≡ part_at e s
+pub reaps_part : (e : ℕ) (es : List ℕ) (s : NodeView) → part_at e (each reap_ordered_at es s) ≡ part_at e s
 reaps_part e [] s = refl
 reaps_part e (q ∷ es) s = reaps_part e es (reap_ordered_at q s) ∙ reap_part e q s
 

@@ -110,7 +110,7 @@ module _ (e : ℕ) (g : Option (Ghost GhostCopy) × ℕ) where
       (each_keeps (created_at b.tree) IsAside Any (created_aside b.tree) b.creates (any b.creates) (base_round (cells_of b.tree) s)
       (begun_aside (cells_of b.tree) s h))))
 
-idle_looks : (e : ℕ) (s : NodeView) → node_has_work s ≡ false → (has_of e s).cell.looks ≡ 0
+pub idle_looks : (e : ℕ) (s : NodeView) → node_has_work s ≡ false → (has_of e s).cell.looks ≡ 0
 idle_looks e (Cell c) h =
     ap (times e) (none_left c.looks (neither (is_some (ready_entity c)) _ (neither (has_any c.survey) _ h).1).1)
 idle_looks e (Base n) h = refl

@@ -179,7 +179,7 @@ module _ (f : Frame) (x : ℕ) where
   spared_leads w v es frame spared run =
       (leads_keeps node_has_work node_steps Spares spares_more w v es (record { frame = frame; spared = spared }) run).spared
 
-some_route : (o : Option RouteView) → is_some o ≡ true → (route : RouteView) × (o ≡ Some route)
+pub some_route : (o : Option RouteView) → is_some o ≡ true → (route : RouteView) × (o ≡ Some route)
 some_route None h = cc
 some_route (Some route) h = (route, refl)
 

@@ -48,7 +48,7 @@ new_fits f w r = record {
 }
 
 -- the witness that a real gets in a load that had none
-pub new_seen : (joins : Bool) (h : Here) (q r : RealView) (x : WitnessView) → q.witness ≡ None → real_begins (real_if joins h q) ≡ r →
+new_seen : (joins : Bool) (h : Here) (q r : RealView) (x : WitnessView) → q.witness ≡ None → real_begins (real_if joins h q) ≡ r →
     r.witness ≡ Some x → new_witness h.settings ≡ x
 new_seen true h q r x none is has = let z = ap (λ (y : RealView). y.witness) is ∙ has in cc
 new_seen false h q r x none is has = absurd (let z = sym none ∙ (ap (λ (y : RealView). y.witness) is ∙ has) in cc)
