@@ -1,6 +1,6 @@
 -- Where entities are reaped, each base part stays as it is, with its client and what that was shown, until it is gone.
 use Rattle.std.proofs.Common.{◌≡◌, ℕ, ◌+◌, ◌≤◌, ◌⊎◌, Bool, true, false, cond, eqb, List, [], ◌∷◌, length, Option, None, Some, refl, sym}
-use Rattle.std.proofs.Common.{ap, ◌∙◌, subst, arith, inl, inr}
+use Rattle.std.proofs.Common.{ap, ◌∙◌, ◌++◌, subst, arith, inl, inr, append_assoc}
 use Rattle.std.specs.Prelude.{option_map, slice_get}
 use Rattle.std.specs.List.{AllByRecursion}
 use Rattle.std.specs.FinMap as table
@@ -11,7 +11,7 @@ use Rattle.seam_machine.specs.Totals.{total}
 use Rattle.seam_machine.specs.declared.machines.Event.{Event}
 use Rattle.seam_machine.proofs.Occurring.{occurs}
 use Rattle.seam_machine.proofs.Quiet.{quiet_links, quiet_tasks}
-use Rattle.seam_runs.proofs.Runs.{leads_keeps}
+use Rattle.seam_runs.proofs.Runs.{leads_nowhere, leads_extend, leads_keeps}
 use Rattle.seam_flows.specs.Flows.{comes, slot_at, letters_of}
 use Rattle.seam_flows.proofs.Following.{slots_kept, came}
 use Rattle.seam_order.specs.Held.{OrderView}
@@ -32,9 +32,9 @@ use Rattle.seam_steps.specs.Holders.{holders}
 use Rattle.seam_steps.specs.Nodes.{NodeView, World, node_steps, node_has_work}
 use Rattle.seam_steps.specs.Loads.{with_nodes, reap_ordered_at, reaps_loaded}
 use Rattle.seam_moves.specs.Frames.{Frame, here_at, IsInFrame}
-use Rattle.seam_moves.specs.Sights.{AtBase, mine, times, has_of, has_none, entity_flow}
+use Rattle.seam_moves.specs.Sights.{Has, AtBase, times, has_of, has_none, entity_flow}
 use Rattle.seam_moves.specs.BaseMoves as move
-use Rattle.seam_moves.specs.BaseMoves.{BaseMoves}
+use Rattle.seam_moves.specs.BaseMoves.{BaseMoves, updated}
 use Rattle.seam_moves.specs.Moves.{Moves, at_a_cell, at_a_base}
 use Rattle.seam_moves.proofs.Classify.{event_moves, frame_happens}
 use Rattle.seam_ones.specs.Ones.{real_in}
@@ -57,7 +57,7 @@ use Rattle.seam_base_calls.proofs.Reaped.{no_call_comes, part_stays_gone, reaps_
 use Rattle.seam_told.specs.Telling.{IsToldNothing}
 use Rattle.seam_base_rounds.specs.Parts.{AreFor, AreInStep, HasSettledPart, HasPartsBetweenRounds}
 use Rattle.seam_base_rounds.proofs.PartLoads.{part_at}
-use Rattle.seam_base_rounds.proofs.Calms.{reaps_tell_none}
+use Rattle.seam_base_rounds.proofs.Calms.{reaps_part, reaps_tell_none}
 
 -- ---- a part for which nothing waits stays, or ends
 
@@ -124,7 +124,7 @@ module _ (h : Here) (cells e : ℕ) (s : AtBase) (i : Option Msg) (t : AtBase) (
   so_after (move.strays m n b a z) so = stays_so s a (λ g. g) (omega arith) so
   so_after (move.reroutes new r n has b a z) so = stays_so _ a (λ g. g) (omega arith) so
   so_after (move.offers c p n own has may a z) so = stays_so _ a (λ no. absurd (let y = sym no ∙ has in cc)) (omega arith) so
-  so_after (move.updates u n own b a z) so = stays_so _ a (λ no. ap (λ o. move.updated o u) no) (omega arith) so
+  so_after (move.updates u n own b a z) so = stays_so _ a (λ no. ap (λ o. updated o u) no) (omega arith) so
   so_after (move.orders_call c os r n at own has a z) so = stays_so _ a (λ g. g) (taken (order.Cell c) os at refl) so
   so_after (move.orders_base_call c os n at own b a z) so = stays_so _ a (λ g. g) (taken (order.Base c) os at refl) so
   so_after (move.offers_own c os p n at own b has may a z) so =
@@ -204,3 +204,127 @@ module _ (f : Frame) (u : World) (between : IsBetweenRounds f u) (parts : HasPar
         from : LeadsTo node_has_work node_steps start before w
         none : HasNoBaseCalls e w
         parts : (k : ℕ) → StaysOrEnds ((entity_flow e u).slot k).base.part ((entity_flow e w).slot k).base.part
+
+      left_more : (w : World) (v : Event) → AreLeft w → enabled node_has_work w v ≡ true → AreLeft (happens node_steps w v)
+      left_more w v h on =
+          let o = occurs node_has_work w v on in
+          let g = event_moves f w v o h.frame e in
+          let s = (entity_flow e w).slot g.k in
+          let t = (entity_flow e (happens node_steps w v)).slot g.k in
+          record {
+            frame = frame_happens f w v o h.frame;
+            before = h.before ++ v ∷ [];
+            from = leads_extend node_has_work node_steps start w h.before v h.from on;
+            none = no_call_comes f e w (happens node_steps w v) (v ∷ []) h.frame h.none (record { each = (on, tt); is_run = refl });
+            parts =
+                slots_kept (λ k s. StaysOrEnds ((entity_flow e u).slot k).base.part s.base.part) g h.parts
+                (stays_after (here_at f g.k) e s.base (comes g.input) t.base g.moves.sent ((entity_flow e u).slot g.k).base.part
+                (idle_by g.k) (h.none.orders g.k)
+                (λ c at. let no = (came (λ a k m. base_call_in m ≡ None) g (BaseCall c) at h.none.letters).1 in cc)
+                (λ m at.
+                let no = (came (λ a k m. update_in m ≡ None) g (Update m) at
+                (reaps_tell_none f u between parts es may h.before w h.from e)).1 in cc)
+                (part_moves f e g.k s (comes g.input) t g.moves.sent g.moves.moves) (h.parts g.k));
+          }
+
+      module _ (vs : List Event) (v : World) (run : LeadsTo node_has_work node_steps start vs v) where
+        are_left : AreLeft v
+        are_left =
+            leads_keeps node_has_work node_steps AreLeft left_more start v vs (record {
+              frame = inside;
+              before = [];
+              from = leads_nowhere node_has_work node_steps start;
+              none = no_calls;
+              parts = λ k. stays (part_is k);
+            }) run
+
+        same_by : (k : ℕ) (p : PartView) → ((entity_flow e v).slot k).base.part ≡ Some p →
+            StaysOrEnds ((entity_flow e u).slot k).base.part ((entity_flow e v).slot k).base.part →
+            ((entity_flow e u).slot k).base.part ≡ Some p
+        same_by k p at (stays is) = sym is ∙ at
+        same_by k p at (is_gone none) = absurd (let z = sym none ∙ at in cc)
+
+        -- a part that is there is what it was
+        pub part_same : (k : ℕ) (p : PartView) → ((entity_flow e v).slot k).base.part ≡ Some p →
+            ((entity_flow e u).slot k).base.part ≡ Some p
+        part_same k p at = same_by k p at (are_left.parts k)
+
+    -- ---- one that is told to be reaped
+
+    record AreWaiting (w : World) : Type 0 where
+      frame : IsInFrame f w
+      each : (k : ℕ) → WaitsOrGone ((entity_flow e w).slot k).base
+
+    moves_so : (k : ℕ) (s : Has) (i : Option Msg) (t : Has) (sent : List (ℕ × Msg)) → Moves f e k s i t sent → WaitsOrGone s.base →
+        WaitsOrGone t.base
+    moves_so k s i t sent (at_a_cell low m same) so = subst WaitsOrGone (sym same) so
+    moves_so k s i t sent (at_a_base high m same) so = so_after (here_at f k) _ e s.base i t.base sent m so
+
+    waiting_more : (w : World) (v : Event) → AreWaiting w → enabled node_has_work w v ≡ true → AreWaiting (happens node_steps w v)
+    waiting_more w v h on =
+        let o = occurs node_has_work w v on in
+        let g = event_moves f w v o h.frame e in
+        record {
+          frame = frame_happens f w v o h.frame;
+          each =
+              slots_kept (λ k s. WaitsOrGone s.base) g h.each
+              (moves_so g.k ((entity_flow e w).slot g.k) (comes g.input) ((entity_flow e (happens node_steps w v)).slot g.k) g.moves.sent
+              g.moves.moves (h.each g.k));
+        }
+
+    module _ (home : ℕ) (r : RealView) (here : real_in ((entity_flow e u).slot home) ≡ Some r) (listed : 1 ≤ times e es) where
+      at_home : (k : ℕ) (o : Option NodeView) → slice_get u.nodes k ≡ o → k ≡ home_of f e →
+          WaitsOrGone (slot_at (has_of e) has_none (option_map turn o)).base
+      at_home k None at is = none refl
+      at_home k (Some s) at is =
+          let given = reaps_given e f k es s (between.nodes.nodes k s at) (quiet_tasks node_has_work u between.quiet k s at) in
+          let many = given.reaps ∙ ap (λ b. cond {A = ℕ} b (times e es) 0) (eq-eqb k (home_of f e) is) in
+          waits (omega (arith, listed, many))
+
+      starts_waiting : (k : ℕ) → WaitsOrGone ((entity_flow e start).slot k).base
+      starts_waiting k = elim (cases_eq k (home_of f e)) [
+        | inl is ↦ subst (λ (s : Has). WaitsOrGone s.base) (sym (slot_is k)) (at_home k (slice_get u.nodes k) refl is)
+        | inr n ↦ none (part_is k ∙ (parts.parts e home r here).others k n)
+      ]
+
+      module _ (vs : List Event) (v : World) (run : LeadsTo node_has_work node_steps start vs v) (quiet : IsQuiet node_has_work v) where
+        orders_by : (k : ℕ) (o : Option NodeView) → slice_get v.nodes k ≡ o → (slot_at (has_of e) has_none o).base.orders ≡ []
+        orders_by k None at = refl
+        orders_by k (Some s) at = idle_orders e s (quiet_tasks node_has_work v quiet k s at)
+
+        gone_by : (k : ℕ) → WaitsOrGone ((entity_flow e v).slot k).base → ((entity_flow e v).slot k).base.part ≡ None
+        gone_by k (waits le) =
+            let none = ap (total order_reaps) (orders_by k (slice_get v.nodes k) refl) in
+            absurd (omega (arith, le, none))
+        gone_by k (none is) = is
+
+        pub part_gone : HasNoPart e v
+        part_gone k =
+            gone_by k ((leads_keeps node_has_work node_steps AreWaiting waiting_more start v vs (record {
+              frame = inside;
+              each = starts_waiting;
+            }) run).each k)
+
+  -- ---- all of them
+
+  module _ (vs : List Event) (v : World) (run : LeadsTo node_has_work node_steps start vs v) (quiet : IsQuiet node_has_work v) where
+    some_times : (e : ℕ) (first later : List ℕ) → 1 ≤ times e (first ++ e ∷ later)
+    some_times e [] later =
+        let is = ap (λ b. cond {A = ℕ} b (times e later + 1) (times e later)) (eq-eqb e e refl) in
+        omega (arith, is)
+    some_times e (x ∷ first) later = by (eqb x e) (times e (first ++ e ∷ later)) (some_times e first later)
+      where
+        by : (b : Bool) (n : ℕ) → 1 ≤ n → 1 ≤ cond {A = ℕ} b (n + 1) n
+        by true n h = omega arith
+        by false n h = h
+
+    all_gone : (first xs : List ℕ) → es ≡ first ++ xs → AllByRecursion (λ e. holders u e ≡ 1) xs → AllByRecursion (λ e. HasNoPart e v) xs
+    all_gone first [] is there = tt
+    all_gone first (e ∷ xs) is there =
+        let h = quiet_home f u between e there.0 in (
+          part_gone e h.node h.real h.here (subst (λ l. 1 ≤ times e l) (sym is) (some_times e first xs)) vs v run quiet,
+          all_gone (first ++ e ∷ []) xs (is ∙ sym (append_assoc first (e ∷ []) xs)) there.1,
+        )
+
+    pub parts_gone : AllByRecursion (λ e. HasNoPart e v) es
+    parts_gone = all_gone [] es refl may.there

@@ -177,7 +177,7 @@ module _ (h : Here) (r : RealView) (w : WitnessView) (known : List Known) where
   by_due true is = rw is (omega arith)
   by_due false is = rw is (omega arith)
 
-  told_few : IsFewView w.view → length known ≤ most_entities → length (shown_of h r w known) ≤ most_shown
+  pub told_few : IsFewView w.view → length known ≤ most_entities → length (shown_of h r w known) ≤ most_shown
   told_few view few =
       let a = by_due (own_due w.told r.version) refl in
       let b = mapped_few (shown_for known) (looks_of r w known) in
