@@ -115,7 +115,7 @@ module _ (h : Here) where
     has = refl;
     lines = record { number = y.last + 1; text = text.Shown s } ∷ [];
     shown = ap (λ l. l ++ record { number = y.last + 1; text = text.Shown s } ∷ []) lines;
-    numbers = ap (λ n. n + 1 ∷ []) last;
+    numbers = ap (λ n. (n + 1) ∷ []) last;
     last = omega (arith, last);
     bases = refl;
   }
@@ -168,9 +168,9 @@ module _ (h : Here) where
       (done_by p x k os (changes (type_at h p.ty) p.state k.deed) refl)
 
   -- one after another
-  on : (p : PartView) (x : ProxyView) (o then : Option PartView) (s : ShowsItsPart h p x o) → ShowsItsPart h s.part s.proxy then →
+  goes_on : (p : PartView) (x : ProxyView) (o then : Option PartView) (s : ShowsItsPart h p x o) → ShowsItsPart h s.part s.proxy then →
       ShowsItsPart h p x then
-  on p x o then s t = record {
+  goes_on p x o then s t = record {
     part = t.part;
     is = t.is;
     calls = s.calls ++ t.calls;
@@ -290,7 +290,7 @@ module _ (f : Frame) (e : ℕ) (w : World) where
             ShowsItsPart (here_at f k) p x b.base.part) g s.parts
             (λ p x at has.
             let so_far = s.parts g.k p x at has in
-            on (here_at f g.k) p x from.base.part to.base.part so_far
+            goes_on (here_at f g.k) p x from.base.part to.base.part so_far
             (part_shown (here_at f g.k) e from.base (comes g.input) to.base g.moves.sent (λ os. unordered e v g.k os s.spared) so_far.part
             so_far.proxy so_far.is so_far.has (part_moves f e g.k from (comes g.input) to g.moves.sent g.moves.moves)));
       }

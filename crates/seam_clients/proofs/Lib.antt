@@ -6,3 +6,4 @@ pub mod Reaped
 pub mod Finding
 pub mod Room
 pub mod Round
+pub mod Crossing

@@ -106,15 +106,12 @@ reaps_in b = total order_reaps b.orders
 
 data WaitsOrGone (b : AtBase) : Type 0 where
   waits : 1 ≤ reaps_in b → WaitsOrGone b
-  none : b.part ≡ None → WaitsOrGone b
+  over : b.part ≡ None → WaitsOrGone b
 
 module _ (h : Here) (cells e : ℕ) (s : AtBase) (i : Option Msg) (t : AtBase) (sent : List (ℕ × Msg)) where
   stays_so : (b : AtBase) → t ≡ b → (s.part ≡ None → b.part ≡ None) → reaps_in s ≤ reaps_in b → WaitsOrGone s → WaitsOrGone t
   stays_so b is gone less (waits le) = let same = ap reaps_in is in waits (omega (arith, less, le, same))
-  stays_so b is gone less (none at) = none (ap (λ x. x.part) is ∙ gone at)
-
-  had : (p : PartView) → s.part ≡ Some p → {P : Type 0} → s.part ≡ None → P
-  had p at no = absurd (let z = sym no ∙ at in cc)
+  stays_so b is gone less (over at) = over (ap (λ x. x.part) is ∙ gone at)
 
   taken : (o : Order) (os : List Order) → s.orders ≡ o ∷ os → order_reaps o ≡ 0 → reaps_in s ≤ total order_reaps os
   taken o os at zero = let same = ap (total order_reaps) at in omega (arith, same, zero)
@@ -123,18 +120,18 @@ module _ (h : Here) (cells e : ℕ) (s : AtBase) (i : Option Msg) (t : AtBase) (
   so_after (move.rests n a z) so = stays_so s a (λ g. g) (omega arith) so
   so_after (move.strays m n b a z) so = stays_so s a (λ g. g) (omega arith) so
   so_after (move.reroutes new r n has b a z) so = stays_so _ a (λ g. g) (omega arith) so
-  so_after (move.offers c p n own has may a z) so = stays_so _ a (λ no. absurd (let y = sym no ∙ has in cc)) (omega arith) so
-  so_after (move.updates u n own b a z) so = stays_so _ a (λ no. ap (λ o. updated o u) no) (omega arith) so
+  so_after (move.offers c p n own has may a z) so = stays_so _ a (λ gone. absurd (let y = sym gone ∙ has in cc)) (omega arith) so
+  so_after (move.updates u n own b a z) so = stays_so _ a (λ gone. ap (λ o. updated o u) gone) (omega arith) so
   so_after (move.orders_call c os r n at own has a z) so = stays_so _ a (λ g. g) (taken (order.Cell c) os at refl) so
   so_after (move.orders_base_call c os n at own b a z) so = stays_so _ a (λ g. g) (taken (order.Base c) os at refl) so
   so_after (move.offers_own c os p n at own b has may a z) so =
-      stays_so _ a (λ no. absurd (let y = sym no ∙ has in cc)) (taken (order.Base c) os at refl) so
+      stays_so _ a (λ gone. absurd (let y = sym gone ∙ has in cc)) (taken (order.Base c) os at refl) so
   so_after (move.orders_tick os n at a z) so = stays_so _ a (λ g. g) (taken order.Tick os at refl) so
-  so_after (move.orders_reap os r n at has a z) so = none (ap (λ x. x.part) a)
+  so_after (move.orders_reap os r n at has a z) so = over (ap (λ x. x.part) a)
   so_after (move.stuck_order o os n at b a z) so = stays_so s a (λ g. g) (omega arith) so
-  so_after (move.executes p o c n has may at item a z) so = stays_so _ a (λ no. absurd (let y = sym no ∙ has in cc)) (omega arith) so
+  so_after (move.executes p o c n has may at item a z) so = stays_so _ a (λ gone. absurd (let y = sym gone ∙ has in cc)) (omega arith) so
   so_after (move.stuck_part p n has v may a z) so = stays_so s a (λ g. g) (omega arith) so
-  so_after (move.shows p n has v may a z) so = stays_so _ a (λ no. absurd (let y = sym no ∙ has in cc)) (omega arith) so
+  so_after (move.shows p n has v may a z) so = stays_so _ a (λ gone. absurd (let y = sym gone ∙ has in cc)) (omega arith) so
   so_after (move.stuck_client p n has v may a z) so = stays_so s a (λ g. g) (omega arith) so
 
 -- ---- the phase of reaps
@@ -203,7 +200,7 @@ module _ (f : Frame) (u : World) (between : IsBetweenRounds f u) (parts : HasPar
         before : List Event
         from : LeadsTo node_has_work node_steps start before w
         none : HasNoBaseCalls e w
-        parts : (k : ℕ) → StaysOrEnds ((entity_flow e u).slot k).base.part ((entity_flow e w).slot k).base.part
+        each_part : (k : ℕ) → StaysOrEnds ((entity_flow e u).slot k).base.part ((entity_flow e w).slot k).base.part
 
       left_more : (w : World) (v : Event) → AreLeft w → enabled node_has_work w v ≡ true → AreLeft (happens node_steps w v)
       left_more w v h on =
@@ -216,15 +213,15 @@ module _ (f : Frame) (u : World) (between : IsBetweenRounds f u) (parts : HasPar
             before = h.before ++ v ∷ [];
             from = leads_extend node_has_work node_steps start w h.before v h.from on;
             none = no_call_comes f e w (happens node_steps w v) (v ∷ []) h.frame h.none (record { each = (on, tt); is_run = refl });
-            parts =
-                slots_kept (λ k s. StaysOrEnds ((entity_flow e u).slot k).base.part s.base.part) g h.parts
+            each_part =
+                slots_kept (λ k s. StaysOrEnds ((entity_flow e u).slot k).base.part s.base.part) g h.each_part
                 (stays_after (here_at f g.k) e s.base (comes g.input) t.base g.moves.sent ((entity_flow e u).slot g.k).base.part
                 (idle_by g.k) (h.none.orders g.k)
                 (λ c at. let no = (came (λ a k m. base_call_in m ≡ None) g (BaseCall c) at h.none.letters).1 in cc)
                 (λ m at.
                 let no = (came (λ a k m. update_in m ≡ None) g (Update m) at
                 (reaps_tell_none f u between parts es may h.before w h.from e)).1 in cc)
-                (part_moves f e g.k s (comes g.input) t g.moves.sent g.moves.moves) (h.parts g.k));
+                (part_moves f e g.k s (comes g.input) t g.moves.sent g.moves.moves) (h.each_part g.k));
           }
 
       module _ (vs : List Event) (v : World) (run : LeadsTo node_has_work node_steps start vs v) where
@@ -235,7 +232,7 @@ module _ (f : Frame) (u : World) (between : IsBetweenRounds f u) (parts : HasPar
               before = [];
               from = leads_nowhere node_has_work node_steps start;
               none = no_calls;
-              parts = λ k. stays (part_is k);
+              each_part = λ k. stays (part_is k);
             }) run
 
         same_by : (k : ℕ) (p : PartView) → ((entity_flow e v).slot k).base.part ≡ Some p →
@@ -247,7 +244,7 @@ module _ (f : Frame) (u : World) (between : IsBetweenRounds f u) (parts : HasPar
         -- a part that is there is what it was
         pub part_same : (k : ℕ) (p : PartView) → ((entity_flow e v).slot k).base.part ≡ Some p →
             ((entity_flow e u).slot k).base.part ≡ Some p
-        part_same k p at = same_by k p at (are_left.parts k)
+        part_same k p at = same_by k p at (are_left.each_part k)
 
     -- ---- one that is told to be reaped
 
@@ -275,7 +272,7 @@ module _ (f : Frame) (u : World) (between : IsBetweenRounds f u) (parts : HasPar
     module _ (home : ℕ) (r : RealView) (here : real_in ((entity_flow e u).slot home) ≡ Some r) (listed : 1 ≤ times e es) where
       at_home : (k : ℕ) (o : Option NodeView) → slice_get u.nodes k ≡ o → k ≡ home_of f e →
           WaitsOrGone (slot_at (has_of e) has_none (option_map turn o)).base
-      at_home k None at is = none refl
+      at_home k None at is = over refl
       at_home k (Some s) at is =
           let given = reaps_given e f k es s (between.nodes.nodes k s at) (quiet_tasks node_has_work u between.quiet k s at) in
           let many = given.reaps ∙ ap (λ b. cond {A = ℕ} b (times e es) 0) (eq-eqb k (home_of f e) is) in
@@ -284,7 +281,7 @@ module _ (f : Frame) (u : World) (between : IsBetweenRounds f u) (parts : HasPar
       starts_waiting : (k : ℕ) → WaitsOrGone ((entity_flow e start).slot k).base
       starts_waiting k = elim (cases_eq k (home_of f e)) [
         | inl is ↦ subst (λ (s : Has). WaitsOrGone s.base) (sym (slot_is k)) (at_home k (slice_get u.nodes k) refl is)
-        | inr n ↦ none (part_is k ∙ (parts.parts e home r here).others k n)
+        | inr n ↦ over (part_is k ∙ (parts.parts e home r here).others k n)
       ]
 
       module _ (vs : List Event) (v : World) (run : LeadsTo node_has_work node_steps start vs v) (quiet : IsQuiet node_has_work v) where
@@ -296,7 +293,7 @@ module _ (f : Frame) (u : World) (between : IsBetweenRounds f u) (parts : HasPar
         gone_by k (waits le) =
             let none = ap (total order_reaps) (orders_by k (slice_get v.nodes k) refl) in
             absurd (omega (arith, le, none))
-        gone_by k (none is) = is
+        gone_by k (over is) = is
 
         pub part_gone : HasNoPart e v
         part_gone k =
