@@ -7,3 +7,4 @@ pub mod Finding
 pub mod Room
 pub mod Round
 pub mod Crossing
+pub mod ExampleCrossing

@@ -17,18 +17,20 @@ ghost use Rattle.seam_machine.specs.declared.machines.Event.{Event};
 ghost use Rattle.seam_flows.specs.Flows.{letters_of};
 ghost use Rattle.seam_defs.specs.declared.settings.Settings.{Settings};
 ghost use Rattle.seam_defs.specs.declared.types.TypeDef.{TypeDef};
-ghost use Rattle.seam_defs.specs.Settings.{GhostsReach};
+ghost use Rattle.seam_defs.specs.Settings.{GhostsReach, standard};
 ghost use Rattle.seam_call.specs.declared.order.Batch.{Batch};
 ghost use Rattle.seam_call.specs.declared.shown.Update.{Update as UpdateData};
 ghost use Rattle.seam_entity.specs.Reals.{RealView};
 ghost use Rattle.seam_entity.specs.declared.message.Msg.{Msg};
 ghost use Rattle.seam_entity.specs.declared.message.Msg.TheVariants.{Update};
 ghost use Rattle.seam_steps.specs.Bases.{PartView, ProxyView};
+ghost use Rattle.seam_steps.specs.Rows.{empty_world};
 ghost use Rattle.seam_steps.specs.Nodes.{World, node_steps, node_has_work};
 ghost use Rattle.seam_steps.specs.Loads.{opened, loaded, reaps_loaded, look_loaded};
 ghost use Rattle.seam_moves.specs.Frames.{Frame, here_at, IsInFrame};
 ghost use Rattle.seam_moves.specs.Sights.{entity_flow};
 ghost use Rattle.seam_ones.specs.Ones.{real_in, IsFrame, IsSpared};
+ghost use Rattle.seam_ones.specs.Example.{events_of};
 ghost use Rattle.seam_once.specs.CellTurns.{from_sender};
 ghost use Rattle.seam_between.specs.Between.{IsBetweenRounds, framed};
 ghost use Rattle.seam_rounds.specs.Rounds.{first_frame, AreReapable};
@@ -37,12 +39,14 @@ ghost use Rattle.seam_base_calls.specs.Clients.{FindsClient};
 ghost use Rattle.seam_base_calls.specs.Reaps.{HasNoPart};
 ghost use Rattle.seam_told.specs.Telling.{IsToldNothing};
 ghost use Rattle.seam_base_rounds.specs.Parts.{base_calls_of, HasPartsBetweenRounds, HasSmallNumbers, MayBeLoaded};
+ghost use Rattle.seam_base_rounds.specs.Example.{opening};
 ghost use Rattle.seam_newest.specs.Copies.{AreCopiesBetweenRounds};
 ghost use Rattle.seam_places.specs.Places.{ArePlaced, GoesThroughRound};
-ghost use Rattle.seam_replica.specs.Clients.{ClientReplica};
+ghost use Rattle.seam_replica.specs.Clients.{ClientReplica, new_client};
 ghost use Rattle.seam_looks.specs.Clients.{ClientsFit};
 ghost use Rattle.seam_looks.specs.Phases.{HaveRoomToLook};
 ghost use Rattle.seam_clients.specs.Clients.{clients_loaded, clients_shown};
+ghost use Rattle.seam_clients.specs.Crossing as crossing;
 ghost use Rattle.seam_clients.specs.BaseLines.{base_lines, first_lines, ShowsItsPart};
 
 /// The record of clients holds of a world as it is opened, whatever clients show: there is none. It holds again of a loaded world, in which
@@ -124,3 +128,22 @@ pub fn an_update_without_a_client_never_comes()
 {
     seam_base_rounds::an_update_finds_its_client();
 }
+
+/// What these laws, and those of `seam_shown`, ask is true of an opened world and a batch that creates two witnesses, on either side of a
+/// boundary between two cells, and an entity near it: the batch fits, and the clients, which show nothing yet, fit their witnesses
+/// (`fits`, `may`, `copies`, `reach`). Over the events of its calls that entity crosses the boundary, and the world is quiet (`before`,
+/// `after`).
+pub fn an_entity_crosses_between_two_witnesses()
+    ensures may { MayBeLoaded opening empty_world crossing.batch }
+    ensures copies { AreCopiesBetweenRounds opening empty_world }
+    ensures reach { GhostsReach standard }
+    ensures none { ClientsFit opening (λ e. new_client standard) empty_world }
+    ensures fits { ClientsFit (framed opening crossing.batch) (clients_loaded opening crossing.batch (λ e. new_client standard))
+        (loaded empty_world crossing.batch) }
+    ensures witnesses { (real_in ((entity_flow 1 (loaded empty_world crossing.batch)).slot 0) ≡ Some crossing.watcher_1)
+        × (real_in ((entity_flow 2 (loaded empty_world crossing.batch)).slot 1) ≡ Some crossing.watcher_2) }
+    ensures before { real_in ((entity_flow 3 (loaded empty_world crossing.batch)).slot 0) ≡ Some crossing.walker }
+    ensures calls { LeadsTo node_has_work node_steps (loaded empty_world crossing.batch) (events_of crossing.steps) crossing.world_9 }
+    ensures quiet { IsQuiet node_has_work crossing.world_9 }
+    ensures after { real_in ((entity_flow 3 crossing.world_9).slot 1) ≡ Some crossing.crossed }
+{}
