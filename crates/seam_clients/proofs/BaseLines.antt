@@ -235,8 +235,8 @@ module _ (h : Here) (e : ℕ) (s : AtBase) (i : Option Msg) (t : AtBase) (sent :
       subst (ShowsItsPart h a y) (sym is)
       (told h a y (record y { updates = after_offer y.updates u.number u.shown }) u.shown refl refl)
   updated u Greater o is =
-      still h a (record a { proxy = Some (record y { updates = after_offer y.updates u.number u.shown }) }) y _ o is refl refl refl refl refl
-      refl refl
+      still h a (record a { proxy = Some (record y { updates = after_offer y.updates u.number u.shown }) }) y _ o is refl refl refl refl
+      refl refl refl
 
   next_shown : (n : Option Shown) (o : Option PartView) → o ≡ Some (record a { proxy = Some (shows_next y n) }) → ShowsItsPart h a y o
   next_shown None o is = still h a (record a { proxy = Some y }) y y o is refl refl refl refl refl refl refl
@@ -257,14 +257,14 @@ module _ (h : Here) (e : ℕ) (s : AtBase) (i : Option Msg) (t : AtBase) (sent :
       (after ∙ ap (λ q. Some (with_order (executed h q c) o.0 (after_taking o.1))) (its p own))
   part_shown (misses u n why l part z) = kept part
   part_shown (updates u p x n own at l after z) =
+      let with : PartView → ProxyView → Option PartView =
+      λ q w. Some (record q { proxy = Some (offered_update w u (nat_cmp u.number w.updates.next)) }) in
       updated u (nat_cmp u.number y.updates.next) t.part
-      (after ∙ (ap (λ q. let r : PartView = record q { proxy = Some (offered_update x u (nat_cmp u.number x.updates.next)) } in Some r) (its p own)
-      ∙ ap (λ w. let r : PartView = record a { proxy = Some (offered_update w u (nat_cmp u.number w.updates.next)) } in Some r)
-      (same_proxy p x (its p own) at)))
+      (after ∙ (ap (λ q. with q x) (its p own) ∙ ap (with a) (same_proxy p x (its p own) at)))
   part_shown (shows p x n own at ready l after z) =
+      let with : PartView → ProxyView → Option PartView = λ q w. Some (record q { proxy = Some (shows_next w (next_item w.updates)) }) in
       next_shown (next_item y.updates) t.part
-      (after ∙ (ap (λ q. let r : PartView = record q { proxy = Some (shows_next x (next_item x.updates)) } in Some r) (its p own)
-      ∙ ap (λ w. let r : PartView = record a { proxy = Some (shows_next w (next_item w.updates)) } in Some r) (same_proxy p x (its p own) at)))
+      (after ∙ (ap (λ q. with q x) (its p own) ∙ ap (with a) (same_proxy p x (its p own) at)))
   part_shown (ends os n at l after z) = absurd (calm os at)
 
 -- ---- a list of events

@@ -195,7 +195,47 @@ unfolding world_9
 holders_8 = simp of_three
 
 pub row : IsRow 3 1 world_0 steps
-row = (enabled_0, happens_0, holders_0, (enabled_1, happens_1, holders_1, (enabled_2, happens_2, holders_2, (enabled_3, happens_3, holders_3, (enabled_4, happens_4, holders_4, (enabled_5, happens_5, holders_5, (enabled_6, happens_6, holders_6, (enabled_7, happens_7, holders_7, (enabled_8, happens_8, holders_8, tt)))))))))
+row = (
+  enabled_0,
+  happens_0,
+  holders_0,
+  (
+    enabled_1,
+    happens_1,
+    holders_1,
+    (
+      enabled_2,
+      happens_2,
+      holders_2,
+      (
+        enabled_3,
+        happens_3,
+        holders_3,
+        (
+          enabled_4,
+          happens_4,
+          holders_4,
+          (
+            enabled_5,
+            happens_5,
+            holders_5,
+            (
+              enabled_6,
+              happens_6,
+              holders_6,
+              (
+                enabled_7,
+                happens_7,
+                holders_7,
+                (enabled_8, happens_8, holders_8, tt),
+              ),
+            ),
+          ),
+        ),
+      ),
+    ),
+  ),
+)
 
 ends : is_quiet world_9 ≡ true
 unfolding world_9

@@ -1,10 +1,11 @@
 -- The batch of the crossing fits an opened world, and so what the laws of clients ask is true of it.
-use Rattle.std.proofs.Common.{◌≡◌, ℕ, zero, suc, ◌+◌, ◌<◌, Bool, true, false, cond, eqb, List, [], ◌∷◌, ◌++◌, map, length, Option, None, Some}
+use Rattle.std.proofs.Common.{◌≡◌, ℕ, zero, suc, ◌+◌, Bool, true, false, eqb, List, [], ◌∷◌, ◌++◌, map, length, None, Some}
 use Rattle.std.proofs.Common.{refl, sym, ap, ◌∙◌, subst, arith, inl, inr}
 use Rattle.std.specs.List.{IsDistinct, range_with_len}
 use Rattle.std.specs.FinMap as table
 use Rattle.std.proofs.lemmas.Bool.{cases_eq, ne_eqb}
 use Rattle.seam_machine.specs.Nets.{IsQuiet, LeadsTo}
+use Rattle.seam_runs.proofs.Runs.{leads_nowhere}
 use Rattle.seam_delivery.specs.Numbered.{number_from}
 use Rattle.seam_defs.specs.Builtin.{builtin}
 use Rattle.seam_defs.specs.Settings.{standard}
@@ -14,7 +15,7 @@ use Rattle.seam_entity.specs.Reals.{RealView, WitnessView}
 use Rattle.seam_steps.specs.Maps.{Map}
 use Rattle.seam_steps.specs.Bases.{PartView}
 use Rattle.seam_steps.specs.Holders.{holders}
-use Rattle.seam_steps.specs.Loads.{new_part, with_proxy, loaded}
+use Rattle.seam_steps.specs.Loads.{new_part, with_proxy, loaded, look_loaded}
 use Rattle.seam_steps.specs.Nodes.{NodeView, World, node_steps, node_has_work}
 use Rattle.seam_steps.specs.Rows.{empty_world, here, idle, no}
 use Rattle.seam_steps.specs.EarlyCall.{two_cells}
@@ -25,19 +26,24 @@ use Rattle.seam_ones.specs.Ones.{real_in}
 use Rattle.seam_ones.proofs.ExampleMet.{EachFrom, each_node, slots, none_there, row_leads, frame_is}
 use Rattle.seam_between.specs.Between.{IsFitting, IsForReal, AreNumbered, calls_of, calls_at, framed}
 use Rattle.seam_between.proofs.Loading.{set_keeps}
+use Rattle.seam_rounds.specs.Rounds.{AreReapable}
 use Rattle.seam_base_calls.specs.BaseTurns.{home_of}
 use Rattle.seam_base_rounds.specs.Example.{opening}
 use Rattle.seam_base_rounds.specs.Parts.{base_calls_of, base_calls_at, AreBaseNumbered, IsForPart, FitsParts, MayBeLoaded}
 use Rattle.seam_base_rounds.proofs.ExampleFits.{between, is_new, no_real, parts_between}
 use Rattle.seam_base_rounds.proofs.ExampleRound.{next_is_one}
+use Rattle.seam_base_rounds.proofs.CallsEnd.{calls_end_small}
+use Rattle.seam_places.specs.Places.{GoesThroughRound}
 use Rattle.seam_newest.specs.Copies.{AreCopiesBetweenRounds}
 use Rattle.seam_newest.proofs.Ending.{opened_copied}
 use Rattle.seam_replica.specs.Clients.{ClientReplica, new_client}
 use Rattle.seam_looks.specs.Clients.{ClientsFit}
 use Rattle.seam_clients.specs.Clients.{clients_loaded}
 use Rattle.seam_clients.specs.Crossing.{the_move, batch, only, and_third, watcher_1, watcher_2, walker, crossed, cell_0, cell_1, base_16}
-use Rattle.seam_clients.specs.Crossing.{base_17, route, world_0, world_9, steps}
+use Rattle.seam_clients.specs.Crossing.{base_17, route, world_0, world_9, steps, look_0, look_11, look_steps}
 use Rattle.seam_clients.proofs.Loading.{clients_fit_loaded}
+use Rattle.seam_clients.proofs.CrossingLooks as looks
+use Rattle.seam_clients.proofs.Room.{small_of}
 use Rattle.seam_clients.proofs.Crossing.{of_three, load, row, quiet}
 
 -- ---- what the loaded world has
@@ -116,8 +122,11 @@ module _ (e : ℕ) where
   unfolding world_0
   nodes_are = (
     first_cell,
-    (second_cell, idle_each 2 14 (base_16 (order.Cell the_move ∷ []) (route 0 0)
-        ∷ base_17 (route 0 0) ∷ []) (first_base, (second_base, tt))),
+    (
+      second_cell,
+      idle_each 2 14 (base_16 (order.Cell the_move ∷ []) (route 0 0)
+          ∷ base_17 (route 0 0) ∷ []) (first_base, (second_base, tt)),
+    ),
   )
 
   young : (k : ℕ) → Young ((entity_flow e world_0).slot k)
@@ -308,3 +317,38 @@ after = simp of_three
 pub calls_lead : LeadsTo node_has_work node_steps (loaded empty_world batch) (events_of steps) world_9
 calls_lead =
     subst (λ w. LeadsTo node_has_work node_steps w (events_of steps) world_9) (sym load) (row_leads 3 1 world_0 steps row)
+
+-- ---- the round
+
+pub looks_lead : LeadsTo node_has_work node_steps (look_loaded world_9) (events_of look_steps) look_11
+looks_lead =
+    subst (λ w. LeadsTo node_has_work node_steps w (events_of look_steps) look_11) (sym looks.load)
+    (row_leads 3 1 look_0 look_steps looks.row)
+
+-- none is reaped
+reapable : AreReapable world_9 []
+unfolding IsDistinct
+reapable = record {
+  there = tt;
+  once = tt;
+  small = λ e k r at.
+      let few =
+      (calls_end_small opening empty_world batch may_be_loaded world_9 (events_of steps) calls_lead).reals e k r at in
+      small_of (r.beat + 1) (omega (arith, few));
+}
+
+pub goes_round : GoesThroughRound empty_world batch look_11
+goes_round = record {
+  called = world_9;
+  call_events = events_of steps;
+  calls = calls_lead;
+  calls_done = quiet;
+  gone = [];
+  may = reapable;
+  reaped = world_9;
+  reap_events = [];
+  reaps = leads_nowhere node_has_work node_steps world_9;
+  reaps_done = quiet;
+  look_events = events_of look_steps;
+  looks = looks_lead;
+}

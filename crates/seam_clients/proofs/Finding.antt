@@ -51,8 +51,8 @@ module _ (f : Frame) (w : World) (b : Batch) (may : MayBeLoaded f w b) (v : Worl
   round_by : Somewhere e (loaded w b) ⊎ Nowhere e (loaded w b) → FindsClient (framed f b) e k ((entity_flow e v).slot k).base u
   round_by (inl p) = update_finds_it f w b may e p.0 p.1 p.2 v es run a k u ms at
   round_by (inr n) =
-      none_comes (framed f b) e (loaded w b) v es (in_frame f w b may.between may.fits) run n (no_mail f w b may.between may.fits e) a k u ms
-      at
+      none_comes (framed f b) e (loaded w b) v es (in_frame f w b may.between may.fits) run n (no_mail f w b may.between may.fits e) a k u
+      ms at
 
   pub round_finds : FindsClient (framed f b) e k ((entity_flow e v).slot k).base u
   round_finds = round_by (search_real e (loaded w b))

@@ -7,4 +7,5 @@ pub mod Finding
 pub mod Room
 pub mod Round
 pub mod Crossing
+pub mod CrossingLooks
 pub mod ExampleCrossing

@@ -23,7 +23,7 @@ use Rattle.seam_told.proofs.Telling.{told_few}
 use Rattle.seam_base_rounds.specs.Parts.{HasPartsBetweenRounds, HasSmallNumbers}
 use Rattle.seam_looks.specs.Phases.{HaveRoomToLook}
 
-small_of : (n : ℕ) → n < limit → is_small n ≡ true
+pub small_of : (n : ℕ) → n < limit → is_small n ≡ true
 small_of n lt = grind (arith, nat_tests, lt)
 
 module _ (f : Frame) (u : World) (parts : HasPartsBetweenRounds f u) (small : HasSmallNumbers f u) where

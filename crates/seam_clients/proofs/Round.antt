@@ -129,7 +129,8 @@ module _ (f : Frame) (w : World) (b : Batch) (may : MayBeLoaded f w b) (copies :
             FitsWitness g v q x (clients_shown g clients v e)
         shown_by None none =
             let cell = cell_at e k round.reaped there.real (slice_get round.reaped.nodes k) refl there.here in
-            let now = looked g round.reaped reaped_between reaped_room round.look_events v round.looks quiet e k there.real there.here cell.0
+            let now =
+            looked g round.reaped reaped_between reaped_room round.look_events v round.looks quiet e k there.real there.here cell.0
             cell.1 in
             let same : having_looked cell.0 e there.real ≡ q = some_is (sym now ∙ at) in
             let none_then : q.witness ≡ None =

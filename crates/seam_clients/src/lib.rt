@@ -7,7 +7,8 @@
 //!
 //! Of `proofs`, `Loading` (the load), `Reaping` (the reaps), `Reaped` (a part until it is gone), `Room` (of looks), `Round` (the phases
 //! together), `BaseLines` (what a part's client is shown over a list of events), `FirstLines` (where it is attached) and `Finding` (what an
-//! update finds) are for callers.
+//! update finds) are for callers. `Crossing`, `CrossingLooks` and `ExampleCrossing` are a worked round, of which `specs/Crossing` has the
+//! worlds.
 #![tactic(auto)]
 
 ghost use Rattle.std.specs.Prelude.{◌≡◌, ℕ, ◌==◌, ◌≤◌, List, [], ◌∷◌, ◌++◌, Some, if◌then◌else◌};
@@ -19,12 +20,14 @@ ghost use Rattle.seam_defs.specs.declared.settings.Settings.{Settings};
 ghost use Rattle.seam_defs.specs.declared.types.TypeDef.{TypeDef};
 ghost use Rattle.seam_defs.specs.Settings.{GhostsReach, standard};
 ghost use Rattle.seam_call.specs.declared.order.Batch.{Batch};
+ghost use Rattle.seam_call.specs.declared.shown.Shown.TheVariants.{Enter};
 ghost use Rattle.seam_call.specs.declared.shown.Update.{Update as UpdateData};
 ghost use Rattle.seam_entity.specs.Reals.{RealView};
 ghost use Rattle.seam_entity.specs.declared.message.Msg.{Msg};
 ghost use Rattle.seam_entity.specs.declared.message.Msg.TheVariants.{Update};
 ghost use Rattle.seam_steps.specs.Bases.{PartView, ProxyView};
-ghost use Rattle.seam_steps.specs.Rows.{empty_world};
+ghost use Rattle.seam_steps.specs.Rows.{empty_world, lines_of_client};
+ghost use Rattle.seam_steps.specs.ViewRounds as view;
 ghost use Rattle.seam_steps.specs.Nodes.{World, node_steps, node_has_work};
 ghost use Rattle.seam_steps.specs.Loads.{opened, loaded, reaps_loaded, look_loaded};
 ghost use Rattle.seam_moves.specs.Frames.{Frame, here_at, IsInFrame};
@@ -131,8 +134,9 @@ pub fn an_update_without_a_client_never_comes()
 
 /// What these laws, and those of `seam_shown`, ask is true of an opened world and a batch that creates two witnesses, on either side of a
 /// boundary between two cells, and an entity near it: the batch fits, and the clients, which show nothing yet, fit their witnesses
-/// (`fits`, `may`, `copies`, `reach`). Over the events of its calls that entity crosses the boundary, and the world is quiet (`before`,
-/// `after`).
+/// (`may`, `copies`, `reach`, `none`, `fits`). Over the events of its calls that entity crosses the boundary, and the world is quiet
+/// (`before`, `calls`, `quiet`, `after`). It goes through the whole round (`round`, `ended`), in which each client is shown its own entity,
+/// the other one over the boundary, and the one that crossed, which one of them sees over it (`shown_1`, `shown_2`).
 pub fn an_entity_crosses_between_two_witnesses()
     ensures may { MayBeLoaded opening empty_world crossing.batch }
     ensures copies { AreCopiesBetweenRounds opening empty_world }
@@ -146,4 +150,10 @@ pub fn an_entity_crosses_between_two_witnesses()
     ensures calls { LeadsTo node_has_work node_steps (loaded empty_world crossing.batch) (events_of crossing.steps) crossing.world_9 }
     ensures quiet { IsQuiet node_has_work crossing.world_9 }
     ensures after { real_in ((entity_flow 3 crossing.world_9).slot 1) ≡ Some crossing.crossed }
+    ensures round { GoesThroughRound empty_world crossing.batch crossing.look_11 }
+    ensures ended { IsQuiet node_has_work crossing.look_11 }
+    ensures shown_1 { lines_of_client crossing.look_11 17 1 ≡ Some (view.base_line ∷ view.line 2 (crossing.own_at 4850)
+        ∷ view.line 3 (Enter 2 (view.other_at 0 5150)) ∷ view.line 4 (Enter 3 (view.other_at 1 5100)) ∷ []) }
+    ensures shown_2 { lines_of_client crossing.look_11 16 2 ≡ Some (view.base_line ∷ view.line 2 (crossing.own_at 5150)
+        ∷ view.line 3 (Enter 1 (view.other_at 0 4850)) ∷ view.line 4 (Enter 3 (view.other_at 1 5100)) ∷ []) }
 {}

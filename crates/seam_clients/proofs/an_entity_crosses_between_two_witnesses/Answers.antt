@@ -1,6 +1,8 @@
 use Rattle.std.proofs.Common.{arith}
 use Rattle.seam_clients.proofs.Crossing.{quiet}
 use Rattle.seam_clients.proofs.ExampleCrossing.{may_be_loaded, no_copies, no_clients, clients_fit, witnesses, before, after, calls_lead}
+use Rattle.seam_clients.proofs.ExampleCrossing.{goes_round}
+use Rattle.seam_clients.proofs.CrossingLooks as looks
 use Rattle.seam_clients.proofs.an_entity_crosses_between_two_witnesses.Goals as goal
 
 pub returns-clause-may : goal.returns-clause-may
@@ -32,3 +34,15 @@ returns-clause-after c = after
 
 pub returns-clause-reach : goal.returns-clause-reach
 returns-clause-reach c = omega arith
+
+pub returns-clause-round : goal.returns-clause-round
+returns-clause-round c = goes_round
+
+pub returns-clause-ended : goal.returns-clause-ended
+returns-clause-ended c = looks.quiet
+
+pub returns-clause-shown_1 : goal.returns-clause-shown_1
+returns-clause-shown_1 c = looks.lines_1
+
+pub returns-clause-shown_2 : goal.returns-clause-shown_2
+returns-clause-shown_2 c = looks.lines_2
