@@ -35,7 +35,8 @@ returns-clause-laws c f clients w k b g es v to =
             routes = c.the_newest_route_leads_to_the_real.ensures f w b k.reals g.reals v es to e one;
             bases = c.nothing_about_a_loaded_entity_is_stray_at_a_base_node.ensures f w b m e home r at v es to;
             served = c.each_client_is_shown_its_updates_in_order.ensures.round f w b m e home r at v es to;
-            shown = c.clients_of_a_round_are_shown_rightly.ensures.shown f w b m k.copies (clients_loaded f b clients) fit v es to e home r at;
+            shown = c.clients_of_a_round_are_shown_rightly.ensures.shown f w b m k.copies (clients_loaded f b clients) fit v es to e home r
+                at;
           };
       cells = record {
         messages = c.no_message_to_a_cell_is_stray.ensures.round f w b k.reals g.reals v es to;

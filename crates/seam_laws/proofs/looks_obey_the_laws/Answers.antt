@@ -10,7 +10,8 @@ returns-clause-laws c f clients u k vs v to =
       no_calls = c.looks_keep_reals.ensures.calls f u r.reals vs v to;
       told = c.each_cell_is_told_what_the_real_wants.ensures.looks f u r.reals r.copies vs v to;
       served = c.each_client_is_shown_its_updates_in_order.ensures.looks f u r.reals r.parts k.small vs v to;
-      until = c.each_client_is_shown_one_look.ensures.until f u r.reals r.parts k.small r.copies r.places r.reach room clients r.shown vs v to;
+      until = c.each_client_is_shown_one_look.ensures.until f u r.reals r.parts k.small r.copies r.places r.reach room clients r.shown vs v
+          to;
       cells = record {
         messages = c.no_message_to_a_cell_is_stray.ensures.looks f u r.reals vs v to;
         tasks = c.no_task_of_a_cell_is_stray.ensures.looks f u r.reals vs v to;
