@@ -5,7 +5,9 @@ ghost use Rattle.seam_defs.specs.Rows.{operand_of, operation_of, method_of as me
 ghost use Rattle.seam_defs.specs.Rows.{type_of as type_of_row, is_short_row, is_short_property, is_short_method, is_short_type};
 ghost use Rattle.seam_defs.specs.Builtin.{builtin as builtin_types};
 
-use crate::{Defs, Flag, Listed, Method, Operand, Operation, Part, Property, TypeDef};
+use crate::{
+    Defs, Flag, Listed, Method, Operand, Operation, Part, Property, PropertyName, TypeDef,
+};
 use seam_value::{ShortText, Value, ValueError, ValueType};
 use std::alloc::{AllocError, Global};
 
@@ -251,7 +253,7 @@ fn property_of(alloc: Global, row: &PropertyRow) -> Result<Property, AllocError>
         None => Value::Text(text(alloc, "")?),
     };
     Ok(Property {
-        name: text(alloc, row.name)?,
+        name: PropertyName::of(alloc, text(alloc, row.name)?)?,
         ty: row.ty,
         flag: row.flag,
         default,

@@ -139,9 +139,7 @@ fn push_property(property: &Property, value: &Value, out: &mut Vec<u8>) -> Resul
     ensures ok { OnOk result (out.new.items ≡ out.old.items ++ property_text (property.now, value.now)) }
     ensures kept { take (length out.old.items) out.new.items ≡ out.old.items }
 {
-    out.extend_from_slice(b" ")?;
-    out.extend_from_slice(property.name.bytes())?;
-    out.extend_from_slice(b"=")?;
+    out.extend_from_slice(property.name.label())?;
     value.write(out)
 }
 

@@ -18,6 +18,7 @@ mod listed;
 mod methods;
 mod names;
 mod properties;
+mod property_name;
 mod settings;
 mod states;
 mod types;
@@ -30,6 +31,7 @@ pub use limits::{
 };
 pub use listed::Listed;
 pub use names::is_name;
+pub use property_name::PropertyName;
 pub use settings::{LARGEST_SIZE, LONGEST_DISTANCE, Settings};
 pub use states::{Args, Deed, Props, State};
 pub use types::{Method, Operand, Operation, Property, TypeDef};

@@ -13,7 +13,7 @@ impl TypeDef {
         ensures all { (k : ℕ) → slice_get (names_of_properties self.now.properties) k ≡ Some name.now → result ≡ Some k }
     {
         let properties = self.properties.as_slice();
-        match properties.binary_search_by(|p| order(&p.name, name)) {
+        match properties.binary_search_by(|p| order(p.name.text(), name)) {
             Ok(number) => Some(number as u16),
             Err(_) => None,
         }

@@ -1,10 +1,10 @@
-use crate::{Flag, Listed, Part};
+use crate::{Flag, Listed, Part, PropertyName};
 use seam_value::{ShortText, Value, ValueType};
 
 /// A property of a type of entities.
 #[derive(Debug, Drop)]
 pub struct Property {
-    pub name: ShortText,
+    pub name: PropertyName,
     pub ty: ValueType,
     pub flag: Flag,
     /// The value that a new entity has.

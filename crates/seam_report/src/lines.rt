@@ -2,9 +2,10 @@
 ghost use Rattle.std.specs.Prelude.{◌≡◌, ◌++◌, OnOk};
 ghost use Rattle.seam_transcript.specs.Texts.{field, number_text, done_text, home_text, base_text};
 
-use crate::values::{LONGEST_FIELD, push_deed, push_field, push_number, push_sender, write_field};
+use crate::values::{LONGEST_FIELD, push_deed, push_field, push_sender, write_field};
 use seam_call::Call;
 use seam_defs::{Defs, Group, Props, State};
+use seam_value::push_number;
 use std::alloc::AllocError;
 
 /// An executed call, with the type of its entity.

@@ -2,8 +2,8 @@
 ghost use Rattle.std.specs.Prelude.{◌≡◌, ◌++◌, ◌∷◌, [], OnOk};
 ghost use Rattle.seam_transcript.specs.Texts.{refusal, cause_text};
 
-use crate::values::push_number;
 use seam_transcript::Cause;
+use seam_value::push_number;
 use std::alloc::AllocError;
 
 /// Appends the line of a refused line of the input: its number and the cause.

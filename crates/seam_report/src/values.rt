@@ -1,27 +1,16 @@
 // Numbers, senders and deeds.
 ghost use Rattle.std.specs.Prelude.{◌≡◌, ◌≤◌, ◌+◌, ◌++◌, ◌∷◌, length, drop, OnOk};
 ghost use Rattle.std.specs.List.{flat_map};
-ghost use Rattle.seam_value.specs.Values.{decimal_of, text_of};
+ghost use Rattle.seam_value.specs.Values.{text_of};
 ghost use Rattle.seam_defs.specs.Types.{method_of};
 ghost use Rattle.seam_transcript.specs.Language.{sender_text};
 ghost use Rattle.seam_transcript.specs.Texts.{field, deed_text};
 
-use itoa::{Buffer, write_digits};
+use itoa::write_digits;
 use seam_call::Sender;
 use seam_defs::{Deed, TypeDef};
-use seam_value::Value;
+use seam_value::{Value, push_number};
 use std::alloc::AllocError;
-
-pub(crate) fn push_number(out: &mut Vec<u8>, number: u64) -> Result<(), AllocError>
-    ensures { OnOk result (out.new.items ≡ out.old.items ++ decimal_of number) }
-{
-    if number < 10 {
-        out.push(b'0' + number as u8)?;
-        return Ok(());
-    }
-    let mut buffer = Buffer::new();
-    out.extend_from_slice(buffer.format(number).as_bytes())
-}
 
 // A space and a number.
 pub(crate) fn push_field(out: &mut Vec<u8>, number: u64) -> Result<(), AllocError>

@@ -99,7 +99,7 @@ fn place_of(properties: &[Property], name: &[u8]) -> Option<usize>
     ensures found { IfSome result (λ k. slice_get (names_of_properties properties.now) k ≡ Some name.now) }
     ensures all { (k : ℕ) → slice_get (names_of_properties properties.now) k ≡ Some name.now → result ≡ Some k }
 {
-    match properties.binary_search_by(|p| p.name.bytes().cmp(name)) {
+    match properties.binary_search_by(|p| p.name.text().bytes().cmp(name)) {
         Ok(place) => Some(place),
         Err(_) => None,
     }

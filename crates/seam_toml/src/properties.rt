@@ -13,7 +13,7 @@ ghost use Rattle.seam_toml.specs.Tables.{Each, EachUnder};
 ghost use Rattle.seam_toml.specs.Definitions.{HasType, HasFlag, data_of, DefinesProperty};
 
 use crate::members::member;
-use seam_defs::{Flag, Property, is_name};
+use seam_defs::{Flag, Property, PropertyName, is_name};
 use seam_value::{ShortText, ValueError, ValueType};
 use std::alloc::{AllocError, Global};
 use toml::{Table, Value};
@@ -91,7 +91,7 @@ fn property_of(alloc: Global, key: &str, table: &Table) -> Result<Option<Propert
     };
     match short_text(alloc, key)? {
         Some(name) if is_name(key.as_bytes()) => Ok(Some(Property {
-            name,
+            name: PropertyName::of(alloc, name)?,
             ty,
             flag,
             default,

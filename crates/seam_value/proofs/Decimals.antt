@@ -1,7 +1,6 @@
 -- Numbers in decimal: what their digits are, and that they give the number back.
 use Rattle.std.proofs.Common.{◌≡◌, ◌≢◌, ℕ, ◌+◌, ◌*◌, ◌/◌, ◌%◌, ◌<◌, ◌≤◌, ◌^◌, Bool, true, false, List, [], ◌∷◌, ◌++◌, length, refl, sym}
 use Rattle.std.proofs.Common.{◌∙◌, ap, subst, arith, zero, suc, ℤ, pos, negsuc, ltb, ltb-true, ltb-false, zero-add, append_assoc}
-use Rattle.std.proofs.Common.{◌≤ℤ◌, ◌<ℤ◌, of_z, w8}
 use Rattle.std.specs.Prelude.{map, slice_index, ◌&&◌}
 use Rattle.std.specs.List.{list_all}
 use Rattle.std.specs.Char.{digit_value}
@@ -9,7 +8,6 @@ use Rattle.std.specs.Fmt.{decimal, signed_decimal}
 use Rattle.std.specs.Int.Digits.{digits_of}
 use Rattle.std.specs.Str.Parse.{digits_value, digits_value_after}
 use Rattle.std.proofs.lemmas.Int.Digits.{digits_of_step, digits_value_push}
-use Rattle.std.proofs.lemmas.Int.{ints}
 use Rattle.std.proofs.lemmas.Fmt.{decimal_by_steps_wide}
 use Rattle.std.proofs.lemmas.Str.{digit_value_digit}
 use Rattle.std.proofs.lemmas.Grind.{common_steps}
@@ -34,7 +32,7 @@ decimal_of_step n h =
     ∙ map-append (λ d. 48 + d) (digits_of 10 (n / 10)) (n % 10 ∷ [])
     ∙ ap (λ (xs : List ℕ). xs ++ (48 + n % 10) ∷ []) (sym (decimal_of_pos (n / 10) higher))
 
-decimal_of_digit : (n : ℕ) → n < 10 → decimal_of n ≡ (48 + n) ∷ []
+pub decimal_of_digit : (n : ℕ) → n < 10 → decimal_of n ≡ (48 + n) ∷ []
 unfolding decimal_of
 decimal_of_digit zero h = refl
 decimal_of_digit (suc m) h =
@@ -45,7 +43,7 @@ decimal_of_digit (suc m) h =
     decimal_of_pos (suc m) above ∙ ap glyphs (digits_of_step 10 (suc m) (omega arith) above) ∙ rw (none, same) refl
 
 -- what `{}` prints of a number is its decimal
-decimal_of_is : (n : ℕ) → n < 10 ^ 64 → decimal_of n ≡ decimal n
+pub decimal_of_is : (n : ℕ) → n < 10 ^ 64 → decimal_of n ≡ decimal n
 decimal_of_is n h =
     decimal_by_steps_wide (λ m ds. decimal_of m ≡ ds) decimal_of_digit (λ m ds big e. decimal_of_step m big
     ∙ ap (λ (xs : List ℕ). xs ++ (48 + m % 10) ∷ []) e) n h
@@ -54,11 +52,6 @@ decimal_of_is n h =
 pub number_text_is : (z : ℤ) → SFits w128 z → number_text z ≡ signed_decimal z
 number_text_is (pos n) f = decimal_of_is n (omega (arith, f))
 number_text_is (negsuc n) f = ap (λ (xs : List ℕ). 45 ∷ xs) (decimal_of_is (suc n) (omega (arith, f)))
-
--- a number of one digit
-pub number_text_of_digit : (z : ℤ) → pos 0 ≤ℤ z → z <ℤ pos 10 → number_text z ≡ (48 + of_z w8 z) ∷ []
-number_text_of_digit (pos n) h lt = decimal_of_digit n (omega (arith, ints))
-number_text_of_digit (negsuc n) h lt = absurd (omega (arith, ints))
 
 -- a fact of a number and its digits, from the digits one after another
 from_step : (P : ℕ → List ℕ → Type 0) → ((n : ℕ) → n < 10 → P n ((48 + n) ∷ [])) →

@@ -21,3 +21,4 @@ pub use reading::read_number;
 pub use texts::ShortText;
 pub use types::ValueType;
 pub use values::{Value, ValueError};
+pub use writing::push_number;

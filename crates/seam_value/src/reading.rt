@@ -1,6 +1,6 @@
 // A value from its spelling.
 ghost use Rattle.std.specs.Prelude.{◌≡◌, ◌≢◌, ◌≤◌, ◌<◌, ◌^◌, ◌↔◌, ◌∷◌, [], ◌++◌, ℕ, ℤ, Ok, List, length, IsTrue, IfOk, IfErr, IfSome};
-ghost use Rattle.std.specs.Prelude.{MatchOption, MatchResult};
+ghost use Rattle.std.specs.Prelude.{MatchOption, MatchResult, ◌+◌, ◌-◌, ◌*◌, true};
 ghost use Rattle.seam_value.specs.declared.values.Value.{Value as Values};
 ghost use Rattle.std.specs.List.{list_all, flat_map};
 ghost use Rattle.std.specs.Str.Parse.{digits_value};
@@ -90,10 +90,19 @@ fn magnitude(digits: &[u8]) -> Option<u64>
     requires { IsNumeral digits.now }
     ensures { MatchOption result (2 ^ 64 ≤ digits_value 10 digits.now) (λ n. n ≡ digits_value 10 digits.now) }
 {
-    match std::str::from_utf8(digits) {
-        Ok(digits) => digits.parse::<u64>().ok(),
-        Err(_) => None,
+    let mut size: u64 = 0;
+    for digit in digits {
+        size = with_digit(size, *digit)?;
     }
+    Some(size)
+}
+
+// The number with one digit more at its end, where it is below 2^64.
+fn with_digit(size: u64, digit: u8) -> Option<u64>
+    requires { is_digit digit ≡ true }
+    ensures { MatchOption result (2 ^ 64 ≤ size * 10 + (digit - 48)) (λ n. n ≡ size * 10 + (digit - 48)) }
+{
+    size.checked_mul(10)?.checked_add(u64::from(digit - b'0'))
 }
 
 fn signed(is_negative: bool, size: u64) -> i128

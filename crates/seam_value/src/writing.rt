@@ -2,7 +2,7 @@
 ghost use Rattle.std.specs.Prelude.{◌≡◌, ◌++◌, OnOk, OnErr, length, take};
 ghost use Rattle.std.specs.List.{flat_map};
 ghost use Rattle.seam_value.specs.Texts.{spelled_byte, quoted};
-ghost use Rattle.seam_value.specs.Values.{text_of, number_text};
+ghost use Rattle.seam_value.specs.Values.{text_of, number_text, decimal_of};
 
 use crate::Value;
 use itoa::Buffer;
@@ -15,18 +15,32 @@ impl Value {
         ensures err { OnErr result (out.new.items ≡ out.old.items) }
     {
         match self {
-            Value::Number(number) => push_number(out, *number),
+            Value::Number(number) => push_whole(out, *number),
             Value::Text(text) => write_quoted(out, text.bytes()),
         }
     }
 }
 
-fn push_number(out: &mut Vec<u8>, number: i128) -> Result<(), AllocError>
+fn push_whole(out: &mut Vec<u8>, number: i128) -> Result<(), AllocError>
     ensures ok { OnOk result (out.new.items ≡ out.old.items ++ number_text number) }
     ensures err { OnErr result (out.new.items ≡ out.old.items) }
 {
-    // Most numbers of a game are small, and digits of 128 bits are dear.
-    if 0 <= number && number < 10 {
+    // Digits of 128 bits are dear.
+    match u64::try_from(number) {
+        Ok(small) => push_number(out, small),
+        Err(_) => {
+            let mut buffer = Buffer::new();
+            out.extend_from_slice(buffer.format(number).as_bytes())
+        }
+    }
+}
+
+/// Appends the number in decimal. If allocation fails `out` is as it was.
+pub fn push_number(out: &mut Vec<u8>, number: u64) -> Result<(), AllocError>
+    ensures ok { OnOk result (out.new.items ≡ out.old.items ++ decimal_of number) }
+    ensures err { OnErr result (out.new.items ≡ out.old.items) }
+{
+    if number < 10 {
         out.push(b'0' + number as u8)?;
         return Ok(());
     }

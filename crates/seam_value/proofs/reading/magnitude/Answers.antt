@@ -1,14 +1,13 @@
-use Rattle.std.proofs.Common.{subst}
-use Rattle.std.specs.Str.Parse.{ParsesUnsigned}
-use Rattle.seam_value.proofs.Magnitudes.{parsed, numeral_is_text}
+use Rattle.std.proofs.Common.{rules, arith, ◌∙◌, ◌≤◌, refl, sym}
+use Rattle.std.specs.Str.Parse.{digits_value}
+use Rattle.seam_value.proofs.Magnitudes.{with_next, at_least}
 use Rattle.seam_value.proofs.reading.magnitude.Goals as goal
 
-pub returns-in-Ok : goal.returns-in-Ok
-returns-in-Ok c =
-    let h =
-    parsed c.args.digits.now c.parse.result c.requires
-    (subst (λ bs. ParsesUnsigned 64 10 bs c.parse.result) c.in-Ok.ensures.cases.0 c.parse.ensures.value.0) in
-    rw c.ok.ensures.value h
+pub returns-in_err-size : goal.returns-in_err-size
+returns-in_err-size c =
+    let most = at_least c.args.digits.now c.loop-digit.digit-index c.requires.all (omega arith) in
+    let big : 18446744073709551616 ≤ digits_value 10 c.args.digits.now = omega (arith, most, c.in_err-size.ensures, c.loop-digit.invariant) in
+    search (rules, big)
 
-pub returns-in-Err : goal.returns-in-Err
-returns-in-Err c = absurd (c.in-Err.ensures.cases.0 (numeral_is_text c.args.digits.now c.requires))
+pub loop-digit-preserved : goal.loop-digit-preserved
+loop-digit-preserved c = c.in_ok-size.ensures ∙ (rw c.loop-digit.invariant refl ∙ sym (with_next c.args.digits.now c.loop-digit.digit-index c.requires.all (omega arith)))

@@ -1,10 +1,13 @@
-use Rattle.std.proofs.Common.{rules, arith}
-use Rattle.std.proofs.lemmas.Int.{ints}
-use Rattle.seam_value.proofs.Decimals.{number_text_is, number_text_of_digit}
+use Rattle.std.proofs.Common.{◌≡◌, rules, arith}
+use Rattle.std.specs.Fmt.{decimal}
+use Rattle.seam_value.specs.Values.{decimal_of}
+use Rattle.seam_value.proofs.Decimals.{decimal_of_is, decimal_of_digit}
 use Rattle.seam_value.proofs.writing.push_number.Goals as goal
 
 pub returns-clause-ok : goal.returns-clause-ok
-returns-clause-ok c = let fits = c.ranges.number in rw number_text_is (search rules)
+returns-clause-ok c =
+    let text : decimal_of c.args.number ≡ decimal c.args.number = decimal_of_is c.args.number (omega (arith, c.ranges.number.fits)) in
+    rw text (search rules)
 
 pub returns-then-number-lt10-clause-ok : goal.returns-then-number-lt10-clause-ok
-returns-then-number-lt10-clause-ok c = rw (number_text_of_digit c.args.number (omega (arith, ints)) (omega (arith, ints))) (search rules)
+returns-then-number-lt10-clause-ok c = rw (decimal_of_digit c.args.number c.if-number-lt10.true) (search rules)
