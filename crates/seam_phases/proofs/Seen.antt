@@ -3,8 +3,6 @@ use Rattle.std.proofs.Common.{◌≡◌, ℕ, ◌⊎◌, Bool, true, false, cond
 use Rattle.std.proofs.Common.{subst, inl, inr}
 use Rattle.std.specs.Prelude.{option_map, slice_get}
 use Rattle.std.specs.List.{AllByRecursion}
-use Rattle.std.specs.Ordering.{nat_cmp}
-use Rattle.std.specs.FinMap as table
 use Rattle.seam_machine.specs.Nets.{IsQuiet, LeadsTo}
 use Rattle.seam_machine.specs.declared.machines.Event.{Event}
 use Rattle.seam_machine.proofs.Quiet.{quiet_links}

@@ -7,7 +7,6 @@ use Rattle.std.proofs.lemmas.Bool.{eq-eqb}
 use Rattle.std.proofs.lemmas.Bool.Decides.{nat_tests}
 use Rattle.std.proofs.lemmas.List.Sums.{fold-append}
 use Rattle.seam_geo.specs.declared.pos.Pos.{Pos}
-use Rattle.seam_flows.proofs.Following.{all_append}
 use Rattle.seam_view.specs.declared.Seen.{Seen}
 use Rattle.seam_view.specs.declared.Look.{Look}
 use Rattle.seam_view.specs.declared.Look.TheVariants as look

@@ -1,5 +1,4 @@
-use Rattle.std.proofs.Common.{sym}
-use Rattle.seam_clients.specs.Clients.{clients_loaded, clients_shown}
+use Rattle.seam_clients.specs.Clients.{clients_loaded}
 use Rattle.seam_between.specs.Between.{framed}
 use Rattle.seam_clients.proofs.Loading.{clients_fit_loaded}
 use Rattle.seam_clients.proofs.Reaping.{clients_fit_reaped}
