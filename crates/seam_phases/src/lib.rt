@@ -1,8 +1,8 @@
 //! Each phase of a round ends, by the records between rounds alone: what a world keeps from one round to the next bounds all three phases.
 //!
-//! The bounds of `seam_measure` ask that base parts and clients hold nothing and that views name what is there. Both hold of an opened
-//! world, and a whole round keeps them: after it the views name what is there since each witness looked after the reaps, and a look
-//! leaves no one in view who is not known. `specs/Records` has all the records together, which a whole round keeps.
+//! The bounds of `seam_measure` ask that base parts and clients hold nothing and that views name what is there (`specs/Records`). Both
+//! hold of an opened world, and a whole round keeps them, beside the records of `seam_laws`: after it the views name what is there since
+//! each witness looked after the reaps, and a look leaves no one in view who is not known.
 //!
 //! Of `proofs`, `Viewed` (who is in view after a look), `Seen` (the phase of looks) and `Bounds` (what there is to look at) are for
 //! callers.
@@ -23,10 +23,11 @@ ghost use Rattle.seam_between.specs.Between.{IsBetweenRounds, framed};
 ghost use Rattle.seam_rounds.specs.Rounds.{first_frame};
 ghost use Rattle.seam_base_rounds.specs.Parts.{MayBeLoaded, HasPartsBetweenRounds, HasSmallNumbers};
 ghost use Rattle.seam_newest.specs.Copies.{AreCopiesBetweenRounds};
-ghost use Rattle.seam_places.specs.Places.{ArePlaced, GoesThroughRound};
+ghost use Rattle.seam_places.specs.Places.{GoesThroughRound};
 ghost use Rattle.seam_replica.specs.Clients.{ClientReplica};
 ghost use Rattle.seam_clients.specs.Clients.{clients_loaded, clients_shown};
-ghost use Rattle.seam_phases.specs.Records.{KeepsRecords, MayBring};
+ghost use Rattle.seam_laws.specs.Records.{KeepsRecords, MayBeGiven};
+ghost use Rattle.seam_phases.specs.Records.{IsBounded};
 ghost use Rattle.seam_measure.specs.Looking.{SeesWhatIsThere};
 ghost use Rattle.seam_measure.specs.Phases.{HoldsNothing, entities, all_witnesses, cell_orders, base_orders, tick_orders};
 ghost use Rattle.seam_measure.specs.Phases.{events_of_round, events_of_looks};
@@ -71,19 +72,21 @@ pub fn each_phase_of_a_round_ends()
     seam_measure::looks_end();
 }
 
-/// All the records together: they hold of a world as it is opened, whatever its clients show, and again at the end of each round of a batch
-/// that fits, of the clients that were shown what their proxies showed in it; and so do places, whatever they were.
+/// Both records together: they hold of a world as it is opened, whatever its clients show, and again at the end of each round of a batch
+/// that fits, of the clients that were shown what their proxies showed in it.
 pub fn a_round_keeps_the_records()
     ensures opened { (defs : List TypeDef) (settings : Settings) → IsFrame (first_frame defs settings) → 1 ≤ settings.bases →
-        (clients : ℕ → ClientReplica) → KeepsRecords (first_frame defs settings) clients (opened defs settings) }
-    ensures round { (f : Frame) (clients : ℕ → ClientReplica) (w : World) (b : Batch) → KeepsRecords f clients w → MayBring f w b →
-        GhostsReach f.settings → (v : World) → GoesThroughRound w b v → IsQuiet node_has_work v →
-        KeepsRecords (framed f b) (clients_shown (framed f b) (clients_loaded f b clients) v) v × ArePlaced (framed f b) v }
+        GhostsReach settings → (clients : ℕ → ClientReplica) →
+        KeepsRecords (first_frame defs settings) clients (opened defs settings) × IsBounded (opened defs settings) }
+    ensures round { (f : Frame) (clients : ℕ → ClientReplica) (w : World) (b : Batch) → KeepsRecords f clients w → IsBounded w →
+        MayBeGiven f w b → (v : World) → GoesThroughRound w b v → IsQuiet node_has_work v →
+        KeepsRecords (framed f b) (clients_shown (framed f b) (clients_loaded f b clients) v) v × IsBounded v }
 {
     seam_rounds::a_round_goes_from_record_to_record();
     seam_base_rounds::base_parts_go_from_record_to_record();
     seam_newest::copies_go_from_record_to_record();
     seam_places::a_round_keeps_the_record_of_places();
     seam_clients::clients_go_from_record_to_record();
+    seam_laws::an_opened_world_keeps_the_records();
     a_round_keeps_what_bounds_it();
 }
