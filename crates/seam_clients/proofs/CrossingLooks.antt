@@ -1,5 +1,5 @@
 -- The witnesses on both sides of the boundary look, event by event.
-use Rattle.std.proofs.Common.{◌≡◌, ℕ, true, [], ◌∷◌, Some, refl}
+use Rattle.std.proofs.Common.{◌≡◌, true, [], ◌∷◌, Some, refl}
 use Rattle.seam_machine.specs.Nets.{happens, enabled, IsQuiet}
 use Rattle.seam_steps.specs.Nodes.{node_steps, node_has_work}
 use Rattle.seam_steps.specs.Holders.{holders}

@@ -4,23 +4,23 @@ use Rattle.std.proofs.Common.{refl, sym, ap, ◌∙◌, subst, arith, inl, inr}
 use Rattle.std.specs.List.{IsDistinct, range_with_len}
 use Rattle.std.specs.FinMap as table
 use Rattle.std.proofs.lemmas.Bool.{cases_eq, ne_eqb}
-use Rattle.seam_machine.specs.Nets.{IsQuiet, LeadsTo}
+use Rattle.seam_machine.specs.Nets.{LeadsTo}
 use Rattle.seam_runs.proofs.Runs.{leads_nowhere}
 use Rattle.seam_delivery.specs.Numbered.{number_from}
 use Rattle.seam_defs.specs.Builtin.{builtin}
 use Rattle.seam_defs.specs.Settings.{standard}
 use Rattle.seam_call.specs.declared.order.Order.TheVariants as order
 use Rattle.seam_entity.specs.Executing.{fits_cell_part}
-use Rattle.seam_entity.specs.Reals.{RealView, WitnessView}
+use Rattle.seam_entity.specs.Reals.{RealView}
 use Rattle.seam_steps.specs.Maps.{Map}
 use Rattle.seam_steps.specs.Bases.{PartView}
 use Rattle.seam_steps.specs.Holders.{holders}
 use Rattle.seam_steps.specs.Loads.{new_part, with_proxy, loaded, look_loaded}
-use Rattle.seam_steps.specs.Nodes.{NodeView, World, node_steps, node_has_work}
+use Rattle.seam_steps.specs.Nodes.{NodeView, node_steps, node_has_work}
 use Rattle.seam_steps.specs.Rows.{empty_world, here, idle, no}
 use Rattle.seam_steps.specs.EarlyCall.{two_cells}
-use Rattle.seam_moves.specs.Frames.{Frame, here_at}
-use Rattle.seam_moves.specs.Sights.{Has, has_of, has_none, entity_flow}
+use Rattle.seam_moves.specs.Frames.{here_at}
+use Rattle.seam_moves.specs.Sights.{Has, has_of, entity_flow}
 use Rattle.seam_ones.specs.Example.{events_of}
 use Rattle.seam_ones.specs.Ones.{real_in}
 use Rattle.seam_ones.proofs.ExampleMet.{EachFrom, each_node, slots, none_there, row_leads, frame_is}
@@ -36,7 +36,7 @@ use Rattle.seam_base_rounds.proofs.CallsEnd.{calls_end_small}
 use Rattle.seam_places.specs.Places.{GoesThroughRound}
 use Rattle.seam_newest.specs.Copies.{AreCopiesBetweenRounds}
 use Rattle.seam_newest.proofs.Ending.{opened_copied}
-use Rattle.seam_replica.specs.Clients.{ClientReplica, new_client}
+use Rattle.seam_replica.specs.Clients.{new_client}
 use Rattle.seam_looks.specs.Clients.{ClientsFit}
 use Rattle.seam_clients.specs.Clients.{clients_loaded}
 use Rattle.seam_clients.specs.Crossing.{the_move, batch, only, and_third, watcher_1, watcher_2, walker, crossed, cell_0, cell_1, base_16}

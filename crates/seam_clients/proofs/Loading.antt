@@ -30,7 +30,7 @@ use Rattle.seam_between.proofs.Making.{Creation, nowhere, once, creation_of, mid
 use Rattle.seam_rounds.proofs.Giving.{some_base}
 use Rattle.seam_base_calls.specs.Strays.{IsBaseNumber}
 use Rattle.seam_base_rounds.specs.Parts.{MayBeLoaded}
-use Rattle.seam_base_rounds.proofs.Joining.{is_among, peopled, real_at, real_peopled, unseen_peopled}
+use Rattle.seam_base_rounds.proofs.Joining.{is_among, real_peopled, unseen_peopled}
 use Rattle.seam_base_rounds.proofs.Attaching.{real_if, RealFrom, real_there}
 use Rattle.seam_replica.specs.Clients.{ClientReplica, new_client}
 use Rattle.seam_looks.specs.Clients.{FitsWitness, ClientsFit}

@@ -1,5 +1,5 @@
 -- Where entities are reaped, each base part stays as it is, with its client and what that was shown, until it is gone.
-use Rattle.std.proofs.Common.{◌≡◌, ℕ, ◌+◌, ◌≤◌, ◌⊎◌, Bool, true, false, cond, eqb, List, [], ◌∷◌, length, Option, None, Some, refl, sym}
+use Rattle.std.proofs.Common.{◌≡◌, ℕ, ◌+◌, ◌≤◌, Bool, true, false, cond, eqb, List, [], ◌∷◌, Option, None, Some, refl, sym}
 use Rattle.std.proofs.Common.{ap, ◌∙◌, ◌++◌, subst, arith, inl, inr, append_assoc}
 use Rattle.std.specs.Prelude.{option_map, slice_get}
 use Rattle.std.specs.List.{AllByRecursion}
@@ -10,12 +10,11 @@ use Rattle.seam_machine.specs.Nets.{happens, enabled, IsQuiet, LeadsTo}
 use Rattle.seam_machine.specs.Totals.{total}
 use Rattle.seam_machine.specs.declared.machines.Event.{Event}
 use Rattle.seam_machine.proofs.Occurring.{occurs}
-use Rattle.seam_machine.proofs.Quiet.{quiet_links, quiet_tasks}
+use Rattle.seam_machine.proofs.Quiet.{quiet_tasks}
 use Rattle.seam_runs.proofs.Runs.{leads_nowhere, leads_extend, leads_keeps}
-use Rattle.seam_flows.specs.Flows.{comes, slot_at, letters_of}
+use Rattle.seam_flows.specs.Flows.{comes, slot_at}
 use Rattle.seam_flows.proofs.Following.{slots_kept, came}
 use Rattle.seam_order.specs.Held.{OrderView}
-use Rattle.seam_order.specs.Offers.{next_item}
 use Rattle.seam_call.specs.declared.call.Call.{Call as CallData}
 use Rattle.seam_call.specs.declared.order.Order.{Order}
 use Rattle.seam_call.specs.declared.order.Order.TheVariants as order
@@ -26,7 +25,7 @@ use Rattle.seam_entity.specs.Orders.{order_or}
 use Rattle.seam_entity.specs.Reals.{RealView, WitnessView}
 use Rattle.seam_entity.specs.declared.message.Msg.{Msg}
 use Rattle.seam_entity.specs.declared.message.Msg.TheVariants.{BaseCall, Update}
-use Rattle.seam_entity.specs.Here.{Here, base_of}
+use Rattle.seam_entity.specs.Here.{Here}
 use Rattle.seam_steps.specs.Bases.{PartView, ProxyView}
 use Rattle.seam_steps.specs.Holders.{holders}
 use Rattle.seam_steps.specs.Nodes.{NodeView, World, node_steps, node_has_work}
@@ -53,10 +52,8 @@ use Rattle.seam_base_calls.specs.BaseTurns.{home_of}
 use Rattle.seam_base_calls.specs.Reaps.{HasNoBaseCalls, HasNoPart}
 use Rattle.seam_base_calls.proofs.PartSteps.{part_moves}
 use Rattle.seam_base_calls.proofs.BaseQuiet.{no_call_left}
-use Rattle.seam_base_calls.proofs.Reaped.{no_call_comes, part_stays_gone, reaps_without_calls}
-use Rattle.seam_told.specs.Telling.{IsToldNothing}
-use Rattle.seam_base_rounds.specs.Parts.{AreFor, AreInStep, HasSettledPart, HasPartsBetweenRounds}
-use Rattle.seam_base_rounds.proofs.PartLoads.{part_at}
+use Rattle.seam_base_calls.proofs.Reaped.{no_call_comes, reaps_without_calls}
+use Rattle.seam_base_rounds.specs.Parts.{AreFor, HasSettledPart, HasPartsBetweenRounds}
 use Rattle.seam_base_rounds.proofs.Calms.{reaps_part, reaps_tell_none}
 
 -- ---- a part for which nothing waits stays, or ends

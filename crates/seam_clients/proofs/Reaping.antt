@@ -23,7 +23,6 @@ use Rattle.seam_rounds.proofs.Giving.{reaps_framed, reaps_given, reaps_cell, rea
 use Rattle.seam_rounds.proofs.Reaping as reaping
 use Rattle.seam_base_calls.specs.WitnessMoves.{sent_by}
 use Rattle.seam_base_calls.specs.Clients.{tick_in, EachReal, HasToldAtMost, HasNoLooks}
-use Rattle.seam_base_calls.specs.Strays.{IsBaseNumber}
 use Rattle.seam_base_calls.proofs.NoLooks.{NoTicks, WithoutLooks, looks_lead}
 use Rattle.seam_base_calls.proofs.WitnessKept.{each_happens}
 use Rattle.seam_base_rounds.proofs.Calms.{reaps_without_ticks}

@@ -1,5 +1,5 @@
 -- In a world that keeps the record of base parts each witness has room to look.
-use Rattle.std.proofs.Common.{◌≡◌, ℕ, ◌+◌, ◌^◌, ◌<◌, ◌≤◌, true, nat_lt, length, Option, None, Some, sym, ap, ◌∙◌, arith, inl, inr}
+use Rattle.std.proofs.Common.{◌≡◌, ℕ, ◌+◌, ◌<◌, true, length, Some, sym, ap, ◌∙◌, arith, inl, inr}
 use Rattle.std.specs.Prelude.{slice_get}
 use Rattle.std.specs.FinMap as table
 use Rattle.std.proofs.lemmas.Bool.{cases_lt}
@@ -8,16 +8,16 @@ use Rattle.seam_flows.specs.Flows.{slot_at}
 use Rattle.seam_ghosts.specs.Book.{copy_in}
 use Rattle.seam_call.specs.declared.shown.GhostCopy.{GhostCopy}
 use Rattle.seam_entity.specs.Numbers.{limit, is_small}
-use Rattle.seam_entity.specs.Reals.{RealView, WitnessView}
+use Rattle.seam_entity.specs.Reals.{RealView}
 use Rattle.seam_steps.specs.Looks.{shown_of}
 use Rattle.seam_steps.specs.Cells.{CellView, known_to}
 use Rattle.seam_steps.specs.Nodes.{World}
 use Rattle.seam_steps.specs.Nodes.NodeView.{Cell}
 use Rattle.seam_moves.specs.Frames.{Frame}
-use Rattle.seam_moves.specs.Sights.{has_of, has_none, entity_flow}
+use Rattle.seam_moves.specs.Sights.{has_of, has_none}
 use Rattle.seam_ones.specs.Ones.{real_in}
 use Rattle.seam_base_calls.specs.WitnessMoves.{sent_of}
-use Rattle.seam_told.specs.Telling.{most_entities, most_shown}
+use Rattle.seam_told.specs.Telling.{most_entities}
 use Rattle.seam_told.proofs.Below.{known_to_few}
 use Rattle.seam_told.proofs.Telling.{told_few}
 use Rattle.seam_base_rounds.specs.Parts.{HasPartsBetweenRounds, HasSmallNumbers}

@@ -1,14 +1,12 @@
 -- A whole round keeps the record of clients.
-use Rattle.std.proofs.Common.{◌≡◌, ℕ, ◌++◌, List, Option, None, Some, refl, sym, ap, ◌∙◌, subst}
+use Rattle.std.proofs.Common.{◌≡◌, ℕ, ◌++◌, Option, None, Some, refl, sym, ap, ◌∙◌, subst}
 use Rattle.std.specs.Prelude.{slice_get}
 use Rattle.std.proofs.lemmas.List.Sums.{fold-append}
-use Rattle.seam_machine.specs.Nets.{IsQuiet, LeadsTo}
+use Rattle.seam_machine.specs.Nets.{IsQuiet}
 use Rattle.seam_flows.specs.Flows.{letters_of}
 use Rattle.seam_call.specs.declared.order.Batch.{Batch}
-use Rattle.seam_call.specs.declared.shown.Shown.{Shown}
 use Rattle.seam_entity.specs.Reals.{RealView, WitnessView}
-use Rattle.seam_steps.specs.Bases.{PartView}
-use Rattle.seam_steps.specs.Nodes.{World, node_steps, node_has_work}
+use Rattle.seam_steps.specs.Nodes.{World, node_has_work}
 use Rattle.seam_moves.specs.Frames.{Frame}
 use Rattle.seam_moves.specs.Sights.{entity_flow}
 use Rattle.seam_ones.specs.Ones.{real_in}

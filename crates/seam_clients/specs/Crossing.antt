@@ -18,7 +18,7 @@ use Rattle.seam_call.specs.declared.order.Order.TheVariants as order
 use Rattle.seam_call.specs.declared.order.Batch.{Batch}
 use Rattle.seam_entity.specs.Executing.{created}
 use Rattle.seam_entity.specs.Looks.{with_witness}
-use Rattle.seam_entity.specs.Reals.{RealView, WitnessView}
+use Rattle.seam_entity.specs.Reals.{RealView}
 use Rattle.seam_entity.specs.declared.message.Msg.{Msg}
 use Rattle.seam_entity.specs.declared.message.Msg.TheVariants.{Call, Hand, Current, GhostSet, Tick, Update}
 use Rattle.seam_steps.specs.Maps.{Map}

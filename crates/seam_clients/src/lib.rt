@@ -45,7 +45,9 @@ ghost use Rattle.seam_base_rounds.specs.Parts.{base_calls_of, HasPartsBetweenRou
 ghost use Rattle.seam_base_rounds.specs.Example.{opening};
 ghost use Rattle.seam_newest.specs.Copies.{AreCopiesBetweenRounds};
 ghost use Rattle.seam_places.specs.Places.{ArePlaced, GoesThroughRound};
-ghost use Rattle.seam_replica.specs.Clients.{ClientReplica, new_client};
+ghost use Rattle.seam_replica.specs.Clients.{ClientReplica, new_client, after_all_shown};
+ghost use Rattle.seam_replica.specs.Looks.{one_look};
+ghost use Rattle.seam_looks.specs.Tables.{rows_of};
 ghost use Rattle.seam_looks.specs.Clients.{ClientsFit};
 ghost use Rattle.seam_looks.specs.Phases.{HaveRoomToLook};
 ghost use Rattle.seam_clients.specs.Clients.{clients_loaded, clients_shown};
@@ -54,9 +56,10 @@ ghost use Rattle.seam_clients.specs.BaseLines.{base_lines, first_lines, ShowsIts
 
 /// The record of clients holds of a world as it is opened, whatever clients show: there is none. It holds again of a loaded world, in which
 /// the batch's clients show nothing yet (`load`); where its calls leave the world quiet, of the clients that were shown what their proxies
-/// showed (`calls`); of the same clients where reaps do (`reaps`); and where looks do (`looks`). So a whole round keeps it (`round`): where
-/// the world is quiet at the end, the clients, which were shown what their proxies showed in the round, fit their witnesses. All that a
-/// round needs is that the world keeps the records at its start, that the batch fits, and that ghosts reach as far as a witness sees.
+/// showed (`calls`); of the same clients where reaps do (`reaps`); and where looks do, of the clients that were shown one look (`looks`),
+/// for which each has room (`room`). So a whole round keeps it (`round`): where the world is quiet at the end, the clients, which were
+/// shown what their proxies showed in the round, fit their witnesses. All that a round needs is that the world keeps the records at its
+/// start, that the batch fits, and that ghosts reach as far as a witness sees.
 pub fn clients_go_from_record_to_record()
     ensures opened { (defs : List TypeDef) (settings : Settings) → IsFrame (first_frame defs settings) → 1 ≤ settings.bases →
         (clients : ℕ → ClientReplica) → ClientsFit (first_frame defs settings) clients (opened defs settings) }
@@ -68,6 +71,10 @@ pub fn clients_go_from_record_to_record()
     ensures reaps { (f : Frame) (u : World) → IsBetweenRounds f u → (es : List ℕ) → AreReapable u es → (vs : List Event) (v : World) →
         LeadsTo node_has_work node_steps (reaps_loaded u es) vs v → (clients : ℕ → ClientReplica) → ClientsFit f clients u →
         ClientsFit f clients v }
+    ensures looks { (f : Frame) (u : World) → IsBetweenRounds f u → HasPartsBetweenRounds f u → HasSmallNumbers f u →
+        AreCopiesBetweenRounds f u → ArePlaced f u → GhostsReach f.settings → (clients : ℕ → ClientReplica) → ClientsFit f clients u →
+        (vs : List Event) (v : World) → LeadsTo node_has_work node_steps (look_loaded u) vs v → IsQuiet node_has_work v →
+        ClientsFit f (λ e. after_all_shown (clients e) (one_look (clients e) e (rows_of u))) v }
     ensures room { (f : Frame) (u : World) → HasPartsBetweenRounds f u → HasSmallNumbers f u → HaveRoomToLook u }
     ensures round { (f : Frame) (w : World) (b : Batch) → MayBeLoaded f w b → AreCopiesBetweenRounds f w → GhostsReach f.settings →
         (clients : ℕ → ClientReplica) → ClientsFit f clients w → (v : World) → GoesThroughRound w b v → IsQuiet node_has_work v →

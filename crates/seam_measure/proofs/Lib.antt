@@ -27,5 +27,5 @@ pub mod Among
 mod LookStarts
 mod Opening
 mod Nothing
-mod There
+pub mod There
 mod LookRecords

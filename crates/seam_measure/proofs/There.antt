@@ -128,11 +128,11 @@ module _ (P : RealView → Type 0) (new : (x : RealView) → x.witness ≡ None 
 
 -- ---- the numbers that the nodes of a world have, one after the other
 
-abbrev numbers_in : (NodeView → List ℕ) → List NodeView → List ℕ
+abbrev pub numbers_in : (NodeView → List ℕ) → List NodeView → List ℕ
 numbers_in of [] = []
 numbers_in of (s ∷ ss) = of s ++ numbers_in of ss
 
-numbers_many : (of : NodeView → List ℕ) (n : NodeView → ℕ) → ((s : NodeView) → length (of s) ≡ n s) → (ss : List NodeView) →
+pub numbers_many : (of : NodeView → List ℕ) (n : NodeView → ℕ) → ((s : NodeView) → length (of s) ≡ n s) → (ss : List NodeView) →
     length (numbers_in of ss) ≡ total n ss
 numbers_many of n each [] = refl
 numbers_many of n each (s ∷ ss) =
@@ -165,7 +165,7 @@ module _ {X : Type 0} (t : ℕ × X → Bool) where
   abbrev passing : List (ℕ × X) → List ℕ
   passing es = map number_of (filter t es)
 
-  passing_has : (e : ℕ) (x : X) (es : List (ℕ × X)) → key_find nat_cmp e es ≡ Some x → t (e, x) ≡ true → is_among (passing es) e ≡ true
+  pub passing_has : (e : ℕ) (x : X) (es : List (ℕ × X)) → key_find nat_cmp e es ≡ Some x → t (e, x) ≡ true → is_among (passing es) e ≡ true
   passing_has e x [] at is = absurd (let z = at in cc)
   passing_has e x (p ∷ es) at is = by (eq_by_cmp nat_cmp e p.0) (t p) refl refl at (λ there. passing_has e x es there is)
     where
@@ -187,11 +187,11 @@ filter_all : {X : Type 0} (xs : List X) → filter (λ x. true) xs ≡ xs
 filter_all [] = refl
 filter_all (x ∷ xs) = ap (λ ys. x ∷ ys) (filter_all xs)
 
-abbrev reals_of : NodeView → List ℕ
+abbrev pub reals_of : NodeView → List ℕ
 reals_of (Cell c) = map number_of (filter (λ p. true) (table.entries c.reals))
 reals_of (Base b) = []
 
-reals_many : (s : NodeView) → length (reals_of s) ≡ reals_at s
+pub reals_many : (s : NodeView) → length (reals_of s) ≡ reals_at s
 reals_many (Cell c) = length-map (filter (λ p. true) (table.entries c.reals)) number_of ∙ ap length (filter_all (table.entries c.reals))
 reals_many (Base b) = refl
 
@@ -210,10 +210,10 @@ module _ (f : Frame) (w : World) (b : Batch) (may : MayBeLoaded f w b) (copies :
   abbrev start : World
   start = loaded w b
 
-  abbrev us : List ℕ
+  abbrev pub us : List ℕ
   us = numbers_in reals_of start.nodes
 
-  abbrev ws : List ℕ
+  abbrev pub ws : List ℕ
   ws = numbers_in seers_of start.nodes
 
   real_named : (k : ℕ) (c : CellView) → slice_get start.nodes k ≡ Some (Cell c) → (e : ℕ) (r : RealView) →
@@ -324,7 +324,7 @@ somewhere_in e (s ∷ ss) h = by (is_among (reals_of s) e) refl (somewhere_in e 
 
 module _ (f : Frame) (w : World) (b : Batch) (may : MayBeLoaded f w b) (copies : AreCopiesBetweenRounds f w)
     (sees : SeesWhatIsThere w) (v : World) (es : List Event) (run : LeadsTo node_has_work node_steps (loaded w b) es v) where
-  among_then : LooksAmong (us f w b may copies sees) (λ k. ws f w b may copies sees) v
+  pub among_then : LooksAmong (us f w b may copies sees) (λ k. ws f w b may copies sees) v
   among_then =
       always_among (us f w b may copies sees) (ws f w b may copies sees) (framed f b) (loaded w b) (in_frame f w b may.between may.fits)
       (λ x y. ap (λ q. link q.rows x y) (loaded_is w b) ∙ quiet_links node_has_work w may.between.nodes.sound.square may.between.quiet x y)

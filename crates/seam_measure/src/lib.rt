@@ -11,7 +11,8 @@
 //! clients that clients' lines have numbers.
 //!
 //! Crates above cite these modules of `proofs`: `NetWeights` (an event and a run), `QuietWeights` (a quiet world), `Ordered` (orders only
-//! go), `Batched` (calls on their way were ordered), `HandOvers` (how often a real is handed over), `Among` (what there is to look at).
+//! go), `Batched` (calls on their way were ordered), `HandOvers` (how often a real is handed over), `Among` and `There` (what there is to
+//! look at).
 #![tactic(auto)]
 
 mod laws;

@@ -1,5 +1,4 @@
-use Rattle.std.proofs.Common.{sym}
-use Rattle.seam_clients.specs.Clients.{clients_loaded, clients_shown}
+use Rattle.seam_clients.specs.Clients.{clients_loaded}
 use Rattle.seam_between.specs.Between.{framed}
 use Rattle.seam_clients.proofs.Loading.{clients_fit_loaded}
 use Rattle.seam_clients.proofs.Reaping.{clients_fit_reaped}
@@ -19,6 +18,10 @@ returns-clause-calls c = c.clients_of_a_round_are_shown_rightly.ensures.fits
 
 pub returns-clause-reaps : goal.returns-clause-reaps
 returns-clause-reaps c = clients_fit_reaped
+
+pub returns-clause-looks : goal.returns-clause-looks
+returns-clause-looks c = λ f u between parts small copies placed reach clients fit vs v run quiet.
+    c.clients_fit_after_the_looks.ensures f u between copies placed reach (have_room f u parts small) clients fit vs v run quiet
 
 pub returns-clause-room : goal.returns-clause-room
 returns-clause-room c = have_room
