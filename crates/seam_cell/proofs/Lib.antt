@@ -6,3 +6,5 @@ pub mod KeptLemmas
 pub mod CellLemmas
 pub mod NewsLemmas
 pub mod SettleLemmas
+pub mod StepLemmas
+pub mod CallLemmas

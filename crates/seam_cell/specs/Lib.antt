@@ -3,3 +3,4 @@ pub mod Kept
 pub mod News
 pub mod Settling
 pub mod Stepping
+pub mod Calling

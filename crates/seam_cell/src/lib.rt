@@ -5,6 +5,7 @@
 //! a ready call, which have a witness, and which are to settle or to look are ordered sets.
 #![tactic(auto)]
 
+mod calls;
 mod cell;
 mod entity_set;
 mod known;
@@ -15,6 +16,7 @@ mod places;
 mod reals;
 mod settle;
 
+pub use calls::{Called, Held, Turn, execute_turn, hold, may_call, may_execute, may_settle};
 pub use cell::Cell;
 pub use entity_set::EntitySet;
 pub use known::Known;
@@ -22,7 +24,7 @@ pub use lists::{Lists, unlist};
 pub use news::{Subject, Telling, Told};
 pub use next::Next;
 pub use places::Places;
-pub use reals::{Reals, close, first_ready, make_place, put_in, take_out};
+pub use reals::{Reals, close, first_ready, make_place, put_after, put_in, take_out};
 pub use settle::{
     Plan, Ready, get_ready, leave, make_plan, make_room, ready_for, settle_real, stay,
 };
