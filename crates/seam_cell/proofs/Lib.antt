@@ -8,3 +8,4 @@ pub mod NewsLemmas
 pub mod SettleLemmas
 pub mod StepLemmas
 pub mod CallLemmas
+pub mod ReadyLemmas

@@ -4,24 +4,25 @@ ghost use Rattle.std.specs.Prelude.{◌≡◌, ℕ, ◌<◌, ◌≤◌, OnOk, On
 ghost use Rattle.std.specs.FinMap as table;
 ghost use Rattle.std.specs.FinSet as set;
 ghost use Rattle.seam_ghosts.specs.Book.{ghost_after};
-ghost use Rattle.seam_machine.specs.declared.machines.Input.TheVariants.{From};
+ghost use Rattle.seam_machine.specs.declared.machines.Input.TheVariants.{Task, From};
 ghost use Rattle.seam_entity.specs.declared.message.Msg.TheVariants as msg;
 ghost use Rattle.seam_defs.specs.Settings.{AreLegal};
 ghost use Rattle.seam_entity.specs.Here.{cell_count};
 ghost use Rattle.seam_steps.specs.CellCases.{stray_ghost_set};
-ghost use Rattle.seam_steps.specs.Cells.{cell_steps, has_witness, real_is_ready};
+ghost use Rattle.seam_steps.specs.Cells.{cell_steps, ready_entity};
 ghost use Rattle.seam_steps.specs.Loads.{empty_cell};
 ghost use Rattle.seam_steps.specs.Maps.{set_at};
 ghost use Rattle.seam_steps.specs.Nodes.NodeView.{Cell as CellNode};
 ghost use Rattle.seam_entity.specs.Preparing.{node_with};
-ghost use Rattle.seam_cell.specs.Calling.{is_called, IsTurn};
+ghost use Rattle.seam_cell.specs.Calling.{is_called, IsTurn, may_run};
 
-use crate::calls::{Turn, execute_turn, hold, may_call};
+use crate::calls::{Turn, execute_turn, hold, may_call, may_execute};
 use crate::entity_set::EntitySet;
 use crate::known::Known;
 use crate::lists::Lists;
 use crate::places::Places;
 use crate::reals::{Reals, put_after, put_in, take_out};
+use crate::tasks::execute_ready;
 use seam_call::{Call, GhostCopy};
 use seam_defs::{Defs, Settings};
 use seam_entity::{Msg, fits_copy, is_small};
@@ -256,6 +257,40 @@ impl Cell {
         let held = hold(&self.known, Turn { real, call });
         put_in(&mut self.reals, e, held.real);
         held.result
+    }
+
+    // Ready-call task: the least entity that has a ready call executes it, and settles.
+    fn ready_task(&mut self, alloc: Global, e: u32, out: &mut Out<Msg>) -> Result<(), AllocError>
+        requires surveyed { self.old.survey ≡ [] }
+        requires ready { ready_entity self.old ≡ Some e }
+        ensures state { OnOk result (self.new ≡ (cell_steps self.old Task).state) }
+        ensures sent { OnOk result (out.new.items ≡ out.old.items ++ (cell_steps self.old Task).sent) }
+        ensures err { OnErr result (self.new ≡ self.old) }
+        ensures err_out { OnErr result (out.new.items ≡ out.old.items) }
+    {
+        let Some(parcel) = self.reals.items.get(e) else {
+            unreachable!()
+        };
+        if !may_execute(&parcel.real) {
+            return Ok(());
+        }
+        self.run_ready(alloc, e, out)
+    }
+
+    // The entity, whose real may execute its ready call, executes it.
+    fn run_ready(&mut self, alloc: Global, e: u32, out: &mut Out<Msg>) -> Result<(), AllocError>
+        requires surveyed { self.old.survey ≡ [] }
+        requires ready { ready_entity self.old ≡ Some e }
+        requires may { may_run (table.get self.old.reals e) ≡ true }
+        ensures state { OnOk result (self.new ≡ (cell_steps self.old Task).state) }
+        ensures sent { OnOk result (out.new.items ≡ out.old.items ++ (cell_steps self.old Task).sent) }
+        ensures err { OnErr result (self.new ≡ self.old) }
+        ensures err_out { OnErr result (out.new.items ≡ out.old.items) }
+    {
+        let real = take_out(&mut self.reals, e)?;
+        let tasked = execute_ready(alloc, &self.known, real, &mut self.places, out);
+        put_after(&mut self.reals, &mut self.lists, e, tasked.left);
+        tasked.result
     }
 
     /// Call, next place: a call whose real is not here is sent to the next place as it is, where there is one.

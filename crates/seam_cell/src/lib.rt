@@ -15,6 +15,7 @@ mod next;
 mod places;
 mod reals;
 mod settle;
+mod tasks;
 
 pub use calls::{Called, Held, Turn, execute_turn, hold, may_call, may_execute, may_settle};
 pub use cell::Cell;
@@ -28,6 +29,7 @@ pub use reals::{Reals, close, first_ready, make_place, put_after, put_in, take_o
 pub use settle::{
     Plan, Ready, get_ready, leave, make_plan, make_room, ready_for, settle_real, stay,
 };
+pub use tasks::{Tasked, execute_ready};
 
 #[cfg(test)]
 mod tests;
