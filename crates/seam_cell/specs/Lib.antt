@@ -4,3 +4,4 @@ pub mod News
 pub mod Settling
 pub mod Stepping
 pub mod Calling
+pub mod Machines
