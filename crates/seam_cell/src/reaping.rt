@@ -1,10 +1,12 @@
 //! A real leaves the world.
 
-ghost use Rattle.std.specs.Prelude.{◌≡◌, ℕ, ◌<◌, ◌≤◌, ◌^◌, ◌++◌, OnOk, OnErr};
+ghost use Rattle.std.specs.Prelude.{◌≡◌, ℕ, ◌<◌, ◌≤◌, ◌^◌, ◌+◌, ◌++◌, not, OnOk, OnErr};
+ghost use Rattle.std.specs.FinMap as table;
 ghost use Rattle.seam_machine.specs.declared.machines.Input.TheVariants.{From};
 ghost use Rattle.seam_entity.specs.declared.message.Msg.TheVariants as msg;
-ghost use Rattle.seam_steps.specs.CellCases.{drops};
+ghost use Rattle.seam_steps.specs.CellCases.{drop_at, drops, stray_reap};
 ghost use Rattle.seam_steps.specs.Cells.{cell_steps};
+ghost use Rattle.seam_cell.specs.News.{listed};
 ghost use Rattle.seam_cell.specs.Kept.{cell_of, AreKept};
 ghost use Rattle.seam_cell.specs.declared.known.Known.{Known as AnyKnown};
 
@@ -17,19 +19,26 @@ use seam_machine::Out;
 use seam_tree::MOST_CELLS;
 use std::alloc::AllocError;
 
+// Tells the cell, if it is one of the haunts, to drop its copy, in room that was made before.
+fn drop_copy(real: &Real, k: u8, out: &mut Out<Msg>)
+    requires beat { real.now.core.beat < 2 ^ 62 }
+    requires room { 0 < out.old.spare }
+    ensures sent { out.new.items ≡ out.old.items ++ listed (drop_at real.now.core k) }
+    ensures spare { out.old.spare ≤ out.new.spare + 1 }
+{
+    if real.haunts().holds(k) {
+        out.send(k, Msg::GhostDrop(real.entity(), real.beat() + 1));
+    }
+}
+
 // Tells each haunt, in rising number, to drop its copy, in room that was made before.
 fn drop_copies(real: &Real, out: &mut Out<Msg>)
     requires beat { real.now.core.beat < 2 ^ 62 }
     requires room { 16 ≤ out.old.spare }
     ensures { out.new.items ≡ out.old.items ++ drops real.now.core }
 {
-    let e = real.entity();
-    let beat = real.beat() + 1;
-    let haunts = real.haunts();
-    for k in 0..MOST_CELLS as u8 {
-        if haunts.holds(k) {
-            out.send(k, Msg::GhostDrop(e, beat));
-        }
+    for k in 0..16 {
+        drop_copy(real, k, out);
     }
 }
 
