@@ -2,3 +2,4 @@ pub mod Sets
 pub mod Kept
 pub mod News
 pub mod Settling
+pub mod Stepping

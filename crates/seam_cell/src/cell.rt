@@ -6,6 +6,7 @@ ghost use Rattle.std.specs.FinSet as set;
 ghost use Rattle.seam_ghosts.specs.Book.{ghost_after};
 ghost use Rattle.seam_machine.specs.declared.machines.Input.TheVariants.{From};
 ghost use Rattle.seam_entity.specs.declared.message.Msg.TheVariants as msg;
+ghost use Rattle.seam_defs.specs.Settings.{AreLegal};
 ghost use Rattle.seam_entity.specs.Here.{cell_count};
 ghost use Rattle.seam_steps.specs.CellCases.{stray_ghost_set};
 ghost use Rattle.seam_steps.specs.Cells.{cell_steps, has_witness, real_is_ready};
@@ -15,10 +16,13 @@ ghost use Rattle.seam_steps.specs.Nodes.NodeView.{Cell as CellNode};
 ghost use Rattle.seam_entity.specs.Preparing.{node_with};
 
 use crate::entity_set::EntitySet;
-use crate::next::Next;
+use crate::known::Known;
+use crate::lists::Lists;
+use crate::places::Places;
+use crate::reals::Reals;
 use seam_call::{Call, GhostCopy};
 use seam_defs::{Defs, Settings};
-use seam_entity::{Msg, Parcel, fits_copy, is_small};
+use seam_entity::{Msg, fits_copy, is_small};
 use seam_ghosts::GhostBook;
 use seam_machine::Out;
 use seam_memory::NoMemoryFor;
@@ -30,19 +34,10 @@ use std::marker::Model;
 /// A cell: the reals and the ghosts of a part of the space, and where reals went.
 #[derive(Drop)]
 pub struct Cell {
-    me: u8,
-    defs: Defs,
-    settings: Settings,
-    tree: Tree,
-    reals: Table<Parcel>,
-    nexts: Table<Next>,
-    copies: GhostBook<GhostCopy>,
-    // The entities whose reals are to settle, and those whose witnesses are to look.
-    survey: EntitySet,
-    looks: EntitySet,
-    // The entities whose reals have a ready call, and those whose reals have a witness.
-    ready: EntitySet,
-    witnesses: EntitySet,
+    known: Known,
+    reals: Reals,
+    places: Places,
+    lists: Lists,
 }
 
 impl Model for Cell {
@@ -50,32 +45,15 @@ impl Model for Cell {
     ghost use Rattle.std.specs.FinMap as table;
     ghost use Rattle.std.specs.FinSet as set;
     ghost use Rattle.seam_steps.specs.Cells.{CellView};
-    ghost use Rattle.seam_entity.specs.Preparing.{node_with};
-    ghost use Rattle.seam_cell.specs.Kept.{IsKept};
+    ghost use Rattle.seam_cell.specs.Kept.{cell_of, AreWhole};
 
     ghost Value = { CellView };
 
     ghost coded = { Prim.hlevel (codes, table.code, set.code) };
 
-    ghost view = { λ c. record {
-      here = node_with c.defs c.me c.settings;
-      tree = c.tree;
-      reals = c.reals.items;
-      nexts = c.nexts.items;
-      ghosts = c.copies.ghosts;
-      survey = c.survey;
-      looks = c.looks;
-    } };
+    ghost view = { λ c. cell_of c.known c.reals c.places c.lists };
 
-    ghost invariant = { λ c. IsKept (record {
-      here = node_with c.defs c.me c.settings;
-      tree = c.tree;
-      reals = c.reals.items;
-      nexts = c.nexts.items;
-      ghosts = c.copies.ghosts;
-      survey = c.survey;
-      looks = c.looks;
-    }) c.ready c.witnesses };
+    ghost invariant = { λ c. AreWhole c.known c.reals c.places c.lists };
 }
 
 // Whether a copy that comes at that beat does not fit, or a number is not small.
@@ -127,23 +105,30 @@ impl Cell {
     /// A cell without entities, in a space that it has alone.
     pub fn new(alloc: Global, me: u8, defs: Defs, settings: Settings) -> Cell
         requires me { me < cell_count }
-        requires bases { 1 ≤ settings.bases }
-        requires from { 1 ≤ settings.size }
-        requires to { settings.size ≤ 1000000 }
+        requires legal { AreLegal settings }
         ensures { CellNode result ≡ empty_cell defs settings me }
     {
+        let tree = Tree::one(settings.size);
         Cell {
-            me,
-            defs,
-            settings,
-            tree: Tree::one(settings.size),
-            reals: Table::new(alloc),
-            nexts: Table::new(alloc),
-            copies: GhostBook::new(alloc),
-            survey: EntitySet::new(alloc),
-            looks: EntitySet::new(alloc),
-            ready: EntitySet::new(alloc),
-            witnesses: EntitySet::new(alloc),
+            known: Known {
+                me,
+                defs,
+                settings,
+                tree,
+            },
+            reals: Reals {
+                items: Table::new(alloc),
+                ready: EntitySet::new(alloc),
+                witnesses: EntitySet::new(alloc),
+            },
+            places: Places {
+                nexts: Table::new(alloc),
+                copies: GhostBook::new(alloc),
+            },
+            lists: Lists {
+                survey: EntitySet::new(alloc),
+                looks: EntitySet::new(alloc),
+            },
         }
     }
 
@@ -160,13 +145,13 @@ impl Cell {
         ensures err { OnErr result (self.new ≡ self.old) }
         ensures err_item { IfErr result (λ r. r.item ≡ copy) }
     {
-        if self.reals.get(e).is_some() {
+        if self.reals.items.get(e).is_some() {
             return Ok(());
         }
-        if is_stray_set(&self.defs, &self.settings, beat, &copy) {
+        if is_stray_set(&self.known.defs, &self.known.settings, beat, &copy) {
             return Ok(());
         }
-        set_in(&mut self.copies, e, beat, copy)
+        set_in(&mut self.places.copies, e, beat, copy)
     }
 
     /// Ghost drop: the own book drops the copy at that beat.
@@ -178,7 +163,7 @@ impl Cell {
         if !is_small(beat) {
             return Ok(());
         }
-        drop_in(&mut self.copies, e, beat)
+        drop_in(&mut self.places.copies, e, beat)
     }
 
     /// Tick: the witnesses here are to look.
@@ -187,7 +172,7 @@ impl Cell {
         ensures sent { (from : ℕ) → (cell_steps self.old (From from msg.Tick)).sent ≡ [] }
         ensures err { OnErr result (self.new ≡ self.old) }
     {
-        self.looks = self.witnesses.copy()?;
+        self.lists.looks = self.reals.witnesses.copy()?;
         Ok(())
     }
 
@@ -195,7 +180,7 @@ impl Cell {
     pub fn has_real(&self, e: u32) -> bool
         ensures { result ≡ is_some (table.get self.now.reals e) }
     {
-        self.reals.get(e).is_some()
+        self.reals.items.get(e).is_some()
     }
 
     /// Call, next place: a call whose real is not here is sent to the next place as it is, where there is one.
@@ -207,7 +192,7 @@ impl Cell {
         ensures err { OnErr result (out.new.items ≡ out.old.items) }
         ensures err_item { IfErr result (λ r. r.item ≡ call) }
     {
-        let Some(next) = self.nexts.get(call.entity) else {
+        let Some(next) = self.places.nexts.get(call.entity) else {
             return Ok(());
         };
         let to = next.cell;
@@ -222,6 +207,6 @@ impl Cell {
     pub fn copies(&self) -> &GhostBook<GhostCopy>
         ensures { result.now.ghosts ≡ self.now.ghosts }
     {
-        &self.copies
+        &self.places.copies
     }
 }

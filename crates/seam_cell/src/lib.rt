@@ -7,15 +7,25 @@
 
 mod cell;
 mod entity_set;
+mod known;
+mod lists;
 mod news;
 mod next;
+mod places;
+mod reals;
 mod settle;
 
 pub use cell::Cell;
 pub use entity_set::EntitySet;
+pub use known::Known;
+pub use lists::{Lists, unlist};
 pub use news::{Subject, Telling, Told};
 pub use next::Next;
-pub use settle::{Plan, Ready, get_ready, leave, make_plan, make_room, stay};
+pub use places::Places;
+pub use reals::{Reals, close, first_ready, make_place, put_in, take_out};
+pub use settle::{
+    Plan, Ready, get_ready, leave, make_plan, make_room, ready_for, settle_real, stay,
+};
 
 #[cfg(test)]
 mod tests;
