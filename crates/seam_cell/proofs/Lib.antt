@@ -6,3 +6,4 @@ pub mod KeptLemmas
 pub mod CellLemmas
 pub mod NewsLemmas
 pub mod SettleLemmas
+pub mod LookLemmas

@@ -3,3 +3,5 @@ pub mod Kept
 pub mod News
 pub mod Settling
 pub mod Stepping
+pub mod Arriving
+pub mod Looking

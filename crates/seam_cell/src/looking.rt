@@ -1,21 +1,23 @@
 //! What a witness sees of others, and what it tells.
 
-ghost use Rattle.std.specs.Prelude.{◌≡◌, ℕ, ◌<◌, ◌≤◌, ◌^◌, ◌+◌, ◌++◌, length, map, find, filter_map, IfOk, OnOk, OnErr};
+ghost use Rattle.std.specs.Prelude.{◌≡◌, ℕ, ◌<◌, ◌≤◌, ◌^◌, ◌+◌, ◌++◌, [], ◌∷◌, length, map, find, filter_map, IfOk, OnOk, OnErr};
 ghost use Rattle.std.specs.Prelude.{option_map};
 ghost use Rattle.std.specs.List.Sorted.{IsStrictlySortedBy};
 ghost use Rattle.std.specs.Ordering.{nat_cmp};
 ghost use Rattle.std.specs.FinMap as table;
-ghost use Rattle.seam_table.specs.Tables.{is_after};
+ghost use Rattle.seam_ghosts.specs.Book.{copies};
 ghost use Rattle.seam_view.specs.Replica.{HasRoom};
 ghost use Rattle.seam_defs.specs.declared.limits.TheConstants.{MOST_BASE_NODES};
-ghost use Rattle.seam_entity.specs.Here.{base_of};
+ghost use Rattle.seam_entity.specs.Here.{Here, base_of};
+ghost use Rattle.seam_call.specs.declared.shown.Shown.TheVariants.{Set, Enter};
 ghost use Rattle.seam_entity.specs.Numbers.{is_small as is_small_number};
 ghost use Rattle.seam_entity.specs.Witnesses.{witness_of};
 ghost use Rattle.seam_steps.specs.Looks.{seen_as, known_of, shown_for, all_shown, numbered, looks_of, shown_of};
-ghost use Rattle.seam_steps.specs.Cells.{CellView, known_in, known_to, stepped, looks_around, look_next};
+ghost use Rattle.seam_steps.specs.Cells.{CellView, known_in, known_to, is_another, stepped, looks_around, look_next};
 ghost use Rattle.seam_cell.specs.Kept.{here_in, cell_of, AreKept};
 ghost use Rattle.seam_cell.specs.News.{listed};
-ghost use Rattle.seam_cell.specs.Looking.{seeing, looked, told_at_look, told_these, real_has_witness};
+ghost use Rattle.seam_cell.specs.Looking.{seeing, looked, told_at_look, own_told, told_these, real_has_witness};
+ghost use Rattle.seam_cell.specs.Looking.{comes_after, seen_if, seen_real_of, seen_copy_of, earlier_seen};
 
 use crate::known::Known;
 use crate::lists::Lists;
@@ -71,6 +73,75 @@ fn seen_copy(e: u32, copy: &GhostCopy) -> Seen
     }
 }
 
+// The first real, in rising number, after the given entity, or of all where none is given.
+fn next_real(reals: &Table<Parcel>, after: Option<u32>) -> Option<Seen>
+    ensures { (h : Here) → result ≡ option_map (seen_real_of h) (find (comes_after after) (table.entries reals.now.items)) }
+{
+    match reals.next_after(after) {
+        Some((e, parcel)) => Some(seen_real(e, &parcel.real)),
+        None => None,
+    }
+}
+
+// The first copy, in rising number, after the given entity, or of all where none is given.
+fn next_copy(book: &GhostBook<GhostCopy>, after: Option<u32>) -> Option<Seen>
+    ensures { (h : Here) → result ≡ option_map (seen_copy_of h) (find (comes_after after) (copies book.now)) }
+{
+    match book.next_after(after) {
+        Some((e, copy)) => Some(seen_copy(e, copy)),
+        None => None,
+    }
+}
+
+// The one of lower number, and where both have the number the first.
+fn earlier_of(first: Option<Seen>, second: Option<Seen>) -> Option<Seen>
+    ensures { result ≡ earlier_seen first second }
+{
+    match (first, second) {
+        (None, other) => other,
+        (Some(one), None) => Some(one),
+        (Some(one), Some(other)) => if one.entity <= other.entity {
+            Some(one)
+        } else {
+            Some(other)
+        },
+    }
+}
+
+// The entity is set, where there is a copy of it.
+fn set_of(e: u32, copy: Option<GhostCopy>) -> Option<Shown>
+    ensures { result ≡ option_map (Set e) copy }
+{
+    match copy {
+        Some(copy) => Some(Shown::Set(e, copy)),
+        None => None,
+    }
+}
+
+// The entity enters, where there is a copy of it.
+fn enter_of(e: u32, copy: Option<GhostCopy>) -> Option<Shown>
+    ensures { result ≡ option_map (Enter e) copy }
+{
+    match copy {
+        Some(copy) => Some(Shown::Enter(e, copy)),
+        None => None,
+    }
+}
+
+// Adds an entity that is seen, if it is another one.
+fn see(seen: &mut Vec<Seen>, next: Seen, own: u32) -> Result<(), AllocError>
+    ensures seen { OnOk result (seen.new.items ≡ seen.old.items ++ seen_if (is_another own next.entity) next) }
+    ensures small { next.entity < 2 ^ 32 }
+{
+    if next.entity == own {
+        return Ok(());
+    }
+    match seen.push(next) {
+        Ok(()) => Ok(()),
+        Err(_) => Err(AllocError),
+    }
+}
+
 // Adds what is shown.
 fn push(shown: &mut VecDeque<Shown>, item: Shown) -> Result<(), AllocError>
     ensures { OnOk result (shown.new.items ≡ shown.old.items ++ item ∷ []) }
@@ -81,22 +152,26 @@ fn push(shown: &mut VecDeque<Shown>, item: Shown) -> Result<(), AllocError>
     }
 }
 
+// Adds what is shown, if anything is.
+fn push_if(shown: &mut VecDeque<Shown>, item: Option<Shown>) -> Result<(), AllocError>
+    ensures { OnOk result (shown.new.items ≡ shown.old.items ++ listed item) }
+{
+    match item {
+        Some(item) => push(shown, item),
+        None => Ok(()),
+    }
+}
+
 impl Sight<'_> {
     // The first entity that is known, in rising number, after the given one, or of all where none is given.
     fn next_after(&self, after: Option<u32>) -> Option<Seen>
         ensures { (c : CellView) → let d = seeing c (here_in self.now.known.now) self.now.reals.now.items self.now.copies.now.ghosts in
-            result ≡ option_map seen_as (find (λ p. is_after after p.0) (table.entries (table.from_entries {R = nat_cmp} (known_in d)))) }
+            result ≡ option_map seen_as (find (comes_after after) (table.entries (table.from_entries {R = nat_cmp} (known_in d)))) }
     {
-        match (self.reals.next_after(after), self.copies.next_after(after)) {
-            (None, None) => None,
-            (Some((e, parcel)), None) => Some(seen_real(e, &parcel.real)),
-            (None, Some((d, copy))) => Some(seen_copy(d, copy)),
-            (Some((e, parcel)), Some((d, copy))) => if e <= d {
-                Some(seen_real(e, &parcel.real))
-            } else {
-                Some(seen_copy(d, copy))
-            },
-        }
+        earlier_of(
+            next_real(self.reals, after),
+            next_copy(self.copies, after),
+        )
     }
 
     // All that is known of others, in rising number.
@@ -108,9 +183,7 @@ impl Sight<'_> {
         let mut last = None;
         while let Some(next) = self.next_after(last) {
             last = Some(next.entity);
-            if next.entity != self.own {
-                seen.push(next)?;
-            }
+            see(&mut seen, next, self.own)?;
         }
         Ok(seen)
     }
@@ -141,14 +214,14 @@ impl Sight<'_> {
     {
         match look {
             Look::Leave(e) => Ok(Some(Shown::Leave(*e))),
-            Look::Set(e) => match self.copy_of(*e)? {
-                Some(copy) => Ok(Some(Shown::Set(*e, copy))),
-                None => Ok(None),
-            },
-            Look::Enter(e) => match self.copy_of(*e)? {
-                Some(copy) => Ok(Some(Shown::Enter(*e, copy))),
-                None => Ok(None),
-            },
+            Look::Set(e) => {
+                let copy = self.copy_of(*e)?;
+                Ok(set_of(*e, copy))
+            }
+            Look::Enter(e) => {
+                let copy = self.copy_of(*e)?;
+                Ok(enter_of(*e, copy))
+            }
         }
     }
 
@@ -157,10 +230,8 @@ impl Sight<'_> {
         ensures { (c : CellView) → let d = seeing c (here_in self.now.known.now) self.now.reals.now.items self.now.copies.now.ghosts in
             OnOk result (shown.new.items ≡ shown.old.items ++ listed (shown_for (known_to d self.now.own) look.now)) }
     {
-        match self.shown_for(look)? {
-            Some(item) => push(shown, item),
-            None => Ok(()),
-        }
+        let item = self.shown_for(look)?;
+        push_if(shown, item)
     }
 
     // Adds what is shown for the looks, in their order.
@@ -174,6 +245,22 @@ impl Sight<'_> {
         Ok(())
     }
 
+    // Adds the own state, where that is due.
+    fn add_own(
+        &self,
+        real: &Real,
+        witness: &Witness,
+        shown: &mut VecDeque<Shown>,
+    ) -> Result<(), AllocError>
+        ensures { let h = here_in self.now.known.now in OnOk result (shown.new.items ≡ shown.old.items ++ own_told h real.now.core witness.now.told) }
+    {
+        if !witness.is_own_due(real.version()) {
+            return Ok(());
+        }
+        let state = real.own_state(&self.known.defs)?;
+        push(shown, Shown::Own(real.version(), state))
+    }
+
     // What the witness shows for the looks, after the own state where that is due.
     fn show(&self, real: &Real, witness: &Witness, looks: &[Look]) -> Result<VecDeque<Shown>, AllocError>
         ensures { (c : CellView) → let h = here_in self.now.known.now in
@@ -181,10 +268,7 @@ impl Sight<'_> {
             IfOk result (λ q. q.items ≡ all_shown h real.now.core (witness_of witness.now) (known_to d self.now.own) looks.now) }
     {
         let mut shown = VecDeque::new(self.alloc);
-        if witness.is_own_due(real.version()) {
-            let state = real.own_state(&self.known.defs)?;
-            push(&mut shown, Shown::Own(real.version(), state))?;
-        }
+        self.add_own(real, witness, &mut shown)?;
         self.add_all(looks, &mut shown)?;
         Ok(shown)
     }
@@ -224,10 +308,11 @@ impl Sight<'_> {
         ensures err_out { OnErr result (out.new.items ≡ out.old.items) }
     {
         let glance = self.get_ready(real, witness)?;
-        if !are_numbers_small(witness.sent, glance.shown.len()) {
+        let updates = count(&glance.shown);
+        if !are_numbers_small(witness.sent, updates) {
             return Ok(());
         }
-        out.reserve(glance.shown.len())?;
+        out.reserve(updates)?;
         self.tell(real, witness, glance, out);
         Ok(())
     }
@@ -247,7 +332,7 @@ impl Sight<'_> {
         let Glance { seen, looks, shown } = glance;
         let e = real.entity();
         let sent = witness.sent;
-        witness.keep(&seen, &looks, real.version(), shown.len() as u64);
+        witness.keep(&seen, &looks, real.version(), count(&shown) as u64);
         send_updates(e, base_node_of(self.known, e), sent, shown, out);
     }
 }
@@ -259,6 +344,13 @@ fn base_node_of(known: &Known, e: u32) -> u8
     ensures { result ≡ base_of (here_in known.now) e }
 {
     MOST_CELLS as u8 + (e % known.settings.bases) as u8
+}
+
+// How many there are to show.
+fn count(shown: &VecDeque<Shown>) -> usize
+    ensures { result ≡ length shown.now.items }
+{
+    shown.len()
 }
 
 // Whether n more updates have small numbers.

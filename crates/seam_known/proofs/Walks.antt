@@ -13,11 +13,8 @@ use Rattle.std.proofs.lemmas.Bool.Decides.{nat_tests}
 use Rattle.seam_table.specs.Tables.{is_after}
 use Rattle.seam_table.proofs.Found.{found}
 use Rattle.seam_known.specs.Knowing.{or_else}
+pub use Rattle.seam_known.specs.Knowing.{comes_after}
 use Rattle.seam_known.proofs.Sorted.{first, second, tied_same}
-
--- the entry comes after the one to which the walk came
-abbrev pub comes_after : {X : Type 0} → Option ℕ → ℕ × X → Bool
-comes_after a p = is_after a p.0
 
 -- what the walk has left
 abbrev pub left_after : {X : Type 0} → Option ℕ → List (ℕ × X) → List (ℕ × X)
