@@ -7,3 +7,4 @@ pub mod CellLemmas
 pub mod NewsLemmas
 pub mod SettleLemmas
 pub mod LookLemmas
+pub mod ArriveLemmas

@@ -125,7 +125,7 @@ module _ (d : CellView) (own : ℕ) (a : Option ℕ) (s : Seen)
       ap (λ l. map seen_as (filter (is_of_another own) l))
       (one_left a (all_known d) k (table.entries_sorted (table.from_entries {R = nat_cmp} (known_in d))) at.0)
       ∙ ap (λ n. map seen_as (cond (not (eqb n own)) (k ∷ filter (is_of_another own) (left_after (Some n) (all_known d)))
-        (filter (is_of_another own) (left_after (Some n) (all_known d))))) (sym (ap (λ x. x.entity) at.1))
+      (filter (is_of_another own) (left_after (Some n) (all_known d))))) (sym (ap (λ x. x.entity) at.1))
 
   -- the walk goes on, and another one is seen
   pub walk_on : (v w : List Seen) → w ≡ v ++ seen_if (is_another own s.entity) s →
@@ -228,8 +228,10 @@ module _ (c : CellView) (e : ℕ) (r : RealView) (w : WitnessView) (at : table.g
       ap (λ q. record c { reals = table.insert c.reals e q }) same_real
       ∙ ap (λ m. record c { reals = m }) (ap (set_at c.reals e) (sym at) ∙ set_at-same c.reals e)
   left_by false = λ i. record c {
-    reals = table.insert c.reals e (record r { witness = Some (after_looking (known_to c e) (looks_of r w (known_to c e))
-        (shown_of c.here r w (known_to c e)) r w) });
+    reals = table.insert c.reals e (record r {
+      witness = Some (after_looking (known_to c e) (looks_of r w (known_to c e))
+          (shown_of c.here r w (known_to c e)) r w);
+    });
     nexts = sym (set_at-same c.nexts e) i;
     ghosts = sym (set_at-same c.ghosts e) i;
   }

@@ -14,7 +14,7 @@ use Rattle.seam_cell.specs.declared.news.Telling.{Telling}
 use Rattle.seam_cell.specs.declared.news.Told.TheVariants.{Nothing}
 use Rattle.seam_cell.specs.News.{word_at, word, said, listed, told_by, news, Tells}
 
-range_more : (a n : ℕ) → range_with_len a (suc n) ≡ range_with_len a n ++ (a + n) ∷ []
+pub range_more : (a n : ℕ) → range_with_len a (suc n) ≡ range_with_len a n ++ (a + n) ∷ []
 range_more a zero = ap (λ k. k ∷ []) (let e : a ≡ a + zero = omega arith in e)
 range_more a (suc n) =
     ap (λ l. a ∷ l)

@@ -4,6 +4,7 @@ ghost use Rattle.std.specs.Prelude.{◌≡◌, ℕ, ◌<◌, ◌≤◌, ◌++◌
 ghost use Rattle.std.specs.List.{list_all, range_with_len};
 ghost use Rattle.std.specs.FinMap as table;
 ghost use Rattle.std.specs.FinSet as set;
+ghost use Rattle.seam_tree.specs.Division.{Division, cells_of};
 ghost use Rattle.seam_ghosts.specs.Book.{ghost_after};
 ghost use Rattle.seam_machine.specs.declared.machines.Input.TheVariants.{From};
 ghost use Rattle.seam_defs.specs.declared.limits.TheConstants.{MOST_BASE_NODES};
@@ -11,7 +12,7 @@ ghost use Rattle.seam_entity.specs.Here.{cell_numbers};
 ghost use Rattle.seam_entity.specs.declared.message.Msg.TheVariants as msg;
 ghost use Rattle.seam_steps.specs.Maps.{set_at};
 ghost use Rattle.seam_steps.specs.CellCases.{may_come as real_may_come, is_in_tree as real_is_in_tree, has_small_numbers as numbers_are_small};
-ghost use Rattle.seam_steps.specs.CellCases.{is_cell_if};
+ghost use Rattle.seam_steps.specs.CellCases.{is_cell_if, currents};
 ghost use Rattle.seam_steps.specs.Cells.{cell_steps};
 ghost use Rattle.seam_cell.specs.Kept.{here_in, cell_of, AreKept, IsOpen};
 ghost use Rattle.seam_cell.specs.Arriving.{current_of, is_cell_in};
@@ -40,8 +41,9 @@ fn are_cells(tree: &Tree, haunts: CellSet) -> bool
 {
     let cells = tree.cells();
     let mut all = true;
-    for k in 0..MOST_CELLS as u8 {
-        all = all && is_cell(haunts.holds(k), cells, k);
+    for k in 0..16 {
+        let fits = is_cell(haunts.holds(k), cells, k);
+        all = all && fits;
     }
     all
 }
@@ -99,21 +101,12 @@ fn tell_bases(known: &Known, e: u32, generation: u64, out: &mut Out<Msg>)
     ensures { out.new.items ≡ out.old.items ++ map (current_of e known.now.me generation) (range_with_len 16 known.now.settings.bases) }
 {
     for k in 0..known.settings.bases as u8 {
-        out.send(
-            MOST_CELLS as u8 + k,
-            Msg::Current(e, known.me, generation),
-        );
+        out.send(MOST_CELLS as u8 + k, Msg::Current(e, known.me, generation));
     }
 }
 
 // Puts the real in its place: its next place goes, the own book drops the copy, and the base nodes are told. It takes no memory.
-fn settle_in(
-    known: &Known,
-    real: Real,
-    reals: &mut Reals,
-    places: &mut Places,
-    out: &mut Out<Msg>,
-)
+fn settle_in(known: &Known, real: Real, reals: &mut Reals, places: &mut Places, out: &mut Out<Msg>)
     requires most { known.now.settings.bases ≤ MOST_BASE_NODES }
     requires open { IsOpen reals.old real.core.entity (is_some real.core.witness) }
     requires room { set.contains places.old.copies.room real.core.entity ≡ true }

@@ -168,10 +168,7 @@ impl Sight<'_> {
         ensures { (c : CellView) → let d = seeing c (here_in self.now.known.now) self.now.reals.now.items self.now.copies.now.ghosts in
             result ≡ option_map seen_as (find (comes_after after) (table.entries (table.from_entries {R = nat_cmp} (known_in d)))) }
     {
-        earlier_of(
-            next_real(self.reals, after),
-            next_copy(self.copies, after),
-        )
+        earlier_of(next_real(self.reals, after), next_copy(self.copies, after))
     }
 
     // All that is known of others, in rising number.
@@ -262,7 +259,12 @@ impl Sight<'_> {
     }
 
     // What the witness shows for the looks, after the own state where that is due.
-    fn show(&self, real: &Real, witness: &Witness, looks: &[Look]) -> Result<VecDeque<Shown>, AllocError>
+    fn show(
+        &self,
+        real: &Real,
+        witness: &Witness,
+        looks: &[Look],
+    ) -> Result<VecDeque<Shown>, AllocError>
         ensures { (c : CellView) → let h = here_in self.now.known.now in
             let d = seeing c h self.now.reals.now.items self.now.copies.now.ghosts in
             IfOk result (λ q. q.items ≡ all_shown h real.now.core (witness_of witness.now) (known_to d self.now.own) looks.now) }
@@ -294,7 +296,12 @@ impl Sight<'_> {
     }
 
     /// The witness of the real looks at what is known, and its updates go to the entity's base node.
-    pub fn look(&self, real: &Real, witness: &mut Witness, out: &mut Out<Msg>) -> Result<(), AllocError>
+    pub fn look(
+        &self,
+        real: &Real,
+        witness: &mut Witness,
+        out: &mut Out<Msg>,
+    ) -> Result<(), AllocError>
         requires bases { 1 ≤ self.now.known.now.settings.bases }
         requires most { self.now.known.now.settings.bases ≤ MOST_BASE_NODES }
         ensures witness { (c : CellView) → let h = here_in self.now.known.now in
