@@ -9,3 +9,5 @@ pub mod SettleLemmas
 pub mod StepLemmas
 pub mod CallLemmas
 pub mod ReadyLemmas
+pub mod LookLemmas
+pub mod ArriveLemmas

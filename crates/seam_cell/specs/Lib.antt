@@ -5,3 +5,5 @@ pub mod Settling
 pub mod Stepping
 pub mod Calling
 pub mod Machines
+pub mod Arriving
+pub mod Looking

@@ -153,7 +153,7 @@ pub fn stay(real: &mut Real, ready: Ready, out: &mut Out<Msg>)
 }
 
 // The own book takes what it is told of the real, for which there is room.
-fn tell_own(book: &mut GhostBook<GhostCopy>, e: u32, beat: u64, own: Option<GhostCopy>)
+pub(crate) fn tell_own(book: &mut GhostBook<GhostCopy>, e: u32, beat: u64, own: Option<GhostCopy>)
     requires { set.contains book.old.room e ≡ true }
     ensures { book.new.ghosts ≡ set_at book.old.ghosts e (ghost_after (table.get book.old.ghosts e) (record { beat = beat; copy = own })) }
 {
