@@ -24,7 +24,7 @@ use Rattle.seam_steps.specs.Slots.{Slot, NextPlace, SlotStep, slot_after, unless
 use Rattle.seam_steps.specs.Settle.{settled}
 use Rattle.seam_steps.specs.CellCases
 use Rattle.seam_steps.specs.Cells.{CellView, slot_of, with_slot, after_slot, unlisted_by, stepped, cell_steps, cell_task}
-use Rattle.seam_steps.specs.Cells.{real_is_ready, ready_entity, ready_next}
+use Rattle.seam_steps.specs.Cells.{real_is_ready, ready_entity, ready_next, look_next}
 use Rattle.seam_steps.proofs.Slots.{set_at-same}
 use Rattle.seam_cell.specs.declared.known.Known.{Known}
 use Rattle.seam_cell.specs.declared.reals.Reals.{Reals}
@@ -329,3 +329,14 @@ ready_left k r s p q l m o n e x left at items survey looks is surveyed ready ma
       state = done_stepped k r s p q l m o n e t x left at here items survey looks ∙ ap (λ w. w.state) (sym step);
       sent = here.sent ∙ ap (λ w. o.items ++ w.sent) (sym step);
     }
+
+-- ---- a cell after a step, whether there was memory for it or not
+
+pub whole_either : {A E : Type 0} (k : Known) (r s : Reals) (p q : Places) (l m : Lists) (i : Input Msg) (res : Result A E) →
+    AreWhole k r p l → AreKept s → OnOk res (cell_of k s q m ≡ (cell_steps (cell_of k r p l) i).state) →
+    OnErr res (cell_of k s q m ≡ cell_of k r p l) → AreWhole k s q m
+whole_either k r s p q l m i (Ok a) is kept done failed = whole_after k r s p q l m i is kept done
+whole_either k r s p q l m i (Err e) is kept done failed = whole_again k r s p q l m is kept failed
+
+pub task_looks : (c : CellView) → c.survey ≡ [] → ready_entity c ≡ None → cell_steps c Task ≡ look_next c c.looks
+task_looks c surveyed ready = ap (cell_task c) surveyed ∙ ap (ready_next c) ready

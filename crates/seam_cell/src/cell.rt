@@ -16,16 +16,19 @@ ghost use Rattle.seam_steps.specs.Nodes.NodeView.{Cell as CellNode};
 ghost use Rattle.seam_entity.specs.Preparing.{node_with};
 ghost use Rattle.seam_cell.specs.Calling.{is_called, IsTurn, may_run};
 
+use crate::arriving::arrive;
 use crate::calls::{Turn, execute_turn, hold, may_call, may_execute};
 use crate::entity_set::EntitySet;
 use crate::known::Known;
 use crate::lists::Lists;
+use crate::looking::look_task;
 use crate::places::Places;
 use crate::reals::{Reals, put_after, put_in, take_out};
+use crate::reaping::reap;
 use crate::tasks::execute_ready;
 use seam_call::{Call, GhostCopy};
 use seam_defs::{Defs, Settings};
-use seam_entity::{Msg, fits_copy, is_small};
+use seam_entity::{Msg, Parcel, fits_copy, is_small};
 use seam_ghosts::GhostBook;
 use seam_machine::Out;
 use seam_memory::NoMemoryFor;
@@ -291,6 +294,48 @@ impl Cell {
         let tasked = execute_ready(alloc, &self.known, real, &mut self.places, out);
         put_after(&mut self.reals, &mut self.lists, e, tasked.left);
         tasked.result
+    }
+
+    // Hand-over comes.
+    fn hear_hand(&mut self, parcel: Parcel, out: &mut Out<Msg>) -> Result<(), NoMemoryFor<Parcel>>
+        ensures state { (from : ℕ) → OnOk result (self.new ≡ (cell_steps self.old (From from (msg.Hand parcel))).state) }
+        ensures sent { (from : ℕ) →
+            OnOk result (out.new.items ≡ out.old.items ++ (cell_steps self.old (From from (msg.Hand parcel))).sent) }
+        ensures err { OnErr result (self.new ≡ self.old) }
+        ensures err_out { OnErr result (out.new.items ≡ out.old.items) }
+        ensures err_item { IfErr result (λ r. r.item ≡ parcel) }
+    {
+        arrive(&self.known, parcel, &mut self.reals, &mut self.places, out)
+    }
+
+    // Reap.
+    fn hear_reap(&mut self, e: u32, out: &mut Out<Msg>) -> Result<(), AllocError>
+        ensures state { (from : ℕ) → OnOk result (self.new ≡ (cell_steps self.old (From from (msg.Reap e))).state) }
+        ensures sent { (from : ℕ) →
+            OnOk result (out.new.items ≡ out.old.items ++ (cell_steps self.old (From from (msg.Reap e))).sent) }
+        ensures err { OnErr result (self.new ≡ self.old) }
+        ensures err_out { OnErr result (out.new.items ≡ out.old.items) }
+    {
+        reap(e, &mut self.reals, &mut self.places, &mut self.lists, out)
+    }
+
+    // Look task, where nothing is to settle and no entity has a ready call.
+    fn look(&mut self, alloc: Global, out: &mut Out<Msg>) -> Result<(), AllocError>
+        requires surveyed { self.old.survey ≡ [] }
+        requires not_ready { ready_entity self.old ≡ None }
+        ensures state { OnOk result (self.new ≡ (cell_steps self.old Task).state) }
+        ensures sent { OnOk result (out.new.items ≡ out.old.items ++ (cell_steps self.old Task).sent) }
+        ensures err { OnErr result (self.new ≡ self.old) }
+        ensures err_out { OnErr result (out.new.items ≡ out.old.items) }
+    {
+        look_task(
+            alloc,
+            &self.known,
+            &mut self.reals,
+            &self.places,
+            &mut self.lists,
+            out,
+        )
     }
 
     /// Call, next place: a call whose real is not here is sent to the next place as it is, where there is one.

@@ -20,8 +20,8 @@ mod reaping;
 mod settle;
 mod tasks;
 
-pub use calls::{Called, Held, Turn, execute_turn, hold, may_call, may_execute, may_settle};
 pub use arriving::arrive;
+pub use calls::{Called, Held, Turn, execute_turn, hold, may_call, may_execute, may_settle};
 pub use cell::Cell;
 pub use entity_set::EntitySet;
 pub use known::Known;
