@@ -338,6 +338,66 @@ impl Cell {
         )
     }
 
+    // A message from another node; no case is for what goes to base nodes alone.
+    fn hear(
+        &mut self,
+        alloc: Global,
+        message: Msg,
+        out: &mut Out<Msg>,
+    ) -> Result<(), NoMemoryFor<Msg>>
+        ensures state { (from : ℕ) → OnOk result (self.new ≡ (cell_steps self.old (From from message)).state) }
+        ensures sent { (from : ℕ) → OnOk result (out.new.items ≡ out.old.items ++ (cell_steps self.old (From from message)).sent) }
+        ensures err { OnErr result (self.new ≡ self.old) }
+        ensures err_out { OnErr result (out.new.items ≡ out.old.items) }
+        ensures err_item { IfErr result (λ r. r.item ≡ message) }
+    {
+        match message {
+            Msg::Call(call) => match self.hear_call(alloc, call, out) {
+                Ok(()) => return Ok(()),
+                Err(refused) => {
+                    return Err(NoMemoryFor {
+                        item: Msg::Call(refused.item),
+                    });
+                }
+            },
+            Msg::Hand(parcel) => match self.hear_hand(parcel, out) {
+                Ok(()) => return Ok(()),
+                Err(refused) => {
+                    return Err(NoMemoryFor {
+                        item: Msg::Hand(refused.item),
+                    });
+                }
+            },
+            Msg::GhostSet(e, beat, copy) => match self.hear_ghost_set(e, beat, copy) {
+                Ok(()) => return Ok(()),
+                Err(refused) => {
+                    return Err(NoMemoryFor {
+                        item: Msg::GhostSet(e, beat, refused.item),
+                    });
+                }
+            },
+            Msg::GhostDrop(e, beat) => match self.hear_ghost_drop(e, beat) {
+                Ok(()) => return Ok(()),
+                Err(_) => {
+                    return Err(NoMemoryFor {
+                        item: Msg::GhostDrop(e, beat),
+                    });
+                }
+            },
+            Msg::Tick => match self.hear_tick() {
+                Ok(()) => return Ok(()),
+                Err(_) => return Err(NoMemoryFor { item: Msg::Tick }),
+            },
+            Msg::Reap(e) => match self.hear_reap(e, out) {
+                Ok(()) => return Ok(()),
+                Err(_) => return Err(NoMemoryFor { item: Msg::Reap(e) }),
+            },
+            Msg::BaseCall(_) => return Ok(()),
+            Msg::Current(_, _, _) => return Ok(()),
+            Msg::Update(_) => return Ok(()),
+        }
+    }
+
     /// Call, next place: a call whose real is not here is sent to the next place as it is, where there is one.
     pub fn pass_call_on(&self, call: Call, out: &mut Out<Msg>) -> Result<(), NoMemoryFor<Call>>
         requires { is_some (table.get self.now.reals call.entity) ≡ false }
