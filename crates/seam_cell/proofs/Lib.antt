@@ -8,3 +8,6 @@ pub mod NewsLemmas
 pub mod SettleLemmas
 pub mod LookLemmas
 pub mod ArriveLemmas
+pub mod StepLemmas
+pub mod CallLemmas
+pub mod SurveyLemmas

@@ -1,15 +1,15 @@
 -- Reals that are taken out and put in: their marks follow.
-use Rattle.std.proofs.Common.{◌≡◌, ℕ, Bool, true, false, List, Option, None, Some, is_some, refl, sym, ap, ◌∙◌}
+use Rattle.std.proofs.Common.{◌≡◌, ℕ, Bool, true, false, List, Option, None, Some, is_some, refl, sym, ap, subst, ◌∙◌}
 use Rattle.std.specs.FinMap as table
 use Rattle.std.specs.FinSet as set
 use Rattle.seam_entity.specs.Reals.{RealView}
 use Rattle.seam_entity.specs.Calls.{has_ready}
-use Rattle.seam_steps.specs.Maps.{Map}
+use Rattle.seam_steps.specs.Maps.{Map, set_at}
 use Rattle.seam_steps.specs.Cells.{without, real_is_ready, has_witness}
 use Rattle.seam_cell.specs.Sets.{with_entity}
 use Rattle.seam_cell.specs.declared.reals.Reals.{Reals}
-use Rattle.seam_cell.specs.Kept.{marked, with_mark, AreKept, IsOpen}
-use Rattle.seam_cell.proofs.MarkLemmas.{put_twice, out_again, mark_twice, unmarked, marked_in, not_marked, marked_out, removed_gone}
+use Rattle.seam_cell.specs.Kept.{marked, with_mark, AreKept, IsOpen, IsOpenFor}
+use Rattle.seam_cell.proofs.MarkLemmas.{out_again, mark_twice, unmarked, marked_in, not_marked, marked_out, removed_gone, remove_none, put_again}
 
 -- the reals after one was taken out
 pub taken_out : (r s : Reals) (e : ℕ) (x : RealView) → AreKept r → table.get r.items.items e ≡ Some x →
@@ -87,3 +87,14 @@ is_closed r s e witness place items ready witnesses = record {
       ∙ (unmarked e witness (marked has_witness r.items.items)
       ∙ (not_marked has_witness r.items.items e place.gone ∙ ap (marked has_witness) (sym items))));
 }
+
+-- a place for what a step leaves of the real that was taken out, whose witness stays with it
+pub place_for : (r : Reals) (e : ℕ) (x : RealView) (left : Option RealView) → IsOpen r e (is_some x.witness) →
+    ((q : RealView) → left ≡ Some q → is_some q.witness ≡ is_some x.witness) → IsOpenFor r e left
+place_for r e x None place same = (is_some x.witness, place)
+place_for r e x (Some q) place same = subst (IsOpen r e) (sym (same q refl)) place
+
+-- what is put where one was taken out
+pub set_removed : {X : Type 0} (m : Map X) (e : ℕ) (o : Option X) → set_at (table.remove m e) e o ≡ set_at m e o
+set_removed m e None = remove_none (table.remove m e) e (removed_gone m e)
+set_removed m e (Some x) = put_again m e x

@@ -1,5 +1,5 @@
 -- What a cell keeps beside what is seen of it.
-use Rattle.std.specs.Prelude.{◌≡◌, ℕ, ◌<◌, Bool, true, false, is_some, List, map, filter, None, Some}
+use Rattle.std.specs.Prelude.{◌≡◌, ℕ, ◌<◌, Bool, true, false, is_some, List, map, filter, Option, None, Some}
 use Rattle.std.specs.FinMap as table
 use Rattle.std.specs.FinSet as set
 use Rattle.seam_tree.specs.Division.{Division, IsInSpace, cells_of}
@@ -40,6 +40,11 @@ pub record IsOpen (r : Reals) (e : ℕ) (witness : Bool) : Type 0 where
   pub room : set.contains r.items.room e ≡ true
   pub ready : r.ready ≡ with_entity e (marked real_is_ready r.items.items)
   pub witnesses : r.witnesses ≡ with_mark witness e (marked has_witness r.items.items)
+
+-- there is room for what is left of the real of entity e
+abbrev pub IsOpenFor : Reals → ℕ → Option RealView → Type 0
+IsOpenFor r e None = (witness : Bool) × IsOpen r e witness
+IsOpenFor r e (Some q) = IsOpen r e (is_some q.witness)
 
 -- ---- the cell
 

@@ -5,3 +5,4 @@ pub mod Settling
 pub mod Stepping
 pub mod Arriving
 pub mod Looking
+pub mod Calling

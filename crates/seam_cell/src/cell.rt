@@ -1,6 +1,6 @@
 //! A cell, and what it hears of ghosts.
 
-ghost use Rattle.std.specs.Prelude.{◌≡◌, ℕ, ◌<◌, ◌≤◌, OnOk, OnErr, IfErr, [], ◌++◌, Some, None, false, is_some};
+ghost use Rattle.std.specs.Prelude.{◌≡◌, ℕ, ◌<◌, ◌≤◌, OnOk, OnErr, IfErr, [], ◌++◌, Some, None, true, false, is_some};
 ghost use Rattle.std.specs.FinMap as table;
 ghost use Rattle.std.specs.FinSet as set;
 ghost use Rattle.seam_ghosts.specs.Book.{ghost_after};
@@ -14,12 +14,14 @@ ghost use Rattle.seam_steps.specs.Loads.{empty_cell};
 ghost use Rattle.seam_steps.specs.Maps.{set_at};
 ghost use Rattle.seam_steps.specs.Nodes.NodeView.{Cell as CellNode};
 ghost use Rattle.seam_entity.specs.Preparing.{node_with};
+ghost use Rattle.seam_cell.specs.Calling.{is_called, IsTurn};
 
+use crate::calls::{Turn, execute_turn, hold, may_call};
 use crate::entity_set::EntitySet;
 use crate::known::Known;
 use crate::lists::Lists;
 use crate::places::Places;
-use crate::reals::Reals;
+use crate::reals::{Reals, put_after, put_in, take_out};
 use seam_call::{Call, GhostCopy};
 use seam_defs::{Defs, Settings};
 use seam_entity::{Msg, fits_copy, is_small};
@@ -181,6 +183,79 @@ impl Cell {
         ensures { result ≡ is_some (table.get self.now.reals e) }
     {
         self.reals.items.get(e).is_some()
+    }
+
+    /// Call: where the real is here and may be offered the call, it executes it in its turn and settles, or holds it where it is
+    /// early; where the real is not here, the call is sent to the next place.
+    pub fn hear_call(
+        &mut self,
+        alloc: Global,
+        call: Call,
+        out: &mut Out<Msg>,
+    ) -> Result<(), NoMemoryFor<Call>>
+        ensures state { (from : ℕ) → OnOk result (self.new ≡ (cell_steps self.old (From from (msg.Call call))).state) }
+        ensures sent { (from : ℕ) →
+            OnOk result (out.new.items ≡ out.old.items ++ (cell_steps self.old (From from (msg.Call call))).sent) }
+
+        // If allocation fails, the call comes back and nothing has changed.
+        ensures err { OnErr result (self.new ≡ self.old) }
+        ensures err_out { OnErr result (out.new.items ≡ out.old.items) }
+        ensures err_item { IfErr result (λ r. r.item ≡ call) }
+    {
+        let Some(parcel) = self.reals.items.get(call.entity) else {
+            return self.pass_call_on(call, out);
+        };
+        if !may_call(&self.known, &parcel.real, &call) {
+            return Ok(());
+        }
+        if parcel.real.is_turn(&call) {
+            return self.execute_call(alloc, call, out);
+        }
+        self.hold_call(call)
+    }
+
+    // Call, real here, whose turn it is.
+    fn execute_call(
+        &mut self,
+        alloc: Global,
+        call: Call,
+        out: &mut Out<Msg>,
+    ) -> Result<(), NoMemoryFor<Call>>
+        requires may { is_called self.old call ≡ true }
+        requires turn { IsTurn self.old call }
+        ensures state { (from : ℕ) → OnOk result (self.new ≡ (cell_steps self.old (From from (msg.Call call))).state) }
+        ensures sent { (from : ℕ) →
+            OnOk result (out.new.items ≡ out.old.items ++ (cell_steps self.old (From from (msg.Call call))).sent) }
+        ensures err { OnErr result (self.new ≡ self.old) }
+        ensures err_out { OnErr result (out.new.items ≡ out.old.items) }
+        ensures err_item { IfErr result (λ r. r.item ≡ call) }
+    {
+        let e = call.entity;
+        let Ok(real) = take_out(&mut self.reals, e) else {
+            return Err(NoMemoryFor { item: call });
+        };
+        let turn = Turn { real, call };
+        let called = execute_turn(alloc, &self.known, turn, &mut self.places, out);
+        put_after(&mut self.reals, &mut self.lists, e, called.left);
+        called.result
+    }
+
+    // Call, real here, which comes early and is held, or late and is dropped.
+    fn hold_call(&mut self, call: Call) -> Result<(), NoMemoryFor<Call>>
+        requires may { is_called self.old call ≡ true }
+        requires not_turn { IsTurn self.old call → ⊥ }
+        ensures state { (from : ℕ) → OnOk result (self.new ≡ (cell_steps self.old (From from (msg.Call call))).state) }
+        ensures sent { (from : ℕ) → (cell_steps self.old (From from (msg.Call call))).sent ≡ [] }
+        ensures err { OnErr result (self.new ≡ self.old) }
+        ensures err_item { IfErr result (λ r. r.item ≡ call) }
+    {
+        let e = call.entity;
+        let Ok(real) = take_out(&mut self.reals, e) else {
+            return Err(NoMemoryFor { item: call });
+        };
+        let held = hold(&self.known, Turn { real, call });
+        put_in(&mut self.reals, e, held.real);
+        held.result
     }
 
     /// Call, next place: a call whose real is not here is sent to the next place as it is, where there is one.

@@ -6,6 +6,7 @@
 #![tactic(auto)]
 
 mod arriving;
+mod calls;
 mod cell;
 mod entity_set;
 mod known;
@@ -17,8 +18,10 @@ mod places;
 mod reals;
 mod reaping;
 mod settle;
+mod surveying;
 
 pub use arriving::arrive;
+pub use calls::{Called, Held, Turn, execute_turn, hold, may_call, may_execute, may_settle};
 pub use cell::Cell;
 pub use entity_set::EntitySet;
 pub use known::Known;
@@ -27,11 +30,12 @@ pub use looking::look_task;
 pub use news::{Subject, Telling, Told};
 pub use next::Next;
 pub use places::Places;
-pub use reals::{Reals, close, first_ready, make_place, put_in, take_out};
+pub use reals::{Reals, close, first_ready, make_place, put_after, put_in, take_out};
 pub use reaping::reap;
 pub use settle::{
     Plan, Ready, get_ready, leave, make_plan, make_room, ready_for, settle_real, stay,
 };
+pub use surveying::survey_task;
 
 #[cfg(test)]
 mod tests;

@@ -1,12 +1,14 @@
 //! The reals of a cell, and marks of those that have a ready call or a witness.
 
-ghost use Rattle.std.specs.Prelude.{◌≡◌, Bool, None, Some, true, is_some, option_map, find, OnOk, OnErr, IfOk};
+ghost use Rattle.std.specs.Prelude.{◌≡◌, Bool, None, Some, true, is_some, is_none, option_map, find, OnOk, OnErr, IfOk};
 ghost use Rattle.std.specs.FinMap as table;
-ghost use Rattle.seam_steps.specs.Maps.{number_of};
+ghost use Rattle.seam_steps.specs.Maps.{number_of, set_at};
 ghost use Rattle.seam_steps.specs.Cells.{real_is_ready};
-ghost use Rattle.seam_cell.specs.Kept.{AreKept, IsOpen};
+ghost use Rattle.seam_cell.specs.Kept.{AreKept, IsOpen, IsOpenFor};
+ghost use Rattle.seam_cell.specs.Stepping.{core_of, list_after};
 
 use crate::entity_set::EntitySet;
+use crate::lists::{Lists, unlist};
 use seam_entity::{Parcel, Real};
 use seam_table::Table;
 use std::alloc::AllocError;
@@ -85,4 +87,21 @@ pub fn first_ready(reals: &Reals) -> Option<u32>
     ensures { result ≡ option_map number_of (find real_is_ready (table.entries reals.now.items.items)) }
 {
     reals.ready.first()
+}
+
+/// Puts back what a step left of the entity's real, which was taken out. Where it left none, the entity goes off the lists too.
+pub fn put_after(reals: &mut Reals, lists: &mut Lists, e: u32, left: Option<Real>)
+    requires { IsOpenFor reals.old e (option_map core_of left) }
+    ensures items { reals.new.items.items ≡ set_at reals.old.items.items e (option_map core_of left) }
+    ensures kept { AreKept reals.new }
+    ensures survey { lists.new.survey ≡ list_after (is_none (option_map core_of left)) e lists.old.survey }
+    ensures looks { lists.new.looks ≡ list_after (is_none (option_map core_of left)) e lists.old.looks }
+{
+    match left {
+        Some(real) => put_in(reals, e, real),
+        None => {
+            close(reals, e);
+            unlist(lists, e);
+        }
+    }
 }
