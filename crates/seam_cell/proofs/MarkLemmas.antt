@@ -1,5 +1,5 @@
 -- Which entities are marked when a real is taken out or put in, and the first of them.
-use Rattle.std.proofs.Common.{◌≡◌, ℕ, Bool, true, false, cond, not, eqb, ◌&&◌, T, List, [], ◌∷◌, find, map, None, Some}
+use Rattle.std.proofs.Common.{◌≡◌, ℕ, Bool, true, false, cond, not, eqb, ◌&&◌, T, List, [], ◌∷◌, find, map, Option, None, Some}
 use Rattle.std.proofs.Common.{refl, sym, ap, ◌∙◌, arith}
 use Rattle.std.specs.Prelude.{option_map}
 use Rattle.std.specs.List.{filter}
@@ -11,7 +11,7 @@ use Rattle.std.specs.FinMap as table
 use Rattle.std.specs.FinMap.Entries.{put, is_sorted, below_all, find as key_find}
 use Rattle.std.proofs.lemmas.Bool.Decides.{nat_tests}
 use Rattle.seam_steps.specs.Maps.{Map, number_of, set_at}
-use Rattle.seam_steps.specs.Cells.{without}
+use Rattle.seam_steps.specs.Cells.{is_another, without}
 use Rattle.seam_steps.proofs.Slots.{set_at-same}
 use Rattle.seam_cell.specs.Sets.{with_entity, first_of}
 use Rattle.seam_cell.specs.Kept.{marked, with_mark}

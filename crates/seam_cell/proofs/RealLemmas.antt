@@ -9,7 +9,7 @@ use Rattle.seam_steps.specs.Cells.{without, real_is_ready, has_witness}
 use Rattle.seam_cell.specs.Sets.{with_entity}
 use Rattle.seam_cell.specs.declared.reals.Reals.{Reals}
 use Rattle.seam_cell.specs.Kept.{marked, with_mark, AreKept, IsOpen, IsOpenFor}
-use Rattle.seam_cell.proofs.MarkLemmas.{out_again, mark_twice, unmarked, marked_in, not_marked, marked_out, removed_gone, remove_none, put_again}
+use Rattle.seam_cell.proofs.MarkLemmas.{put_twice, out_again, mark_twice, unmarked, marked_in, not_marked, marked_out, removed_gone, remove_none, put_again}
 
 -- the reals after one was taken out
 pub taken_out : (r s : Reals) (e : ℕ) (x : RealView) → AreKept r → table.get r.items.items e ≡ Some x →

@@ -1,23 +1,26 @@
 -- What is ready for a real that settles, and what its settling leaves.
-use Rattle.std.proofs.Common.{◌≡◌, ◌≢◌, ◌+◌, ◌++◌, ℕ, Bool, true, false, cond, eqb, List, [], ◌∷◌, Option, None, Some, is_none}
-use Rattle.std.proofs.Common.{ap, sym, subst, ◌∙◌, append_assoc, arith}
+use Rattle.std.proofs.Common.{◌≡◌, ◌≢◌, ◌+◌, ◌++◌, ◌==◌, ℕ, Bool, true, false, cond, eqb, List, [], ◌∷◌, Option, None, Some, is_none}
+use Rattle.std.proofs.Common.{refl, ap, sym, subst, ◌∙◌, append_assoc, arith}
 use Rattle.std.specs.FinMap as table
 use Rattle.std.specs.FinSet as set
 use Rattle.std.proofs.lemmas.Bool.Decides.{nat_tests}
 use Rattle.seam_geo.specs.declared.pos.Pos.{Pos}
 use Rattle.seam_tree.specs.Division.{Division}
+use Rattle.seam_tree.specs.Cells.{Cells}
+use Rattle.seam_ghosts.specs.declared.Ghost.{Ghost}
 use Rattle.seam_ghosts.specs.Book.{ghost_after}
 use Rattle.seam_call.specs.declared.shown.GhostCopy.{GhostCopy}
 use Rattle.seam_entity.specs.Here.{Here}
 use Rattle.seam_entity.specs.Reals.{RealView}
 use Rattle.seam_defs.specs.declared.types.TypeDef.{TypeDef}
 use Rattle.seam_defs.specs.declared.states.State.{State}
-use Rattle.seam_entity.specs.Executing.{copy_of_real, copy_with}
+use Rattle.seam_entity.specs.Executing.{copy_of_real, copy_with, settled_to}
 use Rattle.seam_entity.specs.Preparing.{node_with}
+use Rattle.seam_entity.specs.declared.message.Msg.{Msg}
 use Rattle.seam_entity.specs.declared.message.Msg.TheVariants.{Hand}
-use Rattle.seam_steps.specs.Maps.{set_at}
-use Rattle.seam_steps.specs.Slots.{Slot}
-use Rattle.seam_steps.specs.Settle.{home_after, haunts_at, ghost_messages, copy_if, stayed, gone_to, settled_by, settled}
+use Rattle.seam_steps.specs.Maps.{Map, set_at}
+use Rattle.seam_steps.specs.Slots.{Slot, NextPlace, SlotStep}
+use Rattle.seam_steps.specs.Settle.{home_after, haunts_at, ghost_messages, copy_if, beat_after, stayed, gone_to, settled_by, settled}
 use Rattle.seam_steps.proofs.Slots.{set_at-same}
 use Rattle.seam_cell.specs.declared.news.Telling.{Telling}
 use Rattle.seam_cell.specs.declared.settle.Ready.{Ready}

@@ -1,5 +1,5 @@
 -- What a step of one entity's slot leaves in the parts of a cell.
-use Rattle.std.specs.Prelude.{◌≡◌, ℕ, ◌+◌, ◌++◌, Bool, true, false, is_none, List, Option, Some}
+use Rattle.std.specs.Prelude.{◌≡◌, ℕ, ◌+◌, ◌++◌, Bool, true, false, is_none, List, Option, None, Some, option_map}
 use Rattle.std.specs.FinMap as table
 use Rattle.std.specs.FinSet as set
 use Rattle.seam_tree.specs.Division.{Division}
@@ -16,6 +16,7 @@ use Rattle.seam_steps.specs.Slots.{Slot, NextPlace, SlotStep, slot_after}
 use Rattle.seam_steps.specs.Settle.{home_after, haunts_at, ghost_messages, copy_if}
 use Rattle.seam_steps.specs.Cells.{without}
 use Rattle.seam_cell.specs.declared.news.Telling.{Telling}
+use Rattle.seam_cell.specs.declared.news.Subject.{Subject}
 use Rattle.seam_cell.specs.declared.places.Places.{Places}
 use Rattle.seam_cell.specs.declared.settle.Ready.{Ready}
 use Rattle.seam_cell.specs.Settling.{former}

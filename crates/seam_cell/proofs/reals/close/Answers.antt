@@ -1,4 +1,4 @@
-use Rattle.std.proofs.Common.{ap, ◌∙◌}
+use Rattle.std.proofs.Common.{◌≡◌, ap, ◌∙◌}
 use Rattle.seam_cell.proofs.MarkLemmas.{remove_none}
 use Rattle.seam_cell.proofs.RealLemmas.{is_closed}
 use Rattle.seam_cell.proofs.reals.close.Goals as goal

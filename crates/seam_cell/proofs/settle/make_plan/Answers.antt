@@ -1,4 +1,4 @@
-use Rattle.std.proofs.Common.{◌+◌, ap, ◌∙◌}
+use Rattle.std.proofs.Common.{◌≡◌, ◌+◌, ap, ◌∙◌}
 use Rattle.seam_haunt.specs.Haunts.{haunts_of}
 use Rattle.seam_entity.specs.Preparing.{node_with}
 use Rattle.seam_steps.specs.Settle.{haunts_at}

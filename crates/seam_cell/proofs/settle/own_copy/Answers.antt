@@ -1,4 +1,4 @@
-use Rattle.std.proofs.Common.{Some, ap, sym, ◌∙◌}
+use Rattle.std.proofs.Common.{◌≡◌, Some, ap, sym, ◌∙◌}
 use Rattle.seam_entity.specs.Executing.{copy_with}
 use Rattle.seam_entity.specs.Preparing.{node_with}
 use Rattle.seam_steps.specs.Settle.{copy_if}

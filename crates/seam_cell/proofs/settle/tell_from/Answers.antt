@@ -1,4 +1,4 @@
-use Rattle.std.proofs.Common.{refl, ap, ◌+◌, ◌∙◌}
+use Rattle.std.proofs.Common.{refl, sym, ap, ◌+◌, ◌∙◌}
 use Rattle.seam_steps.specs.Settle.{home_after, haunts_at}
 use Rattle.seam_cell.specs.Settling.{former}
 use Rattle.seam_cell.specs.Kept.{here_in}

@@ -1,4 +1,6 @@
-use Rattle.std.proofs.Common.{ap, ◌∙◌}
+use Rattle.std.proofs.Common.{ap, ◌∙◌, subst}
+use Rattle.std.specs.List.Sorted.{IsStrictlySortedBy}
+use Rattle.std.specs.Ordering.{nat_cmp}
 use Rattle.seam_steps.specs.Cells.{without}
 use Rattle.seam_cell.proofs.SetLemmas.{removed}
 use Rattle.seam_cell.proofs.entity_set.EntitySet.remove.Goals as goal
