@@ -20,7 +20,7 @@ not_true : (a : Bool) → not a ≡ true → a ≡ false
 not_true true h = cc
 not_true false h = refl
 
-rises : (n : ℕ) → may_rise n ≡ true → n < 2 ^ 62
+pub rises : (n : ℕ) → may_rise n ≡ true → n < 2 ^ 62
 rises n t = let below : n + 1 < 2 ^ 62 = grind (arith, nat_tests) in omega arith
 
 from_zero : (n : ℕ) → nat_lt 0 n ≡ true → 1 ≤ n

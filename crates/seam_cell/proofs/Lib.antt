@@ -11,3 +11,4 @@ pub mod CallLemmas
 pub mod ReadyLemmas
 pub mod LookLemmas
 pub mod ArriveLemmas
+pub mod SurveyLemmas

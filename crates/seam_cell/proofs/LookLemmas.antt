@@ -1,23 +1,18 @@
 -- A look of a witness, from what the cell knows, is that of the cell's step.
-use Rattle.std.proofs.Common.{◌≡◌, ℕ, ◌<◌, ◌+◌, ◌++◌, ◌-◌, Bool, true, false, cond, not, eqb, T, List, [], ◌∷◌, map, length, find, is_some}
-use Rattle.std.proofs.Common.{Result, Ok, Err, OnOk, OnErr, IfSome, IfNone, Option, None, Some, refl, sym, ap, subst, ◌∙◌, take, get_or, append_assoc, arith}
+use Rattle.std.proofs.Common.{◌≡◌, ℕ, ◌<◌, ◌+◌, ◌++◌, ◌-◌, Bool, true, false, cond, not, eqb, List, [], ◌∷◌, map, length, find, is_some}
+use Rattle.std.proofs.Common.{IfSome, IfNone, Option, None, Some, refl, sym, ap, ◌∙◌, take, get_or, append_assoc, arith}
 use Rattle.std.specs.Prelude.{option_map, nat_le, ◌≢◌}
-use Rattle.std.specs.List.{filter, filter_map, cons_option}
+use Rattle.std.specs.List.{filter, filter_map}
 use Rattle.std.specs.Ordering.{nat_cmp}
 use Rattle.std.specs.FinMap as table
-use Rattle.std.specs.FinMap.Entries.{is_sorted}
 use Rattle.std.proofs.lemmas.List.{take_more}
 use Rattle.std.proofs.lemmas.List.Elements.{filter_map-append}
 use Rattle.std.proofs.lemmas.Bool.Decides.{nat_tests}
 use Rattle.seam_table.specs.Tables.{is_after}
-use Rattle.seam_ghosts.specs.declared.Ghost.{Ghost}
 use Rattle.seam_ghosts.specs.Book.{copy_in, copied}
 use Rattle.seam_view.specs.declared.Seen.{Seen}
 use Rattle.seam_view.specs.declared.Look.{Look}
 use Rattle.seam_call.specs.declared.shown.GhostCopy.{GhostCopy}
-use Rattle.seam_call.specs.declared.shown.Shown.{Shown}
-use Rattle.seam_entity.specs.declared.message.Msg.{Msg}
-use Rattle.seam_entity.specs.declared.message.Msg.TheVariants.{Update}
 use Rattle.seam_entity.specs.Here.{Here, base_of}
 use Rattle.seam_entity.specs.Numbers.{is_small}
 use Rattle.seam_entity.specs.Reals.{RealView, WitnessView}
@@ -25,9 +20,9 @@ use Rattle.seam_steps.specs.Maps.{Map, set_at}
 use Rattle.seam_steps.specs.Slots.{unless_stray, rests}
 use Rattle.seam_steps.specs.Looks.{Known, seen_as, known_of, other_of_real, other_of_copy, numbered, looks_of, shown_of, after_looking}
 use Rattle.seam_steps.specs.Looks.{stray_look_by, looks_with, look_by, own_due, all_shown, shown_for}
-use Rattle.seam_steps.specs.Cells.{CellView, slot_of, with_slot, known_in, known_to, is_another, is_of_another, stepped, looks_around, look_next, cell_rests}
+use Rattle.seam_steps.specs.Cells.{CellView, slot_of, known_in, known_to, is_another, is_of_another, stepped, looks_around, look_next, cell_rests}
 use Rattle.seam_steps.proofs.Slots.{set_at-same}
-use Rattle.seam_known.specs.Knowing.{or_else, known_by, known_at, unless_self}
+use Rattle.seam_known.specs.Knowing.{known_by, known_at}
 use Rattle.seam_known.proofs.Walks.{earlier, left_after, all_left, none_left, one_left}
 use Rattle.seam_known.proofs.Knowing.{known_of_others, next_known, known_without_own}
 use Rattle.seam_cell.specs.News.{listed}
@@ -35,14 +30,6 @@ use Rattle.seam_cell.proofs.NewsLemmas.{one_listed}
 use Rattle.seam_cell.specs.Looking.{comes_after, seen_if, seen_real_of, seen_copy_of, earlier_seen, looked_by, looked, told_by_look, told_at_look, own_told, real_has_witness}
 use Rattle.seam_cell.specs.Sets.{first_of}
 use Rattle.seam_cell.proofs.MarkLemmas.{put_again, put_back}
-
-pub on_ok : {T E : Type 0} {A B : Type 0} (r : Result T E) → (A → B) → OnOk r A → OnOk r B
-on_ok (Ok x) f h = f h
-on_ok (Err x) f h = h
-
-pub on_err : {T E : Type 0} {A B : Type 0} (r : Result T E) → (A → B) → OnErr r A → OnErr r B
-on_err (Ok x) f h = h
-on_err (Err x) f h = f h
 
 -- ---- what is known of an entity
 

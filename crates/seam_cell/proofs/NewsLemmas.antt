@@ -1,14 +1,12 @@
 -- What more cells are told, and that all of it is what the definitions of steps say.
-use Rattle.std.proofs.Common.{◌≡◌, ◌+◌, ◌++◌, ◌||◌, ℕ, zero, suc, Bool, true, false, cond, eqb, List, [], ◌∷◌, Option, None, Some}
-use Rattle.std.proofs.Common.{refl, ap, sym, ◌∙◌, arith}
+use Rattle.std.proofs.Common.{◌≡◌, ◌+◌, ◌++◌, ◌||◌, ℕ, zero, suc, Bool, true, false, cond, eqb, [], ◌∷◌, Option, None, Some}
+use Rattle.std.proofs.Common.{refl, ap, ◌∙◌, arith}
 use Rattle.std.specs.List.{filter_map, cons_option, range_with_len}
 use Rattle.std.specs.FinSet as set
 use Rattle.std.proofs.lemmas.List.Elements.{filter_map-append}
-use Rattle.seam_tree.specs.Cells.{Cells}
 use Rattle.seam_call.specs.declared.shown.GhostCopy.{GhostCopy}
 use Rattle.seam_entity.specs.Reals.{RealView}
-use Rattle.seam_entity.specs.Here.{Here, cell_count, cell_numbers}
-use Rattle.seam_entity.specs.Executing.{copy_of_real}
+use Rattle.seam_entity.specs.Here.{Here, cell_numbers}
 use Rattle.seam_steps.specs.Settle.{told, told_unless, ghost_message, ghost_messages}
 use Rattle.seam_cell.specs.declared.news.Telling.{Telling}
 use Rattle.seam_cell.specs.declared.news.Told.TheVariants.{Nothing}

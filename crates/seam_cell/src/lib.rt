@@ -18,6 +18,7 @@ mod places;
 mod reals;
 mod reaping;
 mod settle;
+mod surveying;
 mod tasks;
 
 pub use arriving::arrive;
@@ -35,6 +36,7 @@ pub use reaping::reap;
 pub use settle::{
     Plan, Ready, get_ready, leave, make_plan, make_room, ready_for, settle_real, stay,
 };
+pub use surveying::survey_task;
 pub use tasks::{Tasked, execute_ready};
 
 #[cfg(test)]

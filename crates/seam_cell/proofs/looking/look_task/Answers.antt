@@ -1,4 +1,4 @@
-use Rattle.std.proofs.Common.{◌≡◌, ◌∙◌, ◌++◌, ap, sym}
+use Rattle.std.proofs.Common.{◌∙◌, ◌++◌, ap, sym}
 use Rattle.seam_steps.specs.Cells.{CellView}
 use Rattle.seam_cell.specs.Kept.{cell_of}
 use Rattle.seam_cell.proofs.LookLemmas.{first_taken, next_look}

@@ -1,4 +1,4 @@
-use Rattle.std.proofs.Common.{◌≡◌, Some, ap, ◌∙◌}
+use Rattle.std.proofs.Common.{Some, ap, ◌∙◌}
 use Rattle.std.specs.Prelude.{option_map}
 use Rattle.seam_cell.specs.Looking.{seen_copy_of}
 use Rattle.seam_cell.proofs.looking.next_copy.Goals as goal

@@ -1,4 +1,4 @@
-use Rattle.std.proofs.Common.{◌≡◌, Some, ap, ◌∙◌}
+use Rattle.std.proofs.Common.{Some, ap, ◌∙◌}
 use Rattle.std.specs.Prelude.{option_map}
 use Rattle.seam_cell.specs.Looking.{seen_real_of}
 use Rattle.seam_cell.proofs.looking.next_real.Goals as goal

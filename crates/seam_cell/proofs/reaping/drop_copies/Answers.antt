@@ -1,4 +1,4 @@
-use Rattle.std.proofs.Common.{◌≡◌, ◌+◌, ◌++◌, ap, sym, ◌∙◌, append_assoc, arith}
+use Rattle.std.proofs.Common.{◌≡◌, ◌++◌, ap, sym, ◌∙◌, append_assoc, arith}
 use Rattle.std.specs.List.{filter_map, range_with_len}
 use Rattle.seam_steps.specs.CellCases.{drop_at}
 use Rattle.seam_cell.specs.News.{listed}

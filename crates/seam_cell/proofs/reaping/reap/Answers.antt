@@ -1,4 +1,4 @@
-use Rattle.std.proofs.Common.{◌≡◌, ◌+◌, None, ap, ◌∙◌}
+use Rattle.std.proofs.Common.{◌+◌, None, ◌∙◌}
 use Rattle.std.specs.FinMap as table
 use Rattle.seam_ghosts.specs.Book.{ghost_after}
 use Rattle.seam_steps.specs.Maps.{set_at}

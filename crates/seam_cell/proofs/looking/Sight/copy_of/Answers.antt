@@ -1,4 +1,4 @@
-use Rattle.std.proofs.Common.{◌≡◌, Some, ap, sym, ◌∙◌}
+use Rattle.std.proofs.Common.{Some, ap, ◌∙◌}
 use Rattle.seam_entity.specs.Looks.{other_of_real}
 use Rattle.seam_steps.specs.Cells.{CellView}
 use Rattle.seam_cell.specs.Kept.{here_in}

@@ -1,4 +1,4 @@
-use Rattle.std.proofs.Common.{◌≡◌, ◌∙◌}
+use Rattle.std.proofs.Common.{◌∙◌}
 use Rattle.seam_steps.specs.Cells.{CellView}
 use Rattle.seam_cell.specs.Kept.{here_in}
 use Rattle.seam_cell.specs.Looking.{seeing}

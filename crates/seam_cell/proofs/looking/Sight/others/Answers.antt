@@ -1,4 +1,4 @@
-use Rattle.std.proofs.Common.{◌≡◌, ◌++◌, List, [], None, ap, sym, ◌∙◌}
+use Rattle.std.proofs.Common.{◌++◌, List, [], None, ap, sym, ◌∙◌}
 use Rattle.std.specs.FinMap as table
 use Rattle.seam_view.specs.declared.Seen.{Seen}
 use Rattle.std.proofs.lemmas.List.{append-nil}

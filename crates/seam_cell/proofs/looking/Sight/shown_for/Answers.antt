@@ -1,4 +1,4 @@
-use Rattle.std.proofs.Common.{◌≡◌, ap, sym, ◌∙◌}
+use Rattle.std.proofs.Common.{ap, sym, ◌∙◌}
 use Rattle.std.specs.Prelude.{option_map}
 use Rattle.seam_call.specs.declared.shown.Shown.TheVariants.{Set, Enter}
 use Rattle.seam_steps.specs.Looks.{shown_for}
