@@ -89,7 +89,6 @@ module _ (h : Here) (t : Division) (size : t.size ≡ h.settings.size) where
 
   pub offered_there : (r : RealView) (k : CallData) → may_call h r k ≡ true → IsThere h t r → IsThere h t (with_offer r k)
   offered_there r k may is = record {
-    leaf = is.leaf;
     inside = is.inside;
     held =
         held_offered (fits_cell_part h r.entity r.ty) r.orders (rank_of k.sender) (order_of r.orders k.sender) k.number k is.held refl
@@ -100,7 +99,6 @@ module _ (h : Here) (t : Division) (size : t.size ≡ h.settings.size) where
   executed_there r k may is =
       let offer = offered_there r k may is in
       record {
-        leaf = is.leaf;
         inside = deed_inside (type_at h r.ty) r.state k.deed is.inside (fit_stays r.entity r.ty k (fits_of r k may));
         held = offer.held;
       }
@@ -119,7 +117,6 @@ module _ (h : Here) (t : Division) (size : t.size ≡ h.settings.size) where
       let there = found order_is_ready r.orders o at in
       let test = fits_cell_part h r.entity r.ty in
       record {
-        leaf = is.leaf;
         inside = deed_inside (type_at h r.ty) r.state k.deed is.inside (fit_stays r.entity r.ty k (ready_fits r o k at next is));
         held = held_taken test r.orders o.0 o.1 is.held (got_passes _ (same_value test) r.orders o.0 o.1 is.held there.0);
       }
@@ -145,7 +142,7 @@ module _ (h : Here) (t : Division) (size : t.size ≡ h.settings.size) where
 
   by_there : (b : Bool) (s : Slot) (r : RealView) (changed : Bool) (j : ℕ) → IsThere h t r →
       IsStepThere (settled_by b h t s r changed j).slot
-  by_there true s r changed j is = some_there _ (record { leaf = is.leaf; inside = is.inside; held = is.held })
+  by_there true s r changed j is = some_there _ (record { inside = is.inside; held = is.held })
   by_there false s r changed j is = none_there
 
   settled_there : (s : Slot) (r : RealView) (changed : Bool) → IsThere h t r → IsStepThere (settled h t s r changed).slot
@@ -174,9 +171,7 @@ module _ (h : Here) (t : Division) (size : t.size ≡ h.settings.size) where
       let values = both (nat_lt r.ty _) _ may.0 in
       let places = both (are_of_group (properties h r.ty) group.Real r.state.props) _ values.1 in
       let two = both (is_inside h.settings.size r.state.pos) (all_held (fits_cell_part h r.entity r.ty) r.orders) places.1 in
-      let tree = both (CellCases.is_in_tree h t r) (CellCases.has_small_numbers r) may.1 in
       record {
-        leaf = below_of h.me (cells_of t) (both (nat_lt h.me (cells_of t)) _ tree.0).0;
         inside = inside_of r.state.pos two.0;
         held = two.1;
       }
@@ -225,7 +220,7 @@ module _ (h : Here) (t : Division) (size : t.size ≡ h.settings.size) where
 
   look_by_there : (s : Slot) (r : RealView) (o : Option WitnessView) (known : List Known) → IsThere h t r →
       IsStepThere (look_by h s r o known).slot
-  look_by_there s r (Some w) known is = some_there _ (record { leaf = is.leaf; inside = is.inside; held = is.held })
+  look_by_there s r (Some w) known is = some_there _ (record { inside = is.inside; held = is.held })
   look_by_there s r None known is = tt
 
   look_there : (s : Slot) (o : Option RealView) (known : List Known) → IsRealThere o → IsStepThere (look_task h s o known).slot

@@ -3,6 +3,8 @@ pub mod MarkLemmas
 pub mod RealLemmas
 pub mod HeldLemmas
 pub mod KeptLemmas
+pub mod HomeLemmas
+pub mod LoadLemmas
 pub mod CellLemmas
 pub mod NewsLemmas
 pub mod SettleLemmas

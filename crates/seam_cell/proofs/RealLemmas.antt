@@ -98,3 +98,13 @@ place_for r e x (Some q) place same = subst (IsOpen r e) (sym (same q refl)) pla
 pub set_removed : {X : Type 0} (m : Map X) (e : ℕ) (o : Option X) → set_at (table.remove m e) e o ≡ set_at m e o
 set_removed m e None = remove_none (table.remove m e) e (removed_gone m e)
 set_removed m e (Some x) = put_again m e x
+
+-- a place with one more mark of a witness
+pub witness_marked : (r : Reals) (e : ℕ) (was : Bool) (ws : List ℕ) → IsOpen r e was → ws ≡ with_entity e r.witnesses →
+    IsOpen (record { items = r.items; ready = r.ready; witnesses = ws }) e true
+witness_marked r e was ws place is = record {
+  gone = place.gone;
+  room = place.room;
+  ready = place.ready;
+  witnesses = is ∙ (ap (with_entity e) place.witnesses ∙ mark_twice e was (marked has_witness r.items.items));
+}

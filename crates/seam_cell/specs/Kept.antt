@@ -1,8 +1,8 @@
 -- What a cell keeps beside what is seen of it.
-use Rattle.std.specs.Prelude.{◌≡◌, ℕ, ◌<◌, Bool, true, false, is_some, List, map, filter, Option, None, Some}
+use Rattle.std.specs.Prelude.{◌≡◌, ℕ, Bool, true, false, is_some, List, map, filter, Option, None, Some}
 use Rattle.std.specs.FinMap as table
 use Rattle.std.specs.FinSet as set
-use Rattle.seam_tree.specs.Division.{Division, IsInSpace, cells_of}
+use Rattle.seam_tree.specs.Division.{Division, IsInSpace}
 use Rattle.seam_defs.specs.Settings.{AreLegal}
 use Rattle.seam_entity.specs.Here.{Here}
 use Rattle.seam_entity.specs.Reals.{RealView}
@@ -63,9 +63,8 @@ cell_of k r p l = record {
   looks = l.looks;
 }
 
--- the cell is one of the tree, the real is in the space, and so are the places to which calls that it holds move it
+-- the real is in the space, and so are the places to which calls that it holds move it
 pub record IsThere (h : Here) (t : Division) (r : RealView) : Type 0 where
-  pub leaf : h.me < cells_of t
   pub inside : IsInSpace t r.state.pos
   pub held : all_held (fits_cell_part h r.entity r.ty) r.orders ≡ true
 

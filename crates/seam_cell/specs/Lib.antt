@@ -7,3 +7,4 @@ pub mod Calling
 pub mod Machines
 pub mod Arriving
 pub mod Looking
+pub mod Beginning

@@ -12,7 +12,8 @@ ghost use Rattle.seam_steps.specs.CellCases.{stray_ghost_set};
 ghost use Rattle.seam_steps.specs.Cells.{cell_steps, ready_entity, cell_has_work};
 ghost use Rattle.seam_steps.specs.Valid.{IsCell};
 ghost use Rattle.seam_cell.specs.Machines.{cell_peers, cell_targets, cell_keeps_peers, cell_stays_valid};
-ghost use Rattle.seam_steps.specs.Loads.{empty_cell};
+ghost use Rattle.seam_tree.specs.Division.{IsInSpace};
+ghost use Rattle.seam_steps.specs.Loads.{empty_cell, real_if, attached};
 ghost use Rattle.seam_steps.specs.Maps.{set_at, has_any};
 ghost use Rattle.seam_steps.specs.Nodes.NodeView.{Cell as CellNode};
 ghost use Rattle.seam_entity.specs.Preparing.{node_with};
@@ -23,6 +24,7 @@ use crate::calls::{Turn, execute_turn, hold, may_call, may_execute};
 use crate::entity_set::EntitySet;
 use crate::known::Known;
 use crate::lists::Lists;
+use crate::loads::{Making, give_witness, make_real};
 use crate::looking::look_task;
 use crate::places::Places;
 use crate::reals::{Reals, first_ready, put_after, put_in, take_out};
@@ -139,6 +141,27 @@ impl Cell {
                 looks: EntitySet::new(alloc),
             },
         }
+    }
+
+    /// Load, point 1: makes the real of an entity that is new, where this cell is the leaf of its position.
+    pub fn add_entity(&mut self, alloc: Global, making: Making) -> Result<(), AllocError>
+        requires inside { IsInSpace self.old.tree making.pos }
+        requires new { table.get self.old.reals making.entity ≡ None }
+        ensures after { OnOk result (self.new
+            ≡ real_if true self.old (record { entity = making.entity; ty = making.ty; pos = making.pos })) }
+
+        // If allocation fails, nothing has changed.
+        ensures err { OnErr result (self.new ≡ self.old) }
+    {
+        make_real(alloc, &self.known, making, &mut self.reals)
+    }
+
+    /// Load, point 2: the entity's real, where it is here, gets a witness.
+    pub fn attach(&mut self, alloc: Global, e: u32) -> Result<(), AllocError>
+        ensures after { OnOk result (CellNode self.new ≡ attached e (CellNode self.old)) }
+        ensures err { OnErr result (self.new ≡ self.old) }
+    {
+        give_witness(alloc, &self.known, e, &mut self.reals)
     }
 
     /// Ghost set: the own book takes the copy at its beat, where the real is not here.

@@ -56,9 +56,12 @@ pub struct Ready {
 // The home of a real of cell `me` that stands there.
 fn home_after(me: u8, settings: &Settings, tree: &Tree, pos: Pos) -> u8
     requires inside { IsInSpace tree.now pos }
-    requires there { me < cells_of tree.now }
     ensures { (defs : List TypeDef) → result ≡ home_after (node_with defs me settings.now) tree.now pos }
 {
+    // A real of a cell that the tree has not stays where it is.
+    if me >= tree.cells() {
+        return me;
+    }
     let Some(area) = tree.area(me) else {
         unreachable!()
     };
@@ -80,7 +83,6 @@ fn former(me: u8, home: u8, old: CellSet) -> CellSet
 /// Where a real of cell `me` with these haunts goes that stands there, and which haunts it will have.
 pub fn make_plan(me: u8, settings: &Settings, tree: &Tree, old: CellSet, pos: Pos) -> Plan
     requires inside { IsInSpace tree.now pos }
-    requires there { me < cells_of tree.now }
     requires small { me < 16 }
     requires far { settings.now.ghost_distance + settings.now.ghost_hysteresis < 2 ^ 32 }
     ensures home { (defs : List TypeDef) → result.home ≡ home_after (node_with defs me settings.now) tree.now pos }
@@ -200,7 +202,6 @@ pub fn leave(
 // What is told of a real that settles at that position.
 fn tell_from(known: &Known, real: &Real, pos: Pos, changed: bool) -> Telling
     requires me { known.now.me < cell_count }
-    requires leaf { known.now.me < cells_of known.now.tree }
     requires inside { IsInSpace known.now.tree pos }
     requires legal { AreLegal known.now.settings }
     requires beat { real.now.core.beat < 2 ^ 62 }
@@ -228,7 +229,6 @@ pub fn ready_for(
     changed: bool,
 ) -> Result<Ready, AllocError>
     requires me { known.now.me < cell_count }
-    requires leaf { known.now.me < cells_of known.now.tree }
     requires inside { IsInSpace known.now.tree of.now.state.now.pos }
     requires legal { AreLegal known.now.settings }
     requires beat { real.now.core.beat < 2 ^ 62 }

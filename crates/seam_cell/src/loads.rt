@@ -1,0 +1,71 @@
+//! What the loads do to the reals of a cell.
+
+ghost use Rattle.std.specs.Prelude.{◌≡◌, OnOk, OnErr, IfOk, None, Some, is_some, option_map};
+ghost use Rattle.std.specs.FinMap as table;
+ghost use Rattle.seam_entity.specs.Executing.{created, real_begins};
+ghost use Rattle.seam_entity.specs.Looks.{with_witness};
+ghost use Rattle.seam_steps.specs.Maps.{Map, set_at, each_value};
+ghost use Rattle.seam_cell.specs.Kept.{here_in, AreKept};
+ghost use Rattle.seam_cell.specs.Beginning.{changed_at};
+
+use crate::entity_set::EntitySet;
+use crate::known::Known;
+use crate::reals::{Reals, make_place, put_in, take_out};
+use seam_entity::{Parcel, Real};
+use seam_geo::Pos;
+use seam_table::Table;
+use std::alloc::{AllocError, Global};
+
+/// A real that is to be made.
+#[derive(Clone, Copy, Debug)]
+pub struct Making {
+    pub entity: u32,
+    pub ty: u16,
+    pub pos: Pos,
+}
+
+/// Makes the real of an entity of which none is here.
+pub fn make_real(
+    alloc: Global,
+    known: &Known,
+    making: Making,
+    reals: &mut Reals,
+) -> Result<(), AllocError>
+    requires gone { table.get reals.old.items.items making.entity ≡ None }
+    requires kept { AreKept reals.old }
+    ensures after { OnOk result (reals.new.items.items ≡ table.insert reals.old.items.items making.entity
+        (created (here_in known.now) making.entity making.ty making.pos)) }
+    ensures err { OnErr result (reals.new.items.items ≡ reals.old.items.items) }
+    ensures kept { AreKept reals.new }
+{
+    let e = making.entity;
+    let real = Real::create(alloc, &known.defs, e, making.ty, making.pos)?;
+    make_place(reals, e, false)?;
+    put_in(reals, e, real);
+    Ok(())
+}
+
+/// Gives the entity's real, if it is here, a witness that has told nothing.
+pub fn give_witness(
+    alloc: Global,
+    known: &Known,
+    e: u32,
+    reals: &mut Reals,
+) -> Result<(), AllocError>
+    requires { AreKept reals.old }
+    ensures after { OnOk result (reals.new.items.items ≡ changed_at (with_witness (here_in known.now)) reals.old.items.items e) }
+    ensures err { OnErr result (reals.new.items.items ≡ reals.old.items.items) }
+    ensures kept { AreKept reals.new }
+{
+    if reals.items.get(e).is_none() {
+        return Ok(());
+    }
+    let mut real = take_out(reals, e)?;
+    if let Err(error) = reals.witnesses.insert(e) {
+        put_in(reals, e, real);
+        return Err(error);
+    }
+    real.attach(alloc, &known.settings);
+    put_in(reals, e, real);
+    Ok(())
+}
