@@ -6,8 +6,9 @@ pub mod KeptLemmas
 pub mod CellLemmas
 pub mod NewsLemmas
 pub mod SettleLemmas
-pub mod LookLemmas
-pub mod ArriveLemmas
 pub mod StepLemmas
 pub mod CallLemmas
+pub mod ReadyLemmas
+pub mod LookLemmas
+pub mod ArriveLemmas
 pub mod SurveyLemmas

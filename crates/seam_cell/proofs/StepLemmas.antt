@@ -1,26 +1,30 @@
 -- A step of one entity's slot, from what was done to the parts of the cell.
-use Rattle.std.proofs.Common.{◌≡◌, ◌+◌, ◌++◌, ℕ, Bool, true, false, cond, not, List, [], Option, None, Some, is_none}
+use Rattle.std.proofs.Common.{◌≡◌, ◌+◌, ◌++◌, ◌&&◌, ℕ, Bool, true, false, cond, not, List, [], Option, None, Some, is_none}
 use Rattle.std.proofs.Common.{refl, ap, sym, subst, Result, Ok, Err, OnOk, OnErr, ◌∙◌}
+use Rattle.std.specs.Prelude.{find, option_map}
 use Rattle.std.specs.FinMap as table
+use Rattle.seam_table.proofs.Found.{found}
 use Rattle.std.specs.Ordering.{nat_cmp, match_ordering}
 use Rattle.std.specs.declared.cmp.Ordering.{Ordering}
 use Rattle.std.specs.declared.cmp.Ordering.TheVariants.{Less, Equal, Greater}
 use Rattle.std.specs.Cmp.{nat_cmp_total, tied_itself}
 use Rattle.seam_machine.specs.Views.{OutView, Stepped}
 use Rattle.seam_machine.specs.declared.machines.Input.{Input}
-use Rattle.seam_machine.specs.declared.machines.Input.TheVariants.{From}
+use Rattle.seam_machine.specs.declared.machines.Input.TheVariants.{Task, From}
 use Rattle.seam_call.specs.declared.call.Call.{Call as CallData}
 use Rattle.seam_entity.specs.Here.{Here}
 use Rattle.seam_entity.specs.Orders.{order_of}
 use Rattle.seam_entity.specs.Reals.{RealView}
 use Rattle.seam_entity.specs.declared.message.Msg.{Msg}
 use Rattle.seam_entity.specs.declared.message.Msg.TheVariants.{Call}
-use Rattle.seam_entity.specs.Executing.{may_call, executed, shows, with_offer}
-use Rattle.seam_steps.specs.Maps.{Map, set_at}
+use Rattle.seam_entity.specs.Calls.{has_ready}
+use Rattle.seam_entity.specs.Executing.{may_call, may_execute, executed, shows, with_offer}
+use Rattle.seam_steps.specs.Maps.{Map, set_at, number_of}
 use Rattle.seam_steps.specs.Slots.{Slot, NextPlace, SlotStep, slot_after, unless_stray, becomes, rests}
 use Rattle.seam_steps.specs.Settle.{settled}
 use Rattle.seam_steps.specs.CellCases
-use Rattle.seam_steps.specs.Cells.{CellView, slot_of, with_slot, after_slot, unlisted_by, stepped, cell_steps}
+use Rattle.seam_steps.specs.Cells.{CellView, slot_of, with_slot, after_slot, unlisted_by, stepped, cell_steps, cell_task}
+use Rattle.seam_steps.specs.Cells.{real_is_ready, ready_entity, ready_next, look_next}
 use Rattle.seam_steps.proofs.Slots.{set_at-same}
 use Rattle.seam_cell.specs.declared.known.Known.{Known}
 use Rattle.seam_cell.specs.declared.reals.Reals.{Reals}
@@ -28,7 +32,7 @@ use Rattle.seam_cell.specs.declared.places.Places.{Places}
 use Rattle.seam_cell.specs.declared.lists.Lists.{Lists}
 use Rattle.seam_entity.specs.Preparing.{offered as held_or}
 use Rattle.seam_cell.specs.Kept.{here_in, cell_of, AreKept, IsKept, AreWhole}
-use Rattle.seam_cell.specs.Calling.{called_by, is_called, IsTurn}
+use Rattle.seam_cell.specs.Calling.{called_by, is_called, IsTurn, may_run}
 use Rattle.seam_cell.specs.Stepping.{parts_of, slot_in, IsDone, list_after}
 use Rattle.seam_cell.proofs.MarkLemmas.{put_again, put_back}
 use Rattle.seam_cell.proofs.KeptLemmas.{step_kept}
@@ -135,29 +139,32 @@ pub record CallLeaves (c d : CellView) (k : CallData) (before after : List (ℕ 
   pub state : (from : ℕ) → d ≡ (cell_steps c (From from (Call k))).state
   pub sent : (from : ℕ) → after ≡ before ++ (cell_steps c (From from (Call k))).sent
 
+-- after want of memory the cell is as it was
+pub undone : (k : Known) (r s : Reals) (p q : Places) (l m : Lists) (o n : OutView Msg) (e : ℕ) (x : RealView) (left : Option RealView) →
+    table.get r.items.items e ≡ Some x → s.items.items ≡ set_at (table.remove r.items.items e) e left →
+    m.survey ≡ list_after (is_none left) e l.survey → m.looks ≡ list_after (is_none left) e l.looks → left ≡ Some x →
+    parts_of q n ≡ parts_of p o → cell_of k s q m ≡ cell_of k r p l
+undone k r s p q l m o n e x left at items survey looks same parts =
+    let reals : s.items.items ≡ r.items.items =
+    items
+    ∙ (set_removed r.items.items e left ∙ (ap (set_at r.items.items e) (same ∙ sym at) ∙ set_at-same r.items.items e)) in
+    let off = survey ∙ ap (λ b. list_after b e l.survey) (ap is_none same) in
+    let away = looks ∙ ap (λ b. list_after b e l.looks) (ap is_none same) in
+    λ i. record {
+      here = here_in k;
+      tree = k.tree;
+      reals = reals i;
+      nexts = (parts i).nexts;
+      ghosts = (parts i).ghosts;
+      survey = off i;
+      looks = away i;
+    }
+
 module _ (k : Known) (r s : Reals) (p q : Places) (l m : Lists) (o n : OutView Msg) (call : CallData) (x : RealView)
     (left : Option RealView) (at : table.get r.items.items call.entity ≡ Some x)
     (items : s.items.items ≡ set_at (table.remove r.items.items call.entity) call.entity left)
     (survey : m.survey ≡ list_after (is_none left) call.entity l.survey) (looks : m.looks ≡ list_after (is_none left) call.entity l.looks)
   where
-    pub undone : left ≡ Some x → parts_of q n ≡ parts_of p o → cell_of k s q m ≡ cell_of k r p l
-    undone same parts =
-        let reals : s.items.items ≡ r.items.items =
-        items
-        ∙ (set_removed r.items.items call.entity left
-        ∙ (ap (set_at r.items.items call.entity) (same ∙ sym at) ∙ set_at-same r.items.items call.entity)) in
-        let off = survey ∙ ap (λ b. list_after b call.entity l.survey) (ap is_none same) in
-        let away = looks ∙ ap (λ b. list_after b call.entity l.looks) (ap is_none same) in
-        λ i. record {
-          here = here_in k;
-          tree = k.tree;
-          reals = reals i;
-          nexts = (parts i).nexts;
-          ghosts = (parts i).ghosts;
-          survey = off i;
-          looks = away i;
-        }
-
     abbrev pub h : Here
     h = here_in k
 
@@ -247,3 +254,89 @@ pub held_not : (k : Known) (r s : Reals) (p : Places) (l : Lists) (e : ℕ) (x y
 held_not k r s p l e x y at items is =
     let reals = items ∙ (ap (table.insert (table.remove r.items.items e) e) is ∙ put_back r.items.items e x at) in
     λ i. record (cell_of k r p l) { reals = reals i }
+
+-- ---- the ready-call task
+
+-- the least entity that has a ready call has a real, which has one
+pub record ReadyAt (c : CellView) (e : ℕ) : Type 0 where
+  pub real : RealView
+  pub at : table.get c.reals e ≡ Some real
+  pub is : has_ready real.orders ≡ true
+
+pub ready_at : (c : CellView) (e : ℕ) → ready_entity c ≡ Some e → ReadyAt c e
+ready_at c e is = by (find real_is_ready (table.entries c.reals)) refl is
+  where
+    by : (o : Option (ℕ × RealView)) → find real_is_ready (table.entries c.reals) ≡ o → option_map number_of o ≡ Some e → ReadyAt c e
+    by None eq is = let not : None ≡ Some e = is in cc
+    by (Some x) eq is =
+        let number : x.0 ≡ e = some_same is in
+        let there = found real_is_ready c.reals x eq in
+        record { real = x.1; at = ap (table.get c.reals) (sym number) ∙ there.0; is = there.1 }
+
+-- where the real there may execute it, it does
+pub runs : (c : CellView) (e : ℕ) → ready_entity c ≡ Some e → (x : RealView) → table.get c.reals e ≡ Some x → may_execute x ≡ true →
+    may_run (table.get c.reals e) ≡ true
+runs c e is x at may =
+    let ready = ready_at c e is in
+    let same : ready.real ≡ x = some_same (sym ready.at ∙ at) in
+    ap may_run at ∙ ((λ i. may i && has_ready x.orders) ∙ (ap (λ y. has_ready y.orders) (sym same) ∙ ready.is))
+
+pub task_ready : (c : CellView) (e : ℕ) → c.survey ≡ [] → ready_entity c ≡ Some e → cell_steps c Task ≡ ready_next c (Some e)
+task_ready c e surveyed ready = ap (cell_task c) surveyed ∙ ap (ready_next c) ready
+
+module _ (c : CellView) (e : ℕ) (x : RealView) (at : table.get c.reals e ≡ Some x) where
+  abbrev slot_with : Option RealView → Slot
+  slot_with o = record { real = o; next = table.get c.nexts e; ghost = table.get c.ghosts e }
+
+  readies_real : Option RealView → SlotStep
+  readies_real o = unless_stray (CellCases.stray_ready_call o) (CellCases.ready_call_task c.here c.tree (slot_with o) o)
+
+  readies : ready_next c (Some e)
+      ≡ stepped c e (unless_stray (not (may_execute x)) (CellCases.ready_call_task c.here c.tree (slot_with (Some x)) (Some x)))
+  unfolding readies_real
+  readies = ap (λ o. stepped c e (readies_real o)) at
+
+  pub stray_readies : may_execute x ≡ false → ready_next c (Some e) ≡ record { state = c; sent = [] }
+  stray_readies may =
+      readies
+      ∙ ap (λ b. stepped c e (unless_stray (not b) (CellCases.ready_call_task c.here c.tree (slot_with (Some x)) (Some x)))) may
+
+  pub readies_may : may_execute x ≡ true →
+      ready_next c (Some e) ≡ stepped c e (CellCases.ready_call_task c.here c.tree (slot_with (Some x)) (Some x))
+  readies_may may =
+      readies
+      ∙ ap (λ b. stepped c e (unless_stray (not b) (CellCases.ready_call_task c.here c.tree (slot_with (Some x)) (Some x)))) may
+
+-- the cell that a task leaves, and what it sends
+pub record TaskLeaves (c d : CellView) (before after : List (ℕ × Msg)) : Type 0 where
+  pub state : d ≡ (cell_steps c Task).state
+  pub sent : after ≡ before ++ (cell_steps c Task).sent
+
+pub ready_left : (k : Known) (r s : Reals) (p q : Places) (l m : Lists) (o n : OutView Msg) (e : ℕ) (x : RealView)
+    (left : Option RealView) → table.get r.items.items e ≡ Some x → s.items.items ≡ set_at (table.remove r.items.items e) e left →
+    m.survey ≡ list_after (is_none left) e l.survey → m.looks ≡ list_after (is_none left) e l.looks → AreWhole k r p l →
+    (cell_of k r p l).survey ≡ [] → ready_entity (cell_of k r p l) ≡ Some e → may_execute x ≡ true →
+    IsDone (CellCases.ready_call_task (here_in k) k.tree (slot_in (parts_of p o) x.entity x) (Some x)) x.entity x left (parts_of p o)
+    (parts_of q n) → TaskLeaves (cell_of k r p l) (cell_of k s q m) o.items n.items
+ready_left k r s p q l m o n e x left at items survey looks is surveyed ready may done =
+    let entity : x.entity ≡ e = is.cell.cell.keys e x at in
+    let t = CellCases.ready_call_task (here_in k) k.tree (slot_in (parts_of p o) e x) (Some x) in
+    let here : IsDone t e x left (parts_of p o) (parts_of q n) =
+    subst (λ y. IsDone (CellCases.ready_call_task (here_in k) k.tree (slot_in (parts_of p o) y x) (Some x)) y x left (parts_of p o)
+    (parts_of q n)) entity done in
+    let step = task_ready (cell_of k r p l) e surveyed ready ∙ readies_may (cell_of k r p l) e x at may in
+    record {
+      state = done_stepped k r s p q l m o n e t x left at here items survey looks ∙ ap (λ w. w.state) (sym step);
+      sent = here.sent ∙ ap (λ w. o.items ++ w.sent) (sym step);
+    }
+
+-- ---- a cell after a step, whether there was memory for it or not
+
+pub whole_either : {A E : Type 0} (k : Known) (r s : Reals) (p q : Places) (l m : Lists) (i : Input Msg) (res : Result A E) →
+    AreWhole k r p l → AreKept s → OnOk res (cell_of k s q m ≡ (cell_steps (cell_of k r p l) i).state) →
+    OnErr res (cell_of k s q m ≡ cell_of k r p l) → AreWhole k s q m
+whole_either k r s p q l m i (Ok a) is kept done failed = whole_after k r s p q l m i is kept done
+whole_either k r s p q l m i (Err e) is kept done failed = whole_again k r s p q l m is kept failed
+
+pub task_looks : (c : CellView) → c.survey ≡ [] → ready_entity c ≡ None → cell_steps c Task ≡ look_next c c.looks
+task_looks c surveyed ready = ap (cell_task c) surveyed ∙ ap (ready_next c) ready

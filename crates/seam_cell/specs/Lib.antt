@@ -3,6 +3,7 @@ pub mod Kept
 pub mod News
 pub mod Settling
 pub mod Stepping
+pub mod Calling
+pub mod Machines
 pub mod Arriving
 pub mod Looking
-pub mod Calling

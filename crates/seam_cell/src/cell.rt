@@ -4,27 +4,31 @@ ghost use Rattle.std.specs.Prelude.{◌≡◌, ℕ, ◌<◌, ◌≤◌, OnOk, On
 ghost use Rattle.std.specs.FinMap as table;
 ghost use Rattle.std.specs.FinSet as set;
 ghost use Rattle.seam_ghosts.specs.Book.{ghost_after};
-ghost use Rattle.seam_machine.specs.declared.machines.Input.TheVariants.{From};
+ghost use Rattle.seam_machine.specs.declared.machines.Input.TheVariants.{Task, From};
 ghost use Rattle.seam_entity.specs.declared.message.Msg.TheVariants as msg;
 ghost use Rattle.seam_defs.specs.Settings.{AreLegal};
 ghost use Rattle.seam_entity.specs.Here.{cell_count};
 ghost use Rattle.seam_steps.specs.CellCases.{stray_ghost_set};
-ghost use Rattle.seam_steps.specs.Cells.{cell_steps, has_witness, real_is_ready};
+ghost use Rattle.seam_steps.specs.Cells.{cell_steps, ready_entity};
 ghost use Rattle.seam_steps.specs.Loads.{empty_cell};
 ghost use Rattle.seam_steps.specs.Maps.{set_at};
 ghost use Rattle.seam_steps.specs.Nodes.NodeView.{Cell as CellNode};
 ghost use Rattle.seam_entity.specs.Preparing.{node_with};
-ghost use Rattle.seam_cell.specs.Calling.{is_called, IsTurn};
+ghost use Rattle.seam_cell.specs.Calling.{is_called, IsTurn, may_run};
 
-use crate::calls::{Turn, execute_turn, hold, may_call};
+use crate::arriving::arrive;
+use crate::calls::{Turn, execute_turn, hold, may_call, may_execute};
 use crate::entity_set::EntitySet;
 use crate::known::Known;
 use crate::lists::Lists;
+use crate::looking::look_task;
 use crate::places::Places;
 use crate::reals::{Reals, put_after, put_in, take_out};
+use crate::reaping::reap;
+use crate::tasks::execute_ready;
 use seam_call::{Call, GhostCopy};
 use seam_defs::{Defs, Settings};
-use seam_entity::{Msg, fits_copy, is_small};
+use seam_entity::{Msg, Parcel, fits_copy, is_small};
 use seam_ghosts::GhostBook;
 use seam_machine::Out;
 use seam_memory::NoMemoryFor;
@@ -256,6 +260,142 @@ impl Cell {
         let held = hold(&self.known, Turn { real, call });
         put_in(&mut self.reals, e, held.real);
         held.result
+    }
+
+    // Ready-call task: the least entity that has a ready call executes it, and settles.
+    fn ready_task(&mut self, alloc: Global, e: u32, out: &mut Out<Msg>) -> Result<(), AllocError>
+        requires surveyed { self.old.survey ≡ [] }
+        requires ready { ready_entity self.old ≡ Some e }
+        ensures state { OnOk result (self.new ≡ (cell_steps self.old Task).state) }
+        ensures sent { OnOk result (out.new.items ≡ out.old.items ++ (cell_steps self.old Task).sent) }
+        ensures err { OnErr result (self.new ≡ self.old) }
+        ensures err_out { OnErr result (out.new.items ≡ out.old.items) }
+    {
+        let Some(parcel) = self.reals.items.get(e) else {
+            unreachable!()
+        };
+        if !may_execute(&parcel.real) {
+            return Ok(());
+        }
+        self.run_ready(alloc, e, out)
+    }
+
+    // The entity, whose real may execute its ready call, executes it.
+    fn run_ready(&mut self, alloc: Global, e: u32, out: &mut Out<Msg>) -> Result<(), AllocError>
+        requires surveyed { self.old.survey ≡ [] }
+        requires ready { ready_entity self.old ≡ Some e }
+        requires may { may_run (table.get self.old.reals e) ≡ true }
+        ensures state { OnOk result (self.new ≡ (cell_steps self.old Task).state) }
+        ensures sent { OnOk result (out.new.items ≡ out.old.items ++ (cell_steps self.old Task).sent) }
+        ensures err { OnErr result (self.new ≡ self.old) }
+        ensures err_out { OnErr result (out.new.items ≡ out.old.items) }
+    {
+        let real = take_out(&mut self.reals, e)?;
+        let tasked = execute_ready(alloc, &self.known, real, &mut self.places, out);
+        put_after(&mut self.reals, &mut self.lists, e, tasked.left);
+        tasked.result
+    }
+
+    // Hand-over comes.
+    fn hear_hand(&mut self, parcel: Parcel, out: &mut Out<Msg>) -> Result<(), NoMemoryFor<Parcel>>
+        ensures state { (from : ℕ) → OnOk result (self.new ≡ (cell_steps self.old (From from (msg.Hand parcel))).state) }
+        ensures sent { (from : ℕ) →
+            OnOk result (out.new.items ≡ out.old.items ++ (cell_steps self.old (From from (msg.Hand parcel))).sent) }
+        ensures err { OnErr result (self.new ≡ self.old) }
+        ensures err_out { OnErr result (out.new.items ≡ out.old.items) }
+        ensures err_item { IfErr result (λ r. r.item ≡ parcel) }
+    {
+        arrive(&self.known, parcel, &mut self.reals, &mut self.places, out)
+    }
+
+    // Reap.
+    fn hear_reap(&mut self, e: u32, out: &mut Out<Msg>) -> Result<(), AllocError>
+        ensures state { (from : ℕ) → OnOk result (self.new ≡ (cell_steps self.old (From from (msg.Reap e))).state) }
+        ensures sent { (from : ℕ) →
+            OnOk result (out.new.items ≡ out.old.items ++ (cell_steps self.old (From from (msg.Reap e))).sent) }
+        ensures err { OnErr result (self.new ≡ self.old) }
+        ensures err_out { OnErr result (out.new.items ≡ out.old.items) }
+    {
+        reap(e, &mut self.reals, &mut self.places, &mut self.lists, out)
+    }
+
+    // Look task, where nothing is to settle and no entity has a ready call.
+    fn look(&mut self, alloc: Global, out: &mut Out<Msg>) -> Result<(), AllocError>
+        requires surveyed { self.old.survey ≡ [] }
+        requires not_ready { ready_entity self.old ≡ None }
+        ensures state { OnOk result (self.new ≡ (cell_steps self.old Task).state) }
+        ensures sent { OnOk result (out.new.items ≡ out.old.items ++ (cell_steps self.old Task).sent) }
+        ensures err { OnErr result (self.new ≡ self.old) }
+        ensures err_out { OnErr result (out.new.items ≡ out.old.items) }
+    {
+        look_task(
+            alloc,
+            &self.known,
+            &mut self.reals,
+            &self.places,
+            &mut self.lists,
+            out,
+        )
+    }
+
+    // A message from another node; no case is for what goes to base nodes alone.
+    fn hear(
+        &mut self,
+        alloc: Global,
+        message: Msg,
+        out: &mut Out<Msg>,
+    ) -> Result<(), NoMemoryFor<Msg>>
+        ensures state { (from : ℕ) → OnOk result (self.new ≡ (cell_steps self.old (From from message)).state) }
+        ensures sent { (from : ℕ) → OnOk result (out.new.items ≡ out.old.items ++ (cell_steps self.old (From from message)).sent) }
+        ensures err { OnErr result (self.new ≡ self.old) }
+        ensures err_out { OnErr result (out.new.items ≡ out.old.items) }
+        ensures err_item { IfErr result (λ r. r.item ≡ message) }
+    {
+        match message {
+            Msg::Call(call) => match self.hear_call(alloc, call, out) {
+                Ok(()) => return Ok(()),
+                Err(refused) => {
+                    return Err(NoMemoryFor {
+                        item: Msg::Call(refused.item),
+                    });
+                }
+            },
+            Msg::Hand(parcel) => match self.hear_hand(parcel, out) {
+                Ok(()) => return Ok(()),
+                Err(refused) => {
+                    return Err(NoMemoryFor {
+                        item: Msg::Hand(refused.item),
+                    });
+                }
+            },
+            Msg::GhostSet(e, beat, copy) => match self.hear_ghost_set(e, beat, copy) {
+                Ok(()) => return Ok(()),
+                Err(refused) => {
+                    return Err(NoMemoryFor {
+                        item: Msg::GhostSet(e, beat, refused.item),
+                    });
+                }
+            },
+            Msg::GhostDrop(e, beat) => match self.hear_ghost_drop(e, beat) {
+                Ok(()) => return Ok(()),
+                Err(_) => {
+                    return Err(NoMemoryFor {
+                        item: Msg::GhostDrop(e, beat),
+                    });
+                }
+            },
+            Msg::Tick => match self.hear_tick() {
+                Ok(()) => return Ok(()),
+                Err(_) => return Err(NoMemoryFor { item: Msg::Tick }),
+            },
+            Msg::Reap(e) => match self.hear_reap(e, out) {
+                Ok(()) => return Ok(()),
+                Err(_) => return Err(NoMemoryFor { item: Msg::Reap(e) }),
+            },
+            Msg::BaseCall(_) => return Ok(()),
+            Msg::Current(_, _, _) => return Ok(()),
+            Msg::Update(_) => return Ok(()),
+        }
     }
 
     /// Call, next place: a call whose real is not here is sent to the next place as it is, where there is one.

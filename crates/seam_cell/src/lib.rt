@@ -19,6 +19,7 @@ mod reals;
 mod reaping;
 mod settle;
 mod surveying;
+mod tasks;
 
 pub use arriving::arrive;
 pub use calls::{Called, Held, Turn, execute_turn, hold, may_call, may_execute, may_settle};
@@ -36,6 +37,7 @@ pub use settle::{
     Plan, Ready, get_ready, leave, make_plan, make_room, ready_for, settle_real, stay,
 };
 pub use surveying::survey_task;
+pub use tasks::{Tasked, execute_ready};
 
 #[cfg(test)]
 mod tests;

@@ -36,7 +36,7 @@ invariant_of-self-2 c =
     (on_err_weaker called.result.result
     (λ both. whole_again old.known old.reals new.reals old.places called.new.places old.lists new.lists c.self.invariant
     c.put_after.ensures.kept
-    (undone old.known old.reals new.reals old.places called.new.places old.lists new.lists o called.new.out k x left
+    (undone old.known old.reals new.reals old.places called.new.places old.lists new.lists o called.new.out k.entity x left
     c.in-Ok.ensures.real items c.put_after.ensures.survey c.put_after.ensures.looks both.0 both.1))
     (both_err _ _ called.result.result called.ensures.err called.ensures.err_parts))
 
@@ -85,7 +85,7 @@ returns-clause-err c =
     let left = option_map core_of called.result.left in
     let items = c.put_after.ensures.items ∙ ap (λ w. set_at w k.entity left) c.in-Ok.ensures.items in
     on_err_weaker called.result.result
-    (λ both. undone old.known old.reals new.reals old.places called.new.places old.lists new.lists c.args.out.now called.new.out k
+    (λ both. undone old.known old.reals new.reals old.places called.new.places old.lists new.lists c.args.out.now called.new.out k.entity
     c.in-Ok.real.core left c.in-Ok.ensures.real items c.put_after.ensures.survey c.put_after.ensures.looks both.0 both.1
     ∙ c.self.view_is)
     (both_err _ _ called.result.result called.ensures.err called.ensures.err_parts)
