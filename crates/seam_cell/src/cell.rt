@@ -9,9 +9,11 @@ ghost use Rattle.seam_entity.specs.declared.message.Msg.TheVariants as msg;
 ghost use Rattle.seam_defs.specs.Settings.{AreLegal};
 ghost use Rattle.seam_entity.specs.Here.{cell_count};
 ghost use Rattle.seam_steps.specs.CellCases.{stray_ghost_set};
-ghost use Rattle.seam_steps.specs.Cells.{cell_steps, ready_entity};
+ghost use Rattle.seam_steps.specs.Cells.{cell_steps, ready_entity, cell_has_work};
+ghost use Rattle.seam_steps.specs.Valid.{IsCell};
+ghost use Rattle.seam_cell.specs.Machines.{cell_peers, cell_targets, cell_keeps_peers, cell_stays_valid};
 ghost use Rattle.seam_steps.specs.Loads.{empty_cell};
-ghost use Rattle.seam_steps.specs.Maps.{set_at};
+ghost use Rattle.seam_steps.specs.Maps.{set_at, has_any};
 ghost use Rattle.seam_steps.specs.Nodes.NodeView.{Cell as CellNode};
 ghost use Rattle.seam_entity.specs.Preparing.{node_with};
 ghost use Rattle.seam_cell.specs.Calling.{is_called, IsTurn, may_run};
@@ -23,17 +25,18 @@ use crate::known::Known;
 use crate::lists::Lists;
 use crate::looking::look_task;
 use crate::places::Places;
-use crate::reals::{Reals, put_after, put_in, take_out};
+use crate::reals::{Reals, first_ready, put_after, put_in, take_out};
 use crate::reaping::reap;
+use crate::surveying::survey_task;
 use crate::tasks::execute_ready;
 use seam_call::{Call, GhostCopy};
 use seam_defs::{Defs, Settings};
 use seam_entity::{Msg, Parcel, fits_copy, is_small};
 use seam_ghosts::GhostBook;
-use seam_machine::Out;
+use seam_machine::{Input, Machine, Out};
 use seam_memory::NoMemoryFor;
 use seam_table::Table;
-use seam_tree::Tree;
+use seam_tree::{MOST_CELLS, Tree};
 use std::alloc::{AllocError, Global};
 use std::marker::Model;
 
@@ -338,6 +341,54 @@ impl Cell {
         )
     }
 
+    // Survey task.
+    fn survey(&mut self, alloc: Global, out: &mut Out<Msg>) -> Result<(), AllocError>
+        requires { has_any self.old.survey ≡ true }
+        ensures state { OnOk result (self.new ≡ (cell_steps self.old Task).state) }
+        ensures sent { OnOk result (out.new.items ≡ out.old.items ++ (cell_steps self.old Task).sent) }
+        ensures err { OnErr result (self.new ≡ self.old) }
+        ensures err_out { OnErr result (out.new.items ≡ out.old.items) }
+    {
+        survey_task(
+            alloc,
+            &self.known,
+            &mut self.reals,
+            &mut self.places,
+            &mut self.lists,
+            out,
+        )
+    }
+
+    // The cell's task: a real settles, else a ready call is executed, else a witness looks.
+    fn task(&mut self, alloc: Global, out: &mut Out<Msg>) -> Result<(), AllocError>
+        ensures state { OnOk result (self.new ≡ (cell_steps self.old Task).state) }
+        ensures sent { OnOk result (out.new.items ≡ out.old.items ++ (cell_steps self.old Task).sent) }
+        ensures err { OnErr result (self.new ≡ self.old) }
+        ensures err_out { OnErr result (out.new.items ≡ out.old.items) }
+    {
+        if self.has_survey() {
+            return self.survey(alloc, out);
+        }
+        if let Some(e) = self.ready_entity() {
+            return self.ready_task(alloc, e, out);
+        }
+        self.look(alloc, out)
+    }
+
+    // Whether a real is to settle.
+    fn has_survey(&self) -> bool
+        ensures { result ≡ has_any self.now.survey }
+    {
+        !self.lists.survey.is_empty()
+    }
+
+    // The least entity that has a ready call.
+    fn ready_entity(&self) -> Option<u32>
+        ensures { result ≡ ready_entity self.now }
+    {
+        first_ready(&self.reals)
+    }
+
     // A message from another node; no case is for what goes to base nodes alone.
     fn hear(
         &mut self,
@@ -423,5 +474,70 @@ impl Cell {
         ensures { result.now.ghosts ≡ self.now.ghosts }
     {
         &self.places.copies
+    }
+}
+
+impl Machine for Cell {
+    type Msg = Msg;
+
+    ghost has_work = { cell_has_work };
+
+    ghost peer_count = { cell_peers };
+
+    ghost steps = { cell_steps };
+
+    ghost valid = { IsCell };
+
+    ghost targets = { cell_targets };
+
+    ghost keeps_peers = { cell_keeps_peers };
+
+    ghost stays_valid = { cell_stays_valid };
+
+    fn peers(&self) -> u8 {
+        MOST_CELLS as u8 + self.known.settings.bases as u8
+    }
+
+    fn has_task(&self) -> bool {
+        if self.has_survey() {
+            return true;
+        }
+        if self.ready_entity().is_some() {
+            return true;
+        }
+        !self.lists.looks.is_empty()
+    }
+
+    fn known(&self) {
+        let _ = &self.known;
+    }
+
+    fn step(
+        &mut self,
+        alloc: Global,
+        input: Input<Msg>,
+        out: &mut Out<Msg>,
+    ) -> Result<(), NoMemoryFor<Input<Msg>>>
+        requires { input ≡ Input.Task → cell_has_work self.old ≡ true }
+        ensures state { OnOk result (self.new ≡ (cell_steps self.old input).state) }
+        ensures sent { OnOk result (out.new.items ≡ out.old.items ++ (cell_steps self.old input).sent) }
+        ensures err_state { OnErr result (self.new ≡ self.old) }
+        ensures err_out { OnErr result (out.new.items ≡ out.old.items) }
+        ensures err_input { IfErr result (λ e. e.item ≡ input) }
+    {
+        match input {
+            Input::Task => match self.task(alloc, out) {
+                Ok(()) => return Ok(()),
+                Err(_) => return Err(NoMemoryFor { item: Input::Task }),
+            },
+            Input::From(from, message) => match self.hear(alloc, message, out) {
+                Ok(()) => return Ok(()),
+                Err(refused) => {
+                    return Err(NoMemoryFor {
+                        item: Input::From(from, refused.item),
+                    });
+                }
+            },
+        }
     }
 }
