@@ -71,34 +71,44 @@ fn made(alloc: Global) -> Result<Base, Fail> {
     Ok(base)
 }
 
-// The input that the event is to the node.
-fn input_of(base: &mut Base, event: Event) -> Result<Input<Msg>, Fail> {
+fn seen_at(base: &Base, out: &Out<Msg>) -> Seen {
+    Seen {
+        part: base.part(1).map(|part| (part.version(), part.done().len(), part.lines().len())),
+        route: base.route(1),
+        sent: out.next_target(),
+    }
+}
+
+fn hear(base: &mut Base, alloc: Global, message: Msg) -> Result<Seen, Fail> {
+    let mut out = Out::new(alloc);
+    if base.step(alloc, Input::From(0, message), &mut out).is_err() {
+        return Err("no memory")?;
+    }
+    Ok(seen_at(base, &out))
+}
+
+fn work(base: &mut Base, alloc: Global) -> Result<Seen, Fail> {
+    let mut out = Out::new(alloc);
+    if !base.has_task() {
+        return Err("no task")?;
+    }
+    if base.step(alloc, Input::Task, &mut out).is_err() {
+        return Err("no memory")?;
+    }
+    Ok(seen_at(base, &out))
+}
+
+fn step(base: &mut Base, alloc: Global, event: Event) -> Result<Seen, Fail> {
     match event {
-        Event::Hears(message) => return Ok(Input::From(0, message)),
-        Event::Works => {}
+        Event::Hears(message) => hear(base, alloc, message),
+        Event::Works => work(base, alloc),
         Event::WorksOn(order) => {
             if base.add_order(order).is_err() {
                 return Err("no memory")?;
             }
+            work(base, alloc)
         }
     }
-    if !base.has_task() {
-        return Err("no task")?;
-    }
-    Ok(Input::Task)
-}
-
-fn step(base: &mut Base, alloc: Global, event: Event) -> Result<Seen, Fail> {
-    let mut out = Out::new(alloc);
-    let input = input_of(base, event)?;
-    if base.step(alloc, input, &mut out).is_err() {
-        return Err("no memory")?;
-    }
-    Ok(Seen {
-        part: base.part(1).map(|part| (part.version(), part.done().len(), part.lines().len())),
-        route: base.route(1),
-        sent: out.next_target(),
-    })
 }
 
 #[test]

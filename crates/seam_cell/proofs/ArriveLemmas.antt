@@ -62,7 +62,8 @@ module _ (c : CellView) (from e : ℕ) (r : RealView) (at : table.get c.reals e 
 
 pub not_reaped : (c : CellView) (from e : ℕ) → false ≡ not (stray_reap (table.get c.reals e)) →
     cell_steps c (From from (Reap e)) ≡ record { state = c; sent = [] }
-not_reaped c from e stays = ap (λ b. stepped c e (unless_stray b (reap (slot_of c e) (table.get c.reals e)))) (by (stray_reap (table.get c.reals e)) stays)
+not_reaped c from e stays =
+    ap (λ b. stepped c e (unless_stray b (reap (slot_of c e) (table.get c.reals e)))) (by (stray_reap (table.get c.reals e)) stays)
   where
     by : (b : Bool) → false ≡ not b → b ≡ true
     by true h = refl

@@ -20,14 +20,16 @@ use Rattle.seam_steps.specs.Maps.{Map, set_at}
 use Rattle.seam_steps.specs.Slots.{unless_stray, rests}
 use Rattle.seam_steps.specs.Looks.{Known, seen_as, known_of, other_of_real, other_of_copy, numbered, looks_of, shown_of, after_looking}
 use Rattle.seam_steps.specs.Looks.{stray_look_by, looks_with, look_by, own_due, all_shown, shown_for}
-use Rattle.seam_steps.specs.Cells.{CellView, slot_of, known_in, known_to, is_another, is_of_another, stepped, looks_around, look_next, cell_rests}
+use Rattle.seam_steps.specs.Cells.{CellView, slot_of, known_in, known_to, is_another, is_of_another, stepped, looks_around}
+use Rattle.seam_steps.specs.Cells.{look_next, cell_rests}
 use Rattle.seam_steps.proofs.Slots.{set_at-same}
 use Rattle.seam_known.specs.Knowing.{known_by, known_at}
 use Rattle.seam_known.proofs.Walks.{earlier, left_after, all_left, none_left, one_left}
 use Rattle.seam_known.proofs.Knowing.{known_of_others, next_known, known_without_own}
 use Rattle.seam_cell.specs.News.{listed}
 use Rattle.seam_cell.proofs.NewsLemmas.{one_listed}
-use Rattle.seam_cell.specs.Looking.{comes_after, seen_if, seen_real_of, seen_copy_of, earlier_seen, looked_by, looked, told_by_look, told_at_look, own_told, real_has_witness}
+use Rattle.seam_cell.specs.Looking.{comes_after, seen_if, seen_real_of, seen_copy_of, earlier_seen, looked_by, looked, told_by_look}
+use Rattle.seam_cell.specs.Looking.{told_at_look, own_told, real_has_witness}
 use Rattle.seam_cell.specs.Sets.{first_of}
 use Rattle.seam_cell.proofs.MarkLemmas.{put_again, put_back}
 
@@ -104,7 +106,8 @@ found_seen es a s is = by (find (comes_after a) es) refl is
 
 module _ (d : CellView) (own : ℕ) (a : Option ℕ) (s : Seen)
     (is : Some s ≡ option_map seen_as (find (comes_after a) (all_known d))) where
-  step_over : still_to_see d own a ≡ map seen_as (cond (not (eqb s.entity own)) ((found_seen (all_known d) a s is).0 ∷ filter (is_of_another own) (left_after (Some s.entity) (all_known d)))
+  step_over : still_to_see d own a ≡ map seen_as (cond (not (eqb s.entity own))
+      ((found_seen (all_known d) a s is).0 ∷ filter (is_of_another own) (left_after (Some s.entity) (all_known d)))
       (filter (is_of_another own) (left_after (Some s.entity) (all_known d))))
   step_over =
       let k = (found_seen (all_known d) a s is).0 in
@@ -141,7 +144,8 @@ module _ (d : CellView) (own : ℕ) (a : Option ℕ) (s : Seen)
   pub fewer_left : s.entity < 4294967296 → numbers_left (Some s.entity) < numbers_left a
   fewer_left small =
       let at = (found_seen (all_known d) a s is).1 in
-      let after : is_after a s.entity ≡ true = ap (λ x. is_after a x.entity) at.1 ∙ passes (all_known d) (found_seen (all_known d) a s is).0 at.0 in
+      let k = (found_seen (all_known d) a s is).0 in
+      let after : is_after a s.entity ≡ true = ap (λ x. is_after a x.entity) at.1 ∙ passes (all_known d) k at.0 in
       by a after
     where
       by : (o : Option ℕ) → is_after o s.entity ≡ true → numbers_left (Some s.entity) < numbers_left o
@@ -240,11 +244,13 @@ module _ (c : CellView) (e : ℕ) (r : RealView) (w : WitnessView) (at : table.g
 
   -- with the real taken out, which is not known to itself
   module _ (m : Map RealView) (r0 : RealView) (out : m ≡ table.remove c.reals e) (bare : r0 ≡ record r { witness = None }) where
-    bare_looked : (b : Bool) (known : List Known) → looked_by b c.here (record r { witness = None }) w known ≡ looked_by b c.here r w known
+    bare_looked : (b : Bool) (known : List Known) →
+        looked_by b c.here (record r { witness = None }) w known ≡ looked_by b c.here r w known
     bare_looked true known = refl
     bare_looked false known = refl
 
-    bare_told : (b : Bool) (known : List Known) → told_by_look b c.here (record r { witness = None }) w known ≡ told_by_look b c.here r w known
+    bare_told : (b : Bool) (known : List Known) →
+        told_by_look b c.here (record r { witness = None }) w known ≡ told_by_look b c.here r w known
     bare_told true known = refl
     bare_told false known = refl
 

@@ -83,7 +83,8 @@ module _ (k : Known) (r s : Reals) (p q : Places) (l m : Lists) (o n : OutView M
   module _ (done : IsDone (settled (here_in k) k.tree (slot_in (parts_of p o) x.entity x) x false) x.entity x left (parts_of p o) (parts_of q n))
     where
       here : IsDone step e x left (parts_of p o) (parts_of q n)
-      here = subst (λ y. IsDone (settled (here_in k) k.tree (slot_in (parts_of p o) y x) x false) y x left (parts_of p o) (parts_of q n)) entity done
+      here = subst
+          (λ y. IsDone (settled (here_in k) k.tree (slot_in (parts_of p o) y x) x false) y x left (parts_of p o) (parts_of q n)) entity done
 
       pub surveyed : s.items.items ≡ set_at (table.remove r.items.items e) e left → m.survey ≡ list_after (is_none left) e es →
           m.looks ≡ list_after (is_none left) e l.looks → cell_of k s q m ≡ (cell_task (cell_of k r p l) l.survey).state

@@ -249,7 +249,8 @@ impl Sight<'_> {
         witness: &Witness,
         shown: &mut VecDeque<Shown>,
     ) -> Result<(), AllocError>
-        ensures { let h = here_in self.now.known.now in OnOk result (shown.new.items ≡ shown.old.items ++ own_told h real.now.core witness.now.told) }
+        ensures { let h = here_in self.now.known.now in
+            OnOk result (shown.new.items ≡ shown.old.items ++ own_told h real.now.core witness.now.told) }
     {
         if !witness.is_own_due(real.version()) {
             return Ok(());

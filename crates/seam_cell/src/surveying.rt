@@ -19,16 +19,10 @@ use crate::news::Subject;
 use crate::places::Places;
 use crate::reals::{Reals, put_after, take_out};
 use crate::settle::{Ready, make_room, ready_for, settle_real};
+use crate::tasks::Tasked;
 use seam_entity::{Msg, Real};
 use seam_machine::Out;
 use std::alloc::{AllocError, Global};
-
-/// The real after it settled, where it is still here, and whether there was memory for that.
-#[derive(Drop)]
-pub struct Settled {
-    pub left: Option<Real>,
-    pub result: Result<(), AllocError>,
-}
 
 // Makes what a real takes to settle as it is.
 fn make_ready(alloc: Global, known: &Known, real: &Real) -> Result<Ready, AllocError>
@@ -65,7 +59,7 @@ pub fn settle_again(
     real: Real,
     places: &mut Places,
     out: &mut Out<Msg>,
-) -> Settled
+) -> Tasked
     requires me { known.now.me < cell_count }
     requires legal { AreLegal known.now.settings }
     requires there { IsThere (here_in known.now) known.now.tree real.core }
@@ -80,18 +74,18 @@ pub fn settle_again(
     ensures err_parts { OnErr result.result (parts_of places.new out.new ≡ parts_of places.old out.old) }
 {
     let Ok(ready) = make_ready(alloc, known, &real) else {
-        return Settled {
+        return Tasked {
             left: Some(real),
             result: Err(AllocError),
         };
     };
     if make_room(&ready, places, out).is_err() {
-        return Settled {
+        return Tasked {
             left: Some(real),
             result: Err(AllocError),
         };
     }
-    Settled {
+    Tasked {
         left: settle_real(real, ready, places, out),
         result: Ok(()),
     }
@@ -124,7 +118,7 @@ pub fn survey_task(
         return Ok(());
     }
     let real = take_out(reals, e)?;
-    let Settled { left, result } = settle_again(alloc, known, real, places, out);
+    let Tasked { left, result } = settle_again(alloc, known, real, places, out);
     match result {
         Ok(()) => {
             let _ = lists.survey.take_first();
