@@ -19,3 +19,6 @@ mod updates;
 pub use node::Base;
 pub use part::BasePart;
 pub use seam_memory::NoMemoryFor;
+
+#[cfg(test)]
+mod tests;

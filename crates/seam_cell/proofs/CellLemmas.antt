@@ -1,6 +1,6 @@
 -- Cells after what they hear of ghosts, and a cell without entities.
 use Rattle.std.proofs.Common.{◌≡◌, ◌<◌, ◌≤◌, ℕ, Bool, true, false, cond, not, ◌&&◌, nat_lt, List, [], ◌∷◌, length, Option, None, Some}
-use Rattle.std.proofs.Common.{refl, sym, ap}
+use Rattle.std.proofs.Common.{refl, sym, ap, subst}
 use Rattle.std.proofs.Common.{◌∙◌, arith, map, Bor, option_copied, is_some}
 use Rattle.std.specs.List.{filter}
 use Rattle.std.specs.Ordering.{nat_cmp}
@@ -20,7 +20,13 @@ use Rattle.seam_steps.specs.Slots.{NextPlace, SlotStep, unless_stray}
 use Rattle.seam_steps.specs.CellCases.{ghost_set, ghost_drop, stray_ghost_set, stray_call, call, call_next_place, slot_steps}
 use Rattle.seam_steps.specs.Cells.{CellView, slot_of, stepped, cell_steps, real_is_ready, has_witness}
 use Rattle.seam_steps.proofs.Slots.{set_at-same}
-use Rattle.seam_cell.specs.Kept.{marked, IsKept}
+use Rattle.seam_steps.specs.Valid.{NextsAreCells}
+use Rattle.seam_defs.specs.Settings.{AreLegal}
+use Rattle.seam_cell.specs.declared.known.Known.{Known}
+use Rattle.seam_cell.specs.declared.reals.Reals.{Reals}
+use Rattle.seam_cell.specs.declared.places.Places.{Places}
+use Rattle.seam_cell.specs.declared.lists.Lists.{Lists}
+use Rattle.seam_cell.specs.Kept.{marked, AreWhole}
 
 pub none_there : {X : Type 0} (o : Option (Bor X)) (p : Option X) → option_copied o ≡ p → is_some o ≡ false → p ≡ None
 none_there None p e t = sym e
@@ -123,16 +129,43 @@ marked_none test = ap (λ es. map number_of (filter test es)) no_entries
 nothing_there : {X : Type 0} (m : Map X) (e : ℕ) (x : X) → m ≡ table.empty → table.get m e ≡ Some x → ⊥
 nothing_there m e x is there = let f : None ≡ Some x = sym (table.get-empty nat_cmp e) ∙ sym (ap (λ n. table.get n e) is) ∙ there in cc
 
-pub empty_kept : (c : CellView) (ready witnesses : List ℕ) → c.here.me < cell_count → 1 ≤ c.here.settings.bases → IsTree c.tree →
-    c.reals ≡ table.empty → c.nexts ≡ table.empty → ready ≡ [] → witnesses ≡ [] → IsKept c ready witnesses
-empty_kept c ready witnesses me bases tree reals nexts r w = record {
+-- a cell without entities is one
+pub empty_whole : (k : Known) (r : Reals) (p : Places) (l : Lists) → k.me < cell_count → AreLegal k.settings → IsTree k.tree →
+    k.tree.size ≡ k.settings.size → r.items.items ≡ table.empty → p.nexts.items ≡ table.empty → r.ready ≡ [] → r.witnesses ≡ [] →
+    AreWhole k r p l
+empty_whole k r p l me legal tree size reals nexts ready witnesses = record {
   cell = record {
-    me_in = me;
-    bases = bases;
-    tree = tree;
-    nexts = λ e n there. absurd (nothing_there c.nexts e n nexts there);
-    keys = λ e q there. absurd (nothing_there c.reals e q reals there);
+    cell = record {
+      me_in = me;
+      bases = legal.in_range.some_bases;
+      tree = tree;
+      nexts = λ e n there. absurd (nothing_there p.nexts.items e n nexts there);
+      keys = λ e q there. absurd (nothing_there r.items.items e q reals there);
+    };
+    legal = legal;
+    size = size;
+    there = λ e q there. absurd (nothing_there r.items.items e q reals there);
   };
-  ready_is = r ∙ sym (ap (marked real_is_ready) reals ∙ marked_none real_is_ready);
-  witnesses_is = w ∙ sym (ap (marked has_witness) reals ∙ marked_none has_witness);
+  marks = record {
+    ready = ready ∙ sym (ap (marked real_is_ready) reals ∙ marked_none real_is_ready);
+    witnesses = witnesses ∙ sym (ap (marked has_witness) reals ∙ marked_none has_witness);
+  };
+}
+
+-- a cell with other ghosts or other lists is as whole
+pub others_whole : (k : Known) (r : Reals) (p q : Places) (l m : Lists) → q.nexts.items ≡ p.nexts.items → AreWhole k r p l → AreWhole k r q m
+others_whole k r p q l m nexts is = record {
+  cell = record {
+    cell = record {
+      me_in = is.cell.cell.me_in;
+      bases = is.cell.cell.bases;
+      tree = is.cell.cell.tree;
+      nexts = subst NextsAreCells (sym nexts) is.cell.cell.nexts;
+      keys = is.cell.cell.keys;
+    };
+    legal = is.cell.legal;
+    size = is.cell.size;
+    there = is.cell.there;
+  };
+  marks = is.marks;
 }

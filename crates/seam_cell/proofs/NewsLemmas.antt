@@ -1,35 +1,38 @@
 -- What more cells are told, and that all of it is what the definitions of steps say.
-use Rattle.std.proofs.Common.{◌≡◌, ◌+◌, ◌++◌, ◌||◌, ℕ, zero, suc, Bool, true, false, cond, eqb, List, [], ◌∷◌, Option, None, Some}
-use Rattle.std.proofs.Common.{refl, ap, sym, ◌∙◌, arith}
+use Rattle.std.proofs.Common.{◌≡◌, ◌+◌, ◌++◌, ◌||◌, ℕ, zero, suc, Bool, true, false, cond, eqb, [], ◌∷◌, Option, None, Some}
+use Rattle.std.proofs.Common.{refl, ap, ◌∙◌, arith}
 use Rattle.std.specs.List.{filter_map, cons_option, range_with_len}
 use Rattle.std.specs.FinSet as set
 use Rattle.std.proofs.lemmas.List.Elements.{filter_map-append}
-use Rattle.seam_tree.specs.Cells.{Cells}
 use Rattle.seam_call.specs.declared.shown.GhostCopy.{GhostCopy}
 use Rattle.seam_entity.specs.Reals.{RealView}
-use Rattle.seam_entity.specs.Here.{Here, cell_count, cell_numbers}
-use Rattle.seam_entity.specs.Executing.{copy_of_real}
+use Rattle.seam_entity.specs.Here.{Here, cell_numbers}
 use Rattle.seam_steps.specs.Settle.{told, told_unless, ghost_message, ghost_messages}
 use Rattle.seam_cell.specs.declared.news.Telling.{Telling}
 use Rattle.seam_cell.specs.declared.news.Told.TheVariants.{Nothing}
 use Rattle.seam_cell.specs.News.{word_at, word, said, listed, told_by, news, Tells}
 
-range_more : (a n : ℕ) → range_with_len a (suc n) ≡ range_with_len a n ++ (a + n) ∷ []
+pub range_more : (a n : ℕ) → range_with_len a (suc n) ≡ range_with_len a n ++ (a + n) ∷ []
 range_more a zero = ap (λ k. k ∷ []) (let e : a ≡ a + zero = omega arith in e)
 range_more a (suc n) =
     ap (λ l. a ∷ l)
     (range_more (a + 1) n ∙ ap (λ k. range_with_len (a + 1) n ++ k ∷ []) (let e : (a + 1) + n ≡ a + suc n = omega arith in e))
 
-one_listed : {A : Type 0} (o : Option A) → cons_option o [] ≡ listed o
+pub one_listed : {A : Type 0} (o : Option A) → cons_option o [] ≡ listed o
 one_listed None = refl
 one_listed (Some x) = refl
 
-pub news_more : (t : Telling) (g : GhostCopy) (n : ℕ) → news t g (n + 1) ≡ news t g n ++ listed (said t g n (word t n))
-news_more t g n =
+-- what is told to one more
+pub told_more : {A : Type 0} (f : ℕ → Option A) (n : ℕ) →
+    filter_map f (range_with_len 0 (n + 1)) ≡ filter_map f (range_with_len 0 n) ++ listed (f n)
+told_more f n =
     let e : n + 1 ≡ suc n = omega arith in
-    ap (news t g) e
-    ∙ (ap (filter_map (told_by t g)) (range_more 0 n ∙ ap (λ k. range_with_len 0 n ++ k ∷ []) (let z : 0 + n ≡ n = omega arith in z))
-    ∙ (filter_map-append (told_by t g) (range_with_len 0 n) (n ∷ []) ∙ ap (λ l. news t g n ++ l) (one_listed (told_by t g n))))
+    ap (λ k. filter_map f (range_with_len 0 k)) e
+    ∙ (ap (filter_map f) (range_more 0 n ∙ ap (λ k. range_with_len 0 n ++ k ∷ []) (let z : 0 + n ≡ n = omega arith in z))
+    ∙ (filter_map-append f (range_with_len 0 n) (n ∷ []) ∙ ap (λ l. filter_map f (range_with_len 0 n) ++ l) (one_listed (f n))))
+
+pub news_more : (t : Telling) (g : GhostCopy) (n : ℕ) → news t g (n + 1) ≡ news t g n ++ listed (said t g n (word t n))
+news_more t g n = told_more (told_by t g) n
 
 module _ (t : Telling) (g : GhostCopy) (k : ℕ) where
   word_told : (a b c : Bool) → said t g k (word_at a b c) ≡ told_unless false k (told t.entity t.beat g a b c)

@@ -1,48 +1,54 @@
 //! A cell, and what it hears of ghosts.
 
-ghost use Rattle.std.specs.Prelude.{◌≡◌, ℕ, ◌<◌, ◌≤◌, OnOk, OnErr, IfErr, [], ◌++◌, Some, None, false, is_some};
+ghost use Rattle.std.specs.Prelude.{◌≡◌, ℕ, ◌<◌, ◌≤◌, OnOk, OnErr, IfErr, [], ◌++◌, Some, None, true, false, is_some};
 ghost use Rattle.std.specs.FinMap as table;
 ghost use Rattle.std.specs.FinSet as set;
 ghost use Rattle.seam_ghosts.specs.Book.{ghost_after};
-ghost use Rattle.seam_machine.specs.declared.machines.Input.TheVariants.{From};
+ghost use Rattle.seam_machine.specs.declared.machines.Input.TheVariants.{Task, From};
 ghost use Rattle.seam_entity.specs.declared.message.Msg.TheVariants as msg;
+ghost use Rattle.seam_defs.specs.Settings.{AreLegal};
 ghost use Rattle.seam_entity.specs.Here.{cell_count};
 ghost use Rattle.seam_steps.specs.CellCases.{stray_ghost_set};
-ghost use Rattle.seam_steps.specs.Cells.{cell_steps, has_witness, real_is_ready};
-ghost use Rattle.seam_steps.specs.Loads.{empty_cell};
-ghost use Rattle.seam_steps.specs.Maps.{set_at};
+ghost use Rattle.seam_steps.specs.Cells.{cell_steps, ready_entity, cell_has_work};
+ghost use Rattle.seam_steps.specs.Valid.{IsCell};
+ghost use Rattle.seam_cell.specs.Machines.{cell_peers, cell_targets, cell_keeps_peers, cell_stays_valid};
+ghost use Rattle.seam_tree.specs.Division.{IsInSpace};
+ghost use Rattle.seam_steps.specs.Loads.{empty_cell, real_if, attached, cell_begins};
+ghost use Rattle.seam_steps.specs.Maps.{set_at, has_any};
 ghost use Rattle.seam_steps.specs.Nodes.NodeView.{Cell as CellNode};
 ghost use Rattle.seam_entity.specs.Preparing.{node_with};
+ghost use Rattle.seam_cell.specs.Calling.{is_called, IsTurn, may_run};
 
+use crate::arriving::arrive;
+use crate::calls::{Turn, execute_turn, hold, may_call, may_execute};
 use crate::entity_set::EntitySet;
-use crate::next::Next;
+use crate::known::Known;
+use crate::lists::Lists;
+use crate::loads::{Making, begin_round, give_witness, make_real};
+use crate::looking::look_task;
+use crate::places::Places;
+use crate::reals::{Reals, first_ready, put_after, put_in, take_out};
+use crate::reaping::reap;
+use crate::surveying::survey_task;
+use crate::tasks::execute_ready;
 use seam_call::{Call, GhostCopy};
 use seam_defs::{Defs, Settings};
 use seam_entity::{Msg, Parcel, fits_copy, is_small};
 use seam_ghosts::GhostBook;
-use seam_machine::Out;
+use seam_machine::{Input, Machine, Out};
 use seam_memory::NoMemoryFor;
 use seam_table::Table;
-use seam_tree::Tree;
+use seam_tree::{MOST_CELLS, Tree};
 use std::alloc::{AllocError, Global};
 use std::marker::Model;
 
 /// A cell: the reals and the ghosts of a part of the space, and where reals went.
 #[derive(Drop)]
 pub struct Cell {
-    me: u8,
-    defs: Defs,
-    settings: Settings,
-    tree: Tree,
-    reals: Table<Parcel>,
-    nexts: Table<Next>,
-    copies: GhostBook<GhostCopy>,
-    // The entities whose reals are to settle, and those whose witnesses are to look.
-    survey: EntitySet,
-    looks: EntitySet,
-    // The entities whose reals have a ready call, and those whose reals have a witness.
-    ready: EntitySet,
-    witnesses: EntitySet,
+    known: Known,
+    reals: Reals,
+    places: Places,
+    lists: Lists,
 }
 
 impl Model for Cell {
@@ -50,32 +56,15 @@ impl Model for Cell {
     ghost use Rattle.std.specs.FinMap as table;
     ghost use Rattle.std.specs.FinSet as set;
     ghost use Rattle.seam_steps.specs.Cells.{CellView};
-    ghost use Rattle.seam_entity.specs.Preparing.{node_with};
-    ghost use Rattle.seam_cell.specs.Kept.{IsKept};
+    ghost use Rattle.seam_cell.specs.Kept.{cell_of, AreWhole};
 
     ghost Value = { CellView };
 
     ghost coded = { Prim.hlevel (codes, table.code, set.code) };
 
-    ghost view = { λ c. record {
-      here = node_with c.defs c.me c.settings;
-      tree = c.tree;
-      reals = c.reals.items;
-      nexts = c.nexts.items;
-      ghosts = c.copies.ghosts;
-      survey = c.survey;
-      looks = c.looks;
-    } };
+    ghost view = { λ c. cell_of c.known c.reals c.places c.lists };
 
-    ghost invariant = { λ c. IsKept (record {
-      here = node_with c.defs c.me c.settings;
-      tree = c.tree;
-      reals = c.reals.items;
-      nexts = c.nexts.items;
-      ghosts = c.copies.ghosts;
-      survey = c.survey;
-      looks = c.looks;
-    }) c.ready c.witnesses };
+    ghost invariant = { λ c. AreWhole c.known c.reals c.places c.lists };
 }
 
 // Whether a copy that comes at that beat does not fit, or a number is not small.
@@ -127,24 +116,67 @@ impl Cell {
     /// A cell without entities, in a space that it has alone.
     pub fn new(alloc: Global, me: u8, defs: Defs, settings: Settings) -> Cell
         requires me { me < cell_count }
-        requires bases { 1 ≤ settings.bases }
-        requires from { 1 ≤ settings.size }
-        requires to { settings.size ≤ 1000000 }
+        requires legal { AreLegal settings }
         ensures { CellNode result ≡ empty_cell defs settings me }
     {
+        let tree = Tree::one(settings.size);
         Cell {
-            me,
-            defs,
-            settings,
-            tree: Tree::one(settings.size),
-            reals: Table::new(alloc),
-            nexts: Table::new(alloc),
-            copies: GhostBook::new(alloc),
-            survey: EntitySet::new(alloc),
-            looks: EntitySet::new(alloc),
-            ready: EntitySet::new(alloc),
-            witnesses: EntitySet::new(alloc),
+            known: Known {
+                me,
+                defs,
+                settings,
+                tree,
+            },
+            reals: Reals {
+                items: Table::new(alloc),
+                ready: EntitySet::new(alloc),
+                witnesses: EntitySet::new(alloc),
+            },
+            places: Places {
+                nexts: Table::new(alloc),
+                copies: GhostBook::new(alloc),
+            },
+            lists: Lists {
+                survey: EntitySet::new(alloc),
+                looks: EntitySet::new(alloc),
+            },
         }
+    }
+
+    /// Load, point 1: makes the real of an entity that is new, where this cell is the leaf of its position.
+    pub fn add_entity(&mut self, alloc: Global, making: Making) -> Result<(), AllocError>
+        requires inside { IsInSpace self.old.tree making.pos }
+        requires new { table.get self.old.reals making.entity ≡ None }
+        ensures after { OnOk result (self.new
+            ≡ real_if true self.old (record { entity = making.entity; ty = making.ty; pos = making.pos })) }
+
+        // If allocation fails, nothing has changed.
+        ensures err { OnErr result (self.new ≡ self.old) }
+    {
+        make_real(alloc, &self.known, making, &mut self.reals)
+    }
+
+    /// Load, point 2: the entity's real, where it is here, gets a witness.
+    pub fn attach(&mut self, alloc: Global, e: u32) -> Result<(), AllocError>
+        ensures after { OnOk result (CellNode self.new ≡ attached e (CellNode self.old)) }
+        ensures err { OnErr result (self.new ≡ self.old) }
+    {
+        give_witness(alloc, &self.known, e, &mut self.reals)
+    }
+
+    /// Load, point 3: a round begins, with that tree: no real has done anything in it yet, where reals went is forgotten, and all
+    /// reals are to settle.
+    pub fn start_round(&mut self, alloc: Global, tree: Tree) -> Result<(), AllocError>
+        requires { tree.size ≡ self.old.here.settings.size }
+        ensures after { OnOk result (self.new ≡ cell_begins tree self.old) }
+        ensures err { OnErr result (self.new ≡ self.old) }
+    {
+        begin_round(alloc, &mut self.reals, &mut self.lists.survey)?;
+        // `size` is called for its clause that it is a tree.
+        let _ = tree.size();
+        self.known.tree = tree;
+        self.places.nexts = Table::new(alloc);
+        Ok(())
     }
 
     /// Ghost set: the own book takes the copy at its beat, where the real is not here.
@@ -160,13 +192,13 @@ impl Cell {
         ensures err { OnErr result (self.new ≡ self.old) }
         ensures err_item { IfErr result (λ r. r.item ≡ copy) }
     {
-        if self.reals.get(e).is_some() {
+        if self.reals.items.get(e).is_some() {
             return Ok(());
         }
-        if is_stray_set(&self.defs, &self.settings, beat, &copy) {
+        if is_stray_set(&self.known.defs, &self.known.settings, beat, &copy) {
             return Ok(());
         }
-        set_in(&mut self.copies, e, beat, copy)
+        set_in(&mut self.places.copies, e, beat, copy)
     }
 
     /// Ghost drop: the own book drops the copy at that beat.
@@ -178,7 +210,7 @@ impl Cell {
         if !is_small(beat) {
             return Ok(());
         }
-        drop_in(&mut self.copies, e, beat)
+        drop_in(&mut self.places.copies, e, beat)
     }
 
     /// Tick: the witnesses here are to look.
@@ -187,7 +219,7 @@ impl Cell {
         ensures sent { (from : ℕ) → (cell_steps self.old (From from msg.Tick)).sent ≡ [] }
         ensures err { OnErr result (self.new ≡ self.old) }
     {
-        self.looks = self.witnesses.copy()?;
+        self.lists.looks = self.reals.witnesses.copy()?;
         Ok(())
     }
 
@@ -195,7 +227,264 @@ impl Cell {
     pub fn has_real(&self, e: u32) -> bool
         ensures { result ≡ is_some (table.get self.now.reals e) }
     {
-        self.reals.get(e).is_some()
+        self.reals.items.get(e).is_some()
+    }
+
+    /// Call: where the real is here and may be offered the call, it executes it in its turn and settles, or holds it where it is
+    /// early; where the real is not here, the call is sent to the next place.
+    pub fn hear_call(
+        &mut self,
+        alloc: Global,
+        call: Call,
+        out: &mut Out<Msg>,
+    ) -> Result<(), NoMemoryFor<Call>>
+        ensures state { (from : ℕ) → OnOk result (self.new ≡ (cell_steps self.old (From from (msg.Call call))).state) }
+        ensures sent { (from : ℕ) →
+            OnOk result (out.new.items ≡ out.old.items ++ (cell_steps self.old (From from (msg.Call call))).sent) }
+
+        // If allocation fails, the call comes back and nothing has changed.
+        ensures err { OnErr result (self.new ≡ self.old) }
+        ensures err_out { OnErr result (out.new.items ≡ out.old.items) }
+        ensures err_item { IfErr result (λ r. r.item ≡ call) }
+    {
+        let Some(parcel) = self.reals.items.get(call.entity) else {
+            return self.pass_call_on(call, out);
+        };
+        if !may_call(&self.known, &parcel.real, &call) {
+            return Ok(());
+        }
+        if parcel.real.is_turn(&call) {
+            return self.execute_call(alloc, call, out);
+        }
+        self.hold_call(call)
+    }
+
+    // Call, real here, whose turn it is.
+    fn execute_call(
+        &mut self,
+        alloc: Global,
+        call: Call,
+        out: &mut Out<Msg>,
+    ) -> Result<(), NoMemoryFor<Call>>
+        requires may { is_called self.old call ≡ true }
+        requires turn { IsTurn self.old call }
+        ensures state { (from : ℕ) → OnOk result (self.new ≡ (cell_steps self.old (From from (msg.Call call))).state) }
+        ensures sent { (from : ℕ) →
+            OnOk result (out.new.items ≡ out.old.items ++ (cell_steps self.old (From from (msg.Call call))).sent) }
+        ensures err { OnErr result (self.new ≡ self.old) }
+        ensures err_out { OnErr result (out.new.items ≡ out.old.items) }
+        ensures err_item { IfErr result (λ r. r.item ≡ call) }
+    {
+        let e = call.entity;
+        let Ok(real) = take_out(&mut self.reals, e) else {
+            return Err(NoMemoryFor { item: call });
+        };
+        let turn = Turn { real, call };
+        let called = execute_turn(alloc, &self.known, turn, &mut self.places, out);
+        put_after(&mut self.reals, &mut self.lists, e, called.left);
+        called.result
+    }
+
+    // Call, real here, which comes early and is held, or late and is dropped.
+    fn hold_call(&mut self, call: Call) -> Result<(), NoMemoryFor<Call>>
+        requires may { is_called self.old call ≡ true }
+        requires not_turn { IsTurn self.old call → ⊥ }
+        ensures state { (from : ℕ) → OnOk result (self.new ≡ (cell_steps self.old (From from (msg.Call call))).state) }
+        ensures sent { (from : ℕ) → (cell_steps self.old (From from (msg.Call call))).sent ≡ [] }
+        ensures err { OnErr result (self.new ≡ self.old) }
+        ensures err_item { IfErr result (λ r. r.item ≡ call) }
+    {
+        let e = call.entity;
+        let Ok(real) = take_out(&mut self.reals, e) else {
+            return Err(NoMemoryFor { item: call });
+        };
+        let held = hold(&self.known, Turn { real, call });
+        put_in(&mut self.reals, e, held.real);
+        held.result
+    }
+
+    // Ready-call task: the least entity that has a ready call executes it, and settles.
+    fn ready_task(&mut self, alloc: Global, e: u32, out: &mut Out<Msg>) -> Result<(), AllocError>
+        requires surveyed { self.old.survey ≡ [] }
+        requires ready { ready_entity self.old ≡ Some e }
+        ensures state { OnOk result (self.new ≡ (cell_steps self.old Task).state) }
+        ensures sent { OnOk result (out.new.items ≡ out.old.items ++ (cell_steps self.old Task).sent) }
+        ensures err { OnErr result (self.new ≡ self.old) }
+        ensures err_out { OnErr result (out.new.items ≡ out.old.items) }
+    {
+        let Some(parcel) = self.reals.items.get(e) else {
+            unreachable!()
+        };
+        if !may_execute(&parcel.real) {
+            return Ok(());
+        }
+        self.run_ready(alloc, e, out)
+    }
+
+    // The entity, whose real may execute its ready call, executes it.
+    fn run_ready(&mut self, alloc: Global, e: u32, out: &mut Out<Msg>) -> Result<(), AllocError>
+        requires surveyed { self.old.survey ≡ [] }
+        requires ready { ready_entity self.old ≡ Some e }
+        requires may { may_run (table.get self.old.reals e) ≡ true }
+        ensures state { OnOk result (self.new ≡ (cell_steps self.old Task).state) }
+        ensures sent { OnOk result (out.new.items ≡ out.old.items ++ (cell_steps self.old Task).sent) }
+        ensures err { OnErr result (self.new ≡ self.old) }
+        ensures err_out { OnErr result (out.new.items ≡ out.old.items) }
+    {
+        let real = take_out(&mut self.reals, e)?;
+        let tasked = execute_ready(alloc, &self.known, real, &mut self.places, out);
+        put_after(&mut self.reals, &mut self.lists, e, tasked.left);
+        tasked.result
+    }
+
+    // Hand-over comes.
+    fn hear_hand(&mut self, parcel: Parcel, out: &mut Out<Msg>) -> Result<(), NoMemoryFor<Parcel>>
+        ensures state { (from : ℕ) → OnOk result (self.new ≡ (cell_steps self.old (From from (msg.Hand parcel))).state) }
+        ensures sent { (from : ℕ) →
+            OnOk result (out.new.items ≡ out.old.items ++ (cell_steps self.old (From from (msg.Hand parcel))).sent) }
+        ensures err { OnErr result (self.new ≡ self.old) }
+        ensures err_out { OnErr result (out.new.items ≡ out.old.items) }
+        ensures err_item { IfErr result (λ r. r.item ≡ parcel) }
+    {
+        arrive(&self.known, parcel, &mut self.reals, &mut self.places, out)
+    }
+
+    // Reap.
+    fn hear_reap(&mut self, e: u32, out: &mut Out<Msg>) -> Result<(), AllocError>
+        ensures state { (from : ℕ) → OnOk result (self.new ≡ (cell_steps self.old (From from (msg.Reap e))).state) }
+        ensures sent { (from : ℕ) →
+            OnOk result (out.new.items ≡ out.old.items ++ (cell_steps self.old (From from (msg.Reap e))).sent) }
+        ensures err { OnErr result (self.new ≡ self.old) }
+        ensures err_out { OnErr result (out.new.items ≡ out.old.items) }
+    {
+        reap(e, &mut self.reals, &mut self.places, &mut self.lists, out)
+    }
+
+    // Look task, where nothing is to settle and no entity has a ready call.
+    fn look(&mut self, alloc: Global, out: &mut Out<Msg>) -> Result<(), AllocError>
+        requires surveyed { self.old.survey ≡ [] }
+        requires not_ready { ready_entity self.old ≡ None }
+        ensures state { OnOk result (self.new ≡ (cell_steps self.old Task).state) }
+        ensures sent { OnOk result (out.new.items ≡ out.old.items ++ (cell_steps self.old Task).sent) }
+        ensures err { OnErr result (self.new ≡ self.old) }
+        ensures err_out { OnErr result (out.new.items ≡ out.old.items) }
+    {
+        look_task(
+            alloc,
+            &self.known,
+            &mut self.reals,
+            &self.places,
+            &mut self.lists,
+            out,
+        )
+    }
+
+    // Survey task.
+    fn survey(&mut self, alloc: Global, out: &mut Out<Msg>) -> Result<(), AllocError>
+        requires { has_any self.old.survey ≡ true }
+        ensures state { OnOk result (self.new ≡ (cell_steps self.old Task).state) }
+        ensures sent { OnOk result (out.new.items ≡ out.old.items ++ (cell_steps self.old Task).sent) }
+        ensures err { OnErr result (self.new ≡ self.old) }
+        ensures err_out { OnErr result (out.new.items ≡ out.old.items) }
+    {
+        survey_task(
+            alloc,
+            &self.known,
+            &mut self.reals,
+            &mut self.places,
+            &mut self.lists,
+            out,
+        )
+    }
+
+    // The cell's task: a real settles, else a ready call is executed, else a witness looks.
+    fn task(&mut self, alloc: Global, out: &mut Out<Msg>) -> Result<(), AllocError>
+        ensures state { OnOk result (self.new ≡ (cell_steps self.old Task).state) }
+        ensures sent { OnOk result (out.new.items ≡ out.old.items ++ (cell_steps self.old Task).sent) }
+        ensures err { OnErr result (self.new ≡ self.old) }
+        ensures err_out { OnErr result (out.new.items ≡ out.old.items) }
+    {
+        if self.has_survey() {
+            return self.survey(alloc, out);
+        }
+        if let Some(e) = self.ready_entity() {
+            return self.ready_task(alloc, e, out);
+        }
+        self.look(alloc, out)
+    }
+
+    // Whether a real is to settle.
+    fn has_survey(&self) -> bool
+        ensures { result ≡ has_any self.now.survey }
+    {
+        !self.lists.survey.is_empty()
+    }
+
+    // The least entity that has a ready call.
+    fn ready_entity(&self) -> Option<u32>
+        ensures { result ≡ ready_entity self.now }
+    {
+        first_ready(&self.reals)
+    }
+
+    // A message from another node; no case is for what goes to base nodes alone.
+    fn hear(
+        &mut self,
+        alloc: Global,
+        message: Msg,
+        out: &mut Out<Msg>,
+    ) -> Result<(), NoMemoryFor<Msg>>
+        ensures state { (from : ℕ) → OnOk result (self.new ≡ (cell_steps self.old (From from message)).state) }
+        ensures sent { (from : ℕ) → OnOk result (out.new.items ≡ out.old.items ++ (cell_steps self.old (From from message)).sent) }
+        ensures err { OnErr result (self.new ≡ self.old) }
+        ensures err_out { OnErr result (out.new.items ≡ out.old.items) }
+        ensures err_item { IfErr result (λ r. r.item ≡ message) }
+    {
+        match message {
+            Msg::Call(call) => match self.hear_call(alloc, call, out) {
+                Ok(()) => return Ok(()),
+                Err(refused) => {
+                    return Err(NoMemoryFor {
+                        item: Msg::Call(refused.item),
+                    });
+                }
+            },
+            Msg::Hand(parcel) => match self.hear_hand(parcel, out) {
+                Ok(()) => return Ok(()),
+                Err(refused) => {
+                    return Err(NoMemoryFor {
+                        item: Msg::Hand(refused.item),
+                    });
+                }
+            },
+            Msg::GhostSet(e, beat, copy) => match self.hear_ghost_set(e, beat, copy) {
+                Ok(()) => return Ok(()),
+                Err(refused) => {
+                    return Err(NoMemoryFor {
+                        item: Msg::GhostSet(e, beat, refused.item),
+                    });
+                }
+            },
+            Msg::GhostDrop(e, beat) => match self.hear_ghost_drop(e, beat) {
+                Ok(()) => return Ok(()),
+                Err(_) => {
+                    return Err(NoMemoryFor {
+                        item: Msg::GhostDrop(e, beat),
+                    });
+                }
+            },
+            Msg::Tick => match self.hear_tick() {
+                Ok(()) => return Ok(()),
+                Err(_) => return Err(NoMemoryFor { item: Msg::Tick }),
+            },
+            Msg::Reap(e) => match self.hear_reap(e, out) {
+                Ok(()) => return Ok(()),
+                Err(_) => return Err(NoMemoryFor { item: Msg::Reap(e) }),
+            },
+            Msg::BaseCall(_) => return Ok(()),
+            Msg::Current(_, _, _) => return Ok(()),
+            Msg::Update(_) => return Ok(()),
+        }
     }
 
     /// Call, next place: a call whose real is not here is sent to the next place as it is, where there is one.
@@ -207,7 +496,7 @@ impl Cell {
         ensures err { OnErr result (out.new.items ≡ out.old.items) }
         ensures err_item { IfErr result (λ r. r.item ≡ call) }
     {
-        let Some(next) = self.nexts.get(call.entity) else {
+        let Some(next) = self.places.nexts.get(call.entity) else {
             return Ok(());
         };
         let to = next.cell;
@@ -222,6 +511,71 @@ impl Cell {
     pub fn copies(&self) -> &GhostBook<GhostCopy>
         ensures { result.now.ghosts ≡ self.now.ghosts }
     {
-        &self.copies
+        &self.places.copies
+    }
+}
+
+impl Machine for Cell {
+    type Msg = Msg;
+
+    ghost has_work = { cell_has_work };
+
+    ghost peer_count = { cell_peers };
+
+    ghost steps = { cell_steps };
+
+    ghost valid = { IsCell };
+
+    ghost targets = { cell_targets };
+
+    ghost keeps_peers = { cell_keeps_peers };
+
+    ghost stays_valid = { cell_stays_valid };
+
+    fn peers(&self) -> u8 {
+        MOST_CELLS as u8 + self.known.settings.bases as u8
+    }
+
+    fn has_task(&self) -> bool {
+        if self.has_survey() {
+            return true;
+        }
+        if self.ready_entity().is_some() {
+            return true;
+        }
+        !self.lists.looks.is_empty()
+    }
+
+    fn known(&self) {
+        let _ = &self.known;
+    }
+
+    fn step(
+        &mut self,
+        alloc: Global,
+        input: Input<Msg>,
+        out: &mut Out<Msg>,
+    ) -> Result<(), NoMemoryFor<Input<Msg>>>
+        requires { input ≡ Input.Task → cell_has_work self.old ≡ true }
+        ensures state { OnOk result (self.new ≡ (cell_steps self.old input).state) }
+        ensures sent { OnOk result (out.new.items ≡ out.old.items ++ (cell_steps self.old input).sent) }
+        ensures err_state { OnErr result (self.new ≡ self.old) }
+        ensures err_out { OnErr result (out.new.items ≡ out.old.items) }
+        ensures err_input { IfErr result (λ e. e.item ≡ input) }
+    {
+        match input {
+            Input::Task => match self.task(alloc, out) {
+                Ok(()) => return Ok(()),
+                Err(_) => return Err(NoMemoryFor { item: Input::Task }),
+            },
+            Input::From(from, message) => match self.hear(alloc, message, out) {
+                Ok(()) => return Ok(()),
+                Err(refused) => {
+                    return Err(NoMemoryFor {
+                        item: Input::From(from, refused.item),
+                    });
+                }
+            },
+        }
     }
 }

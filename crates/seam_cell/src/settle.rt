@@ -2,25 +2,30 @@
 //!
 //! First comes the plan, then what may want memory, and last what cannot fail.
 
-ghost use Rattle.std.specs.Prelude.{◌≡◌, ℕ, ◌<◌, ◌≤◌, ◌^◌, ◌+◌, ◌++◌, ◌==◌, true, false, length, IfOk, OnOk, List};
+ghost use Rattle.std.specs.Prelude.{◌≡◌, ℕ, ◌<◌, ◌≤◌, ◌^◌, ◌+◌, ◌++◌, ◌==◌, true, false, length, IfOk, OnOk, IfSome, List, Bool, option_map};
 ghost use Rattle.std.specs.FinMap as table;
 ghost use Rattle.std.specs.FinSet as set;
 ghost use Rattle.seam_ghosts.specs.Book.{ghost_after};
 ghost use Rattle.seam_steps.specs.Maps.{set_at};
 ghost use Rattle.seam_defs.specs.declared.settings.Settings.{Settings as AllSettings};
 ghost use Rattle.seam_defs.specs.declared.types.TypeDef.{TypeDef};
-ghost use Rattle.seam_tree.specs.Division.{IsInSpace, cells_of};
+ghost use Rattle.seam_tree.specs.Division.{Division, IsInSpace, cells_of};
+ghost use Rattle.seam_defs.specs.Settings.{AreLegal};
 ghost use Rattle.seam_entity.specs.Executing.{copy_with};
 ghost use Rattle.seam_entity.specs.Preparing.{node_with};
-ghost use Rattle.seam_steps.specs.Settle.{home_after, haunts_at, copy_if, ghost_messages};
-ghost use Rattle.seam_entity.specs.Here.{Here};
+ghost use Rattle.seam_steps.specs.Settle.{home_after, haunts_at, copy_if, ghost_messages, settled};
+ghost use Rattle.seam_entity.specs.Here.{Here, cell_count};
 ghost use Rattle.seam_entity.specs.Reals.{RealView};
 ghost use Rattle.seam_cell.specs.News.{Tells};
 ghost use Rattle.seam_cell.specs.Settling.{former, staying, HasRoomFor, IsGone};
+ghost use Rattle.seam_cell.specs.Kept.{here_in};
+ghost use Rattle.seam_cell.specs.Stepping.{telling_at, IsReadyFor, IsLater, IsDone, parts_of, slot_in, core_of};
 
 use crate::cell::{drop_in, set_in};
+use crate::known::Known;
 use crate::news::{Subject, Telling, gather, send_all};
 use crate::next::Next;
+use crate::places::Places;
 use seam_call::GhostCopy;
 use seam_defs::Settings;
 use seam_entity::{Msg, Parcel, Real};
@@ -51,9 +56,12 @@ pub struct Ready {
 // The home of a real of cell `me` that stands there.
 fn home_after(me: u8, settings: &Settings, tree: &Tree, pos: Pos) -> u8
     requires inside { IsInSpace tree.now pos }
-    requires there { me < cells_of tree.now }
     ensures { (defs : List TypeDef) → result ≡ home_after (node_with defs me settings.now) tree.now pos }
 {
+    // A real of a cell that the tree has not stays where it is.
+    if me >= tree.cells() {
+        return me;
+    }
     let Some(area) = tree.area(me) else {
         unreachable!()
     };
@@ -75,7 +83,6 @@ fn former(me: u8, home: u8, old: CellSet) -> CellSet
 /// Where a real of cell `me` with these haunts goes that stands there, and which haunts it will have.
 pub fn make_plan(me: u8, settings: &Settings, tree: &Tree, old: CellSet, pos: Pos) -> Plan
     requires inside { IsInSpace tree.now pos }
-    requires there { me < cells_of tree.now }
     requires small { me < 16 }
     requires far { settings.now.ghost_distance + settings.now.ghost_hysteresis < 2 ^ 32 }
     ensures home { (defs : List TypeDef) → result.home ≡ home_after (node_with defs me settings.now) tree.now pos }
@@ -116,21 +123,16 @@ pub fn get_ready(alloc: Global, telling: Telling, of: &Subject<'_>) -> Result<Re
 }
 
 /// Makes the room that settling takes.
-pub fn make_room(
-    ready: &Ready,
-    nexts: &mut Table<Next>,
-    book: &mut GhostBook<GhostCopy>,
-    out: &mut Out<Msg>,
-) -> Result<(), AllocError>
-    ensures same_nexts { nexts.new.items ≡ nexts.old.items }
-    ensures same_book { book.new.ghosts ≡ book.old.ghosts }
+pub fn make_room(ready: &Ready, places: &mut Places, out: &mut Out<Msg>) -> Result<(), AllocError>
+    ensures same_nexts { places.new.nexts.items ≡ places.old.nexts.items }
+    ensures same_book { places.new.copies.ghosts ≡ places.old.copies.ghosts }
     ensures same_out { out.new.items ≡ out.old.items }
-    ensures room { OnOk result (HasRoomFor ready.now nexts.new.room book.new.room out.new.spare) }
+    ensures room { OnOk result (HasRoomFor ready.now places.new.nexts.room places.new.copies.room out.new.spare) }
 {
     let t = ready.telling;
     if t.home != t.me {
-        nexts.reserve(t.entity)?;
-        book.reserve(t.entity)?;
+        places.nexts.reserve(t.entity)?;
+        places.copies.reserve(t.entity)?;
     }
     out.reserve(ready.news.len() + 1)
 }
@@ -153,7 +155,7 @@ pub fn stay(real: &mut Real, ready: Ready, out: &mut Out<Msg>)
 }
 
 // The own book takes what it is told of the real, for which there is room.
-fn tell_own(book: &mut GhostBook<GhostCopy>, e: u32, beat: u64, own: Option<GhostCopy>)
+pub(crate) fn tell_own(book: &mut GhostBook<GhostCopy>, e: u32, beat: u64, own: Option<GhostCopy>)
     requires { set.contains book.old.room e ≡ true }
     ensures { book.new.ghosts ≡ set_at book.old.ghosts e (ghost_after (table.get book.old.ghosts e) (record { beat = beat; copy = own })) }
 {
@@ -195,4 +197,71 @@ pub fn leave(
     real.settle_to(telling.haunts, beat, generation);
     send_all(news, out);
     out.send(cell, Msg::Hand(Parcel { real }));
+}
+
+// What is told of a real that settles at that position.
+fn tell_from(known: &Known, real: &Real, pos: Pos, changed: bool) -> Telling
+    requires me { known.now.me < cell_count }
+    requires inside { IsInSpace known.now.tree pos }
+    requires legal { AreLegal known.now.settings }
+    requires beat { real.now.core.beat < 2 ^ 62 }
+    ensures { result ≡ telling_at (here_in known.now) known.now.tree real.now.core pos changed }
+{
+    let old = real.haunts();
+    let plan = make_plan(known.me, &known.settings, &known.tree, old, pos);
+    Telling {
+        me: known.me,
+        home: plan.home,
+        old,
+        haunts: plan.haunts,
+        changed,
+        entity: real.entity(),
+        beat: real.beat() + 1,
+    }
+}
+
+/// Makes all that a real takes to settle, of which is told what it is after a call, or what it is.
+pub fn ready_for(
+    alloc: Global,
+    known: &Known,
+    real: &Real,
+    of: &Subject<'_>,
+    changed: bool,
+) -> Result<Ready, AllocError>
+    requires me { known.now.me < cell_count }
+    requires inside { IsInSpace known.now.tree of.now.state.now.pos }
+    requires legal { AreLegal known.now.settings }
+    requires beat { real.now.core.beat < 2 ^ 62 }
+    requires defs { of.now.defs.now ≡ known.now.defs }
+    ensures { (later : RealView) → IsLater real.now.core later → later.ty ≡ of.now.ty → later.public ≡ of.now.version →
+        later.state ≡ of.now.state.now → IfOk result (IsReadyFor (here_in known.now) known.now.tree later changed) }
+{
+    let telling = tell_from(known, real, of.state.pos, changed);
+    let ready = get_ready(alloc, telling, of)?;
+    Ok(ready)
+}
+
+/// The real settles as was made ready, and is given back where it stays. It takes no memory.
+pub fn settle_real(
+    mut real: Real,
+    ready: Ready,
+    places: &mut Places,
+    out: &mut Out<Msg>,
+) -> Option<Real>
+    requires beat { real.core.beat < 2 ^ 62 }
+    requires generation { real.core.generation < 2 ^ 62 }
+    requires entity { ready.telling.entity ≡ real.core.entity }
+    requires room { HasRoomFor ready places.old.nexts.room places.old.copies.room out.old.spare }
+    ensures done { (h : Here) (t : Division) (changed : Bool) (was : RealView) → IsReadyFor h t real.core changed ready →
+        let before = parts_of places.old out.old in
+        IsDone (settled h t (slot_in before real.core.entity was) real.core changed) real.core.entity was
+        (option_map core_of result) before (parts_of places.new out.new) }
+    ensures witness { IfSome result (λ q. q.core.witness ≡ real.core.witness) }
+{
+    if ready.telling.home == ready.telling.me {
+        stay(&mut real, ready, out);
+        return Some(real);
+    }
+    leave(real, ready, &mut places.nexts, &mut places.copies, out);
+    None
 }

@@ -12,12 +12,12 @@ pub returns-then-is_stray_set-clause-state : goal.returns-then-is_stray_set-clau
 returns-then-is_stray_set-clause-state c from =
     stray_set c.args.self.now from c.args.e c.args.beat c.args.copy
     (ap (λ v. stray_ghost_set v.here c.args.beat c.args.copy) (sym c.self.view_is)
-    ∙ (sym (c.is_stray_set.ensures c.self.inside.me) ∙ c.if-is_stray_set.true))
+    ∙ (sym (c.is_stray_set.ensures c.self.inside.known.me) ∙ c.if-is_stray_set.true))
 
 pub returns-clause-state : goal.returns-clause-state
 returns-clause-state c from =
     on_ok_weaker c.set_in.result
     (λ e. ghost_set_here (the_view c.self.inside) from c.args.e c.args.beat c.set_in.new.book.ghosts c.args.copy
     (none_there c.get.result _ c.get.ensures.item (sym c.is_some.ensures ∙ c.if-is_some.false))
-    (sym (c.is_stray_set.ensures c.self.inside.me) ∙ c.if-is_stray_set.false) e
+    (sym (c.is_stray_set.ensures c.self.inside.known.me) ∙ c.if-is_stray_set.false) e
     ∙ ap (λ v. (cell_steps v (From from (GhostSet c.args.e c.args.beat c.args.copy))).state) c.self.view_is) c.set_in.ensures.ok

@@ -1,0 +1,36 @@
+use Rattle.std.proofs.Common.{sym, ap, subst, ◌∙◌}
+use Rattle.seam_tree.specs.Division.{IsInSpace}
+use Rattle.seam_entity.specs.Executing.{executed}
+use Rattle.seam_cell.specs.Kept.{here_in}
+use Rattle.seam_cell.specs.Stepping.{IsReadyFor}
+use Rattle.seam_cell.proofs.KeptLemmas.{executed_there}
+use Rattle.seam_cell.proofs.CallLemmas.{after_is, executed_later}
+use Rattle.seam_cell.proofs.calls.make_for_call.Goals as goal
+
+pub ready_for-requires-clause-inside : goal.ready_for-requires-clause-inside
+ready_for-requires-clause-inside c =
+    let k = c.args.known.now in
+    let there = executed_there (here_in k) k.tree c.requires.size c.args.real.now.core c.args.call.now c.requires.may c.requires.there in
+    subst (λ s. IsInSpace k.tree s.pos) (sym (c.in_ok-after.ensures.state k.me k.settings)) there.inside
+
+pub returns-clause-state : goal.returns-clause-state
+returns-clause-state c = c.in_ok-after.ensures.state c.args.known.now.me c.args.known.now.settings
+
+pub returns-clause-changed : goal.returns-clause-changed
+returns-clause-changed c = c.in_ok-after.ensures.changed c.args.known.now.me c.args.known.now.settings
+
+pub returns-clause-ready : goal.returns-clause-ready
+returns-clause-ready c =
+    let k = c.args.known.now in
+    let r = c.args.real.now.core in
+    let call = c.args.call.now in
+    let state = c.in_ok-after.ensures.state k.me k.settings in
+    let changed = c.in_ok-after.ensures.changed k.me k.settings in
+    let same = c.prepare.ensures.same in
+    subst (λ b. IsReadyFor (here_in k) k.tree (executed (here_in k) r call) b c.in_ok-ready.ready) changed
+    (c.in_ok-ready.ensures (executed (here_in k) r call) (executed_later (here_in k) r c.prepare.new.self.core call same)
+    (sym (c.ty.ensures ∙ ap (λ x. x.ty) same))
+    (sym
+    (c.version_after.ensures call
+    ∙ ap (λ x. x.public) (after_is (here_in k) r c.prepare.new.self.core c.in_ok-after.after call same state changed)))
+    (sym state))

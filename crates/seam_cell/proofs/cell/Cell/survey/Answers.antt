@@ -1,0 +1,25 @@
+use Rattle.std.proofs.Common.{◌++◌, ap, ◌∙◌}
+use Rattle.std.proofs.lemmas.Result.{on_ok_weaker, on_err_weaker}
+use Rattle.seam_machine.specs.declared.machines.Input.TheVariants.{Task}
+use Rattle.seam_steps.specs.Cells.{cell_steps}
+use Rattle.seam_cell.proofs.StepLemmas.{whole_either}
+use Rattle.seam_cell.proofs.cell.Cell.survey.Goals as goal
+
+pub invariant_of-self : goal.invariant_of-self
+invariant_of-self c =
+    let old = c.self.inside in
+    let new = c.survey_task.new in
+    whole_either old.known old.reals new.reals old.places new.places old.lists new.lists Task c.survey_task.result c.self.invariant
+    c.survey_task.ensures.marks c.survey_task.ensures.state c.survey_task.ensures.err
+
+pub returns-clause-state : goal.returns-clause-state
+returns-clause-state c =
+    on_ok_weaker c.survey_task.result (λ e. e ∙ ap (λ v. (cell_steps v Task).state) c.self.view_is) c.survey_task.ensures.state
+
+pub returns-clause-sent : goal.returns-clause-sent
+returns-clause-sent c =
+    on_ok_weaker c.survey_task.result (λ e. e ∙ ap (λ v. c.args.out.now.items ++ (cell_steps v Task).sent) c.self.view_is)
+    c.survey_task.ensures.sent
+
+pub returns-clause-err : goal.returns-clause-err
+returns-clause-err c = on_err_weaker c.survey_task.result (λ e. e ∙ c.self.view_is) c.survey_task.ensures.err

@@ -1,0 +1,76 @@
+use Rattle.std.proofs.Common.{◌∙◌, ◌++◌, ◌+◌, [], ap, sym, subst, map, length}
+use Rattle.std.proofs.lemmas.List.{append-nil}
+use Rattle.std.specs.FinMap as table
+use Rattle.std.specs.Ordering.{nat_cmp}
+use Rattle.std.specs.List.Sorted.{IsStrictlySortedBy}
+use Rattle.seam_view.specs.Replica.{after_looks}
+use Rattle.seam_entity.specs.Looks.{told_after}
+use Rattle.seam_entity.specs.Here.{base_of}
+use Rattle.seam_entity.specs.Numbers.{is_small}
+use Rattle.seam_entity.specs.Witnesses.{witness_of}
+use Rattle.seam_steps.specs.Looks.{numbered, own_due}
+use Rattle.seam_steps.specs.Cells.{CellView, known_to}
+use Rattle.seam_known.proofs.Knowing.{known_in_order}
+use Rattle.seam_cell.specs.Kept.{here_in}
+use Rattle.seam_cell.specs.Looking.{seeing}
+use Rattle.seam_cell.proofs.LookLemmas.{stray_stays, stray_is_silent, small_looks, small_tells}
+use Rattle.seam_cell.proofs.looking.Sight.look.Goals as goal
+
+pub returns-then-not-are_numbers_small-clause-witness : goal.returns-then-not-are_numbers_small-clause-witness
+returns-then-not-are_numbers_small-clause-witness c = λ k.
+    let h = here_in c.args.self.now.known.now in
+    let d : CellView = seeing k h c.args.self.now.reals.now.items c.args.self.now.copies.now.ghosts in
+    c.get_ready.ensures.same
+    ∙ stray_stays h c.args.real.now.core (witness_of c.args.witness.now) (known_to d c.args.self.now.own)
+    (c.if-not-are_numbers_small.ensures
+    ∙ λ i. is_small ((c.get_ready.ensures.same i).sent + (c.count-updates.ensures ∙ ap length (c.in_ok-glance.ensures.shown k)) i))
+
+pub returns-then-not-are_numbers_small-clause-sent : goal.returns-then-not-are_numbers_small-clause-sent
+returns-then-not-are_numbers_small-clause-sent c = λ k.
+    let h = here_in c.args.self.now.known.now in
+    let d : CellView = seeing k h c.args.self.now.reals.now.items c.args.self.now.copies.now.ghosts in
+    sym (append-nil c.args.out.now.items)
+    ∙ ap (λ l. c.args.out.now.items ++ l)
+    (stray_is_silent h c.args.real.now.core (witness_of c.args.witness.now) (known_to d c.args.self.now.own)
+    (c.if-not-are_numbers_small.ensures
+    ∙ λ i. is_small ((c.get_ready.ensures.same i).sent + (c.count-updates.ensures ∙ ap length (c.in_ok-glance.ensures.shown k)) i)))
+
+pub tell-requires-clause-rising : goal.tell-requires-clause-rising
+tell-requires-clause-rising c =
+    let d : CellView = record {
+      here = here_in c.args.self.now.known.now;
+      tree = c.args.self.now.known.now.tree;
+      reals = c.args.self.now.reals.now.items;
+      nexts = table.empty;
+      ghosts = c.args.self.now.copies.now.ghosts;
+      survey = [];
+      looks = [];
+    } in
+    subst (λ l. IsStrictlySortedBy nat_cmp (map (λ s. s.entity) l)) (sym (c.in_ok-glance.ensures.seen d))
+    (known_in_order d c.args.self.now.own)
+
+pub returns-clause-witness : goal.returns-clause-witness
+returns-clause-witness c = λ k.
+    let h = here_in c.args.self.now.known.now in
+    let d : CellView = seeing k h c.args.self.now.reals.now.items c.args.self.now.copies.now.ghosts in
+    let r = c.args.real.now.core in
+    let same = c.get_ready.ensures.same in
+    c.tell.ensures.witness
+    ∙ ((λ i. record {
+      view = after_looks (c.in_ok-glance.ensures.seen k i) (same i).view (c.in_ok-glance.ensures.looks k i);
+      told = told_after (own_due (same i).told r.version) r.version (same i).told;
+      sent = (same i).sent + length (c.in_ok-glance.ensures.shown k i);
+    })
+    ∙ small_looks h r (witness_of c.args.witness.now) (known_to d c.args.self.now.own)
+    (c.if-not-are_numbers_small.ensures ∙ λ i. is_small ((same i).sent + (c.count-updates.ensures ∙ ap length (c.in_ok-glance.ensures.shown k)) i)))
+
+pub returns-clause-sent : goal.returns-clause-sent
+returns-clause-sent c = λ k.
+    let h = here_in c.args.self.now.known.now in
+    let d : CellView = seeing k h c.args.self.now.reals.now.items c.args.self.now.copies.now.ghosts in
+    let r = c.args.real.now.core in
+    let same = c.get_ready.ensures.same in
+    c.tell.ensures.sent
+    ∙ (λ i. c.in_ok-reserve.ensures.items i ++ numbered (base_of h r.entity) r.entity (same i).sent (c.in_ok-glance.ensures.shown k i))
+    ∙ ap (λ l. c.args.out.now.items ++ l) (small_tells h r (witness_of c.args.witness.now) (known_to d c.args.self.now.own)
+    (c.if-not-are_numbers_small.ensures ∙ λ i. is_small ((same i).sent + (c.count-updates.ensures ∙ ap length (c.in_ok-glance.ensures.shown k)) i)))

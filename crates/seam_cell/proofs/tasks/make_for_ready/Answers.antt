@@ -1,0 +1,37 @@
+use Rattle.std.proofs.Common.{sym, ap, subst, ◌∙◌}
+use Rattle.seam_tree.specs.Division.{IsInSpace}
+use Rattle.seam_entity.specs.Executing.{executed_ready}
+use Rattle.seam_cell.specs.Kept.{here_in}
+use Rattle.seam_cell.specs.Stepping.{IsReadyFor}
+use Rattle.seam_cell.proofs.KeptLemmas.{ready_there}
+use Rattle.seam_cell.proofs.CallLemmas.{after_is}
+use Rattle.seam_cell.proofs.ReadyLemmas.{readied, ready_later}
+use Rattle.seam_cell.proofs.tasks.make_for_ready.Goals as goal
+
+pub ready_for-requires-clause-inside : goal.ready_for-requires-clause-inside
+ready_for-requires-clause-inside c =
+    let k = c.args.known.now in
+    let r = c.args.real.now.core in
+    let task = readied r c.requires.ready in
+    let there = ready_there (here_in k) k.tree c.requires.size r task.order task.call task.is.order task.is.call c.requires.there in
+    subst (λ s. IsInSpace k.tree s.pos) (sym (c.in_ok-after.ensures.state k.me k.settings task.order task.call task.is)) there.inside
+
+pub returns-clause-state : goal.returns-clause-state
+returns-clause-state c = c.in_ok-after.ensures.state c.args.known.now.me c.args.known.now.settings
+
+pub returns-clause-changed : goal.returns-clause-changed
+returns-clause-changed c = c.in_ok-after.ensures.changed c.args.known.now.me c.args.known.now.settings
+
+pub returns-clause-ready : goal.returns-clause-ready
+returns-clause-ready c o call is =
+    let k = c.args.known.now in
+    let r = c.args.real.now.core in
+    let q = c.prepare_ready.new.self.core in
+    let state = c.in_ok-after.ensures.state k.me k.settings o call is in
+    let changed = c.in_ok-after.ensures.changed k.me k.settings o call is in
+    let same = c.prepare_ready.ensures.same in
+    subst (λ b. IsReadyFor (here_in k) k.tree (executed_ready (here_in k) r o call) b c.in_ok-ready.ready) changed
+    (c.in_ok-ready.ensures (executed_ready (here_in k) r o call) (ready_later (here_in k) r q o call same)
+    (sym (c.ty.ensures ∙ ap (λ x. x.ty) same))
+    (sym (c.version_after.ensures call ∙ ap (λ x. x.public) (after_is (here_in k) r q c.in_ok-after.after call same state changed)))
+    (sym state))

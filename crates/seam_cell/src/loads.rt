@@ -1,0 +1,140 @@
+//! What the loads do to the reals of a cell.
+
+ghost use Rattle.std.specs.Prelude.{◌≡◌, ◌<◌, ◌^◌, true, OnOk, OnErr, IfOk, None, Some, is_some, option_map};
+ghost use Rattle.std.specs.FinMap as table;
+ghost use Rattle.seam_entity.specs.Executing.{created, real_begins};
+ghost use Rattle.seam_entity.specs.Looks.{with_witness};
+ghost use Rattle.seam_steps.specs.Maps.{Map, set_at, each_value};
+ghost use Rattle.seam_cell.specs.Kept.{here_in, AreKept, marked};
+ghost use Rattle.seam_steps.specs.Cells.{real_is_ready, has_witness};
+ghost use Rattle.seam_cell.specs.Sets.{with_entity};
+ghost use Rattle.seam_cell.specs.Beginning.{changed_at};
+
+use crate::entity_set::EntitySet;
+use crate::known::Known;
+use crate::reals::{Reals, make_place, put_in, take_out};
+use seam_entity::{Parcel, Real};
+use seam_geo::Pos;
+use seam_table::Table;
+use std::alloc::{AllocError, Global};
+
+/// A real that is to be made.
+#[derive(Clone, Copy, Debug)]
+pub struct Making {
+    pub entity: u32,
+    pub ty: u16,
+    pub pos: Pos,
+}
+
+/// Makes the real of an entity of which none is here.
+pub fn make_real(
+    alloc: Global,
+    known: &Known,
+    making: Making,
+    reals: &mut Reals,
+) -> Result<(), AllocError>
+    requires gone { table.get reals.old.items.items making.entity ≡ None }
+    requires kept { AreKept reals.old }
+    ensures after { OnOk result (reals.new.items.items ≡ table.insert reals.old.items.items making.entity
+        (created (here_in known.now) making.entity making.ty making.pos)) }
+    ensures err { OnErr result (reals.new.items.items ≡ reals.old.items.items) }
+    ensures kept { AreKept reals.new }
+{
+    let e = making.entity;
+    let real = Real::create(alloc, &known.defs, e, making.ty, making.pos)?;
+    make_place(reals, e, false)?;
+    put_in(reals, e, real);
+    Ok(())
+}
+
+/// Gives the entity's real, if it is here, a witness that has told nothing.
+pub fn give_witness(
+    alloc: Global,
+    known: &Known,
+    e: u32,
+    reals: &mut Reals,
+) -> Result<(), AllocError>
+    requires { AreKept reals.old }
+    ensures after { OnOk result (reals.new.items.items ≡ changed_at (with_witness (here_in known.now)) reals.old.items.items e) }
+    ensures err { OnErr result (reals.new.items.items ≡ reals.old.items.items) }
+    ensures kept { AreKept reals.new }
+{
+    if reals.items.get(e).is_none() {
+        return Ok(());
+    }
+    let mut real = take_out(reals, e)?;
+    if let Err(error) = reals.witnesses.insert(e) {
+        put_in(reals, e, real);
+        return Err(error);
+    }
+    real.attach(alloc, &known.settings);
+    put_in(reals, e, real);
+    Ok(())
+}
+
+// Adds an entity to those so far.
+fn add(all: &mut EntitySet, e: u32) -> Result<(), AllocError>
+    ensures after { OnOk result (all.new ≡ with_entity e all.old) }
+    ensures small { e < 2 ^ 32 }
+{
+    all.insert(e)
+}
+
+// The entities of all reals.
+fn all_entities(alloc: Global, items: &Table<Parcel>) -> Result<EntitySet, AllocError>
+    ensures { IfOk result (λ s. s ≡ table.keys items.now.items) }
+{
+    let mut all = EntitySet::new(alloc);
+    let mut last = None;
+    while let Some((e, _)) = items.next_after(last) {
+        add(&mut all, e)?;
+        last = Some(e);
+    }
+    Ok(all)
+}
+
+// Begins a round for the entity's real, which is here.
+fn begin(items: &mut Table<Parcel>, e: u32)
+    requires { is_some (table.get items.old.items e) ≡ true }
+    ensures after { items.new.items ≡ changed_at real_begins items.old.items e }
+    ensures small { e < 2 ^ 32 }
+{
+    let Some(parcel) = items.take(e) else {
+        unreachable!()
+    };
+    let Parcel { mut real } = parcel;
+    real.start_round();
+    let _none = items.put_reserved(e, Parcel { real });
+}
+
+// Begins a round for every real.
+fn begin_all(items: &mut Table<Parcel>)
+    ensures after { items.new.items ≡ each_value real_begins items.old.items }
+    ensures ready { marked real_is_ready items.new.items ≡ marked real_is_ready items.old.items }
+    ensures witnesses { marked has_witness items.new.items ≡ marked has_witness items.old.items }
+{
+    let mut last = None;
+    while let Some((e, _)) = items.next_after(last) {
+        begin(items, e);
+        last = Some(e);
+    }
+}
+
+/// Begins a round, in which no real has done anything yet and all are to settle.
+pub fn begin_round(
+    alloc: Global,
+    reals: &mut Reals,
+    survey: &mut EntitySet,
+) -> Result<(), AllocError>
+    requires { AreKept reals.old }
+    ensures reals { OnOk result (reals.new.items.items ≡ each_value real_begins reals.old.items.items) }
+    ensures survey { OnOk result (survey.new ≡ table.keys reals.old.items.items) }
+    ensures kept { AreKept reals.new }
+    ensures err { OnErr result (reals.new.items.items ≡ reals.old.items.items) }
+    ensures err_survey { OnErr result (survey.new ≡ survey.old) }
+{
+    let all = all_entities(alloc, &reals.items)?;
+    begin_all(&mut reals.items);
+    *survey = all;
+    Ok(())
+}

@@ -1,0 +1,83 @@
+//! A real leaves the world.
+
+ghost use Rattle.std.specs.Prelude.{◌≡◌, ℕ, ◌<◌, ◌≤◌, ◌^◌, ◌+◌, ◌++◌, not, OnOk, OnErr};
+ghost use Rattle.std.specs.FinMap as table;
+ghost use Rattle.seam_machine.specs.declared.machines.Input.TheVariants.{From};
+ghost use Rattle.seam_entity.specs.declared.message.Msg.TheVariants as msg;
+ghost use Rattle.seam_steps.specs.CellCases.{drop_at, drops, stray_reap};
+ghost use Rattle.seam_steps.specs.Cells.{cell_steps};
+ghost use Rattle.seam_cell.specs.News.{listed};
+ghost use Rattle.seam_cell.specs.Kept.{cell_of, AreKept};
+ghost use Rattle.seam_cell.specs.declared.known.Known.{Known as AnyKnown};
+
+use crate::lists::{Lists, unlist};
+use crate::places::Places;
+use crate::reals::{Reals, close, take_out};
+use crate::settle::tell_own;
+use seam_entity::{Msg, Real, may_rise};
+use seam_machine::Out;
+use seam_tree::MOST_CELLS;
+use std::alloc::AllocError;
+
+// Tells the cell, if it is one of the haunts, to drop its copy, in room that was made before.
+fn drop_copy(real: &Real, k: u8, out: &mut Out<Msg>)
+    requires beat { real.now.core.beat < 2 ^ 62 }
+    requires room { 0 < out.old.spare }
+    ensures sent { out.new.items ≡ out.old.items ++ listed (drop_at real.now.core k) }
+    ensures spare { out.old.spare ≤ out.new.spare + 1 }
+{
+    if real.haunts().holds(k) {
+        out.send(k, Msg::GhostDrop(real.entity(), real.beat() + 1));
+    }
+}
+
+// Tells each haunt, in rising number, to drop its copy, in room that was made before.
+fn drop_copies(real: &Real, out: &mut Out<Msg>)
+    requires beat { real.now.core.beat < 2 ^ 62 }
+    requires room { 16 ≤ out.old.spare }
+    ensures { out.new.items ≡ out.old.items ++ drops real.now.core }
+{
+    for k in 0..16 {
+        drop_copy(real, k, out);
+    }
+}
+
+// Whether the entity's real is here and may be told of once more.
+fn may_go(reals: &Reals, e: u32) -> bool
+    ensures { result ≡ not (stray_reap (table.get reals.now.items.items e)) }
+{
+    match reals.items.get(e) {
+        Some(parcel) => may_rise(parcel.real.beat()),
+        None => false,
+    }
+}
+
+/// Reap: the real goes, with its entries in both lists, and its haunts and the own book drop their copies at the next beat.
+pub fn reap(
+    e: u32,
+    reals: &mut Reals,
+    places: &mut Places,
+    lists: &mut Lists,
+    out: &mut Out<Msg>,
+) -> Result<(), AllocError>
+    requires marks { AreKept reals.old }
+    ensures state { (k : AnyKnown) (from : ℕ) → OnOk result (cell_of k reals.new places.new lists.new
+        ≡ (cell_steps (cell_of k reals.old places.old lists.old) (From from (msg.Reap e))).state) }
+    ensures sent { (k : AnyKnown) (from : ℕ) → OnOk result (out.new.items ≡ out.old.items
+        ++ (cell_steps (cell_of k reals.old places.old lists.old) (From from (msg.Reap e))).sent) }
+    ensures err { (k : AnyKnown) → OnErr result (cell_of k reals.new places.new lists.new ≡ cell_of k reals.old places.old lists.old) }
+    ensures err_out { OnErr result (out.new.items ≡ out.old.items) }
+    ensures marks { AreKept reals.new }
+{
+    if !may_go(reals, e) {
+        return Ok(());
+    }
+    out.reserve(MOST_CELLS)?;
+    places.copies.reserve(e)?;
+    let real = take_out(reals, e)?;
+    close(reals, e);
+    tell_own(&mut places.copies, e, real.beat() + 1, None);
+    unlist(lists, e);
+    drop_copies(&real, out);
+    Ok(())
+}

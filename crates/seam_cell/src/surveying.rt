@@ -1,0 +1,133 @@
+//! A real settles where it is due, without a call.
+
+ghost use Rattle.std.specs.Prelude.{◌≡◌, ◌<◌, ◌++◌, not, true, false, OnOk, OnErr, IfOk, IfSome, Some, option_map};
+ghost use Rattle.std.specs.FinMap as table;
+ghost use Rattle.seam_defs.specs.Settings.{AreLegal};
+ghost use Rattle.seam_entity.specs.Here.{cell_count};
+ghost use Rattle.seam_entity.specs.Executing.{may_settle as real_may_settle};
+ghost use Rattle.seam_steps.specs.Settle.{settled};
+ghost use Rattle.seam_steps.specs.CellCases.{stray_survey};
+ghost use Rattle.seam_steps.specs.Cells.{cell_task};
+ghost use Rattle.seam_steps.specs.Maps.{has_any};
+ghost use Rattle.seam_cell.specs.Kept.{here_in, cell_of, AreKept, AreWhole, IsThere};
+ghost use Rattle.seam_cell.specs.Stepping.{IsReadyFor, IsDone, parts_of, slot_in, core_of};
+
+use crate::calls::may_settle;
+use crate::known::Known;
+use crate::lists::Lists;
+use crate::news::Subject;
+use crate::places::Places;
+use crate::reals::{Reals, put_after, take_out};
+use crate::settle::{Ready, make_room, ready_for, settle_real};
+use crate::tasks::Tasked;
+use seam_entity::{Msg, Real};
+use seam_machine::Out;
+use std::alloc::{AllocError, Global};
+
+// Makes what a real takes to settle as it is.
+fn make_ready(alloc: Global, known: &Known, real: &Real) -> Result<Ready, AllocError>
+    requires me { known.now.me < cell_count }
+    requires legal { AreLegal known.now.settings }
+    requires there { IsThere (here_in known.now) known.now.tree real.now.core }
+    requires may { real_may_settle real.now.core ≡ true }
+    ensures { IfOk result (IsReadyFor (here_in known.now) known.now.tree real.now.core false) }
+{
+    let of = Subject {
+        defs: &known.defs,
+        ty: real.ty(),
+        version: real.public_version(),
+        state: real.state(),
+    };
+    let ready = ready_for(alloc, known, real, &of, false)?;
+    Ok(ready)
+}
+
+// Whether the entity's real is here and may settle.
+fn is_due(reals: &Reals, e: u32) -> bool
+    ensures { result ≡ not (stray_survey (table.get reals.now.items.items e)) }
+{
+    match reals.items.get(e) {
+        Some(parcel) => may_settle(&parcel.real),
+        None => false,
+    }
+}
+
+/// The real settles as it is.
+pub fn settle_again(
+    alloc: Global,
+    known: &Known,
+    real: Real,
+    places: &mut Places,
+    out: &mut Out<Msg>,
+) -> Tasked
+    requires me { known.now.me < cell_count }
+    requires legal { AreLegal known.now.settings }
+    requires there { IsThere (here_in known.now) known.now.tree real.core }
+    requires may { real_may_settle real.core ≡ true }
+    ensures done { let h = here_in known.now in let r = real.core in let before = parts_of places.old out.old in
+        OnOk result.result (IsDone (settled h known.now.tree (slot_in before r.entity r) r false) r.entity r
+        (option_map core_of result.left) before (parts_of places.new out.new)) }
+    ensures witness { IfSome result.left (λ q. q.core.witness ≡ real.core.witness) }
+
+    // If allocation fails, the real comes back and nothing has changed.
+    ensures err { OnErr result.result (option_map core_of result.left ≡ Some real.core) }
+    ensures err_parts { OnErr result.result (parts_of places.new out.new ≡ parts_of places.old out.old) }
+{
+    let Ok(ready) = make_ready(alloc, known, &real) else {
+        return Tasked {
+            left: Some(real),
+            result: Err(AllocError),
+        };
+    };
+    if make_room(&ready, places, out).is_err() {
+        return Tasked {
+            left: Some(real),
+            result: Err(AllocError),
+        };
+    }
+    Tasked {
+        left: settle_real(real, ready, places, out),
+        result: Ok(()),
+    }
+}
+
+/// Survey task: the first entity of the survey list is taken off it, and its real settles.
+pub fn survey_task(
+    alloc: Global,
+    known: &Known,
+    reals: &mut Reals,
+    places: &mut Places,
+    lists: &mut Lists,
+    out: &mut Out<Msg>,
+) -> Result<(), AllocError>
+    requires whole { AreWhole known.now reals.old places.old lists.old }
+    requires some { has_any lists.old.survey ≡ true }
+    ensures state { let c = cell_of known.now reals.old places.old lists.old in
+        OnOk result (cell_of known.now reals.new places.new lists.new ≡ (cell_task c lists.old.survey).state) }
+    ensures sent { let c = cell_of known.now reals.old places.old lists.old in
+        OnOk result (out.new.items ≡ out.old.items ++ (cell_task c lists.old.survey).sent) }
+    ensures err { OnErr result (cell_of known.now reals.new places.new lists.new ≡ cell_of known.now reals.old places.old lists.old) }
+    ensures err_out { OnErr result (out.new.items ≡ out.old.items) }
+    ensures marks { AreKept reals.new }
+{
+    let Some(e) = lists.survey.first() else {
+        unreachable!()
+    };
+    if !is_due(reals, e) {
+        let _ = lists.survey.take_first();
+        return Ok(());
+    }
+    let real = take_out(reals, e)?;
+    let Tasked { left, result } = settle_again(alloc, known, real, places, out);
+    match result {
+        Ok(()) => {
+            let _ = lists.survey.take_first();
+            put_after(reals, lists, e, left);
+            return Ok(());
+        }
+        Err(error) => {
+            put_after(reals, lists, e, left);
+            return Err(error);
+        }
+    }
+}

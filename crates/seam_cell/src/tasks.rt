@@ -1,0 +1,100 @@
+//! Tasks about a real that is here: it settles, or executes a ready call and settles.
+
+ghost use Rattle.std.specs.Prelude.{◌≡◌, ◌<◌, ◌^◌, ℕ, true, false, is_some, IfOk, IfErr, IfSome, OnOk, OnErr, Some, option_map};
+ghost use Rattle.seam_defs.specs.Settings.{AreLegal};
+ghost use Rattle.seam_order.specs.Held.{OrderView};
+ghost use Rattle.seam_call.specs.declared.call.Call.{Call as AnyCall};
+ghost use Rattle.seam_entity.specs.Here.{cell_count};
+ghost use Rattle.seam_entity.specs.Calls.{has_ready};
+ghost use Rattle.seam_entity.specs.Executing.{may_settle, may_execute, executed_ready, shows, with_deed};
+ghost use Rattle.seam_entity.specs.Preparing.{HasSpare, HasReady};
+ghost use Rattle.seam_steps.specs.CellCases.{survey_task, ready_call_task};
+ghost use Rattle.seam_cell.specs.Kept.{here_in, IsThere};
+ghost use Rattle.seam_cell.specs.Stepping.{IsReadyFor, IsDone, parts_of, slot_in, core_of};
+
+use crate::calls::Made;
+use crate::known::Known;
+use crate::news::Subject;
+use crate::places::Places;
+use crate::settle::{make_room, ready_for, settle_real};
+use seam_entity::{Msg, Real};
+use seam_machine::Out;
+use std::alloc::{AllocError, Global};
+
+/// The real after a task, where it is still here, and whether there was memory for the task.
+#[derive(Drop)]
+pub struct Tasked {
+    pub left: Option<Real>,
+    pub result: Result<(), AllocError>,
+}
+
+// Makes what the ready call takes of the real's least sender that has one.
+fn make_for_ready(alloc: Global, known: &Known, real: &mut Real) -> Result<Made, AllocError>
+    requires me { known.now.me < cell_count }
+    requires legal { AreLegal known.now.settings }
+    requires size { known.now.tree.size ≡ known.now.settings.size }
+    requires there { IsThere (here_in known.now) known.now.tree real.old.core }
+    requires ready { has_ready real.old.core.orders ≡ true }
+    requires may { may_execute real.old.core ≡ true }
+    ensures same { real.new.core ≡ real.old.core }
+    ensures room { OnOk result (HasSpare real.new) }
+    ensures state { (o : ℕ × OrderView AnyCall) (k : AnyCall) → HasReady real.old.core o k →
+        IfOk result (λ m. m.after.state ≡ (with_deed (here_in known.now) real.old.core k).state) }
+    ensures changed { (o : ℕ × OrderView AnyCall) (k : AnyCall) → HasReady real.old.core o k →
+        IfOk result (λ m. m.after.changed ≡ shows (here_in known.now) real.old.core k) }
+    ensures ready { (o : ℕ × OrderView AnyCall) (k : AnyCall) → HasReady real.old.core o k → let h = here_in known.now in
+        IfOk result (λ m. IsReadyFor h known.now.tree (executed_ready h real.old.core o k) (shows h real.old.core k) m.ready) }
+{
+    let after = real.prepare_ready(&known.defs)?;
+    let of = Subject {
+        defs: &known.defs,
+        ty: real.ty(),
+        version: real.version_after(&after),
+        state: &after.state,
+    };
+    let ready = ready_for(alloc, known, real, &of, after.changed)?;
+    Ok(Made { after, ready })
+}
+
+/// Ready-call task: the real executes the ready call of its least sender that has one, and settles.
+pub fn execute_ready(
+    alloc: Global,
+    known: &Known,
+    mut real: Real,
+    places: &mut Places,
+    out: &mut Out<Msg>,
+) -> Tasked
+    requires me { known.now.me < cell_count }
+    requires legal { AreLegal known.now.settings }
+    requires size { known.now.tree.size ≡ known.now.settings.size }
+    requires there { IsThere (here_in known.now) known.now.tree real.core }
+    requires ready { has_ready real.core.orders ≡ true }
+    requires may { may_execute real.core ≡ true }
+    ensures done { let r = real.core in let before = parts_of places.old out.old in OnOk result.result (IsDone
+        (ready_call_task (here_in known.now) known.now.tree (slot_in before r.entity r) (Some r)) r.entity r
+        (option_map core_of result.left) before (parts_of places.new out.new)) }
+    ensures witness { IfSome result.left (λ q. q.core.witness ≡ real.core.witness) }
+
+    // If allocation fails, the real comes back and nothing has changed.
+    ensures err { OnErr result.result (option_map core_of result.left ≡ Some real.core) }
+    ensures err_parts { OnErr result.result (parts_of places.new out.new ≡ parts_of places.old out.old) }
+{
+    let Ok(made) = make_for_ready(alloc, known, &mut real) else {
+        return Tasked {
+            left: Some(real),
+            result: Err(AllocError),
+        };
+    };
+    let Made { after, ready } = made;
+    if let Err(error) = make_room(&ready, places, out) {
+        return Tasked {
+            left: Some(real),
+            result: Err(error),
+        };
+    }
+    real.execute_ready_after(after);
+    Tasked {
+        left: settle_real(real, ready, places, out),
+        result: Ok(()),
+    }
+}
