@@ -2,7 +2,9 @@
 use Rattle.std.proofs.Common.{◌≡◌, ◌≢◌, ◌+◌, ℕ, Bool, true, false, List, [], ◌∷◌, ◌++◌, length, sym, ◌∙◌, ap, arith}
 use Rattle.std.proofs.Common.{cond, append_assoc, append-nil, length-append}
 use Rattle.std.specs.Prelude.{filter, ◌&&◌}
+use Rattle.std.specs.List.{AllByRecursion}
 use Rattle.std.proofs.lemmas.List.Elements.{filter-append, filter_map-append}
+use Rattle.std.proofs.lemmas.List.Sums.{fold-append}
 use Rattle.seam_defs.specs.declared.flags.Part.{Part}
 use Rattle.seam_call.specs.Calls.{is_from, same_part}
 use Rattle.seam_call.specs.Senders.{same_sender}
@@ -10,7 +12,8 @@ use Rattle.seam_call.specs.declared.sender.Sender.{Sender}
 use Rattle.seam_call.specs.declared.call.Call.{Call}
 use Rattle.seam_call.specs.declared.create.Create.{Create}
 use Rattle.seam_transcript.specs.Book.{Book, entries, called, creates_of, calls_of, accepted}
-use Rattle.seam_transcript.specs.Book.{with_entry}
+use Rattle.seam_transcript.specs.Book.{with_entry, divided, tree_of}
+use Rattle.seam_transcript.specs.OneCell.{IsOfOneCell}
 use Rattle.seam_transcript.specs.declared.verdict.Entry.{Entry}
 use Rattle.seam_transcript.specs.declared.verdict.Entry.TheVariants as entry
 use Rattle.seam_transcript.proofs.BookEntries.{creates_with_entry, differ}
@@ -23,11 +26,18 @@ accepted_with_entry : (b : Book) (x : Entry) (p : Part) (e : ℕ) (s : Sender) �
 accepted_with_entry b x p e s =
     ap (filter (is_from p e s)) (calls_with_entry b x) ∙ filter-append (is_from p e s) (calls_of (entries b)) (calls_of (x ∷ []))
 
--- as many entries as creates and calls
-pub entries_count : (xs : List Entry) → length (creates_of xs) + length (calls_of xs) ≡ length xs
-entries_count [] = omega arith
-entries_count (entry.Created c ∷ xs) = let rest = entries_count xs in omega (arith, rest)
-entries_count (entry.Called c ∷ xs) = let rest = entries_count xs in omega (arith, rest)
+-- as many entries as creates and calls, in one cell
+pub entries_count : (xs : List Entry) → AllByRecursion IsOfOneCell xs → length (creates_of xs) + length (calls_of xs) ≡ length xs
+entries_count [] all = omega arith
+entries_count (entry.Created c ∷ xs) (is, all) = let rest = entries_count xs all in omega (arith, rest)
+entries_count (entry.Called c ∷ xs) (is, all) = let rest = entries_count xs all in omega (arith, rest)
+entries_count (x ∷ xs) (is, all) = absurd is
+
+-- a create or a call leaves the tree
+pub tree_with_entry : (b : Book) (x : Entry) → IsOfOneCell x → tree_of (with_entry b x) ≡ tree_of b
+tree_with_entry b (entry.Created c) is = fold-append divided b.tree b.current (entry.Created c ∷ [])
+tree_with_entry b (entry.Called c) is = fold-append divided b.tree b.current (entry.Called c ∷ [])
+tree_with_entry b x is = absurd is
 
 -- ---- a call
 

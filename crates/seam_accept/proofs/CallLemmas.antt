@@ -1,20 +1,25 @@
 -- What a `call` and a `move` are judged to be.
-use Rattle.std.proofs.Common.{◌≡◌, ◌+◌, ◌-◌, ℕ, List, length, refl, sym, ◌∙◌, ap, subst, arith, Option, Some, None}
+use Rattle.std.proofs.Common.{◌≡◌, ◌+◌, ◌-◌, ℕ, false, List, length, refl, sym, ◌∙◌, ap, subst, arith, Option, Some, None}
 use Rattle.std.specs.Prelude.{MatchOption, slice_index}
 use Rattle.std.proofs.lemmas.Option.{none-some}
+use Rattle.std.proofs.lemmas.Bool.{false≢true}
 use Rattle.seam_value.specs.NumberWords.{SpellsPositive}
 use Rattle.seam_defs.specs.Types.{type_of, method_of, AreDefs}
 use Rattle.seam_defs.specs.Deeds.{part_of_deed}
 use Rattle.seam_defs.specs.declared.flags.Part.{Part}
 use Rattle.seam_defs.specs.declared.states.Deed.{Deed}
-use Rattle.seam_call.specs.BaseNodes.{IsBaseNode}
-use Rattle.seam_call.specs.declared.sender.Sender.TheVariants.{Base}
+use Rattle.seam_call.specs.BaseNodes.{IsBaseNode, IsBaseNodeOf}
+use Rattle.seam_call.specs.declared.sender.Sender.{Sender}
+use Rattle.seam_call.specs.declared.sender.Sender.TheVariants.{Base, Client}
 use Rattle.seam_call.specs.declared.create.Create.{Create}
 use Rattle.seam_toml.specs.declared.header.Header.{Header}
-use Rattle.seam_transcript.specs.Book.{Book, entries, creates_of, created_as, live_as, accepted, NamesSender, NamesLive, NamesMethod}
-use Rattle.seam_transcript.specs.Book.{SpellsArgs, HoldsAgainst, IsDead, IsFirst}
+use Rattle.seam_transcript.specs.Language.{sender_text}
+use Rattle.seam_transcript.specs.Book.{Book, entries, creates_of, created_as, live_as, accepted, has_client}
+use Rattle.seam_transcript.specs.Judging.{NamesSender, NamesLive, NamesMethod, MayCall}
+use Rattle.seam_transcript.specs.Judging.{SpellsArgs, HoldsAgainst, IsDead, IsFirst}
 use Rattle.seam_transcript.specs.declared.verdict.Entry.TheVariants.{Called}
 use Rattle.seam_transcript.specs.declared.verdict.Cause.TheVariants as cause
+use Rattle.seam_transcript.proofs.BookEntries.{live_is_created}
 use Rattle.seam_transcript.proofs.InOrderLemmas.{found_entity}
 use Rattle.seam_transcript.proofs.Verdicts.{positive_is_one, live_is_one, method_is_one}
 use Rattle.seam_accept.specs.Commands.{texts_of, asked_of}
@@ -40,9 +45,9 @@ pub record AreNamed (h : Header) (b : Book) (s e : List ℕ) (n entity : ℕ) : 
 
 -- and the entity was made
 live_named : (h : Header) (b : Book) (s e : List ℕ) (n entity : ℕ) (made : Create) → AreNamed h b s e n entity →
-    created_as b entity ≡ Some made → NamesLive b e made
+    live_as b entity ≡ Some made → NamesLive b e made
 live_named h b s e n entity made named is =
-    let same : made.entity ≡ entity = found_entity (creates_of (entries b)) entity made is in
+    let same : made.entity ≡ entity = found_entity (creates_of (entries b)) entity made (live_is_created b entity made is) in
     record { number = subst (SpellsPositive e) (sym same) named.number; lives = ap (live_as b) same ∙ is }
 
 not_dead : (b : Book) (e : List ℕ) (made : Create) → NamesLive b e made → ¬ (IsDead b e)
@@ -51,7 +56,7 @@ not_dead b e made live (m, spells, none) =
 
 -- no entity of the number was made
 pub dead_first : (h : Header) (b : Book) (s e : List ℕ) (n entity : ℕ) (w : DeedWords) → AreNamed h b s e n entity →
-    created_as b entity ≡ None → IsFirst (HoldsAgainst h b (asked_of s e w)) cause.Dead
+    live_as b entity ≡ None → IsFirst (HoldsAgainst h b (asked_of s e w)) cause.Dead
 dead_first h b s e n entity (words.Method m) named none = record {
   here = (entity, named.number, none);
   first = against_call h b s e m.name.now (texts_of m.arguments.now) _ (λ k. absurd (k entity named.number))
@@ -60,11 +65,33 @@ dead_first h b s e n entity (words.Method m) named none = record {
 dead_first h b s e n entity (words.Move m) named none = record {
   here = (entity, named.number, none);
   first = against_move h b s e m.x.now m.z.now _ (λ k. absurd (k entity named.number)) (λ k. absurd (k (Base n) named.sender))
-      (λ k. omega arith) (λ k. omega arith);
+      (λ k. omega arith) (λ k. omega arith) (λ k. omega arith);
 }
 
+-- no sender has the name
+pub no_sender_first : (h : Header) (b : Book) (s e : List ℕ) (entity : ℕ) (w : DeedWords) → SpellsPositive e entity →
+    ((n : ℕ) → IsBaseNodeOf h.settings.bases n → ¬ (sender_text (Base n) ≡ s)) → ((d : ℕ) → has_client b d ≡ false)
+    → IsFirst (HoldsAgainst h b (asked_of s e w)) cause.NoSender
+no_sender_first h b s e entity w number no_node alone = of_words w
+  where
+    no_one : (who : Sender) → ¬ (NamesSender h b s who)
+    no_one (Base n) names = no_node n names.there names.spelled
+    no_one (Client d) names = false≢true (sym (alone d) ∙ names.there)
+
+    of_words : (w : DeedWords) → IsFirst (HoldsAgainst h b (asked_of s e w)) cause.NoSender
+    of_words (words.Method m) = record {
+      here = no_one;
+      first = against_call h b s e m.name.now (texts_of m.arguments.now) _ (λ k. absurd (k entity number)) (λ k. omega arith)
+          (λ k. omega arith) (λ k. omega arith) (λ k. omega arith);
+    }
+    of_words (words.Move m) = record {
+      here = no_one;
+      first = against_move h b s e m.x.now m.z.now _ (λ k. absurd (k entity number)) (λ k. omega arith) (λ k. omega arith)
+          (λ k. omega arith) (λ k. omega arith);
+    }
+
 module _ (h : Header) (b : Book) (s e : List ℕ) (n entity : ℕ) (made : Create) (named : AreNamed h b s e n entity)
-    (is : created_as b entity ≡ Some made) where
+    (is : live_as b entity ≡ Some made) where
   live : NamesLive b e made
   live = live_named h b s e n entity made named is
 
@@ -75,14 +102,16 @@ module _ (h : Header) (b : Book) (s e : List ℕ) (n entity : ℕ) (made : Creat
       subst (λ (c : Create). NamesMethod (type_of h.defs c.ty) name m) (live_is_one b e other made names live) has
 
   method_there : (name : List ℕ) (m : ℕ) → NamesMethod (type_of h.defs made.ty) name m → (other : Create) → NamesLive b e other
-      → ((k : ℕ) → ¬ (NamesMethod (type_of h.defs other.ty) name k)) → ⊥
+      → ((who : Sender) (k : ℕ) → NamesSender h b s who → NamesMethod (type_of h.defs other.ty) name k →
+      ¬ (MayCall who other.entity (method_of (type_of h.defs other.ty) k))) → ⊥
   method_there name m has other names none =
-      none m (subst (λ (c : Create). NamesMethod (type_of h.defs c.ty) name m) (live_is_one b e made other live names) has)
+      none (Base n) m named.sender
+      (subst (λ (c : Create). NamesMethod (type_of h.defs c.ty) name m) (live_is_one b e made other live names) has) tt
 
   -- the words ask the entity for no deed
   pub no_deed_first : (w : DeedWords) (r : Refusal) → NoDeed h w (type_of h.defs made.ty) r → Refuses h b (asked_of s e w) r
   no_deed_first (words.Method m) (refusal.Cause cause.UnknownMethod) none = record {
-    here = (made, live, none);
+    here = (made, live, λ who m names has may. none m has);
     first = against_call h b s e m.name.now (texts_of m.arguments.now) _ (λ k. absurd (k entity named.number))
         (λ k. absurd (k (Base n) named.sender)) (λ k. absurd (not_dead b e made live k)) (λ k. omega arith) (λ k. omega arith);
   }
@@ -95,7 +124,7 @@ module _ (h : Header) (b : Book) (s e : List ℕ) (n entity : ℕ) (made : Creat
   no_deed_first (words.Move m) (refusal.Cause cause.IllTyped) none = record {
     here = none;
     first = against_move h b s e m.x.now m.z.now _ (λ k. absurd (k entity named.number)) (λ k. absurd (k (Base n) named.sender))
-        (λ k. absurd (not_dead b e made live k)) (λ k. omega arith);
+        (λ k. absurd (not_dead b e made live k)) (λ (other, names, none). absurd (none (Base n) named.sender tt)) (λ k. omega arith);
   }
   no_deed_first w refusal.NoMemory none = tt
   no_deed_first w (refusal.Cause k) none = absurd none
@@ -121,7 +150,7 @@ module _ (h : Header) (b : Book) (s e : List ℕ) (n entity : ℕ) (made : Creat
           sender = named.sender;
           made = made;
           live = live;
-          entity_ = sym (found_entity (creates_of (entries b)) entity made is);
+          entity_ = sym (found_entity (creates_of (entries b)) entity made (live_is_created b entity made is));
           deed_ = asks;
           part_ = part;
           next = next;
@@ -131,14 +160,14 @@ module _ (h : Header) (b : Book) (s e : List ℕ) (n entity : ℕ) (made : Creat
     }
     call_accepted (words.Move m) asks = record {
       none = against_move h b s e m.x.now m.z.now _ (λ k. k entity named.number) (λ k. k (Base n) named.sender)
-          (not_dead b e made live) (λ no. no asks.0 asks.1);
+          (not_dead b e made live) (λ (other, names, none). none (Base n) named.sender tt) (λ no. no asks.0 asks.1);
       adds = (
         _,
         record {
           sender = named.sender;
           made = made;
           live = live;
-          entity_ = sym (found_entity (creates_of (entries b)) entity made is);
+          entity_ = sym (found_entity (creates_of (entries b)) entity made (live_is_created b entity made is));
           deed_ = asks;
           part_ = part;
           next = next;

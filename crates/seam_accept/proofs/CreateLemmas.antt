@@ -6,7 +6,8 @@ use Rattle.seam_value.specs.NumberWords.{SpellsNumber, SpellsPositive}
 use Rattle.seam_value.proofs.NumberWords.{spells_one_number}
 use Rattle.seam_transcript.specs.Language.{Create}
 use Rattle.seam_toml.specs.declared.header.Header.{Header}
-use Rattle.seam_transcript.specs.Book.{Book, entries, creates_of, created_as, NamesType, HoldsAgainst, IsFirst}
+use Rattle.seam_transcript.specs.Book.{Book, entries, creates_of, created_as}
+use Rattle.seam_transcript.specs.Judging.{NamesType, HoldsAgainst, IsFirst}
 use Rattle.seam_transcript.specs.declared.verdict.Entry.TheVariants.{Created}
 use Rattle.seam_transcript.specs.declared.verdict.Cause.TheVariants as cause
 use Rattle.seam_transcript.specs.declared.limits.TheConstants.{MOST_ENTITIES}

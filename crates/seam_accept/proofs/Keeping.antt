@@ -1,7 +1,8 @@
 -- What a book in code holds after it kept a line.
 use Rattle.std.proofs.Common.{◌≡◌, ◌≢◌, ◌+◌, ◌-◌, ◌<◌, ℕ, Bool, true, false, List, [], ◌∷◌, ◌++◌, length, map, get_or, set, refl, sym}
 use Rattle.std.proofs.Common.{◌∙◌, ap, subst, arith, inl, inr, Option, Some, None, append-nil, length-append}
-use Rattle.std.specs.Prelude.{MatchOption, IfSome, slice_index, slice_set, ◌==◌, ◌&&◌}
+use Rattle.std.specs.Prelude.{MatchOption, IfSome, slice_index, slice_set, ◌==◌, ◌&&◌, find, filter, cond, is_some}
+use Rattle.std.specs.List.{list_any}
 use Rattle.std.specs.Ordering.{nat_cmp}
 use Rattle.std.specs.BTreeMap.{is_at}
 use Rattle.std.proofs.lemmas.List.{get_or-set_same, get_or-set_other, length-set, map-append}
@@ -20,7 +21,10 @@ use Rattle.seam_call.specs.declared.call.Call.{Call}
 use Rattle.seam_call.specs.declared.create.Create.{Create}
 use Rattle.seam_call.specs.declared.order.Order.{Order}
 use Rattle.seam_toml.specs.declared.header.Header.{Header}
-use Rattle.seam_transcript.specs.Book.{Book, created, called, creates_of, calls_of, created_as, accepted, with_entry}
+use Rattle.seam_transcript.specs.Book.{Book, entries, created, called, creates_of, calls_of, created_as, live_as, destroys, joins}
+use Rattle.seam_transcript.specs.Book.{has_client, accepted, with_entry, with_round_ended}
+use Rattle.seam_transcript.specs.declared.verdict.Entry.{Entry}
+use Rattle.seam_transcript.proofs.InOrderLemmas.{entries_after_round}
 use Rattle.seam_transcript.specs.declared.verdict.Entry.TheVariants as entry
 use Rattle.seam_accept.specs.Entities.{EntitiesRefine, EntityRefines, AreLast, IsNextCall, KeepsLast}
 use Rattle.seam_accept.specs.Entities.{entity_at, last_of, with_last}
@@ -29,7 +33,10 @@ use Rattle.seam_accept.specs.BookView.{BookView}
 use Rattle.seam_accept.specs.Refines.{Refines}
 use Rattle.seam_accept.specs.declared.entity.Entity.{Entity}
 use Rattle.seam_transcript.proofs.BookEntries.{same, differ, creates_with_call, created_with_call, created_here, created_other, not_before}
-use Rattle.seam_accept.proofs.Books.{accepted_own, accepted_other, from_other_entity, accepted_with_create, count_with_create}
+use Rattle.seam_transcript.specs.OneCell.{IsInOneCell}
+use Rattle.seam_transcript.proofs.OneCell.{all_live, no_clients, stays_with_entry, stays_after_round}
+use Rattle.seam_accept.proofs.Books.{tree_with_entry, accepted_own, accepted_other, from_other_entity, accepted_with_create}
+use Rattle.seam_accept.proofs.Books.{count_with_create}
 
 -- another number is not at the query of a number
 pub apart : (e other : ℕ) → other ≢ e → is_at (nat_cmp e) other ≡ false
@@ -49,49 +56,51 @@ pub record IsFresh (c : Create) (v : Entity) : Type 0 where
   pub nodes : (p : Part) → length (last_of p v) ≡ MOST_BASE_NODES
   pub last : (p : Part) (k : ℕ) → k < MOST_BASE_NODES → slice_index (last_of p v) k ≡ 0
 
-module _ (b : Book) (entities : List (ℕ × Entity)) (c : Create) (was : EntitiesRefine b entities) (none : created_as b c.entity ≡ None)
-  where
-    entity_made : (v : Entity) → IsFresh c v → EntityRefines (with_entry b (entry.Created c)) c.entity v
-    entity_made v fresh = record {
-      made = c;
-      is = created_here b c none;
-      ty = fresh.ty;
-      last = λ p. record {
-        nodes = fresh.nodes p;
-        each = λ k within. fresh.last p k within
-            ∙ ap length (sym (accepted_with_create b c p c.entity (Base (k + 1)) ∙ was.uncalled p c.entity (Base (k + 1)) none));
-      };
-    }
+module _ (size : ℕ) (b : Book) (entities : List (ℕ × Entity)) (c : Create) (was : EntitiesRefine b entities)
+    (none : created_as b c.entity ≡ None) (in_one : IsInOneCell size (with_entry b (entry.Created c))) where
+  entity_made : (v : Entity) → IsFresh c v → EntityRefines (with_entry b (entry.Created c)) c.entity v
+  entity_made v fresh = record {
+    made = c;
+    is = created_here b c none;
+    ty = fresh.ty;
+    last = λ p. record {
+      nodes = fresh.nodes p;
+      each = λ k within. fresh.last p k within
+          ∙ ap length (sym (accepted_with_create b c p c.entity (Base (k + 1)) ∙ was.uncalled p c.entity (Base (k + 1)) none));
+    };
+  }
 
-    entity_kept : (e : ℕ) (o : Option Entity) → c.entity ≢ e → MatchOption o (created_as b e ≡ None) (EntityRefines b e)
-        → MatchOption o (created_as (with_entry b (entry.Created c)) e ≡ None) (EntityRefines (with_entry b (entry.Created c)) e)
-    entity_kept e None ne is = created_other b c e ne ∙ is
-    entity_kept e (Some v) ne is = record {
-      made = is.made;
-      is = created_other b c e ne ∙ is.is;
-      ty = is.ty;
-      last = λ p. record {
-        nodes = (is.last p).nodes;
-        each = λ k within. (is.last p).each k within ∙ ap length (sym (accepted_with_create b c p e (Base (k + 1))));
-      };
-    }
+  entity_kept : (e : ℕ) (o : Option Entity) → c.entity ≢ e → MatchOption o (created_as b e ≡ None) (EntityRefines b e)
+      → MatchOption o (created_as (with_entry b (entry.Created c)) e ≡ None) (EntityRefines (with_entry b (entry.Created c)) e)
+  entity_kept e None ne is = created_other b c e ne ∙ is
+  entity_kept e (Some v) ne is = record {
+    made = is.made;
+    is = created_other b c e ne ∙ is.is;
+    ty = is.ty;
+    last = λ p. record {
+      nodes = (is.last p).nodes;
+      each = λ k within. (is.last p).each k within ∙ ap length (sym (accepted_with_create b c p e (Base (k + 1))));
+    };
+  }
 
-    -- the entities after one more was made
-    pub entities_with_create : (new : List (ℕ × Entity)) (v : Entity) → IsFresh c v → IsPut entities new c.entity v →
-        EntitiesRefine (with_entry b (entry.Created c)) new
-    entities_with_create new v fresh put = record {
-      count = put.count ∙ ap (λ (n : ℕ). n + 1) was.count ∙ sym (count_with_create b c);
-      each = λ e. elim (eqb_tells c.entity e) [
-        | inl is ↦ subst (λ (y : ℕ). MatchOption (entity_at new y) (created_as (with_entry b (entry.Created c)) y ≡ None)
-            (EntityRefines (with_entry b (entry.Created c)) y)) is.1
-            (subst (λ (o : Option Entity). MatchOption o (created_as (with_entry b (entry.Created c)) c.entity ≡ None)
-            (EntityRefines (with_entry b (entry.Created c)) c.entity)) (sym put.here) (entity_made v fresh))
-        | inr other ↦ subst (λ (o : Option Entity). MatchOption o (created_as (with_entry b (entry.Created c)) e ≡ None)
-            (EntityRefines (with_entry b (entry.Created c)) e)) (sym (put.others e (λ s. other.1 (sym s))))
-            (entity_kept e (entity_at entities e) other.1 (was.each e))
-      ];
-      uncalled = λ p e s not. accepted_with_create b c p e s ∙ was.uncalled p e s (not_before b c e not);
-    }
+  -- the entities after one more was made
+  pub entities_with_create : (new : List (ℕ × Entity)) (v : Entity) → IsFresh c v → IsPut entities new c.entity v →
+      EntitiesRefine (with_entry b (entry.Created c)) new
+  entities_with_create new v fresh put = record {
+    count = put.count ∙ ap (λ (n : ℕ). n + 1) was.count ∙ sym (count_with_create b c);
+    each = λ e. elim (eqb_tells c.entity e) [
+      | inl is ↦ subst (λ (y : ℕ). MatchOption (entity_at new y) (created_as (with_entry b (entry.Created c)) y ≡ None)
+          (EntityRefines (with_entry b (entry.Created c)) y)) is.1
+          (subst (λ (o : Option Entity). MatchOption o (created_as (with_entry b (entry.Created c)) c.entity ≡ None)
+          (EntityRefines (with_entry b (entry.Created c)) c.entity)) (sym put.here) (entity_made v fresh))
+      | inr other ↦ subst (λ (o : Option Entity). MatchOption o (created_as (with_entry b (entry.Created c)) e ≡ None)
+          (EntityRefines (with_entry b (entry.Created c)) e)) (sym (put.others e (λ s. other.1 (sym s))))
+          (entity_kept e (entity_at entities e) other.1 (was.each e))
+    ];
+    uncalled = λ p e s not. accepted_with_create b c p e s ∙ was.uncalled p e s (not_before b c e not);
+    lives = all_live size (with_entry b (entry.Created c)) in_one;
+    alone = no_clients size (with_entry b (entry.Created c)) in_one;
+  }
 
 -- ---- a call
 
@@ -190,10 +199,11 @@ not_called : (b : Book) (call : Call) (e : ℕ) → IsNextCall b call → create
 not_called b call e is none same_as = none-some is.made (sym none ∙ ap (created_as b) (sym same_as) ∙ is.is)
 
 -- the entities after a call was kept
-pub entities_with_call : (b : Book) (entities new : List (ℕ × Entity)) (call : Call) (n : ℕ) (v : Entity) → EntitiesRefine b entities →
-    IsNextCall b call → IsBaseNode n → call.sender ≡ Base n → entity_at entities call.entity ≡ Some v
-    → KeepsLast entities new n call → EntitiesRefine (with_entry b (entry.Called call)) new
-entities_with_call b entities new call n v was is node sender_is found kept =
+pub entities_with_call : (size : ℕ) (b : Book) (entities new : List (ℕ × Entity)) (call : Call) (n : ℕ) (v : Entity) →
+    EntitiesRefine b entities → IsNextCall b call → IsBaseNode n → call.sender ≡ Base n → entity_at entities call.entity ≡ Some v
+    → KeepsLast entities new n call → IsInOneCell size (with_entry b (entry.Called call)) →
+    EntitiesRefine (with_entry b (entry.Called call)) new
+entities_with_call size b entities new call n v was is node sender_is found kept in_one =
     let next : Book = with_entry b (entry.Called call) in
     let last : entity_at new call.entity ≡ Some (with_last call.part (n - 1) call.number v) =
     subst (λ (o : Option Entity). IfSome o (λ w. entity_at new call.entity ≡ Some (with_last call.part (n - 1) call.number w))) found
@@ -214,6 +224,8 @@ entities_with_call b entities new call n v was is node sender_is found kept =
       uncalled = λ p e s none.
           let none_before : created_as b e ≡ None = sym (created_with_call b call e) ∙ none in
           accepted_other b call p e s (from_other_entity call p e s (not_called b call e is none_before)) ∙ was.uncalled p e s none_before;
+      lives = all_live size next in_one;
+      alone = no_clients size next in_one;
     }
 
 -- ---- books
@@ -224,8 +236,11 @@ pub create_kept : (h : Header) (b : Book) (old new : BookView) (c : Create) (v :
     → new.creates ≡ old.creates ++ c ∷ [] → new.orders ≡ old.orders → Refines h (with_entry b (entry.Created c)) new
 create_kept h b old new c v was none fresh header tree put creates orders = record {
   header = header ∙ was.header;
-  tree = tree ∙ was.tree;
-  entities = entities_with_create b old.entities c was.entities none new.entities v fresh put;
+  tree = tree ∙ was.tree ∙ sym (tree_with_entry b (entry.Created c) tt);
+  in_one_cell = stays_with_entry h.settings.size b was.in_one_cell (entry.Created c) tt;
+  entities =
+      entities_with_create h.settings.size b old.entities c was.entities none
+      (stays_with_entry h.settings.size b was.in_one_cell (entry.Created c) tt) new.entities v fresh put;
   creates =
       creates ∙ ap (λ (cs : List Create). cs ++ c ∷ []) was.creates ∙ sym (filter_map-append created b.current (entry.Created c ∷ []));
   orders =
@@ -251,8 +266,11 @@ call_kept h b old new call n was is node sender_is header tree kept creates orde
     let there = next_is_there b old.entities call was.entities is in
     record {
       header = header ∙ was.header;
-      tree = tree ∙ was.tree;
-      entities = entities_with_call b old.entities new.entities call n there.0 was.entities is node sender_is there.1 kept;
+      tree = tree ∙ was.tree ∙ sym (tree_with_entry b (entry.Called call) tt);
+      in_one_cell = stays_with_entry h.settings.size b was.in_one_cell (entry.Called call) tt;
+      entities =
+          entities_with_call h.settings.size b old.entities new.entities call n there.0 was.entities is node sender_is there.1 kept
+          (stays_with_entry h.settings.size b was.in_one_cell (entry.Called call) tt);
       creates =
           creates ∙ was.creates
           ∙ sym (filter_map-append created b.current (entry.Called call ∷ []) ∙ append-nil (creates_of b.current));
@@ -261,3 +279,54 @@ call_kept h b old new call n was is node sender_is header tree kept creates orde
           ∙ sym (ap (map order_of) (filter_map-append called b.current (entry.Called call ∷ []))
           ∙ map-append order_of (calls_of b.current) (call ∷ []));
     }
+
+-- ---- the next round
+
+module _ (b d : Book) (same : entries b ≡ entries d) where
+  same_created : (e : ℕ) → created_as b e ≡ created_as d e
+  same_created e = ap (λ (xs : List Entry). find (λ (c : Create). c.entity == e) (creates_of xs)) same
+
+  same_accepted : (p : Part) (e : ℕ) (s : Sender) → accepted b p e s ≡ accepted d p e s
+  same_accepted p e s = ap (λ (xs : List Entry). filter (is_from p e s) (calls_of xs)) same
+
+  same_live : (e : ℕ) → live_as b e ≡ live_as d e
+  same_live e = λ i. cond (list_any (destroys e) (same i)) None (same_created e i)
+
+  same_client : (e : ℕ) → has_client b e ≡ has_client d e
+  same_client e = λ i. is_some (same_live e i) && list_any (joins e) (same i)
+
+  same_entity : (e : ℕ) (o : Option Entity) → MatchOption o (created_as b e ≡ None) (EntityRefines b e) →
+      MatchOption o (created_as d e ≡ None) (EntityRefines d e)
+  same_entity e None none = sym (same_created e) ∙ none
+  same_entity e (Some v) was = record {
+    made = was.made;
+    is = sym (same_created e) ∙ was.is;
+    ty = was.ty;
+    last = λ p. record {
+      nodes = (was.last p).nodes;
+      each = λ k within. (was.last p).each k within ∙ ap length (same_accepted p e (Base (k + 1)));
+    };
+  }
+
+  -- entities go with what was accepted, in whatever rounds
+  same_entities : (entities : List (ℕ × Entity)) → EntitiesRefine b entities → EntitiesRefine d entities
+  same_entities entities was = record {
+    count = was.count ∙ ap (λ (xs : List Entry). length (creates_of xs)) same;
+    each = λ e. same_entity e (entity_at entities e) (was.each e);
+    uncalled = λ p e s none. sym (same_accepted p e s) ∙ was.uncalled p e s (same_created e ∙ none);
+    lives = λ e. sym (same_live e) ∙ was.lives e ∙ same_created e;
+    alone = λ e. sym (same_client e) ∙ was.alone e;
+  }
+
+-- the book in code after the round ended
+pub round_kept : (h : Header) (b : Book) (old new : BookView) → Refines h b old → new.header ≡ old.header → new.tree ≡ old.tree →
+    new.entities ≡ old.entities → new.creates ≡ [] → new.orders ≡ [] → Refines h (with_round_ended b) new
+round_kept h b old new was header tree entities creates orders = record {
+  header = header ∙ was.header;
+  tree = tree ∙ was.tree;
+  in_one_cell = stays_after_round h.settings.size b was.in_one_cell;
+  entities = same_entities b (with_round_ended b) (sym (entries_after_round b)) new.entities
+      (subst (EntitiesRefine b) (sym entities) was.entities);
+  creates = creates;
+  orders = orders;
+}

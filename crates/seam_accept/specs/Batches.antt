@@ -2,7 +2,6 @@
 use Rattle.std.specs.Prelude.{ℕ, ◌+◌, ◌-◌, [], map, false}
 use Rattle.seam_defs.specs.declared.flags.Part.{Part}
 use Rattle.seam_defs.specs.declared.flags.Part.TheVariants as part
-use Rattle.seam_tree.specs.Division.{Division}
 use Rattle.seam_tree.specs.declared.area_table.TheConstants.{MOST_CELLS}
 use Rattle.seam_call.specs.Senders.{rank_of}
 use Rattle.seam_call.specs.declared.sender.Sender.{Sender}
@@ -10,12 +9,7 @@ use Rattle.seam_call.specs.declared.call.Call.{Call}
 use Rattle.seam_call.specs.declared.order.Order.{Order}
 use Rattle.seam_call.specs.declared.order.Order.TheVariants as order
 use Rattle.seam_call.specs.declared.order.Batch.{Batch}
-use Rattle.seam_toml.specs.declared.header.Header.{Header}
-use Rattle.seam_transcript.specs.Book.{Book, creates_of, calls_of}
-
--- one cell that is the whole space
-abbrev pub one_cell : Header → Division
-one_cell h = record { size = h.settings.size; cuts = [] }
+use Rattle.seam_transcript.specs.Book.{Book, creates_of, calls_of, tree_of}
 
 -- the node of a base node: the nodes are the cells, and after them the base nodes in the order of senders
 abbrev pub node_of : Sender → ℕ
@@ -30,10 +24,10 @@ passes_to part.Base c = order.Base c
 abbrev pub order_of : Call → ℕ × Order
 order_of c = (node_of c.sender, passes_to c.part c)
 
--- the open round of a book as a batch: what it creates and an order for each call, as they were accepted
-abbrev pub batch_of : Header → Book → Batch
-batch_of h b = record {
-  tree = one_cell h;
+-- the open round of a book as a batch: its tree, what it creates, and an order for each call, as they were accepted
+abbrev pub batch_of : Book → Batch
+batch_of b = record {
+  tree = tree_of b;
   creates = creates_of b.current;
   clients = [];
   orders = map order_of (calls_of b.current);

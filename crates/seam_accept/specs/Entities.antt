@@ -1,5 +1,5 @@
 -- What is kept of entities, beside the book of a transcript.
-use Rattle.std.specs.Prelude.{◌≡◌, ◌≢◌, ℕ, ◌+◌, ◌-◌, ◌<◌, List, [], length, Option, None, Some, MatchOption, IfSome}
+use Rattle.std.specs.Prelude.{◌≡◌, ◌≢◌, ℕ, ◌+◌, ◌-◌, ◌<◌, false, List, [], length, Option, None, Some, MatchOption, IfSome}
 use Rattle.std.specs.Prelude.{slice_index, slice_set}
 use Rattle.std.specs.Map.{lookup}
 use Rattle.std.specs.Ordering.{nat_cmp}
@@ -11,7 +11,7 @@ use Rattle.seam_call.specs.declared.sender.Sender.{Sender}
 use Rattle.seam_call.specs.declared.sender.Sender.TheVariants as sender
 use Rattle.seam_call.specs.declared.call.Call.{Call}
 use Rattle.seam_call.specs.declared.create.Create.{Create}
-use Rattle.seam_transcript.specs.Book.{Book, entries, creates_of, created_as, accepted}
+use Rattle.seam_transcript.specs.Book.{Book, entries, creates_of, created_as, live_as, accepted, has_client}
 use Rattle.seam_accept.specs.declared.entity.Entity.{Entity}
 
 -- the numbers of the base nodes' last calls to a part of an entity
@@ -40,11 +40,14 @@ pub record EntityRefines (b : Book) (e : ℕ) (v : Entity) : Type 0 where
 abbrev pub entity_at : List (ℕ × Entity) → ℕ → Option Entity
 entity_at entities e = lookup (is_at (nat_cmp e)) entities
 
--- The entities are those of the book. No call is for an entity that was not created.
+-- The entities are those of the book. No call is for an entity that was not created. So far each that was created lives, without a
+-- client.
 pub record EntitiesRefine (b : Book) (entities : List (ℕ × Entity)) : Type 0 where
   pub count : length entities ≡ length (creates_of (entries b))
   pub each : (e : ℕ) → MatchOption (entity_at entities e) (created_as b e ≡ None) (EntityRefines b e)
   pub uncalled : (p : Part) (e : ℕ) (s : Sender) → created_as b e ≡ None → accepted b p e s ≡ []
+  pub lives : (e : ℕ) → live_as b e ≡ created_as b e
+  pub alone : (e : ℕ) → has_client b e ≡ false
 
 -- a call that comes next: its entity is one of the book, and it has its sender's next number
 pub record IsNextCall (b : Book) (c : Call) : Type 0 where

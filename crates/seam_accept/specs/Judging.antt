@@ -7,7 +7,8 @@ use Rattle.seam_defs.specs.declared.types.TypeDef.{TypeDef}
 use Rattle.seam_defs.specs.declared.states.Deed.{Deed}
 use Rattle.seam_transcript.specs.Language.{Command}
 use Rattle.seam_toml.specs.declared.header.Header.{Header}
-use Rattle.seam_transcript.specs.Book.{Book, SpellsPosition, NamesMethod, SpellsArgs, NamesDeed, NamesMove, Adds, HoldsAgainst, IsFirst}
+use Rattle.seam_transcript.specs.Book.{Book}
+use Rattle.seam_transcript.specs.Judging.{SpellsPosition, NamesMethod, SpellsArgs, NamesDeed, NamesMove, Adds, HoldsAgainst, IsFirst}
 use Rattle.seam_transcript.specs.declared.verdict.Entry.{Entry}
 use Rattle.seam_transcript.specs.declared.verdict.Cause.{Cause}
 use Rattle.seam_transcript.specs.declared.verdict.Cause.TheVariants as cause

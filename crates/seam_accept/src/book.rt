@@ -3,7 +3,8 @@ ghost use Rattle.std.specs.Prelude.{◌≡◌, ◌≤◌, ℕ, None, length, IfO
 ghost use Rattle.seam_io.specs.Lines.{Content};
 ghost use Rattle.seam_defs.specs.Settings.{AreInRange};
 ghost use Rattle.seam_toml.specs.declared.header.Header.{Header as Headers};
-ghost use Rattle.seam_transcript.specs.Language.{Command as Commands};
+ghost use Rattle.seam_transcript.specs.Language.{words_of, NamesCommand};
+ghost use Rattle.seam_transcript.specs.declared.commands.Commands.TheVariants.{OneCell};
 ghost use Rattle.seam_transcript.specs.Book.{Book as Books, empty_book, open_lines, with_entry, with_round_ended, created_as};
 ghost use Rattle.seam_call.specs.declared.sender.Sender.TheVariants as Sender;
 ghost use Rattle.seam_accept.specs.Commands.{create_of, call_of};
@@ -19,7 +20,7 @@ use crate::judging::{Sent, judge_call, judge_create};
 use seam_call::{Batch, Call, Create, Order};
 use seam_defs::{Listed, Part};
 use seam_io::LONGEST_LINE;
-use seam_transcript::{Entry, Header};
+use seam_transcript::{Commands, Entry, Header};
 use seam_tree::{MOST_CELLS, Tree};
 use seam_words::MOST_WORDS;
 use std::alloc::{AllocError, Global};
@@ -58,7 +59,7 @@ impl Book {
     /// A book in which nothing was accepted, after this header.
     pub fn new(alloc: Global, header: &Header) -> Result<Book, AllocError>
         requires { AreInRange header.now.settings }
-        ensures { IfOk result (Refines header.now empty_book) }
+        ensures { IfOk result (Refines header.now (empty_book header.now.settings.size)) }
     {
         let settings = header.settings;
         let defs = header.defs.copy()?;
@@ -83,7 +84,7 @@ impl Book {
         ensures unchanged { OnErr result (self.new ≡ self.old) }
     {
         let mut table: [&[u8]; MOST_WORDS] = [b""; MOST_WORDS];
-        match read_line(line, &mut table) {
+        match read_line(Commands::OneCell, line, &mut table) {
             Ok(read) => match read {
                 Some(command) => self.accept_command(&command),
                 None => Ok(Accepted::Skipped),
@@ -94,6 +95,7 @@ impl Book {
 
     // Takes a command.
     fn accept_command(&mut self, command: &Command) -> Result<Accepted, Refusal>
+        requires { NamesCommand OneCell (words_of command.now) }
         ensures accepted { IfOk result (λ a. (h : Headers) (b : Books) → Refines h b self.old
             → CommandAccepted h b command.now a self.new) }
         ensures refused { IfErr result (λ r. (h : Headers) (b : Books) → Refines h b self.old → Refuses h b command.now r) }
@@ -103,6 +105,8 @@ impl Book {
             Form::Create(words) => self.accept_create(words),
             Form::Call(words) => self.accept_call(words),
             Form::Sync => Ok(Accepted::Synced),
+            // Those of more than one cell are not taken.
+            _ => unreachable!(),
         }
     }
 
@@ -167,7 +171,7 @@ impl Book {
 
     /// What the open round brings; the next one begins.
     pub fn take_batch(&mut self) -> Batch
-        ensures batch { (h : Headers) (b : Books) → Refines h b self.old → result ≡ batch_of h b }
+        ensures batch { (h : Headers) (b : Books) → Refines h b self.old → result ≡ batch_of b }
         ensures ended { (h : Headers) (b : Books) → Refines h b self.old → Refines h (with_round_ended b) self.new }
     {
         let creates = std::mem::replace(&mut self.creates, Vec::new(self.alloc));

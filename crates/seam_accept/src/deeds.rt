@@ -3,7 +3,7 @@ ghost use Rattle.std.specs.Prelude.{◌≡◌, ◌≢◌, ◌<◌, ℕ, List, If
 ghost use Rattle.seam_value.specs.Values.{Fits, text_of};
 ghost use Rattle.seam_value.specs.declared.values.Value.{Value as Values};
 ghost use Rattle.seam_defs.specs.Types.{IsType, method_of};
-ghost use Rattle.seam_transcript.specs.Book.{SpellsArgs, NamesDeed};
+ghost use Rattle.seam_transcript.specs.Judging.{SpellsArgs, NamesDeed};
 ghost use Rattle.seam_accept.specs.Commands.{texts_of};
 ghost use Rattle.seam_accept.specs.Judging.{Asks, NoMethod, NoDeed, IsIllTyped};
 

@@ -1,6 +1,7 @@
 // The judging of commands: the first cause that holds against one, or what it adds.
 ghost use Rattle.std.specs.Prelude.{◌≡◌, ◌<◌, ℕ, IfOk, IfErr, None};
-ghost use Rattle.seam_transcript.specs.Book.{Book, HoldsAgainst, IsFirst};
+ghost use Rattle.seam_transcript.specs.Book.{Book};
+ghost use Rattle.seam_transcript.specs.Judging.{HoldsAgainst, IsFirst};
 ghost use Rattle.seam_accept.specs.Commands.{create_of, call_of};
 ghost use Rattle.seam_accept.specs.Entities.{EntitiesRefine, entity_at};
 ghost use Rattle.seam_accept.specs.Judging.{Accepts, Refuses};

@@ -5,7 +5,7 @@ ghost use Rattle.seam_geo.specs.declared.pos.Pos.{Pos as Positions};
 ghost use Rattle.seam_defs.specs.Types.{IsType};
 ghost use Rattle.seam_call.specs.BaseNodes.{IsBaseNodeOf};
 ghost use Rattle.seam_transcript.specs.Language.{sender_text};
-ghost use Rattle.seam_transcript.specs.Book.{NamesType, NamesMethod, SpellsPosition};
+ghost use Rattle.seam_transcript.specs.Judging.{NamesType, NamesMethod, SpellsPosition};
 
 use crate::command::PlaceWords;
 use seam_call::{BaseNode, Sender};

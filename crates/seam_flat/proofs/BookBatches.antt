@@ -28,8 +28,8 @@ calls_passed (c ∷ calls) = by_part c.part (calls_passed calls)
     by_part part.Base rest = ap (λ (xs : List Call). c ∷ xs) rest
 
 -- the batch brings what was accepted
-pub batch_brings : (h : Header) (b : Book) → Brings b (batch_of h b)
-batch_brings h b = record { creates = refl; calls = calls_passed (calls_of b.current) }
+pub batch_brings : (b : Book) → Brings b (batch_of b)
+batch_brings b = record { creates = refl; calls = calls_passed (calls_of b.current) }
 
 -- an order without calls of any sender is empty
 no_sender_no_call : (order : List Call) → ((s : Sender) → of_sender s order ≡ []) → order ≡ []

@@ -6,7 +6,7 @@ use Rattle.seam_defs.specs.Deeds.{part_of_deed}
 use Rattle.seam_accept.specs.Entities.{last_of}
 use Rattle.seam_accept.specs.Judging.{NoDeed, Asks}
 use Rattle.seam_accept.proofs.CreateLemmas.{new_in_book}
-use Rattle.seam_accept.proofs.CallLemmas.{entity_found, dead_first, no_deed_first, call_accepted, next_number}
+use Rattle.seam_accept.proofs.CallLemmas.{entity_found, no_sender_first, dead_first, no_deed_first, call_accepted, next_number}
 use Rattle.seam_accept.proofs.judging.judge_call.Goals as goal
 
 pub returns-in_default-get-clause-refused : goal.returns-in_default-get-clause-refused
@@ -17,7 +17,13 @@ returns-in_default-get-clause-refused c = λ b was.
       number = c.in-Some.ensures;
       sender = record { there = c.in-Some-base_named.ensures.0; spelled = c.in-Some-base_named.ensures.1 };
     })
-    (new_in_book b c.args.entities.now.entries c.in-Some.entity was (sym c.in_default-get.ensures.value))
+    (was.lives c.in-Some.entity
+    ∙ new_in_book b c.args.entities.now.entries c.in-Some.entity was (sym c.in_default-get.ensures.value))
+
+pub returns-in_default-base_named-clause-refused : goal.returns-in_default-base_named-clause-refused
+returns-in_default-base_named-clause-refused c = λ b was.
+    no_sender_first c.args.header.now b c.args.words.now.sender_name.now c.args.words.now.entity.now c.in-Some.entity
+    c.args.words.now.deed c.in-Some.ensures c.in_default-base_named.ensures was.alone
 
 pub returns-in_err-deed-clause-refused : goal.returns-in_err-deed-clause-refused
 returns-in_err-deed-clause-refused c =
@@ -31,7 +37,7 @@ returns-in_err-deed-clause-refused c =
       number = c.in-Some.ensures;
       sender = record { there = c.in-Some-base_named.ensures.0; spelled = c.in-Some-base_named.ensures.1 };
     })
-    at.is c.args.words.now.deed c.in_err-deed.field-0.0
+    (was.lives c.in-Some.entity ∙ at.is) c.args.words.now.deed c.in_err-deed.field-0.0
     (subst (λ (x : TypeDef). NoDeed h c.args.words.now.deed x c.in_err-deed.field-0.0) t c.in_err-deed.ensures.none))
 
 pub returns-clause-accepted : goal.returns-clause-accepted
@@ -44,7 +50,7 @@ returns-clause-accepted c = λ b was.
       number = c.in-Some.ensures;
       sender = record { there = c.in-Some-base_named.ensures.0; spelled = c.in-Some-base_named.ensures.1 };
     })
-    at.is c.known.ensures c.in_ok-deed.deed c.part_of-part.result c.in_ok-number.number
+    (was.lives c.in-Some.entity ∙ at.is) c.known.ensures c.in_ok-deed.deed c.part_of-part.result c.in_ok-number.number
     (c.part_of-part.ensures ∙ ap (λ (x : TypeDef). part_of_deed x c.in_ok-deed.deed) t)
     (next_number b c.part_of-part.result c.in-Some.entity c.in-Some-base_named.node c.in_ok-number.number
     (last_of c.part_of-part.result c.in-Some-get.called.now) c.in-Some-base_named.ensures.0.node (at.last c.part_of-part.result)
