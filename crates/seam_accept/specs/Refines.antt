@@ -25,7 +25,7 @@ pub record Refines (h : Header) (b : Book) (book : BookView) : Type 0 where
   pub in_one_cell : IsInOneCell h.settings.size b
   pub entities : EntitiesRefine b book.entities
   pub creates : book.creates ≡ creates_of b.current
-  pub orders : book.orders ≡ map order_of (calls_of b.current)
+  pub orders : book.orders ≡ map (order_of h) (calls_of b.current)
 
 -- A line was not refused: the verdict on it, and the book after it.
 abbrev pub LineAccepted : Header → Book → Line → Accepted → BookView → Type 0

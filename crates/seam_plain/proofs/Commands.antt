@@ -15,7 +15,8 @@ use Rattle.seam_transcript.proofs.Verdicts.{positive_is_one, live_is_one, method
 
 -- of a sender that may call all
 pub named_is_not_refused : (h : Header) (b : Book) (s e n : List ℕ) (arguments : List (List ℕ)) (c : Call) → AreDefs h.defs →
-    ((d : ℕ) (m : Method) → MayCall c.sender d m) → NamesCall h b s e (NamesDeed arguments n) c → (k : Cause) → ¬ (HoldsAgainst h b (language.Call s e n arguments) k)
+    ((d : ℕ) (m : Method) → MayCall c.sender d m) → NamesCall h b s e (NamesDeed arguments n) c → (k : Cause) →
+    ¬ (HoldsAgainst h b (language.Call s e n arguments) k)
 named_is_not_refused h b s e n arguments c are may names cause.TooLong holds = holds
 named_is_not_refused h b s e n arguments c are may names (cause.BadWords f) holds = holds
 named_is_not_refused h b s e n arguments c are may names cause.NoCommand holds = holds

@@ -45,8 +45,8 @@ begins_at_once lines rest is =
 
 -- the lines after the header are those after its end
 pub after_separator : (lines rest : List Line) (text : List ℕ) → lines ≡ separator ∷ rest → IsEnded lines text
-    → (pieces last : List Piece) × (t : Standing) × Run (Step plain_header) (after_header plain_header 1) rest pieces t × EndsInput plain_header t last
-    × (text ≡ text_of builtin (pieces ++ last))
+    → (pieces last : List Piece) × (t : Standing) × Run (Step plain_header) (after_header plain_header 1) rest pieces t
+    × EndsInput plain_header t last × (text ≡ text_of builtin (pieces ++ last))
 after_separator lines rest text is (h, pieces, last, t, prints, ends, whole) =
     let same = header_is_one lines h plain_header prints.count 1 prints.rest rest prints.header (begins_at_once lines rest is) in (
       pieces,

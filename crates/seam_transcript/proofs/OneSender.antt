@@ -54,11 +54,11 @@ IsOwn one c = c.sender ≡ one c.entity
 abbrev AreOwn : (ℕ → Sender) → List Call → Type 0
 AreOwn one calls = All (IsOwn one) calls
 
-same_sender_of_itself : (s : Sender) → same_sender s s ≡ true
+pub same_sender_of_itself : (s : Sender) → same_sender s s ≡ true
 same_sender_of_itself (sender.Base n) = grind arith
 same_sender_of_itself (sender.Client e) = grind arith
 
-same_sender_is : (s t : Sender) → same_sender s t ≡ true → s ≡ t
+pub same_sender_is : (s t : Sender) → same_sender s t ≡ true → s ≡ t
 same_sender_is (sender.Base m) (sender.Base n) same = ap sender.Base (grind (arith, same))
 same_sender_is (sender.Client d) (sender.Client e) same = ap sender.Client (grind (arith, same))
 same_sender_is (sender.Base m) (sender.Client e) same = cc

@@ -124,7 +124,8 @@ module _ (began : SourceState) (sink : SinkState) (now : SourceState) (reader : 
       limit = most;
       printed = subst (Printed sink is pending')
           (ap (λ (x : List ℕ). text ++ x) taken.whole ∙ sym (text_with taken.pieces)) p;
-      run = run_with_line (Step g.header) (after_header g.header g.count) g.rest g.pieces g.standing line taken.pieces taken.next g.run taken.step;
+      run = run_with_line (Step g.header) (after_header g.header g.count) g.rest g.pieces g.standing line taken.pieces taken.next g.run
+          taken.step;
       refines = taken.after;
     }
 
@@ -138,7 +139,8 @@ module _ (began : SourceState) (sink : SinkState) (now : SourceState) (reader : 
         count = g.count;
         rest = g.rest ++ line ∷ [];
         header = header_of_append g.read g.header g.count g.rest (line ∷ []) g.begins;
-        run = run_with_line (Step g.header) (after_header g.header g.count) g.rest g.pieces g.standing line taken.pieces taken.next g.run taken.step;
+        run = run_with_line (Step g.header) (after_header g.header g.count) g.rest g.pieces g.standing line taken.pieces taken.next g.run
+          taken.step;
       },
       ap (λ (x : List ℕ). text ++ x) taken.whole ∙ sym (text_with taken.pieces),
     )

@@ -17,7 +17,7 @@ returns c =
     on_ok_weaker c.push_round.result
     (λ pushed t ready.
     let brings : Brings t.book c.take_batch-batch.result =
-    subst (λ (b : Batch). Brings t.book b) (sym (c.take_batch-batch.ensures.batch h t.book ready.book)) (batch_brings t.book) in (
+    subst (λ (b : Batch). Brings t.book b) (sym (c.take_batch-batch.ensures.batch h t.book ready.book)) (batch_brings h t.book) in (
       round_text h.defs (round_of h c.in_ok-self.field-0 pushed.0 (drop c.len-earlier.result c.add_calls.new.calls.items)
           c.add_calls.new.calls.items),
       round_ended h t old _ c.take_batch-batch.result pushed.0 c.len-earlier.result ready brings

@@ -11,7 +11,7 @@ pub returns : goal.returns
 returns c = λ h t ready.
     let ran = c.run.new.self in
     let brings : Brings t.book c.take_batch.result =
-    subst (λ (b : Batch). Brings t.book b) (sym (c.take_batch.ensures.batch h t.book ready.book)) (batch_brings t.book) in
+    subst (λ (b : Batch). Brings t.book b) (sym (c.take_batch.ensures.batch h t.book ready.book)) (batch_brings h t.book) in
     let holds = c.in_ok-run.ensures h t.book ready.table brings (book_calls_the_made h t.book c.args.self.now.book ready.book) in (
       round_text ran.header.defs (round_of c.in_ok-self.field-0 ran),
       round_ended h t c.args.self.now _ ran ready holds c.in_ok-self.ensures refl (c.take_batch.ensures.ended h t.book ready.book)
