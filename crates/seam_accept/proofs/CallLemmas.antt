@@ -1,72 +1,84 @@
 -- What a `call` and a `move` are judged to be.
-use Rattle.std.proofs.Common.{◌≡◌, ◌+◌, ◌-◌, ℕ, List, length, refl, sym, ◌∙◌, ap, subst, arith, Option, Some, None}
-use Rattle.std.specs.Prelude.{MatchOption, slice_index}
+use Rattle.std.proofs.Common.{◌≡◌, ◌+◌, ℕ, List, length, refl, sym, ◌∙◌, ap, subst, arith, Some, None}
 use Rattle.std.proofs.lemmas.Option.{none-some}
 use Rattle.seam_value.specs.NumberWords.{SpellsPositive}
 use Rattle.seam_defs.specs.Types.{type_of, method_of, AreDefs}
 use Rattle.seam_defs.specs.Deeds.{part_of_deed}
 use Rattle.seam_defs.specs.declared.flags.Part.{Part}
 use Rattle.seam_defs.specs.declared.states.Deed.{Deed}
-use Rattle.seam_call.specs.BaseNodes.{IsBaseNode}
-use Rattle.seam_call.specs.declared.sender.Sender.TheVariants.{Base}
+use Rattle.seam_call.specs.Senders.{IsSender}
+use Rattle.seam_call.specs.declared.sender.Sender.{Sender}
+use Rattle.seam_call.specs.declared.sender.Sender.TheVariants.{Base, Client}
 use Rattle.seam_call.specs.declared.create.Create.{Create}
 use Rattle.seam_toml.specs.declared.header.Header.{Header}
-use Rattle.seam_transcript.specs.Book.{Book, entries, creates_of, created_as, live_as, accepted, NamesSender, NamesLive, NamesMethod}
-use Rattle.seam_transcript.specs.Book.{SpellsArgs, HoldsAgainst, IsDead, IsFirst}
+use Rattle.seam_transcript.specs.Book.{Book, entries, creates_of, live_as, accepted}
+use Rattle.seam_transcript.specs.Judging.{NamesSender, NamesLive, NamesMethod, MayCall, MayMove, SpellsArgs, HoldsAgainst, IsDead, IsFirst}
 use Rattle.seam_transcript.specs.declared.verdict.Entry.TheVariants.{Called}
 use Rattle.seam_transcript.specs.declared.verdict.Cause.TheVariants as cause
+use Rattle.seam_transcript.proofs.BookEntries.{live_is_created}
 use Rattle.seam_transcript.proofs.InOrderLemmas.{found_entity}
-use Rattle.seam_transcript.proofs.Verdicts.{positive_is_one, live_is_one, method_is_one}
+use Rattle.seam_transcript.proofs.Verdicts.{positive_is_one, live_is_one, method_is_one, sender_is_one}
 use Rattle.seam_accept.specs.Commands.{texts_of, asked_of}
-use Rattle.seam_accept.specs.Entities.{EntitiesRefine, EntityRefines, AreLast, entity_at}
-use Rattle.seam_accept.specs.Judging.{Accepts, Refuses, Asks, NoDeed}
+use Rattle.seam_accept.specs.Judging.{Accepts, Refuses, Asks, MayAsk, NoDeed}
 use Rattle.seam_accept.specs.declared.answers.Refusal.{Refusal}
 use Rattle.seam_accept.specs.declared.answers.Refusal.TheVariants as refusal
 use Rattle.seam_accept.specs.declared.command.DeedWords.{DeedWords}
 use Rattle.seam_accept.specs.declared.command.DeedWords.TheVariants as words
-use Rattle.seam_accept.specs.declared.entity.Entity.{Entity}
 use Rattle.seam_accept.proofs.Causes.{against_call, against_move}
 
--- an entity that is there is one of the book
-pub entity_found : (b : Book) (entities : List (ℕ × Entity)) (e : ℕ) (v : Entity) → EntitiesRefine b entities →
-    entity_at entities e ≡ Some v → EntityRefines b e v
-entity_found b entities e v was found =
-    subst (λ (o : Option Entity). MatchOption o (created_as b e ≡ None) (EntityRefines b e)) found (was.each e)
+-- a sender that is there is one
+pub is_sender : (h : Header) (b : Book) (s : List ℕ) (who : Sender) → NamesSender h b s who → IsSender who
+is_sender h b s (Base n) names = names.there.node
+is_sender h b s (Client e) names = tt
+
+-- no sender that is there has the name
+pub no_sender_first : (h : Header) (b : Book) (s e : List ℕ) (entity : ℕ) (w : DeedWords) → SpellsPositive e entity →
+    ((who : Sender) → ¬ (NamesSender h b s who)) → IsFirst (HoldsAgainst h b (asked_of s e w)) cause.NoSender
+no_sender_first h b s e entity (words.Method m) number no_one = record {
+  here = no_one;
+  first = against_call h b s e m.name.now (texts_of m.arguments.now) _ (λ k. absurd (k entity number)) (λ k. omega arith)
+      (λ k. omega arith) (λ k. omega arith) (λ k. omega arith);
+}
+no_sender_first h b s e entity (words.Move m) number no_one = record {
+  here = no_one;
+  first = against_move h b s e m.x.now m.z.now _ (λ k. absurd (k entity number)) (λ k. omega arith) (λ k. omega arith)
+      (λ k. omega arith) (λ k. omega arith);
+}
 
 -- the words name a sender and a number of an entity
-pub record AreNamed (h : Header) (b : Book) (s e : List ℕ) (n entity : ℕ) : Type 0 where
+pub record AreNamed (h : Header) (b : Book) (s e : List ℕ) (who : Sender) (entity : ℕ) : Type 0 where
   pub number : SpellsPositive e entity
-  pub sender : NamesSender h b s (Base n)
-
--- and the entity was made
-live_named : (h : Header) (b : Book) (s e : List ℕ) (n entity : ℕ) (made : Create) → AreNamed h b s e n entity →
-    created_as b entity ≡ Some made → NamesLive b e made
-live_named h b s e n entity made named is =
-    let same : made.entity ≡ entity = found_entity (creates_of (entries b)) entity made is in
-    record { number = subst (SpellsPositive e) (sym same) named.number; lives = ap (live_as b) same ∙ is }
+  pub sender : NamesSender h b s who
 
 not_dead : (b : Book) (e : List ℕ) (made : Create) → NamesLive b e made → ¬ (IsDead b e)
 not_dead b e made live (m, spells, none) =
     none-some made (sym none ∙ ap (live_as b) (positive_is_one e m made.entity spells live.number) ∙ live.lives)
 
--- no entity of the number was made
-pub dead_first : (h : Header) (b : Book) (s e : List ℕ) (n entity : ℕ) (w : DeedWords) → AreNamed h b s e n entity →
-    created_as b entity ≡ None → IsFirst (HoldsAgainst h b (asked_of s e w)) cause.Dead
-dead_first h b s e n entity (words.Method m) named none = record {
+-- no entity of the number lives
+pub dead_first : (h : Header) (b : Book) (s e : List ℕ) (who : Sender) (entity : ℕ) (w : DeedWords) → AreNamed h b s e who entity →
+    live_as b entity ≡ None → IsFirst (HoldsAgainst h b (asked_of s e w)) cause.Dead
+dead_first h b s e who entity (words.Method m) named none = record {
   here = (entity, named.number, none);
   first = against_call h b s e m.name.now (texts_of m.arguments.now) _ (λ k. absurd (k entity named.number))
-      (λ k. absurd (k (Base n) named.sender)) (λ k. omega arith) (λ k. omega arith) (λ k. omega arith);
+      (λ k. absurd (k who named.sender)) (λ k. omega arith) (λ k. omega arith) (λ k. omega arith);
 }
-dead_first h b s e n entity (words.Move m) named none = record {
+dead_first h b s e who entity (words.Move m) named none = record {
   here = (entity, named.number, none);
-  first = against_move h b s e m.x.now m.z.now _ (λ k. absurd (k entity named.number)) (λ k. absurd (k (Base n) named.sender))
-      (λ k. omega arith) (λ k. omega arith);
+  first = against_move h b s e m.x.now m.z.now _ (λ k. absurd (k entity named.number)) (λ k. absurd (k who named.sender))
+      (λ k. omega arith) (λ k. omega arith) (λ k. omega arith);
 }
 
-module _ (h : Header) (b : Book) (s e : List ℕ) (n entity : ℕ) (made : Create) (named : AreNamed h b s e n entity)
-    (is : created_as b entity ≡ Some made) where
+module _ (h : Header) (b : Book) (s e : List ℕ) (who : Sender) (entity : ℕ) (made : Create) (named : AreNamed h b s e who entity)
+    (is : live_as b entity ≡ Some made) where
+  same_number : made.entity ≡ entity
+  same_number = found_entity (creates_of (entries b)) entity made (live_is_created b entity made is)
+
   live : NamesLive b e made
-  live = live_named h b s e n entity made named is
+  live = record { number = subst (SpellsPositive e) (sym same_number) named.number; lives = ap (live_as b) same_number ∙ is }
+
+  -- the name names no other sender
+  same_one : (other : Sender) → NamesSender h b s other → other ≡ who
+  same_one other names = sender_is_one other who (names.spelled ∙ sym named.sender.spelled)
 
   -- a method of the name for the entity of another name of it is one for this
   same_method : (other : Create) (name : List ℕ) (m : ℕ) → NamesLive b e other → NamesMethod (type_of h.defs other.ty) name m →
@@ -74,41 +86,69 @@ module _ (h : Header) (b : Book) (s e : List ℕ) (n entity : ℕ) (made : Creat
   same_method other name m names has =
       subst (λ (c : Create). NamesMethod (type_of h.defs c.ty) name m) (live_is_one b e other made names live) has
 
-  method_there : (name : List ℕ) (m : ℕ) → NamesMethod (type_of h.defs made.ty) name m → (other : Create) → NamesLive b e other
-      → ((k : ℕ) → ¬ (NamesMethod (type_of h.defs other.ty) name k)) → ⊥
-  method_there name m has other names none =
-      none m (subst (λ (c : Create). NamesMethod (type_of h.defs c.ty) name m) (live_is_one b e made other live names) has)
+  -- there is a method that the sender may call
+  method_there : (name : List ℕ) (m : ℕ) → NamesMethod (type_of h.defs made.ty) name m →
+      MayCall who entity (method_of (type_of h.defs made.ty) m) → (other : Create) → NamesLive b e other
+      → ((one : Sender) (k : ℕ) → NamesSender h b s one → NamesMethod (type_of h.defs other.ty) name k →
+      ¬ (MayCall one other.entity (method_of (type_of h.defs other.ty) k))) → ⊥
+  method_there name m has may other names none =
+      let one = live_is_one b e made other live names in
+      none who m named.sender (subst (λ (c : Create). NamesMethod (type_of h.defs c.ty) name m) one has)
+      (subst (λ (c : Create). MayCall who c.entity (method_of (type_of h.defs c.ty) m)) one
+      (subst (λ (n : ℕ). MayCall who n (method_of (type_of h.defs made.ty) m)) (sym same_number) may))
 
-  -- the words ask the entity for no deed
-  pub no_deed_first : (w : DeedWords) (r : Refusal) → NoDeed h w (type_of h.defs made.ty) r → Refuses h b (asked_of s e w) r
+  move_there : MayMove who entity → (other : Create) → NamesLive b e other →
+      ((one : Sender) → NamesSender h b s one → ¬ (MayMove one other.entity)) → ⊥
+  move_there may other names none =
+      none who named.sender (subst (λ (c : Create). MayMove who c.entity) (live_is_one b e made other live names)
+      (subst (MayMove who) (sym same_number) may))
+
+  -- the words ask the entity for no deed that the sender may ask for
+  pub no_deed_first : (w : DeedWords) (r : Refusal) → NoDeed h who entity w (type_of h.defs made.ty) r → Refuses h b (asked_of s e w) r
   no_deed_first (words.Method m) (refusal.Cause cause.UnknownMethod) none = record {
-    here = (made, live, none);
+    here = (
+      made,
+      live,
+      λ other k names has may. none k has
+          (subst (λ (n : ℕ). MayCall who n (method_of (type_of h.defs made.ty) k)) same_number
+          (subst (λ (x : Sender). MayCall x made.entity (method_of (type_of h.defs made.ty) k)) (same_one other names) may)),
+    );
     first = against_call h b s e m.name.now (texts_of m.arguments.now) _ (λ k. absurd (k entity named.number))
-        (λ k. absurd (k (Base n) named.sender)) (λ k. absurd (not_dead b e made live k)) (λ k. omega arith) (λ k. omega arith);
+        (λ k. absurd (k who named.sender)) (λ k. absurd (not_dead b e made live k)) (λ k. omega arith) (λ k. omega arith);
   }
-  no_deed_first (words.Method m) (refusal.Cause cause.IllTyped) (k, has, none) = record {
+  no_deed_first (words.Method m) (refusal.Cause cause.IllTyped) (k, has, may, none) = record {
     here = (made, k, live, has, none);
     first = against_call h b s e m.name.now (texts_of m.arguments.now) _ (λ k. absurd (k entity named.number))
-        (λ k. absurd (k (Base n) named.sender)) (λ k. absurd (not_dead b e made live k))
-        (λ (other, names, none). absurd (method_there m.name.now k has other names none)) (λ k. omega arith);
+        (λ k. absurd (k who named.sender)) (λ k. absurd (not_dead b e made live k))
+        (λ (other, names, none). absurd (method_there m.name.now k has may other names none)) (λ k. omega arith);
   }
-  no_deed_first (words.Move m) (refusal.Cause cause.IllTyped) none = record {
+  no_deed_first (words.Move m) (refusal.Cause cause.UnknownMethod) not = record {
+    here = (
+      made,
+      live,
+      λ other names may. not (subst (MayMove who) same_number (subst (λ (x : Sender). MayMove x made.entity) (same_one other names) may)),
+    );
+    first = against_move h b s e m.x.now m.z.now _ (λ k. absurd (k entity named.number)) (λ k. absurd (k who named.sender))
+        (λ k. absurd (not_dead b e made live k)) (λ k. omega arith) (λ k. omega arith);
+  }
+  no_deed_first (words.Move m) (refusal.Cause cause.IllTyped) (may, none) = record {
     here = none;
-    first = against_move h b s e m.x.now m.z.now _ (λ k. absurd (k entity named.number)) (λ k. absurd (k (Base n) named.sender))
-        (λ k. absurd (not_dead b e made live k)) (λ k. omega arith);
+    first = against_move h b s e m.x.now m.z.now _ (λ k. absurd (k entity named.number)) (λ k. absurd (k who named.sender))
+        (λ k. absurd (not_dead b e made live k)) (λ (other, names, none). absurd (move_there may other names none)) (λ k. omega arith);
   }
   no_deed_first w refusal.NoMemory none = tt
   no_deed_first w (refusal.Cause k) none = absurd none
 
-  -- the words ask it for a deed
+  -- the words ask it for a deed that the sender may ask for
   module _ (are : AreDefs h.defs) (d : Deed) (p : Part) (number : ℕ) (part : p ≡ part_of_deed (type_of h.defs made.ty) d)
-      (next : number ≡ length (accepted b p entity (Base n)) + 1) where
-    pub call_accepted : (w : DeedWords) → Asks h w (type_of h.defs made.ty) d →
-        Accepts h b (asked_of s e w) (Called (record { entity = entity; part = p; sender = Base n; number = number; deed = d }))
-    call_accepted (words.Method m) asks = record {
+      (next : number ≡ length (accepted b p entity who) + 1) where
+    pub call_accepted : (w : DeedWords) → Asks h w (type_of h.defs made.ty) d → MayAsk who entity (type_of h.defs made.ty) d →
+        Accepts h b (asked_of s e w) (Called (record { entity = entity; part = p; sender = who; number = number; deed = d }))
+    call_accepted (words.Method m) asks may = record {
       none = against_call h b s e m.name.now (texts_of m.arguments.now) _ (λ k. k entity named.number)
-          (λ k. k (Base n) named.sender) (not_dead b e made live)
-          (λ (other, names, none). method_there m.name.now asks.0 asks.2 other names none)
+          (λ k. k who named.sender) (not_dead b e made live)
+          (λ (other, names, none). method_there m.name.now asks.0 asks.2
+          (subst (MayAsk who entity (type_of h.defs made.ty)) asks.4 may) other names none)
           (λ (other, k, names, has, none).
           let same = live_is_one b e other made names live in
           let method : k ≡ asks.0 =
@@ -121,7 +161,7 @@ module _ (h : Header) (b : Book) (s e : List ℕ) (n entity : ℕ) (made : Creat
           sender = named.sender;
           made = made;
           live = live;
-          entity_ = sym (found_entity (creates_of (entries b)) entity made is);
+          entity_ = sym same_number;
           deed_ = asks;
           part_ = part;
           next = next;
@@ -129,16 +169,18 @@ module _ (h : Header) (b : Book) (s e : List ℕ) (n entity : ℕ) (made : Creat
         refl,
       );
     }
-    call_accepted (words.Move m) asks = record {
-      none = against_move h b s e m.x.now m.z.now _ (λ k. k entity named.number) (λ k. k (Base n) named.sender)
-          (not_dead b e made live) (λ no. no asks.0 asks.1);
+    call_accepted (words.Move m) asks may = record {
+      none = against_move h b s e m.x.now m.z.now _ (λ k. k entity named.number) (λ k. k who named.sender)
+          (not_dead b e made live)
+          (λ (other, names, none). move_there (subst (MayAsk who entity (type_of h.defs made.ty)) asks.2 may) other names none)
+          (λ no. no asks.0 asks.1);
       adds = (
         _,
         record {
           sender = named.sender;
           made = made;
           live = live;
-          entity_ = sym (found_entity (creates_of (entries b)) entity made is);
+          entity_ = sym same_number;
           deed_ = asks;
           part_ = part;
           next = next;
@@ -146,13 +188,3 @@ module _ (h : Header) (b : Book) (s e : List ℕ) (n entity : ℕ) (made : Creat
         refl,
       );
     }
-
--- the number that comes after the last one kept
-pub next_number : (b : Book) (p : Part) (e n number : ℕ) (last : List ℕ) → IsBaseNode n → AreLast b p e last →
-    number ≡ slice_index last (n - 1) + 1 → number ≡ length (accepted b p e (Base n)) + 1
-next_number b p e n number last node was is =
-    let from_one = node.from_one in
-    let most = node.most in
-    let place : n - 1 + 1 ≡ n = omega (arith, from_one) in
-    is ∙ ap (λ (k : ℕ). k + 1) (was.each (n - 1) (omega (arith, from_one, most)))
-    ∙ ap (λ (k : ℕ). length (accepted b p e (Base k)) + 1) place

@@ -2,7 +2,8 @@
 use Rattle.std.proofs.Common.{ℕ, List}
 use Rattle.seam_transcript.specs.Language.{Create, Call, Move}
 use Rattle.seam_toml.specs.declared.header.Header.{Header}
-use Rattle.seam_transcript.specs.Book.{Book, HoldsAgainst}
+use Rattle.seam_transcript.specs.Book.{Book}
+use Rattle.seam_transcript.specs.Judging.{HoldsAgainst}
 use Rattle.seam_transcript.specs.declared.verdict.Cause.{Cause}
 use Rattle.seam_transcript.specs.declared.verdict.Cause.TheVariants as cause
 
@@ -41,10 +42,12 @@ pub against_move : (h : Header) (b : Book) (s e x z : List ℕ) (P : Cause → T
     → (HoldsAgainst h b (Move s e x z) cause.BadNumber → P cause.BadNumber)
     → (HoldsAgainst h b (Move s e x z) cause.NoSender → P cause.NoSender)
     → (HoldsAgainst h b (Move s e x z) cause.Dead → P cause.Dead)
+    → (HoldsAgainst h b (Move s e x z) cause.UnknownMethod → P cause.UnknownMethod)
     → (HoldsAgainst h b (Move s e x z) cause.IllTyped → P cause.IllTyped)
     → (k : Cause) → HoldsAgainst h b (Move s e x z) k → P k
-against_move h b s e x z P number sender dead ill cause.BadNumber holds = number holds
-against_move h b s e x z P number sender dead ill cause.NoSender holds = sender holds
-against_move h b s e x z P number sender dead ill cause.Dead holds = dead holds
-against_move h b s e x z P number sender dead ill cause.IllTyped holds = ill holds
-against_move h b s e x z P number sender dead ill k holds = absurd holds
+against_move h b s e x z P number sender dead unknown ill cause.BadNumber holds = number holds
+against_move h b s e x z P number sender dead unknown ill cause.NoSender holds = sender holds
+against_move h b s e x z P number sender dead unknown ill cause.Dead holds = dead holds
+against_move h b s e x z P number sender dead unknown ill cause.UnknownMethod holds = unknown holds
+against_move h b s e x z P number sender dead unknown ill cause.IllTyped holds = ill holds
+against_move h b s e x z P number sender dead unknown ill k holds = absurd holds

@@ -1,26 +1,19 @@
 -- What a `create` is judged to be.
-use Rattle.std.proofs.Common.{◌≡◌, ◌<◌, ◌≤◌, ℕ, List, length, refl, sym, ◌∙◌, ap, subst, arith, false, Option, Some, None, ◌⊎◌, inl, inr}
-use Rattle.std.specs.Prelude.{MatchOption, is_some}
+use Rattle.std.proofs.Common.{◌≡◌, ◌<◌, ◌≤◌, ℕ, List, length, refl, sym, ◌∙◌, ap, arith, false, Option, Some, None, ◌⊎◌, inl, inr}
+use Rattle.std.specs.Prelude.{is_some}
 use Rattle.std.proofs.lemmas.Bool.{false≢true}
 use Rattle.seam_value.specs.NumberWords.{SpellsNumber, SpellsPositive}
 use Rattle.seam_value.proofs.NumberWords.{spells_one_number}
 use Rattle.seam_transcript.specs.Language.{Create}
 use Rattle.seam_toml.specs.declared.header.Header.{Header}
-use Rattle.seam_transcript.specs.Book.{Book, entries, creates_of, created_as, NamesType, HoldsAgainst, IsFirst}
+use Rattle.seam_transcript.specs.Book.{Book, entries, creates_of, created_as}
+use Rattle.seam_transcript.specs.Judging.{NamesType, HoldsAgainst, IsFirst}
 use Rattle.seam_transcript.specs.declared.verdict.Entry.TheVariants.{Created}
 use Rattle.seam_transcript.specs.declared.verdict.Cause.TheVariants as cause
 use Rattle.seam_transcript.specs.declared.limits.TheConstants.{MOST_ENTITIES}
 use Rattle.seam_transcript.proofs.Verdicts.{positive_is_one}
-use Rattle.seam_accept.specs.Entities.{EntitiesRefine, EntityRefines, entity_at}
 use Rattle.seam_accept.specs.Judging.{Accepts}
-use Rattle.seam_accept.specs.declared.entity.Entity.{Entity}
 use Rattle.seam_accept.proofs.Causes.{against_create}
-
--- an entity that is not there is not in the book
-pub new_in_book : (b : Book) (entities : List (ℕ × Entity)) (e : ℕ) → EntitiesRefine b entities → entity_at entities e ≡ None →
-    created_as b e ≡ None
-new_in_book b entities e was none =
-    subst (λ (o : Option Entity). MatchOption o (created_as b e ≡ None) (EntityRefines b e)) none (was.each e)
 
 -- there is nothing where a test for something fails
 pub none_of_false : {X : Type 0} (o : Option X) → is_some o ≡ false → o ≡ None

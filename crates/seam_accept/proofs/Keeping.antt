@@ -1,39 +1,89 @@
 -- What a book in code holds after it kept a line.
-use Rattle.std.proofs.Common.{◌≡◌, ◌≢◌, ◌+◌, ◌-◌, ◌<◌, ℕ, Bool, true, false, List, [], ◌∷◌, ◌++◌, length, map, get_or, set, refl, sym}
-use Rattle.std.proofs.Common.{◌∙◌, ap, subst, arith, inl, inr, Option, Some, None, append-nil, length-append}
-use Rattle.std.specs.Prelude.{MatchOption, IfSome, slice_index, slice_set, ◌==◌, ◌&&◌}
-use Rattle.std.specs.Ordering.{nat_cmp}
-use Rattle.std.specs.BTreeMap.{is_at}
-use Rattle.std.proofs.lemmas.List.{get_or-set_same, get_or-set_other, length-set, map-append}
+use Rattle.std.proofs.Common.{◌≡◌, ◌≢◌, ◌+◌, ℕ, Bool, true, false, List, [], ◌∷◌, ◌++◌, length, map, refl, sym}
+use Rattle.std.proofs.Common.{◌∙◌, ap, subst, inl, inr, Option, Some, None, append-nil, length-append}
+use Rattle.std.specs.Prelude.{MatchOption, IfSome, ◌==◌, ◌&&◌, ◌||◌, not, find, filter, cond}
+use Rattle.std.specs.List.{list_any}
+use Rattle.std.proofs.lemmas.List.{map-append}
 use Rattle.std.proofs.lemmas.List.Elements.{filter_map-append}
 use Rattle.std.proofs.lemmas.Option.{none-some}
-use Rattle.std.proofs.lemmas.Bool.Decides.{eqb_tells, nat_tests}
+use Rattle.std.proofs.lemmas.Bool.Decides.{eqb_tells}
+use Rattle.seam_value.specs.NumberWords.{IsWhole}
 use Rattle.seam_defs.specs.declared.flags.Part.{Part}
 use Rattle.seam_defs.specs.declared.flags.Part.TheVariants as part
-use Rattle.seam_defs.specs.declared.limits.TheConstants.{MOST_BASE_NODES}
-use Rattle.seam_call.specs.BaseNodes.{IsBaseNode}
 use Rattle.seam_call.specs.Calls.{is_from, same_part}
-use Rattle.seam_call.specs.Senders.{same_sender}
+use Rattle.seam_call.specs.Senders.{IsSender, same_sender}
 use Rattle.seam_call.specs.declared.sender.Sender.{Sender}
-use Rattle.seam_call.specs.declared.sender.Sender.TheVariants.{Base}
 use Rattle.seam_call.specs.declared.call.Call.{Call}
 use Rattle.seam_call.specs.declared.create.Create.{Create}
 use Rattle.seam_call.specs.declared.order.Order.{Order}
 use Rattle.seam_toml.specs.declared.header.Header.{Header}
-use Rattle.seam_transcript.specs.Book.{Book, created, called, creates_of, calls_of, created_as, accepted, with_entry}
+use Rattle.seam_transcript.specs.Book.{Book, entries, created, called, creates_of, calls_of, created_as, destroys, joins}
+use Rattle.seam_transcript.specs.Book.{accepted, with_entry}
+use Rattle.seam_transcript.specs.Book.{with_round_ended}
+use Rattle.seam_transcript.specs.declared.verdict.Entry.{Entry}
 use Rattle.seam_transcript.specs.declared.verdict.Entry.TheVariants as entry
-use Rattle.seam_accept.specs.Entities.{EntitiesRefine, EntityRefines, AreLast, IsNextCall, KeepsLast}
-use Rattle.seam_accept.specs.Entities.{entity_at, last_of, with_last}
+use Rattle.seam_transcript.proofs.BookEntries.{same, created_here, created_with_call}
+use Rattle.seam_transcript.proofs.InOrderLemmas.{entries_after_round}
+use Rattle.seam_transcript.proofs.OneCell.{stays_with_entry, stays_after_round}
+use Rattle.seam_transcript.proofs.OneSender.{same_sender_is}
+use Rattle.seam_accept.specs.Last.{number_of}
+use Rattle.seam_accept.specs.Entities.{last_of, Remembers, EntitiesRefine, EntityRefines, IsUnknown, IsNextCall}
+use Rattle.seam_accept.specs.Entities.{ChangesOne, KeepsLast, entity_at}
 use Rattle.seam_accept.specs.Batches.{order_of}
 use Rattle.seam_accept.specs.BookView.{BookView}
 use Rattle.seam_accept.specs.Refines.{Refines}
 use Rattle.seam_accept.specs.declared.entity.Entity.{Entity}
-use Rattle.seam_transcript.proofs.BookEntries.{same, differ, creates_with_call, created_with_call, created_here, created_other, not_before}
-use Rattle.seam_accept.proofs.Books.{accepted_own, accepted_other, from_other_entity, accepted_with_create, count_with_create}
+use Rattle.seam_accept.proofs.NamedEntities.{entity_unknown}
+use Rattle.seam_accept.proofs.Books.{Spares, created_same, destroyed_same, joined_same, accepted_same, accepted_with_entry, any_with}
+use Rattle.seam_accept.proofs.Books.{spares_create, spares_call, count_with_create, count_without_create, tree_with_entry}
 
--- another number is not at the query of a number
-pub apart : (e other : ℕ) → other ≢ e → is_at (nat_cmp e) other ≡ false
-apart e other ne = grind (arith, nat_tests)
+-- ---- entities that an entry is not about
+
+abbrev pub IsKept : Book → ℕ → Option Entity → Type 0
+IsKept b e o = MatchOption o (IsUnknown b e) (EntityRefines b e)
+
+pub spared : (b : Book) (x : Entry) (e : ℕ) (o : Option Entity) → Spares x e → IsKept b e o → IsKept (with_entry b x) e o
+spared b x e None spares was = record {
+  uncreated = created_same b x e spares ∙ was.uncreated;
+  undestroyed = destroyed_same b x e spares ∙ was.undestroyed;
+  unjoined = joined_same b x e spares ∙ was.unjoined;
+  uncalled = λ p s. accepted_same b x e spares p s ∙ was.uncalled p s;
+}
+spared b x e (Some v) spares was = record {
+  made = was.made;
+  is = created_same b x e spares ∙ was.is;
+  whole = was.whole;
+  ty = was.ty;
+  live = was.live ∙ ap not (sym (destroyed_same b x e spares));
+  joined = was.joined ∙ sym (joined_same b x e spares);
+  last = λ p s is. was.last p s is ∙ ap length (sym (accepted_same b x e spares p s));
+}
+
+-- the entities after an entry about one of them: it is as it should be, and the others stay
+entities_with : (b : Book) (x : Entry) (old new : List (ℕ × Entity)) (e : ℕ) → EntitiesRefine b old →
+    length new ≡ length (creates_of (entries (with_entry b x))) → IsKept (with_entry b x) e (entity_at new e) →
+    ((other : ℕ) → other ≢ e → entity_at new other ≡ entity_at old other) → ((other : ℕ) → e ≢ other → Spares x other) →
+    EntitiesRefine (with_entry b x) new
+entities_with b x old new e was count here others spares = record {
+  count = count;
+  each = λ other. elim (eqb_tells e other) [
+    | inl is ↦ subst (λ (y : ℕ). IsKept (with_entry b x) y (entity_at new y)) is.1 here
+    | inr not ↦ subst (IsKept (with_entry b x) other) (sym (others other (λ s. not.1 (sym s))))
+        (spared b x other (entity_at old other) (spares other not.1) (was.each other))
+  ];
+}
+
+-- one of them was changed so
+entities_changed : (b : Book) (x : Entry) (old new : List (ℕ × Entity)) (e : ℕ) (Changes : Entity → Entity → Type 0) (v : Entity) →
+    EntitiesRefine b old → ChangesOne old new e Changes → creates_of (x ∷ []) ≡ [] → ((other : ℕ) → e ≢ other → Spares x other) →
+    entity_at old e ≡ Some v → ((w : Entity) → Changes v w → EntityRefines b e v → EntityRefines (with_entry b x) e w) →
+    EntitiesRefine (with_entry b x) new
+entities_changed b x old new e Changes v was changes none spares found kept =
+    let at : (w : Entity) × (entity_at new e ≡ Some w) × Changes v w =
+    subst (λ (o : Option Entity). IfSome o (λ u. (w : Entity) × (entity_at new e ≡ Some w) × Changes u w)) found changes.here in
+    let here : EntityRefines b e v = subst (IsKept b e) found (was.each e) in
+    entities_with b x old new e was (changes.count ∙ was.count ∙ sym (count_without_create b x none))
+    (subst (IsKept (with_entry b x) e) (sym at.1) (kept at.0 at.2 here)) changes.others spares
 
 -- ---- a create
 
@@ -43,194 +93,118 @@ pub record IsPut (old new : List (ℕ × Entity)) (e : ℕ) (v : Entity) : Type 
   pub here : entity_at new e ≡ Some v
   pub others : (other : ℕ) → other ≢ e → entity_at new other ≡ entity_at old other
 
--- an entity of this type that no call was accepted for
+-- a live entity of this type, without a client, that no call was accepted for
 pub record IsFresh (c : Create) (v : Entity) : Type 0 where
   pub ty : v.ty ≡ c.ty
-  pub nodes : (p : Part) → length (last_of p v) ≡ MOST_BASE_NODES
-  pub last : (p : Part) (k : ℕ) → k < MOST_BASE_NODES → slice_index (last_of p v) k ≡ 0
+  pub live : v.live ≡ true
+  pub joined : v.joined ≡ false
+  pub last : (p : Part) (s : Sender) → IsSender s → number_of (last_of p v) s ≡ 0
 
-module _ (b : Book) (entities : List (ℕ × Entity)) (c : Create) (was : EntitiesRefine b entities) (none : created_as b c.entity ≡ None)
-  where
-    entity_made : (v : Entity) → IsFresh c v → EntityRefines (with_entry b (entry.Created c)) c.entity v
-    entity_made v fresh = record {
-      made = c;
-      is = created_here b c none;
-      ty = fresh.ty;
-      last = λ p. record {
-        nodes = fresh.nodes p;
-        each = λ k within. fresh.last p k within
-            ∙ ap length (sym (accepted_with_create b c p c.entity (Base (k + 1)) ∙ was.uncalled p c.entity (Base (k + 1)) none));
-      };
-    }
+module _ (b : Book) (c : Create) (whole : IsWhole c.entity) (unknown : IsUnknown b c.entity) where
+  entity_made : (v : Entity) → IsFresh c v → EntityRefines (with_entry b (entry.Created c)) c.entity v
+  entity_made v fresh = record {
+    made = c;
+    is = created_here b c unknown.uncreated;
+    whole = whole;
+    ty = fresh.ty;
+    live = fresh.live
+        ∙ sym (ap not (any_with (destroys c.entity) b (entry.Created c) ∙ ap (λ (y : Bool). y || false) unknown.undestroyed));
+    joined = fresh.joined ∙ sym (any_with (joins c.entity) b (entry.Created c) ∙ ap (λ (y : Bool). y || false) unknown.unjoined);
+    last = λ p s is. fresh.last p s is
+        ∙ ap length (sym (accepted_with_entry b (entry.Created c) p c.entity s ∙ append-nil (accepted b p c.entity s)
+        ∙ unknown.uncalled p s));
+  }
 
-    entity_kept : (e : ℕ) (o : Option Entity) → c.entity ≢ e → MatchOption o (created_as b e ≡ None) (EntityRefines b e)
-        → MatchOption o (created_as (with_entry b (entry.Created c)) e ≡ None) (EntityRefines (with_entry b (entry.Created c)) e)
-    entity_kept e None ne is = created_other b c e ne ∙ is
-    entity_kept e (Some v) ne is = record {
-      made = is.made;
-      is = created_other b c e ne ∙ is.is;
-      ty = is.ty;
-      last = λ p. record {
-        nodes = (is.last p).nodes;
-        each = λ k within. (is.last p).each k within ∙ ap length (sym (accepted_with_create b c p e (Base (k + 1))));
-      };
-    }
-
-    -- the entities after one more was made
-    pub entities_with_create : (new : List (ℕ × Entity)) (v : Entity) → IsFresh c v → IsPut entities new c.entity v →
-        EntitiesRefine (with_entry b (entry.Created c)) new
-    entities_with_create new v fresh put = record {
-      count = put.count ∙ ap (λ (n : ℕ). n + 1) was.count ∙ sym (count_with_create b c);
-      each = λ e. elim (eqb_tells c.entity e) [
-        | inl is ↦ subst (λ (y : ℕ). MatchOption (entity_at new y) (created_as (with_entry b (entry.Created c)) y ≡ None)
-            (EntityRefines (with_entry b (entry.Created c)) y)) is.1
-            (subst (λ (o : Option Entity). MatchOption o (created_as (with_entry b (entry.Created c)) c.entity ≡ None)
-            (EntityRefines (with_entry b (entry.Created c)) c.entity)) (sym put.here) (entity_made v fresh))
-        | inr other ↦ subst (λ (o : Option Entity). MatchOption o (created_as (with_entry b (entry.Created c)) e ≡ None)
-            (EntityRefines (with_entry b (entry.Created c)) e)) (sym (put.others e (λ s. other.1 (sym s))))
-            (entity_kept e (entity_at entities e) other.1 (was.each e))
-      ];
-      uncalled = λ p e s not. accepted_with_create b c p e s ∙ was.uncalled p e s (not_before b c e not);
-    }
+  -- the entities after one more was made
+  pub entities_with_create : (old new : List (ℕ × Entity)) (v : Entity) → EntitiesRefine b old → IsFresh c v → IsPut old new c.entity v →
+      EntitiesRefine (with_entry b (entry.Created c)) new
+  entities_with_create old new v was fresh put =
+      entities_with b (entry.Created c) old new c.entity was
+      (put.count ∙ ap (λ (n : ℕ). n + 1) was.count ∙ sym (count_with_create b c))
+      (subst (IsKept (with_entry b (entry.Created c)) c.entity) (sym put.here) (entity_made v fresh)) put.others
+      (λ other ne. spares_create c other ne)
 
 -- ---- a call
 
-same_part_is : (p : Part) → same_part p p ≡ true
-same_part_is part.Cell = refl
-same_part_is part.Base = refl
+same_part_is : (p q : Part) → same_part p q ≡ true → p ≡ q
+same_part_is part.Cell part.Cell is = refl
+same_part_is part.Base part.Base is = refl
+same_part_is part.Cell part.Base is = cc
+same_part_is part.Base part.Cell is = cc
 
--- from which base node a call is, to the part and the entity that it is for
-is_from_node : (call : Call) (n m : ℕ) → call.sender ≡ Base n → is_from call.part call.entity (Base m) call ≡ (n == m)
-is_from_node call n m is =
-    ap (λ (x : Bool). x && same_part call.part call.part && same_sender call.sender (Base m)) (same call.entity)
-    ∙ ap (λ (x : Bool). x && same_sender call.sender (Base m)) (same_part_is call.part)
-    ∙ ap (λ (s : Sender). same_sender s (Base m)) is
+both : (x y : Bool) → (x && y) ≡ true → (x ≡ true) × (y ≡ true)
+both true true is = (refl, refl)
+both true false is = cc
+both false y is = cc
 
-module _ (b : Book) (call : Call) (n : ℕ) (node : IsBaseNode n) (sender_is : call.sender ≡ Base n)
-    (next : call.number ≡ length (accepted b call.part call.entity call.sender) + 1) where
-  -- the part that the call is for
-  own_last : (last : List ℕ) → AreLast b call.part call.entity last →
-      AreLast (with_entry b (entry.Called call)) call.part call.entity (slice_set last (n - 1) call.number)
-  own_last last was = record {
-    nodes = length-set last (n - 1) call.number ∙ was.nodes;
-    each = λ k within. elim (eqb_tells k (n - 1)) [
-      | inl here ↦ (let from_one = node.from_one in
-          let most = node.most in
-          let nodes = was.nodes in
-          let is : n ≡ k + 1 = omega (arith, here.1, from_one) in
-          ap (λ (i : ℕ). get_or (set last (n - 1) call.number) i 0) here.1
-          ∙ get_or-set_same last (n - 1) call.number 0 (omega (arith, nodes, most, from_one))
-          ∙ next ∙ ap (λ (s : Sender). length (accepted b call.part call.entity s) + 1) (sender_is ∙ ap Base is)
-          ∙ sym (length-append (accepted b call.part call.entity (Base (k + 1))) (call ∷ []))
-          ∙ ap length (sym (accepted_own b call call.part call.entity (Base (k + 1))
-          (is_from_node call n (k + 1) sender_is ∙ ap (λ (m : ℕ). m == k + 1) is ∙ same (k + 1)))))
-      | inr other ↦ (let other_node : n ≢ k + 1 = λ e. other.1 (omega (arith, e)) in
-          get_or-set_other last (n - 1) k call.number 0 other.1 ∙ was.each k within
-          ∙ ap length (sym (accepted_other b call call.part call.entity (Base (k + 1))
-          (is_from_node call n (k + 1) sender_is ∙ differ n (k + 1) other_node))))
-    ];
-  }
+-- which calls the call adds to those of a sender to a part of its entity
+added : (call : Call) (p : Part) (s : Sender) →
+    is_from p call.entity s call ≡ (same_part call.part p && same_sender call.sender s)
+added call p s =
+    ap (λ (x : Bool). (x && same_part call.part p) && same_sender call.sender s) (same call.entity)
 
--- a part that the call is not for
-other_last : (b : Book) (call : Call) (p : Part) (e : ℕ) (last : List ℕ) → ((s : Sender) → is_from p e s call ≡ false)
-    → AreLast b p e last → AreLast (with_entry b (entry.Called call)) p e last
-other_last b call p e last other was = record {
-  nodes = was.nodes;
-  each = λ k within. was.each k within ∙ ap length (sym (accepted_other b call p e (Base (k + 1)) (other (Base (k + 1)))));
-}
-
-from_other_part : (call : Call) (p : Part) (s : Sender) → same_part call.part p ≡ false → is_from p call.entity s call ≡ false
-from_other_part call p s other =
-    ap (λ (x : Bool). x && same_part call.part p && same_sender call.sender s) (same call.entity)
-    ∙ ap (λ (x : Bool). x && same_sender call.sender s) other
-
--- each part of the entity that the call is for
-parts_with_call : (b : Book) (call : Call) (n : ℕ) (v : Entity) (q : Part) → call.part ≡ q → IsBaseNode n → call.sender ≡ Base n →
-    call.number ≡ length (accepted b call.part call.entity call.sender) + 1 → ((p : Part) → AreLast b p call.entity (last_of p v))
-    → (p : Part) → AreLast (with_entry b (entry.Called call)) p call.entity (last_of p (with_last q (n - 1) call.number v))
-parts_with_call b call n v part.Cell is node sender_is next was part.Cell =
-    subst (λ (p : Part). AreLast (with_entry b (entry.Called call)) p call.entity (slice_set v.cell (n - 1) call.number)) is
-    (own_last b call n node sender_is next v.cell (subst (λ (p : Part). AreLast b p call.entity v.cell) (sym is) (was part.Cell)))
-parts_with_call b call n v part.Base is node sender_is next was part.Base =
-    subst (λ (p : Part). AreLast (with_entry b (entry.Called call)) p call.entity (slice_set v.base (n - 1) call.number)) is
-    (own_last b call n node sender_is next v.base (subst (λ (p : Part). AreLast b p call.entity v.base) (sym is) (was part.Base)))
-parts_with_call b call n v part.Cell is node sender_is next was part.Base =
-    other_last b call part.Base call.entity v.base (λ s. from_other_part call part.Base s (ap (λ (p : Part). same_part p part.Base) is))
-    (was part.Base)
-parts_with_call b call n v part.Base is node sender_is next was part.Cell =
-    other_last b call part.Cell call.entity v.cell (λ s. from_other_part call part.Cell s (ap (λ (p : Part). same_part p part.Cell) is))
-    (was part.Cell)
-
-same_type : (q : Part) (place number : ℕ) (v : Entity) → (with_last q place number v).ty ≡ v.ty
-same_type part.Cell place number v = refl
-same_type part.Base place number v = refl
-
-entity_called : (b : Book) (call : Call) (n : ℕ) (v : Entity) → IsBaseNode n → call.sender ≡ Base n →
-    call.number ≡ length (accepted b call.part call.entity call.sender) + 1 → EntityRefines b call.entity v
-    → EntityRefines (with_entry b (entry.Called call)) call.entity (with_last call.part (n - 1) call.number v)
-entity_called b call n v node sender_is next was = record {
+entity_called : (b : Book) (call : Call) (v w : Entity) → IsNextCall b call → Remembers call.part call.sender call.number v w →
+    EntityRefines b call.entity v → EntityRefines (with_entry b (entry.Called call)) call.entity w
+entity_called b call v w next kept was = record {
   made = was.made;
-  is = created_with_call b call call.entity ∙ was.is;
-  ty = same_type call.part (n - 1) call.number v ∙ was.ty;
-  last = parts_with_call b call n v call.part refl node sender_is next was.last;
+  is = created_as_before;
+  whole = was.whole;
+  ty = kept.ty ∙ was.ty;
+  live = kept.live ∙ was.live ∙ ap not (sym (any_with (destroys call.entity) b (entry.Called call) ∙ or_false _));
+  joined = kept.joined ∙ was.joined ∙ sym (any_with (joins call.entity) b (entry.Called call) ∙ or_false _);
+  last = λ p s is. kept.last p s is ∙ by p s is (same_part call.part p && same_sender call.sender s) refl;
 }
+  where
+    or_false : (x : Bool) → (x || false) ≡ x
+    or_false true = refl
+    or_false false = refl
 
-entity_not_called : (b : Book) (call : Call) (e : ℕ) (o : Option Entity) → call.entity ≢ e →
-    MatchOption o (created_as b e ≡ None) (EntityRefines b e)
-    → MatchOption o (created_as (with_entry b (entry.Called call)) e ≡ None) (EntityRefines (with_entry b (entry.Called call)) e)
-entity_not_called b call e None ne none = created_with_call b call e ∙ none
-entity_not_called b call e (Some v) ne was = record {
-  made = was.made;
-  is = created_with_call b call e ∙ was.is;
-  ty = was.ty;
-  last = λ p. other_last b call p e (last_of p v) (λ s. from_other_entity call p e s ne) (was.last p);
-}
+    created_as_before : created_as (with_entry b (entry.Called call)) call.entity ≡ Some was.made
+    created_as_before = created_with_call b call call.entity ∙ was.is
 
-not_called : (b : Book) (call : Call) (e : ℕ) → IsNextCall b call → created_as b e ≡ None → call.entity ≢ e
-not_called b call e is none same_as = none-some is.made (sym none ∙ ap (created_as b) (sym same_as) ∙ is.is)
+    grows : (p : Part) (s : Sender) (y : Bool) → (same_part call.part p && same_sender call.sender s) ≡ y →
+        accepted (with_entry b (entry.Called call)) p call.entity s ≡ accepted b p call.entity s ++ cond y (call ∷ []) []
+    grows p s y is =
+        accepted_with_entry b (entry.Called call) p call.entity s
+        ∙ ap (λ (x : Bool). accepted b p call.entity s ++ cond x (call ∷ []) []) (added call p s ∙ is)
+
+    by : (p : Part) (s : Sender) → IsSender s → (y : Bool) → (same_part call.part p && same_sender call.sender s) ≡ y →
+        cond y call.number (number_of (last_of p v) s) ≡ length (accepted (with_entry b (entry.Called call)) p call.entity s)
+    by p s sender true is =
+        let tests = both (same_part call.part p) (same_sender call.sender s) is in
+        let of_part : call.part ≡ p = same_part_is call.part p tests.0 in
+        let of_sender : call.sender ≡ s = same_sender_is call.sender s tests.1 in
+        next.next ∙ (λ i. length (accepted b (of_part i) call.entity (of_sender i)) + 1)
+        ∙ sym (ap length (grows p s true is) ∙ length-append (accepted b p call.entity s) (call ∷ []))
+    by p s sender false is =
+        was.last p s sender ∙ sym (ap length (grows p s false is ∙ append-nil (accepted b p call.entity s)))
 
 -- the entities after a call was kept
-pub entities_with_call : (b : Book) (entities new : List (ℕ × Entity)) (call : Call) (n : ℕ) (v : Entity) → EntitiesRefine b entities →
-    IsNextCall b call → IsBaseNode n → call.sender ≡ Base n → entity_at entities call.entity ≡ Some v
-    → KeepsLast entities new n call → EntitiesRefine (with_entry b (entry.Called call)) new
-entities_with_call b entities new call n v was is node sender_is found kept =
-    let next : Book = with_entry b (entry.Called call) in
-    let last : entity_at new call.entity ≡ Some (with_last call.part (n - 1) call.number v) =
-    subst (λ (o : Option Entity). IfSome o (λ w. entity_at new call.entity ≡ Some (with_last call.part (n - 1) call.number w))) found
-    kept.here in
-    let here : EntityRefines b call.entity v =
-    subst (λ (o : Option Entity). MatchOption o (created_as b call.entity ≡ None) (EntityRefines b call.entity)) found
-    (was.each call.entity) in
-    record {
-      count = kept.count ∙ was.count ∙ ap length (sym (creates_with_call b call));
-      each = λ e. elim (eqb_tells call.entity e) [
-        | inl same_as ↦ subst (λ (y : ℕ). MatchOption (entity_at new y) (created_as next y ≡ None) (EntityRefines next y)) same_as.1
-            (subst (λ (o : Option Entity). MatchOption o (created_as next call.entity ≡ None) (EntityRefines next call.entity))
-            (sym last) (entity_called b call n v node sender_is is.next here))
-        | inr other ↦ subst (λ (o : Option Entity). MatchOption o (created_as next e ≡ None) (EntityRefines next e))
-            (sym (kept.others e (λ s. other.1 (sym s))))
-            (entity_not_called b call e (entity_at entities e) other.1 (was.each e))
-      ];
-      uncalled = λ p e s none.
-          let none_before : created_as b e ≡ None = sym (created_with_call b call e) ∙ none in
-          accepted_other b call p e s (from_other_entity call p e s (not_called b call e is none_before)) ∙ was.uncalled p e s none_before;
-    }
+pub entities_with_call : (b : Book) (old new : List (ℕ × Entity)) (call : Call) (v : Entity) → EntitiesRefine b old → IsNextCall b call →
+    entity_at old call.entity ≡ Some v → KeepsLast old new call → EntitiesRefine (with_entry b (entry.Called call)) new
+entities_with_call b old new call v was next found kept =
+    entities_changed b (entry.Called call) old new call.entity (Remembers call.part call.sender call.number) v was kept refl
+    (λ other ne. spares_call call other ne) found (λ w remembers here. entity_called b call v w next remembers here)
 
 -- ---- books
 
 -- the book in code after an entity was made
-pub create_kept : (h : Header) (b : Book) (old new : BookView) (c : Create) (v : Entity) → Refines h b old → created_as b c.entity ≡ None →
-    IsFresh c v → new.header ≡ old.header → new.tree ≡ old.tree → IsPut old.entities new.entities c.entity v
+pub create_kept : (h : Header) (b : Book) (old new : BookView) (c : Create) (v : Entity) → Refines h b old → IsWhole c.entity →
+    entity_at old.entities c.entity ≡ None → IsFresh c v → new.header ≡ old.header → new.tree ≡ old.tree →
+    IsPut old.entities new.entities c.entity v
     → new.creates ≡ old.creates ++ c ∷ [] → new.orders ≡ old.orders → Refines h (with_entry b (entry.Created c)) new
-create_kept h b old new c v was none fresh header tree put creates orders = record {
+create_kept h b old new c v was whole absent fresh header tree put creates orders = record {
   header = header ∙ was.header;
-  tree = tree ∙ was.tree;
-  entities = entities_with_create b old.entities c was.entities none new.entities v fresh put;
+  tree = tree ∙ was.tree ∙ sym (tree_with_entry b (entry.Created c) tt);
+  in_one_cell = stays_with_entry h.settings.size b was.in_one_cell (entry.Created c) tt;
+  entities =
+      entities_with_create b c whole (entity_unknown b old.entities c.entity was.entities absent) old.entities new.entities v was.entities
+      fresh put;
   creates =
       creates ∙ ap (λ (cs : List Create). cs ++ c ∷ []) was.creates ∙ sym (filter_map-append created b.current (entry.Created c ∷ []));
   orders =
       orders ∙ was.orders
-      ∙ ap (map order_of) (sym (filter_map-append called b.current (entry.Created c ∷ []) ∙ append-nil (calls_of b.current)));
+      ∙ ap (map (order_of h)) (sym (filter_map-append called b.current (entry.Created c ∷ []) ∙ append-nil (calls_of b.current)));
 }
 
 -- the entity that the next call is for is there
@@ -238,26 +212,76 @@ next_is_there : (b : Book) (entities : List (ℕ × Entity)) (call : Call) → E
     (v : Entity) × (entity_at entities call.entity ≡ Some v)
 next_is_there b entities call was is = cases (entity_at entities call.entity) refl (was.each call.entity)
   where
-    cases : (o : Option Entity) → entity_at entities call.entity ≡ o → MatchOption o (created_as b call.entity ≡ None)
-        (EntityRefines b call.entity) → (v : Entity) × (entity_at entities call.entity ≡ Some v)
-    cases None found none = absurd (none-some is.made (sym none ∙ is.is))
+    cases : (o : Option Entity) → entity_at entities call.entity ≡ o → IsKept b call.entity o →
+        (v : Entity) × (entity_at entities call.entity ≡ Some v)
+    cases None found none = absurd (none-some is.made (sym none.uncreated ∙ is.is))
     cases (Some v) found here = (v, found)
 
 -- and after a call
-pub call_kept : (h : Header) (b : Book) (old new : BookView) (call : Call) (n : ℕ) → Refines h b old → IsNextCall b call → IsBaseNode n →
-    call.sender ≡ Base n → new.header ≡ old.header → new.tree ≡ old.tree → KeepsLast old.entities new.entities n call
-    → new.creates ≡ old.creates → new.orders ≡ old.orders ++ order_of call ∷ [] → Refines h (with_entry b (entry.Called call)) new
-call_kept h b old new call n was is node sender_is header tree kept creates orders =
+pub call_kept : (h : Header) (b : Book) (old new : BookView) (call : Call) → Refines h b old → IsNextCall b call →
+    new.header ≡ old.header → new.tree ≡ old.tree → KeepsLast old.entities new.entities call
+    → new.creates ≡ old.creates → new.orders ≡ old.orders ++ order_of h call ∷ [] → Refines h (with_entry b (entry.Called call)) new
+call_kept h b old new call was is header tree kept creates orders =
     let there = next_is_there b old.entities call was.entities is in
     record {
       header = header ∙ was.header;
-      tree = tree ∙ was.tree;
-      entities = entities_with_call b old.entities new.entities call n there.0 was.entities is node sender_is there.1 kept;
+      tree = tree ∙ was.tree ∙ sym (tree_with_entry b (entry.Called call) tt);
+      in_one_cell = stays_with_entry h.settings.size b was.in_one_cell (entry.Called call) tt;
+      entities = entities_with_call b old.entities new.entities call there.0 was.entities is there.1 kept;
       creates =
           creates ∙ was.creates
           ∙ sym (filter_map-append created b.current (entry.Called call ∷ []) ∙ append-nil (creates_of b.current));
       orders =
-          orders ∙ ap (λ (xs : List (ℕ × Order)). xs ++ order_of call ∷ []) was.orders
-          ∙ sym (ap (map order_of) (filter_map-append called b.current (entry.Called call ∷ []))
-          ∙ map-append order_of (calls_of b.current) (call ∷ []));
+          orders ∙ ap (λ (xs : List (ℕ × Order)). xs ++ order_of h call ∷ []) was.orders
+          ∙ sym (ap (map (order_of h)) (filter_map-append called b.current (entry.Called call ∷ []))
+          ∙ map-append (order_of h) (calls_of b.current) (call ∷ []));
     }
+
+-- ---- the next round
+
+module _ (b d : Book) (alike : entries b ≡ entries d) where
+  same_created : (e : ℕ) → created_as b e ≡ created_as d e
+  same_created e = ap (λ (xs : List Entry). find (λ (c : Create). c.entity == e) (creates_of xs)) alike
+
+  same_accepted : (p : Part) (e : ℕ) (s : Sender) → accepted b p e s ≡ accepted d p e s
+  same_accepted p e s = ap (λ (xs : List Entry). filter (is_from p e s) (calls_of xs)) alike
+
+  same_any : (test : Entry → Bool) → list_any test (entries b) ≡ list_any test (entries d)
+  same_any test = ap (list_any test) alike
+
+  same_entity : (e : ℕ) (o : Option Entity) → IsKept b e o → IsKept d e o
+  same_entity e None was = record {
+    uncreated = sym (same_created e) ∙ was.uncreated;
+    undestroyed = sym (same_any (destroys e)) ∙ was.undestroyed;
+    unjoined = sym (same_any (joins e)) ∙ was.unjoined;
+    uncalled = λ p s. sym (same_accepted p e s) ∙ was.uncalled p s;
+  }
+  same_entity e (Some v) was = record {
+    made = was.made;
+    is = sym (same_created e) ∙ was.is;
+    whole = was.whole;
+    ty = was.ty;
+    live = was.live ∙ ap not (same_any (destroys e));
+    joined = was.joined ∙ same_any (joins e);
+    last = λ p s is. was.last p s is ∙ ap length (same_accepted p e s);
+  }
+
+  -- entities go with what was accepted, in whatever rounds
+  same_entities : (entities : List (ℕ × Entity)) → EntitiesRefine b entities → EntitiesRefine d entities
+  same_entities entities was = record {
+    count = was.count ∙ ap (λ (xs : List Entry). length (creates_of xs)) alike;
+    each = λ e. same_entity e (entity_at entities e) (was.each e);
+  }
+
+-- the book in code after the round ended
+pub round_kept : (h : Header) (b : Book) (old new : BookView) → Refines h b old → new.header ≡ old.header → new.tree ≡ old.tree →
+    new.entities ≡ old.entities → new.creates ≡ [] → new.orders ≡ [] → Refines h (with_round_ended b) new
+round_kept h b old new was header tree entities creates orders = record {
+  header = header ∙ was.header;
+  tree = tree ∙ was.tree;
+  in_one_cell = stays_after_round h.settings.size b was.in_one_cell;
+  entities = same_entities b (with_round_ended b) (sym (entries_after_round b)) new.entities
+      (subst (EntitiesRefine b) (sym entities) was.entities);
+  creates = creates;
+  orders = orders;
+}

@@ -3,6 +3,7 @@ mod CommandLemmas
 mod Causes
 mod CreateLemmas
 mod ArgLemmas
+mod NamedEntities
 mod CallLemmas
 mod Books
 mod Keeping

@@ -6,9 +6,12 @@ use Rattle.seam_defs.specs.declared.types.TypeDef.{TypeDef}
 use Rattle.seam_call.specs.declared.call.Call.{Call}
 use Rattle.seam_transcript.specs.Language as language
 use Rattle.seam_toml.specs.declared.header.Header.{Header}
-use Rattle.seam_transcript.specs.Book.{Book, created_as, NamesCall}
+use Rattle.seam_transcript.specs.Book.{Book, created_as}
+use Rattle.seam_transcript.specs.Judging.{NamesCall}
 use Rattle.seam_transcript.specs.declared.verdict.Entry.{Entry}
 use Rattle.seam_transcript.specs.declared.verdict.Entry.TheVariants as entry
+use Rattle.seam_transcript.specs.declared.commands.Commands.TheVariants.{OneCell}
+use Rattle.seam_transcript.proofs.BookEntries.{live_is_created}
 use Rattle.seam_transcript.proofs.Verdicts.{command_is_refused, command_is_accepted}
 use Rattle.seam_accept.specs.Commands.{call_of, asked_of}
 use Rattle.seam_accept.specs.Entities.{IsNextCall}
@@ -25,21 +28,24 @@ use Rattle.seam_accept.specs.declared.command.DeedWords.TheVariants as words
 
 -- a line that spells an accepted command
 pub line_accepted : (h : Header) (b : Book) (line : List ℕ) (c : language.Command) (a : Accepted) (after : BookView) →
-    ¬ (language.IsSkipped line) → language.SpellsCommand line c → CommandAccepted h b c a after → LineAccepted h b (Content line) a after
-line_accepted h b line c answer.Kept after not spells (x, accepts, refines) =
-    (x, command_is_accepted h b line c x not spells accepts.none accepts.adds, refines)
-line_accepted h b line c answer.Synced after not spells (is, refines) = ((not, subst (language.SpellsCommand line) is spells), refines)
-line_accepted h b line c answer.Skipped after not spells accepted = absurd accepted
+    ¬ (language.IsSkipped line) → language.SpellsCommand line c → language.NamesCommand OneCell (language.words_of c) →
+    CommandAccepted h b c a after → LineAccepted h b (Content line) a after
+line_accepted h b line c answer.Kept after not spells taken (x, accepts, refines) =
+    (x, command_is_accepted OneCell h b line c taken spells x not accepts.none accepts.adds, refines)
+line_accepted h b line c answer.Synced after not spells taken (is, refines) =
+    ((not, subst (language.SpellsCommand line) is spells), refines)
+line_accepted h b line c answer.Skipped after not spells taken accepted = absurd accepted
 
 -- and one that spells a refused one
 pub line_refused : (h : Header) (b : Book) (line : List ℕ) (c : language.Command) (r : Refusal) → ¬ (language.IsSkipped line) →
-    language.SpellsCommand line c → Refuses h b c r → LineRefused h b (Content line) r
-line_refused h b line c (refusal.Cause k) not spells first = command_is_refused h b line c k not spells first
-line_refused h b line c refusal.NoMemory not spells first = tt
+    language.SpellsCommand line c → language.NamesCommand OneCell (language.words_of c) → Refuses h b c r →
+    LineRefused h b (Content line) r
+line_refused h b line c (refusal.Cause k) not spells taken first = command_is_refused OneCell h b line c taken spells k not first
+line_refused h b line c refusal.NoMemory not spells taken first = tt
 
 call_in : Call → Entry → Call
-call_in other (entry.Created c) = other
 call_in other (entry.Called c) = c
+call_in other x = other
 
 same_call : (call d : Call) → entry.Called call ≡ entry.Called d → call ≡ d
 unfolding call_in
@@ -48,7 +54,11 @@ same_call call d is = ap (call_in call) is
 named_is_next : (h : Header) (b : Book) (s e : List ℕ) (Asks : TypeDef → Deed → Type 0) (d : Call) → NamesCall h b s e Asks d →
     IsNextCall b d
 named_is_next h b s e Asks d names =
-    record { made = names.made; is = ap (created_as b) names.entity_ ∙ names.live.lives; next = names.next }
+    record {
+      made = names.made;
+      is = ap (created_as b) names.entity_ ∙ live_is_created b names.made.entity names.made names.live.lives;
+      next = names.next;
+    }
 
 asked_is_next : (h : Header) (b : Book) (s e : List ℕ) (w : DeedWords) (call : Call) → Accepts h b (asked_of s e w) (entry.Called call) →
     IsNextCall b call

@@ -12,7 +12,7 @@ use Rattle.seam_defs.specs.declared.types.Method.{Method}
 use Rattle.seam_call.specs.BaseNodes.{IsBaseNodeOf}
 use Rattle.seam_call.specs.declared.sender.Sender.TheVariants.{Base}
 use Rattle.seam_transcript.specs.Language.{sender_text}
-use Rattle.seam_transcript.specs.Book.{NamesType, NamesMethod}
+use Rattle.seam_transcript.specs.Judging.{NamesType, NamesMethod}
 use Rattle.seam_transcript.proofs.Names.{place_of_type, place_of_method}
 
 -- ---- senders
@@ -30,6 +30,16 @@ pub no_node : (bases m : ℕ) (name : List ℕ) (n : ℕ) → ¬ (IsBaseNodeOf b
     → IsBaseNodeOf bases n → sender_text (Base n) ≢ name
 no_node bases m name n outside number among is =
     outside (subst (IsBaseNodeOf bases) (sym (number_after_letter name m n is number)) among)
+
+-- the number after the first letter of a client's name
+pub number_of_client : (name : List ℕ) (e : ℕ) → 99 ∷ decimal_of e ≡ name → decimal_of e ≡ take (length name - 1) (drop 1 name)
+number_of_client name e is =
+    subst (λ (xs : List ℕ). decimal_of e ≡ take (length xs - 1) (drop 1 xs)) is
+    (sym (take_all (length (99 ∷ decimal_of e) - 1) (decimal_of e) (omega arith)))
+
+-- a client of the name has the number that the word after the letter spells
+pub same_client : (name : List ℕ) (m e : ℕ) → 99 ∷ decimal_of e ≡ name → decimal_of m ≡ take (length name - 1) (drop 1 name) → m ≡ e
+same_client name m e is number = decimal_of-injective m e (number ∙ sym (number_of_client name e is))
 
 -- ---- types and methods
 
@@ -59,3 +69,8 @@ found_method t name None here all = λ m names. none-some m (all m (place_of_met
 found_method t name (Some k) here all =
     let is = named (λ (m : Method). m.name) t.methods k name no_method here in
     record { has = is.0; named = is.1 }
+
+-- the method of a name is one
+pub only_method : (t : TypeDef) (name : List ℕ) (found : Option ℕ) →
+    ((k : ℕ) → slice_get (names_of_methods t.methods) k ≡ Some name → found ≡ Some k) → (m : ℕ) → NamesMethod t name m → found ≡ Some m
+only_method t name found all m names = all m (place_of_method t name m names.has names.named)

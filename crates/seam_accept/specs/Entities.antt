@@ -1,50 +1,65 @@
 -- What is kept of entities, beside the book of a transcript.
-use Rattle.std.specs.Prelude.{◌≡◌, ◌≢◌, ℕ, ◌+◌, ◌-◌, ◌<◌, List, [], length, Option, None, Some, MatchOption, IfSome}
-use Rattle.std.specs.Prelude.{slice_index, slice_set}
+use Rattle.std.specs.Prelude.{◌≡◌, ◌≢◌, ℕ, ◌+◌, false, not, cond, ◌&&◌, List, [], length, Option, None, Some, MatchOption, IfSome}
+use Rattle.std.specs.Borrow.{Bor}
 use Rattle.std.specs.Map.{lookup}
 use Rattle.std.specs.Ordering.{nat_cmp}
 use Rattle.std.specs.BTreeMap.{is_at}
+use Rattle.std.specs.List.{list_any}
+use Rattle.seam_value.specs.NumberWords.{IsWhole}
 use Rattle.seam_defs.specs.declared.flags.Part.{Part}
 use Rattle.seam_defs.specs.declared.flags.Part.TheVariants as part
-use Rattle.seam_defs.specs.declared.limits.TheConstants.{MOST_BASE_NODES}
+use Rattle.seam_call.specs.Senders.{IsSender, same_sender}
+use Rattle.seam_call.specs.Calls.{same_part}
 use Rattle.seam_call.specs.declared.sender.Sender.{Sender}
-use Rattle.seam_call.specs.declared.sender.Sender.TheVariants as sender
 use Rattle.seam_call.specs.declared.call.Call.{Call}
 use Rattle.seam_call.specs.declared.create.Create.{Create}
-use Rattle.seam_transcript.specs.Book.{Book, entries, creates_of, created_as, accepted}
+use Rattle.seam_transcript.specs.Book.{Book, entries, creates_of, created_as, live_as, destroys, joins, accepted}
+use Rattle.seam_accept.specs.Last.{LastView, number_of}
 use Rattle.seam_accept.specs.declared.entity.Entity.{Entity}
 
--- the numbers of the base nodes' last calls to a part of an entity
-abbrev pub last_of : Part → Entity → List ℕ
+-- the numbers of the last calls to a part of an entity
+abbrev pub last_of : Part → Entity → LastView
 last_of part.Cell v = v.cell
 last_of part.Base v = v.base
 
--- the entity with the number of a base node's last call to a part, by the place of the base node
-abbrev pub with_last : Part → ℕ → ℕ → Entity → Entity
-with_last part.Cell place number v = record v { cell = slice_set v.cell place number }
-with_last part.Base place number v = record v { base = slice_set v.base place number }
+-- an entity with the number of a sender's last call to a part: the numbers of its other calls stay
+pub record Remembers (p : Part) (s : Sender) (number : ℕ) (old new : Entity) : Type 0 where
+  pub ty : new.ty ≡ old.ty
+  pub live : new.live ≡ old.live
+  pub joined : new.joined ≡ old.joined
+  pub last : (q : Part) (t : Sender) → IsSender t →
+      number_of (last_of q new) t ≡ cond (same_part p q && same_sender s t) number (number_of (last_of q old) t)
 
--- the numbers are those of the last calls that the book accepted from each base node for a part of an entity
-pub record AreLast (b : Book) (p : Part) (e : ℕ) (last : List ℕ) : Type 0 where
-  pub nodes : length last ≡ MOST_BASE_NODES
-  pub each : (k : ℕ) → k < MOST_BASE_NODES → slice_index last k ≡ length (accepted b p e (sender.Base (k + 1)))
-
--- an entity of the book
+-- an entity of the book: its type, whether it was destroyed or given a client, and how many calls each sender made to its parts
 pub record EntityRefines (b : Book) (e : ℕ) (v : Entity) : Type 0 where
   pub made : Create
   pub is : created_as b e ≡ Some made
+  pub whole : IsWhole e
   pub ty : v.ty ≡ made.ty
-  pub last : (p : Part) → AreLast b p e (last_of p v)
+  pub live : v.live ≡ not (list_any (destroys e) (entries b))
+  pub joined : v.joined ≡ list_any (joins e) (entries b)
+  pub last : (p : Part) (s : Sender) → IsSender s → number_of (last_of p v) s ≡ length (accepted b p e s)
+
+-- the book has no entity of this number, and nothing was accepted for one
+pub record IsUnknown (b : Book) (e : ℕ) : Type 0 where
+  pub uncreated : created_as b e ≡ None
+  pub undestroyed : list_any (destroys e) (entries b) ≡ false
+  pub unjoined : list_any (joins e) (entries b) ≡ false
+  pub uncalled : (p : Part) (s : Sender) → accepted b p e s ≡ []
 
 -- the entity of a number among entities by number
 abbrev pub entity_at : List (ℕ × Entity) → ℕ → Option Entity
 entity_at entities e = lookup (is_at (nat_cmp e)) entities
 
--- The entities are those of the book. No call is for an entity that was not created.
+-- the entities are those of the book
 pub record EntitiesRefine (b : Book) (entities : List (ℕ × Entity)) : Type 0 where
   pub count : length entities ≡ length (creates_of (entries b))
-  pub each : (e : ℕ) → MatchOption (entity_at entities e) (created_as b e ≡ None) (EntityRefines b e)
-  pub uncalled : (p : Part) (e : ℕ) (s : Sender) → created_as b e ≡ None → accepted b p e s ≡ []
+  pub each : (e : ℕ) → MatchOption (entity_at entities e) (IsUnknown b e) (EntityRefines b e)
+
+-- an entity lives, and is kept so
+pub record IsLive (b : Book) (e : ℕ) (v : Bor Entity) : Type 0 where
+  pub refines : EntityRefines b e v.now
+  pub lives : live_as b e ≡ Some refines.made
 
 -- a call that comes next: its entity is one of the book, and it has its sender's next number
 pub record IsNextCall (b : Book) (c : Call) : Type 0 where
@@ -52,8 +67,12 @@ pub record IsNextCall (b : Book) (c : Call) : Type 0 where
   pub is : created_as b c.entity ≡ Some made
   pub next : c.number ≡ length (accepted b c.part c.entity c.sender) + 1
 
--- an entity, where it is there, has the number of a base node's call as its last one, and the others stay
-pub record KeepsLast (old new : List (ℕ × Entity)) (n : ℕ) (c : Call) : Type 0 where
+-- an entity, where it is there, was changed so, and the others stay
+pub record ChangesOne (old new : List (ℕ × Entity)) (e : ℕ) (Changes : Entity → Entity → Type 0) : Type 0 where
   pub count : length new ≡ length old
-  pub here : IfSome (entity_at old c.entity) (λ v. entity_at new c.entity ≡ Some (with_last c.part (n - 1) c.number v))
-  pub others : (other : ℕ) → other ≢ c.entity → entity_at new other ≡ entity_at old other
+  pub here : IfSome (entity_at old e) (λ v. (w : Entity) × (entity_at new e ≡ Some w) × Changes v w)
+  pub others : (other : ℕ) → other ≢ e → entity_at new other ≡ entity_at old other
+
+-- an entity remembers a call as its sender's last one
+abbrev pub KeepsLast : List (ℕ × Entity) → List (ℕ × Entity) → Call → Type 0
+KeepsLast old new c = ChangesOne old new c.entity (Remembers c.part c.sender c.number)

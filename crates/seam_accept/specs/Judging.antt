@@ -5,14 +5,19 @@ use Rattle.seam_geo.specs.declared.pos.Pos.{Pos}
 use Rattle.seam_defs.specs.Types.{method_of}
 use Rattle.seam_defs.specs.declared.types.TypeDef.{TypeDef}
 use Rattle.seam_defs.specs.declared.states.Deed.{Deed}
+use Rattle.seam_defs.specs.declared.states.Deed.TheVariants as deed
+use Rattle.seam_call.specs.declared.sender.Sender.{Sender}
 use Rattle.seam_transcript.specs.Language.{Command}
 use Rattle.seam_toml.specs.declared.header.Header.{Header}
-use Rattle.seam_transcript.specs.Book.{Book, SpellsPosition, NamesMethod, SpellsArgs, NamesDeed, NamesMove, Adds, HoldsAgainst, IsFirst}
+use Rattle.seam_transcript.specs.Book.{Book}
+use Rattle.seam_transcript.specs.Judging.{MayCall, MayMove}
+use Rattle.seam_transcript.specs.Judging.{SpellsPosition, NamesMethod, SpellsArgs, NamesDeed, NamesMove, Adds, HoldsAgainst, IsFirst}
 use Rattle.seam_transcript.specs.declared.verdict.Entry.{Entry}
 use Rattle.seam_transcript.specs.declared.verdict.Cause.{Cause}
 use Rattle.seam_transcript.specs.declared.verdict.Cause.TheVariants as cause
 use Rattle.seam_accept.specs.Commands.{texts_of}
 use Rattle.seam_accept.specs.declared.command.MethodWords.{MethodWords}
+use Rattle.seam_accept.specs.declared.command.PlaceWords.{PlaceWords}
 use Rattle.seam_accept.specs.declared.command.DeedWords.{DeedWords}
 use Rattle.seam_accept.specs.declared.command.DeedWords.TheVariants as words
 use Rattle.seam_accept.specs.declared.answers.Refusal.{Refusal}
@@ -33,20 +38,31 @@ abbrev pub Asks : Header → DeedWords → TypeDef → Deed → Type 0
 Asks h (words.Method w) = NamesDeed (texts_of w.arguments.now) w.name.now
 Asks h (words.Move w) = λ t. NamesMove h w.x.now w.z.now
 
--- why the words of a method name none of this type with its arguments
-abbrev pub NoMethod : MethodWords → TypeDef → Refusal → Type 0
-NoMethod w t (refusal.Cause cause.UnknownMethod) = (m : ℕ) → ¬ (NamesMethod t w.name.now m)
-NoMethod w t (refusal.Cause cause.IllTyped) =
-    (m : ℕ) × NamesMethod t w.name.now m × ((args : List Value) → ¬ (SpellsArgs (method_of t m) (texts_of w.arguments.now) args))
-NoMethod w t (refusal.Cause k) = ⊥
-NoMethod w t refusal.NoMemory = ⊤
+-- a sender may ask an entity of this type for the deed
+abbrev pub MayAsk : Sender → ℕ → TypeDef → Deed → Type 0
+MayAsk s e t (deed.Method m args) = MayCall s e (method_of t m)
+MayAsk s e t (deed.Move p) = MayMove s e
 
--- why the words ask such an entity for no deed
-abbrev pub NoDeed : Header → DeedWords → TypeDef → Refusal → Type 0
-NoDeed h (words.Method w) t r = NoMethod w t r
-NoDeed h (words.Move w) t (refusal.Cause cause.IllTyped) = (p : Pos) → ¬ (SpellsPosition h w.x.now w.z.now p)
-NoDeed h (words.Move w) t (refusal.Cause k) = ⊥
-NoDeed h (words.Move w) t refusal.NoMemory = ⊤
+-- why the words of a method name none of this type that a sender may call of an entity, with its arguments
+abbrev pub NoMethod : Sender → ℕ → MethodWords → TypeDef → Refusal → Type 0
+NoMethod s e w t (refusal.Cause cause.UnknownMethod) = (m : ℕ) → NamesMethod t w.name.now m → ¬ (MayCall s e (method_of t m))
+NoMethod s e w t (refusal.Cause cause.IllTyped) =
+    (m : ℕ) × NamesMethod t w.name.now m × MayCall s e (method_of t m)
+    × ((args : List Value) → ¬ (SpellsArgs (method_of t m) (texts_of w.arguments.now) args))
+NoMethod s e w t (refusal.Cause k) = ⊥
+NoMethod s e w t refusal.NoMemory = ⊤
+
+-- why a sender does not move an entity to where these words say
+abbrev pub NoMove : Header → Sender → ℕ → PlaceWords → Refusal → Type 0
+NoMove h s e w (refusal.Cause cause.UnknownMethod) = ¬ (MayMove s e)
+NoMove h s e w (refusal.Cause cause.IllTyped) = MayMove s e × ((p : Pos) → ¬ (SpellsPosition h w.x.now w.z.now p))
+NoMove h s e w (refusal.Cause k) = ⊥
+NoMove h s e w refusal.NoMemory = ⊤
+
+-- why a sender asks such an entity by these words for no deed
+abbrev pub NoDeed : Header → Sender → ℕ → DeedWords → TypeDef → Refusal → Type 0
+NoDeed h s e (words.Method w) t r = NoMethod s e w t r
+NoDeed h s e (words.Move w) t r = NoMove h s e w r
 
 -- words are ill-typed where nothing is spelled by them
 abbrev pub IsIllTyped : Type 0 → Refusal → Type 0

@@ -1,3 +1,4 @@
+pub mod Last
 pub mod Commands
 pub mod Entities
 pub mod Judging

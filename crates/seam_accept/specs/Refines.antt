@@ -3,7 +3,10 @@ use Rattle.std.specs.Prelude.{◌≡◌, ⊤, map}
 use Rattle.seam_io.specs.Lines.{Line}
 use Rattle.seam_toml.specs.declared.header.Header.{Header}
 use Rattle.seam_transcript.specs.Language.{Command, Sync}
-use Rattle.seam_transcript.specs.Book.{Book, creates_of, calls_of, with_entry, Judges}
+use Rattle.seam_transcript.specs.Book.{Book, creates_of, calls_of, with_entry, tree_of}
+use Rattle.seam_transcript.specs.Judging.{Judges}
+use Rattle.seam_transcript.specs.OneCell.{IsInOneCell}
+use Rattle.seam_transcript.specs.declared.commands.Commands.TheVariants.{OneCell}
 use Rattle.seam_transcript.specs.declared.verdict.Entry.{Entry}
 use Rattle.seam_transcript.specs.declared.verdict.Verdict.TheVariants as verdict
 use Rattle.seam_accept.specs.declared.answers.Accepted.{Accepted}
@@ -12,26 +15,27 @@ use Rattle.seam_accept.specs.declared.answers.Refusal.{Refusal}
 use Rattle.seam_accept.specs.declared.answers.Refusal.TheVariants as refusal
 use Rattle.seam_accept.specs.Entities.{EntitiesRefine}
 use Rattle.seam_accept.specs.Judging.{Accepts}
-use Rattle.seam_accept.specs.Batches.{one_cell, order_of}
+use Rattle.seam_accept.specs.Batches.{order_of}
 use Rattle.seam_accept.specs.BookView.{BookView}
 
 -- the book in code holds what the book of a transcript holds, after this header
 pub record Refines (h : Header) (b : Book) (book : BookView) : Type 0 where
   pub header : book.header ≡ h
-  pub tree : book.tree ≡ one_cell h
+  pub tree : book.tree ≡ tree_of b
+  pub in_one_cell : IsInOneCell h.settings.size b
   pub entities : EntitiesRefine b book.entities
   pub creates : book.creates ≡ creates_of b.current
-  pub orders : book.orders ≡ map order_of (calls_of b.current)
+  pub orders : book.orders ≡ map (order_of h) (calls_of b.current)
 
 -- A line was not refused: the verdict on it, and the book after it.
 abbrev pub LineAccepted : Header → Book → Line → Accepted → BookView → Type 0
-LineAccepted h b line answer.Kept after = (x : Entry) × Judges h b line (verdict.Accepted x) × Refines h (with_entry b x) after
-LineAccepted h b line answer.Synced after = Judges h b line verdict.Synced × Refines h b after
-LineAccepted h b line answer.Skipped after = Judges h b line verdict.Skipped × Refines h b after
+LineAccepted h b line answer.Kept after = (x : Entry) × Judges OneCell h b line (verdict.Accepted x) × Refines h (with_entry b x) after
+LineAccepted h b line answer.Synced after = Judges OneCell h b line verdict.Synced × Refines h b after
+LineAccepted h b line answer.Skipped after = Judges OneCell h b line verdict.Skipped × Refines h b after
 
 -- a line was refused for its first cause; want of memory tells nothing of it
 abbrev pub LineRefused : Header → Book → Line → Refusal → Type 0
-LineRefused h b line (refusal.Cause c) = Judges h b line (verdict.Refused c)
+LineRefused h b line (refusal.Cause c) = Judges OneCell h b line (verdict.Refused c)
 LineRefused h b line refusal.NoMemory = ⊤
 
 -- the same of a line that spells a command, by the command

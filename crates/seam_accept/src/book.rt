@@ -3,23 +3,24 @@ ghost use Rattle.std.specs.Prelude.{◌≡◌, ◌≤◌, ℕ, None, length, IfO
 ghost use Rattle.seam_io.specs.Lines.{Content};
 ghost use Rattle.seam_defs.specs.Settings.{AreInRange};
 ghost use Rattle.seam_toml.specs.declared.header.Header.{Header as Headers};
-ghost use Rattle.seam_transcript.specs.Language.{Command as Commands};
+ghost use Rattle.seam_transcript.specs.Language.{words_of, NamesCommand};
+ghost use Rattle.seam_transcript.specs.declared.commands.Commands.TheVariants.{OneCell};
 ghost use Rattle.seam_transcript.specs.Book.{Book as Books, empty_book, open_lines, with_entry, with_round_ended, created_as};
-ghost use Rattle.seam_call.specs.declared.sender.Sender.TheVariants as Sender;
+ghost use Rattle.seam_defs.specs.declared.limits.TheConstants.{MOST_BASE_NODES};
 ghost use Rattle.seam_accept.specs.Commands.{create_of, call_of};
 ghost use Rattle.seam_accept.specs.Entities.{entity_at, IsNextCall};
 ghost use Rattle.seam_accept.specs.Judging.{Refuses};
-ghost use Rattle.seam_accept.specs.Batches.{batch_of, passes_to};
+ghost use Rattle.seam_accept.specs.Batches.{batch_of, passes_to, node_of as node_of_sender};
 ghost use Rattle.seam_accept.specs.Refines.{Refines, LineAccepted, LineRefused, CommandAccepted};
 
 use crate::answers::{Accepted, Refusal};
 use crate::command::{CallWords, Command, CreateWords, Form, read_line};
 use crate::entity::{Entity, keep_last};
-use crate::judging::{Sent, judge_call, judge_create};
-use seam_call::{Batch, Call, Create, Order};
+use crate::judging::{judge_call, judge_create};
+use seam_call::{Batch, Call, Create, Order, Sender};
 use seam_defs::{Listed, Part};
 use seam_io::LONGEST_LINE;
-use seam_transcript::{Entry, Header};
+use seam_transcript::{Commands, Entry, Header};
 use seam_tree::{MOST_CELLS, Tree};
 use seam_words::MOST_WORDS;
 use std::alloc::{AllocError, Global};
@@ -42,8 +43,11 @@ pub struct Book {
 
 impl Model for Book {
     ghost use Rattle.seam_accept.specs.BookView.{BookView};
+    ghost use Rattle.seam_defs.specs.Settings.{AreInRange};
 
     ghost Value = { BookView };
+
+    ghost invariant = { λ b. AreInRange b.header.settings };
 
     ghost view = { λ b. record {
       header = b.header;
@@ -58,7 +62,7 @@ impl Book {
     /// A book in which nothing was accepted, after this header.
     pub fn new(alloc: Global, header: &Header) -> Result<Book, AllocError>
         requires { AreInRange header.now.settings }
-        ensures { IfOk result (Refines header.now empty_book) }
+        ensures { IfOk result (Refines header.now (empty_book header.now.settings.size)) }
     {
         let settings = header.settings;
         let defs = header.defs.copy()?;
@@ -83,7 +87,7 @@ impl Book {
         ensures unchanged { OnErr result (self.new ≡ self.old) }
     {
         let mut table: [&[u8]; MOST_WORDS] = [b""; MOST_WORDS];
-        match read_line(line, &mut table) {
+        match read_line(Commands::OneCell, line, &mut table) {
             Ok(read) => match read {
                 Some(command) => self.accept_command(&command),
                 None => Ok(Accepted::Skipped),
@@ -94,6 +98,7 @@ impl Book {
 
     // Takes a command.
     fn accept_command(&mut self, command: &Command) -> Result<Accepted, Refusal>
+        requires { NamesCommand OneCell (words_of command.now) }
         ensures accepted { IfOk result (λ a. (h : Headers) (b : Books) → Refines h b self.old
             → CommandAccepted h b command.now a self.new) }
         ensures refused { IfErr result (λ r. (h : Headers) (b : Books) → Refines h b self.old → Refuses h b command.now r) }
@@ -103,6 +108,8 @@ impl Book {
             Form::Create(words) => self.accept_create(words),
             Form::Call(words) => self.accept_call(words),
             Form::Sync => Ok(Accepted::Synced),
+            // Those of more than one cell are not taken.
+            _ => unreachable!(),
         }
     }
 
@@ -125,8 +132,8 @@ impl Book {
         ensures refused { IfErr result (λ r. (h : Headers) (b : Books) → Refines h b self.old → Refuses h b (call_of words.now) r) }
         ensures unchanged { OnErr result (self.new ≡ self.old) }
     {
-        let sent = judge_call(self.alloc, &self.header, &self.entities, words)?;
-        self.keep_call(sent)?;
+        let call = judge_call(self.alloc, &self.header, &self.entities, words)?;
+        self.keep_call(call)?;
         Ok(Accepted::Kept)
     }
 
@@ -138,23 +145,23 @@ impl Book {
         ensures unchanged { OnErr result (self.new ≡ self.old) }
     {
         self.creates.reserve(1)?;
-        let _ = self.entities.insert(create.entity, Entity::new(create.ty))?;
+        let _ = self
+            .entities
+            .insert(create.entity, Entity::new(self.alloc, create.ty))?;
         self.creates.push_reserved(create);
         Ok(())
     }
 
     // Keeps a call.
-    fn keep_call(&mut self, sent: Sent) -> Result<(), AllocError>
-        requires { sent.call.sender ≡ Sender.Base sent.node }
-        ensures kept { OnOk result ((h : Headers) (b : Books) → Refines h b self.old → IsNextCall b sent.call
-            → Refines h (with_entry b (Entry.Called sent.call)) self.new) }
+    fn keep_call(&mut self, call: Call) -> Result<(), AllocError>
+        ensures kept { OnOk result ((h : Headers) (b : Books) → Refines h b self.old → IsNextCall b call
+            → Refines h (with_entry b (Entry.Called call)) self.new) }
         ensures unchanged { OnErr result (self.new ≡ self.old) }
     {
         self.orders.reserve(1)?;
-        let Sent { node, call } = sent;
-        keep_last(&mut self.entities, node, &call);
-        self.orders
-            .push_reserved((MOST_CELLS as u8 + node.place() as u8, order(call)));
+        keep_last(&mut self.entities, &call)?;
+        let node = node_of(call.sender, self.header.settings.bases);
+        self.orders.push_reserved((node, order(call)));
         Ok(())
     }
 
@@ -180,6 +187,18 @@ impl Book {
             destroys: Listed::of(Vec::new(self.alloc)),
             balance: false,
         }
+    }
+}
+
+// The node of a sender, among so many base nodes.
+fn node_of(sender: Sender, bases: u32) -> u8
+    requires from { 1 ≤ bases }
+    requires most { bases ≤ MOST_BASE_NODES }
+    ensures { (h : Headers) → h.settings.bases ≡ bases → result ≡ node_of_sender h sender }
+{
+    match sender {
+        Sender::Base(node) => MOST_CELLS as u8 + node.place() as u8,
+        Sender::Client(entity) => MOST_CELLS as u8 + (entity % bases) as u8,
     }
 }
 

@@ -1,15 +1,16 @@
 // The command that a line spells.
-ghost use Rattle.std.specs.Prelude.{◌≡◌, ◌≢◌, ◌≤◌, ◌↔◌, ◌∷◌, IsTrue, IfErr, IfOk, length, codes, Contains, MatchOption};
+ghost use Rattle.std.specs.Prelude.{◌≡◌, ◌≢◌, ◌≤◌, ◌↔◌, ◌∷◌, [], IsTrue, IfErr, IfOk, length, codes, Contains, MatchOption};
 ghost use Rattle.seam_io.specs.Lines.{Content};
-ghost use Rattle.seam_transcript.specs.Language.{IsSkipped, words_of, command_names, NamesCommand};
+ghost use Rattle.seam_transcript.specs.Language.{IsSkipped, words_of, names_in_one_cell, further_names, command_names, NamesCommand};
 ghost use Rattle.seam_transcript.specs.Language.{SpellsCommand, Command as Commands};
-ghost use Rattle.seam_transcript.specs.Book.{Book, Judges};
+ghost use Rattle.seam_transcript.specs.Book.{Book};
+ghost use Rattle.seam_transcript.specs.Judging.{Judges};
 ghost use Rattle.seam_toml.specs.declared.header.Header.{Header};
 ghost use Rattle.seam_transcript.specs.declared.verdict.Verdict.TheVariants.{Refused};
 ghost use Rattle.seam_accept.specs.Commands.{texts_of, command_of, IsFaultOfWords};
 
 use seam_io::LONGEST_LINE;
-use seam_transcript::Cause;
+use seam_transcript::{Cause, Commands as Taken};
 use seam_words::{MOST_WORDS, words_of_line};
 use std::marker::Model;
 
@@ -50,6 +51,21 @@ pub struct CallWords<'a, 'b> {
     pub deed: DeedWords<'a, 'b>,
 }
 
+/// The words of a `cut`: a cell, an axis and a place on it.
+#[derive(Clone, Copy)]
+pub struct CutWords<'a> {
+    pub cell: &'a [u8],
+    pub axis_name: &'a [u8],
+    pub at: &'a [u8],
+}
+
+/// The words of a `shift`: a boundary and its new place.
+#[derive(Clone, Copy)]
+pub struct ShiftWords<'a> {
+    pub boundary: &'a [u8],
+    pub at: &'a [u8],
+}
+
 /// What kind of command it is, and its words.
 #[derive(Clone, Copy)]
 pub enum Form<'a, 'b> {
@@ -57,6 +73,16 @@ pub enum Form<'a, 'b> {
     Call(CallWords<'a, 'b>),
     /// It ends the round.
     Sync,
+    /// It gives an entity a client.
+    Client(&'a [u8]),
+    /// All witnesses look.
+    Tick,
+    Cut(CutWords<'a>),
+    Shift(ShiftWords<'a>),
+    /// The boundaries are balanced when the round ends.
+    Balance,
+    /// It destroys an entity.
+    Destroy(&'a [u8]),
 }
 
 /// A command, by its words. What they name is looked up when it is judged. Contracts see the command of the language.
@@ -89,53 +115,82 @@ impl<'a, 'b> Command<'a, 'b> {
     }
 }
 
-/// Reads a line, with a table for its words: None where it has none, and else its command, or why each book refuses it.
+/// Reads a line, with a table for its words, where these commands are taken: None where it has none, and else its command, or why each book
+/// refuses it.
 pub fn read_line<'a, 'b>(
+    taken: Taken,
     line: &'a [u8],
     table: &'b mut [&'a [u8]; MOST_WORDS],
 ) -> Result<Option<Command<'a, 'b>>, Cause>
     requires { length line.now ≤ LONGEST_LINE }
-    ensures command { IfOk result (λ read. MatchOption read (IsSkipped line.now) (λ c. ¬ (IsSkipped line.now) × SpellsCommand line.now c)) }
-    ensures cause { IfErr result (λ cause. (h : Header) (b : Book) → Judges h b (Content line.now) (Refused cause)) }
+    ensures command { IfOk result (λ read. MatchOption read (IsSkipped line.now) (λ c. ¬ (IsSkipped line.now)
+        × SpellsCommand line.now c × NamesCommand taken (words_of c))) }
+    ensures cause { IfErr result (λ cause. (h : Header) (b : Book) → Judges taken h b (Content line.now) (Refused cause)) }
 {
     if is_skipped(line) {
         return Ok(None);
     }
     match words_of_line(line, table) {
-        Ok(words) => match read_words(words) {
-            Some(command) => Ok(Some(command)),
-            None => Err(fault_of_words(words)),
-        },
+        Ok(words) => Ok(Some(read_taken(taken, words)?)),
         Err(error) => Err(Cause::BadWords(error)),
     }
 }
 
-// Why words spell no command.
-fn fault_of_words(words: &[&[u8]]) -> Cause
-    requires { (c : Commands) → texts_of words.now ≢ words_of c }
-    ensures { IsFaultOfWords (texts_of words.now) result }
+// The command that words spell, where it is taken.
+fn read_taken<'a, 'b>(taken: Taken, words: &'b [&'a [u8]]) -> Result<Command<'a, 'b>, Cause>
+    ensures command { IfOk result (λ c. (texts_of words.now ≡ words_of c) × NamesCommand taken (words_of c)) }
+    ensures cause { IfErr result (IsFaultOfWords taken (texts_of words.now)) }
 {
-    if begin_with_name(words) {
-        Cause::WrongCount
-    } else {
-        Cause::NoCommand
+    if !begin_with_name(taken, words) {
+        return Err(Cause::NoCommand);
+    }
+    match read_words(words) {
+        Some(command) => Ok(command),
+        None => Err(Cause::WrongCount),
     }
 }
 
-// Whether the first of the words is that of a command.
-fn begin_with_name(words: &[&[u8]]) -> bool
-    ensures { IsTrue result ↔ NamesCommand (texts_of words.now) }
+// Whether the first of the words is that of a command that is taken.
+fn begin_with_name(taken: Taken, words: &[&[u8]]) -> bool
+    ensures { IsTrue result ↔ NamesCommand taken (texts_of words.now) }
 {
     match words {
-        [first, ..] => is_command_name(first),
+        [first, ..] => is_command_name(taken, first),
         [] => false,
     }
 }
 
-fn is_command_name(word: &[u8]) -> bool
-    ensures { IsTrue result ↔ Contains command_names word.now }
+fn is_command_name(taken: Taken, word: &[u8]) -> bool
+    ensures { IsTrue result ↔ Contains (command_names taken) word.now }
+{
+    match taken {
+        Taken::OneCell => is_name_in_one_cell(word),
+        Taken::All => is_name_in_one_cell(word) || is_further_name(word),
+    }
+}
+
+fn is_name_in_one_cell(word: &[u8]) -> bool
+    ensures { IsTrue result ↔ Contains names_in_one_cell word.now }
 {
     matches!(word, b"create" | b"call" | b"move" | b"sync")
+}
+
+fn is_further_name(word: &[u8]) -> bool
+    ensures { IsTrue result ↔ Contains further_names word.now }
+{
+    is_client_tick_or_cut(word) || is_shift_balance_or_destroy(word)
+}
+
+fn is_client_tick_or_cut(word: &[u8]) -> bool
+    ensures { IsTrue result ↔ Contains (codes "client" ∷ codes "tick" ∷ codes "cut" ∷ []) word.now }
+{
+    matches!(word, b"client" | b"tick" | b"cut")
+}
+
+fn is_shift_balance_or_destroy(word: &[u8]) -> bool
+    ensures { IsTrue result ↔ Contains (codes "shift" ∷ codes "balance" ∷ codes "destroy" ∷ []) word.now }
+{
+    matches!(word, b"shift" | b"balance" | b"destroy")
 }
 
 // Whether the line has no other bytes than spaces and tabs, or begins with `#` after them.
@@ -174,6 +229,18 @@ fn read_command<'a, 'b>(first: &[u8], rest: &'b [&'a [u8]]) -> Option<Command<'a
         read_call(rest)
     } else if first == b"move".as_slice() {
         read_move(rest)
+    } else if first == b"client".as_slice() {
+        read_client(rest)
+    } else if first == b"tick".as_slice() {
+        read_tick(rest)
+    } else if first == b"cut".as_slice() {
+        read_cut(rest)
+    } else if first == b"shift".as_slice() {
+        read_shift(rest)
+    } else if first == b"balance".as_slice() {
+        read_balance(rest)
+    } else if first == b"destroy".as_slice() {
+        read_destroy(rest)
     } else {
         None
     }
@@ -237,6 +304,82 @@ fn read_move<'a, 'b>(words: &'b [&'a [u8]]) -> Option<Command<'a, 'b>>
             entity,
             deed: DeedWords::Move(PlaceWords { x, z }),
         }))),
+        _ => None,
+    }
+}
+
+// The words after `client`.
+fn read_client<'a, 'b>(words: &'b [&'a [u8]]) -> Option<Command<'a, 'b>>
+    ensures { MatchOption result
+        ((c : Commands) → codes "client" ∷ texts_of words.now ≢ words_of c)
+        (λ c. codes "client" ∷ texts_of words.now ≡ words_of c) }
+{
+    match words {
+        [entity] => Some(Command::of(Form::Client(entity))),
+        _ => None,
+    }
+}
+
+// The words after `tick`.
+fn read_tick<'a, 'b>(words: &'b [&'a [u8]]) -> Option<Command<'a, 'b>>
+    ensures { MatchOption result
+        ((c : Commands) → codes "tick" ∷ texts_of words.now ≢ words_of c)
+        (λ c. codes "tick" ∷ texts_of words.now ≡ words_of c) }
+{
+    match words {
+        [] => Some(Command::of(Form::Tick)),
+        _ => None,
+    }
+}
+
+// The words after `cut`.
+fn read_cut<'a, 'b>(words: &'b [&'a [u8]]) -> Option<Command<'a, 'b>>
+    ensures { MatchOption result
+        ((c : Commands) → codes "cut" ∷ texts_of words.now ≢ words_of c)
+        (λ c. codes "cut" ∷ texts_of words.now ≡ words_of c) }
+{
+    match words {
+        [cell, axis_name, at] => Some(Command::of(Form::Cut(CutWords {
+            cell,
+            axis_name,
+            at,
+        }))),
+        _ => None,
+    }
+}
+
+// The words after `shift`.
+fn read_shift<'a, 'b>(words: &'b [&'a [u8]]) -> Option<Command<'a, 'b>>
+    ensures { MatchOption result
+        ((c : Commands) → codes "shift" ∷ texts_of words.now ≢ words_of c)
+        (λ c. codes "shift" ∷ texts_of words.now ≡ words_of c) }
+{
+    match words {
+        [boundary, at] => Some(Command::of(Form::Shift(ShiftWords { boundary, at }))),
+        _ => None,
+    }
+}
+
+// The words after `balance`.
+fn read_balance<'a, 'b>(words: &'b [&'a [u8]]) -> Option<Command<'a, 'b>>
+    ensures { MatchOption result
+        ((c : Commands) → codes "balance" ∷ texts_of words.now ≢ words_of c)
+        (λ c. codes "balance" ∷ texts_of words.now ≡ words_of c) }
+{
+    match words {
+        [] => Some(Command::of(Form::Balance)),
+        _ => None,
+    }
+}
+
+// The words after `destroy`.
+fn read_destroy<'a, 'b>(words: &'b [&'a [u8]]) -> Option<Command<'a, 'b>>
+    ensures { MatchOption result
+        ((c : Commands) → codes "destroy" ∷ texts_of words.now ≢ words_of c)
+        (λ c. codes "destroy" ∷ texts_of words.now ≡ words_of c) }
+{
+    match words {
+        [entity] => Some(Command::of(Form::Destroy(entity))),
         _ => None,
     }
 }

@@ -1,45 +1,96 @@
 // The deeds that words ask of an entity.
-ghost use Rattle.std.specs.Prelude.{◌≡◌, ◌≢◌, ◌<◌, ℕ, List, IfOk, IfErr, length};
+ghost use Rattle.std.specs.Prelude.{◌≡◌, ◌≢◌, ◌<◌, ℕ, List, IfOk, IfErr, MatchBool, length};
 ghost use Rattle.seam_value.specs.Values.{Fits, text_of};
 ghost use Rattle.seam_value.specs.declared.values.Value.{Value as Values};
 ghost use Rattle.seam_defs.specs.Types.{IsType, method_of};
-ghost use Rattle.seam_transcript.specs.Book.{SpellsArgs, NamesDeed};
+ghost use Rattle.seam_transcript.specs.Judging.{SpellsArgs, NamesDeed, NamesMove, MayCall, MayMove};
 ghost use Rattle.seam_accept.specs.Commands.{texts_of};
-ghost use Rattle.seam_accept.specs.Judging.{Asks, NoMethod, NoDeed, IsIllTyped};
+ghost use Rattle.seam_accept.specs.Judging.{Asks, MayAsk, NoMethod, NoMove, NoDeed, IsIllTyped};
 
 use crate::answers::Refusal;
-use crate::command::{DeedWords, MethodWords};
+use crate::command::{DeedWords, MethodWords, PlaceWords};
 use crate::naming::{method_named, position_named};
-use seam_defs::{Args, Deed, Method, TypeDef};
+use seam_call::Sender;
+use seam_defs::{Args, Deed, Method, Part, TypeDef};
 use seam_transcript::{Cause, Header};
 use seam_value::{Value, ValueError, ValueType};
 use std::alloc::Global;
+
+/// Who asks which entity for a deed.
+#[derive(Clone, Copy)]
+pub struct Asked {
+    pub sender: Sender,
+    pub entity: u32,
+}
 
 /// The deed that words ask of an entity of a type.
 pub fn deed_named(
     alloc: Global,
     header: &Header,
+    asked: &Asked,
     t: &TypeDef,
     words: &DeedWords,
 ) -> Result<Deed, Refusal>
     requires { IsType t.now }
     ensures deed { IfOk result (Asks header.now words.now t.now) }
-    ensures none { IfErr result (NoDeed header.now words.now t.now) }
+    ensures may { IfOk result (MayAsk asked.now.sender asked.now.entity t.now) }
+    ensures none { IfErr result (NoDeed header.now asked.now.sender asked.now.entity words.now t.now) }
 {
     match words {
-        DeedWords::Method(words) => method_deed(alloc, t, words),
-        DeedWords::Move(words) => match position_named(header, words) {
-            Some(to) => Ok(Deed::Move(to)),
-            None => Err(Refusal::Cause(Cause::IllTyped)),
-        },
+        DeedWords::Method(words) => method_deed(alloc, asked, t, words),
+        DeedWords::Move(words) => move_deed(header, asked, words),
+    }
+}
+
+// A move to the place that the words spell.
+fn move_deed(header: &Header, asked: &Asked, words: &PlaceWords) -> Result<Deed, Refusal>
+    ensures deed { IfOk result (NamesMove header.now words.now.x.now words.now.z.now) }
+    ensures may { IfOk result (λ _. MayMove asked.now.sender asked.now.entity) }
+    ensures none { IfErr result (NoMove header.now asked.now.sender asked.now.entity words.now) }
+{
+    if !may_move(asked) {
+        return Err(Refusal::Cause(Cause::UnknownMethod));
+    }
+    match position_named(header, words) {
+        Some(to) => Ok(Deed::Move(to)),
+        None => Err(Refusal::Cause(Cause::IllTyped)),
+    }
+}
+
+// Whether the sender may move the entity.
+fn may_move(asked: &Asked) -> bool
+    ensures { MatchBool result (MayMove asked.now.sender asked.now.entity) (¬ (MayMove asked.now.sender asked.now.entity)) }
+{
+    match asked.sender {
+        Sender::Base(_) => true,
+        Sender::Client(own) => own == asked.entity,
+    }
+}
+
+// Whether the sender may call a method of the entity.
+fn may_call(asked: &Asked, method: &Method) -> bool
+    ensures { MatchBool result (MayCall asked.now.sender asked.now.entity method.now)
+        (¬ (MayCall asked.now.sender asked.now.entity method.now)) }
+{
+    match asked.sender {
+        Sender::Base(_) => true,
+        Sender::Client(own) => {
+            method.exposed && (matches!(method.part, Part::Cell) || own == asked.entity)
+        }
     }
 }
 
 // A method of the type, with its arguments.
-fn method_deed(alloc: Global, t: &TypeDef, words: &MethodWords) -> Result<Deed, Refusal>
+fn method_deed(
+    alloc: Global,
+    asked: &Asked,
+    t: &TypeDef,
+    words: &MethodWords,
+) -> Result<Deed, Refusal>
     requires { IsType t.now }
     ensures deed { IfOk result (NamesDeed (texts_of words.now.arguments.now) words.now.name.now t.now) }
-    ensures none { IfErr result (NoMethod words.now t.now) }
+    ensures may { IfOk result (MayAsk asked.now.sender asked.now.entity t.now) }
+    ensures none { IfErr result (NoMethod asked.now.sender asked.now.entity words.now t.now) }
 {
     let Some(number) = method_named(t, words.name) else {
         return Err(Refusal::Cause(Cause::UnknownMethod));
@@ -47,6 +98,9 @@ fn method_deed(alloc: Global, t: &TypeDef, words: &MethodWords) -> Result<Deed, 
     let Some(method) = t.method(number) else {
         unreachable!()
     };
+    if !may_call(asked, method) {
+        return Err(Refusal::Cause(Cause::UnknownMethod));
+    }
     let args = args_named(alloc, method, words.arguments)?;
     Ok(Deed::Method(number, args))
 }

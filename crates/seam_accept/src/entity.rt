@@ -1,63 +1,74 @@
 // What is kept of an entity.
-ghost use Rattle.std.specs.Prelude.{◌≡◌, ◌+◌, ◌-◌, ◌<◌, ℕ, IfOk, length, slice_index};
+ghost use Rattle.std.specs.Prelude.{◌≡◌, ◌+◌, ℕ, true, false, IfOk, OnOk, OnErr};
+ghost use Rattle.seam_call.specs.Senders.{IsSender};
+ghost use Rattle.seam_call.specs.declared.sender.Sender.{Sender as Senders};
 ghost use Rattle.seam_defs.specs.declared.flags.Part.{Part as Parts};
-ghost use Rattle.seam_accept.specs.Entities.{last_of, with_last, KeepsLast};
+ghost use Rattle.seam_accept.specs.Last.{number_of};
+ghost use Rattle.seam_accept.specs.Entities.{last_of, Remembers, KeepsLast};
 
 use crate::count::next_count;
-use seam_call::{BaseNode, Call};
-use seam_defs::{MOST_BASE_NODES, Part};
-use std::alloc::AllocError;
+use crate::last::LastCalls;
+use seam_call::{Call, Sender};
+use seam_defs::Part;
+use std::alloc::{AllocError, Global};
 use std::collections::BTreeMap;
 
-/// An entity: its type, and for each part and base node the number of the last call, 0 where there was none.
+/// An entity: its type, whether it lives, whether it was given a client, and for each part and sender the number of the last call.
 #[derive(Drop)]
 pub struct Entity {
     pub ty: u16,
-    cell: [u64; MOST_BASE_NODES as usize],
-    base: [u64; MOST_BASE_NODES as usize],
+    pub live: bool,
+    pub joined: bool,
+    cell: LastCalls,
+    base: LastCalls,
 }
 
 impl Entity {
-    /// An entity that no call was accepted for.
-    pub fn new(ty: u16) -> Self
+    /// A live entity without a client that no call was accepted for.
+    pub fn new(alloc: Global, ty: u16) -> Self
         ensures ty { result.ty ≡ ty }
-        ensures nodes { (p : Parts) → length (last_of p result) ≡ MOST_BASE_NODES }
-        ensures last { (p : Parts) (k : ℕ) → k < MOST_BASE_NODES → slice_index (last_of p result) k ≡ 0 }
+        ensures live { result.live ≡ true }
+        ensures joined { result.joined ≡ false }
+        ensures last { (p : Parts) (s : Senders) → IsSender s → number_of (last_of p result) s ≡ 0 }
     {
         Entity {
             ty,
-            cell: [0; MOST_BASE_NODES as usize],
-            base: [0; MOST_BASE_NODES as usize],
+            live: true,
+            joined: false,
+            cell: LastCalls::new(alloc),
+            base: LastCalls::new(alloc),
         }
     }
 
-    /// The number of a base node's next call to a part.
-    pub fn next_number(&self, part: Part, node: BaseNode) -> Result<u64, AllocError>
-        ensures { IfOk result (λ n. n ≡ slice_index (last_of part self.now) (node - 1) + 1) }
+    /// The number of a sender's next call to a part.
+    pub fn next_number(&self, part: Part, sender: Sender) -> Result<u64, AllocError>
+        ensures { IfOk result (λ n. n ≡ number_of (last_of part self.now) sender + 1) }
     {
         match part {
-            Part::Cell => next_count(self.cell[node.place()]),
-            Part::Base => next_count(self.base[node.place()]),
+            Part::Cell => next_count(self.cell.number(sender)),
+            Part::Base => next_count(self.base.number(sender)),
         }
     }
 
-    /// Keeps the number of a base node's last call to a part.
-    pub fn keep_last(&mut self, part: Part, node: BaseNode, number: u64)
-        ensures { self.new ≡ with_last part (node - 1) number self.old }
+    /// Keeps the number of a sender's last call to a part.
+    pub fn keep_last(&mut self, part: Part, sender: Sender, number: u64) -> Result<(), AllocError>
+        ensures kept { OnOk result (Remembers part sender number self.old self.new) }
+        ensures unchanged { OnErr result (self.new ≡ self.old) }
     {
         match part {
-            Part::Cell => self.cell[node.place()] = number,
-            Part::Base => self.base[node.place()] = number,
+            Part::Cell => self.cell.keep(sender, number),
+            Part::Base => self.base.keep(sender, number),
         }
     }
 }
 
-/// Keeps the number of a call as that of its base node's last one.
-pub fn keep_last(entities: &mut BTreeMap<u32, Entity>, node: BaseNode, call: &Call)
-    ensures { KeepsLast entities.old.entries entities.new.entries node call.now }
+/// Keeps the number of a call as that of its sender's last one.
+pub fn keep_last(entities: &mut BTreeMap<u32, Entity>, call: &Call) -> Result<(), AllocError>
+    ensures kept { OnOk result (KeepsLast entities.old.entries entities.new.entries call.now) }
+    ensures unchanged { OnErr result (entities.new.entries ≡ entities.old.entries) }
 {
     let Some(called) = entities.get_mut(&call.entity) else {
-        return;
+        return Ok(());
     };
-    called.keep_last(call.part, node, call.number);
+    called.keep_last(call.part, call.sender, call.number)
 }

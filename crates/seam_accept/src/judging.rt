@@ -1,28 +1,22 @@
 // The judging of commands: the first cause that holds against one, or what it adds.
 ghost use Rattle.std.specs.Prelude.{◌≡◌, ◌<◌, ℕ, IfOk, IfErr, None};
-ghost use Rattle.seam_transcript.specs.Book.{Book, HoldsAgainst, IsFirst};
+ghost use Rattle.seam_transcript.specs.Book.{Book};
+ghost use Rattle.seam_transcript.specs.Judging.{HoldsAgainst, IsFirst};
 ghost use Rattle.seam_accept.specs.Commands.{create_of, call_of};
 ghost use Rattle.seam_accept.specs.Entities.{EntitiesRefine, entity_at};
 ghost use Rattle.seam_accept.specs.Judging.{Accepts, Refuses};
 
 use crate::answers::Refusal;
 use crate::command::{CallWords, CreateWords};
-use crate::deeds::deed_named;
+use crate::deeds::{Asked, deed_named};
 use crate::entity::Entity;
-use crate::naming::{base_named, type_named};
-use seam_call::{BaseNode, Call, Create, Sender};
+use crate::naming::{live_entity, sender_named, type_named};
+use seam_call::{Call, Create};
 use seam_geo::Pos;
 use seam_transcript::{Cause, Entry, Header, MOST_ENTITIES};
 use seam_value::{positive_number, whole_number};
 use std::alloc::Global;
 use std::collections::BTreeMap;
-
-/// A call, and the base node that sends it.
-#[derive(Drop)]
-pub struct Sent {
-    pub node: BaseNode,
-    pub call: Call,
-}
 
 /// The entity that a `create` makes.
 pub fn judge_create(
@@ -68,33 +62,32 @@ pub fn judge_call(
     header: &Header,
     entities: &BTreeMap<u32, Entity>,
     words: &CallWords,
-) -> Result<Sent, Refusal>
-    ensures sender { IfOk result (λ s. s.call.sender ≡ Sender.Base s.node) }
-    ensures accepted { IfOk result (λ s. (b : Book) → EntitiesRefine b entities.now.entries
-        → Accepts header.now b (call_of words.now) (Entry.Called s.call)) }
+) -> Result<Call, Refusal>
+    ensures accepted { IfOk result (λ call. (b : Book) → EntitiesRefine b entities.now.entries
+        → Accepts header.now b (call_of words.now) (Entry.Called call)) }
     ensures refused { IfErr result (λ r. (b : Book) → EntitiesRefine b entities.now.entries
         → Refuses header.now b (call_of words.now) r) }
 {
     let Some(entity) = positive_number(words.entity) else {
         return Err(Refusal::Cause(Cause::BadNumber));
     };
-    let Some(node) = base_named(words.sender_name, header.settings.bases) else {
+    let Some(sender) = sender_named(header, entities, words.sender_name) else {
         return Err(Refusal::Cause(Cause::NoSender));
     };
-    let Some(called) = entities.get(&entity) else {
+    let Some(called) = live_entity(entities, entity) else {
         return Err(Refusal::Cause(Cause::Dead));
     };
     header.defs.known();
     let t = header.defs.type_at(called.ty);
-    let deed = deed_named(alloc, header, t, &words.deed)?;
+    let asked = Asked { sender, entity };
+    let deed = deed_named(alloc, header, &asked, t, &words.deed)?;
     let part = t.part_of(&deed);
-    let number = called.next_number(part, node)?;
-    let call = Call {
+    let number = called.next_number(part, asked.sender)?;
+    Ok(Call {
         entity,
         part,
-        sender: Sender::Base(node),
+        sender: asked.sender,
         number,
         deed,
-    };
-    Ok(Sent { node, call })
+    })
 }

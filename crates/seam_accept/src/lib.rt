@@ -10,6 +10,7 @@ mod deeds;
 mod entity;
 mod header;
 mod judging;
+mod last;
 mod naming;
 
 pub use answers::{Accepted, Refusal};

@@ -1,18 +1,23 @@
 // What words name.
-ghost use Rattle.std.specs.Prelude.{◌≡◌, ◌≢◌, ◌<◌, ◌≤◌, ◌↔◌, ℕ, IsTrue, MatchOption};
+ghost use Rattle.std.specs.Prelude.{◌≡◌, ◌≢◌, ◌<◌, ◌≤◌, ◌↔◌, ℕ, IsTrue, None, Some, MatchOption};
 ghost use Rattle.seam_value.specs.NumberWords.{SpellsNumber};
 ghost use Rattle.seam_geo.specs.declared.pos.Pos.{Pos as Positions};
 ghost use Rattle.seam_defs.specs.Types.{IsType};
 ghost use Rattle.seam_call.specs.BaseNodes.{IsBaseNodeOf};
 ghost use Rattle.seam_transcript.specs.Language.{sender_text};
-ghost use Rattle.seam_transcript.specs.Book.{NamesType, NamesMethod, SpellsPosition};
+ghost use Rattle.seam_call.specs.declared.sender.Sender.{Sender as Senders};
+ghost use Rattle.seam_transcript.specs.Book.{Book, has_client, live_as};
+ghost use Rattle.seam_accept.specs.Entities.{EntitiesRefine, IsLive};
+ghost use Rattle.seam_transcript.specs.Judging.{NamesSender, NamesType, NamesMethod, SpellsPosition};
 
 use crate::command::PlaceWords;
+use crate::entity::Entity;
 use seam_call::{BaseNode, Sender};
 use seam_defs::{Defs, MOST_BASE_NODES, TypeDef};
 use seam_geo::Pos;
 use seam_transcript::Header;
 use seam_value::whole_number;
+use std::collections::BTreeMap;
 
 /// The base node of this name, of so many: `b`, and its number from 1 on.
 pub fn base_named(name: &[u8], bases: u32) -> Option<BaseNode>
@@ -32,6 +37,62 @@ pub fn base_named(name: &[u8], bases: u32) -> Option<BaseNode>
             None => None,
         },
         _ => None,
+    }
+}
+
+/// The sender of this name that is there: a base node, of so many, or the client of a live entity.
+pub fn sender_named(
+    header: &Header,
+    entities: &BTreeMap<u32, Entity>,
+    name: &[u8],
+) -> Option<Sender>
+    ensures { (b : Book) → EntitiesRefine b entities.now.entries → MatchOption result
+        ((s : Senders) → ¬ (NamesSender header.now b name.now s)) (NamesSender header.now b name.now) }
+{
+    match base_named(name, header.settings.bases) {
+        Some(node) => Some(Sender::Base(node)),
+        None => Some(Sender::Client(client_named(entities, name)?)),
+    }
+}
+
+// The live entity with a client of this name: `c`, and the number of the entity.
+fn client_named(entities: &BTreeMap<u32, Entity>, name: &[u8]) -> Option<u32>
+    ensures { (b : Book) → EntitiesRefine b entities.now.entries → MatchOption result
+        ((e : ℕ) → IsTrue (has_client b e) → sender_text (Sender.Client e) ≢ name.now)
+        (λ e. IsTrue (has_client b e) × (sender_text (Sender.Client e) ≡ name.now)) }
+{
+    match name {
+        [b'c', number @ ..] => {
+            let Some(entity) = whole_number(number) else {
+                return None;
+            };
+            if has_client_now(entities, entity) {
+                Some(entity)
+            } else {
+                None
+            }
+        }
+        _ => None,
+    }
+}
+
+/// Whether the entity lives and has a client.
+pub fn has_client_now(entities: &BTreeMap<u32, Entity>, entity: u32) -> bool
+    ensures { (b : Book) → EntitiesRefine b entities.now.entries → result ≡ has_client b entity }
+{
+    match entities.get(&entity) {
+        Some(entity) => entity.live && entity.joined,
+        None => false,
+    }
+}
+
+/// The live entity of this number.
+pub fn live_entity(entities: &BTreeMap<u32, Entity>, entity: u32) -> Option<&Entity>
+    ensures { (b : Book) → EntitiesRefine b entities.now.entries → MatchOption result (live_as b entity ≡ None) (IsLive b entity) }
+{
+    match entities.get(&entity) {
+        Some(found) => { if found.live { Some(found) } else { None } }
+        None => None,
     }
 }
 
@@ -81,7 +142,8 @@ pub fn type_named(defs: &Defs, name: &[u8]) -> Option<u16>
 /// The method of this name of a type.
 pub fn method_named(t: &TypeDef, name: &[u8]) -> Option<u16>
     requires { IsType t.now }
-    ensures { MatchOption result ((m : ℕ) → ¬ (NamesMethod t.now name.now m)) (NamesMethod t.now name.now) }
+    ensures named { MatchOption result ((m : ℕ) → ¬ (NamesMethod t.now name.now m)) (NamesMethod t.now name.now) }
+    ensures only { (m : ℕ) → NamesMethod t.now name.now m → result ≡ Some m }
 {
     t.find_method(name)
 }

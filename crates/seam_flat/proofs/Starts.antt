@@ -82,19 +82,19 @@ round_starts h b t did dob was no_did no_dob = record {
     by_entity part.Cell = none_by_entity did.items no_did
     by_entity part.Base = none_by_entity dob.items no_dob
 
-nothing_accepted : (p : Part) (e : ℕ) (o : Option FlatEntity) → [] ≡ accepted_of empty_book p e o
-nothing_accepted p e None = refl
-nothing_accepted p e (Some v) = refl
+nothing_accepted : (size : ℕ) (p : Part) (e : ℕ) (o : Option FlatEntity) → [] ≡ accepted_of (empty_book size) p e o
+nothing_accepted size p e None = refl
+nothing_accepted size p e (Some v) = refl
 
 -- a table without entities
-pub nothing_made : (h : Header) (t : FlatTable) → t.header ≡ h → t.entities.entries ≡ [] → IsOrdered nat_cmp t.entities →
-    t.did.items ≡ [] → t.dob.items ≡ [] → Refines h empty_book t
-nothing_made h t header none ordered no_did no_dob = record {
+pub nothing_made : (h : Header) (size : ℕ) (t : FlatTable) → t.header ≡ h → t.entities.entries ≡ [] → IsOrdered nat_cmp t.entities →
+    t.did.items ≡ [] → t.dob.items ≡ [] → Refines h (empty_book size) t
+nothing_made h size t header none ordered no_did no_dob = record {
   holds = record {
     header = header;
-    each = λ e. subst (λ (es : List (ℕ × FlatEntity)). MatchOption (lookup (is_at (nat_cmp e)) es) (created_as empty_book e ≡ None)
-        (EntityRefines h empty_book e)) (sym none) refl;
-    done = λ p e. ap (of_entity e) (no_done p) ∙ nothing_accepted p e (get nat_cmp t.entities e);
+    each = λ e. subst (λ (es : List (ℕ × FlatEntity)). MatchOption (lookup (is_at (nat_cmp e)) es) (created_as (empty_book size) e ≡ None)
+        (EntityRefines h (empty_book size) e)) (sym none) refl;
+    done = λ p e. ap (of_entity e) (no_done p) ∙ nothing_accepted size p e (get nat_cmp t.entities e);
     ordered = ordered;
   };
   by_entity = λ p. none_by_entity (done_by p t) (no_done p);

@@ -25,6 +25,8 @@ use Rattle.seam_transcript.specs.InOrder.{in_order, round_in_order, after_round}
 use Rattle.seam_transcript.specs.Standing.{Standing}
 use Rattle.seam_transcript.specs.Round.{HomeLine, BaseLine, RoundData, Lists, home_line, base_line}
 use Rattle.seam_transcript.specs.Round.{IsRound}
+use Rattle.seam_transcript.specs.OneCell.{IsInOneCell}
+use Rattle.seam_transcript.proofs.OneCell.{lists_live}
 use Rattle.seam_transcript.proofs.InOrderLemmas.{found_entity, round_in_order_is_legal}
 use Rattle.seam_flat.specs.Tables.{EntityRefines, Holds, Refines, done_by, of_entity, accepted_of}
 use Rattle.seam_flat.specs.Rounds.{line_of, home_of, base_of, round_of}
@@ -113,8 +115,8 @@ created_live h b t was c is (Some v) found here =
     let made : made_as b (c.entity, v) ≡ c = ap (λ (o : Option Create). unwrap_or o nobody) is in
     subst (Contains (live_of b t.entities.entries)) made (contained_made (made_as b) t.entities.entries (c.entity, v) entry)
 
-lists_live : (h : Header) (b : Book) (t : FlatTable) → Holds h b t → Lists (created_as b) (live_of b t.entities.entries)
-lists_live h b t was = record {
+lists_made : (h : Header) (b : Book) (t : FlatTable) → Holds h b t → Lists (created_as b) (live_of b t.entities.entries)
+lists_made h b t was = record {
   rising =
       rw (made_keys h b t t.entities.entries (entries_are h b t was)) (IsStrictlyIncreasing-from_sorted (tree.keys t.entities) was.ordered);
   exact = λ c. (
@@ -211,8 +213,9 @@ round_is h b t number was =
     (λ k d within. base_is h b t _ (all k d within)))
 
 -- What the table prints is a legal round, after rounds in which all calls were executed as they were accepted.
-pub table_round : (h : Header) (s : Standing) (t : FlatTable) → Refines h s.book t → s.orders ≡ in_order s.book.past
-    → IsRound h s (round_of (s.rounds + 1) t) (after_round s)
-table_round h s t was orders =
+pub table_round : (h : Header) (s : Standing) (t : FlatTable) → Refines h s.book t → IsInOneCell h.settings.size s.book →
+    s.orders ≡ in_order s.book.past → IsRound h s (round_of (s.rounds + 1) t) (after_round s)
+table_round h s t was in_one orders =
     subst (λ (r : RoundData). IsRound h s r (after_round s)) (round_is h s.book t (s.rounds + 1) was)
-    (round_in_order_is_legal h s (live_of s.book t.entities.entries) (lists_live h s.book t was.holds) orders)
+    (round_in_order_is_legal h s (live_of s.book t.entities.entries) (lists_made h s.book t was.holds)
+    (lists_live h.settings.size s.book in_one (live_of s.book t.entities.entries) (lists_made h s.book t was.holds)) orders)

@@ -31,7 +31,7 @@ pub struct FlatTable {
 impl FlatTable {
     /// A world without entities.
     pub fn new(alloc: Global, header: Header) -> Self
-        ensures { Refines header empty_book result }
+        ensures { Refines header (empty_book header.settings.size) result }
     {
         FlatTable {
             alloc,

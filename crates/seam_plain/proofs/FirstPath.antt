@@ -21,6 +21,7 @@ use Rattle.seam_words.specs.Texts.{HasWords}
 use Rattle.seam_io.specs.Lines.{Line, Content, lines_of}
 use Rattle.seam_defs.specs.Builtin.{builtin}
 use Rattle.seam_defs.specs.declared.flags.Part.TheVariants as part
+use Rattle.seam_defs.specs.declared.types.Method.{Method as Methods}
 use Rattle.seam_defs.specs.declared.states.Deed.TheVariants.{Method}
 use Rattle.seam_call.specs.declared.sender.Sender.{Sender}
 use Rattle.seam_call.specs.declared.sender.Sender.TheVariants.{Base}
@@ -32,8 +33,9 @@ use Rattle.seam_defs.specs.Types.{type_of, method_of}
 use Rattle.seam_defs.specs.Deeds.{part_of_deed}
 use Rattle.seam_defs.proofs.WellFormed.{builtin-are-defs}
 use Rattle.seam_call.specs.BaseNodes.{IsBaseNodeOf}
-use Rattle.seam_transcript.specs.Book.{Book, empty_book, created_as, live_as, accepted, with_entry, Adds, HoldsAgainst, Judges}
-use Rattle.seam_transcript.specs.Book.{NamesType, NamesCall, NamesDeed, NamesMethod, SpellsArgs}
+use Rattle.seam_transcript.specs.Book.{Book, created_as, live_as, accepted, with_entry}
+use Rattle.seam_transcript.specs.Judging.{Adds, HoldsAgainst, Judges, MayCall}
+use Rattle.seam_transcript.specs.Judging.{NamesType, NamesCall, NamesDeed, NamesMethod, SpellsArgs}
 use Rattle.seam_transcript.specs.InOrder.{round_in_order, after_round}
 use Rattle.seam_transcript.specs.Standing.{Standing, after_header}
 use Rattle.seam_transcript.specs.Round.{Lists, RoundData, IsRound}
@@ -42,6 +44,8 @@ use Rattle.seam_transcript.specs.Senders.{CallIsFrom, CallsAreFrom}
 use Rattle.seam_transcript.specs.declared.verdict.Entry.TheVariants as entry
 use Rattle.seam_transcript.specs.declared.verdict.Verdict.TheVariants as verdict
 use Rattle.seam_transcript.proofs.SkipLemmas.{has_words_after_gap}
+use Rattle.seam_transcript.specs.declared.commands.Commands.TheVariants.{OneCell}
+use Rattle.seam_transcript.proofs.OneCell.{lists_live}
 use Rattle.seam_transcript.proofs.InOrderLemmas.{round_in_order_is_legal}
 use Rattle.seam_transcript.specs.declared.verdict.Cause.{Cause}
 use Rattle.seam_transcript.specs.declared.verdict.Cause.TheVariants as cause
@@ -49,7 +53,7 @@ use Rattle.seam_transcript.proofs.Verdicts.{command_is_accepted}
 use Rattle.seam_transcript.proofs.OneSender.{transcript_is_one}
 use Rattle.seam_plain.proofs.EmptyHeader.{plain_header}
 use Rattle.seam_plain.proofs.Commands.{named_is_not_refused}
-use Rattle.seam_plain.proofs.Rows.{ended_after, from_one, header_from, sync_from, command_from, sync_judged}
+use Rattle.seam_plain.proofs.Rows.{bare_book, ended_after, from_one, header_from, sync_from, command_from, sync_judged}
 
 -- ---- words
 
@@ -208,7 +212,7 @@ abbrev pub call : Sender → ℕ → ℕ → ℕ → Call
 call s number m n = record { entity = 1; part = part.Cell; sender = s; number = number; deed = Method m (Number (pos n) ∷ []) }
 
 abbrev pub with_avatar : Book
-with_avatar = with_entry empty_book (entry.Created avatar)
+with_avatar = with_entry bare_book (entry.Created avatar)
 
 abbrev pub with_hit : Book
 with_hit = with_entry with_avatar (entry.Called (call (Base 1) 1 3 30))
@@ -227,7 +231,7 @@ spells_100 = record { whole = lit≤ tt; spelled = refl }
 names_avatar : NamesType builtin (codes "Avatar") 0
 names_avatar = record { has = lit≤ tt; named = refl }
 
-adds_create : Adds plain_header empty_book create (entry.Created avatar)
+adds_create : Adds plain_header bare_book create (entry.Created avatar)
 adds_create = (
   avatar,
   record {
@@ -239,7 +243,7 @@ adds_create = (
 )
 
 -- no cause holds against it
-create_unrefused : (k : Cause) → ¬ (HoldsAgainst plain_header empty_book create k)
+create_unrefused : (k : Cause) → ¬ (HoldsAgainst plain_header bare_book create k)
 create_unrefused cause.TooLong holds = holds
 create_unrefused (cause.BadWords f) holds = holds
 create_unrefused cause.NoCommand holds = holds
@@ -258,6 +262,8 @@ create_unrefused cause.NoSender holds = holds
 create_unrefused cause.Dead holds = holds
 create_unrefused cause.UnknownMethod holds = holds
 create_unrefused cause.IllTyped holds = holds
+create_unrefused (cause.CutRefused error) holds = holds
+create_unrefused (cause.ShiftRefused error) holds = holds
 
 pub base_one : language.sender_text (Base 1) ≡ codes "b1"
 unfolding decimal_of
@@ -313,20 +319,20 @@ begins_with_c rest = has_words_after_gap [] 99 rest refl refl (λ e. absurd (ome
 
 -- so many lines were read, and the book is this one
 abbrev pub after_lines : ℕ → Book → Standing
-after_lines lines b = record (after_header 1) { lines = lines; book = b }
+after_lines lines b = record (after_header plain_header 1) { lines = lines; book = b }
 
 pub call_judged : (b : Book) (line s e n : List ℕ) (arguments : List (List ℕ)) (c : Call) → ¬ (language.IsSkipped line) →
     language.SpellsCommand line (language.Call s e n arguments) → NamesCall plain_header b s e (NamesDeed arguments n) c
-    → Judges plain_header b (Content line) (verdict.Accepted (entry.Called c))
-call_judged b line s e n arguments c not spells names =
-    command_is_accepted plain_header b line (language.Call s e n arguments) (entry.Called c) not spells
-    (named_is_not_refused plain_header b s e n arguments c builtin-are-defs names) (c, names, refl)
+    → ((d : ℕ) (m : Methods) → MayCall c.sender d m) → Judges OneCell plain_header b (Content line) (verdict.Accepted (entry.Called c))
+call_judged b line s e n arguments c not spells names may =
+    command_is_accepted OneCell plain_header b line (language.Call s e n arguments) (1, lit≤ tt, refl) spells (entry.Called c) not
+    (named_is_not_refused plain_header b s e n arguments c builtin-are-defs may names) (c, names, refl)
 
-pub create_step : Step plain_header (after_header 1) (Content (codes "create 1 Avatar 100 100")) [] (after_lines 2 with_avatar)
+pub create_step : Step plain_header (after_header plain_header 1) (Content (codes "create 1 Avatar 100 100")) [] (after_lines 2 with_avatar)
 create_step = (
   verdict.Accepted (entry.Created avatar),
-  command_is_accepted plain_header empty_book (codes "create 1 Avatar 100 100") create (entry.Created avatar)
-      (begins_with_c (codes "reate 1 Avatar 100 100")) create_words create_unrefused adds_create,
+  command_is_accepted OneCell plain_header bare_book (codes "create 1 Avatar 100 100") create (0, lit≤ tt, refl) create_words
+      (entry.Created avatar) (begins_with_c (codes "reate 1 Avatar 100 100")) create_unrefused adds_create,
   (refl, refl),
 )
 
@@ -334,7 +340,7 @@ pub hit_step : Step plain_header (after_lines 2 with_avatar) (Content (codes "ca
 hit_step = (
   verdict.Accepted (entry.Called (call (Base 1) 1 3 30)),
   call_judged with_avatar (codes "call b1 1 hit 30") (codes "b1") (codes "1") (codes "hit") (codes "30" ∷ []) (call (Base 1) 1 3 30)
-      (begins_with_c (codes "all b1 1 hit 30")) hit_words names_hit,
+      (begins_with_c (codes "all b1 1 hit 30")) hit_words names_hit (λ d m. tt),
   (refl, refl),
 )
 
@@ -342,7 +348,7 @@ heal_step : Step plain_header (after_lines 3 with_hit) (Content (codes "call b1 
 heal_step = (
   verdict.Accepted (entry.Called (call (Base 1) 2 2 5)),
   call_judged with_hit (codes "call b1 1 heal 5") (codes "b1") (codes "1") (codes "heal") (codes "5" ∷ []) (call (Base 1) 2 2 5)
-      (begins_with_c (codes "all b1 1 heal 5")) heal_words names_heal,
+      (begins_with_c (codes "all b1 1 heal 5")) heal_words names_heal (λ d m. tt),
   (refl, refl),
 )
 
@@ -373,7 +379,10 @@ abbrev first_data : RoundData
 first_data = round_in_order plain_header 1 with_heal (avatar ∷ [])
 
 first_round : IsRound plain_header first_end first_data (after_round first_end)
-first_round = round_in_order_is_legal plain_header first_end (avatar ∷ []) (avatar_alone with_heal (λ e. refl)) refl
+first_round =
+    round_in_order_is_legal plain_header first_end (avatar ∷ []) (avatar_alone with_heal (λ e. refl))
+    (lists_live plain_header.settings.size with_heal (record { tree = refl; past = tt; current = (tt, (tt, (tt, tt))) }) (avatar ∷ [])
+    (avatar_alone with_heal (λ e. refl))) refl
 
 abbrev first_text : List ℕ
 first_text =

@@ -118,7 +118,7 @@ input_lines input items texts among split same lines =
 pub whole_transcript : (input : List ℕ) (among : List (Bor (List ℕ))) (h : Header) (count : ℕ) (out : List ℕ) →
     lines_of input ≡ map line_at among → BeginWithHeader (map line_at among) h count (map line_at (drop count among))
     → ((t : Standing) × (pieces last : List Piece)
-    × Run (Step h) (after_header count) (map line_at (take (length among - count) (drop count among))) pieces t
+    × Run (Step h) (after_header h count) (map line_at (take (length among - count) (drop count among))) pieces t
     × EndsInput h t last × (out ≡ text_of h.defs (pieces ++ last)))
     → IsEnded (lines_of input) out
 whole_transcript input among h count out lines begins (t, pieces, last, run, ends, whole) = (
@@ -131,7 +131,7 @@ whole_transcript input among h count out lines begins (t, pieces, last, run, end
     rest = map line_at (drop count among);
     header = subst (λ (ls : List Line). BeginWithHeader ls h count (map line_at (drop count among))) (sym lines) begins;
     run =
-        subst (λ (ts : List (Bor (List ℕ))). Run (Step h) (after_header count) (map line_at ts) pieces t) (take_rest among count) run;
+        subst (λ (ts : List (Bor (List ℕ))). Run (Step h) (after_header h count) (map line_at ts) pieces t) (take_rest among count) run;
   },
   ends,
   whole,

@@ -17,18 +17,21 @@ use Rattle.seam_call.specs.declared.sender.Sender.TheVariants.{Base}
 use Rattle.seam_transcript.specs.Language as language
 use Rattle.seam_toml.specs.declared.header.Header.{Header}
 use Rattle.seam_transcript.specs.Header.{BeginWithHeader, separator}
-use Rattle.seam_transcript.specs.Book.{Book, empty_book, created_as, open_lines, Judges}
+use Rattle.seam_transcript.specs.Book.{Book, empty_book, created_as, open_lines}
+use Rattle.seam_transcript.specs.Judging.{Judges}
 use Rattle.seam_transcript.specs.InOrder.{round_in_order, after_round}
 use Rattle.seam_transcript.specs.Standing.{Standing, after_header, with_line}
 use Rattle.seam_transcript.specs.Round.{Lists, RoundData, IsRound}
 use Rattle.seam_transcript.specs.Transcript.{Piece, Refusal, Ended, text_of, EndsRound, Step, Run, EndsInput, IsEnded}
+use Rattle.seam_transcript.specs.declared.commands.Commands.TheVariants.{OneCell}
 use Rattle.seam_transcript.specs.declared.verdict.Cause.TheVariants as cause
 use Rattle.seam_transcript.specs.declared.verdict.Verdict.TheVariants as verdict
 use Rattle.seam_transcript.proofs.HeaderLemmas.{no_lines_yet}
+use Rattle.seam_transcript.proofs.OneCell.{lists_live, begins_in_one_cell}
 use Rattle.seam_transcript.proofs.InOrderLemmas.{round_in_order_is_legal}
 use Rattle.seam_transcript.proofs.LineLaws.{unknown_command}
 use Rattle.seam_transcript.proofs.SkipLemmas.{has_words_after_gap}
-use Rattle.seam_transcript.proofs.Verdicts.{line_spells_one}
+use Rattle.seam_transcript.proofs.CommandWords.{line_spells_one}
 use Rattle.seam_transcript.proofs.OneSender.{header_is_one, transcript_is_one}
 use Rattle.seam_transcript.specs.Senders.{AsksFor, CallIsFrom, CallsAreFrom}
 use Rattle.seam_plain.proofs.EmptyHeader.{plain_header, reads_nothing}
@@ -42,23 +45,23 @@ begins_at_once lines rest is =
 
 -- the lines after the header are those after its end
 pub after_separator : (lines rest : List Line) (text : List ℕ) → lines ≡ separator ∷ rest → IsEnded lines text
-    → (pieces last : List Piece) × (t : Standing) × Run (Step plain_header) (after_header 1) rest pieces t × EndsInput plain_header t last
-    × (text ≡ text_of builtin (pieces ++ last))
+    → (pieces last : List Piece) × (t : Standing) × Run (Step plain_header) (after_header plain_header 1) rest pieces t
+    × EndsInput plain_header t last × (text ≡ text_of builtin (pieces ++ last))
 after_separator lines rest text is (h, pieces, last, t, prints, ends, whole) =
     let same = header_is_one lines h plain_header prints.count 1 prints.rest rest prints.header (begins_at_once lines rest is) in (
       pieces,
       last,
       t,
-      subst (λ (k : ℕ). Run (Step plain_header) (after_header k) rest pieces t) same.1
-          (subst (λ (ls : List Line). Run (Step plain_header) (after_header prints.count) ls pieces t) same.2
-          (subst (λ (x : Header). Run (Step x) (after_header prints.count) prints.rest pieces t) same.0 prints.run)),
+      subst (λ (k : ℕ). Run (Step plain_header) (after_header plain_header k) rest pieces t) same.1
+          (subst (λ (ls : List Line). Run (Step plain_header) (after_header plain_header prints.count) ls pieces t) same.2
+          (subst (λ (x : Header). Run (Step x) (after_header x prints.count) prints.rest pieces t) same.0 prints.run)),
       subst (λ (x : Header). EndsInput x t last) same.0 ends,
       whole ∙ ap (λ (x : Header). text_of x.defs (pieces ++ last)) same.0,
     )
 
 -- and the other way round
 pub ended_after : (lines rest : List Line) (pieces last : List Piece) (t : Standing) (text : List ℕ) → lines ≡ separator ∷ rest →
-    Run (Step plain_header) (after_header 1) rest pieces t
+    Run (Step plain_header) (after_header plain_header 1) rest pieces t
     → EndsInput plain_header t last → text ≡ text_of builtin (pieces ++ last) → IsEnded lines text
 ended_after lines rest pieces last t text is run ends whole =
     (plain_header, pieces, last, t, record { count = 1; rest = rest; header = begins_at_once lines rest is; run = run }, ends, whole)
@@ -80,8 +83,8 @@ empty_world text = (
   (λ ended.
       let b = after_separator (lines_of (codes "%%\n")) [] text separator_alone ended in
       b.5 ∙ ap (λ (xs : List Piece). text_of builtin (xs ++ b.1)) b.3.0
-      ∙ ap (text_of builtin) (nothing_left plain_header (after_header 1) b.2 b.1 b.3.1 refl b.4)),
-  (λ none. ended_after (lines_of (codes "%%\n")) [] [] [] (after_header 1) text separator_alone (refl, refl) refl none),
+      ∙ ap (text_of builtin) (nothing_left plain_header (after_header plain_header 1) b.2 b.1 b.3.1 refl b.4)),
+  (λ none. ended_after (lines_of (codes "%%\n")) [] [] [] (after_header plain_header 1) text separator_alone (refl, refl) refl none),
 )
 
 -- ---- a line of one word that is no command
@@ -111,7 +114,7 @@ one_word line text good = record {
 tick_word : HasWords (codes "tick") (codes "tick" ∷ [])
 tick_word = one_word (codes "tick") (IsUtf8-from_ascii (codes "tick") (search rules)) (record { some = omega arith; plain = refl })
 
-tick_is_no_command : ¬ (language.NamesCommand (codes "tick" ∷ []))
+tick_is_no_command : ¬ (language.NamesCommand OneCell (codes "tick" ∷ []))
 tick_is_no_command (zero, within, is) = let first = ap (λ (w : List ℕ). get_or w 0 0) is in absurd (omega (arith, first))
 tick_is_no_command (suc zero, within, is) = let first = ap (λ (w : List ℕ). get_or w 0 0) is in absurd (omega (arith, first))
 tick_is_no_command (suc (suc zero), within, is) = let first = ap (λ (w : List ℕ). get_or w 0 0) is in absurd (omega (arith, first))
@@ -119,10 +122,10 @@ tick_is_no_command (suc (suc (suc zero)), within, is) = let first = ap (λ (w : 
 tick_is_no_command (suc (suc (suc (suc k))), within, is) = absurd (omega (arith, within))
 
 tick_refused : (pieces : List Piece) (t : Standing) →
-    Step plain_header (after_header 1) (Content (codes "tick")) pieces t
-    ↔ ((pieces ≡ Refusal 2 cause.NoCommand ∷ []) × (t ≡ with_line (after_header 1)))
+    Step plain_header (after_header plain_header 1) (Content (codes "tick")) pieces t
+    ↔ ((pieces ≡ Refusal 2 cause.NoCommand ∷ []) × (t ≡ with_line (after_header plain_header 1)))
 tick_refused pieces t =
-    unknown_command plain_header (after_header 1) t (codes "tick") (codes "tick" ∷ []) pieces
+    unknown_command plain_header (after_header plain_header 1) t (codes "tick") (codes "tick" ∷ []) pieces
     (has_words_after_gap [] 116 (codes "ick") refl refl (λ e. absurd (omega (arith, e)))) tick_word
     tick_is_no_command
 
@@ -132,18 +135,18 @@ one_unknown text = (
       let b = after_separator (lines_of (codes "%%\ntick\n")) (Content (codes "tick") ∷ []) text two_lines ended in
       let r = b.3 in
       let step = (tick_refused r.0 r.2).0 r.4 in
-      let last : b.1 ≡ [] = nothing_left plain_header (with_line (after_header 1)) b.2 b.1 (r.5.1 ∙ step.1) refl b.4 in
+      let last : b.1 ≡ [] = nothing_left plain_header (with_line (after_header plain_header 1)) b.2 b.1 (r.5.1 ∙ step.1) refl b.4 in
       let pieces : b.0 ++ b.1 ≡ Refusal 2 cause.NoCommand ∷ [] =
       ap (λ (xs : List Piece). b.0 ++ xs) last ∙ append-nil b.0 ∙ r.3 ∙ ap (λ (xs : List Piece). r.0 ++ xs) r.5.0 ∙ append-nil r.0
       ∙ step.0 in
       b.5 ∙ ap (text_of builtin) pieces ∙ second_line),
   (λ is. ended_after (lines_of (codes "%%\ntick\n")) (Content (codes "tick") ∷ []) (Refusal 2 cause.NoCommand ∷ []) []
-      (with_line (after_header 1)) text two_lines (
+      (with_line (after_header plain_header 1)) text two_lines (
         Refusal 2 cause.NoCommand ∷ [],
         [],
-        with_line (after_header 1),
+        with_line (after_header plain_header 1),
         refl,
-        (tick_refused (Refusal 2 cause.NoCommand ∷ []) (with_line (after_header 1))).1 (refl, refl),
+        (tick_refused (Refusal 2 cause.NoCommand ∷ []) (with_line (after_header plain_header 1))).1 (refl, refl),
         (refl, refl),
       )
       refl (is ∙ sym second_line)),
@@ -161,29 +164,34 @@ sync_word = one_word (codes "sync") (IsUtf8-from_ascii (codes "sync") (search ru
 pub sync_is_no_comment : ¬ (language.IsSkipped (codes "sync"))
 sync_is_no_comment = has_words_after_gap [] 115 (codes "ync") refl refl (λ e. absurd (omega (arith, e)))
 
-pub sync_judged : (h : Header) (b : Book) → Judges h b (Content (codes "sync")) verdict.Synced
+pub sync_judged : (h : Header) (b : Book) → Judges OneCell h b (Content (codes "sync")) verdict.Synced
 sync_judged h b = (sync_is_no_comment, sync_word)
 
 -- the standing whose round ends
 abbrev synced : Standing
-synced = with_line (after_header 1)
+synced = with_line (after_header plain_header 1)
+
+-- nothing was accepted
+abbrev pub bare_book : Book
+bare_book = empty_book plain_header.settings.size
 
 -- no entity is listed where none was created
-none_lists : Lists (created_as empty_book) []
+none_lists : Lists (created_as bare_book) []
 none_lists = record {
   rising = λ k within. absurd (omega arith);
   exact = λ c. ((λ (k, within, is). absurd (omega arith)), (λ is. cc));
 }
 
 abbrev bare : RoundData
-bare = round_in_order plain_header 1 empty_book []
+bare = round_in_order plain_header 1 bare_book []
 
 bare_text : text_of builtin (Ended synced bare ∷ []) ≡ codes "round 1\nend 1\n"
 unfolding decimal_of
 bare_text = refl
 
 bare_is_round : IsRound plain_header synced bare (after_round synced)
-bare_is_round = round_in_order_is_legal plain_header synced [] none_lists refl
+bare_is_round = round_in_order_is_legal plain_header synced [] none_lists
+    (lists_live plain_header.settings.size bare_book (begins_in_one_cell plain_header.settings.size) [] none_lists) refl
 
 -- ---- who sends calls
 
@@ -202,7 +210,7 @@ no_call line words has few (language.Move s e x z) other w k spells asks number 
     let long =
     ap (λ (ws : List (List ℕ)). length ws) (words_are_one_list line words (language.words_of (language.Move s e x z)) has spells) in
     absurd (omega (arith, few, long))
-no_call line words has few language.Sync s w k spells asks number = absurd asks
+no_call line words has few c s w k spells asks number = absurd asks
 
 -- nor does one of a command that asks for nobody else
 pub command_from : (line : List ℕ) (c : language.Command) → language.SpellsCommand line c →
@@ -227,7 +235,7 @@ empty_round_ended =
       [],
       after_round synced,
       refl,
-      (verdict.Synced, sync_judged plain_header empty_book, (bare, refl, bare_is_round)),
+      (verdict.Synced, sync_judged plain_header bare_book, (bare, refl, bare_is_round)),
       (refl, refl),
     )
     refl (sym bare_text)

@@ -9,7 +9,8 @@ use Rattle.seam_call.specs.declared.call.Call.{Call}
 use Rattle.seam_call.specs.declared.create.Create.{Create}
 use Rattle.seam_toml.specs.declared.header.Header.{Header}
 use Rattle.seam_transcript.specs.Book.{Book, open_lines, entries, creates_of, calls_of, created, called, created_as}
-use Rattle.seam_transcript.specs.Book.{with_entry, with_round_ended, empty_book, Judges}
+use Rattle.seam_transcript.specs.Book.{with_entry, with_round_ended, empty_book}
+use Rattle.seam_transcript.specs.Judging.{Judges}
 use Rattle.seam_transcript.specs.Standing.{Standing, after_header, with_line, with_book}
 use Rattle.seam_transcript.specs.InOrder.{round_in_order}
 use Rattle.seam_transcript.specs.Round.{Lists}
@@ -20,6 +21,8 @@ use Rattle.seam_transcript.specs.declared.verdict.Entry.{Entry}
 use Rattle.seam_transcript.specs.declared.verdict.Cause.{Cause}
 use Rattle.seam_transcript.specs.declared.verdict.Verdict.TheVariants as verdict
 use Rattle.seam_transcript.specs.declared.limits.TheConstants.{MOST_LINES}
+use Rattle.seam_transcript.specs.declared.commands.Commands.TheVariants.{OneCell}
+use Rattle.seam_transcript.proofs.OneCell.{lists_live}
 use Rattle.seam_transcript.proofs.InOrderLemmas.{round_in_order_is_legal}
 use Rattle.seam_accept.specs.Refines.{Refines as HoldsBook, LineAccepted}
 use Rattle.seam_accept.specs.declared.answers.Accepted.{Accepted}
@@ -34,7 +37,7 @@ use Rattle.seam_plain.specs.declared.plain.Plain.{Plain}
 -- ---- where it begins
 
 pub begins : (h : Header) (count : ℕ) (p : Plain) → p.creates.items ≡ [] → p.calls.items ≡ [] → p.rounds ≡ 0 → p.lines ≡ count →
-    HoldsBook h empty_book p.book → Refines h (after_header count) p
+    HoldsBook h (empty_book h.settings.size) p.book → Refines h (after_header h count) p
 begins h count p creates calls rounds lines book = record {
   ready = record {
     book = book;
@@ -91,7 +94,7 @@ round_ended h t old new batch live earlier ready brings creates calls count roun
     subst (λ (cs : List Create). Lists (λ e. find (λ c. c.entity == e) cs) live) made listed in
     record {
       round = round_in_order h (t.rounds + 1) t.book live;
-      legal = round_in_order_is_legal h t live live_are was.orders;
+      legal = round_in_order_is_legal h t live live_are (lists_live h.settings.size t.book ready.book.in_one_cell live live_are) was.orders;
       whole = round_named h new.rounds (t.rounds + 1) t.book live (drop earlier new.calls.items) new.calls.items number done called_;
       after = record {
         ready = record {
@@ -156,7 +159,7 @@ has_accepted h t line a old new was creates calls rounds lines answered = record
 -- a line was refused
 pub refused_line : (h : Header) (t : Standing) (line : Line) (c : Cause) (old new : Plain) → Refines h t old →
     new.creates ≡ old.creates → new.calls ≡ old.calls → new.rounds ≡ old.rounds → new.lines ≡ old.lines + 1 → new.book ≡ old.book →
-    Judges h t.book line (verdict.Refused c) → LineRead h t line (λ s. Refines h s new) (refusal new.lines c)
+    Judges OneCell h t.book line (verdict.Refused c) → LineRead h t line (λ s. Refines h s new) (refusal new.lines c)
 refused_line h t line c old new was creates calls rounds lines book judges =
     let holds : HoldsRounds (with_line t) new = holds_counted t old new was.ready.holds creates calls rounds lines in
     subst (λ (n : ℕ). LineRead h t line (λ s. Refines h s new) (refusal n c)) (sym holds.lines)

@@ -14,7 +14,8 @@ use Rattle.seam_call.specs.declared.sender.Sender.TheVariants.{Base, Client}
 use Rattle.seam_call.specs.declared.call.Call.{Call}
 use Rattle.seam_transcript.specs.Language as language
 use Rattle.seam_transcript.specs.Header.{separator}
-use Rattle.seam_transcript.specs.Book.{Book, accepted, created_as, open_lines, with_entry, NamesCall, NamesDeed}
+use Rattle.seam_transcript.specs.Book.{Book, accepted, created_as, live_as, open_lines, with_entry}
+use Rattle.seam_transcript.specs.Judging.{NamesCall, NamesDeed}
 use Rattle.seam_transcript.specs.Orders.{of_sender, IsFull}
 use Rattle.seam_transcript.specs.InOrder.{in_order, round_in_order, after_round}
 use Rattle.seam_transcript.specs.Standing.{Standing}
@@ -23,6 +24,7 @@ use Rattle.seam_transcript.specs.Transcript.{Piece, Ended, text_of, EndsRound, S
 use Rattle.seam_transcript.specs.declared.verdict.Entry.{Entry}
 use Rattle.seam_transcript.specs.declared.verdict.Entry.TheVariants as entry
 use Rattle.seam_transcript.specs.declared.verdict.Verdict.TheVariants as verdict
+use Rattle.seam_transcript.proofs.OneCell.{lists_live}
 use Rattle.seam_transcript.proofs.InOrderLemmas.{round_in_order_is_legal}
 use Rattle.seam_plain.proofs.EmptyHeader.{plain_header}
 use Rattle.seam_plain.proofs.Rows.{ended_after, sync_judged}
@@ -53,7 +55,7 @@ heal2_step : Step plain_header (after_lines 3 with_hit) (Content (codes "call b2
 heal2_step = (
   verdict.Accepted (entry.Called heal_call),
   call_judged with_hit (codes "call b2 1 heal 5") (codes "b2") (codes "1") (codes "heal") (codes "5" ∷ []) heal_call
-      (begins_with_c (codes "all b2 1 heal 5")) heal2_words names_heal2,
+      (begins_with_c (codes "all b2 1 heal 5")) heal2_words names_heal2 (λ d m. tt),
   (refl, refl),
 )
 
@@ -93,6 +95,10 @@ swapped_full p e s = of_part (is_for p e hit_call) (is_for p e heal_call)
 alone : Lists (created_as with_both) (avatar ∷ [])
 alone = avatar_alone with_both (λ e. refl)
 
+lives : Lists (live_as with_both) (avatar ∷ [])
+lives =
+    lists_live plain_header.settings.size with_both (record { tree = refl; past = tt; current = (tt, (tt, (tt, tt))) }) (avatar ∷ []) alone
+
 abbrev data_as_accepted : RoundData
 data_as_accepted = round_in_order plain_header 1 with_both (avatar ∷ [])
 
@@ -109,7 +115,7 @@ abbrev end_swapped : Standing
 end_swapped = record (after_round ending) { orders = in_order swapped }
 
 round_as_accepted : IsRound plain_header ending data_as_accepted (after_round ending)
-round_as_accepted = round_in_order_is_legal plain_header ending (avatar ∷ []) alone refl
+round_as_accepted = round_in_order_is_legal plain_header ending (avatar ∷ []) alone lives refl
 
 extends_swapped : (p : Part) → ExtendsOrders with_both p (λ e. []) (in_order swapped p) (done_lines (in_order swapped p) (avatar ∷ []))
 extends_swapped p =
@@ -120,8 +126,8 @@ round_swapped = record {
   number = refl;
   did = extends_swapped part.Cell;
   dob = extends_swapped part.Base;
-  homes = record { live = avatar ∷ []; listed = alone; are = refl };
-  bases = record { live = avatar ∷ []; listed = alone; are = refl };
+  homes = record { live = avatar ∷ []; listed = lives; are = refl };
+  bases = record { live = avatar ∷ []; listed = lives; are = refl };
   lines = refl;
   rounds = refl;
   book = refl;

@@ -63,7 +63,7 @@ impl Plain {
     // After a header of so many lines.
     fn new(alloc: Global, header: &Header, lines: u64) -> Result<Self, AllocError>
         requires { AreInRange header.now.settings }
-        ensures { IfOk result (Refines header.now (after_header lines)) }
+        ensures { IfOk result (Refines header.now (after_header header.now lines)) }
     {
         Ok(Plain {
             alloc,

@@ -1,8 +1,9 @@
 // The lines of refused lines.
-ghost use Rattle.std.specs.Prelude.{◌≡◌, ◌++◌, ◌∷◌, [], OnOk};
-ghost use Rattle.seam_transcript.specs.Texts.{refusal, cause_text};
+ghost use Rattle.std.specs.Prelude.{◌≡◌, ◌++◌, ◌∷◌, [], codes, OnOk};
+ghost use Rattle.seam_transcript.specs.Texts.{field, refusal, cause_text, number_of_cut_error, number_of_shift_error};
 
 use seam_transcript::Cause;
+use seam_tree::{CutError, ShiftError};
 use seam_value::push_number;
 use std::alloc::AllocError;
 
@@ -37,5 +38,35 @@ fn push_cause(out: &mut Vec<u8>, cause: Cause) -> Result<(), AllocError>
         Cause::Dead => out.extend_from_slice(b" dead\n"),
         Cause::UnknownMethod => out.extend_from_slice(b" unknown\n"),
         Cause::IllTyped => out.extend_from_slice(b" illtyped\n"),
+        Cause::CutRefused(error) => push_tree(out, number_of_cut(error)),
+        Cause::ShiftRefused(error) => push_tree(out, number_of_shift(error)),
+    }
+}
+
+// Appends the space before a tree's refusal of a number, its text, and the line feed after it.
+fn push_tree(out: &mut Vec<u8>, number: u64) -> Result<(), AllocError>
+    ensures { OnOk result (out.new.items ≡ out.old.items ++ 32 ∷ (codes "tree" ++ field number) ++ 10 ∷ []) }
+{
+    out.extend_from_slice(b" tree ")?;
+    push_number(out, number)?;
+    out.extend_from_slice(b"\n")
+}
+
+fn number_of_cut(error: CutError) -> u64
+    ensures { result ≡ number_of_cut_error error }
+{
+    match error {
+        CutError::NoCell => 1,
+        CutError::OutsideCell => 2,
+        CutError::TooManyCells => 3,
+    }
+}
+
+fn number_of_shift(error: ShiftError) -> u64
+    ensures { result ≡ number_of_shift_error error }
+{
+    match error {
+        ShiftError::NoBoundary => 1,
+        ShiftError::WouldEmpty => 2,
     }
 }

@@ -3,6 +3,7 @@ use seam_call::{Call, Sender};
 use seam_defs::{Deed, Defs, Part};
 use seam_geo::Pos;
 use seam_transcript::Cause;
+use seam_tree::{CutError, ShiftError};
 use seam_words::WordsError;
 use std::test::Fail;
 
@@ -42,9 +43,12 @@ fn refusals_have_their_texts(rt: HostRuntime) -> Result<(), Fail> {
     push_refusal(&mut out, 11, Cause::Dead)?;
     push_refusal(&mut out, 12, Cause::UnknownMethod)?;
     push_refusal(&mut out, 13, Cause::IllTyped)?;
+    push_refusal(&mut out, 14, Cause::CutRefused(CutError::TooManyCells))?;
+    push_refusal(&mut out, 15, Cause::ShiftRefused(ShiftError::WouldEmpty))?;
     let lines =
         b"line 1 long\nline 2 words 2\nline 3 command\nline 4 count\nline 5 number\nline 6 exists\nline 7 type\n\
-        line 8 outside\nline 9 full\nline 10 sender\nline 11 dead\nline 12 unknown\nline 13 illtyped\n";
+        line 8 outside\nline 9 full\nline 10 sender\nline 11 dead\nline 12 unknown\nline 13 illtyped\n\
+        line 14 tree 3\nline 15 tree 2\n";
     assert_eq!(rt; out.as_slice(), lines.as_slice());
     Ok(())
 }

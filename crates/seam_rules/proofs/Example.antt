@@ -17,7 +17,7 @@ use Rattle.seam_call.specs.declared.create.Create.{Create}
 use Rattle.seam_transcript.specs.Round.{Lists}
 use Rattle.seam_transcript.proofs.Lists.{contains_first, contains_later, contains_cases}
 use Rattle.seam_transcript.proofs.InOrderLemmas.{extends}
-use Rattle.seam_rules.specs.Book.{creates_and_calls, created_as, is_shown}
+use Rattle.seam_transcript.specs.Book.{created_as, is_shown}
 use Rattle.seam_rules.specs.Places.{HasPlace, ghost_cells}
 use Rattle.seam_rules.specs.Lines.{ClientLine}
 use Rattle.seam_call.specs.declared.shown.ClientText.TheVariants as text
@@ -165,8 +165,8 @@ looked = record {
 pub legal : IsRound header begun round ended
 legal = record {
   number = refl;
-  did = extends (creates_and_calls begun.book) part.Cell live (begun.orders part.Cell) listed (λ e. refl);
-  dob = extends (creates_and_calls begun.book) part.Base live (begun.orders part.Base) listed (λ e. refl);
+  did = extends begun.book part.Cell live (begun.orders part.Cell) listed (λ e. refl);
+  dob = extends begun.book part.Base live (begun.orders part.Base) listed (λ e. refl);
   live = live;
   listed = listed;
   places = All-cons (HasPlace header begun ended) first (second ∷ []) (inl refl)

@@ -1,5 +1,3 @@
-pub mod Commands
-pub mod Verdicts
 pub mod Public
 pub mod Shown
 pub mod WithoutTick

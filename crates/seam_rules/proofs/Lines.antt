@@ -10,8 +10,10 @@ use Rattle.seam_defs.specs.declared.flags.Part.TheVariants as part
 use Rattle.seam_call.specs.declared.sender.Sender.TheVariants as sender
 use Rattle.seam_call.specs.declared.shown.Shown.TheVariants.{Own, Enter, Set, Leave}
 use Rattle.seam_call.specs.declared.shown.ClientText.TheVariants as text
-use Rattle.seam_rules.specs.Judging.{CutRefused, ShiftRefused, MayCall}
-use Rattle.seam_rules.specs.Texts.{client_text, bounds_text, refusal}
+use Rattle.seam_transcript.specs.Judging.{MayCall}
+use Rattle.seam_transcript.specs.Texts.{refusal}
+use Rattle.seam_transcript.specs.declared.verdict.Cause.TheVariants.{CutRefused, ShiftRefused}
+use Rattle.seam_rules.specs.Texts.{client_text, bounds_text}
 use Rattle.seam_rules.specs.Example.{halves, to_avatar, numbers, avatar_2, own_avatar, mark, pay, promote}
 
 pub own_text : client_text builtin (to_avatar 1 (text.Shown (Own 0 own_avatar))) ≡ codes "to 1 1 own 0 7 8 hp=100 mana=50 xp=0\n"

@@ -12,7 +12,7 @@ use Rattle.seam_toml.specs.declared.header.Header.{Header}
 use Rattle.seam_transcript.specs.Orders.{Orders}
 use Rattle.seam_transcript.specs.Round.{Lists}
 use Rattle.seam_transcript.proofs.Lists.{listed_is_one}
-use Rattle.seam_rules.specs.Book.{Book, live_as}
+use Rattle.seam_transcript.specs.Book.{Book, live_as}
 use Rattle.seam_rules.specs.FlatTable.{has_changed_at, public_at, rows_of}
 
 -- a number is at most another one that is not below it

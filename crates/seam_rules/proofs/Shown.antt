@@ -9,7 +9,7 @@ use Rattle.seam_call.specs.declared.call.Call.{Call}
 use Rattle.seam_call.specs.declared.create.Create.{Create}
 use Rattle.seam_call.specs.declared.shown.GhostCopy.{GhostCopy}
 use Rattle.seam_toml.specs.declared.header.Header.{Header}
-use Rattle.seam_rules.specs.Book.{created_as}
+use Rattle.seam_transcript.specs.Book.{created_as}
 use Rattle.seam_rules.specs.FlatTable.{version_of, has_changed_at, public_at, other_at}
 use Rattle.seam_rules.specs.Standing.{Standing}
 use Rattle.seam_rules.specs.Clients.{IsOther, IsShownAt}

@@ -15,7 +15,7 @@ use Rattle.seam_transcript.specs.Orders.{Orders}
 use Rattle.seam_transcript.proofs.InOrderLemmas.{found_entity}
 use Rattle.seam_replica.specs.Clients.{new_client, after_lines}
 use Rattle.seam_replica.specs.Looks.{Row, one_look}
-use Rattle.seam_rules.specs.Book.{Book, entries, created_as, all_created, joins, was_dead, is_shown, has_tick}
+use Rattle.seam_transcript.specs.Book.{Book, entries, creates_of, created_as, joins, was_dead, is_shown, has_tick}
 use Rattle.seam_rules.specs.FlatTable.{rows_of}
 use Rattle.seam_rules.specs.Standing.{Standing, replica_of}
 use Rattle.seam_rules.specs.Lines.{ClientLine, RoundData, told_in}
@@ -115,7 +115,7 @@ module _ (h : Header) (s t u : Standing) (r q : RoundData) (none : has_tick s.bo
   told_same e false is = nothing_told h s t r one e is ∙ sym (nothing_told h s u q other e is)
   told_same e true is =
       let made = shown_was_made s.book e is in
-      let entity : made.0.entity ≡ e = found_entity (all_created s.book) e made.0 made.1 in
+      let entity : made.0.entity ≡ e = found_entity (creates_of (entries s.book)) e made.0 made.1 in
       told_to made.0 e entity (ap (is_shown s.book) entity ∙ is) (ap (created_as s.book) entity ∙ made.1)
 
   pub told_is_one : (e : ℕ) → t.told e ≡ u.told e

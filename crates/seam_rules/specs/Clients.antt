@@ -17,7 +17,7 @@ use Rattle.seam_transcript.specs.FlatTable.{flat}
 use Rattle.seam_replica.specs.Clients.{shown_by_lines}
 use Rattle.seam_replica.specs.Looks.{one_look}
 use Rattle.seam_replica.specs.Lines.{Truth, ShowsRightly}
-use Rattle.seam_rules.specs.Book.{created_as, was_dead, is_shown, is_new_client, has_tick}
+use Rattle.seam_transcript.specs.Book.{created_as, was_dead, is_shown, is_new_client, has_tick}
 use Rattle.seam_rules.specs.FlatTable.{properties, version_of, changes_past, public_at, other_at, rows_of}
 use Rattle.seam_rules.specs.Standing.{Standing, replica_of}
 use Rattle.seam_rules.specs.Lines.{RoundData, lines_to, told_in}

@@ -24,10 +24,10 @@ use Rattle.seam_call.specs.declared.shown.Shown.TheVariants.{Own, Enter}
 use Rattle.seam_call.specs.declared.shown.ClientText.{ClientText}
 use Rattle.seam_call.specs.declared.shown.ClientText.TheVariants as text
 use Rattle.seam_toml.specs.declared.header.Header.{Header}
-use Rattle.seam_transcript.specs.declared.verdict.Entry.TheVariants.{Created, Called}
-use Rattle.seam_transcript.specs.Book as taken
+use Rattle.seam_transcript.specs.declared.verdict.Entry.{Entry}
+use Rattle.seam_transcript.specs.declared.verdict.Entry.TheVariants.{Created, Called, Joined, Divided, Destroyed}
 use Rattle.seam_transcript.specs.InOrder.{in_order}
-use Rattle.seam_rules.specs.Book.{Entry, Taken, Joined, Divided, Destroyed, Book, one_cell, creates_and_calls, with_round_ended}
+use Rattle.seam_transcript.specs.Book.{Book, entries, one_cell, with_round_ended}
 use Rattle.seam_rules.specs.Standing.{Standing, after_header}
 use Rattle.seam_rules.specs.Places.{distances, place_before}
 use Rattle.seam_rules.specs.Lines.{ClientLine, RoundData}
@@ -68,7 +68,7 @@ begun = record (after_header header 1) {
   book = record {
     past = [];
     tree = one_cell 10000;
-    current = Divided halves ∷ Taken (Created first) ∷ Joined 1 ∷ Taken (Created second) ∷ Taken (Called lift) ∷ [];
+    current = Divided halves ∷ Created first ∷ Joined 1 ∷ Created second ∷ Called lift ∷ [];
   };
 }
 
@@ -95,8 +95,8 @@ shown = own_line ∷ other_line ∷ []
 abbrev pub ended : Standing
 ended = record begun {
   rounds = 1;
-  book = with_round_ended begun.book halves;
-  orders = in_order (taken.entries (creates_and_calls begun.book));
+  book = with_round_ended begun.book;
+  orders = in_order (entries begun.book);
   places = place_of;
   told = λ e. map (λ l. l.line) (filter (λ l. l.entity == e) shown);
 }
@@ -134,7 +134,7 @@ with_ghost = record { home = 0; ghosts = set.insert set.empty 1 }
 
 -- entity 1 was made and given a client, and is destroyed: all in one round, or the round is the next one
 abbrev pub lines_of_one : List Entry
-lines_of_one = Taken (Created first) ∷ Joined 1 ∷ Destroyed 1 ∷ []
+lines_of_one = Created first ∷ Joined 1 ∷ Destroyed 1 ∷ []
 
 abbrev pub in_one_round : Book
 in_one_round = record { past = []; tree = one_cell 10000; current = lines_of_one }

@@ -1,6 +1,3 @@
-pub mod Language
-pub mod Book
-pub mod Judging
 pub mod FlatTable
 pub mod Standing
 pub mod Places

@@ -1,33 +1,21 @@
 -- Rounds of a space of one cell in which no entity has a client and none is destroyed, as the program runs them so far: with what they
 -- have in every space beside it.
-use Rattle.std.specs.Prelude.{◌≡◌, ℕ, List, [], ◌∷◌, map, None, Contains}
+use Rattle.std.specs.Prelude.{◌≡◌, ℕ, List, [], ◌∷◌, None, Contains}
 use Rattle.seam_io.specs.Lines.{Line, Content}
 use Rattle.seam_words.specs.Texts.{HasWords}
-use Rattle.seam_toml.specs.declared.header.Header.{Header}
-use Rattle.seam_transcript.specs.Language.{Word}
-use Rattle.seam_transcript.specs.Book as taken
-use Rattle.seam_transcript.specs.declared.verdict.Verdict.{Verdict as TakenVerdict}
-use Rattle.seam_transcript.specs.declared.verdict.Verdict.TheVariants as verdict
+use Rattle.seam_transcript.specs.Language.{Word, further_names}
 use Rattle.seam_transcript.specs.Standing as taken_standing
 use Rattle.seam_transcript.specs.Round as taken_round
-use Rattle.seam_rules.specs.Book.{Book, Taken, one_cell, creates_and_calls}
-use Rattle.seam_rules.specs.Language.{further_names}
-use Rattle.seam_rules.specs.Judging as judging
-use Rattle.seam_rules.specs.Judging.{Verdict, Skipped, Refused, Accepted, Synced}
 use Rattle.seam_rules.specs.Standing.{Standing, in_first_cell}
 use Rattle.seam_rules.specs.Lines.{RoundData}
 use Rattle.seam_rules.specs.Transcript.{Play}
 
--- a book of creates and calls alone, in a space of one cell
-abbrev pub whole_book : Header → taken.Book → Book
-whole_book h b = record { past = map Taken b.past; tree = one_cell h.settings.size; current = map Taken b.current }
-
 -- the standing in such a space: each entity is in the first cell, and no client was told anything
-abbrev pub whole_standing : Header → taken_standing.Standing → Standing
-whole_standing h s = record {
+abbrev pub whole_standing : taken_standing.Standing → Standing
+whole_standing s = record {
   lines = s.lines;
   rounds = s.rounds;
-  book = whole_book h s.book;
+  book = s.book;
   orders = s.orders;
   places = λ e. in_first_cell;
   told = λ e. [];
@@ -48,7 +36,7 @@ whole_round r = record {
 
 -- a standing and a round but for what only cells, clients and balances have
 abbrev pub plain_standing : Standing → taken_standing.Standing
-plain_standing s = record { lines = s.lines; rounds = s.rounds; book = creates_and_calls s.book; orders = s.orders }
+plain_standing s = record { lines = s.lines; rounds = s.rounds; book = s.book; orders = s.orders }
 
 abbrev pub plain_round : RoundData → taken_round.RoundData
 plain_round r = record { number = r.number; did = r.did; dob = r.dob; homes = r.homes; bases = r.bases }
@@ -58,13 +46,6 @@ abbrev pub NamesFurther : Line → Type 0
 NamesFurther line =
     (content : List ℕ) × (first : Word) × (rest : List Word) × (line ≡ Content content) × HasWords content (first ∷ rest)
     × Contains further_names first
-
--- the verdict that the program gives so far, as one of every command
-abbrev pub whole_verdict : TakenVerdict → Verdict
-whole_verdict verdict.Skipped = Skipped
-whole_verdict (verdict.Refused k) = Refused (judging.Taken k)
-whole_verdict (verdict.Accepted x) = Accepted (Taken x)
-whole_verdict verdict.Synced = Synced
 
 -- however nodes play it
 abbrev pub however : Play

@@ -8,7 +8,7 @@ use Rattle.seam_defs.specs.declared.flags.Part.TheVariants as part
 use Rattle.seam_defs.specs.declared.settings.Settings.{Settings}
 use Rattle.seam_call.specs.declared.create.Create.{Create}
 use Rattle.seam_toml.specs.declared.header.Header.{Header}
-use Rattle.seam_rules.specs.Book.{is_new, tree_of}
+use Rattle.seam_transcript.specs.Book.{is_new, tree_of}
 use Rattle.seam_rules.specs.FlatTable.{version_of, position_at, positions_past}
 use Rattle.seam_rules.specs.Standing.{Standing}
 

@@ -8,7 +8,7 @@ use Rattle.seam_call.specs.declared.create.Create.{Create}
 use Rattle.seam_toml.specs.declared.header.Header.{Header}
 use Rattle.seam_transcript.specs.Round as taken
 use Rattle.seam_transcript.specs.Round.{HomeLine, BaseLine, Lists, ExtendsOrders}
-use Rattle.seam_rules.specs.Book.{creates_and_calls, live_as, tree_of, has_balance, with_round_ended}
+use Rattle.seam_transcript.specs.Book.{live_as, tree_of, has_balance, with_round_ended, with_tree}
 use Rattle.seam_rules.specs.FlatTable.{public_at}
 use Rattle.seam_rules.specs.Standing.{Standing}
 use Rattle.seam_rules.specs.Places.{HasPlace, ghost_cells}
@@ -30,25 +30,21 @@ ghost_lines h tree t c =
     map (λ cell. record { entity = c.entity; cell = cell; version = public_at h c order (length order) })
     (ghost_cells tree (t.places c.entity))
 
--- the next round begins with this tree
-abbrev pub Leaves : Standing → Standing → Division → Type 0
-Leaves s t next = t.book ≡ with_round_ended s.book next
-
 -- a round in which a `balance` was accepted has bounds: the tree balanced by where the homes are, with which the next round begins; any
 -- other round keeps its tree
 abbrev pub HasBounds : Header → Standing → RoundData → Standing → Type 0
 HasBounds h s r t =
     MatchBool (has_balance s.book)
     ((next : Division) × IsBalanced (map (λ l. l.state.pos) r.homes) h.settings.balance_shift (tree_of s.book) next
-    × (r.bounds ≡ Some next) × Leaves s t next)
-    ((r.bounds ≡ None) × Leaves s t (tree_of s.book))
+    × (r.bounds ≡ Some next) × (t.book ≡ with_tree (with_round_ended s.book) next))
+    ((r.bounds ≡ None) × (t.book ≡ with_round_ended s.book))
 
 -- The data is legal for the round that ends at the standing `s`, whose book has all lines of the round; `t` is the standing after it.
 pub record IsRound (h : Header) (s : Standing) (r : RoundData) (t : Standing) : Type 0 where
   pub number : r.number ≡ s.rounds + 1
   -- each part executed what was accepted for it
-  pub did : ExtendsOrders (creates_and_calls s.book) part.Cell (s.orders part.Cell) (t.orders part.Cell) r.did
-  pub dob : ExtendsOrders (creates_and_calls s.book) part.Base (s.orders part.Base) (t.orders part.Base) r.dob
+  pub did : ExtendsOrders s.book part.Cell (s.orders part.Cell) (t.orders part.Cell) r.did
+  pub dob : ExtendsOrders s.book part.Base (s.orders part.Base) (t.orders part.Base) r.dob
   -- the live entities, and what is held of them where
   pub live : List Create
   pub listed : Lists (live_as s.book) live

@@ -6,7 +6,7 @@ use Rattle.seam_call.specs.declared.shown.Line.{Line}
 use Rattle.seam_toml.specs.declared.header.Header.{Header}
 use Rattle.seam_transcript.specs.Orders.{Orders, no_orders}
 use Rattle.seam_replica.specs.Clients.{ClientReplica, new_client, after_lines}
-use Rattle.seam_rules.specs.Book.{Book, empty_book}
+use Rattle.seam_transcript.specs.Book.{Book, empty_book}
 
 -- How many lines were read, those of the header among them, how many rounds ended, and what the book holds; and up to the last round's
 -- end what each part executed, where each entity is held, and the lines that each client was shown.

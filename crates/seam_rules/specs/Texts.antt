@@ -1,12 +1,8 @@
--- The text of each line, and of a round.
+-- The text of each line of a round, and of a round.
 use Rattle.std.specs.Prelude.{ℕ, List, [], ◌∷◌, ◌++◌, length, codes, Option, Some, None}
 use Rattle.std.specs.List.{flat_map, zip, range_with_len}
 use Rattle.seam_value.specs.Values.{decimal_of}
 use Rattle.seam_tree.specs.declared.cut.Cut.{Cut}
-use Rattle.seam_tree.specs.declared.tree.CutError.{CutError}
-use Rattle.seam_tree.specs.declared.tree.CutError.TheVariants.{NoCell, OutsideCell, TooManyCells}
-use Rattle.seam_tree.specs.declared.tree.ShiftError.{ShiftError}
-use Rattle.seam_tree.specs.declared.tree.ShiftError.TheVariants.{NoBoundary, WouldEmpty}
 use Rattle.seam_tree.specs.Division.{Division}
 use Rattle.seam_defs.specs.Types.{type_of}
 use Rattle.seam_defs.specs.Deeds.{values_text}
@@ -18,35 +14,9 @@ use Rattle.seam_call.specs.declared.shown.Shown.{Shown}
 use Rattle.seam_call.specs.declared.shown.Shown.TheVariants.{Own, Enter, Set, Leave}
 use Rattle.seam_call.specs.declared.shown.ClientText.{ClientText}
 use Rattle.seam_call.specs.declared.shown.ClientText.TheVariants as text
-use Rattle.seam_transcript.specs.Texts as taken
+use Rattle.seam_transcript.specs.Language.{axis_text}
 use Rattle.seam_transcript.specs.Texts.{field, number_text, done_text, home_text, base_text}
-use Rattle.seam_rules.specs.Language.{axis_text}
-use Rattle.seam_rules.specs.Judging.{Cause, Taken, CutRefused, ShiftRefused}
 use Rattle.seam_rules.specs.Lines.{GhostLine, ClientLine, RoundData}
-
--- ---- refused lines
-
--- the number of a tree's refusal
-abbrev pub number_of_cut_error : CutError → ℕ
-number_of_cut_error NoCell = 1
-number_of_cut_error OutsideCell = 2
-number_of_cut_error TooManyCells = 3
-
-abbrev pub number_of_shift_error : ShiftError → ℕ
-number_of_shift_error NoBoundary = 1
-number_of_shift_error WouldEmpty = 2
-
--- how a cause is written
-abbrev pub cause_text : Cause → List ℕ
-cause_text (Taken c) = taken.cause_text c
-cause_text (CutRefused error) = codes "tree" ++ field (number_of_cut_error error)
-cause_text (ShiftRefused error) = codes "tree" ++ field (number_of_shift_error error)
-
--- the line of a refused line: its number and the cause
-abbrev pub refusal : ℕ → Cause → List ℕ
-refusal number c = codes "line " ++ decimal_of number ++ 32 ∷ cause_text c ++ 10 ∷ []
-
--- ---- lines of a round
 
 -- a state: its position, and the values of a group
 abbrev pub state_text : TypeDef → Group → State → List ℕ

@@ -1,18 +1,23 @@
 -- What is printed for the lines of an input.
-use Rattle.std.specs.Prelude.{◌≡◌, ◌⊎◌, ℕ, List, [], ◌∷◌, ◌++◌, length, ◌==◌, MatchBool}
+use Rattle.std.specs.Prelude.{◌≡◌, ◌⊎◌, ℕ, List, [], ◌∷◌, ◌++◌, ◌==◌, MatchBool}
 use Rattle.std.specs.List.{flat_map}
 use Rattle.seam_io.specs.Lines.{Line}
 use Rattle.seam_defs.specs.declared.types.TypeDef.{TypeDef}
 use Rattle.seam_toml.specs.declared.header.Header.{Header}
 use Rattle.seam_transcript.specs.Header.{BeginWithHeader, AwaitHeader}
+use Rattle.seam_transcript.specs.Book.{open_lines, with_entry}
+use Rattle.seam_transcript.specs.Judging.{Judges}
+use Rattle.seam_transcript.specs.Texts.{refusal}
 use Rattle.seam_transcript.specs.Transcript.{Run}
+use Rattle.seam_transcript.specs.declared.commands.Commands.TheVariants.{All}
+use Rattle.seam_transcript.specs.declared.verdict.Cause.{Cause}
+use Rattle.seam_transcript.specs.declared.verdict.Verdict.{Verdict}
+use Rattle.seam_transcript.specs.declared.verdict.Verdict.TheVariants as verdict
 use Rattle.seam_transcript.specs.declared.limits.TheConstants.{MOST_LINES}
-use Rattle.seam_rules.specs.Book.{with_entry}
-use Rattle.seam_rules.specs.Judging.{Cause, Verdict, Skipped, Refused, Accepted, Synced, Judges}
 use Rattle.seam_rules.specs.Standing.{Standing, after_header, with_line, with_book}
 use Rattle.seam_rules.specs.Lines.{RoundData}
 use Rattle.seam_rules.specs.Round.{IsRound}
-use Rattle.seam_rules.specs.Texts.{refusal, round_text}
+use Rattle.seam_rules.specs.Texts.{round_text}
 
 -- what is printed at once: the refusal of a line, or a round that ended at a standing
 pub data Piece : Type 0 where
@@ -38,18 +43,18 @@ module _ (IsPlayed : Play) where
 
   -- a line was accepted, with which the standing is `s`: where the round is full, it ends
   abbrev pub Keeps : Header → Standing → List Piece → Standing → Type 0
-  Keeps h s pieces t = MatchBool (length s.book.current == MOST_LINES) (EndsRound h s pieces t) ((pieces ≡ []) × (t ≡ s))
+  Keeps h s pieces t = MatchBool (open_lines s.book == MOST_LINES) (EndsRound h s pieces t) ((pieces ≡ []) × (t ≡ s))
 
   -- what is printed for a line that the standing has counted, by the verdict on it, and the standing after it
   abbrev pub Follows : Header → Standing → Verdict → List Piece → Standing → Type 0
-  Follows h s Skipped pieces t = (pieces ≡ []) × (t ≡ s)
-  Follows h s (Refused c) pieces t = (pieces ≡ Refusal s.lines c ∷ []) × (t ≡ s)
-  Follows h s (Accepted x) pieces t = Keeps h (with_book s (with_entry s.book x)) pieces t
-  Follows h s Synced pieces t = EndsRound h s pieces t
+  Follows h s verdict.Skipped pieces t = (pieces ≡ []) × (t ≡ s)
+  Follows h s (verdict.Refused c) pieces t = (pieces ≡ Refusal s.lines c ∷ []) × (t ≡ s)
+  Follows h s (verdict.Accepted x) pieces t = Keeps h (with_book s (with_entry s.book x)) pieces t
+  Follows h s verdict.Synced pieces t = EndsRound h s pieces t
 
   -- the next line is read, with what is printed for it
   abbrev pub Step : Header → Standing → Line → List Piece → Standing → Type 0
-  Step h s line pieces t = (v : Verdict) × Judges h s.book line v × Follows h (with_line s) v pieces t
+  Step h s line pieces t = (v : Verdict) × Judges All h s.book line v × Follows h (with_line s) v pieces t
 
   -- the lines after the header print the pieces, one after another, and leave this standing
   pub record PrintLines (lines : List Line) (h : Header) (pieces : List Piece) (t : Standing) : Type 0 where
@@ -68,7 +73,7 @@ module _ (IsPlayed : Play) where
   -- what is printed at the end of the input: a last round, where a line was accepted since the last one ended
   abbrev pub EndsInput : Header → Standing → List Piece → Type 0
   EndsInput h s pieces =
-      MatchBool (length s.book.current == 0) (pieces ≡ []) ((t : Standing) × EndsRound h s pieces t)
+      MatchBool (open_lines s.book == 0) (pieces ≡ []) ((t : Standing) × EndsRound h s pieces t)
 
   -- an ended transcript of all lines: what the lines after the header print, and then what is printed at the end
   abbrev pub IsEnded : List Line → List ℕ → Type 0

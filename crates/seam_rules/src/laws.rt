@@ -1,9 +1,8 @@
 // What the definitions say together, each law on a function that does nothing.
 ghost use Rattle.std.specs.Prelude.{◌≡◌, ◌⊎◌, ℕ, ◌<◌, ◌≤◌, IsTrue, IsFalse, List, [], ◌∷◌, Some, codes};
-ghost use Rattle.std.specs.List.{All};
+ghost use Rattle.std.specs.List as list;
 ghost use Rattle.std.specs.FinSet as set;
 ghost use Rattle.seam_io.specs.Lines.{Line};
-ghost use Rattle.seam_defs.specs.Types.{AreDefs};
 ghost use Rattle.seam_call.specs.declared.call.Call.{Call};
 ghost use Rattle.seam_call.specs.declared.create.Create.{Create};
 ghost use Rattle.seam_call.specs.declared.shown.GhostCopy.{GhostCopy};
@@ -11,14 +10,19 @@ ghost use Rattle.seam_defs.specs.declared.flags.Part.TheVariants as part;
 ghost use Rattle.seam_toml.specs.declared.header.Header.{Header};
 ghost use Rattle.seam_transcript.specs.Orders.{Orders};
 ghost use Rattle.seam_defs.specs.declared.types.TypeDef.{TypeDef};
-ghost use Rattle.seam_transcript.specs.Book as taken_book;
-ghost use Rattle.seam_transcript.specs.declared.verdict.Verdict as taken_verdict;
+ghost use Rattle.seam_transcript.specs.Book.{Book, live_as, has_client, is_shown, has_tick};
+ghost use Rattle.seam_transcript.specs.Judging.{Judges, MayCall, MayMove};
+ghost use Rattle.seam_transcript.specs.OneCell.{IsInOneCell};
+ghost use Rattle.seam_transcript.specs.declared.commands.Commands.TheVariants.{OneCell, All};
+ghost use Rattle.seam_transcript.specs.declared.verdict.Verdict.{Verdict};
+ghost use Rattle.seam_transcript.specs.declared.verdict.Cause.TheVariants.{CutRefused, ShiftRefused};
 ghost use Rattle.seam_transcript.specs.Round as taken;
 ghost use Rattle.seam_transcript.specs.Transcript as taken_transcript;
 ghost use Rattle.seam_transcript.specs.Round.{Lists};
 ghost use Rattle.seam_transcript.specs.Standing as taken_standing;
 ghost use Rattle.seam_transcript.specs.Texts as texts;
-ghost use Rattle.seam_rules.specs.Texts.{round_text, client_text, bounds_text, refusal};
+ghost use Rattle.seam_transcript.specs.Texts.{refusal};
+ghost use Rattle.seam_rules.specs.Texts.{round_text, client_text, bounds_text};
 ghost use Rattle.seam_rules.specs.Example.{header, begun, round, ended, text_of_round};
 ghost use Rattle.seam_rules.specs.Example.{settled_at, with_ghost, in_one_round, in_the_next, copy_of_second};
 ghost use Rattle.seam_rules.specs.Example.{halves, to_avatar, numbers, avatar_2, own_avatar, hit, mark, pay, promote};
@@ -29,26 +33,12 @@ ghost use Rattle.seam_call.specs.declared.shown.ClientText.TheVariants as text;
 ghost use Rattle.seam_defs.specs.Builtin.{builtin};
 ghost use Rattle.seam_tree.specs.declared.tree.CutError.TheVariants.{TooManyCells};
 ghost use Rattle.seam_tree.specs.declared.tree.ShiftError.TheVariants.{WouldEmpty};
-ghost use Rattle.seam_rules.specs.OneCell.{whole_book, whole_standing, whole_round, plain_standing, plain_round};
-ghost use Rattle.seam_rules.specs.OneCell.{NamesFurther, whole_verdict, however};
+ghost use Rattle.seam_rules.specs.OneCell.{whole_standing, whole_round, plain_standing, plain_round, NamesFurther, however};
 ghost use Rattle.seam_rules.specs.Transcript.{IsEnded, IsOpen};
-ghost use Rattle.seam_rules.specs.Book.{Book, live_as, has_client, is_shown, has_tick};
 ghost use Rattle.seam_rules.specs.FlatTable.{has_changed_at, public_at, rows_of};
 ghost use Rattle.seam_rules.specs.Standing.{Standing, in_first_cell, replica_of};
 ghost use Rattle.seam_rules.specs.Lines.{RoundData};
 ghost use Rattle.seam_rules.specs.Round.{IsRound};
-ghost use Rattle.seam_rules.specs.Judging.{Verdict, Judges, CutRefused, ShiftRefused, MayCall, MayMove};
-ghost use Rattle.seam_rules.specs.Language.{Command, words_of};
-
-/// No words spell two commands.
-pub fn command_is_one()
-    ensures { (c d : Command) → words_of c ≡ words_of d → c ≡ d }
-{}
-
-/// The book is a function of the lines: a line has one verdict at most. (That it has one, the calls are to show that judge it.)
-pub fn verdict_is_one()
-    ensures { (h : Header) (b : Book) (line : Line) (v w : Verdict) → AreDefs h.defs → Judges h b line v → Judges h b line w → v ≡ w }
-{}
 
 /// An entity's public version is the last one up to its version at which what ghosts hold of it changed, or 0.
 pub fn public_version_is_the_last_change()
@@ -85,26 +75,26 @@ pub fn lines_are_one_without_a_tick()
 /// In a space of one cell, in which no entity has a client and none is destroyed, the rounds that the program runs so far are the legal
 /// ones: each of them is legal as a whole, and none other is. They have no ghosts and show no client anything, so their texts are the same.
 pub fn round_of_one_cell()
-    ensures whole { (h : Header) (s t : taken_standing.Standing) (r : taken.RoundData) → taken.IsRound h s r t →
-        IsRound h (whole_standing h s) (whole_round r) (whole_standing h t) }
-    ensures no_other { (h : Header) (s : taken_standing.Standing) (t : Standing) (r : RoundData) → IsRound h (whole_standing h s) r t →
-        (r ≡ whole_round (plain_round r)) × taken.IsRound h s (plain_round r) (plain_standing t) }
+    ensures whole { (h : Header) (s t : taken_standing.Standing) (r : taken.RoundData) → IsInOneCell h.settings.size s.book →
+        taken.IsRound h s r t → IsRound h (whole_standing s) (whole_round r) (whole_standing t) }
+    ensures no_other { (h : Header) (s : taken_standing.Standing) (t : Standing) (r : RoundData) → IsInOneCell h.settings.size s.book →
+        IsRound h (whole_standing s) r t → (r ≡ whole_round (plain_round r)) × taken.IsRound h s (plain_round r) (plain_standing t) }
     ensures text { (defs : List TypeDef) (r : taken.RoundData) → round_text defs (whole_round r) ≡ texts.round_text defs r }
 {}
 
-/// In such a space the verdict on a line is the one that the program gives so far, but on a line whose first word is that of a further
-/// command, which the program answers `command`.
+/// The verdict on a line is the one that the program gives so far, but on a line whose first word is that of a further command, which the
+/// program answers `command`.
 pub fn verdicts_so_far()
-    ensures { (h : Header) (b : taken_book.Book) (line : Line) (v : taken_verdict.Verdict) → ¬ (NamesFurther line) →
-        taken_book.Judges h b line v → Judges h (whole_book h b) line (whole_verdict v) }
+    ensures { (h : Header) (b : Book) (line : Line) (v : Verdict) → ¬ (NamesFurther line) → Judges OneCell h b line v →
+        Judges All h b line v }
 {}
 
 /// What the program prints so far is a transcript of every command: for an input without further commands, each transcript that it may
 /// print is one as a whole, however nodes play its rounds.
 pub fn transcript_so_far()
-    ensures ended { (lines : List Line) (text : List ℕ) → All (λ l. ¬ (NamesFurther l)) lines → taken_transcript.IsEnded lines text →
+    ensures ended { (lines : List Line) (text : List ℕ) → list.All (λ l. ¬ (NamesFurther l)) lines → taken_transcript.IsEnded lines text →
         IsEnded however lines text }
-    ensures open_ { (lines : List Line) (text : List ℕ) → All (λ l. ¬ (NamesFurther l)) lines → taken_transcript.IsOpen lines text →
+    ensures open_ { (lines : List Line) (text : List ℕ) → list.All (λ l. ¬ (NamesFurther l)) lines → taken_transcript.IsOpen lines text →
         IsOpen however lines text }
 {}
 

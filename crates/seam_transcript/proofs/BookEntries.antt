@@ -3,13 +3,14 @@ use Rattle.std.proofs.Common.{◌≡◌, ◌≢◌, ℕ, Bool, true, false, [], 
 use Rattle.std.proofs.Common.{Option, Some, None, cond, append_assoc, append-nil}
 use Rattle.std.specs.Prelude.{find, ◌==◌}
 use Rattle.std.specs.Option.{option_or}
+use Rattle.std.specs.List.{list_any}
 use Rattle.std.proofs.lemmas.List.Folds.{find-append}
 use Rattle.std.proofs.lemmas.List.Elements.{filter_map-append}
 use Rattle.std.proofs.lemmas.Option.{none-some}
 use Rattle.std.proofs.lemmas.Bool.Decides.{eqb_tells}
 use Rattle.seam_call.specs.declared.call.Call.{Call}
 use Rattle.seam_call.specs.declared.create.Create.{Create}
-use Rattle.seam_transcript.specs.Book.{Book, entries, created, creates_of, created_as, with_entry}
+use Rattle.seam_transcript.specs.Book.{Book, entries, created, creates_of, created_as, live_as, destroys, with_entry}
 use Rattle.seam_transcript.specs.declared.verdict.Entry.{Entry}
 use Rattle.seam_transcript.specs.declared.verdict.Entry.TheVariants as entry
 
@@ -22,6 +23,16 @@ differ a b ne = grind (arith, eqb_tells)
 
 pub creates_with_entry : (b : Book) (x : Entry) → creates_of (entries (with_entry b x)) ≡ creates_of (entries b) ++ creates_of (x ∷ [])
 creates_with_entry b x = ap creates_of (sym (append_assoc b.past b.current (x ∷ []))) ∙ filter_map-append created (entries b) (x ∷ [])
+
+-- ---- who lives
+
+-- a live entity was created
+pub live_is_created : (b : Book) (e : ℕ) (c : Create) → live_as b e ≡ Some c → created_as b e ≡ Some c
+live_is_created b e c = by (list_any (destroys e) (entries b))
+  where
+    by : (x : Bool) → cond x None (created_as b e) ≡ Some c → created_as b e ≡ Some c
+    by true lives = absurd (none-some c lives)
+    by false lives = lives
 
 -- ---- a call
 

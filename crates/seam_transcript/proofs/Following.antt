@@ -5,13 +5,15 @@ use Rattle.std.proofs.lemmas.Grind.{common_steps}
 use Rattle.seam_io.specs.Lines.{Line}
 use Rattle.seam_defs.specs.declared.types.TypeDef.{TypeDef}
 use Rattle.seam_toml.specs.declared.header.Header.{Header}
-use Rattle.seam_transcript.specs.Book.{Book, open_lines, with_entry, Judges}
+use Rattle.seam_transcript.specs.Book.{Book, open_lines, with_entry}
+use Rattle.seam_transcript.specs.Judging.{Judges}
 use Rattle.seam_transcript.specs.Standing.{Standing, with_line, with_book}
 use Rattle.seam_transcript.specs.InOrder.{after_round}
 use Rattle.seam_transcript.specs.Round.{RoundData}
 use Rattle.seam_transcript.specs.Texts.{refusal, round_text}
 use Rattle.seam_transcript.specs.Transcript.{Piece, Refusal, Ended, text_of, EndsRound}
 use Rattle.seam_transcript.specs.Following.{RoundEnds, LineFollowed, LineRead, InputEnded}
+use Rattle.seam_transcript.specs.declared.commands.Commands.TheVariants.{OneCell}
 use Rattle.seam_transcript.specs.declared.verdict.Entry.{Entry}
 use Rattle.seam_transcript.specs.declared.verdict.Cause.{Cause}
 use Rattle.seam_transcript.specs.declared.verdict.Verdict.TheVariants as verdict
@@ -24,8 +26,8 @@ pub count_of_lines : (b : Book) (x : Entry) → open_lines (with_entry b x) ≡ 
 count_of_lines b x = length-append b.current (x ∷ [])
 
 -- a line that is skipped
-pub skipped : (h : Header) (t : Standing) (line : Line) (refines : Standing → Type 0) → Judges h t.book line verdict.Skipped → refines t →
-    LineFollowed h t line refines []
+pub skipped : (h : Header) (t : Standing) (line : Line) (refines : Standing → Type 0) → Judges OneCell h t.book line verdict.Skipped →
+    refines t → LineFollowed h t line refines []
 skipped h t line refines judges holds = record {
   verdict = verdict.Skipped;
   judges = judges;
@@ -38,7 +40,7 @@ skipped h t line refines judges holds = record {
 
 -- a line that ends the round
 pub synced : (h : Header) (t : Standing) (line : Line) (refines : Standing → Type 0) (text : List ℕ) →
-    Judges h t.book line verdict.Synced → RoundEnds h t refines text → LineFollowed h t line refines text
+    Judges OneCell h t.book line verdict.Synced → RoundEnds h t refines text → LineFollowed h t line refines text
 synced h t line refines text judges ends = record {
   verdict = verdict.Synced;
   judges = judges;
@@ -51,7 +53,7 @@ synced h t line refines text judges ends = record {
 
 -- a line that is kept, and filled the round, which ended
 pub kept_last : (h : Header) (t : Standing) (line : Line) (x : Entry) (refines : Standing → Type 0) (text : List ℕ) →
-    Judges h t.book line (verdict.Accepted x) → open_lines (with_entry t.book x) ≡ MOST_LINES →
+    Judges OneCell h t.book line (verdict.Accepted x) → open_lines (with_entry t.book x) ≡ MOST_LINES →
     RoundEnds h (with_book t (with_entry t.book x)) refines text → LineFollowed h t line refines text
 kept_last h t line x refines text judges full ends =
     let at : Standing = with_book t (with_entry t.book x) in
@@ -71,7 +73,7 @@ kept_last h t line x refines text judges full ends =
 
 -- one that is kept in a round with room for more
 pub kept_open : (h : Header) (t : Standing) (line : Line) (x : Entry) (refines : Standing → Type 0) →
-    Judges h t.book line (verdict.Accepted x) → open_lines (with_entry t.book x) ≢ MOST_LINES →
+    Judges OneCell h t.book line (verdict.Accepted x) → open_lines (with_entry t.book x) ≢ MOST_LINES →
     refines (with_book t (with_entry t.book x)) → LineFollowed h t line refines []
 kept_open h t line x refines judges open_ holds =
     let at : Standing = with_book t (with_entry t.book x) in
@@ -99,7 +101,7 @@ line_read h t line refines text followed = record {
 
 -- a line that was refused
 pub refused : (h : Header) (t : Standing) (line : Line) (c : Cause) (refines : Standing → Type 0) →
-    Judges h t.book line (verdict.Refused c) → refines (with_line t) → LineRead h t line refines (refusal (t.lines + 1) c)
+    Judges OneCell h t.book line (verdict.Refused c) → refines (with_line t) → LineRead h t line refines (refusal (t.lines + 1) c)
 refused h t line c refines judges holds = record {
   pieces = Refusal (t.lines + 1) c ∷ [];
   next = with_line t;

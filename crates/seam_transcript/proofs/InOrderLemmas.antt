@@ -17,7 +17,7 @@ use Rattle.seam_call.specs.declared.sender.Sender.{Sender}
 use Rattle.seam_call.specs.declared.call.Call.{Call}
 use Rattle.seam_call.specs.declared.create.Create.{Create}
 use Rattle.seam_toml.specs.declared.header.Header.{Header}
-use Rattle.seam_transcript.specs.Book.{Book, entries, called, calls_of, created_as, accepted, with_entry, with_round_ended}
+use Rattle.seam_transcript.specs.Book.{Book, entries, called, calls_of, created_as, live_as, accepted, with_entry, with_round_ended}
 use Rattle.seam_transcript.specs.Orders.{Orders, of_sender, IsFull, IsLegal}
 use Rattle.seam_transcript.specs.FlatTable.{flat, first_state}
 use Rattle.seam_transcript.specs.Standing.{Standing}
@@ -71,14 +71,14 @@ extends b p live before listed same = record {
 
 -- The round of a book is legal, where the rounds before it executed all calls as they were accepted.
 pub round_in_order_is_legal : (h : Header) (s : Standing) (live : List Create) → Lists (created_as s.book) live →
-    s.orders ≡ in_order s.book.past
+    Lists (live_as s.book) live → s.orders ≡ in_order s.book.past
     → IsRound h s (round_in_order h (s.rounds + 1) s.book live) (after_round s)
-round_in_order_is_legal h s live listed same = record {
+round_in_order_is_legal h s live listed lives same = record {
   number = refl;
   did = extends s.book part.Cell live (s.orders part.Cell) listed (λ e. ap (λ (o : Orders). o part.Cell e) same);
   dob = extends s.book part.Base live (s.orders part.Base) listed (λ e. ap (λ (o : Orders). o part.Base e) same);
-  homes = record { live = live; listed = listed; are = refl };
-  bases = record { live = live; listed = listed; are = refl };
+  homes = record { live = live; listed = lives; are = refl };
+  bases = record { live = live; listed = lives; are = refl };
   lines = refl;
   rounds = refl;
   book = refl;
@@ -99,6 +99,11 @@ pub calls_within_entries : (xs : List Entry) → length (calls_of xs) ≤ length
 calls_within_entries [] = omega arith
 calls_within_entries (entry.Created c ∷ xs) = let rest = calls_within_entries xs in omega arith
 calls_within_entries (entry.Called c ∷ xs) = let rest = calls_within_entries xs in omega arith
+calls_within_entries (entry.Joined e ∷ xs) = let rest = calls_within_entries xs in omega arith
+calls_within_entries (entry.Ticked ∷ xs) = let rest = calls_within_entries xs in omega arith
+calls_within_entries (entry.Divided t ∷ xs) = let rest = calls_within_entries xs in omega arith
+calls_within_entries (entry.Balanced ∷ xs) = let rest = calls_within_entries xs in omega arith
+calls_within_entries (entry.Destroyed e ∷ xs) = let rest = calls_within_entries xs in omega arith
 
 -- no more calls of a part than entries
 pub order_within_entries : (xs : List Entry) (p : Part) (e : ℕ) → length (in_order xs p e) ≤ length xs

@@ -5,7 +5,9 @@ use Rattle.std.proofs.Math.Bool.{and-false}
 use Rattle.std.proofs.Math.Path.{fun_ext}
 use Rattle.std.proofs.lemmas.List.{append_cancel_left}
 use Rattle.std.proofs.lemmas.List.Elements.{All-nil, All-head, All-tail, All-push, filter_map-append}
-use Rattle.std.proofs.Common.{append-nil, append_assoc}
+use Rattle.std.proofs.Common.{append-nil, append_assoc, Option, None}
+use Rattle.std.specs.List.{cons_option}
+use Rattle.seam_transcript.specs.declared.commands.Commands.TheVariants.{OneCell}
 use Rattle.seam_io.specs.Lines.{Line}
 use Rattle.seam_value.specs.NumberWords.{SpellsPositive}
 use Rattle.seam_defs.specs.declared.types.TypeDef.{TypeDef}
@@ -25,8 +27,9 @@ use Rattle.seam_transcript.specs.Header.{BeginWithHeader, separator}
 use Rattle.seam_transcript.proofs.HeaderLemmas.{header_lines_are_one}
 use Rattle.seam_toml.specs.Header.{Reads}
 use Rattle.seam_toml.proofs.HeaderLaws.{reads_one, reads_defs}
-use Rattle.seam_transcript.specs.Book.{Book, entries, called, calls_of, created_as, live_as, accepted, open_lines, with_entry, Adds}
-use Rattle.seam_transcript.specs.Book.{NamesDeed, NamesMove, NamesCall, Spells, Judges}
+use Rattle.seam_transcript.specs.Book.{Book, entries, called, calls_of, created_as, live_as, accepted, open_lines, with_entry}
+use Rattle.seam_transcript.specs.Judging.{Adds}
+use Rattle.seam_transcript.specs.Judging.{NamesDeed, NamesMove, NamesCall, Spells, Judges}
 use Rattle.seam_transcript.specs.Orders.{Orders, of_sender, IsFull}
 use Rattle.seam_transcript.specs.Standing.{Standing, after_header, with_line, with_book}
 use Rattle.seam_transcript.specs.Round.{RoundData, DoneLine, HomeLine, BaseLine, done_lines, home_line, base_line, ExtendsOrders, HasHomes}
@@ -51,11 +54,11 @@ IsOwn one c = c.sender ≡ one c.entity
 abbrev AreOwn : (ℕ → Sender) → List Call → Type 0
 AreOwn one calls = All (IsOwn one) calls
 
-same_sender_of_itself : (s : Sender) → same_sender s s ≡ true
+pub same_sender_of_itself : (s : Sender) → same_sender s s ≡ true
 same_sender_of_itself (sender.Base n) = grind arith
 same_sender_of_itself (sender.Client e) = grind arith
 
-same_sender_is : (s t : Sender) → same_sender s t ≡ true → s ≡ t
+pub same_sender_is : (s t : Sender) → same_sender s t ≡ true → s ≡ t
 same_sender_is (sender.Base m) (sender.Base n) same = ap sender.Base (grind (arith, same))
 same_sender_is (sender.Client d) (sender.Client e) same = ap sender.Client (grind (arith, same))
 same_sender_is (sender.Base m) (sender.Client e) same = cc
@@ -221,12 +224,23 @@ call_is_own h one b s e Asks c x names call is own =
     subst (λ (y : Entry). AreOwn one (calls_of (entries (with_entry b y)))) (sym is)
     (subst (AreOwn one) (sym (calls_with_entry b (entry.Called c))) (All-push (IsOwn one) (calls_of (entries b)) c own from))
 
+-- an entry that is no call adds none
+no_call_is_own : (one : ℕ → Sender) (b : Book) (x : Entry) → called x ≡ None → AreOwn one (calls_of (entries b)) →
+    AreOwn one (calls_of (entries (with_entry b x)))
+no_call_is_own one b x none own =
+    subst (AreOwn one) (sym (calls_with_entry b x ∙ ap (λ (o : Option Call). calls_of (entries b) ++ cons_option o []) none
+    ∙ append-nil (calls_of (entries b)))) own
+
 entry_is_own : (h : Header) (one : ℕ → Sender) (b : Book) (line : Line) (c : language.Command) (x : Entry) → CallIsFrom one line →
     Spells line c → Adds h b c x → AreOwn one (calls_of (entries b)) → AreOwn one (calls_of (entries (with_entry b x)))
 entry_is_own h one b line language.Sync x names spells adds own = absurd adds
-entry_is_own h one b line (language.Create e n px pz) x names spells (c, _, is) own =
-    subst (λ (y : Entry). AreOwn one (calls_of (entries (with_entry b y)))) (sym is)
-    (subst (AreOwn one) (sym (calls_with_entry b (entry.Created c) ∙ append-nil (calls_of (entries b)))) own)
+entry_is_own h one b line (language.Client w) x names spells (e, number, is) own = no_call_is_own one b x (ap called is) own
+entry_is_own h one b line language.Tick x names spells is own = no_call_is_own one b x (ap called is) own
+entry_is_own h one b line (language.Cut w a at) x names spells (c, by, cell, bound, is) own = no_call_is_own one b x (ap called is) own
+entry_is_own h one b line (language.Shift w at) x names spells (k, p, number, place, is) own = no_call_is_own one b x (ap called is) own
+entry_is_own h one b line language.Balance x names spells is own = no_call_is_own one b x (ap called is) own
+entry_is_own h one b line (language.Destroy w) x names spells (e, number, is) own = no_call_is_own one b x (ap called is) own
+entry_is_own h one b line (language.Create e n px pz) x names spells (c, _, is) own = no_call_is_own one b x (ap called is) own
 entry_is_own h one b line (language.Call s e n a) x names spells (c, call, is) own =
     call_is_own h one b s e (NamesDeed a n) c x (λ k. names (language.Call s e n a) s e k spells (refl, refl)) call is own
 entry_is_own h one b line (language.Move s e px pz) x names spells (c, call, is) own =
@@ -234,7 +248,7 @@ entry_is_own h one b line (language.Move s e px pz) x names spells (c, call, is)
 
 -- a verdict has one text, and leaves one standing
 follows_one : (h : Header) (one : ℕ → Sender) (s : Standing) (line : Line) (v : Verdict) (xs ys : List Piece) (t u : Standing) →
-    CallIsFrom one line → AreOwn one (calls_of (entries s.book)) → Judges h s.book line v
+    CallIsFrom one line → AreOwn one (calls_of (entries s.book)) → Judges OneCell h s.book line v
     → Follows h (with_line s) v xs t → Follows h (with_line s) v ys u → (xs ≡ ys) × (t ≡ u) × AreOwn one (calls_of (entries t.book))
 follows_one h one s line verdict.Skipped xs ys t u names own judged x y =
     (x.0 ∙ sym y.0, x.1 ∙ sym y.1, subst (λ (k : Standing). AreOwn one (calls_of (entries k.book))) (sym x.1) own)
@@ -257,7 +271,7 @@ run_is_one h one [] s t u xs ys are names own x y =
 run_is_one h one (line ∷ lines) s t u xs ys are names own x y =
     let step = x.4 in
     let step' = y.4 in
-    let verdict : step.0 ≡ step'.0 = verdict_is_one_of h s.book line step.0 step'.0 are step.1 step'.1 in
+    let verdict : step.0 ≡ step'.0 = verdict_is_one_of OneCell h s.book line step.0 step'.0 are step.1 step'.1 in
     let first = follows_one h one s line step.0 x.0 y.0 x.2 y.2 (All-head (CallIsFrom one) line lines names) own step.1 step.2
     (subst (λ (v : Verdict). Follows h (with_line s) v y.0 y.2) (sym verdict) step'.2) in
     let rest = run_is_one h one lines x.2 t u x.1 y.1 are (All-tail (CallIsFrom one) line lines names) first.2 x.5
@@ -300,11 +314,11 @@ pub transcript_is_one : (lines : List Line) (one : ℕ → Sender) (x y : List �
     x ≡ y
 transcript_is_one lines one x y names (h, xs, last, t, prints, ends, is) (k, ys, last', u, prints', ends', is') =
     let same = header_is_one lines h k prints.count prints'.count prints.rest prints'.rest prints.header prints'.header in
-    let run' : Run (Step h) (after_header prints.count) prints.rest ys u =
-    subst (λ (ls : List Line). Run (Step h) (after_header prints.count) ls ys u) (sym same.2)
-    (subst (λ (n : ℕ). Run (Step h) (after_header n) prints'.rest ys u) (sym same.1)
-    (subst (λ (j : Header). Run (Step j) (after_header prints'.count) prints'.rest ys u) (sym same.0) prints'.run)) in
-    let run = run_is_one h one prints.rest (after_header prints.count) t u xs ys (reads_defs prints.header.text h prints.header.reads)
+    let run' : Run (Step h) (after_header h prints.count) prints.rest ys u =
+    subst (λ (ls : List Line). Run (Step h) (after_header h prints.count) ls ys u) (sym same.2)
+    (subst (λ (n : ℕ). Run (Step h) (after_header h n) prints'.rest ys u) (sym same.1)
+    (subst (λ (j : Header). Run (Step j) (after_header j prints'.count) prints'.rest ys u) (sym same.0) prints'.run)) in
+    let run = run_is_one h one prints.rest (after_header h prints.count) t u xs ys (reads_defs prints.header.text h prints.header.reads)
     (rest_is_from one h lines prints.rest prints.count names prints.header) (All-nil (IsOwn one)) prints.run run' in
     let ends_here : EndsInput h t last' =
     subst (λ (v : Standing). EndsInput h v last') (sym run.1) (subst (λ (j : Header). EndsInput j u last') (sym same.0) ends') in

@@ -1,10 +1,11 @@
 -- A line has one verdict.
-use Rattle.std.proofs.Common.{◌≡◌, ◌≤◌, ◌+◌, ℕ, Bool, true, false, List, [], ◌∷◌, map, length, drop, get_or, refl, sym, ap, ◌∙◌}
-use Rattle.std.proofs.Common.{subst, arith}
+use Rattle.std.proofs.Common.{◌≡◌, ◌≤◌, ◌⊎◌, ◌+◌, ℕ, Bool, true, false, List, [], ◌∷◌, map, length, drop, get_or, inl, inr, refl, sym}
+use Rattle.std.proofs.Common.{ap, ◌∙◌, subst, arith}
 use Rattle.std.specs.Prelude.{◌==◌}
 use Rattle.std.proofs.lemmas.Option.{same_Some}
 use Rattle.seam_io.specs.Lines.{Line, Content, Long}
 use Rattle.seam_geo.specs.declared.pos.Pos.{Pos}
+use Rattle.seam_geo.specs.Rect.{Area}
 use Rattle.seam_value.specs.NumberWords.{SpellsPositive}
 use Rattle.seam_value.specs.Values.{text_of}
 use Rattle.seam_value.specs.declared.values.Value.{Value}
@@ -14,8 +15,17 @@ use Rattle.seam_value.proofs.NumberWords.{spells_one_number}
 use Rattle.seam_words.specs.Faults.{Refuses}
 use Rattle.seam_words.specs.Texts.{HasWords}
 use Rattle.seam_words.specs.declared.words.WordsError.{WordsError}
-use Rattle.seam_words.specs.declared.words.WordsError.TheVariants.{NotUtf8}
 use Rattle.seam_words.proofs.WordTexts.{words_are_one_list, no_words_at_fault, fault_is_first}
+use Rattle.seam_tree.specs.Boundary.{LeavesPartEmpty, RunsThrough}
+use Rattle.seam_tree.specs.Division.{Division, cells_of, area, HasBoundary}
+use Rattle.seam_tree.specs.Change.{with_cut, with_place}
+use Rattle.seam_tree.specs.declared.boundary.Axis.{Axis}
+use Rattle.seam_tree.specs.declared.boundary.Axis.TheVariants as axis
+use Rattle.seam_tree.specs.declared.boundary.Boundary.{Boundary}
+use Rattle.seam_tree.specs.declared.tree.CutError.{CutError}
+use Rattle.seam_tree.specs.declared.tree.CutError.TheVariants.{NoCell, OutsideCell, TooManyCells}
+use Rattle.seam_tree.specs.declared.tree.ShiftError.{ShiftError}
+use Rattle.seam_tree.specs.declared.tree.ShiftError.TheVariants.{NoBoundary, WouldEmpty}
 use Rattle.seam_defs.specs.Types.{type_of, AreDefs}
 use Rattle.seam_defs.specs.Deeds.{part_of_deed}
 use Rattle.seam_defs.specs.declared.types.TypeDef.{TypeDef}
@@ -29,61 +39,20 @@ use Rattle.seam_call.specs.declared.sender.Sender.{Sender}
 use Rattle.seam_call.specs.declared.sender.Sender.TheVariants as sender
 use Rattle.seam_call.specs.declared.call.Call.{Call}
 use Rattle.seam_call.specs.declared.create.Create.{Create}
-use Rattle.seam_transcript.specs.Language as language
 use Rattle.seam_toml.specs.declared.header.Header.{Header}
-use Rattle.seam_transcript.specs.Book.{Book, live_as, accepted, NamesType, NamesMethod, NamesLive, NamesDeed, NamesMove, NamesCreate}
-use Rattle.seam_transcript.specs.Book.{SpellsPosition, NamesCall, Adds, rank, HoldsAgainst, Holds, IsFirst, Spells, Judges}
+use Rattle.seam_transcript.specs.Language as language
+use Rattle.seam_transcript.specs.Book.{Book, live_as, accepted, tree_of}
+use Rattle.seam_transcript.specs.Judging.{NamesType, NamesMethod, NamesLive, NamesDeed, NamesMove, NamesCreate, SpellsPosition, NamesCall}
+use Rattle.seam_transcript.specs.Judging.{RefusesCut, RefusesShift, Adds, rank, HoldsAgainst, Holds, IsFirst, Spells, Judges}
+use Rattle.seam_transcript.specs.declared.commands.Commands.{Commands}
 use Rattle.seam_transcript.specs.declared.verdict.Entry.{Entry}
 use Rattle.seam_transcript.specs.declared.verdict.Entry.TheVariants as entry
 use Rattle.seam_transcript.specs.declared.verdict.Cause.{Cause}
 use Rattle.seam_transcript.specs.declared.verdict.Cause.TheVariants as cause
 use Rattle.seam_transcript.specs.declared.verdict.Verdict.{Verdict}
 use Rattle.seam_transcript.specs.declared.verdict.Verdict.TheVariants as verdict
+use Rattle.seam_transcript.proofs.CommandWords.{command_is_one, line_spells_one, sync_is_taken}
 use Rattle.seam_transcript.proofs.Names.{place_of_type, place_of_method}
-
--- ---- commands
-
-abbrev word : ℕ → List (List ℕ) → List ℕ
-word k words = get_or words k []
-
--- the byte at this place of the first word
-abbrev byte : ℕ → List (List ℕ) → ℕ
-byte i words = get_or (word 0 words) i 0
-
-same_create : (e f n m x y z w : List ℕ) → e ≡ f → n ≡ m → x ≡ y → z ≡ w → language.Create e n x z ≡ language.Create f m y w
-same_create e f n m x y z w a b c d = λ i. language.Create (a i) (b i) (c i) (d i)
-
-same_call : (s t e f n m : List ℕ) (a b : List (List ℕ)) → s ≡ t → e ≡ f → n ≡ m → a ≡ b → language.Call s e n a ≡ language.Call t f m b
-same_call s t e f n m a b p q r u = λ i. language.Call (p i) (q i) (r i) (u i)
-
-same_move : (s t e f x y z w : List ℕ) → s ≡ t → e ≡ f → x ≡ y → z ≡ w → language.Move s e x z ≡ language.Move t f y w
-same_move s t e f x y z w a b c d = λ i. language.Move (a i) (b i) (c i) (d i)
-
--- words spell one command
-pub command_is_one : (c d : language.Command) → language.words_of c ≡ language.words_of d → c ≡ d
-command_is_one (language.Create e n x z) (language.Create f m y w) same =
-    same_create e f n m x y z w (ap (word 1) same) (ap (word 2) same) (ap (word 3) same) (ap (word 4) same)
-command_is_one (language.Call s e n a) (language.Call t f m b) same =
-    same_call s t e f n m a b (ap (word 1) same) (ap (word 2) same) (ap (word 3) same) (ap (drop 4) same)
-command_is_one (language.Move s e x z) (language.Move t f y w) same =
-    same_move s t e f x y z w (ap (word 1) same) (ap (word 2) same) (ap (word 3) same) (ap (word 4) same)
-command_is_one language.Sync language.Sync same = refl
-command_is_one (language.Create e n x z) (language.Call t f m b) same = let at = ap (byte 1) same in absurd (omega (arith, at))
-command_is_one (language.Create e n x z) (language.Move t f y w) same = let at = ap (byte 0) same in absurd (omega (arith, at))
-command_is_one (language.Create e n x z) language.Sync same = let at = ap (byte 0) same in absurd (omega (arith, at))
-command_is_one (language.Call s e n a) (language.Create f m y w) same = let at = ap (byte 1) same in absurd (omega (arith, at))
-command_is_one (language.Call s e n a) (language.Move t f y w) same = let at = ap (byte 0) same in absurd (omega (arith, at))
-command_is_one (language.Call s e n a) language.Sync same = let at = ap (byte 0) same in absurd (omega (arith, at))
-command_is_one (language.Move s e x z) (language.Create f m y w) same = let at = ap (byte 0) same in absurd (omega (arith, at))
-command_is_one (language.Move s e x z) (language.Call t f m b) same = let at = ap (byte 0) same in absurd (omega (arith, at))
-command_is_one (language.Move s e x z) language.Sync same = let at = ap (byte 0) same in absurd (omega (arith, at))
-command_is_one language.Sync (language.Create f m y w) same = let at = ap (byte 0) same in absurd (omega (arith, at))
-command_is_one language.Sync (language.Call t f m b) same = let at = ap (byte 0) same in absurd (omega (arith, at))
-command_is_one language.Sync (language.Move t f y w) same = let at = ap (byte 0) same in absurd (omega (arith, at))
-
--- and so does a line
-pub line_spells_one : (line : List ℕ) (c d : language.Command) → language.SpellsCommand line c → language.SpellsCommand line d → c ≡ d
-line_spells_one line c d one other = command_is_one c d (words_are_one_list line (language.words_of c) (language.words_of d) one other)
 
 -- ---- what words name is one
 
@@ -172,6 +141,25 @@ call_is_one h b s e Asks c d ask one other =
     ∙ ap (λ (x : Sender). length (accepted b d.part d.entity x) + 1) sender ∙ sym other.next in
     same_fields c d entity part sender number deed
 
+-- an axis is spelled in one way
+axis_is_one : (a b : Axis) → language.axis_text a ≡ language.axis_text b → a ≡ b
+axis_is_one axis.X axis.X same = refl
+axis_is_one axis.Z axis.Z same = refl
+axis_is_one axis.X axis.Z same = let first = ap (λ (bytes : List ℕ). get_or bytes 0 0) same in absurd (omega (arith, first))
+axis_is_one axis.Z axis.X same = let first = ap (λ (bytes : List ℕ). get_or bytes 0 0) same in absurd (omega (arith, first))
+
+boundary_is_one : (a at : List ℕ) (b c : Boundary) → language.SpellsBoundary a at b → language.SpellsBoundary a at c → b ≡ c
+boundary_is_one a at b c one other =
+    let same = axis_is_one b.axis c.axis (one.axis ∙ sym other.axis) in
+    let place = spells_one_number at b.at c.at one.place other.place in
+    λ i. record { axis = same i; at = place i }
+
+same_cut : (t : Division) (c d : ℕ) (b e : Boundary) → c ≡ d → b ≡ e → with_cut t c b ≡ with_cut t d e
+same_cut t c d b e x y = λ i. with_cut t (x i) (y i)
+
+same_place : (t : Division) (k l p q : ℕ) → k ≡ l → p ≡ q → with_place t k p ≡ with_place t l q
+same_place t k l p q x y = λ i. with_place t (x i) (y i)
+
 -- a command adds one entry
 pub entry_is_one : (h : Header) (b : Book) (c : language.Command) (x y : Entry) → AreDefs h.defs → Adds h b c x → Adds h b c y → x ≡ y
 entry_is_one h b (language.Create e n px pz) x y are (c, one, is) (d, other, is') =
@@ -181,8 +169,20 @@ entry_is_one h b (language.Call s e n a) x y are (c, one, is) (d, other, is') =
 entry_is_one h b (language.Move s e px pz) x y are (c, one, is) (d, other, is') =
     is ∙ ap entry.Called (call_is_one h b s e (λ t. NamesMove h px pz) c d (move_is_one h px pz) one other) ∙ sym is'
 entry_is_one h b language.Sync x y are one other = absurd one
+entry_is_one h b (language.Client w) x y are (e, one, is) (f, other, is') =
+    is ∙ ap entry.Joined (positive_is_one w e f one other) ∙ sym is'
+entry_is_one h b language.Tick x y are one other = one ∙ sym other
+entry_is_one h b (language.Cut w a at) x y are (c, by, cell, bound, is) (d, by', cell', bound', is') =
+    is ∙ ap entry.Divided (same_cut (tree_of b) c d by by' (spells_one_number w c d cell cell') (boundary_is_one a at by by' bound bound'))
+    ∙ sym is'
+entry_is_one h b (language.Shift w at) x y are (k, p, number, place, is) (l, q, number', place', is') =
+    is ∙ ap entry.Divided (same_place (tree_of b) k l p q (spells_one_number w k l number number') (spells_one_number at p q place place'))
+    ∙ sym is'
+entry_is_one h b language.Balance x y are one other = one ∙ sym other
+entry_is_one h b (language.Destroy w) x y are (e, one, is) (f, other, is') =
+    is ∙ ap entry.Destroyed (positive_is_one w e f one other) ∙ sym is'
 
--- ---- verdicts
+-- ---- lines
 
 content_of : Line → List ℕ
 content_of (Content line) = line
@@ -192,53 +192,128 @@ pub same_content : (line other : List ℕ) → Content line ≡ Content other �
 unfolding content_of
 same_content line other same = ap content_of same
 
-long_is_no_content : (line : List ℕ) → Long ≡ Content line → ⊥
-long_is_no_content line same = cc
-
 pub content_is_not_long : (line : List ℕ) → Content line ≡ Long → ⊥
 content_is_not_long line same = cc
 
--- the first word of a command names one
-command_is_named : (c : language.Command) → language.NamesCommand (language.words_of c)
-command_is_named (language.Create e n x z) = (0, omega arith, refl)
-command_is_named (language.Call s e n a) = (1, omega arith, refl)
-command_is_named (language.Move s e x z) = (2, omega arith, refl)
-command_is_named language.Sync = (3, omega arith, refl)
+-- the words of a line are those of another with its content
+pub same_words : (line content : List ℕ) (words others : List (List ℕ)) → Content line ≡ Content content → HasWords line words →
+    HasWords content others → words ≡ others
+same_words line content words others same has has' =
+    words_are_one_list content words others (subst (λ (l : List ℕ). HasWords l words) (same_content line content same) has) has'
 
-same_fault : (h : Header) (b : Book) (line : Line) (e f : WordsError) → Holds h b line (cause.BadWords e) →
-    Holds h b line (cause.BadWords f) → e ≡ f
-same_fault h b line e f (one, same, refuses) (other, same', refuses') =
+-- a line with words is at no fault of words
+pub no_fault_of : (line content : List ℕ) (words : List (List ℕ)) (e : WordsError) → Content line ≡ Content content → HasWords line words →
+    Refuses content e → ⊥
+no_fault_of line content words e same has refuses =
+    no_words_at_fault content e words refuses (subst (λ (l : List ℕ). HasWords l words) (same_content line content same) has)
+
+-- ---- causes of one rank
+
+same_fault : (taken : Commands) (h : Header) (b : Book) (line : Line) (e f : WordsError) → Holds taken h b line (cause.BadWords e) →
+    Holds taken h b line (cause.BadWords f) → e ≡ f
+same_fault taken h b line e f (one, same, refuses) (other, same', refuses') =
     fault_is_first other e f (subst (λ (l : List ℕ). Refuses l e) (same_content one other (sym same ∙ same')) refuses) refuses'
 
--- the cause of a rank, with this fault of words
-abbrev pub of_rank : WordsError → ℕ → Cause
-of_rank e n =
+-- a boundary that runs through an area leaves no part of it empty
+runs_or_empty : (by : Boundary) (a : Area) → LeavesPartEmpty by a → RunsThrough by a → ⊥
+runs_or_empty by a (inl low) runs = let from = runs.from_low in omega (arith, low, from)
+runs_or_empty by a (inr high) runs = let to = runs.to_high in omega (arith, high, to)
+
+cut_error_is_one : (t : Division) (c : ℕ) (by : Boundary) (e f : CutError) → RefusesCut t c by e → RefusesCut t c by f → e ≡ f
+cut_error_is_one t c by NoCell NoCell one other = refl
+cut_error_is_one t c by OutsideCell OutsideCell one other = refl
+cut_error_is_one t c by TooManyCells TooManyCells one other = refl
+cut_error_is_one t c by NoCell OutsideCell one other = let in_it = other.0 in absurd (omega (arith, one, in_it))
+cut_error_is_one t c by NoCell TooManyCells one other = let in_it = other.0 in absurd (omega (arith, one, in_it))
+cut_error_is_one t c by OutsideCell NoCell one other = let in_it = one.0 in absurd (omega (arith, other, in_it))
+cut_error_is_one t c by TooManyCells NoCell one other = let in_it = one.0 in absurd (omega (arith, other, in_it))
+cut_error_is_one t c by OutsideCell TooManyCells one other = absurd (runs_or_empty by (area t c) one.1 other.1)
+cut_error_is_one t c by TooManyCells OutsideCell one other = absurd (runs_or_empty by (area t c) other.1 one.1)
+
+no_boundary : (t : Division) (b : ℕ) → (b ≡ 0) ⊎ (cells_of t ≤ b) → HasBoundary t b → ⊥
+no_boundary t b (inl zero_) has = let from = has.from_one in omega (arith, zero_, from)
+no_boundary t b (inr past) has = let to = has.to_last in omega (arith, past, to)
+
+shift_error_is_one : (t : Division) (b at : ℕ) (e f : ShiftError) → RefusesShift t b at e → RefusesShift t b at f → e ≡ f
+shift_error_is_one t b at NoBoundary NoBoundary one other = refl
+shift_error_is_one t b at WouldEmpty WouldEmpty one other = refl
+shift_error_is_one t b at NoBoundary WouldEmpty one other = absurd (no_boundary t b one other.0)
+shift_error_is_one t b at WouldEmpty NoBoundary one other = absurd (no_boundary t b other one.0)
+
+-- the command of which a tree's refusal may hold
+cut_against : (h : Header) (b : Book) (c : language.Command) (e f : CutError) → HoldsAgainst h b c (cause.CutRefused e) →
+    HoldsAgainst h b c (cause.CutRefused f) → e ≡ f
+cut_against h b (language.Cut w a at) e f (c, by, cell, bound, one) (d, by', cell', bound', other) =
+    let same = spells_one_number w c d cell cell' in
+    let same_by = boundary_is_one a at by by' bound bound' in
+    cut_error_is_one (tree_of b) d by' e f
+    (subst (λ (x : Boundary). RefusesCut (tree_of b) d x e) same_by (subst (λ (n : ℕ). RefusesCut (tree_of b) n by e) same one)) other
+cut_against h b c e f one other = absurd one
+
+shift_against : (h : Header) (b : Book) (c : language.Command) (e f : ShiftError) → HoldsAgainst h b c (cause.ShiftRefused e) →
+    HoldsAgainst h b c (cause.ShiftRefused f) → e ≡ f
+shift_against h b (language.Shift w at) e f (k, p, number, place, one) (l, q, number', place', other) =
+    let same = spells_one_number w k l number number' in
+    let same_place_ = spells_one_number at p q place place' in
+    shift_error_is_one (tree_of b) l q e f
+    (subst (λ (x : ℕ). RefusesShift (tree_of b) l x e) same_place_ (subst (λ (n : ℕ). RefusesShift (tree_of b) n p e) same one)) other
+shift_against h b c e f one other = absurd one
+
+not_both : (h : Header) (b : Book) (c : language.Command) (e : CutError) (f : ShiftError) → HoldsAgainst h b c (cause.CutRefused e) →
+    HoldsAgainst h b c (cause.ShiftRefused f) → ⊥
+not_both h b (language.Cut w a at) e f one other = other
+not_both h b c e f one other = absurd one
+
+-- two lines' words spell one command
+one_spelled : (line : Line) (one other : List ℕ) (ws vs : List (List ℕ)) (c d : language.Command) → line ≡ Content one →
+    line ≡ Content other → HasWords one ws → HasWords other vs → ws ≡ language.words_of c → vs ≡ language.words_of d → c ≡ d
+one_spelled line one other ws vs c d same same' has has' is is' =
+    command_is_one c d (sym is ∙ same_words one other ws vs (sym same ∙ same') has has' ∙ is')
+
+cut_is_one : (taken : Commands) (h : Header) (b : Book) (line : Line) (e f : CutError) → Holds taken h b line (cause.CutRefused e) →
+    Holds taken h b line (cause.CutRefused f) → e ≡ f
+cut_is_one taken h b line e f (one, ws, same, has, (c, is, a)) (other, vs, same', has', (d, is', a')) =
+    let command = one_spelled line one other ws vs c d same same' has has' is is' in
+    cut_against h b d e f (subst (λ (x : language.Command). HoldsAgainst h b x (cause.CutRefused e)) command a) a'
+
+shift_is_one : (taken : Commands) (h : Header) (b : Book) (line : Line) (e f : ShiftError) → Holds taken h b line (cause.ShiftRefused e) →
+    Holds taken h b line (cause.ShiftRefused f) → e ≡ f
+shift_is_one taken h b line e f (one, ws, same, has, (c, is, a)) (other, vs, same', has', (d, is', a')) =
+    let command = one_spelled line one other ws vs c d same same' has has' is is' in
+    shift_against h b d e f (subst (λ (x : language.Command). HoldsAgainst h b x (cause.ShiftRefused e)) command a) a'
+
+not_cut_and_shift : (taken : Commands) (h : Header) (b : Book) (line : Line) (e : CutError) (f : ShiftError) →
+    Holds taken h b line (cause.CutRefused e) → Holds taken h b line (cause.ShiftRefused f) → ⊥
+not_cut_and_shift taken h b line e f (one, ws, same, has, (c, is, a)) (other, vs, same', has', (d, is', a')) =
+    let command = one_spelled line one other ws vs c d same same' has has' is is' in
+    not_both h b d e f (subst (λ (x : language.Command). HoldsAgainst h b x (cause.CutRefused e)) command a) a'
+
+-- the cause of a rank that tells nothing more
+abbrev of_rank : ℕ → Cause
+of_rank n =
     get_or
-    (cause.TooLong ∷ cause.BadWords e ∷ cause.NoCommand ∷ cause.WrongCount ∷ cause.BadNumber ∷ cause.Exists ∷ cause.NoType
+    (cause.TooLong ∷ cause.NoCommand ∷ cause.NoCommand ∷ cause.WrongCount ∷ cause.BadNumber ∷ cause.Exists ∷ cause.NoType
     ∷ cause.Outside ∷ cause.Full ∷ cause.NoSender ∷ cause.Dead ∷ cause.UnknownMethod ∷ cause.IllTyped ∷ [])
     n cause.NoCommand
 
--- the fault of words that a cause tells, else this one
-abbrev pub fault_or : WordsError → Cause → WordsError
-fault_or e (cause.BadWords f) = f
-fault_or e k = e
+is_of_rank : (k : Cause) → ¬ (rank k ≡ 1) → ¬ (rank k ≡ 13) → k ≡ of_rank (rank k)
+is_of_rank cause.TooLong no_words no_tree = refl
+is_of_rank (cause.BadWords f) no_words no_tree = absurd (no_words refl)
+is_of_rank cause.NoCommand no_words no_tree = refl
+is_of_rank cause.WrongCount no_words no_tree = refl
+is_of_rank cause.BadNumber no_words no_tree = refl
+is_of_rank cause.Exists no_words no_tree = refl
+is_of_rank cause.NoType no_words no_tree = refl
+is_of_rank cause.Outside no_words no_tree = refl
+is_of_rank cause.Full no_words no_tree = refl
+is_of_rank cause.NoSender no_words no_tree = refl
+is_of_rank cause.Dead no_words no_tree = refl
+is_of_rank cause.UnknownMethod no_words no_tree = refl
+is_of_rank cause.IllTyped no_words no_tree = refl
+is_of_rank (cause.CutRefused f) no_words no_tree = absurd (no_tree refl)
+is_of_rank (cause.ShiftRefused f) no_words no_tree = absurd (no_tree refl)
 
-pub is_of_rank : (e : WordsError) (k : Cause) → k ≡ of_rank (fault_or e k) (rank k)
-is_of_rank e cause.TooLong = refl
-is_of_rank e (cause.BadWords f) = refl
-is_of_rank e cause.NoCommand = refl
-is_of_rank e cause.WrongCount = refl
-is_of_rank e cause.BadNumber = refl
-is_of_rank e cause.Exists = refl
-is_of_rank e cause.NoType = refl
-is_of_rank e cause.Outside = refl
-is_of_rank e cause.Full = refl
-is_of_rank e cause.NoSender = refl
-is_of_rank e cause.Dead = refl
-is_of_rank e cause.UnknownMethod = refl
-is_of_rank e cause.IllTyped = refl
-
-pub is_bad_words : (k : Cause) → rank k ≡ 1 → (f : WordsError) × (k ≡ cause.BadWords f)
+is_bad_words : (k : Cause) → rank k ≡ 1 → (f : WordsError) × (k ≡ cause.BadWords f)
 is_bad_words cause.TooLong is = absurd (omega (arith, is))
 is_bad_words (cause.BadWords f) is = (f, refl)
 is_bad_words cause.NoCommand is = absurd (omega (arith, is))
@@ -252,268 +327,226 @@ is_bad_words cause.NoSender is = absurd (omega (arith, is))
 is_bad_words cause.Dead is = absurd (omega (arith, is))
 is_bad_words cause.UnknownMethod is = absurd (omega (arith, is))
 is_bad_words cause.IllTyped is = absurd (omega (arith, is))
+is_bad_words (cause.CutRefused f) is = absurd (omega (arith, is))
+is_bad_words (cause.ShiftRefused f) is = absurd (omega (arith, is))
 
-pub no_fault : (e : WordsError) (k : Cause) → ¬ (rank k ≡ 1) → fault_or e k ≡ e
-no_fault e cause.TooLong not = refl
-no_fault e (cause.BadWords f) not = absurd (not refl)
-no_fault e cause.NoCommand not = refl
-no_fault e cause.WrongCount not = refl
-no_fault e cause.BadNumber not = refl
-no_fault e cause.Exists not = refl
-no_fault e cause.NoType not = refl
-no_fault e cause.Outside not = refl
-no_fault e cause.Full not = refl
-no_fault e cause.NoSender not = refl
-no_fault e cause.Dead not = refl
-no_fault e cause.UnknownMethod not = refl
-no_fault e cause.IllTyped not = refl
+is_refused_by_tree : (k : Cause) → rank k ≡ 13 →
+    ((e : CutError) × (k ≡ cause.CutRefused e)) ⊎ ((f : ShiftError) × (k ≡ cause.ShiftRefused f))
+is_refused_by_tree cause.TooLong is = absurd (omega (arith, is))
+is_refused_by_tree (cause.BadWords f) is = absurd (omega (arith, is))
+is_refused_by_tree cause.NoCommand is = absurd (omega (arith, is))
+is_refused_by_tree cause.WrongCount is = absurd (omega (arith, is))
+is_refused_by_tree cause.BadNumber is = absurd (omega (arith, is))
+is_refused_by_tree cause.Exists is = absurd (omega (arith, is))
+is_refused_by_tree cause.NoType is = absurd (omega (arith, is))
+is_refused_by_tree cause.Outside is = absurd (omega (arith, is))
+is_refused_by_tree cause.Full is = absurd (omega (arith, is))
+is_refused_by_tree cause.NoSender is = absurd (omega (arith, is))
+is_refused_by_tree cause.Dead is = absurd (omega (arith, is))
+is_refused_by_tree cause.UnknownMethod is = absurd (omega (arith, is))
+is_refused_by_tree cause.IllTyped is = absurd (omega (arith, is))
+is_refused_by_tree (cause.CutRefused f) is = inl (f, refl)
+is_refused_by_tree (cause.ShiftRefused f) is = inr (f, refl)
 
--- a line has one first cause
-cause_is_one : (h : Header) (b : Book) (line : Line) (k l : Cause) → IsFirst (Holds h b line) k → IsFirst (Holds h b line) l → k ≡ l
-cause_is_one h b line k l one other =
-    let low = one.first l other.here in
-    let high = other.first k one.here in
-    cases (omega (arith, low, high)) (rank k == 1) refl
-  where
-    both_bad : (e : WordsError) × (k ≡ cause.BadWords e) → (f : WordsError) × (l ≡ cause.BadWords f) → k ≡ l
-    both_bad (e, is) (f, is') =
-        is ∙ ap cause.BadWords (same_fault h b line e f (subst (Holds h b line) is one.here) (subst (Holds h b line) is' other.here))
-        ∙ sym is'
+module _ (taken : Commands) (h : Header) (b : Book) (line : Line) where
+  both_bad : (k l : Cause) → Holds taken h b line k → Holds taken h b line l → (e : WordsError) × (k ≡ cause.BadWords e) →
+      (f : WordsError) × (l ≡ cause.BadWords f) → k ≡ l
+  both_bad k l one other (e, is) (f, is') =
+      is ∙ ap cause.BadWords (same_fault taken h b line e f (subst (Holds taken h b line) is one) (subst (Holds taken h b line) is' other))
+      ∙ sym is'
 
-    cases : rank k ≡ rank l → (x : Bool) → (rank k == 1) ≡ x → k ≡ l
-    cases ranks true is =
-        both_bad (is_bad_words k (grind (arith, is))) (is_bad_words l (sym ranks ∙ grind (arith, is)))
-    cases ranks false is =
-        let not : ¬ (rank k ≡ 1) = λ e. grind (arith, is, e) in
-        is_of_rank NotUtf8 k ∙ ap (λ (e : WordsError). of_rank e (rank k)) (no_fault NotUtf8 k not) ∙ ap (of_rank NotUtf8) ranks
-        ∙ sym (is_of_rank NotUtf8 l ∙ ap (λ (e : WordsError). of_rank e (rank l)) (no_fault NotUtf8 l (λ e. not (ranks ∙ e))))
+  both_refused : (k l : Cause) → Holds taken h b line k → Holds taken h b line l →
+      ((e : CutError) × (k ≡ cause.CutRefused e)) ⊎ ((f : ShiftError) × (k ≡ cause.ShiftRefused f)) →
+      ((e : CutError) × (l ≡ cause.CutRefused e)) ⊎ ((f : ShiftError) × (l ≡ cause.ShiftRefused f)) → k ≡ l
+  both_refused k l one other (inl (e, is)) (inl (f, is')) =
+      is ∙ ap cause.CutRefused (cut_is_one taken h b line e f (subst (Holds taken h b line) is one)
+      (subst (Holds taken h b line) is' other))
+      ∙ sym is'
+  both_refused k l one other (inl (e, is)) (inr (f, is')) =
+      absurd (not_cut_and_shift taken h b line e f (subst (Holds taken h b line) is one) (subst (Holds taken h b line) is' other))
+  both_refused k l one other (inr (e, is)) (inl (f, is')) =
+      absurd (not_cut_and_shift taken h b line f e (subst (Holds taken h b line) is' other) (subst (Holds taken h b line) is one))
+  both_refused k l one other (inr (e, is)) (inr (f, is')) =
+      is ∙ ap cause.ShiftRefused (shift_is_one taken h b line e f (subst (Holds taken h b line) is one)
+      (subst (Holds taken h b line) is' other))
+      ∙ sym is'
+
+  -- causes of one rank that hold of a line are one
+  cause_of_rank : (k l : Cause) → rank k ≡ rank l → Holds taken h b line k → Holds taken h b line l → k ≡ l
+  cause_of_rank k l ranks one other = cases (rank k == 1) (rank k == 13) refl refl
+    where
+      cases : (x y : Bool) → (rank k == 1) ≡ x → (rank k == 13) ≡ y → k ≡ l
+      cases true y is of_tree =
+          let here : rank k ≡ 1 = grind (arith, is) in
+          both_bad k l one other (is_bad_words k here) (is_bad_words l (sym ranks ∙ here))
+      cases false true is of_tree =
+          let here : rank k ≡ 13 = grind (arith, of_tree) in
+          both_refused k l one other (is_refused_by_tree k here) (is_refused_by_tree l (sym ranks ∙ here))
+      cases false false is of_tree =
+          let no_words : ¬ (rank k ≡ 1) = λ e. grind (arith, is, e) in
+          let no_tree : ¬ (rank k ≡ 13) = λ e. grind (arith, of_tree, e) in
+          is_of_rank k no_words no_tree ∙ ap of_rank ranks
+          ∙ sym (is_of_rank l (λ e. no_words (ranks ∙ e)) (λ e. no_tree (ranks ∙ e)))
+
+  -- a line has one first cause
+  pub cause_is_one : (k l : Cause) → IsFirst (Holds taken h b line) k → IsFirst (Holds taken h b line) l → k ≡ l
+  cause_is_one k l one other =
+      let low = one.first l other.here in
+      let high = other.first k one.here in
+      cause_of_rank k l (omega (arith, low, high)) one.here other.here
 
 spells_one : (line : Line) (c d : language.Command) → Spells line c → Spells line d → c ≡ d
 spells_one Long c d one other = absurd one
 spells_one (Content line) c d one other = line_spells_one line c d one other
 
-same_command : (line content : List ℕ) (words : List (List ℕ)) (d c : language.Command) → Content line ≡ Content content →
-    HasWords content words → words ≡ language.words_of d → language.SpellsCommand line c → d ≡ c
-same_command line content words d c same has is spells =
-    let here : HasWords content (language.words_of c) =
-    subst (λ (l : List ℕ). HasWords l (language.words_of c)) (same_content line content same) spells in
-    command_is_one d c (sym is ∙ words_are_one_list content words (language.words_of c) has here)
+-- ---- a line and the command that it spells
 
--- a cause that holds of a line holds against the command that the line spells
-pub against_command : (h : Header) (b : Book) (line : List ℕ) (c : language.Command) (k : Cause) → language.SpellsCommand line c →
-    Holds h b (Content line) k → HoldsAgainst h b c k
-against_command h b line c cause.TooLong spells holds = absurd (content_is_not_long line holds)
-against_command h b line c (cause.BadWords f) spells (content, same, refuses) =
-    absurd (no_words_at_fault content f (language.words_of c) refuses
-    (subst (λ (l : List ℕ). HasWords l (language.words_of c)) (same_content line content same) spells))
-against_command h b line c cause.NoCommand spells (content, words, same, has, none) =
-    let here : HasWords content (language.words_of c) =
-    subst (λ (l : List ℕ). HasWords l (language.words_of c)) (same_content line content same) spells in
-    absurd (none (subst language.NamesCommand (words_are_one_list content (language.words_of c) words here has) (command_is_named c)))
-against_command h b line c cause.WrongCount spells (content, words, same, has, none) =
-    let here : HasWords content (language.words_of c) =
-    subst (λ (l : List ℕ). HasWords l (language.words_of c)) (same_content line content same) spells in
-    absurd (none c (words_are_one_list content words (language.words_of c) has here))
-against_command h b line c cause.BadNumber spells (content, words, same, has, (d, is, against)) =
-    subst (λ (e : language.Command). HoldsAgainst h b e cause.BadNumber) (same_command line content words d c same has is spells) against
-against_command h b line c cause.Exists spells (content, words, same, has, (d, is, against)) =
-    subst (λ (e : language.Command). HoldsAgainst h b e cause.Exists) (same_command line content words d c same has is spells) against
-against_command h b line c cause.NoType spells (content, words, same, has, (d, is, against)) =
-    subst (λ (e : language.Command). HoldsAgainst h b e cause.NoType) (same_command line content words d c same has is spells) against
-against_command h b line c cause.Outside spells (content, words, same, has, (d, is, against)) =
-    subst (λ (e : language.Command). HoldsAgainst h b e cause.Outside) (same_command line content words d c same has is spells) against
-against_command h b line c cause.Full spells (content, words, same, has, (d, is, against)) =
-    subst (λ (e : language.Command). HoldsAgainst h b e cause.Full) (same_command line content words d c same has is spells) against
-against_command h b line c cause.NoSender spells (content, words, same, has, (d, is, against)) =
-    subst (λ (e : language.Command). HoldsAgainst h b e cause.NoSender) (same_command line content words d c same has is spells) against
-against_command h b line c cause.Dead spells (content, words, same, has, (d, is, against)) =
-    subst (λ (e : language.Command). HoldsAgainst h b e cause.Dead) (same_command line content words d c same has is spells) against
-against_command h b line c cause.UnknownMethod spells (content, words, same, has, (d, is, against)) =
-    subst (λ (e : language.Command). HoldsAgainst h b e cause.UnknownMethod)
-    (same_command line content words d c same has is spells) against
-against_command h b line c cause.IllTyped spells (content, words, same, has, (d, is, against)) =
-    subst (λ (e : language.Command). HoldsAgainst h b e cause.IllTyped) (same_command line content words d c same has is spells) against
+-- causes of lines hold against no command
 
 not_too_long : (h : Header) (b : Book) (c : language.Command) → ¬ (HoldsAgainst h b c cause.TooLong)
 not_too_long h b (language.Create e n x z) against = against
 not_too_long h b (language.Call s e n a) against = against
 not_too_long h b (language.Move s e x z) against = against
 not_too_long h b language.Sync against = against
+not_too_long h b (language.Client e) against = against
+not_too_long h b language.Tick against = against
+not_too_long h b (language.Cut n a at) against = against
+not_too_long h b (language.Shift n at) against = against
+not_too_long h b language.Balance against = against
+not_too_long h b (language.Destroy e) against = against
 
 not_bad_words : (h : Header) (b : Book) (c : language.Command) (f : WordsError) → ¬ (HoldsAgainst h b c (cause.BadWords f))
 not_bad_words h b (language.Create e n x z) f against = against
 not_bad_words h b (language.Call s e n a) f against = against
 not_bad_words h b (language.Move s e x z) f against = against
 not_bad_words h b language.Sync f against = against
+not_bad_words h b (language.Client e) f against = against
+not_bad_words h b language.Tick f against = against
+not_bad_words h b (language.Cut n a at) f against = against
+not_bad_words h b (language.Shift n at) f against = against
+not_bad_words h b language.Balance f against = against
+not_bad_words h b (language.Destroy e) f against = against
 
 not_no_command : (h : Header) (b : Book) (c : language.Command) → ¬ (HoldsAgainst h b c cause.NoCommand)
 not_no_command h b (language.Create e n x z) against = against
 not_no_command h b (language.Call s e n a) against = against
 not_no_command h b (language.Move s e x z) against = against
 not_no_command h b language.Sync against = against
+not_no_command h b (language.Client e) against = against
+not_no_command h b language.Tick against = against
+not_no_command h b (language.Cut n a at) against = against
+not_no_command h b (language.Shift n at) against = against
+not_no_command h b language.Balance against = against
+not_no_command h b (language.Destroy e) against = against
 
 not_wrong_count : (h : Header) (b : Book) (c : language.Command) → ¬ (HoldsAgainst h b c cause.WrongCount)
 not_wrong_count h b (language.Create e n x z) against = against
 not_wrong_count h b (language.Call s e n a) against = against
 not_wrong_count h b (language.Move s e x z) against = against
 not_wrong_count h b language.Sync against = against
+not_wrong_count h b (language.Client e) against = against
+not_wrong_count h b language.Tick against = against
+not_wrong_count h b (language.Cut n a at) against = against
+not_wrong_count h b (language.Shift n at) against = against
+not_wrong_count h b language.Balance against = against
+not_wrong_count h b (language.Destroy e) against = against
 
--- a cause that holds against a command holds of each line that spells it
-pub against_line : (h : Header) (b : Book) (line : List ℕ) (c : language.Command) (k : Cause) → language.SpellsCommand line c →
-    HoldsAgainst h b c k → Holds h b (Content line) k
-against_line h b line c cause.TooLong spells against = absurd (not_too_long h b c against)
-against_line h b line c (cause.BadWords f) spells against = absurd (not_bad_words h b c f against)
-against_line h b line c cause.NoCommand spells against = absurd (not_no_command h b c against)
-against_line h b line c cause.WrongCount spells against = absurd (not_wrong_count h b c against)
-against_line h b line c cause.BadNumber spells against = (line, language.words_of c, refl, spells, (c, refl, against))
-against_line h b line c cause.Exists spells against = (line, language.words_of c, refl, spells, (c, refl, against))
-against_line h b line c cause.NoType spells against = (line, language.words_of c, refl, spells, (c, refl, against))
-against_line h b line c cause.Outside spells against = (line, language.words_of c, refl, spells, (c, refl, against))
-against_line h b line c cause.Full spells against = (line, language.words_of c, refl, spells, (c, refl, against))
-against_line h b line c cause.NoSender spells against = (line, language.words_of c, refl, spells, (c, refl, against))
-against_line h b line c cause.Dead spells against = (line, language.words_of c, refl, spells, (c, refl, against))
-against_line h b line c cause.UnknownMethod spells against = (line, language.words_of c, refl, spells, (c, refl, against))
-against_line h b line c cause.IllTyped spells against = (line, language.words_of c, refl, spells, (c, refl, against))
+module _ (taken : Commands) (h : Header) (b : Book) (line : List ℕ) (c : language.Command)
+    (is_taken : language.NamesCommand taken (language.words_of c)) (spells : language.SpellsCommand line c) where
+  only : (k : Cause) (content : List ℕ) (words : List (List ℕ)) → Content line ≡ Content content → HasWords content words →
+      (d : language.Command) × (words ≡ language.words_of d) × HoldsAgainst h b d k → HoldsAgainst h b c k
+  only k content words same has (d, is, against) =
+      subst (λ (e : language.Command). HoldsAgainst h b e k)
+      (sym (command_is_one c d (same_words line content (language.words_of c) words same spells has ∙ is))) against
 
--- a line that spells a command is refused for the first cause against the command
-pub command_is_refused : (h : Header) (b : Book) (line : List ℕ) (c : language.Command) (k : Cause) → ¬ (language.IsSkipped line) →
-    language.SpellsCommand line c → IsFirst (HoldsAgainst h b c) k → Judges h b (Content line) (verdict.Refused k)
-command_is_refused h b line c k not spells first = (
-  not,
-  record {
-    here = against_line h b line c k spells first.here;
-    first = λ d holds. first.first d (against_command h b line c d spells holds);
-  },
-)
+  -- a cause that holds of the line holds against the command
+  pub against_command : (k : Cause) → Holds taken h b (Content line) k → HoldsAgainst h b c k
+  against_command cause.TooLong holds = absurd (content_is_not_long line holds)
+  against_command (cause.BadWords f) (content, same, refuses) =
+      absurd (no_fault_of line content (language.words_of c) f same spells refuses)
+  against_command cause.NoCommand (content, words, same, has, none) =
+      absurd (none (subst (language.NamesCommand taken) (same_words line content (language.words_of c) words same spells has) is_taken))
+  against_command cause.WrongCount (content, words, same, has, none) =
+      absurd (none c (sym (same_words line content (language.words_of c) words same spells has)))
+  against_command cause.BadNumber (content, words, same, has, other) = only cause.BadNumber content words same has other
+  against_command cause.Exists (content, words, same, has, other) = only cause.Exists content words same has other
+  against_command cause.NoType (content, words, same, has, other) = only cause.NoType content words same has other
+  against_command cause.Outside (content, words, same, has, other) = only cause.Outside content words same has other
+  against_command cause.Full (content, words, same, has, other) = only cause.Full content words same has other
+  against_command cause.NoSender (content, words, same, has, other) = only cause.NoSender content words same has other
+  against_command cause.Dead (content, words, same, has, other) = only cause.Dead content words same has other
+  against_command cause.UnknownMethod (content, words, same, has, other) = only cause.UnknownMethod content words same has other
+  against_command cause.IllTyped (content, words, same, has, other) = only cause.IllTyped content words same has other
+  against_command (cause.CutRefused f) (content, words, same, has, other) = only (cause.CutRefused f) content words same has other
+  against_command (cause.ShiftRefused f) (content, words, same, has, other) = only (cause.ShiftRefused f) content words same has other
 
--- and accepted where there is none
-pub command_is_accepted : (h : Header) (b : Book) (line : List ℕ) (c : language.Command) (x : Entry) → ¬ (language.IsSkipped line) →
-    language.SpellsCommand line c → ((k : Cause) → ¬ (HoldsAgainst h b c k)) → Adds h b c x
-    → Judges h b (Content line) (verdict.Accepted x)
-command_is_accepted h b line c x not spells none adds =
-    (not, (λ k holds. none k (against_command h b line c k spells holds)), c, spells, adds)
+  -- a cause that holds against the command holds of the line
+  pub against_line : (k : Cause) → HoldsAgainst h b c k → Holds taken h b (Content line) k
+  against_line cause.TooLong against = absurd (not_too_long h b c against)
+  against_line (cause.BadWords f) against = absurd (not_bad_words h b c f against)
+  against_line cause.NoCommand against = absurd (not_no_command h b c against)
+  against_line cause.WrongCount against = absurd (not_wrong_count h b c against)
+  against_line cause.BadNumber against = (line, language.words_of c, refl, spells, (c, refl, against))
+  against_line cause.Exists against = (line, language.words_of c, refl, spells, (c, refl, against))
+  against_line cause.NoType against = (line, language.words_of c, refl, spells, (c, refl, against))
+  against_line cause.Outside against = (line, language.words_of c, refl, spells, (c, refl, against))
+  against_line cause.Full against = (line, language.words_of c, refl, spells, (c, refl, against))
+  against_line cause.NoSender against = (line, language.words_of c, refl, spells, (c, refl, against))
+  against_line cause.Dead against = (line, language.words_of c, refl, spells, (c, refl, against))
+  against_line cause.UnknownMethod against = (line, language.words_of c, refl, spells, (c, refl, against))
+  against_line cause.IllTyped against = (line, language.words_of c, refl, spells, (c, refl, against))
+  against_line (cause.CutRefused f) against = (line, language.words_of c, refl, spells, (c, refl, against))
+  against_line (cause.ShiftRefused f) against = (line, language.words_of c, refl, spells, (c, refl, against))
+
+  -- a line that spells a command is refused for the first cause against the command
+  pub command_is_refused : (k : Cause) → ¬ (language.IsSkipped line) → IsFirst (HoldsAgainst h b c) k →
+      Judges taken h b (Content line) (verdict.Refused k)
+  command_is_refused k not first = (
+    not,
+    record { here = against_line k first.here; first = λ d holds. first.first d (against_command d holds) },
+  )
+
+  -- and accepted where there is none
+  pub command_is_accepted : (x : Entry) → ¬ (language.IsSkipped line) → ((k : Cause) → ¬ (HoldsAgainst h b c k)) → Adds h b c x →
+      Judges taken h b (Content line) (verdict.Accepted x)
+  command_is_accepted x not none adds = (not, (λ k holds. none k (against_command k holds)), c, spells, adds)
 
 adds_no_sync : (h : Header) (b : Book) (c : language.Command) (x : Entry) → c ≡ language.Sync → ¬ (Adds h b c x)
 adds_no_sync h b c x is adds = subst (λ (d : language.Command). Adds h b d x) is adds
 
 -- no cause holds of a line that ends the round
-sync_is_not_refused : (h : Header) (b : Book) (line : Line) (k : Cause) → Spells line language.Sync → ¬ (Holds h b line k)
-sync_is_not_refused h b Long k spells holds = spells
-sync_is_not_refused h b (Content line) k spells holds = no_cause k (against_command h b line language.Sync k spells holds)
+pub sync_is_not_refused : (taken : Commands) (h : Header) (b : Book) (line : Line) (k : Cause) → Spells line language.Sync →
+    ¬ (Holds taken h b line k)
+sync_is_not_refused taken h b Long k spells holds = spells
+sync_is_not_refused taken h b (Content line) k spells holds =
+    no_cause k (against_command taken h b line language.Sync (sync_is_taken taken) spells k holds)
   where
     no_cause : (k : Cause) → ¬ (HoldsAgainst h b language.Sync k)
     no_cause k against = against
 
 -- a line has one verdict
-pub verdict_is_one_of : (h : Header) (b : Book) (line : Line) (v w : Verdict) → AreDefs h.defs → Judges h b line v → Judges h b line w →
-    v ≡ w
-verdict_is_one_of h b line verdict.Skipped verdict.Skipped are one other = refl
-verdict_is_one_of h b line verdict.Skipped (verdict.Refused l) are one other = absurd (other.0 one)
-verdict_is_one_of h b line verdict.Skipped (verdict.Accepted y) are one other = absurd (other.0 one)
-verdict_is_one_of h b line verdict.Skipped verdict.Synced are one other = absurd (other.0 one)
-verdict_is_one_of h b line (verdict.Refused k) verdict.Skipped are one other = absurd (one.0 other)
-verdict_is_one_of h b line (verdict.Refused k) (verdict.Refused l) are one other =
-    ap verdict.Refused (cause_is_one h b line k l one.1 other.1)
-verdict_is_one_of h b line (verdict.Refused k) (verdict.Accepted y) are one (_, none, _, _, _) = absurd (none k one.1.here)
-verdict_is_one_of h b line (verdict.Refused k) verdict.Synced are one other = absurd (sync_is_not_refused h b line k other.1 one.1.here)
-verdict_is_one_of h b line (verdict.Accepted x) verdict.Skipped are one other = absurd (one.0 other)
-verdict_is_one_of h b line (verdict.Accepted x) (verdict.Refused l) are (_, none, _, _, _) other = absurd (none l other.1.here)
-verdict_is_one_of h b line (verdict.Accepted x) (verdict.Accepted y) are (_, _, c, spells, adds) (_, _, d, spells', adds') =
+pub verdict_is_one_of : (taken : Commands) (h : Header) (b : Book) (line : Line) (v w : Verdict) → AreDefs h.defs →
+    Judges taken h b line v → Judges taken h b line w → v ≡ w
+verdict_is_one_of taken h b line verdict.Skipped verdict.Skipped are one other = refl
+verdict_is_one_of taken h b line verdict.Skipped (verdict.Refused l) are one other = absurd (other.0 one)
+verdict_is_one_of taken h b line verdict.Skipped (verdict.Accepted y) are one other = absurd (other.0 one)
+verdict_is_one_of taken h b line verdict.Skipped verdict.Synced are one other = absurd (other.0 one)
+verdict_is_one_of taken h b line (verdict.Refused k) verdict.Skipped are one other = absurd (one.0 other)
+verdict_is_one_of taken h b line (verdict.Refused k) (verdict.Refused l) are one other =
+    ap verdict.Refused (cause_is_one taken h b line k l one.1 other.1)
+verdict_is_one_of taken h b line (verdict.Refused k) (verdict.Accepted y) are one (_, none, _, _, _) = absurd (none k one.1.here)
+verdict_is_one_of taken h b line (verdict.Refused k) verdict.Synced are one other =
+    absurd (sync_is_not_refused taken h b line k other.1 one.1.here)
+verdict_is_one_of taken h b line (verdict.Accepted x) verdict.Skipped are one other = absurd (one.0 other)
+verdict_is_one_of taken h b line (verdict.Accepted x) (verdict.Refused l) are (_, none, _, _, _) other = absurd (none l other.1.here)
+verdict_is_one_of taken h b line (verdict.Accepted x) (verdict.Accepted y) are (_, _, c, spells, adds) (_, _, d, spells', adds') =
     ap verdict.Accepted (entry_is_one h b d x y are
     (subst (λ (k : language.Command). Adds h b k x) (spells_one line c d spells spells') adds) adds')
-verdict_is_one_of h b line (verdict.Accepted x) verdict.Synced are (_, _, c, spells, adds) other =
+verdict_is_one_of taken h b line (verdict.Accepted x) verdict.Synced are (_, _, c, spells, adds) other =
     absurd (adds_no_sync h b c x (spells_one line c language.Sync spells other.1) adds)
-verdict_is_one_of h b line verdict.Synced verdict.Skipped are one other = absurd (one.0 other)
-verdict_is_one_of h b line verdict.Synced (verdict.Refused l) are one other = absurd (sync_is_not_refused h b line l one.1 other.1.here)
-verdict_is_one_of h b line verdict.Synced (verdict.Accepted y) are one (_, _, c, spells, adds) =
+verdict_is_one_of taken h b line verdict.Synced verdict.Skipped are one other = absurd (one.0 other)
+verdict_is_one_of taken h b line verdict.Synced (verdict.Refused l) are one other =
+    absurd (sync_is_not_refused taken h b line l one.1 other.1.here)
+verdict_is_one_of taken h b line verdict.Synced (verdict.Accepted y) are one (_, _, c, spells, adds) =
     absurd (adds_no_sync h b c y (spells_one line c language.Sync spells one.1) adds)
-verdict_is_one_of h b line verdict.Synced verdict.Synced are one other = refl
-
--- ---- lines that change nothing
-
--- a line that is too long is refused for that
-pub long_is_refused : (h : Header) (b : Book) → Judges h b Long (verdict.Refused cause.TooLong)
-long_is_refused h b = ((λ empty. empty), record { here = refl; first = λ d holds. omega arith })
-
--- and has no other verdict
-pub long_only : (h : Header) (b : Book) (v : Verdict) → Judges h b Long v → v ≡ verdict.Refused cause.TooLong
-long_only h b verdict.Skipped judged = absurd judged
-long_only h b (verdict.Refused k) judged = ap verdict.Refused (cause_is_one h b Long k cause.TooLong judged.1 (long_is_refused h b).1)
-long_only h b (verdict.Accepted x) judged = absurd (judged.1 cause.TooLong refl)
-long_only h b verdict.Synced judged = absurd judged.1
-
--- bad words are refused for their fault
-pub bad_words_are_refused : (h : Header) (b : Book) (line : List ℕ) (e : WordsError) → ¬ (language.IsSkipped line) → Refuses line e
-    → Judges h b (Content line) (verdict.Refused (cause.BadWords e))
-bad_words_are_refused h b line e not bad = (not, record { here = (line, refl, bad); first = first })
-  where
-    first : (d : Cause) → Holds h b (Content line) d → 1 ≤ rank d
-    first cause.TooLong holds = absurd (content_is_not_long line holds)
-    first (cause.BadWords f) holds = omega arith
-    first cause.NoCommand holds = omega arith
-    first cause.WrongCount holds = omega arith
-    first cause.BadNumber holds = omega arith
-    first cause.Exists holds = omega arith
-    first cause.NoType holds = omega arith
-    first cause.Outside holds = omega arith
-    first cause.Full holds = omega arith
-    first cause.NoSender holds = omega arith
-    first cause.Dead holds = omega arith
-    first cause.UnknownMethod holds = omega arith
-    first cause.IllTyped holds = omega arith
-
--- words of which the first is no command's are refused for that
-pub no_command_is_refused : (h : Header) (b : Book) (line : List ℕ) (words : List (List ℕ)) → ¬ (language.IsSkipped line) →
-    HasWords line words → ¬ (language.NamesCommand words) → Judges h b (Content line) (verdict.Refused cause.NoCommand)
-no_command_is_refused h b line words not has none = (not, record { here = (line, words, refl, has, none); first = first })
-  where
-    first : (d : Cause) → Holds h b (Content line) d → 2 ≤ rank d
-    first cause.TooLong holds = absurd (content_is_not_long line holds)
-    first (cause.BadWords f) (content, same, bad) =
-        absurd (no_words_at_fault content f words bad (subst (λ (l : List ℕ). HasWords l words) (same_content line content same) has))
-    first cause.NoCommand holds = omega arith
-    first cause.WrongCount holds = omega arith
-    first cause.BadNumber holds = omega arith
-    first cause.Exists holds = omega arith
-    first cause.NoType holds = omega arith
-    first cause.Outside holds = omega arith
-    first cause.Full holds = omega arith
-    first cause.NoSender holds = omega arith
-    first cause.Dead holds = omega arith
-    first cause.UnknownMethod holds = omega arith
-    first cause.IllTyped holds = omega arith
-
--- and have no other verdict
-pub no_command_only : (h : Header) (b : Book) (line : List ℕ) (words : List (List ℕ)) (v : Verdict) → ¬ (language.IsSkipped line) →
-    HasWords line words → ¬ (language.NamesCommand words) → Judges h b (Content line) v → v ≡ verdict.Refused cause.NoCommand
-no_command_only h b line words verdict.Skipped not has none judged = absurd (not judged)
-no_command_only h b line words (verdict.Refused k) not has none judged =
-    ap verdict.Refused (cause_is_one h b (Content line) k cause.NoCommand judged.1 (no_command_is_refused h b line words not has none).1)
-no_command_only h b line words (verdict.Accepted x) not has none judged =
-    absurd (judged.1 cause.NoCommand (no_command_is_refused h b line words not has none).1.here)
-no_command_only h b line words verdict.Synced not has none judged =
-    absurd (sync_is_not_refused h b (Content line) cause.NoCommand judged.1 (no_command_is_refused h b line words not has none).1.here)
-
--- a command's words that are too many or too few are refused for that
-pub wrong_count_is_refused : (h : Header) (b : Book) (line : List ℕ) (words : List (List ℕ)) → ¬ (language.IsSkipped line) →
-    HasWords line words → language.NamesCommand words → ((c : language.Command) → ¬ (words ≡ language.words_of c))
-    → Judges h b (Content line) (verdict.Refused cause.WrongCount)
-wrong_count_is_refused h b line words not has named none = (not, record { here = (line, words, refl, has, none); first = first })
-  where
-    first : (d : Cause) → Holds h b (Content line) d → 3 ≤ rank d
-    first cause.TooLong holds = absurd (content_is_not_long line holds)
-    first (cause.BadWords f) (content, same, bad) =
-        absurd (no_words_at_fault content f words bad (subst (λ (l : List ℕ). HasWords l words) (same_content line content same) has))
-    first cause.NoCommand (content, others, same, has', nothing) =
-        absurd (nothing (subst language.NamesCommand (words_are_one_list content words others
-        (subst (λ (l : List ℕ). HasWords l words) (same_content line content same) has) has') named))
-    first cause.WrongCount holds = omega arith
-    first cause.BadNumber holds = omega arith
-    first cause.Exists holds = omega arith
-    first cause.NoType holds = omega arith
-    first cause.Outside holds = omega arith
-    first cause.Full holds = omega arith
-    first cause.NoSender holds = omega arith
-    first cause.Dead holds = omega arith
-    first cause.UnknownMethod holds = omega arith
-    first cause.IllTyped holds = omega arith
+verdict_is_one_of taken h b line verdict.Synced verdict.Synced are one other = refl

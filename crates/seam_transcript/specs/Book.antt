@@ -1,45 +1,29 @@
--- The book of what was accepted: which lines it accepts, and what it then holds.
-use Rattle.std.specs.Prelude.{◌≡◌, ◌⊎◌, ℕ, ◌+◌, ◌<◌, ◌≤◌, List, [], ◌∷◌, ◌++◌, length, map, filter, find, ◌==◌}
-use Rattle.std.specs.Prelude.{Option, Some, None, IsSome}
-use Rattle.std.specs.List.{filter_map}
-use Rattle.seam_io.specs.Lines.{Line, Content, Long}
-use Rattle.seam_words.specs.Faults.{Refuses}
-use Rattle.seam_words.specs.Texts.{HasWords}
-use Rattle.seam_value.specs.NumberWords.{SpellsNumber, SpellsPositive}
-use Rattle.seam_value.specs.Values.{text_of}
-use Rattle.seam_value.specs.declared.values.Value.{Value}
-use Rattle.seam_geo.specs.declared.pos.Pos.{Pos}
-use Rattle.seam_defs.specs.Types.{type_of, method_of}
-use Rattle.seam_defs.specs.Deeds.{TakesArgs, part_of_deed}
-use Rattle.seam_defs.specs.declared.types.TypeDef.{TypeDef}
+-- The book of what was accepted, and what follows from it.
+use Rattle.std.specs.Prelude.{ℕ, Bool, true, false, not, ◌&&◌, ◌==◌, List, [], ◌∷◌, ◌++◌, length, fold, filter, find, if◌then◌else◌}
+use Rattle.std.specs.Prelude.{Option, Some, None, is_some}
+use Rattle.std.specs.List.{filter_map, list_any, count_by}
+use Rattle.seam_tree.specs.Division.{Division}
 use Rattle.seam_defs.specs.declared.flags.Part.{Part}
-use Rattle.seam_defs.specs.declared.types.Method.{Method}
-use Rattle.seam_defs.specs.declared.states.Deed.{Deed}
-use Rattle.seam_defs.specs.declared.states.Deed.TheVariants as deed
-use Rattle.seam_call.specs.BaseNodes.{IsBaseNodeOf}
 use Rattle.seam_call.specs.Calls.{is_from}
 use Rattle.seam_call.specs.declared.sender.Sender.{Sender}
-use Rattle.seam_call.specs.declared.sender.Sender.TheVariants as sender
 use Rattle.seam_call.specs.declared.call.Call.{Call}
 use Rattle.seam_call.specs.declared.create.Create.{Create}
-use Rattle.seam_transcript.specs.Language as language
-use Rattle.seam_toml.specs.declared.header.Header.{Header}
 use Rattle.seam_transcript.specs.declared.verdict.Entry.{Entry}
 use Rattle.seam_transcript.specs.declared.verdict.Entry.TheVariants as entry
-use Rattle.seam_transcript.specs.declared.verdict.Cause.{Cause}
-use Rattle.seam_transcript.specs.declared.verdict.Cause.TheVariants as cause
-use Rattle.seam_transcript.specs.declared.verdict.Verdict.{Verdict}
-use Rattle.seam_transcript.specs.declared.verdict.Verdict.TheVariants as verdict
-use Rattle.seam_transcript.specs.declared.limits.TheConstants.{MOST_ENTITIES}
 
--- What was accepted, in the order of the lines: in the rounds that ended, and in the open one.
+-- What was accepted, in the order of the lines, in the rounds that ended and in the open one; and the tree with which this one began.
 pub record Book : Type 0 where
   pub past : List Entry
+  pub tree : Division
   pub current : List Entry
 
--- nothing was accepted so far
-abbrev pub empty_book : Book
-empty_book = record { past = []; current = [] }
+-- a space of one cell
+abbrev pub one_cell : ℕ → Division
+one_cell size = record { size = size; cuts = [] }
+
+-- nothing was accepted so far, in a space of this size
+abbrev pub empty_book : ℕ → Book
+empty_book size = record { past = []; tree = one_cell size; current = [] }
 
 -- all that was accepted
 abbrev pub entries : Book → List Entry
@@ -53,21 +37,17 @@ open_lines b = length b.current
 abbrev pub with_entry : Book → Entry → Book
 with_entry b x = record b { current = b.current ++ x ∷ [] }
 
--- the open round ended
-abbrev pub with_round_ended : Book → Book
-with_round_ended b = record { past = entries b; current = [] }
-
--- ---- what follows from the entries
+-- ---- creates and calls
 
 -- what an entry created
 abbrev pub created : Entry → Option Create
 created (entry.Created c) = Some c
-created (entry.Called c) = None
+created x = None
 
 -- the call of an entry
 abbrev pub called : Entry → Option Call
-called (entry.Created c) = None
 called (entry.Called c) = Some c
+called x = None
 
 abbrev pub creates_of : List Entry → List Create
 creates_of xs = filter_map created xs
@@ -79,178 +59,87 @@ calls_of xs = filter_map called xs
 abbrev pub created_as : Book → ℕ → Option Create
 created_as b e = find (λ c. c.entity == e) (creates_of (entries b))
 
--- the live entity of a number: so far each that was created lives
-abbrev pub live_as : Book → ℕ → Option Create
-live_as b e = created_as b e
-
 -- the calls accepted from a sender for a part of an entity
 abbrev pub accepted : Book → Part → ℕ → Sender → List Call
 accepted b p e s = filter (is_from p e s) (calls_of (entries b))
 
--- ---- what words name
+-- ---- who lives, and who has a client
 
--- the sender is one of the world: so far a base node of it
-abbrev pub IsThere : Header → Book → Sender → Type 0
-IsThere h b (sender.Base n) = IsBaseNodeOf h.settings.bases n
-IsThere h b (sender.Client e) = ⊥
+-- whether the entry destroys the entity
+abbrev pub destroys : ℕ → Entry → Bool
+destroys e (entry.Destroyed d) = d == e
+destroys e x = false
 
--- the word names a type
-pub record NamesType (defs : List TypeDef) (type_name : language.Word) (ty : ℕ) : Type 0 where
-  pub has : ty < length defs
-  pub named : (type_of defs ty).name ≡ type_name
+-- whether the entry gives the entity a client
+abbrev pub joins : ℕ → Entry → Bool
+joins e (entry.Joined d) = d == e
+joins e x = false
 
--- the word names a method of a type
-pub record NamesMethod (t : TypeDef) (method_name : language.Word) (m : ℕ) : Type 0 where
-  pub has : m < length t.methods
-  pub named : (method_of t m).name ≡ method_name
+-- whether the entry makes the entity
+abbrev pub makes : ℕ → Entry → Bool
+makes e (entry.Created c) = c.entity == e
+makes e x = false
 
--- the words spell arguments that a method takes
-pub record SpellsArgs (m : Method) (arguments : List language.Word) (args : List Value) : Type 0 where
-  pub takes : TakesArgs m.args args
-  pub spelled : map text_of args ≡ arguments
+-- the live entity of a number: one that was created and not destroyed
+abbrev pub live_as : Book → ℕ → Option Create
+live_as b e = if list_any (destroys e) (entries b) then None else created_as b e
 
--- the words spell a position of the space
-pub record SpellsPosition (h : Header) (x z : language.Word) (p : Pos) : Type 0 where
-  pub spelled_x : SpellsNumber x p.x
-  pub spelled_z : SpellsNumber z p.z
-  pub in_x : p.x < h.settings.size
-  pub in_z : p.z < h.settings.size
+-- whether the entity lives and has a client
+abbrev pub has_client : Book → ℕ → Bool
+has_client b e = is_some (live_as b e) && list_any (joins e) (entries b)
 
--- the word names a sender of the world
-pub record NamesSender (h : Header) (b : Book) (sender_name : language.Word) (s : Sender) : Type 0 where
-  pub there : IsThere h b s
-  pub spelled : language.sender_text s ≡ sender_name
+-- how many live entities have a client
+abbrev pub count_of_clients : Book → ℕ
+count_of_clients b = count_by (λ c. has_client b c.entity) (creates_of (entries b))
 
--- the word is the number of a live entity
-pub record NamesLive (b : Book) (entity : language.Word) (made : Create) : Type 0 where
-  pub number : SpellsPositive entity made.entity
-  pub lives : live_as b made.entity ≡ Some made
+-- whether the entity was destroyed before the open round began
+abbrev pub was_dead : Book → ℕ → Bool
+was_dead b e = list_any (destroys e) b.past
 
--- ---- what a command adds to a book that accepts it
+-- whether the entity was made in the open round
+abbrev pub is_new : Book → ℕ → Bool
+is_new b e = list_any (makes e) b.current
 
--- the entity that the words of a `create` name
-pub record NamesCreate (h : Header) (entity type_name x z : language.Word) (c : Create) : Type 0 where
-  pub number : SpellsPositive entity c.entity
-  pub type_ : NamesType h.defs type_name c.ty
-  pub position : SpellsPosition h x z c.pos
+-- whether the entity's client was made in the open round
+abbrev pub is_new_client : Book → ℕ → Bool
+is_new_client b e = list_any (joins e) b.current
 
--- the deed that the words of a `call` name, for an entity of this type
-abbrev pub NamesDeed : List language.Word → language.Word → TypeDef → Deed → Type 0
-NamesDeed arguments method_name t d =
-    (m : ℕ) × (args : List Value) × NamesMethod t method_name m × SpellsArgs (method_of t m) arguments args × (d ≡ deed.Method m args)
+-- whether the entity has a client at some time of the open round: it was made and given one, and was not dead before
+abbrev pub is_shown : Book → ℕ → Bool
+is_shown b e = is_some (created_as b e) && list_any (joins e) (entries b) && not (was_dead b e)
 
--- the deed that the words of a `move` name
-abbrev pub NamesMove : Header → language.Word → language.Word → Deed → Type 0
-NamesMove h x z d = (p : Pos) × SpellsPosition h x z p × (d ≡ deed.Move p)
+-- ---- cells, looks and balances
 
--- The call of a sender to an entity, by the words that name both, and by the deeds that are asked for of each type. It has the
--- sender's next number.
-pub record NamesCall (h : Header) (b : Book) (sender_name entity : language.Word) (Asks : TypeDef → Deed → Type 0) (c : Call) : Type 0
-  where
-    pub sender : NamesSender h b sender_name c.sender
-    pub made : Create
-    pub live : NamesLive b entity made
-    pub entity_ : c.entity ≡ made.entity
-    pub deed_ : Asks (type_of h.defs made.ty) c.deed
-    pub part_ : c.part ≡ part_of_deed (type_of h.defs made.ty) c.deed
-    pub next : c.number ≡ length (accepted b c.part c.entity c.sender) + 1
+abbrev pub divided : Division → Entry → Division
+divided t (entry.Divided u) = u
+divided t x = t
 
--- what a command adds; `sync` adds nothing
-abbrev pub Adds : Header → Book → language.Command → Entry → Type 0
-Adds h b (language.Create entity type_name x z) added = (c : Create) × NamesCreate h entity type_name x z c × (added ≡ entry.Created c)
-Adds h b (language.Call sender_name entity method_name arguments) added =
-    (c : Call) × NamesCall h b sender_name entity (NamesDeed arguments method_name) c × (added ≡ entry.Called c)
-Adds h b (language.Move sender_name entity x z) added =
-    (c : Call) × NamesCall h b sender_name entity (λ t. NamesMove h x z) c × (added ≡ entry.Called c)
-Adds h b language.Sync added = ⊥
+-- the tree after all accepted lines: that of the open round, wherever in the round it was cut
+abbrev pub tree_of : Book → Division
+tree_of b = fold divided b.tree b.current
 
--- ---- why a line is refused
+abbrev pub is_tick : Entry → Bool
+is_tick entry.Ticked = true
+is_tick x = false
 
--- the place of a cause in the order in which causes are looked for
-abbrev pub rank : Cause → ℕ
-rank cause.TooLong = 0
-rank (cause.BadWords error) = 1
-rank cause.NoCommand = 2
-rank cause.WrongCount = 3
-rank cause.BadNumber = 4
-rank cause.Exists = 5
-rank cause.NoType = 6
-rank cause.Outside = 7
-rank cause.Full = 8
-rank cause.NoSender = 9
-rank cause.Dead = 10
-rank cause.UnknownMethod = 11
-rank cause.IllTyped = 12
+-- whether witnesses look inside the open round
+abbrev pub has_tick : Book → Bool
+has_tick b = list_any is_tick b.current
 
--- the word is no number
-abbrev pub IsNoNumber : language.Word → Type 0
-IsNoNumber word = (n : ℕ) → ¬ (SpellsNumber word n)
+abbrev pub is_balance : Entry → Bool
+is_balance entry.Balanced = true
+is_balance x = false
 
--- the word is no number of an entity
-abbrev pub IsNoEntity : language.Word → Type 0
-IsNoEntity word = (e : ℕ) → ¬ (SpellsPositive word e)
+-- whether the boundaries are balanced when the open round ends
+abbrev pub has_balance : Book → Bool
+has_balance b = list_any is_balance b.current
 
--- the word is the number of an entity that does not live
-abbrev pub IsDead : Book → language.Word → Type 0
-IsDead b entity = (e : ℕ) × SpellsPositive entity e × (live_as b e ≡ None)
+-- ---- the next round
 
--- which causes hold against a command
-abbrev pub HoldsAgainst : Header → Book → language.Command → Cause → Type 0
-HoldsAgainst h b (language.Create entity type_name x z) cause.BadNumber = IsNoEntity entity ⊎ (IsNoNumber x ⊎ IsNoNumber z)
-HoldsAgainst h b (language.Create entity type_name x z) cause.Exists = (e : ℕ) × SpellsPositive entity e × IsSome (created_as b e)
-HoldsAgainst h b (language.Create entity type_name x z) cause.NoType = (ty : ℕ) → ¬ (NamesType h.defs type_name ty)
-HoldsAgainst h b (language.Create entity type_name x z) cause.Outside =
-    (n : ℕ) × (SpellsNumber x n ⊎ SpellsNumber z n) × (h.settings.size ≤ n)
-HoldsAgainst h b (language.Create entity type_name x z) cause.Full = MOST_ENTITIES ≤ length (creates_of (entries b))
-HoldsAgainst h b (language.Call sender_name entity method_name arguments) cause.BadNumber = IsNoEntity entity
-HoldsAgainst h b (language.Call sender_name entity method_name arguments) cause.NoSender = (s : Sender) → ¬ (NamesSender h b sender_name s)
-HoldsAgainst h b (language.Call sender_name entity method_name arguments) cause.Dead = IsDead b entity
-HoldsAgainst h b (language.Call sender_name entity method_name arguments) cause.UnknownMethod =
-    (made : Create) × NamesLive b entity made × ((m : ℕ) → ¬ (NamesMethod (type_of h.defs made.ty) method_name m))
-HoldsAgainst h b (language.Call sender_name entity method_name arguments) cause.IllTyped =
-    (made : Create) × (m : ℕ) × NamesLive b entity made × NamesMethod (type_of h.defs made.ty) method_name m
-    × ((args : List Value) → ¬ (SpellsArgs (method_of (type_of h.defs made.ty) m) arguments args))
-HoldsAgainst h b (language.Move sender_name entity x z) cause.BadNumber = IsNoEntity entity
-HoldsAgainst h b (language.Move sender_name entity x z) cause.NoSender = (s : Sender) → ¬ (NamesSender h b sender_name s)
-HoldsAgainst h b (language.Move sender_name entity x z) cause.Dead = IsDead b entity
-HoldsAgainst h b (language.Move sender_name entity x z) cause.IllTyped = (p : Pos) → ¬ (SpellsPosition h x z p)
-HoldsAgainst h b c k = ⊥
+-- the open round ended, and the next one begins with its tree
+abbrev pub with_round_ended : Book → Book
+with_round_ended b = record { past = entries b; tree = tree_of b; current = [] }
 
--- which causes hold against words
-abbrev pub HoldsAgainstWords : Header → Book → List language.Word → Cause → Type 0
-HoldsAgainstWords h b words cause.NoCommand = ¬ (language.NamesCommand words)
-HoldsAgainstWords h b words cause.WrongCount = (c : language.Command) → ¬ (words ≡ language.words_of c)
-HoldsAgainstWords h b words k = (c : language.Command) × (words ≡ language.words_of c) × HoldsAgainst h b c k
-
--- which causes hold against a line that has words
-abbrev pub Holds : Header → Book → Line → Cause → Type 0
-Holds h b line cause.TooLong = line ≡ Long
-Holds h b line (cause.BadWords error) = (content : List ℕ) × (line ≡ Content content) × Refuses content error
-Holds h b line k =
-    (content : List ℕ) × (words : List language.Word) × (line ≡ Content content) × HasWords content words × HoldsAgainstWords h b words k
-
--- a cause holds, and none that comes before it
-pub record IsFirst (Against : Cause → Type 0) (c : Cause) : Type 0 where
-  pub here : Against c
-  pub first : (d : Cause) → Against d → rank c ≤ rank d
-
--- ---- the verdict on a line
-
--- a line without words
-abbrev pub IsEmptyLine : Line → Type 0
-IsEmptyLine Long = ⊥
-IsEmptyLine (Content line) = language.IsSkipped line
-
--- the line spells the command
-abbrev pub Spells : Line → language.Command → Type 0
-Spells Long c = ⊥
-Spells (Content line) c = language.SpellsCommand line c
-
--- What becomes of a line: one without words is skipped. Every other one is refused for the first cause that holds; where none
--- holds, its command is accepted, and adds an entry or ends the round.
-abbrev pub Judges : Header → Book → Line → Verdict → Type 0
-Judges h b line verdict.Skipped = IsEmptyLine line
-Judges h b line (verdict.Refused c) = ¬ (IsEmptyLine line) × IsFirst (Holds h b line) c
-Judges h b line (verdict.Accepted x) =
-    ¬ (IsEmptyLine line) × ((k : Cause) → ¬ (Holds h b line k)) × (c : language.Command) × Spells line c × Adds h b c x
-Judges h b line verdict.Synced = ¬ (IsEmptyLine line) × Spells line language.Sync
+-- the open round began with this tree
+abbrev pub with_tree : Book → Division → Book
+with_tree b t = record b { tree = t }

@@ -2,12 +2,13 @@
 use Rattle.std.specs.Prelude.{◌≡◌, ℕ, List}
 use Rattle.seam_io.specs.Lines.{Line}
 use Rattle.seam_toml.specs.declared.header.Header.{Header}
-use Rattle.seam_transcript.specs.Book.{Judges}
+use Rattle.seam_transcript.specs.Judging.{Judges}
 use Rattle.seam_transcript.specs.Standing.{Standing}
 use Rattle.seam_transcript.specs.InOrder.{after_round}
 use Rattle.seam_transcript.specs.Round.{RoundData, IsRound}
 use Rattle.seam_transcript.specs.Texts.{round_text}
 use Rattle.seam_transcript.specs.Transcript.{Piece, text_of, Follows, Step, EndsInput}
+use Rattle.seam_transcript.specs.declared.commands.Commands.TheVariants.{OneCell}
 use Rattle.seam_transcript.specs.declared.verdict.Verdict.{Verdict}
 
 -- the open round ended with this text
@@ -20,7 +21,7 @@ pub record RoundEnds (h : Header) (t : Standing) (refines : Standing → Type 0)
 -- what a line that the standing has counted asks for was done, with this text
 pub record LineFollowed (h : Header) (t : Standing) (line : Line) (refines : Standing → Type 0) (text : List ℕ) : Type 0 where
   pub verdict : Verdict
-  pub judges : Judges h t.book line verdict
+  pub judges : Judges OneCell h t.book line verdict
   pub pieces : List Piece
   pub next : Standing
   pub follows : Follows h t verdict pieces next

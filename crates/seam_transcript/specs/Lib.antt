@@ -1,6 +1,8 @@
 pub mod Language
 pub mod Header
 pub mod Book
+pub mod Judging
+pub mod OneCell
 pub mod Orders
 pub mod FlatTable
 pub mod Standing

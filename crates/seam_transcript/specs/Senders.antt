@@ -4,7 +4,7 @@ use Rattle.seam_io.specs.Lines.{Line}
 use Rattle.seam_value.specs.NumberWords.{SpellsPositive}
 use Rattle.seam_call.specs.declared.sender.Sender.{Sender}
 use Rattle.seam_transcript.specs.Language.{Word, Command, Call, Move, sender_text}
-use Rattle.seam_transcript.specs.Book.{Spells}
+use Rattle.seam_transcript.specs.Judging.{Spells}
 
 -- the words of a command for a sender and an entity: a call or a move
 abbrev pub AsksFor : Command → Word → Word → Type 0

@@ -1,5 +1,6 @@
 -- How far the lines of an input were read.
 use Rattle.std.specs.Prelude.{ℕ, ◌+◌}
+use Rattle.seam_toml.specs.declared.header.Header.{Header}
 use Rattle.seam_transcript.specs.Book.{Book, empty_book}
 use Rattle.seam_transcript.specs.Orders.{Orders, no_orders}
 
@@ -12,8 +13,8 @@ pub record Standing : Type 0 where
   pub orders : Orders
 
 -- after a header of so many lines
-abbrev pub after_header : ℕ → Standing
-after_header count = record { lines = count; rounds = 0; book = empty_book; orders = no_orders }
+abbrev pub after_header : Header → ℕ → Standing
+after_header h count = record { lines = count; rounds = 0; book = empty_book h.settings.size; orders = no_orders }
 
 -- one more line was read
 abbrev pub with_line : Standing → Standing

@@ -3,6 +3,10 @@ use Rattle.std.specs.Prelude.{ℕ, List, [], ◌∷◌, ◌++◌, codes}
 use Rattle.std.specs.List.{flat_map}
 use Rattle.seam_value.specs.Values.{decimal_of, text_of}
 use Rattle.seam_words.specs.Numbers.{number_of}
+use Rattle.seam_tree.specs.declared.tree.CutError.{CutError}
+use Rattle.seam_tree.specs.declared.tree.CutError.TheVariants.{NoCell, OutsideCell, TooManyCells}
+use Rattle.seam_tree.specs.declared.tree.ShiftError.{ShiftError}
+use Rattle.seam_tree.specs.declared.tree.ShiftError.TheVariants.{NoBoundary, WouldEmpty}
 use Rattle.seam_defs.specs.Types.{type_of, method_of}
 use Rattle.seam_defs.specs.Deeds.{values_text}
 use Rattle.seam_defs.specs.declared.types.TypeDef.{TypeDef}
@@ -20,6 +24,16 @@ field n = 32 ∷ decimal_of n
 
 -- ---- refused lines
 
+-- the number of a tree's refusal
+abbrev pub number_of_cut_error : CutError → ℕ
+number_of_cut_error NoCell = 1
+number_of_cut_error OutsideCell = 2
+number_of_cut_error TooManyCells = 3
+
+abbrev pub number_of_shift_error : ShiftError → ℕ
+number_of_shift_error NoBoundary = 1
+number_of_shift_error WouldEmpty = 2
+
 -- how a cause is written
 abbrev pub cause_text : Cause → List ℕ
 cause_text cause.TooLong = codes "long"
@@ -35,6 +49,8 @@ cause_text cause.NoSender = codes "sender"
 cause_text cause.Dead = codes "dead"
 cause_text cause.UnknownMethod = codes "unknown"
 cause_text cause.IllTyped = codes "illtyped"
+cause_text (cause.CutRefused error) = codes "tree" ++ field (number_of_cut_error error)
+cause_text (cause.ShiftRefused error) = codes "tree" ++ field (number_of_shift_error error)
 
 -- the line of a refused line: its number and the cause
 abbrev pub refusal : ℕ → Cause → List ℕ

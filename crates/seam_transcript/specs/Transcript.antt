@@ -1,14 +1,16 @@
--- What is printed for the lines of an input.
+-- What is printed for the lines of an input, in a world of one cell in which no entity has a client and none is destroyed.
 use Rattle.std.specs.Prelude.{◌≡◌, ◌⊎◌, ℕ, List, [], ◌∷◌, ◌++◌, ◌==◌, MatchBool}
 use Rattle.std.specs.List.{flat_map}
 use Rattle.seam_io.specs.Lines.{Line}
 use Rattle.seam_defs.specs.declared.types.TypeDef.{TypeDef}
 use Rattle.seam_toml.specs.declared.header.Header.{Header}
 use Rattle.seam_transcript.specs.Header.{BeginWithHeader, AwaitHeader}
-use Rattle.seam_transcript.specs.Book.{open_lines, with_entry, Judges}
+use Rattle.seam_transcript.specs.Book.{open_lines, with_entry}
+use Rattle.seam_transcript.specs.Judging.{Judges}
 use Rattle.seam_transcript.specs.Standing.{Standing, after_header, with_line, with_book}
 use Rattle.seam_transcript.specs.Round.{RoundData, IsRound}
 use Rattle.seam_transcript.specs.Texts.{refusal, round_text}
+use Rattle.seam_transcript.specs.declared.commands.Commands.TheVariants.{OneCell}
 use Rattle.seam_transcript.specs.declared.verdict.Cause.{Cause}
 use Rattle.seam_transcript.specs.declared.verdict.Verdict.{Verdict}
 use Rattle.seam_transcript.specs.declared.verdict.Verdict.TheVariants as verdict
@@ -44,7 +46,7 @@ Follows h s verdict.Synced pieces t = EndsRound h s pieces t
 
 -- The next line is read, with what is printed for it.
 abbrev pub Step : Header → Standing → Line → List Piece → Standing → Type 0
-Step h s line pieces t = (v : Verdict) × Judges h s.book line v × Follows h (with_line s) v pieces t
+Step h s line pieces t = (v : Verdict) × Judges OneCell h s.book line v × Follows h (with_line s) v pieces t
 
 -- Lines are read, one after another, by steps of any kind.
 abbrev pub Run : {S P : Type 0} → (S → Line → List P → S → Type 0) → S → List Line → List P → S → Type 0
@@ -57,7 +59,7 @@ pub record PrintLines (lines : List Line) (h : Header) (pieces : List Piece) (t 
   pub count : ℕ
   pub rest : List Line
   pub header : BeginWithHeader lines h count rest
-  pub run : Run (Step h) (after_header count) rest pieces t
+  pub run : Run (Step h) (after_header h count) rest pieces t
 
 -- An open transcript of the lines read: nothing where they may yet begin a header, and what the lines after it print where they
 -- have one. Lines that can begin no header have none.

@@ -9,11 +9,14 @@ ghost use Rattle.seam_transcript.specs.Language.{IsSkipped, Command, words_of, N
 ghost use Rattle.seam_toml.specs.declared.header.Header.{Header};
 ghost use Rattle.seam_transcript.specs.Header.{BeginWithHeader};
 ghost use Rattle.seam_toml.specs.Header.{Reads};
-ghost use Rattle.seam_transcript.specs.Book.{Book, Judges};
+ghost use Rattle.seam_transcript.specs.Book.{Book};
+ghost use Rattle.seam_transcript.specs.Judging.{Judges};
 ghost use Rattle.seam_transcript.specs.Orders.{IsLegal, IsFull};
 ghost use Rattle.seam_transcript.specs.Standing.{Standing, with_line};
 ghost use Rattle.seam_transcript.specs.Transcript.{Piece, Refusal, Step, IsEnded};
 ghost use Rattle.seam_transcript.specs.Senders.{CallsAreFrom};
+ghost use Rattle.seam_transcript.specs.declared.commands.Commands.{Commands};
+ghost use Rattle.seam_transcript.specs.declared.commands.Commands.TheVariants.{OneCell};
 ghost use Rattle.seam_transcript.specs.declared.verdict.Verdict.{Verdict};
 ghost use Rattle.seam_transcript.specs.declared.verdict.Cause.TheVariants.{TooLong, NoCommand};
 
@@ -24,7 +27,8 @@ pub fn command_is_one()
 
 /// The book is a function of the lines: a line has one verdict at most. (That it has one, the calls show that judge it.)
 pub fn verdict_is_one()
-    ensures { (h : Header) (b : Book) (line : Line) (v w : Verdict) → AreDefs h.defs → Judges h b line v → Judges h b line w → v ≡ w }
+    ensures { (taken : Commands) (h : Header) (b : Book) (line : Line) (v w : Verdict) → AreDefs h.defs → Judges taken h b line v →
+        Judges taken h b line w → v ≡ w }
 {}
 
 /// A line that is too long is refused for that and nothing else, and changes nothing but the count of lines.
@@ -37,7 +41,7 @@ pub fn long_line_is_refused()
 /// lines.
 pub fn unknown_command_is_refused()
     ensures { (h : Header) (s t : Standing) (line : List ℕ) (words : List (List ℕ)) (pieces : List Piece)
-        → ¬ (IsSkipped line) → HasWords line words → ¬ (NamesCommand words) → Step h s (Content line) pieces t
+        → ¬ (IsSkipped line) → HasWords line words → ¬ (NamesCommand OneCell words) → Step h s (Content line) pieces t
         ↔ ((pieces ≡ Refusal (s.lines + 1) NoCommand ∷ []) × (t ≡ with_line s)) }
 {}
 

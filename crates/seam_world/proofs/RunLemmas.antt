@@ -124,7 +124,8 @@ module _ (began : SourceState) (sink : SinkState) (now : SourceState) (reader : 
       limit = most;
       printed = subst (Printed sink is pending')
           (ap (λ (x : List ℕ). text ++ x) taken.whole ∙ sym (text_with taken.pieces)) p;
-      run = run_with_line (Step g.header) (after_header g.count) g.rest g.pieces g.standing line taken.pieces taken.next g.run taken.step;
+      run = run_with_line (Step g.header) (after_header g.header g.count) g.rest g.pieces g.standing line taken.pieces taken.next g.run
+          taken.step;
       refines = taken.after;
     }
 
@@ -138,7 +139,8 @@ module _ (began : SourceState) (sink : SinkState) (now : SourceState) (reader : 
         count = g.count;
         rest = g.rest ++ line ∷ [];
         header = header_of_append g.read g.header g.count g.rest (line ∷ []) g.begins;
-        run = run_with_line (Step g.header) (after_header g.count) g.rest g.pieces g.standing line taken.pieces taken.next g.run taken.step;
+        run = run_with_line (Step g.header) (after_header g.header g.count) g.rest g.pieces g.standing line taken.pieces taken.next g.run
+          taken.step;
       },
       ap (λ (x : List ℕ). text ++ x) taken.whole ∙ sym (text_with taken.pieces),
     )
@@ -261,7 +263,7 @@ module _ (began : SourceState) (sink : SinkState) (now : SourceState) (reader : 
 -- the run goes on after the header
 pub after_a_header : (began now : SourceState) (reader : Reader) (sink : SinkState) (h : Header) (count : ℕ) (pending : List ℕ)
     (script : Script) → HasHeader began now reader h count → pending ≡ []
-    → ScriptRefines h (after_header count) script → Going began now reader sink sink pending script
+    → ScriptRefines h (after_header h count) script → Going began now reader sink sink pending script
 after_a_header began now reader sink h count pending script has none refines = record {
   header = h;
   count = count;
@@ -269,7 +271,7 @@ after_a_header began now reader sink h count pending script has none refines = r
   read = has.read;
   rest = [];
   pieces = [];
-  standing = after_header count;
+  standing = after_header h count;
   begins = has.begins;
   reading = has.reading;
   limit = has.limit;

@@ -4,11 +4,13 @@ use Rattle.std.proofs.Common.{subst, arith}
 use Rattle.seam_io.specs.Lines.{Line}
 use Rattle.seam_defs.specs.declared.types.TypeDef.{TypeDef}
 use Rattle.seam_toml.specs.declared.header.Header.{Header}
-use Rattle.seam_transcript.specs.Book.{open_lines, with_entry, with_round_ended, empty_book, Judges}
+use Rattle.seam_transcript.specs.Book.{open_lines, with_entry, with_round_ended, empty_book}
+use Rattle.seam_transcript.specs.Judging.{Judges}
 use Rattle.seam_transcript.specs.Standing.{Standing, after_header, with_line, with_book}
 use Rattle.seam_transcript.specs.Texts.{refusal, round_text}
 use Rattle.seam_transcript.specs.Following.{RoundEnds, LineRead}
 use Rattle.seam_transcript.proofs.Following.{count_of_lines, refused}
+use Rattle.seam_transcript.specs.declared.commands.Commands.TheVariants.{OneCell}
 use Rattle.seam_transcript.specs.declared.verdict.Cause.{Cause}
 use Rattle.seam_transcript.specs.declared.verdict.Verdict.TheVariants as verdict
 use Rattle.seam_transcript.specs.declared.limits.TheConstants.{MOST_LINES}
@@ -24,8 +26,8 @@ use Rattle.seam_world.specs.declared.script.Script.{Script}
 
 -- ---- where a script begins
 
-pub script_begins : (h : Header) (count : ℕ) (s : Script) → s.line ≡ count → s.round ≡ 0 → HoldsBook h empty_book s.book →
-    HoldsRounds h empty_book s.table → ScriptRefines h (after_header count) s
+pub script_begins : (h : Header) (count : ℕ) (s : Script) → s.line ≡ count → s.round ≡ 0 → HoldsBook h (empty_book h.settings.size) s.book →
+    HoldsRounds h (empty_book h.settings.size) s.table → ScriptRefines h (after_header h count) s
 script_begins h count s line round book table = record {
   ready = record { book = book; table = table; orders = refl; line = line; round = round };
   below_most = omega arith;
@@ -42,7 +44,7 @@ round_ended h t old new ran ready holds round line book table =
     let number : new.round ≡ t.rounds + 1 = round ∙ ap (λ (n : ℕ). n + 1) ready.round in
     record {
       round = round_of (t.rounds + 1) ran;
-      legal = table_round h t ran holds ready.orders;
+      legal = table_round h t ran holds ready.book.in_one_cell ready.orders;
       whole =
           ap (λ (ds : List TypeDef). round_text ds (round_of new.round ran)) (ap (λ
           (k : Header). k.defs) holds.holds.header)
@@ -96,7 +98,7 @@ has_accepted h t line a old new was counted table round answered = record {
 -- a line was refused
 pub refused_line : (h : Header) (t : Standing) (line : Line) (c : Cause) (old new : Script) → ScriptRefines h t old →
     new.line ≡ old.line + 1 → new.table ≡ old.table → new.round ≡ old.round → new.book ≡ old.book
-    → Judges h t.book line (verdict.Refused c) → LineRead h t line (λ s. ScriptRefines h s new) (refusal new.line c)
+    → Judges OneCell h t.book line (verdict.Refused c) → LineRead h t line (λ s. ScriptRefines h s new) (refusal new.line c)
 refused_line h t line c old new was counted table round book judges =
     let number : new.line ≡ t.lines + 1 = counted ∙ ap (λ (n : ℕ). n + 1) was.ready.line in
     subst (λ (n : ℕ). LineRead h t line (λ s. ScriptRefines h s new) (refusal n c)) (sym number)

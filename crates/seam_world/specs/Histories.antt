@@ -47,7 +47,7 @@ pub record Going (began now : SourceState) (reader : Reader) (sink now' : SinkSt
   pub reading : Reading began now reader given read
   pub limit : reader.limit ≡ most_bytes
   pub printed : Printed sink now' pending (text_of header.defs pieces)
-  pub run : Run (Step header) (after_header count) rest pieces standing
+  pub run : Run (Step header) (after_header header count) rest pieces standing
   pub refines : ScriptRefines header standing script
 
 -- The run has ended with this status, but for the fault line.

@@ -31,7 +31,7 @@ impl Script {
     /// A script after a header of so many lines.
     pub fn new(alloc: Global, header: Header, lines: u64) -> Result<Self, AllocError>
         requires { AreInRange header.settings }
-        ensures { IfOk result (ScriptRefines header (after_header lines)) }
+        ensures { IfOk result (ScriptRefines header (after_header header lines)) }
     {
         Ok(Script {
             book: Book::new(alloc, &header)?,

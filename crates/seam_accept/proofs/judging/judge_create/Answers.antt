@@ -1,5 +1,6 @@
 use Rattle.std.proofs.Common.{◌∙◌, sym, arith, inl, inr}
-use Rattle.seam_accept.proofs.CreateLemmas.{none_of_false, new_in_book, no_type_first, outside_first, full_first, create_accepted}
+use Rattle.seam_accept.proofs.NamedEntities.{entity_unknown}
+use Rattle.seam_accept.proofs.CreateLemmas.{none_of_false, no_type_first, outside_first, full_first, create_accepted}
 use Rattle.seam_accept.proofs.judging.judge_create.Goals as goal
 use Rattle.seam_accept.proofs.judging.judge_create.Goals.{then-size-x-via-then-size-x, then-size-x-via-else-size-x+then-size-z}
 
@@ -11,8 +12,8 @@ returns-in_default-type_named-clause-refused c = λ b was.
       number = c.in-Some.ensures;
       spelled_x = c.in-Some-whole_number.ensures;
       spelled_z = c.in-Some-whole_number-2.ensures;
-      new = new_in_book b c.args.entities.now.entries c.in-Some.entity was
-          (none_of_false _ (sym c.contains_key.ensures ∙ c.if-contains_key.false));
+      new = (entity_unknown b c.args.entities.now.entries c.in-Some.entity was
+          (none_of_false _ (sym c.contains_key.ensures ∙ c.if-contains_key.false))).uncreated;
     })
     c.in_default-type_named.ensures
 
@@ -24,8 +25,8 @@ returns-then-size-x-clause-refused c = λ b was.
       number = c.in-Some.ensures;
       spelled_x = c.in-Some-whole_number.ensures;
       spelled_z = c.in-Some-whole_number-2.ensures;
-      new = new_in_book b c.args.entities.now.entries c.in-Some.entity was
-          (none_of_false _ (sym c.contains_key.ensures ∙ c.if-contains_key.false));
+      new = (entity_unknown b c.args.entities.now.entries c.in-Some.entity was
+          (none_of_false _ (sym c.contains_key.ensures ∙ c.if-contains_key.false))).uncreated;
     })
     c.in-Some-type_named.ty c.in-Some-type_named.ensures
     (elim c.then-size-x.branch [
@@ -42,8 +43,8 @@ returns-then-len-ge-MOST_ENTITIES-clause-refused c = λ b was.
       number = c.in-Some.ensures;
       spelled_x = c.in-Some-whole_number.ensures;
       spelled_z = c.in-Some-whole_number-2.ensures;
-      new = new_in_book b c.args.entities.now.entries c.in-Some.entity was
-          (none_of_false _ (sym c.contains_key.ensures ∙ c.if-contains_key.false));
+      new = (entity_unknown b c.args.entities.now.entries c.in-Some.entity was
+          (none_of_false _ (sym c.contains_key.ensures ∙ c.if-contains_key.false))).uncreated;
     })
     c.in-Some-type_named.ty c.in-Some-type_named.ensures (omega (arith, c.if-size-x.false)) (omega (arith, c.if-size-z.false))
     (omega (arith, count, c.len.ensures.len, c.if-len-ge-MOST_ENTITIES.true))
@@ -57,8 +58,8 @@ returns-clause-accepted c = λ b was.
       number = c.in-Some.ensures;
       spelled_x = c.in-Some-whole_number.ensures;
       spelled_z = c.in-Some-whole_number-2.ensures;
-      new = new_in_book b c.args.entities.now.entries c.in-Some.entity was
-          (none_of_false _ (sym c.contains_key.ensures ∙ c.if-contains_key.false));
+      new = (entity_unknown b c.args.entities.now.entries c.in-Some.entity was
+          (none_of_false _ (sym c.contains_key.ensures ∙ c.if-contains_key.false))).uncreated;
     })
     c.in-Some-type_named.ty c.in-Some-type_named.ensures (omega (arith, c.if-size-x.false)) (omega (arith, c.if-size-z.false))
     (omega (arith, count, c.len.ensures.len, c.if-len-ge-MOST_ENTITIES.false))

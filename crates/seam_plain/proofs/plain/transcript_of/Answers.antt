@@ -14,7 +14,7 @@ returns-in-Ok-Some c =
     (input_lines c.args.input.now c.in_ok-texts.texts.items c.deref.result.now among c.in_ok-texts.ensures c.deref.ensures.value
     c.lines_among-lines.ensures)
     (MatchOption-at_some _ _ begun c.in-Ok-Some.field-0-is c.in-Ok-Some.ensures.begins).1
-    (c.in_ok-text-in-Ok-Some.ensures (after_header begun.lines) c.in_ok-plain-in-Ok-Some.ensures)
+    (c.in_ok-text-in-Ok-Some.ensures (after_header begun.header begun.lines) c.in_ok-plain-in-Ok-Some.ensures)
 
 pub returns-in-Ok-None : goal.returns-in-Ok-None
 returns-in-Ok-None c =

@@ -1,4 +1,4 @@
-use Rattle.seam_transcript.proofs.Verdicts.{command_is_one}
+use Rattle.seam_transcript.proofs.CommandWords.{command_is_one}
 use Rattle.seam_transcript.proofs.laws.command_is_one.Goals as goal
 
 pub returns : goal.returns

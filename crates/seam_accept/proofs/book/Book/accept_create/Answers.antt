@@ -1,6 +1,6 @@
 use Rattle.std.proofs.Common.{sym, subst}
 use Rattle.std.proofs.lemmas.Result.{err_from_is_err_and}
-use Rattle.seam_transcript.specs.Book.{HoldsAgainst, IsFirst}
+use Rattle.seam_transcript.specs.Judging.{HoldsAgainst, IsFirst}
 use Rattle.seam_toml.specs.declared.header.Header.{Header}
 use Rattle.seam_transcript.specs.declared.verdict.Entry.TheVariants.{Created}
 use Rattle.seam_accept.specs.Commands.{create_of}

@@ -10,6 +10,6 @@ pub returns : goal.returns
 returns c = λ h b was.
     let is = subst (Refines h b) (sym c.self.view_is) was in
     let creates = ap length is.creates in
-    let orders = ap length is.orders ∙ length-map (calls_of b.current) order_of in
-    let all = entries_count b.current in
+    let orders = ap length is.orders ∙ length-map (calls_of b.current) (order_of h) in
+    let all = entries_count b.current is.in_one_cell.current in
     omega (arith, c.len.ensures, c.len-2.ensures, creates, orders, all)

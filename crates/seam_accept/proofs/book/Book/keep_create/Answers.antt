@@ -1,4 +1,4 @@
-use Rattle.std.proofs.Common.{◌+◌, List, [], ◌∷◌, ◌++◌, refl, sym, ◌∙◌, ap, subst, Option}
+use Rattle.std.proofs.Common.{◌+◌, List, [], ◌∷◌, ◌++◌, refl, sym, ◌∙◌, ap, subst, Option, arith}
 use Rattle.std.specs.Prelude.{is_some, if◌then◌else◌}
 use Rattle.std.specs.BTreeMap.{btree_map_len}
 use Rattle.seam_call.specs.declared.create.Create.{Create}
@@ -6,17 +6,16 @@ use Rattle.seam_accept.specs.BookView.{BookView}
 use Rattle.seam_accept.specs.Entities.{entity_at}
 use Rattle.seam_accept.specs.Refines.{Refines}
 use Rattle.seam_accept.specs.declared.entity.Entity.{Entity}
-use Rattle.seam_accept.proofs.CreateLemmas.{new_in_book}
-use Rattle.seam_accept.proofs.Keeping.{apart, create_kept}
+use Rattle.seam_accept.proofs.NamedEntities.{apart}
+use Rattle.seam_accept.proofs.Keeping.{create_kept}
 use Rattle.seam_accept.proofs.book.Book.keep_create.Goals as goal
 
 pub returns-clause-kept : goal.returns-clause-kept
 returns-clause-kept c = λ h b was.
     let put = c.in_ok-insert.ensures in
     let absent = ap (λ (x : BookView). entity_at x.entities c.args.create.entity) c.self.view_is ∙ c.requires in
-    create_kept h b _ _ c.args.create c.new.result (subst (Refines h b) (sym c.self.view_is) was)
-    (new_in_book b c.args.self.now.entities c.args.create.entity was.entities c.requires)
-    (record { ty = c.new.ensures.ty; nodes = c.new.ensures.nodes; last = c.new.ensures.last }) refl refl
+    create_kept h b _ _ c.args.create c.new.result (subst (Refines h b) (sym c.self.view_is) was) (omega arith) absent
+    (record { ty = c.new.ensures.ty; live = c.new.ensures.live; joined = c.new.ensures.joined; last = c.new.ensures.last }) refl refl
     (record {
       count =
           put.len

@@ -4,10 +4,11 @@ use Rattle.seam_io.specs.Lines.{Line, Content, line_of}
 use Rattle.seam_io.proofs.LineLemmas.{line_of-long, line_of-short}
 use Rattle.seam_transcript.specs.Standing.{with_line}
 use Rattle.seam_transcript.specs.Texts.{refusal}
+use Rattle.seam_transcript.specs.declared.commands.Commands.TheVariants.{OneCell}
 use Rattle.seam_transcript.specs.declared.verdict.Cause.TheVariants.{TooLong}
 use Rattle.seam_transcript.specs.declared.verdict.Verdict.TheVariants as verdict
-use Rattle.seam_transcript.specs.Book.{Judges}
-use Rattle.seam_transcript.proofs.Verdicts.{long_is_refused}
+use Rattle.seam_transcript.specs.Judging.{Judges}
+use Rattle.seam_transcript.proofs.Refusals.{long_is_refused}
 use Rattle.seam_accept.specs.Refines.{LineAccepted, LineRefused}
 use Rattle.seam_transcript.proofs.Following.{line_read}
 use Rattle.seam_plain.specs.Plain.{Refines}
@@ -20,9 +21,9 @@ returns-then-text-gt-MOST_BYTES c = on_ok_weaker c.push_refusal.result
     let h = c.args.header.now in (
       refusal c.in_ok-self.field-0 TooLong,
       refused_line h t (line_of c.args.text.now) TooLong c.args.self.now _ was refl refl refl c.in_ok-self.ensures refl
-          (subst (λ (l : Line). Judges h t.book l (verdict.Refused TooLong))
+          (subst (λ (l : Line). Judges OneCell h t.book l (verdict.Refused TooLong))
           (sym (line_of-long c.args.text.now c.if-text-gt-MOST_BYTES.true))
-          (long_is_refused h t.book)),
+          (long_is_refused OneCell h t.book)),
       printed,
     ))
     c.push_refusal.ensures
@@ -48,7 +49,7 @@ returns-in-Err-Cause c = on_ok_weaker c.push_refusal-in-Err-Cause.result
       refusal c.in_ok-self.field-0 cause,
       refused_line h t (line_of c.args.text.now) cause c.args.self.now _ was refl refl refl c.in_ok-self.ensures
           c.in-Err-Cause.ensures.unchanged
-          (subst (λ (l : Line). Judges h t.book l (verdict.Refused cause))
+          (subst (λ (l : Line). Judges OneCell h t.book l (verdict.Refused cause))
           (ap Content c.without_return.ensures ∙ sym (line_of-short c.args.text.now c.if-text-gt-MOST_BYTES.false))
           (subst (LineRefused h t.book (Content c.without_return.result.now)) c.in-Err-Cause.field-0-is
           (c.in-Err-Cause.ensures.refused h t.book was.ready.book))),

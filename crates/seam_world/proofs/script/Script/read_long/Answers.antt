@@ -2,8 +2,9 @@ use Rattle.std.proofs.Common.{refl}
 use Rattle.std.proofs.lemmas.Result.{on_ok_weaker}
 use Rattle.seam_io.specs.Lines.{Long}
 use Rattle.seam_transcript.specs.Texts.{refusal}
+use Rattle.seam_transcript.specs.declared.commands.Commands.TheVariants.{OneCell}
 use Rattle.seam_transcript.specs.declared.verdict.Cause.TheVariants.{TooLong}
-use Rattle.seam_transcript.proofs.Verdicts.{long_is_refused}
+use Rattle.seam_transcript.proofs.Refusals.{long_is_refused}
 use Rattle.seam_world.proofs.ScriptLemmas.{refused_line}
 use Rattle.seam_world.proofs.script.Script.read_long.Goals as goal
 
@@ -11,7 +12,7 @@ pub returns : goal.returns
 returns c = on_ok_weaker c.push_refusal.result
     (λ text h t was. (
       refusal c.in_ok-self.field-0 TooLong,
-      refused_line h t Long TooLong c.args.self.now _ was c.in_ok-self.ensures refl refl refl (long_is_refused h t.book),
+      refused_line h t Long TooLong c.args.self.now _ was c.in_ok-self.ensures refl refl refl (long_is_refused OneCell h t.book),
       text,
     ))
     c.push_refusal.ensures

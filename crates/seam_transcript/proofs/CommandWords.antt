@@ -1,11 +1,13 @@
 -- Words spell one command.
-use Rattle.std.proofs.Common.{◌≡◌, ℕ, cond, List, [], ◌∷◌, Option, Some, None, refl, sym, ap, ◌∙◌}
+use Rattle.std.proofs.Common.{◌≡◌, ℕ, cond, List, [], ◌∷◌, Option, Some, None, refl, sym, ap, ◌∙◌, arith}
 use Rattle.std.specs.Prelude.{codes}
 use Rattle.std.specs.Str.{bytes_eq}
 use Rattle.std.proofs.lemmas.Option.{same_Some}
 use Rattle.seam_words.proofs.WordTexts.{words_are_one_list}
-use Rattle.seam_transcript.specs.Language as words
-use Rattle.seam_rules.specs.Language.{Command, Taken, Client, Tick, Cut, Shift, Balance, Destroy, words_of, SpellsCommand}
+use Rattle.seam_transcript.specs.Language.{Command, Create, Call, Move, Sync, Client, Tick, Cut, Shift, Balance, Destroy, words_of}
+use Rattle.seam_transcript.specs.Language.{SpellsCommand, NamesCommand}
+use Rattle.seam_transcript.specs.declared.commands.Commands.{Commands}
+use Rattle.seam_transcript.specs.declared.commands.Commands.TheVariants as commands
 
 -- a command of the words after the first one
 abbrev Rest : Type 0
@@ -32,16 +34,16 @@ four_more make [] = None
 four_more make (w ∷ ws) = three_more (make w) ws
 
 call_of : Rest
-call_of (s ∷ e ∷ m ∷ arguments) = Some (Taken (words.Call s e m arguments))
+call_of (s ∷ e ∷ m ∷ arguments) = Some (Call s e m arguments)
 call_of ws = None
 
 -- the command that a first word and those after it spell
 read : List ℕ → Rest
 read w ws =
-    cond (bytes_eq w (codes "create")) (four_more (λ e t x z. Taken (words.Create e t x z)) ws)
+    cond (bytes_eq w (codes "create")) (four_more Create ws)
     (cond (bytes_eq w (codes "call")) (call_of ws)
-    (cond (bytes_eq w (codes "move")) (four_more (λ s e x z. Taken (words.Move s e x z)) ws)
-    (cond (bytes_eq w (codes "sync")) (no_more (Taken words.Sync) ws)
+    (cond (bytes_eq w (codes "move")) (four_more Move ws)
+    (cond (bytes_eq w (codes "sync")) (no_more Sync ws)
     (cond (bytes_eq w (codes "client")) (one_more Client ws)
     (cond (bytes_eq w (codes "tick")) (no_more Tick ws)
     (cond (bytes_eq w (codes "cut")) (three_more Cut ws)
@@ -56,10 +58,10 @@ command_of (w ∷ ws) = read w ws
 -- the words of a command spell it
 spell : (c : Command) → command_of (words_of c) ≡ Some c
 unfolding command_of read four_more three_more two_more one_more no_more call_of
-spell (Taken (words.Create e t x z)) = refl
-spell (Taken (words.Call s e m arguments)) = refl
-spell (Taken (words.Move s e x z)) = refl
-spell (Taken words.Sync) = refl
+spell (Create e t x z) = refl
+spell (Call s e m arguments) = refl
+spell (Move s e x z) = refl
+spell Sync = refl
 spell (Client e) = refl
 spell Tick = refl
 spell (Cut c a at) = refl
@@ -67,9 +69,27 @@ spell (Shift b at) = refl
 spell Balance = refl
 spell (Destroy e) = refl
 
-pub one_command : (c d : Command) → words_of c ≡ words_of d → c ≡ d
-one_command c d same = same_Some c d (sym (spell c) ∙ ap command_of same ∙ spell d)
+pub command_is_one : (c d : Command) → words_of c ≡ words_of d → c ≡ d
+command_is_one c d same = same_Some c d (sym (spell c) ∙ ap command_of same ∙ spell d)
 
 -- and so does a line
 pub line_spells_one : (line : List ℕ) (c d : Command) → SpellsCommand line c → SpellsCommand line d → c ≡ d
-line_spells_one line c d one other = one_command c d (words_are_one_list line (words_of c) (words_of d) one other)
+line_spells_one line c d one other = command_is_one c d (words_are_one_list line (words_of c) (words_of d) one other)
+
+-- the first word of a command names one
+pub command_is_named : (c : Command) → NamesCommand commands.All (words_of c)
+command_is_named (Create e n x z) = (0, omega arith, refl)
+command_is_named (Call s e n a) = (1, omega arith, refl)
+command_is_named (Move s e x z) = (2, omega arith, refl)
+command_is_named Sync = (3, omega arith, refl)
+command_is_named (Client e) = (4, omega arith, refl)
+command_is_named Tick = (5, omega arith, refl)
+command_is_named (Cut c a at) = (6, omega arith, refl)
+command_is_named (Shift b at) = (7, omega arith, refl)
+command_is_named Balance = (8, omega arith, refl)
+command_is_named (Destroy e) = (9, omega arith, refl)
+
+-- `sync` is always taken
+pub sync_is_taken : (taken : Commands) → NamesCommand taken (words_of Sync)
+sync_is_taken commands.OneCell = (3, omega arith, refl)
+sync_is_taken commands.All = (3, omega arith, refl)

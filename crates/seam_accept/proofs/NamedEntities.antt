@@ -1,0 +1,94 @@
+-- What is kept of entities by their names.
+use Rattle.std.proofs.Common.{◌≡◌, ◌≢◌, ℕ, Bool, true, false, cond, List, refl, sym, ◌∙◌, ap, subst, Option, Some, None, inl, inr, arith}
+use Rattle.std.specs.Prelude.{MatchOption, ◌&&◌, not, is_some, IsSome}
+use Rattle.std.specs.Ordering.{nat_cmp}
+use Rattle.std.specs.Cmp.{nat_cmp_total}
+use Rattle.std.specs.BTreeMap.{BTreeMap, get, is_at, IsOrdered, WritesThrough}
+use Rattle.std.proofs.lemmas.Map.Lookups.{btree_map_from_get, exact_unsigned}
+use Rattle.std.proofs.lemmas.Bool.Decides.{eqb_tells, nat_tests}
+use Rattle.seam_value.specs.NumberWords.{IsWhole}
+use Rattle.std.specs.List.{list_any}
+use Rattle.std.specs.Borrow.{Bor}
+use Rattle.std.proofs.lemmas.Bool.{false≢true}
+use Rattle.seam_call.specs.declared.create.Create.{Create}
+use Rattle.seam_transcript.specs.Book.{Book, entries, created_as, live_as, destroys, joins, has_client}
+use Rattle.seam_accept.specs.Entities.{EntitiesRefine, EntityRefines, IsUnknown, IsLive, entity_at}
+use Rattle.seam_accept.specs.declared.entity.Entity.{Entity}
+
+-- another number is not at the query of a number
+pub apart : (e other : ℕ) → other ≢ e → is_at (nat_cmp e) other ≡ false
+apart e other ne = grind (arith, nat_tests)
+
+module _ (b : Book) (e : ℕ) (v : Entity) (was : EntityRefines b e v) where
+  pub live_is : live_as b e ≡ cond v.live (Some was.made) None
+  live_is =
+      turned (list_any (destroys e) (entries b)) ∙ ap (λ (o : Option Create). cond (not (list_any (destroys e) (entries b))) o None) was.is
+      ∙ ap (λ (x : Bool). cond x (Some was.made) None) (sym was.live)
+    where
+      turned : (x : Bool) → cond x None (created_as b e) ≡ cond (not x) (created_as b e) None
+      turned true = refl
+      turned false = refl
+
+  pub client_is : has_client b e ≡ (v.live && v.joined)
+  client_is =
+      ap (λ (o : Option Create). is_some o && list_any (joins e) (entries b)) live_is ∙ by v.live
+      ∙ ap (λ (x : Bool). v.live && x) (sym was.joined)
+    where
+      by : (x : Bool) → (is_some (cond x (Some was.made) None) && list_any (joins e) (entries b)) ≡ (x && list_any (joins e) (entries b))
+      by true = refl
+      by false = refl
+
+module _ (b : Book) (e : ℕ) (was : IsUnknown b e) where
+  pub none_lives : live_as b e ≡ None
+  none_lives = ap (λ (x : Bool). cond x None (created_as b e)) was.undestroyed ∙ was.uncreated
+
+  pub no_client_there : has_client b e ≡ false
+  no_client_there = ap (λ (o : Option Create). is_some o && list_any (joins e) (entries b)) none_lives
+
+-- what is there refines the book
+pub entity_found : (b : Book) (entities : List (ℕ × Entity)) (e : ℕ) (v : Entity) → EntitiesRefine b entities →
+    entity_at entities e ≡ Some v → EntityRefines b e v
+entity_found b entities e v was found =
+    subst (λ (o : Option Entity). MatchOption o (IsUnknown b e) (EntityRefines b e)) found (was.each e)
+
+-- and what is not there is unknown
+pub entity_unknown : (b : Book) (entities : List (ℕ × Entity)) (e : ℕ) → EntitiesRefine b entities → entity_at entities e ≡ None →
+    IsUnknown b e
+entity_unknown b entities e was none =
+    subst (λ (o : Option Entity). MatchOption o (IsUnknown b e) (EntityRefines b e)) none (was.each e)
+
+-- an entity that is there, by its mark
+pub marked_live : (b : Book) (entities : List (ℕ × Entity)) (e : ℕ) (v : Bor Entity) → EntitiesRefine b entities →
+    entity_at entities e ≡ Some v.now → v.now.live ≡ true → IsLive b e v
+marked_live b entities e v was found live =
+    let here = entity_found b entities e v.now was found in
+    record { refines = here; lives = live_is b e v.now here ∙ ap (λ (x : Bool). cond x (Some here.made) None) live }
+
+pub marked_dead : (b : Book) (entities : List (ℕ × Entity)) (e : ℕ) (v : Entity) → EntitiesRefine b entities →
+    entity_at entities e ≡ Some v → v.live ≡ false → live_as b e ≡ None
+marked_dead b entities e v was found dead =
+    let here = entity_found b entities e v was found in
+    live_is b e v here ∙ ap (λ (x : Bool). cond x (Some here.made) None) dead
+
+-- an entity with a client has a number that 32 bits hold
+pub client_is_whole : (b : Book) (entities : List (ℕ × Entity)) (e : ℕ) → EntitiesRefine b entities → has_client b e ≡ true → IsWhole e
+client_is_whole b entities e was is = cases (entity_at entities e) (was.each e)
+  where
+    cases : (o : Option Entity) → MatchOption o (IsUnknown b e) (EntityRefines b e) → IsWhole e
+    cases None unknown = absurd (false≢true (sym (no_client_there b e unknown) ∙ is))
+    cases (Some v) here = here.whole
+
+-- ---- writing to one of them
+
+-- what `get_mut` lent was given back as it was
+pub given_back : (m n : BTreeMap ℕ Entity) (e : ℕ) (v w : Entity) → WritesThrough nat_cmp (nat_cmp e) m w n →
+    Some v ≡ get nat_cmp m e → w ≡ v → IsOrdered nat_cmp m → n.entries ≡ m.entries
+given_back m n e v w writes found same ordered =
+    let updates = writes.3 (subst (λ (o : Option Entity). IsSome o) found refl) in
+    btree_map_from_get nat_cmp_total n m writes.4 ordered
+    (λ q. elim (eqb_tells e q) [
+      | inl is ↦ subst (λ (k : ℕ). get nat_cmp n k ≡ get nat_cmp m k) is.1
+          (updates.1 ∙ ap (λ (x : Entity). Some x) same ∙ found)
+      | inr differ ↦ updates.2 q (apart e q (λ s. differ.1 (sym s)))
+    ])
+    exact_unsigned

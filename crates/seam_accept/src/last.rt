@@ -1,0 +1,69 @@
+// The numbers of the last calls to a part of an entity.
+ghost use Rattle.std.specs.Prelude.{◌≡◌, OnOk, OnErr, cond};
+ghost use Rattle.seam_call.specs.Senders.{IsSender, same_sender};
+ghost use Rattle.seam_call.specs.declared.sender.Sender.{Sender as Senders};
+ghost use Rattle.seam_accept.specs.Last.{number_of};
+
+use seam_call::Sender;
+use seam_defs::MOST_BASE_NODES;
+use std::alloc::{AllocError, Global};
+use std::collections::BTreeMap;
+use std::marker::Model;
+
+/// For each sender the number of its last call to a part, 0 where there was none.
+#[derive(Drop)]
+pub struct LastCalls {
+    nodes: [u64; MOST_BASE_NODES as usize],
+    clients: BTreeMap<u32, u64>,
+}
+
+impl Model for LastCalls {
+    ghost use Rattle.seam_accept.specs.Last.{LastView};
+
+    ghost Value = { LastView };
+
+    ghost view = { λ l. record { nodes = l.nodes; clients = l.clients.entries } };
+}
+
+impl LastCalls {
+    /// No sender has called.
+    pub fn new(alloc: Global) -> Self
+        ensures { (s : Senders) → IsSender s → number_of result s ≡ 0 }
+    {
+        LastCalls {
+            nodes: [0; MOST_BASE_NODES as usize],
+            clients: BTreeMap::new(alloc),
+        }
+    }
+
+    /// The number of a sender's last call.
+    pub fn number(&self, sender: Sender) -> u64
+        ensures { result ≡ number_of self.now sender }
+    {
+        match sender {
+            Sender::Base(node) => self.nodes[node.place()],
+            Sender::Client(entity) => match self.clients.get(&entity) {
+                Some(number) => *number,
+                None => 0,
+            },
+        }
+    }
+
+    /// Keeps the number of a sender's last call.
+    pub fn keep(&mut self, sender: Sender, number: u64) -> Result<(), AllocError>
+        ensures kept { OnOk result ((s : Senders) → IsSender s
+            → number_of self.new s ≡ cond (same_sender sender s) number (number_of self.old s)) }
+        ensures unchanged { OnErr result (self.new ≡ self.old) }
+    {
+        match sender {
+            Sender::Base(node) => {
+                self.nodes[node.place()] = number;
+                Ok(())
+            }
+            Sender::Client(entity) => {
+                self.clients.insert(entity, number)?;
+                Ok(())
+            }
+        }
+    }
+}

@@ -1,2 +1,0 @@
-/// The most live entities that have a client.
-pub const MOST_CLIENTS: usize = 256;
