@@ -5,6 +5,7 @@ pub mod HeldLemmas
 pub mod KeptLemmas
 pub mod HomeLemmas
 pub mod LoadLemmas
+pub mod RoundLemmas
 pub mod CellLemmas
 pub mod NewsLemmas
 pub mod SettleLemmas

@@ -1,5 +1,5 @@
 -- A cell after a load of one entity.
-use Rattle.std.proofs.Common.{◌≡◌, ℕ, Bool, true, false, cond, length, List, [], ◌∷◌, Option, None, Some, Result, Ok, Err, OnOk, OnErr}
+use Rattle.std.proofs.Common.{◌≡◌, ◌<◌, ℕ, Bool, true, false, cond, length, List, [], ◌∷◌, Option, None, Some, Result, Ok, Err, OnOk, OnErr}
 use Rattle.std.proofs.Common.{refl, sym, ap, subst, ◌∙◌, arith}
 use Rattle.std.specs.Prelude.{option_map}
 use Rattle.std.specs.List.{list_all}
@@ -7,15 +7,17 @@ use Rattle.std.specs.Ordering.{nat_cmp, eq_by_cmp}
 use Rattle.std.specs.FinMap as table
 use Rattle.std.proofs.lemmas.Bool.Decides.{nat_tests}
 use Rattle.seam_geo.specs.declared.pos.Pos.{Pos}
-use Rattle.seam_tree.specs.Division.{Division, IsInSpace}
+use Rattle.seam_tree.specs.Division.{Division, IsInSpace, IsTree}
 use Rattle.seam_order.specs.Held.{OrderView}
 use Rattle.seam_call.specs.declared.call.Call.{Call}
 use Rattle.seam_entity.specs.Here.{Here}
 use Rattle.seam_entity.specs.Reals.{RealView}
 use Rattle.seam_entity.specs.Calls.{all_held, order_passes}
-use Rattle.seam_entity.specs.Executing.{created, fits_cell_part}
+use Rattle.seam_entity.specs.Executing.{created, fits_cell_part, real_begins}
 use Rattle.seam_entity.specs.Looks.{with_witness}
-use Rattle.seam_steps.specs.Maps.{Map, set_at}
+use Rattle.seam_steps.specs.Maps.{Map, set_at, each_value}
+use Rattle.seam_steps.specs.Slots.{NextPlace}
+use Rattle.seam_steps.specs.Valid.{NextsAreCells}
 use Rattle.seam_steps.specs.Cells.{CellView}
 use Rattle.seam_steps.proofs.Slots.{get-set_at}
 use Rattle.seam_cell.specs.declared.known.Known.{Known}
@@ -23,7 +25,7 @@ use Rattle.seam_cell.specs.declared.reals.Reals.{Reals}
 use Rattle.seam_cell.specs.declared.places.Places.{Places}
 use Rattle.seam_cell.specs.declared.lists.Lists.{Lists}
 use Rattle.seam_cell.specs.Kept.{here_in, cell_of, AreKept, IsThere, IsKept, AreWhole}
-use Rattle.seam_cell.specs.Beginning.{changed_at}
+use Rattle.seam_cell.proofs.RoundLemmas.{got_each}
 
 no_length : {A : Type 0} (xs : List A) → length xs ≡ 0 → xs ≡ []
 no_length [] e = refl
@@ -105,3 +107,46 @@ witness_fits h t e (Some x) fits r at =
     let same : with_witness h x ≡ r = cc in
     let fit = fits x refl in
     (sym (ap (λ y. y.entity) same) ∙ fit.0, subst (IsThere h t) same (witness_there h t x fit.1))
+
+-- ---- a round begins
+
+some_same : {X : Type 0} {x y : X} → Some x ≡ Some y → x ≡ y
+some_same e = cc
+
+began : (o : Option RealView) (r : RealView) → option_map real_begins o ≡ Some r → (x : RealView) × ((o ≡ Some x) × (real_begins x ≡ r))
+began None r e = let not : None ≡ Some r = e in cc
+began (Some x) r e = (x, (refl, some_same e))
+
+space_of_size : (t u : Division) (p : Pos) → t.size ≡ u.size → IsInSpace t p → IsInSpace u p
+space_of_size t u p same is = record { x_inside = subst (λ n. p.x < n) same is.x_inside; z_inside = subst (λ n. p.z < n) same is.z_inside }
+
+no_next : (m : Map NextPlace) → m ≡ table.empty → NextsAreCells m
+no_next m none e n at = let not : None ≡ Some n = sym (table.get-empty nat_cmp e) ∙ (sym (ap (λ w. table.get w e) none) ∙ at) in cc
+
+pub round_whole : (k : Known) (t : Division) (r s : Reals) (p q : Places) (l m : Lists) → AreWhole k r p l → AreKept s → IsTree t →
+    t.size ≡ k.settings.size → s.items.items ≡ each_value real_begins r.items.items → q.nexts.items ≡ table.empty →
+    AreWhole (record k { tree = t }) s q m
+round_whole k t r s p q l m is kept tree size items none =
+    let begins = λ (e : ℕ) (x : RealView) (at : table.get s.items.items e ≡ Some x).
+    began (table.get r.items.items e) x
+    (sym (got_each real_begins r.items.items e) ∙ (sym (ap (λ w. table.get w e) items) ∙ at)) in
+    record {
+      cell = record {
+        cell = record {
+          me_in = is.cell.cell.me_in;
+          bases = is.cell.cell.bases;
+          tree = tree;
+          nexts = no_next q.nexts.items none;
+          keys = λ e x at. let b = begins e x at in sym (ap (λ y. y.entity) b.1.1) ∙ is.cell.cell.keys e b.0 b.1.0;
+        };
+        legal = is.cell.legal;
+        size = size;
+        there =
+            λ e x at.
+            let b = begins e x at in
+            let old = is.cell.there e b.0 b.1.0 in
+            subst (IsThere (here_in k) t) b.1.1
+            (record { inside = space_of_size k.tree t b.0.state.pos (is.cell.size ∙ sym size) old.inside; held = old.held });
+      };
+      marks = kept;
+    }

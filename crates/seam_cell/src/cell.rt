@@ -13,7 +13,7 @@ ghost use Rattle.seam_steps.specs.Cells.{cell_steps, ready_entity, cell_has_work
 ghost use Rattle.seam_steps.specs.Valid.{IsCell};
 ghost use Rattle.seam_cell.specs.Machines.{cell_peers, cell_targets, cell_keeps_peers, cell_stays_valid};
 ghost use Rattle.seam_tree.specs.Division.{IsInSpace};
-ghost use Rattle.seam_steps.specs.Loads.{empty_cell, real_if, attached};
+ghost use Rattle.seam_steps.specs.Loads.{empty_cell, real_if, attached, cell_begins};
 ghost use Rattle.seam_steps.specs.Maps.{set_at, has_any};
 ghost use Rattle.seam_steps.specs.Nodes.NodeView.{Cell as CellNode};
 ghost use Rattle.seam_entity.specs.Preparing.{node_with};
@@ -24,7 +24,7 @@ use crate::calls::{Turn, execute_turn, hold, may_call, may_execute};
 use crate::entity_set::EntitySet;
 use crate::known::Known;
 use crate::lists::Lists;
-use crate::loads::{Making, give_witness, make_real};
+use crate::loads::{Making, begin_round, give_witness, make_real};
 use crate::looking::look_task;
 use crate::places::Places;
 use crate::reals::{Reals, first_ready, put_after, put_in, take_out};
@@ -162,6 +162,21 @@ impl Cell {
         ensures err { OnErr result (self.new ≡ self.old) }
     {
         give_witness(alloc, &self.known, e, &mut self.reals)
+    }
+
+    /// Load, point 3: a round begins, with that tree: no real has done anything in it yet, where reals went is forgotten, and all
+    /// reals are to settle.
+    pub fn start_round(&mut self, alloc: Global, tree: Tree) -> Result<(), AllocError>
+        requires { tree.size ≡ self.old.here.settings.size }
+        ensures after { OnOk result (self.new ≡ cell_begins tree self.old) }
+        ensures err { OnErr result (self.new ≡ self.old) }
+    {
+        begin_round(alloc, &mut self.reals, &mut self.lists.survey)?;
+        // `size` is called for its clause that it is a tree.
+        let _ = tree.size();
+        self.known.tree = tree;
+        self.places.nexts = Table::new(alloc);
+        Ok(())
     }
 
     /// Ghost set: the own book takes the copy at its beat, where the real is not here.

@@ -28,7 +28,7 @@ pub use cell::Cell;
 pub use entity_set::EntitySet;
 pub use known::Known;
 pub use lists::{Lists, unlist};
-pub use loads::{Making, give_witness, make_real};
+pub use loads::{Making, begin_round, give_witness, make_real};
 pub use looking::look_task;
 pub use news::{Subject, Telling, Told};
 pub use next::Next;

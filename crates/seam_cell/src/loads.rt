@@ -1,11 +1,13 @@
 //! What the loads do to the reals of a cell.
 
-ghost use Rattle.std.specs.Prelude.{◌≡◌, OnOk, OnErr, IfOk, None, Some, is_some, option_map};
+ghost use Rattle.std.specs.Prelude.{◌≡◌, ◌<◌, ◌^◌, true, OnOk, OnErr, IfOk, None, Some, is_some, option_map};
 ghost use Rattle.std.specs.FinMap as table;
 ghost use Rattle.seam_entity.specs.Executing.{created, real_begins};
 ghost use Rattle.seam_entity.specs.Looks.{with_witness};
 ghost use Rattle.seam_steps.specs.Maps.{Map, set_at, each_value};
-ghost use Rattle.seam_cell.specs.Kept.{here_in, AreKept};
+ghost use Rattle.seam_cell.specs.Kept.{here_in, AreKept, marked};
+ghost use Rattle.seam_steps.specs.Cells.{real_is_ready, has_witness};
+ghost use Rattle.seam_cell.specs.Sets.{with_entity};
 ghost use Rattle.seam_cell.specs.Beginning.{changed_at};
 
 use crate::entity_set::EntitySet;
@@ -67,5 +69,72 @@ pub fn give_witness(
     }
     real.attach(alloc, &known.settings);
     put_in(reals, e, real);
+    Ok(())
+}
+
+// Adds an entity to those so far.
+fn add(all: &mut EntitySet, e: u32) -> Result<(), AllocError>
+    ensures after { OnOk result (all.new ≡ with_entity e all.old) }
+    ensures small { e < 2 ^ 32 }
+{
+    all.insert(e)
+}
+
+// The entities of all reals.
+fn all_entities(alloc: Global, items: &Table<Parcel>) -> Result<EntitySet, AllocError>
+    ensures { IfOk result (λ s. s ≡ table.keys items.now.items) }
+{
+    let mut all = EntitySet::new(alloc);
+    let mut last = None;
+    while let Some((e, _)) = items.next_after(last) {
+        add(&mut all, e)?;
+        last = Some(e);
+    }
+    Ok(all)
+}
+
+// Begins a round for the entity's real, which is here.
+fn begin(items: &mut Table<Parcel>, e: u32)
+    requires { is_some (table.get items.old.items e) ≡ true }
+    ensures after { items.new.items ≡ changed_at real_begins items.old.items e }
+    ensures small { e < 2 ^ 32 }
+{
+    let Some(parcel) = items.take(e) else {
+        unreachable!()
+    };
+    let Parcel { mut real } = parcel;
+    real.start_round();
+    let _none = items.put_reserved(e, Parcel { real });
+}
+
+// Begins a round for every real.
+fn begin_all(items: &mut Table<Parcel>)
+    ensures after { items.new.items ≡ each_value real_begins items.old.items }
+    ensures ready { marked real_is_ready items.new.items ≡ marked real_is_ready items.old.items }
+    ensures witnesses { marked has_witness items.new.items ≡ marked has_witness items.old.items }
+{
+    let mut last = None;
+    while let Some((e, _)) = items.next_after(last) {
+        begin(items, e);
+        last = Some(e);
+    }
+}
+
+/// Begins a round, in which no real has done anything yet and all are to settle.
+pub fn begin_round(
+    alloc: Global,
+    reals: &mut Reals,
+    survey: &mut EntitySet,
+) -> Result<(), AllocError>
+    requires { AreKept reals.old }
+    ensures reals { OnOk result (reals.new.items.items ≡ each_value real_begins reals.old.items.items) }
+    ensures survey { OnOk result (survey.new ≡ table.keys reals.old.items.items) }
+    ensures kept { AreKept reals.new }
+    ensures err { OnErr result (reals.new.items.items ≡ reals.old.items.items) }
+    ensures err_survey { OnErr result (survey.new ≡ survey.old) }
+{
+    let all = all_entities(alloc, &reals.items)?;
+    begin_all(&mut reals.items);
+    *survey = all;
     Ok(())
 }

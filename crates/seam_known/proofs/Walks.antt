@@ -107,7 +107,7 @@ module _ {X : Type 0} where
   before_first q x None e before = cc
   before_first q x (Some p) e before = let same : x ≡ p = cc in ap (λ y. nat_cmp q y.0) same ∙ before
 
-  nothing_before : (a : Option ℕ) (es : List (ℕ × X)) (o : Option (ℕ × X)) → T (is_sorted nat_cmp es) → find (comes_after a) es ≡ o →
+  pub nothing_before : (a : Option ℕ) (es : List (ℕ × X)) (o : Option (ℕ × X)) → T (is_sorted nat_cmp es) → find (comes_after a) es ≡ o →
       (q : ℕ) → is_after a q ≡ true → IsBefore q o → table.find nat_cmp q es ≡ None
   nothing_before a [] o h e q after before = refl
   nothing_before a (x ∷ xs) o h e q after before =
