@@ -12,7 +12,6 @@ ghost use Rattle.seam_steps.specs.Looks.{known_of, seen_as};
 ghost use Rattle.seam_steps.specs.Cells.{CellView, known_to};
 ghost use Rattle.seam_known.specs.Knowing.{known_at, unless_self};
 
-#[tactic(auto, using(crate::proofs::Knowing::known_of_others, crate::proofs::Knowing::known_in_order, crate::proofs::Knowing::known_without_own))]
 /// Of another entity a cell knows its real or, where that is not there, its copy, in rising number; whether an entity's own real is
 /// there makes no difference to what is known of others.
 pub fn a_cell_knows_its_reals_and_copies()
