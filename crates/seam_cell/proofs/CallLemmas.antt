@@ -10,7 +10,8 @@ use Rattle.seam_entity.specs.Numbers.{is_small, may_rise, limit}
 use Rattle.seam_entity.specs.Orders.{order_of}
 use Rattle.seam_entity.specs.Reals.{RealView}
 use Rattle.seam_entity.specs.Calls.{may_offer}
-use Rattle.seam_entity.specs.Executing.{fits_cell_part, may_settle, may_execute, may_call, public_after, with_deed, with_offer, executed, shows}
+use Rattle.seam_entity.specs.Executing.{fits_cell_part, may_settle, may_execute, may_call}
+use Rattle.seam_entity.specs.Executing.{public_after, with_deed, with_offer, executed, shows}
 use Rattle.seam_entity.specs.Preparing.{with_after}
 use Rattle.seam_entity.specs.declared.real.After.{After}
 use Rattle.seam_cell.specs.Stepping.{IsLater}

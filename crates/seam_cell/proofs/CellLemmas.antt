@@ -1,6 +1,6 @@
 -- Cells after what they hear of ghosts, and a cell without entities.
 use Rattle.std.proofs.Common.{◌≡◌, ◌<◌, ◌≤◌, ℕ, Bool, true, false, cond, not, ◌&&◌, nat_lt, List, [], ◌∷◌, length, Option, None, Some}
-use Rattle.std.proofs.Common.{refl, sym, ap, subst}
+use Rattle.std.proofs.Common.{refl, sym, ap}
 use Rattle.std.proofs.Common.{◌∙◌, arith, map, Bor, option_copied, is_some}
 use Rattle.std.specs.List.{filter}
 use Rattle.std.specs.Ordering.{nat_cmp}
@@ -20,7 +20,6 @@ use Rattle.seam_steps.specs.Slots.{NextPlace, SlotStep, unless_stray}
 use Rattle.seam_steps.specs.CellCases.{ghost_set, ghost_drop, stray_ghost_set, stray_call, call, call_next_place, slot_steps}
 use Rattle.seam_steps.specs.Cells.{CellView, slot_of, stepped, cell_steps, real_is_ready, has_witness}
 use Rattle.seam_steps.proofs.Slots.{set_at-same}
-use Rattle.seam_steps.specs.Valid.{NextsAreCells}
 use Rattle.seam_defs.specs.Settings.{AreLegal}
 use Rattle.seam_cell.specs.declared.known.Known.{Known}
 use Rattle.seam_cell.specs.declared.reals.Reals.{Reals}
@@ -150,22 +149,4 @@ empty_whole k r p l me legal tree size reals nexts ready witnesses = record {
     ready = ready ∙ sym (ap (marked real_is_ready) reals ∙ marked_none real_is_ready);
     witnesses = witnesses ∙ sym (ap (marked has_witness) reals ∙ marked_none has_witness);
   };
-}
-
--- a cell with other ghosts or other lists is as whole
-pub others_whole : (k : Known) (r : Reals) (p q : Places) (l m : Lists) → q.nexts.items ≡ p.nexts.items → AreWhole k r p l → AreWhole k r q m
-others_whole k r p q l m nexts is = record {
-  cell = record {
-    cell = record {
-      me_in = is.cell.cell.me_in;
-      bases = is.cell.cell.bases;
-      tree = is.cell.cell.tree;
-      nexts = subst NextsAreCells (sym nexts) is.cell.cell.nexts;
-      keys = is.cell.cell.keys;
-    };
-    legal = is.cell.legal;
-    size = is.cell.size;
-    there = is.cell.there;
-  };
-  marks = is.marks;
 }

@@ -42,7 +42,8 @@ use Rattle.seam_steps.specs.CellCases.{about, slot_steps}
 use Rattle.seam_steps.specs.Looks
 use Rattle.seam_steps.specs.Looks.{Known, look_by, look_task}
 use Rattle.seam_steps.specs.Cells
-use Rattle.seam_steps.specs.Cells.{CellView, slot_of, after_slot, unlisted_by, stepped, cell_steps, cell_task, ready_next, look_next, cell_hears}
+use Rattle.seam_steps.specs.Cells.{CellView, slot_of, after_slot, unlisted_by, stepped}
+use Rattle.seam_steps.specs.Cells.{cell_steps, cell_task, ready_next, look_next, cell_hears}
 use Rattle.seam_steps.specs.Cells.{known_to, ready_entity, surveys, calls_ready, looks_around, witnesses}
 use Rattle.seam_steps.specs.Maps.{Map, set_at}
 use Rattle.seam_steps.proofs.Slots.{get-set_at}

@@ -59,7 +59,8 @@ pub kept_with : (c : CellView) (e : ℕ) (o : Option RealView) → IsKept c → 
     IsKept (record c { reals = set_at c.reals e o })
 kept_with c e o is new =
     let all = λ (q : ℕ) (r : RealView) (at : table.get (set_at c.reals e o) q ≡ Some r).
-    fits_by c.here c.tree (eq_by_cmp nat_cmp q e) q e o (table.get c.reals q) refl new (λ x there. (is.cell.keys q x there, is.there q x there)) r
+    fits_by c.here c.tree (eq_by_cmp nat_cmp q e) q e o (table.get c.reals q) refl new
+    (λ x there. (is.cell.keys q x there, is.there q x there)) r
     (sym (get-set_at c.reals e q o) ∙ at) in
     record {
       cell = record {

@@ -78,7 +78,8 @@ module _ {X : Type 0} (test : ℕ × X → Bool) where
 
   head_by : (e : ℕ) (p : ℕ × X) (es : List (ℕ × X)) (b : Bool) → nat_cmp e p.0 ≡ Less →
       with_entity e (marks es) ≡ e ∷ marks es →
-      with_entity e (map number_of (cond b (p ∷ filter test es) (filter test es))) ≡ e ∷ map number_of (cond b (p ∷ filter test es) (filter test es))
+      with_entity e (map number_of (cond b (p ∷ filter test es) (filter test es)))
+      ≡ e ∷ map number_of (cond b (p ∷ filter test es) (filter test es))
   head_by e p es true is more =
       ap (λ o. match_ordering o (e ∷ p.0 ∷ marks es) (p.0 ∷ marks es) (p.0 ∷ with_entity e (marks es))) is
   head_by e p es false is more = more
@@ -101,7 +102,8 @@ module _ {X : Type 0} (test : ℕ × X → Bool) where
 
   after : (e : ℕ) (p : ℕ × X) (es put_es : List (ℕ × X)) (b c : Bool) → nat_cmp e p.0 ≡ Greater →
       marks put_es ≡ with_mark b e (marks es) →
-      map number_of (cond c (p ∷ filter test put_es) (filter test put_es)) ≡ with_mark b e (map number_of (cond c (p ∷ filter test es) (filter test es)))
+      map number_of (cond c (p ∷ filter test put_es) (filter test put_es))
+      ≡ with_mark b e (map number_of (cond c (p ∷ filter test es) (filter test es)))
   after e p es put_es true true is more =
       ap (λ l. p.0 ∷ l) more
       ∙ sym (ap (λ o. match_ordering o (e ∷ p.0 ∷ marks es) (p.0 ∷ marks es) (p.0 ∷ with_entity e (marks es))) is)
@@ -124,7 +126,8 @@ module _ {X : Type 0} (test : ℕ × X → Bool) where
 
   kept_by : (e : ℕ) (p : ℕ × X) (es : List (ℕ × X)) (b : Bool) → eqb p.0 e ≡ false →
       without e (marks es) ≡ marks es →
-      without e (map number_of (cond b (p ∷ filter test es) (filter test es))) ≡ map number_of (cond b (p ∷ filter test es) (filter test es))
+      without e (map number_of (cond b (p ∷ filter test es) (filter test es)))
+      ≡ map number_of (cond b (p ∷ filter test es) (filter test es))
   kept_by e p es true is more =
       ap (λ b. cond (not b) (p.0 ∷ without e (marks es)) (without e (marks es))) is ∙ ap (λ l. p.0 ∷ l) more
   kept_by e p es false is more = more

@@ -9,7 +9,8 @@ use Rattle.seam_steps.specs.Cells.{without, real_is_ready, has_witness}
 use Rattle.seam_cell.specs.Sets.{with_entity}
 use Rattle.seam_cell.specs.declared.reals.Reals.{Reals}
 use Rattle.seam_cell.specs.Kept.{marked, with_mark, AreKept, IsOpen, IsOpenFor}
-use Rattle.seam_cell.proofs.MarkLemmas.{put_twice, out_again, mark_twice, unmarked, marked_in, not_marked, marked_out, removed_gone, remove_none, put_again}
+use Rattle.seam_cell.proofs.MarkLemmas.{put_twice, out_again, mark_twice, unmarked, marked_in}
+use Rattle.seam_cell.proofs.MarkLemmas.{not_marked, marked_out, removed_gone, remove_none, put_again}
 
 -- the reals after one was taken out
 pub taken_out : (r s : Reals) (e : ℕ) (x : RealView) → AreKept r → table.get r.items.items e ≡ Some x →
@@ -53,7 +54,8 @@ mark_undone r e kept none =
     out_again e r.ready
     ∙ (ap (without e) kept.ready ∙ (not_marked real_is_ready r.items.items e none ∙ sym kept.ready))
 
-ready_mark : (m : Map RealView) (e : ℕ) (b : Bool) (ready old : List ℕ) → table.get m e ≡ None → old ≡ with_entity e (marked real_is_ready m) →
+ready_mark : (m : Map RealView) (e : ℕ) (b : Bool) (ready old : List ℕ) → table.get m e ≡ None →
+    old ≡ with_entity e (marked real_is_ready m) →
     (b ≡ true → ready ≡ old) → (b ≡ false → ready ≡ without e old) → ready ≡ with_mark b e (marked real_is_ready m)
 ready_mark m e true ready old none is stays goes = stays refl ∙ is
 ready_mark m e false ready old none is stays goes =

@@ -1,5 +1,6 @@
 -- A walk over all reals, in which each begins a round, and one that gathers their entities.
-use Rattle.std.proofs.Common.{◌≡◌, ◌++◌, ℕ, ◌<◌, ◌-◌, Bool, true, false, cond, ◌&&◌, T, is_some, map, find, List, [], ◌∷◌, Option, None, Some}
+use Rattle.std.proofs.Common.{◌≡◌, ◌++◌, ℕ, ◌<◌, ◌-◌, Bool, true, false, cond, ◌&&◌}
+use Rattle.std.proofs.Common.{T, is_some, map, find, List, [], ◌∷◌, Option, None, Some}
 use Rattle.std.proofs.Common.{refl, sym, ap, subst, ◌∙◌, append_assoc, arith}
 use Rattle.std.specs.Prelude.{option_map, nat_lt}
 use Rattle.std.specs.List.{AllByRecursion}

@@ -177,7 +177,8 @@ module _ (k : Known) (r s : Reals) (p q : Places) (l m : Lists) (o n : OutView M
         let here : IsDone t call.entity x left (parts_of p o) (parts_of q n) =
         subst (λ e. IsDone (settled h k.tree (slot_in (parts_of p o) e x) (executed h x call) (shows h x call)) e x left (parts_of p o)
         (parts_of q n)) entity done in
-        let step = λ (from : ℕ). called_in_turn (cell_of k r p l) from call x at (one_is_called (cell_of k r p l) call x at may) (turn x at) in
+        let step = λ (from : ℕ).
+        called_in_turn (cell_of k r p l) from call x at (one_is_called (cell_of k r p l) call x at may) (turn x at) in
         record {
           state =
               λ from. done_stepped k r s p q l m o n call.entity t x left at here items survey looks ∙ ap (λ w. w.state) (sym (step from));

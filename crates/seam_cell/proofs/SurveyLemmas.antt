@@ -80,7 +80,8 @@ module _ (k : Known) (r s : Reals) (p q : Places) (l m : Lists) (o n : OutView M
       }) (at i))))
       ∙ ap (λ b. stepped before e (unless_stray (not b) step)) (due_may (table.get r.items.items e) x at due))
 
-  module _ (done : IsDone (settled (here_in k) k.tree (slot_in (parts_of p o) x.entity x) x false) x.entity x left (parts_of p o) (parts_of q n))
+  module _ (done : IsDone (settled (here_in k) k.tree (slot_in (parts_of p o) x.entity x) x false) x.entity x left (parts_of p o)
+      (parts_of q n))
     where
       here : IsDone step e x left (parts_of p o) (parts_of q n)
       here = subst

@@ -1,8 +1,9 @@
 //! A cell: the node that has the reals and the ghosts of a part of the space, as code.
 //!
-//! Each call is a case of a cell's step, and does to the cell what the definitions of steps say (`seam_steps`), for every input; if
-//! allocation fails, nothing has changed and the input comes back. No step searches all reals, ghosts or lists: which reals have
-//! a ready call, which have a witness, and which are to settle or to look are ordered sets.
+//! A step does to the cell what the definitions of steps say (`seam_steps`), for every input; if allocation fails, nothing has changed
+//! and the input comes back. Each case is a free function over the parts of the cell, which first makes all that may want memory. No
+//! step but a look searches all reals or ghosts: which reals have a ready call, which have a witness, and which are to settle or to
+//! look are ordered sets.
 #![tactic(auto)]
 
 mod arriving;

@@ -167,6 +167,7 @@ pub next_known : (c : CellView) (a : Option ℕ) → find (comes_after a) (table
     (find (comes_after a) (copied (table.entries c.ghosts)))
 next_known c a = next_of_both (other_of_real c.here) (other_of_copy c.here) a (table.entries c.reals) (copied (table.entries c.ghosts))
     (table.entries (table.from_entries {R = nat_cmp} (known_in c))) (table.entries_sorted c.reals)
-    (copies_rise (table.entries c.ghosts) (table.entries_sorted c.ghosts)) (table.entries_sorted (table.from_entries {R = nat_cmp} (known_in c)))
+    (copies_rise (table.entries c.ghosts) (table.entries_sorted c.ghosts))
+    (table.entries_sorted (table.from_entries {R = nat_cmp} (known_in c)))
     (λ q. known_is c q ∙ λ i. known_by c.here (table.get-entries c.reals q i)
     (sym (find_copied q (table.entries c.ghosts) (table.entries_sorted c.ghosts) ∙ ap copy_in (sym (table.get-entries c.ghosts q))) i))

@@ -16,5 +16,6 @@ returns-clause-done c =
       ghosts = c.make_room.ensures.same_book i;
       sent = c.make_room.ensures.same_out i;
     } in
-    subst (λ w. IsDone (settled h t (slot_in w r.entity r) r false) r.entity r left w (parts_of c.settle_real.new.places c.settle_real.new.out))
+    subst (λ w. IsDone (settled h t (slot_in w r.entity r) r false) r.entity r left w
+    (parts_of c.settle_real.new.places c.settle_real.new.out))
     parts (c.settle_real.ensures.done h t false r c.in-Ok.ensures)

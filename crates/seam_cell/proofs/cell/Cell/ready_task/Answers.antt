@@ -17,4 +17,5 @@ unreachable-requires c =
 pub run_ready-requires-clause-may : goal.run_ready-requires-clause-may
 run_ready-requires-clause-may c =
     runs c.args.self.now c.args.e c.requires.ready c.parcel.inside.real.core
-    (sym (ap (λ v. table.get v.reals c.args.e) c.self.view_is) ∙ (sym c.in-Some.ensures.item ∙ ap Some (sym c.parcel.view_is))) (sym c.may_execute.ensures ∙ c.if-not-may_execute.false)
+    (sym (ap (λ v. table.get v.reals c.args.e) c.self.view_is) ∙ (sym c.in-Some.ensures.item ∙ ap Some (sym c.parcel.view_is)))
+    (sym c.may_execute.ensures ∙ c.if-not-may_execute.false)

@@ -62,7 +62,8 @@ returns-clause-witness c = λ k.
       sent = (same i).sent + length (c.in_ok-glance.ensures.shown k i);
     })
     ∙ small_looks h r (witness_of c.args.witness.now) (known_to d c.args.self.now.own)
-    (c.if-not-are_numbers_small.ensures ∙ λ i. is_small ((same i).sent + (c.count-updates.ensures ∙ ap length (c.in_ok-glance.ensures.shown k)) i)))
+    (c.if-not-are_numbers_small.ensures
+    ∙ λ i. is_small ((same i).sent + (c.count-updates.ensures ∙ ap length (c.in_ok-glance.ensures.shown k)) i)))
 
 pub returns-clause-sent : goal.returns-clause-sent
 returns-clause-sent c = λ k.
@@ -73,4 +74,5 @@ returns-clause-sent c = λ k.
     c.tell.ensures.sent
     ∙ (λ i. c.in_ok-reserve.ensures.items i ++ numbered (base_of h r.entity) r.entity (same i).sent (c.in_ok-glance.ensures.shown k i))
     ∙ ap (λ l. c.args.out.now.items ++ l) (small_tells h r (witness_of c.args.witness.now) (known_to d c.args.self.now.own)
-    (c.if-not-are_numbers_small.ensures ∙ λ i. is_small ((same i).sent + (c.count-updates.ensures ∙ ap length (c.in_ok-glance.ensures.shown k)) i)))
+    (c.if-not-are_numbers_small.ensures
+    ∙ λ i. is_small ((same i).sent + (c.count-updates.ensures ∙ ap length (c.in_ok-glance.ensures.shown k)) i)))
