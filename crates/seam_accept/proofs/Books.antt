@@ -1,9 +1,9 @@
 -- What a book holds with one more entry.
-use Rattle.std.proofs.Common.{◌≡◌, ◌≢◌, ◌+◌, ℕ, Bool, true, false, List, [], ◌∷◌, ◌++◌, length, sym, ◌∙◌, ap, arith}
+use Rattle.std.proofs.Common.{◌≡◌, ◌≢◌, ◌+◌, ℕ, Bool, true, false, List, [], ◌∷◌, ◌++◌, length, sym, ◌∙◌, ap}
 use Rattle.std.proofs.Common.{refl, Option, Some, None}
 use Rattle.std.proofs.Common.{cond, append_assoc, append-nil, length-append}
 use Rattle.std.specs.Prelude.{filter, find, ◌&&◌, ◌||◌, ◌==◌}
-use Rattle.std.specs.List.{AllByRecursion, list_any}
+use Rattle.std.specs.List.{list_any}
 use Rattle.std.specs.Option.{option_or}
 use Rattle.std.proofs.lemmas.List.Elements.{filter-append, filter_map-append}
 use Rattle.std.proofs.lemmas.List.Folds.{find-append, list_any-append}
@@ -16,23 +16,13 @@ use Rattle.seam_call.specs.declared.call.Call.{Call}
 use Rattle.seam_call.specs.declared.create.Create.{Create}
 use Rattle.seam_transcript.specs.Book.{Book, entries, called, creates_of, calls_of, created_as, destroys, joins, makes, accepted}
 use Rattle.seam_transcript.specs.Book.{with_entry, divided, tree_of}
-use Rattle.seam_transcript.specs.OneCell.{IsOfOneCell}
 use Rattle.seam_transcript.specs.declared.verdict.Entry.{Entry}
 use Rattle.seam_transcript.specs.declared.verdict.Entry.TheVariants as entry
 use Rattle.seam_transcript.proofs.BookEntries.{creates_with_entry, differ}
 
--- as many entries as creates and calls, in one cell
-pub entries_count : (xs : List Entry) → AllByRecursion IsOfOneCell xs → length (creates_of xs) + length (calls_of xs) ≡ length xs
-entries_count [] all = omega arith
-entries_count (entry.Created c ∷ xs) (is, all) = let rest = entries_count xs all in omega (arith, rest)
-entries_count (entry.Called c ∷ xs) (is, all) = let rest = entries_count xs all in omega (arith, rest)
-entries_count (x ∷ xs) (is, all) = absurd is
-
--- a create or a call leaves the tree
-pub tree_with_entry : (b : Book) (x : Entry) → IsOfOneCell x → tree_of (with_entry b x) ≡ tree_of b
-tree_with_entry b (entry.Created c) is = fold-append divided b.tree b.current (entry.Created c ∷ [])
-tree_with_entry b (entry.Called c) is = fold-append divided b.tree b.current (entry.Called c ∷ [])
-tree_with_entry b x is = absurd is
+-- the tree goes on with an entry
+pub tree_with : (b : Book) (x : Entry) → tree_of (with_entry b x) ≡ divided (tree_of b) x
+tree_with b x = fold-append divided b.tree b.current (x ∷ [])
 
 -- ---- what an entry adds
 
@@ -42,7 +32,7 @@ created_with b x e =
     ap (find (λ (c : Create). c.entity == e)) (creates_with_entry b x)
     ∙ find-append (λ (c : Create). c.entity == e) (creates_of (entries b)) (creates_of (x ∷ []))
 
-or_false : (x : Bool) → (x || false) ≡ x
+pub or_false : (x : Bool) → (x || false) ≡ x
 or_false true = refl
 or_false false = refl
 
@@ -73,7 +63,7 @@ no_create : (x : Entry) (e : ℕ) → makes e x ≡ false → find (λ c. c.enti
 no_create (entry.Created c) e is = ap (λ (y : Bool). cond y (Some c) None) is
 no_create x e is = refl
 
-or_none : {X : Type 0} (o : Option X) → option_or o None ≡ o
+pub or_none : {X : Type 0} (o : Option X) → option_or o None ≡ o
 or_none None = refl
 or_none (Some x) = refl
 
@@ -112,6 +102,12 @@ spares_call call e ne = record {
   joins = refl;
   calls = λ p s. ap (λ (x : Bool). cond x (call ∷ []) []) (from_other_entity call p e s ne);
 }
+
+pub spares_joined : (d e : ℕ) → d ≢ e → Spares (entry.Joined d) e
+spares_joined d e ne = record { makes = refl; destroys = refl; joins = differ d e ne; calls = λ p s. refl }
+
+pub spares_destroyed : (d e : ℕ) → d ≢ e → Spares (entry.Destroyed d) e
+spares_destroyed d e ne = record { makes = refl; destroys = differ d e ne; joins = refl; calls = λ p s. refl }
 
 -- ---- counts
 

@@ -1,6 +1,8 @@
 -- Which causes may hold against a command of each kind: what is so of each of these is so of every one that holds.
 use Rattle.std.proofs.Common.{ℕ, List}
-use Rattle.seam_transcript.specs.Language.{Create, Call, Move}
+use Rattle.seam_tree.specs.declared.tree.CutError.{CutError}
+use Rattle.seam_tree.specs.declared.tree.ShiftError.{ShiftError}
+use Rattle.seam_transcript.specs.Language.{Create, Call, Move, Client, Tick, Cut, Shift, Balance, Destroy}
 use Rattle.seam_toml.specs.declared.header.Header.{Header}
 use Rattle.seam_transcript.specs.Book.{Book}
 use Rattle.seam_transcript.specs.Judging.{HoldsAgainst}
@@ -51,3 +53,50 @@ against_move h b s e x z P number sender dead unknown ill cause.Dead holds = dea
 against_move h b s e x z P number sender dead unknown ill cause.UnknownMethod holds = unknown holds
 against_move h b s e x z P number sender dead unknown ill cause.IllTyped holds = ill holds
 against_move h b s e x z P number sender dead unknown ill k holds = absurd holds
+
+-- against a `client`
+pub against_client : (h : Header) (b : Book) (e : List ℕ) (P : Cause → Type 0)
+    → (HoldsAgainst h b (Client e) cause.BadNumber → P cause.BadNumber)
+    → (HoldsAgainst h b (Client e) cause.Exists → P cause.Exists)
+    → (HoldsAgainst h b (Client e) cause.Full → P cause.Full)
+    → (HoldsAgainst h b (Client e) cause.Dead → P cause.Dead)
+    → (k : Cause) → HoldsAgainst h b (Client e) k → P k
+against_client h b e P number exists full dead cause.BadNumber holds = number holds
+against_client h b e P number exists full dead cause.Exists holds = exists holds
+against_client h b e P number exists full dead cause.Full holds = full holds
+against_client h b e P number exists full dead cause.Dead holds = dead holds
+against_client h b e P number exists full dead k holds = absurd holds
+
+-- against a `destroy`
+pub against_destroy : (h : Header) (b : Book) (e : List ℕ) (P : Cause → Type 0)
+    → (HoldsAgainst h b (Destroy e) cause.BadNumber → P cause.BadNumber)
+    → (HoldsAgainst h b (Destroy e) cause.Dead → P cause.Dead)
+    → (k : Cause) → HoldsAgainst h b (Destroy e) k → P k
+against_destroy h b e P number dead cause.BadNumber holds = number holds
+against_destroy h b e P number dead cause.Dead holds = dead holds
+against_destroy h b e P number dead k holds = absurd holds
+
+-- against a `cut`
+pub against_cut : (h : Header) (b : Book) (c a at : List ℕ) (P : Cause → Type 0)
+    → (HoldsAgainst h b (Cut c a at) cause.BadNumber → P cause.BadNumber)
+    → ((error : CutError) → HoldsAgainst h b (Cut c a at) (cause.CutRefused error) → P (cause.CutRefused error))
+    → (k : Cause) → HoldsAgainst h b (Cut c a at) k → P k
+against_cut h b c a at P number tree cause.BadNumber holds = number holds
+against_cut h b c a at P number tree (cause.CutRefused error) holds = tree error holds
+against_cut h b c a at P number tree k holds = absurd holds
+
+-- against a `shift`
+pub against_shift : (h : Header) (b : Book) (n at : List ℕ) (P : Cause → Type 0)
+    → (HoldsAgainst h b (Shift n at) cause.BadNumber → P cause.BadNumber)
+    → ((error : ShiftError) → HoldsAgainst h b (Shift n at) (cause.ShiftRefused error) → P (cause.ShiftRefused error))
+    → (k : Cause) → HoldsAgainst h b (Shift n at) k → P k
+against_shift h b n at P number tree cause.BadNumber holds = number holds
+against_shift h b n at P number tree (cause.ShiftRefused error) holds = tree error holds
+against_shift h b n at P number tree k holds = absurd holds
+
+-- nothing holds against a `tick` and a `balance`
+pub none_against_tick : (h : Header) (b : Book) (k : Cause) → ¬ (HoldsAgainst h b Tick k)
+none_against_tick h b k holds = holds
+
+pub none_against_balance : (h : Header) (b : Book) (k : Cause) → ¬ (HoldsAgainst h b Balance k)
+none_against_balance h b k holds = holds

@@ -1,13 +1,14 @@
 -- What a book in code holds after it kept a line.
-use Rattle.std.proofs.Common.{◌≡◌, ◌≢◌, ◌+◌, ℕ, Bool, true, false, List, [], ◌∷◌, ◌++◌, length, map, refl, sym}
-use Rattle.std.proofs.Common.{◌∙◌, ap, subst, inl, inr, Option, Some, None, append-nil, length-append}
-use Rattle.std.specs.Prelude.{MatchOption, IfSome, ◌==◌, ◌&&◌, ◌||◌, not, find, filter, cond}
-use Rattle.std.specs.List.{list_any}
-use Rattle.std.proofs.lemmas.List.{map-append}
+use Rattle.std.proofs.Common.{◌≡◌, ◌≢◌, ◌+◌, ◌-◌, ℕ, Bool, true, false, List, [], ◌∷◌, ◌++◌, length, map, refl, sym}
+use Rattle.std.proofs.Common.{◌∙◌, ap, subst, arith, inl, inr, Option, Some, None, append-nil, length-append}
+use Rattle.std.specs.Prelude.{MatchOption, IfSome, IsSome, ◌==◌, ◌&&◌, ◌||◌, not, find, filter, cond, eqb, is_some}
+use Rattle.std.specs.List.{AllByRecursion, IsDistinct, list_any, filter_map, cons_option, count_by}
 use Rattle.std.proofs.lemmas.List.Elements.{filter_map-append}
+use Rattle.std.proofs.lemmas.List.Folds.{list_any-append}
 use Rattle.std.proofs.lemmas.Option.{none-some}
 use Rattle.std.proofs.lemmas.Bool.Decides.{eqb_tells}
 use Rattle.seam_value.specs.NumberWords.{IsWhole}
+use Rattle.seam_tree.specs.Division.{Division}
 use Rattle.seam_defs.specs.declared.flags.Part.{Part}
 use Rattle.seam_defs.specs.declared.flags.Part.TheVariants as part
 use Rattle.seam_call.specs.Calls.{is_from, same_part}
@@ -15,27 +16,28 @@ use Rattle.seam_call.specs.Senders.{IsSender, same_sender}
 use Rattle.seam_call.specs.declared.sender.Sender.{Sender}
 use Rattle.seam_call.specs.declared.call.Call.{Call}
 use Rattle.seam_call.specs.declared.create.Create.{Create}
-use Rattle.seam_call.specs.declared.order.Order.{Order}
 use Rattle.seam_toml.specs.declared.header.Header.{Header}
-use Rattle.seam_transcript.specs.Book.{Book, entries, created, called, creates_of, calls_of, created_as, destroys, joins}
-use Rattle.seam_transcript.specs.Book.{accepted, with_entry}
-use Rattle.seam_transcript.specs.Book.{with_round_ended}
+use Rattle.seam_transcript.specs.Book.{Book, entries, created, creates_of, calls_of, created_as, live_as, destroys, joins, has_client}
+use Rattle.seam_transcript.specs.Book.{empty_book, one_cell, count_of_clients, accepted, with_entry, with_round_ended, divided, is_balance}
+use Rattle.seam_transcript.specs.declared.commands.Commands.{Commands}
 use Rattle.seam_transcript.specs.declared.verdict.Entry.{Entry}
 use Rattle.seam_transcript.specs.declared.verdict.Entry.TheVariants as entry
-use Rattle.seam_transcript.proofs.BookEntries.{same, created_here, created_with_call}
+use Rattle.seam_transcript.proofs.BookEntries.{same, differ, created_here, created_with_call, creates_with_entry}
 use Rattle.seam_transcript.proofs.InOrderLemmas.{entries_after_round}
-use Rattle.seam_transcript.proofs.OneCell.{stays_with_entry, stays_after_round}
 use Rattle.seam_transcript.proofs.OneSender.{same_sender_is}
-use Rattle.seam_accept.specs.Last.{number_of}
-use Rattle.seam_accept.specs.Entities.{last_of, Remembers, EntitiesRefine, EntityRefines, IsUnknown, IsNextCall}
-use Rattle.seam_accept.specs.Entities.{ChangesOne, KeepsLast, entity_at}
-use Rattle.seam_accept.specs.Batches.{order_of}
+use Rattle.seam_accept.specs.Last.{LastView, number_of}
+use Rattle.seam_accept.specs.Entities.{last_of, Remembers, EntitiesRefine, EntityRefines, IsUnknown, IsNextCall, ChangesOne, KeepsLast}
+use Rattle.seam_accept.specs.Entities.{Joins, Dies, LivesAlone, entity_at}
+use Rattle.seam_accept.specs.Batches.{ordered, joined, destroyed}
 use Rattle.seam_accept.specs.BookView.{BookView}
 use Rattle.seam_accept.specs.Refines.{Refines}
 use Rattle.seam_accept.specs.declared.entity.Entity.{Entity}
-use Rattle.seam_accept.proofs.NamedEntities.{entity_unknown}
+use Rattle.seam_accept.proofs.NamedEntities.{entity_unknown, entity_found, live_is_there, client_now, none_now}
+use Rattle.seam_accept.proofs.ClientCounts.{count_stays, count_with_new, one_more, one_less}
 use Rattle.seam_accept.proofs.Books.{Spares, created_same, destroyed_same, joined_same, accepted_same, accepted_with_entry, any_with}
-use Rattle.seam_accept.proofs.Books.{spares_create, spares_call, count_with_create, count_without_create, tree_with_entry}
+use Rattle.seam_accept.proofs.Books.{created_with, or_none, or_false, tree_with, spares_create, spares_call, spares_joined}
+use Rattle.seam_accept.proofs.Books.{spares_destroyed}
+use Rattle.seam_accept.proofs.Books.{count_with_create, count_without_create}
 
 -- ---- entities that an entry is not about
 
@@ -59,13 +61,44 @@ spared b x e (Some v) spares was = record {
   last = λ p s is. was.last p s is ∙ ap length (sym (accepted_same b x e spares p s));
 }
 
+-- each entity is created once
+abbrev pub AreOnce : Book → Type 0
+AreOnce b = IsDistinct eqb (map (λ c. c.entity) (creates_of (entries b)))
+
+once_stays : (b : Book) (x : Entry) → creates_of (x ∷ []) ≡ [] → AreOnce b → AreOnce (with_entry b x)
+once_stays b x none was =
+    subst (λ (cs : List Create). IsDistinct eqb (map (λ c. c.entity) cs))
+    (sym (creates_with_entry b x ∙ ap (λ (cs : List Create). creates_of (entries b) ++ cs) none ∙ append-nil (creates_of (entries b)))) was
+
+-- one more number that none of them has
+one_more_once : (xs : List Create) (c : Create) → find (λ d. d.entity == c.entity) xs ≡ None →
+    IsDistinct eqb (map (λ d. d.entity) xs) → IsDistinct eqb (map (λ d. d.entity) (xs ++ c ∷ []))
+unfolding IsDistinct
+one_more_once [] c none was = (tt, tt)
+one_more_once (x ∷ xs) c none (apart_, was) = elim (eqb_tells x.entity c.entity) [
+  | inl is ↦ (let at : (x.entity == c.entity) ≡ true = grind (arith, is.1) in
+      absurd (none-some x (sym none
+      ∙ ap (λ (y : Bool). cond y (Some x) (find (λ (d : Create). d.entity == c.entity) xs)) at)))
+  | inr ne ↦ (
+    all_more x.entity xs c apart_ (differ x.entity c.entity ne.1),
+    one_more_once xs c (sym (ap (λ (y : Bool). cond y (Some x) (find (λ (d : Create). d.entity == c.entity) xs))
+        (differ x.entity c.entity ne.1)) ∙ none) was,
+  )
+]
+  where
+    all_more : (e : ℕ) (ys : List Create) (d : Create) → AllByRecursion (λ y. eqb e y ≡ false) (map (λ z. z.entity) ys) →
+        eqb e d.entity ≡ false → AllByRecursion (λ y. eqb e y ≡ false) (map (λ z. z.entity) (ys ++ d ∷ []))
+    all_more e [] d all one = (one, tt)
+    all_more e (y ∷ ys) d (first, all) one = (first, all_more e ys d all one)
+
 -- the entities after an entry about one of them: it is as it should be, and the others stay
 entities_with : (b : Book) (x : Entry) (old new : List (ℕ × Entity)) (e : ℕ) → EntitiesRefine b old →
     length new ≡ length (creates_of (entries (with_entry b x))) → IsKept (with_entry b x) e (entity_at new e) →
     ((other : ℕ) → other ≢ e → entity_at new other ≡ entity_at old other) → ((other : ℕ) → e ≢ other → Spares x other) →
-    EntitiesRefine (with_entry b x) new
-entities_with b x old new e was count here others spares = record {
+    AreOnce (with_entry b x) → EntitiesRefine (with_entry b x) new
+entities_with b x old new e was count here others spares once = record {
   count = count;
+  once = once;
   each = λ other. elim (eqb_tells e other) [
     | inl is ↦ subst (λ (y : ℕ). IsKept (with_entry b x) y (entity_at new y)) is.1 here
     | inr not ↦ subst (IsKept (with_entry b x) other) (sym (others other (λ s. not.1 (sym s))))
@@ -83,7 +116,16 @@ entities_changed b x old new e Changes v was changes none spares found kept =
     subst (λ (o : Option Entity). IfSome o (λ u. (w : Entity) × (entity_at new e ≡ Some w) × Changes u w)) found changes.here in
     let here : EntityRefines b e v = subst (IsKept b e) found (was.each e) in
     entities_with b x old new e was (changes.count ∙ was.count ∙ sym (count_without_create b x none))
-    (subst (IsKept (with_entry b x) e) (sym at.1) (kept at.0 at.2 here)) changes.others spares
+    (subst (IsKept (with_entry b x) e) (sym at.1) (kept at.0 at.2 here)) changes.others spares (once_stays b x none was.once)
+
+-- no entity is concerned
+entities_stay : (b : Book) (x : Entry) (entities : List (ℕ × Entity)) → EntitiesRefine b entities → creates_of (x ∷ []) ≡ [] →
+    ((e : ℕ) → Spares x e) → EntitiesRefine (with_entry b x) entities
+entities_stay b x entities was none spares = record {
+  count = was.count ∙ sym (count_without_create b x none);
+  each = λ e. spared b x e (entity_at entities e) (spares e) (was.each e);
+  once = once_stays b x none was.once;
+}
 
 -- ---- a create
 
@@ -123,6 +165,8 @@ module _ (b : Book) (c : Create) (whole : IsWhole c.entity) (unknown : IsUnknown
       (put.count ∙ ap (λ (n : ℕ). n + 1) was.count ∙ sym (count_with_create b c))
       (subst (IsKept (with_entry b (entry.Created c)) c.entity) (sym put.here) (entity_made v fresh)) put.others
       (λ other ne. spares_create c other ne)
+      (subst (λ (cs : List Create). IsDistinct eqb (map (λ d. d.entity) cs)) (sym (creates_with_entry b (entry.Created c)))
+      (one_more_once (creates_of (entries b)) c unknown.uncreated was.once))
 
 -- ---- a call
 
@@ -186,26 +230,96 @@ entities_with_call b old new call v was next found kept =
     entities_changed b (entry.Called call) old new call.entity (Remembers call.part call.sender call.number) v was kept refl
     (λ other ne. spares_call call other ne) found (λ w remembers here. entity_called b call v w next remembers here)
 
+-- ---- clients and deaths
+
+entity_joined : (b : Book) (e : ℕ) (v w : Entity) → Joins v w → EntityRefines b e v → EntityRefines (with_entry b (entry.Joined e)) e w
+entity_joined b e v w is was = subst (EntityRefines (with_entry b (entry.Joined e)) e) (sym is) (record {
+  made = was.made;
+  is = created_with b (entry.Joined e) e ∙ or_none (created_as b e) ∙ was.is;
+  whole = was.whole;
+  ty = was.ty;
+  live = was.live ∙ ap not (sym (any_with (destroys e) b (entry.Joined e) ∙ or_false (list_any (destroys e) (entries b))));
+  joined = sym (any_with (joins e) b (entry.Joined e) ∙ ap (λ (y : Bool). list_any (joins e) (entries b) || y) (same e)
+      ∙ or_true (list_any (joins e) (entries b)));
+  last = λ p s sender. ap (λ (l : LastView). number_of l s) (same_last p) ∙ was.last p s sender
+      ∙ ap length (sym (accepted_with_entry b (entry.Joined e) p e s ∙ append-nil (accepted b p e s)));
+})
+  where
+    same_last : (p : Part) → last_of p (record v { joined = true }) ≡ last_of p v
+    same_last part.Cell = refl
+    same_last part.Base = refl
+
+    or_true : (x : Bool) → (x || true) ≡ true
+    or_true true = refl
+    or_true false = refl
+
+entity_destroyed : (b : Book) (e : ℕ) (v w : Entity) → Dies v w → EntityRefines b e v → EntityRefines (with_entry b (entry.Destroyed e)) e w
+entity_destroyed b e v w is was = subst (EntityRefines (with_entry b (entry.Destroyed e)) e) (sym is) (record {
+  made = was.made;
+  is = created_with b (entry.Destroyed e) e ∙ or_none (created_as b e) ∙ was.is;
+  whole = was.whole;
+  ty = was.ty;
+  live = ap not (sym (any_with (destroys e) b (entry.Destroyed e) ∙ ap (λ (y : Bool). list_any (destroys e) (entries b) || y) (same e)
+      ∙ or_true (list_any (destroys e) (entries b))));
+  joined = was.joined ∙ sym (any_with (joins e) b (entry.Destroyed e) ∙ or_false (list_any (joins e) (entries b)));
+  last = λ p s sender. ap (λ (l : LastView). number_of l s) (same_last p) ∙ was.last p s sender
+      ∙ ap length (sym (accepted_with_entry b (entry.Destroyed e) p e s ∙ append-nil (accepted b p e s)));
+})
+  where
+    same_last : (p : Part) → last_of p (record v { live = false }) ≡ last_of p v
+    same_last part.Cell = refl
+    same_last part.Base = refl
+
+    or_true : (x : Bool) → (x || true) ≡ true
+    or_true true = refl
+    or_true false = refl
+
 -- ---- books
 
--- the book in code after an entity was made
-pub create_kept : (h : Header) (b : Book) (old new : BookView) (c : Create) (v : Entity) → Refines h b old → IsWhole c.entity →
-    entity_at old.entities c.entity ≡ None → IsFresh c v → new.header ≡ old.header → new.tree ≡ old.tree →
-    IsPut old.entities new.entities c.entity v
-    → new.creates ≡ old.creates ++ c ∷ [] → new.orders ≡ old.orders → Refines h (with_entry b (entry.Created c)) new
-create_kept h b old new c v was whole absent fresh header tree put creates orders = record {
-  header = header ∙ was.header;
-  tree = tree ∙ was.tree ∙ sym (tree_with_entry b (entry.Created c) tt);
-  in_one_cell = stays_with_entry h.settings.size b was.in_one_cell (entry.Created c) tt;
-  entities =
-      entities_with_create b c whole (entity_unknown b old.entities c.entity was.entities absent) old.entities new.entities v was.entities
-      fresh put;
-  creates =
-      creates ∙ ap (λ (cs : List Create). cs ++ c ∷ []) was.creates ∙ sym (filter_map-append created b.current (entry.Created c ∷ []));
-  orders =
-      orders ∙ was.orders
-      ∙ ap (map (order_of h)) (sym (filter_map-append called b.current (entry.Created c ∷ []) ∙ append-nil (calls_of b.current)));
+-- the book in code holds one more entry, in all its parts
+pub record HoldsMore (h : Header) (x : Entry) (old new : BookView) : Type 0 where
+  pub header : new.header ≡ old.header
+  pub commands : new.commands ≡ old.commands
+  pub tree : new.tree ≡ divided old.tree x
+  pub count : new.count ≡ old.count + 1
+  pub creates : new.creates ≡ old.creates ++ cons_option (created x) []
+  pub joined_ : new.joined ≡ old.joined ++ cons_option (joined x) []
+  pub orders : new.orders ≡ old.orders ++ cons_option (ordered h x) []
+  pub destroyed_ : new.destroyed ≡ old.destroyed ++ cons_option (destroyed x) []
+  pub balance : new.balance ≡ (old.balance || is_balance x)
+
+some_more : {X : Type 0} (f : Entry → Option X) (old new : List X) (b : Book) (x : Entry) → old ≡ filter_map f b.current →
+    new ≡ old ++ cons_option (f x) [] → new ≡ filter_map f (b.current ++ x ∷ [])
+some_more {X} f old new b x was is =
+    is ∙ ap (λ (xs : List X). xs ++ cons_option (f x) []) was ∙ sym (filter_map-append f b.current (x ∷ []))
+
+pub entry_kept : (t : Commands) (h : Header) (b : Book) (x : Entry) (old new : BookView) → Refines t h b old → HoldsMore h x old new →
+    EntitiesRefine (with_entry b x) new.entities → new.clients ≡ count_of_clients (with_entry b x) → Refines t h (with_entry b x) new
+entry_kept t h b x old new was more entities clients = record {
+  header = more.header ∙ was.header;
+  commands = more.commands ∙ was.commands;
+  tree = more.tree ∙ ap (λ (u : Division). divided u x) was.tree ∙ sym (tree_with b x);
+  entities = entities;
+  clients = clients;
+  count = more.count ∙ ap (λ (n : ℕ). n + 1) was.count ∙ sym (length-append b.current (x ∷ []));
+  creates = some_more created old.creates new.creates b x was.creates more.creates;
+  joined_ = some_more joined old.joined new.joined b x was.joined_ more.joined_;
+  orders = some_more (ordered h) old.orders new.orders b x was.orders more.orders;
+  destroyed_ = some_more destroyed old.destroyed new.destroyed b x was.destroyed_ more.destroyed_;
+  balance = more.balance ∙ ap (λ (y : Bool). y || is_balance x) was.balance
+      ∙ sym (list_any-append is_balance b.current (x ∷ [])
+      ∙ ap (λ (y : Bool). list_any is_balance b.current || y) (or_false (is_balance x)));
 }
+
+-- after an entity was made
+pub create_kept : (t : Commands) (h : Header) (b : Book) (old new : BookView) (c : Create) (v : Entity) → Refines t h b old →
+    IsWhole c.entity → entity_at old.entities c.entity ≡ None → IsFresh c v → IsPut old.entities new.entities c.entity v →
+    new.clients ≡ old.clients → HoldsMore h (entry.Created c) old new → Refines t h (with_entry b (entry.Created c)) new
+create_kept t h b old new c v was whole absent fresh put clients more =
+    let unknown = entity_unknown b old.entities c.entity was.entities absent in
+    entry_kept t h b (entry.Created c) old new was more
+    (entities_with_create b c whole unknown old.entities new.entities v was.entities fresh put)
+    (clients ∙ was.clients ∙ sym (count_with_new b c unknown))
 
 -- the entity that the next call is for is there
 next_is_there : (b : Book) (entities : List (ℕ × Entity)) (call : Call) → EntitiesRefine b entities → IsNextCall b call →
@@ -217,25 +331,50 @@ next_is_there b entities call was is = cases (entity_at entities call.entity) re
     cases None found none = absurd (none-some is.made (sym none.uncreated ∙ is.is))
     cases (Some v) found here = (v, found)
 
--- and after a call
-pub call_kept : (h : Header) (b : Book) (old new : BookView) (call : Call) → Refines h b old → IsNextCall b call →
-    new.header ≡ old.header → new.tree ≡ old.tree → KeepsLast old.entities new.entities call
-    → new.creates ≡ old.creates → new.orders ≡ old.orders ++ order_of h call ∷ [] → Refines h (with_entry b (entry.Called call)) new
-call_kept h b old new call was is header tree kept creates orders =
+-- after a call
+pub call_kept : (t : Commands) (h : Header) (b : Book) (old new : BookView) (call : Call) → Refines t h b old → IsNextCall b call →
+    KeepsLast old.entities new.entities call → new.clients ≡ old.clients → HoldsMore h (entry.Called call) old new →
+    Refines t h (with_entry b (entry.Called call)) new
+call_kept t h b old new call was is kept clients more =
     let there = next_is_there b old.entities call was.entities is in
-    record {
-      header = header ∙ was.header;
-      tree = tree ∙ was.tree ∙ sym (tree_with_entry b (entry.Called call) tt);
-      in_one_cell = stays_with_entry h.settings.size b was.in_one_cell (entry.Called call) tt;
-      entities = entities_with_call b old.entities new.entities call there.0 was.entities is there.1 kept;
-      creates =
-          creates ∙ was.creates
-          ∙ sym (filter_map-append created b.current (entry.Called call ∷ []) ∙ append-nil (creates_of b.current));
-      orders =
-          orders ∙ ap (λ (xs : List (ℕ × Order)). xs ++ order_of h call ∷ []) was.orders
-          ∙ sym (ap (map (order_of h)) (filter_map-append called b.current (entry.Called call ∷ []))
-          ∙ map-append (order_of h) (calls_of b.current) (call ∷ []));
-    }
+    entry_kept t h b (entry.Called call) old new was more
+    (entities_with_call b old.entities new.entities call there.0 was.entities is there.1 kept)
+    (clients ∙ was.clients ∙ sym (count_stays b (entry.Called call) refl (λ e. refl) (λ e. refl)))
+
+-- after an entry that is about no entity
+pub other_kept : (t : Commands) (h : Header) (b : Book) (x : Entry) (old new : BookView) → Refines t h b old → creates_of (x ∷ []) ≡ [] →
+    ((e : ℕ) → Spares x e) → new.entities ≡ old.entities → new.clients ≡ old.clients → HoldsMore h x old new →
+    Refines t h (with_entry b x) new
+other_kept t h b x old new was none spares entities clients more =
+    entry_kept t h b x old new was more
+    (subst (EntitiesRefine (with_entry b x)) (sym entities) (entities_stay b x old.entities was.entities none spares))
+    (clients ∙ was.clients ∙ sym (count_stays b x none (λ e. (spares e).destroys) (λ e. (spares e).joins)))
+
+-- after an entity was given a client
+pub client_kept : (t : Commands) (h : Header) (b : Book) (old new : BookView) (e : ℕ) → Refines t h b old → LivesAlone b e →
+    ChangesOne old.entities new.entities e Joins → new.clients ≡ old.clients + 1 → HoldsMore h (entry.Joined e) old new →
+    Refines t h (with_entry b (entry.Joined e)) new
+client_kept t h b old new e was alone changes clients more =
+    let there = live_is_there b old.entities e was.entities alone.lives in
+    let here = entity_found b old.entities e there.0 was.entities there.1 in
+    let entities = entities_changed b (entry.Joined e) old.entities new.entities e Joins there.0 was.entities changes refl
+    (λ other ne. spares_joined e other ne) there.1 (λ w joins_ before. entity_joined b e there.0 w joins_ before) in
+    entry_kept t h b (entry.Joined e) old new was more entities
+    (clients ∙ ap (λ (n : ℕ). n + 1) was.clients
+    ∙ sym (one_more b e here.made was.entities.once here.is alone.alone (client_now b e there.0 here alone)))
+
+-- after one was destroyed
+pub destroy_kept : (t : Commands) (h : Header) (b : Book) (old new : BookView) (e : ℕ) → Refines t h b old → IsSome (live_as b e) →
+    ChangesOne old.entities new.entities e Dies → new.clients ≡ old.clients - cond (has_client b e) 1 0 →
+    HoldsMore h (entry.Destroyed e) old new → Refines t h (with_entry b (entry.Destroyed e)) new
+destroy_kept t h b old new e was lives changes clients more =
+    let there = live_is_there b old.entities e was.entities lives in
+    let here = entity_found b old.entities e there.0 was.entities there.1 in
+    let entities = entities_changed b (entry.Destroyed e) old.entities new.entities e Dies there.0 was.entities changes refl
+    (λ other ne. spares_destroyed e other ne) there.1 (λ w dies before. entity_destroyed b e there.0 w dies before) in
+    let less = one_less b e here.made was.entities.once here.is (none_now b e) in
+    let counted = was.clients in
+    entry_kept t h b (entry.Destroyed e) old new was more entities (omega (arith, clients, less, counted))
 
 -- ---- the next round
 
@@ -271,17 +410,64 @@ module _ (b d : Book) (alike : entries b ≡ entries d) where
   same_entities entities was = record {
     count = was.count ∙ ap (λ (xs : List Entry). length (creates_of xs)) alike;
     each = λ e. same_entity e (entity_at entities e) (was.each e);
+    once = subst (λ (xs : List Entry). IsDistinct eqb (map (λ c. c.entity) (creates_of xs))) alike was.once;
   }
 
+  -- and so does the number of those that have a client
+  same_clients : count_of_clients b ≡ count_of_clients d
+  same_clients = λ i. count_by (λ (c : Create).
+      is_some (cond (list_any (destroys c.entity) (alike i)) None (same_created c.entity i)) && list_any (joins c.entity) (alike i))
+      (creates_of (alike i))
+
+-- the open round has no line
+pub record IsEmptyRound (new : BookView) : Type 0 where
+  pub count : new.count ≡ 0
+  pub creates : new.creates ≡ []
+  pub joined_ : new.joined ≡ []
+  pub orders : new.orders ≡ []
+  pub destroyed_ : new.destroyed ≡ []
+  pub balance : new.balance ≡ false
+
 -- the book in code after the round ended
-pub round_kept : (h : Header) (b : Book) (old new : BookView) → Refines h b old → new.header ≡ old.header → new.tree ≡ old.tree →
-    new.entities ≡ old.entities → new.creates ≡ [] → new.orders ≡ [] → Refines h (with_round_ended b) new
-round_kept h b old new was header tree entities creates orders = record {
+pub round_kept : (t : Commands) (h : Header) (b : Book) (old new : BookView) → Refines t h b old → new.header ≡ old.header →
+    new.commands ≡ old.commands → new.tree ≡ old.tree → new.entities ≡ old.entities → new.clients ≡ old.clients → IsEmptyRound new →
+    Refines t h (with_round_ended b) new
+round_kept t h b old new was header commands tree entities clients none = record {
   header = header ∙ was.header;
+  commands = commands ∙ was.commands;
   tree = tree ∙ was.tree;
-  in_one_cell = stays_after_round h.settings.size b was.in_one_cell;
   entities = same_entities b (with_round_ended b) (sym (entries_after_round b)) new.entities
       (subst (EntitiesRefine b) (sym entities) was.entities);
-  creates = creates;
-  orders = orders;
+  clients = clients ∙ was.clients ∙ same_clients b (with_round_ended b) (sym (entries_after_round b));
+  count = none.count;
+  creates = none.creates;
+  joined_ = none.joined_;
+  orders = none.orders;
+  destroyed_ = none.destroyed_;
+  balance = none.balance;
+}
+
+-- where a book begins
+nothing_kept : (size : ℕ) → EntitiesRefine (empty_book size) []
+unfolding IsDistinct
+nothing_kept size = record {
+  count = refl;
+  each = λ e. record { uncreated = refl; undestroyed = refl; unjoined = refl; uncalled = λ p s. refl };
+  once = tt;
+}
+
+pub begins : (t : Commands) (h : Header) (new : BookView) → new.header ≡ h → new.commands ≡ t → new.tree ≡ one_cell h.settings.size →
+    new.entities ≡ [] → new.clients ≡ 0 → IsEmptyRound new → Refines t h (empty_book h.settings.size) new
+begins t h new header commands tree entities clients none = record {
+  header = header;
+  commands = commands;
+  tree = tree;
+  entities = subst (EntitiesRefine (empty_book h.settings.size)) (sym entities) (nothing_kept h.settings.size);
+  clients = clients;
+  count = none.count;
+  creates = none.creates;
+  joined_ = none.joined_;
+  orders = none.orders;
+  destroyed_ = none.destroyed_;
+  balance = none.balance;
 }

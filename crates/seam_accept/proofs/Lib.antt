@@ -6,5 +6,8 @@ mod ArgLemmas
 mod NamedEntities
 mod CallLemmas
 mod Books
+mod TreeLemmas
+mod ClientLemmas
+mod ClientCounts
 mod Keeping
 mod Lines

@@ -1,6 +1,6 @@
 -- What is kept of entities by their names.
 use Rattle.std.proofs.Common.{◌≡◌, ◌≢◌, ℕ, Bool, true, false, cond, List, refl, sym, ◌∙◌, ap, subst, Option, Some, None, inl, inr, arith}
-use Rattle.std.specs.Prelude.{MatchOption, ◌&&◌, not, is_some, IsSome}
+use Rattle.std.specs.Prelude.{MatchOption, ◌&&◌, ◌||◌, not, is_some, IsSome}
 use Rattle.std.specs.Ordering.{nat_cmp}
 use Rattle.std.specs.Cmp.{nat_cmp_total}
 use Rattle.std.specs.BTreeMap.{BTreeMap, get, is_at, IsOrdered, WritesThrough}
@@ -11,8 +11,11 @@ use Rattle.std.specs.List.{list_any}
 use Rattle.std.specs.Borrow.{Bor}
 use Rattle.std.proofs.lemmas.Bool.{false≢true}
 use Rattle.seam_call.specs.declared.create.Create.{Create}
-use Rattle.seam_transcript.specs.Book.{Book, entries, created_as, live_as, destroys, joins, has_client}
-use Rattle.seam_accept.specs.Entities.{EntitiesRefine, EntityRefines, IsUnknown, IsLive, entity_at}
+use Rattle.seam_transcript.specs.Book.{Book, entries, created_as, live_as, destroys, joins, has_client, with_entry}
+use Rattle.seam_transcript.specs.declared.verdict.Entry.TheVariants as entry
+use Rattle.seam_transcript.proofs.BookEntries.{same}
+use Rattle.seam_accept.proofs.Books.{any_with, created_with, or_false, or_none}
+use Rattle.seam_accept.specs.Entities.{EntitiesRefine, EntityRefines, IsUnknown, IsLive, LivesAlone, entity_at}
 use Rattle.seam_accept.specs.declared.entity.Entity.{Entity}
 
 -- another number is not at the query of a number
@@ -92,3 +95,47 @@ given_back m n e v w writes found same ordered =
       | inr differ ↦ updates.2 q (apart e q (λ s. differ.1 (sym s)))
     ])
     exact_unsigned
+
+-- a live entity is there
+pub live_is_there : (b : Book) (entities : List (ℕ × Entity)) (e : ℕ) → EntitiesRefine b entities → IsSome (live_as b e) →
+    (v : Entity) × (entity_at entities e ≡ Some v)
+live_is_there b entities e was lives = cases (entity_at entities e) refl (was.each e)
+  where
+    cases : (o : Option Entity) → entity_at entities e ≡ o → MatchOption o (IsUnknown b e) (EntityRefines b e) →
+        (v : Entity) × (entity_at entities e ≡ Some v)
+    cases None found unknown = absurd (false≢true (sym (ap is_some (none_lives b e unknown)) ∙ lives))
+    cases (Some v) found here = (v, found)
+
+-- an entity that was given a client has one now
+pub client_now : (b : Book) (e : ℕ) (v : Entity) → EntityRefines b e v → LivesAlone b e →
+    has_client (with_entry b (entry.Joined e)) e ≡ true
+client_now b e v was alone =
+    (λ i. is_some (cond (dead i) None (made i)) && joined i) ∙ ap (λ (x : Bool). x && true) alone.lives
+  where
+    dead : list_any (destroys e) (entries (with_entry b (entry.Joined e))) ≡ list_any (destroys e) (entries b)
+    dead = any_with (destroys e) b (entry.Joined e) ∙ or_false (list_any (destroys e) (entries b))
+
+    made : created_as (with_entry b (entry.Joined e)) e ≡ created_as b e
+    made = created_with b (entry.Joined e) e ∙ or_none (created_as b e)
+
+    or_true : (x : Bool) → (x || true) ≡ true
+    or_true true = refl
+    or_true false = refl
+
+    joined : list_any (joins e) (entries (with_entry b (entry.Joined e))) ≡ true
+    joined = any_with (joins e) b (entry.Joined e) ∙ ap (λ (y : Bool). list_any (joins e) (entries b) || y) (same e)
+        ∙ or_true (list_any (joins e) (entries b))
+
+-- and one that was destroyed has none
+pub none_now : (b : Book) (e : ℕ) → has_client (with_entry b (entry.Destroyed e)) e ≡ false
+none_now b e =
+    ap (λ (x : Bool). is_some (cond x None (created_as (with_entry b (entry.Destroyed e)) e))
+    && list_any (joins e) (entries (with_entry b (entry.Destroyed e)))) dead
+  where
+    or_true : (x : Bool) → (x || true) ≡ true
+    or_true true = refl
+    or_true false = refl
+
+    dead : list_any (destroys e) (entries (with_entry b (entry.Destroyed e))) ≡ true
+    dead = any_with (destroys e) b (entry.Destroyed e) ∙ ap (λ (y : Bool). list_any (destroys e) (entries b) || y) (same e)
+        ∙ or_true (list_any (destroys e) (entries b))

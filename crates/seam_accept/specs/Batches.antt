@@ -1,5 +1,6 @@
 -- What a round of the book brings to the core.
-use Rattle.std.specs.Prelude.{ℕ, ◌+◌, ◌-◌, ◌%◌, [], map, false}
+use Rattle.std.specs.Prelude.{ℕ, ◌+◌, ◌-◌, ◌%◌, Option, Some, None}
+use Rattle.std.specs.List.{filter_map}
 use Rattle.seam_defs.specs.declared.flags.Part.{Part}
 use Rattle.seam_defs.specs.declared.flags.Part.TheVariants as part
 use Rattle.seam_tree.specs.declared.area_table.TheConstants.{MOST_CELLS}
@@ -10,7 +11,9 @@ use Rattle.seam_call.specs.declared.order.Order.{Order}
 use Rattle.seam_call.specs.declared.order.Order.TheVariants as order
 use Rattle.seam_call.specs.declared.order.Batch.{Batch}
 use Rattle.seam_toml.specs.declared.header.Header.{Header}
-use Rattle.seam_transcript.specs.Book.{Book, creates_of, calls_of, tree_of}
+use Rattle.seam_transcript.specs.Book.{Book, creates_of, tree_of, has_balance}
+use Rattle.seam_transcript.specs.declared.verdict.Entry.{Entry}
+use Rattle.seam_transcript.specs.declared.verdict.Entry.TheVariants as entry
 
 -- the node of a sender: the nodes are the cells, and after them the base nodes; a client is on the base node of its entity
 abbrev pub node_of : Header → Sender → ℕ
@@ -26,13 +29,27 @@ passes_to part.Base c = order.Base c
 abbrev pub order_of : Header → Call → ℕ × Order
 order_of h c = (node_of h c.sender, passes_to c.part c)
 
--- the open round of a book as a batch: its tree, what it creates, and an order for each call, as they were accepted
+-- what an entry brings to the core: an order, an entity that gets a client, an entity that dies
+abbrev pub ordered : Header → Entry → Option (ℕ × Order)
+ordered h (entry.Called c) = Some (order_of h c)
+ordered h entry.Ticked = Some (MOST_CELLS, order.Tick)
+ordered h x = None
+
+abbrev pub joined : Entry → Option ℕ
+joined (entry.Joined e) = Some e
+joined x = None
+
+abbrev pub destroyed : Entry → Option ℕ
+destroyed (entry.Destroyed e) = Some e
+destroyed x = None
+
+-- the open round of a book as a batch, each part in the order in which it was accepted
 abbrev pub batch_of : Header → Book → Batch
 batch_of h b = record {
   tree = tree_of b;
   creates = creates_of b.current;
-  clients = [];
-  orders = map (order_of h) (calls_of b.current);
-  destroys = [];
-  balance = false;
+  clients = filter_map joined b.current;
+  orders = filter_map (ordered h) b.current;
+  destroys = filter_map destroyed b.current;
+  balance = has_balance b;
 }

@@ -1,10 +1,11 @@
 -- What is kept of entities, beside the book of a transcript.
-use Rattle.std.specs.Prelude.{◌≡◌, ◌≢◌, ℕ, ◌+◌, false, not, cond, ◌&&◌, List, [], length, Option, None, Some, MatchOption, IfSome}
+use Rattle.std.specs.Prelude.{◌≡◌, ◌≢◌, ℕ, ◌+◌, true, false, not, cond, ◌&&◌, eqb, map, List, [], length, Option, None, Some, MatchOption}
+use Rattle.std.specs.Prelude.{IfSome, IsSome}
 use Rattle.std.specs.Borrow.{Bor}
 use Rattle.std.specs.Map.{lookup}
 use Rattle.std.specs.Ordering.{nat_cmp}
 use Rattle.std.specs.BTreeMap.{is_at}
-use Rattle.std.specs.List.{list_any}
+use Rattle.std.specs.List.{list_any, IsDistinct}
 use Rattle.seam_value.specs.NumberWords.{IsWhole}
 use Rattle.seam_defs.specs.declared.flags.Part.{Part}
 use Rattle.seam_defs.specs.declared.flags.Part.TheVariants as part
@@ -13,7 +14,7 @@ use Rattle.seam_call.specs.Calls.{same_part}
 use Rattle.seam_call.specs.declared.sender.Sender.{Sender}
 use Rattle.seam_call.specs.declared.call.Call.{Call}
 use Rattle.seam_call.specs.declared.create.Create.{Create}
-use Rattle.seam_transcript.specs.Book.{Book, entries, creates_of, created_as, live_as, destroys, joins, accepted}
+use Rattle.seam_transcript.specs.Book.{Book, entries, creates_of, created_as, live_as, destroys, joins, has_client, accepted}
 use Rattle.seam_accept.specs.Last.{LastView, number_of}
 use Rattle.seam_accept.specs.declared.entity.Entity.{Entity}
 
@@ -55,11 +56,17 @@ entity_at entities e = lookup (is_at (nat_cmp e)) entities
 pub record EntitiesRefine (b : Book) (entities : List (ℕ × Entity)) : Type 0 where
   pub count : length entities ≡ length (creates_of (entries b))
   pub each : (e : ℕ) → MatchOption (entity_at entities e) (IsUnknown b e) (EntityRefines b e)
+  pub once : IsDistinct eqb (map (λ c. c.entity) (creates_of (entries b)))
 
 -- an entity lives, and is kept so
 pub record IsLive (b : Book) (e : ℕ) (v : Bor Entity) : Type 0 where
   pub refines : EntityRefines b e v.now
   pub lives : live_as b e ≡ Some refines.made
+
+-- an entity lives without a client
+pub record LivesAlone (b : Book) (e : ℕ) : Type 0 where
+  pub lives : IsSome (live_as b e)
+  pub alone : has_client b e ≡ false
 
 -- a call that comes next: its entity is one of the book, and it has its sender's next number
 pub record IsNextCall (b : Book) (c : Call) : Type 0 where
@@ -72,6 +79,13 @@ pub record ChangesOne (old new : List (ℕ × Entity)) (e : ℕ) (Changes : Enti
   pub count : length new ≡ length old
   pub here : IfSome (entity_at old e) (λ v. (w : Entity) × (entity_at new e ≡ Some w) × Changes v w)
   pub others : (other : ℕ) → other ≢ e → entity_at new other ≡ entity_at old other
+
+-- an entity is given a client, or is destroyed
+abbrev pub Joins : Entity → Entity → Type 0
+Joins v w = w ≡ record v { joined = true }
+
+abbrev pub Dies : Entity → Entity → Type 0
+Dies v w = w ≡ record v { live = false }
 
 -- an entity remembers a call as its sender's last one
 abbrev pub KeepsLast : List (ℕ × Entity) → List (ℕ × Entity) → Call → Type 0

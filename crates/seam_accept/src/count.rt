@@ -9,3 +9,10 @@ pub fn next_count(count: u64) -> Result<u64, AllocError>
 {
     count.checked_add(1).ok_or(AllocError)
 }
+
+/// The same for a count of things in memory.
+pub fn next_len(count: usize) -> Result<usize, AllocError>
+    ensures { IfOk result (λ n. n ≡ count + 1) }
+{
+    count.checked_add(1).ok_or(AllocError)
+}

@@ -4,7 +4,7 @@ ghost use Rattle.seam_call.specs.Senders.{IsSender};
 ghost use Rattle.seam_call.specs.declared.sender.Sender.{Sender as Senders};
 ghost use Rattle.seam_defs.specs.declared.flags.Part.{Part as Parts};
 ghost use Rattle.seam_accept.specs.Last.{number_of};
-ghost use Rattle.seam_accept.specs.Entities.{last_of, Remembers, KeepsLast};
+ghost use Rattle.seam_accept.specs.Entities.{last_of, Remembers, ChangesOne, Joins, Dies, KeepsLast};
 
 use crate::count::next_count;
 use crate::last::LastCalls;
@@ -60,6 +60,26 @@ impl Entity {
             Part::Base => self.base.keep(sender, number),
         }
     }
+}
+
+/// Keeps that an entity has a client.
+pub fn keep_joined(entities: &mut BTreeMap<u32, Entity>, entity: u32)
+    ensures { ChangesOne entities.old.entries entities.new.entries entity Joins }
+{
+    let Some(found) = entities.get_mut(&entity) else {
+        return;
+    };
+    found.joined = true;
+}
+
+/// Keeps that an entity is destroyed.
+pub fn keep_destroyed(entities: &mut BTreeMap<u32, Entity>, entity: u32)
+    ensures { ChangesOne entities.old.entries entities.new.entries entity Dies }
+{
+    let Some(found) = entities.get_mut(&entity) else {
+        return;
+    };
+    found.live = false;
 }
 
 /// Keeps the number of a call as that of its sender's last one.

@@ -1,19 +1,22 @@
 // The judging of commands: the first cause that holds against one, or what it adds.
-ghost use Rattle.std.specs.Prelude.{◌≡◌, ◌<◌, ℕ, IfOk, IfErr, None};
-ghost use Rattle.seam_transcript.specs.Book.{Book};
+ghost use Rattle.std.specs.Prelude.{◌≡◌, ◌<◌, ℕ, IfOk, IfErr, IsSome, None};
+ghost use Rattle.seam_toml.specs.declared.header.Header.{Header as Headers};
+ghost use Rattle.seam_transcript.specs.Language.{Client, Destroy};
+ghost use Rattle.seam_transcript.specs.Book.{Book, live_as, tree_of, count_of_clients};
 ghost use Rattle.seam_transcript.specs.Judging.{HoldsAgainst, IsFirst};
-ghost use Rattle.seam_accept.specs.Commands.{create_of, call_of};
-ghost use Rattle.seam_accept.specs.Entities.{EntitiesRefine, entity_at};
+ghost use Rattle.seam_accept.specs.Commands.{create_of, call_of, cut_of, shift_of};
+ghost use Rattle.seam_accept.specs.Entities.{EntitiesRefine, LivesAlone, entity_at};
 ghost use Rattle.seam_accept.specs.Judging.{Accepts, Refuses};
 
 use crate::answers::Refusal;
-use crate::command::{CallWords, CreateWords};
+use crate::command::{CallWords, CreateWords, CutWords, ShiftWords};
 use crate::deeds::{Asked, deed_named};
 use crate::entity::Entity;
-use crate::naming::{live_entity, sender_named, type_named};
+use crate::naming::{axis_named, has_client_now, live_entity, sender_named, type_named};
 use seam_call::{Call, Create};
 use seam_geo::Pos;
-use seam_transcript::{Cause, Entry, Header, MOST_ENTITIES};
+use seam_transcript::{Cause, Entry, Header, MOST_CLIENTS, MOST_ENTITIES};
+use seam_tree::Tree;
 use seam_value::{positive_number, whole_number};
 use std::alloc::Global;
 use std::collections::BTreeMap;
@@ -54,6 +57,92 @@ pub fn judge_create(
     }
     let pos = Pos { x, z };
     Ok(Create { entity, ty, pos })
+}
+
+/// The entity that a `client` gives a client, where so many live ones have one.
+pub fn judge_client(
+    entities: &BTreeMap<u32, Entity>,
+    clients: usize,
+    word: &[u8],
+) -> Result<u32, Cause>
+    ensures room { IfOk result (λ _. clients < MOST_CLIENTS) }
+    ensures accepted { IfOk result (λ e. (h : Headers) (b : Book) → EntitiesRefine b entities.now.entries → clients ≡ count_of_clients b
+        → Accepts h b (Client word.now) (Entry.Joined e) × LivesAlone b e) }
+    ensures refused { IfErr result (λ k. (h : Headers) (b : Book) → EntitiesRefine b entities.now.entries → clients ≡ count_of_clients b
+        → IsFirst (HoldsAgainst h b (Client word.now)) k) }
+{
+    let Some(entity) = positive_number(word) else {
+        return Err(Cause::BadNumber);
+    };
+    if has_client_now(entities, entity) {
+        return Err(Cause::Exists);
+    }
+    let Some(_) = live_entity(entities, entity) else {
+        return Err(Cause::Dead);
+    };
+    if MOST_CLIENTS <= clients {
+        return Err(Cause::Full);
+    }
+    Ok(entity)
+}
+
+/// The entity that a `destroy` destroys.
+pub fn judge_destroy(entities: &BTreeMap<u32, Entity>, word: &[u8]) -> Result<u32, Cause>
+    ensures accepted { IfOk result (λ e. (h : Headers) (b : Book) → EntitiesRefine b entities.now.entries
+        → Accepts h b (Destroy word.now) (Entry.Destroyed e) × IsSome (live_as b e)) }
+    ensures refused { IfErr result (λ k. (h : Headers) (b : Book) → EntitiesRefine b entities.now.entries
+        → IsFirst (HoldsAgainst h b (Destroy word.now)) k) }
+{
+    let Some(entity) = positive_number(word) else {
+        return Err(Cause::BadNumber);
+    };
+    match live_entity(entities, entity) {
+        Some(_) => Ok(entity),
+        None => Err(Cause::Dead),
+    }
+}
+
+/// The tree that a `cut` makes of this one.
+pub fn judge_cut(tree: &Tree, words: &CutWords) -> Result<Tree, Cause>
+    ensures accepted { IfOk result (λ t. (h : Headers) (b : Book) → tree.now ≡ tree_of b
+        → Accepts h b (cut_of words.now) (Entry.Divided t)) }
+    ensures refused { IfErr result (λ k. (h : Headers) (b : Book) → tree.now ≡ tree_of b
+        → IsFirst (HoldsAgainst h b (cut_of words.now)) k) }
+{
+    let Some(cell) = whole_number(words.cell) else {
+        return Err(Cause::BadNumber);
+    };
+    let Some(axis) = axis_named(words.axis_name) else {
+        return Err(Cause::BadNumber);
+    };
+    let Some(at) = whole_number(words.at) else {
+        return Err(Cause::BadNumber);
+    };
+    let mut after = *tree;
+    match after.cut(cell, axis, at) {
+        Ok(_) => Ok(after),
+        Err(error) => Err(Cause::CutRefused(error)),
+    }
+}
+
+/// The tree that a `shift` makes of this one.
+pub fn judge_shift(tree: &Tree, words: &ShiftWords) -> Result<Tree, Cause>
+    ensures accepted { IfOk result (λ t. (h : Headers) (b : Book) → tree.now ≡ tree_of b
+        → Accepts h b (shift_of words.now) (Entry.Divided t)) }
+    ensures refused { IfErr result (λ k. (h : Headers) (b : Book) → tree.now ≡ tree_of b
+        → IsFirst (HoldsAgainst h b (shift_of words.now)) k) }
+{
+    let Some(boundary) = whole_number(words.boundary) else {
+        return Err(Cause::BadNumber);
+    };
+    let Some(at) = whole_number(words.at) else {
+        return Err(Cause::BadNumber);
+    };
+    let mut after = *tree;
+    match after.shift(boundary, at) {
+        Ok(()) => Ok(after),
+        Err(error) => Err(Cause::ShiftRefused(error)),
+    }
 }
 
 /// The call that a `call` or a `move` makes.

@@ -4,7 +4,8 @@ ghost use Rattle.seam_value.specs.NumberWords.{SpellsNumber};
 ghost use Rattle.seam_geo.specs.declared.pos.Pos.{Pos as Positions};
 ghost use Rattle.seam_defs.specs.Types.{IsType};
 ghost use Rattle.seam_call.specs.BaseNodes.{IsBaseNodeOf};
-ghost use Rattle.seam_transcript.specs.Language.{sender_text};
+ghost use Rattle.seam_transcript.specs.Language.{sender_text, axis_text};
+ghost use Rattle.seam_tree.specs.declared.boundary.Axis.{Axis as Axes};
 ghost use Rattle.seam_call.specs.declared.sender.Sender.{Sender as Senders};
 ghost use Rattle.seam_transcript.specs.Book.{Book, has_client, live_as};
 ghost use Rattle.seam_accept.specs.Entities.{EntitiesRefine, IsLive};
@@ -16,6 +17,7 @@ use seam_call::{BaseNode, Sender};
 use seam_defs::{Defs, MOST_BASE_NODES, TypeDef};
 use seam_geo::Pos;
 use seam_transcript::Header;
+use seam_tree::Axis;
 use seam_value::whole_number;
 use std::collections::BTreeMap;
 
@@ -129,6 +131,17 @@ fn place_named(header: &Header, word: &[u8]) -> Option<u32>
             }
         }
         None => None,
+    }
+}
+
+/// The axis of this name.
+pub fn axis_named(name: &[u8]) -> Option<Axis>
+    ensures { MatchOption result ((a : Axes) → ¬ (axis_text a ≡ name.now)) (λ a. axis_text a ≡ name.now) }
+{
+    match name {
+        b"x" => Some(Axis::X),
+        b"z" => Some(Axis::Z),
+        _ => None,
     }
 }
 

@@ -6,7 +6,7 @@ use seam_call::{Batch, Create, Order};
 use seam_defs::{Defs, Part, Settings};
 use seam_geo::Pos;
 use seam_io::LONGEST_LINE;
-use seam_transcript::{Cause, Header};
+use seam_transcript::{Cause, Commands, Header};
 use seam_words::WordsError;
 use std::alloc::{AllocError, Global};
 use std::ops::Range;
@@ -69,7 +69,7 @@ fn standard_header(alloc: Global) -> Result<Header, AllocError>
 #[test]
 fn lines_are_judged(rt: HostRuntime) -> Result<(), Fail> {
     let header = standard_header(rt.alloc())?;
-    let mut book = Book::new(rt.alloc(), &header)?;
+    let mut book = Book::new(rt.alloc(), &header, Commands::OneCell)?;
     for (line, answer) in ROWS {
         assert!(rt; line.len() <= LONGEST_LINE);
         assert_eq!(rt; book.accept(line.as_bytes()), *answer);
@@ -106,7 +106,7 @@ fn numbers_of(
 #[test]
 fn a_round_is_a_batch(rt: HostRuntime) -> Result<(), Fail> {
     let header = standard_header(rt.alloc())?;
-    let mut book = Book::new(rt.alloc(), &header)?;
+    let mut book = Book::new(rt.alloc(), &header, Commands::OneCell)?;
     keep(
         &rt,
         &mut book,
@@ -167,7 +167,7 @@ fn create_all(
 #[test]
 fn a_full_book_creates_no_more(rt: HostRuntime) -> Result<(), Fail> {
     let header = standard_header(rt.alloc())?;
-    let mut book = Book::new(rt.alloc(), &header)?;
+    let mut book = Book::new(rt.alloc(), &header, Commands::OneCell)?;
     create_all(&rt, rt.alloc(), &mut book, 1..40_001)?;
     let first = book.take_batch();
     assert_eq!(rt; first.creates.as_slice().len(), 40_000);

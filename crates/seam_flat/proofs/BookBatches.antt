@@ -1,6 +1,7 @@
 -- The batch of a book's round, for the flat table.
 use Rattle.std.proofs.Common.{◌≡◌, ℕ, Option, Some, None, Bool, true, List, [], ◌∷◌, map, refl, sym, ap, ◌∙◌}
 use Rattle.std.specs.Prelude.{cond, MatchOption}
+use Rattle.std.specs.List.{filter_map}
 use Rattle.std.proofs.lemmas.Option.{none-some}
 use Rattle.seam_defs.specs.declared.flags.Part.{Part}
 use Rattle.seam_defs.specs.declared.flags.Part.TheVariants as part
@@ -9,11 +10,14 @@ use Rattle.seam_call.specs.declared.sender.Sender.{Sender}
 use Rattle.seam_call.specs.declared.call.Call.{Call}
 use Rattle.seam_toml.specs.declared.header.Header.{Header}
 use Rattle.seam_transcript.specs.Book.{Book, entries, calls_of, created_as, accepted}
+use Rattle.seam_transcript.specs.declared.commands.Commands.{Commands}
+use Rattle.seam_transcript.specs.declared.verdict.Entry.{Entry}
+use Rattle.seam_transcript.specs.declared.verdict.Entry.TheVariants as entry
 use Rattle.seam_transcript.specs.Orders.{of_sender}
 use Rattle.seam_transcript.specs.InOrder.{in_order}
 use Rattle.seam_transcript.proofs.InOrderLemmas.{in_order_is_full}
 use Rattle.seam_transcript.proofs.OneSender.{same_sender_of_itself}
-use Rattle.seam_accept.specs.Batches.{batch_of, order_of, passes_to, node_of}
+use Rattle.seam_accept.specs.Batches.{batch_of, ordered, passes_to, node_of}
 use Rattle.seam_accept.specs.Entities.{EntitiesRefine, EntityRefines, IsUnknown, entity_at}
 use Rattle.seam_accept.specs.declared.entity.Entity.{Entity}
 use Rattle.seam_accept.specs.BookView.{BookView}
@@ -21,18 +25,24 @@ use Rattle.seam_accept.specs.Refines.{Refines}
 use Rattle.seam_flat.specs.Tables.{CallsTheMade}
 use Rattle.seam_flat.specs.Batches.{calls_of_orders, Brings}
 
-calls_passed : (h : Header) (calls : List Call) → calls_of_orders (map (order_of h) calls) ≡ calls
+calls_passed : (h : Header) (xs : List Entry) → calls_of_orders (filter_map (ordered h) xs) ≡ calls_of xs
 calls_passed h [] = refl
-calls_passed h (c ∷ calls) = by_part c.part (calls_passed h calls)
+calls_passed h (entry.Called c ∷ xs) = by_part c.part (calls_passed h xs)
   where
-    by_part : (p : Part) → calls_of_orders (map (order_of h) calls) ≡ calls
-        → calls_of_orders ((node_of h c.sender, passes_to p c) ∷ map (order_of h) calls) ≡ c ∷ calls
-    by_part part.Cell rest = ap (λ (xs : List Call). c ∷ xs) rest
-    by_part part.Base rest = ap (λ (xs : List Call). c ∷ xs) rest
+    by_part : (p : Part) → calls_of_orders (filter_map (ordered h) xs) ≡ calls_of xs
+        → calls_of_orders ((node_of h c.sender, passes_to p c) ∷ filter_map (ordered h) xs) ≡ c ∷ calls_of xs
+    by_part part.Cell rest = ap (λ (ys : List Call). c ∷ ys) rest
+    by_part part.Base rest = ap (λ (ys : List Call). c ∷ ys) rest
+calls_passed h (entry.Created c ∷ xs) = calls_passed h xs
+calls_passed h (entry.Joined e ∷ xs) = calls_passed h xs
+calls_passed h (entry.Ticked ∷ xs) = calls_passed h xs
+calls_passed h (entry.Divided t ∷ xs) = calls_passed h xs
+calls_passed h (entry.Balanced ∷ xs) = calls_passed h xs
+calls_passed h (entry.Destroyed e ∷ xs) = calls_passed h xs
 
 -- the batch brings what was accepted
 pub batch_brings : (h : Header) (b : Book) → Brings b (batch_of h b)
-batch_brings h b = record { creates = refl; calls = calls_passed h (calls_of b.current) }
+batch_brings h b = record { creates = refl; calls = calls_passed h b.current }
 
 -- an order without calls of any sender is empty
 no_sender_no_call : (order : List Call) → ((s : Sender) → of_sender s order ≡ []) → order ≡ []
@@ -56,6 +66,6 @@ uncalled b entities p e s was none = cases (entity_at entities e) (was.each e)
     cases (Some v) here = absurd (none-some here.made (sym none ∙ here.is))
 
 -- a book in code has no call for an entity that was not created
-pub book_calls_the_made : (h : Header) (b : Book) (book : BookView) → Refines h b book → CallsTheMade b
-book_calls_the_made h b book was p e none =
+pub book_calls_the_made : (t : Commands) (h : Header) (b : Book) (book : BookView) → Refines t h b book → CallsTheMade b
+book_calls_the_made t h b book was p e none =
     no_sender_no_call (in_order (entries b) p e) (λ s. in_order_is_full b p e s ∙ uncalled b book.entities p e s was.entities none)

@@ -22,7 +22,7 @@ use Rattle.seam_transcript.specs.declared.verdict.Cause.{Cause}
 use Rattle.seam_transcript.specs.declared.verdict.Verdict.TheVariants as verdict
 use Rattle.seam_transcript.specs.declared.limits.TheConstants.{MOST_LINES}
 use Rattle.seam_transcript.specs.declared.commands.Commands.TheVariants.{OneCell}
-use Rattle.seam_transcript.proofs.OneCell.{lists_live}
+use Rattle.seam_transcript.proofs.OneCell.{lists_live, begins_in_one_cell, stays_with_entry, stays_after_round, accepted_is_of_one_cell}
 use Rattle.seam_transcript.proofs.InOrderLemmas.{round_in_order_is_legal}
 use Rattle.seam_accept.specs.Refines.{Refines as HoldsBook, LineAccepted}
 use Rattle.seam_accept.specs.declared.answers.Accepted.{Accepted}
@@ -37,10 +37,11 @@ use Rattle.seam_plain.specs.declared.plain.Plain.{Plain}
 -- ---- where it begins
 
 pub begins : (h : Header) (count : ℕ) (p : Plain) → p.creates.items ≡ [] → p.calls.items ≡ [] → p.rounds ≡ 0 → p.lines ≡ count →
-    HoldsBook h (empty_book h.settings.size) p.book → Refines h (after_header h count) p
+    HoldsBook OneCell h (empty_book h.settings.size) p.book → Refines h (after_header h count) p
 begins h count p creates calls rounds lines book = record {
   ready = record {
     book = book;
+    in_one_cell = begins_in_one_cell h.settings.size;
     holds = record { creates = creates; calls = calls; orders = refl; rounds = rounds; lines = lines };
   };
   below_most = omega arith;
@@ -77,7 +78,7 @@ round_named h n k b live done calls number done_are calls_are =
 pub round_ended : (h : Header) (t : Standing) (old new : Plain) (batch : Batch) (live : List Create) (earlier : ℕ) → IsReady h t old →
     Brings t.book batch → new.creates.items ≡ old.creates.items ++ batch.creates →
     new.calls.items ≡ old.calls.items ++ calls_of_orders batch.orders → earlier ≡ length old.calls.items → new.rounds ≡ old.rounds + 1 →
-    new.lines ≡ old.lines → HoldsBook h (with_round_ended t.book) new.book →
+    new.lines ≡ old.lines → HoldsBook OneCell h (with_round_ended t.book) new.book →
     Lists (λ e. find (λ c. c.entity == e) new.creates.items) live
     → RoundEnds h t (λ s. Refines h s new)
     (round_text h.defs (round_of h new.rounds live (drop earlier new.calls.items) new.calls.items))
@@ -94,11 +95,12 @@ round_ended h t old new batch live earlier ready brings creates calls count roun
     subst (λ (cs : List Create). Lists (λ e. find (λ c. c.entity == e) cs) live) made listed in
     record {
       round = round_in_order h (t.rounds + 1) t.book live;
-      legal = round_in_order_is_legal h t live live_are (lists_live h.settings.size t.book ready.book.in_one_cell live live_are) was.orders;
+      legal = round_in_order_is_legal h t live live_are (lists_live h.settings.size t.book ready.in_one_cell live live_are) was.orders;
       whole = round_named h new.rounds (t.rounds + 1) t.book live (drop earlier new.calls.items) new.calls.items number done called_;
       after = record {
         ready = record {
           book = book;
+          in_one_cell = stays_after_round h.settings.size t.book ready.in_one_cell;
           holds = record { creates = made; calls = called_; orders = refl; rounds = number; lines = lines ∙ was.lines };
         };
         below_most = omega arith;
@@ -115,18 +117,24 @@ holds_with t x p was =
 -- after a line that is skipped
 pub skipped_ready : (h : Header) (t : Standing) (line : Line) (p : Plain) → HasAccepted h t line answer.Skipped p → Refines h t p
 skipped_ready h t line p was = record {
-  ready = record { book = was.answered.1; holds = was.holds };
+  ready = record { book = was.answered.1; in_one_cell = was.in_one_cell; holds = was.holds };
   below_most = was.below_most;
 }
 
 -- where a line ends the round
 pub sync_ready : (h : Header) (t : Standing) (line : Line) (p : Plain) → HasAccepted h t line answer.Synced p → IsReady h t p
-sync_ready h t line p was = record { book = was.answered.1; holds = was.holds }
+sync_ready h t line p was = record { book = was.answered.1; in_one_cell = was.in_one_cell; holds = was.holds }
 
 -- after a line that is kept: the round is full, or has room
 pub kept_ready : (h : Header) (t : Standing) (line : Line) (p : Plain) (was : HasAccepted h t line answer.Kept p)
     → IsReady h (with_book t (with_entry t.book was.answered.0)) p
-kept_ready h t line p was = record { book = was.answered.2; holds = holds_with t was.answered.0 p was.holds }
+kept_ready h t line p was = record {
+  book = was.answered.2;
+  in_one_cell =
+      stays_with_entry h.settings.size t.book was.in_one_cell was.answered.0
+      (accepted_is_of_one_cell h t.book line was.answered.0 was.answered.1);
+  holds = holds_with t was.answered.0 p was.holds;
+}
 
 pub kept_refines : (h : Header) (t : Standing) (line : Line) (p : Plain) (was : HasAccepted h t line answer.Kept p)
     → open_lines (with_entry t.book was.answered.0) ≢ MOST_LINES → Refines h (with_book t (with_entry t.book was.answered.0)) p
@@ -149,9 +157,10 @@ holds_counted t old new was creates calls rounds lines = record {
 -- the book answered a line that was counted
 pub has_accepted : (h : Header) (t : Standing) (line : Line) (a : Accepted) (old new : Plain) → Refines h t old →
     new.creates ≡ old.creates → new.calls ≡ old.calls → new.rounds ≡ old.rounds → new.lines ≡ old.lines + 1 →
-    LineAccepted h t.book line a new.book → HasAccepted h (with_line t) line a new
+    LineAccepted OneCell h t.book line a new.book → HasAccepted h (with_line t) line a new
 has_accepted h t line a old new was creates calls rounds lines answered = record {
   answered = answered;
+  in_one_cell = was.ready.in_one_cell;
   holds = holds_counted t old new was.ready.holds creates calls rounds lines;
   below_most = was.below_most;
 }
@@ -164,7 +173,11 @@ refused_line h t line c old new was creates calls rounds lines book judges =
     let holds : HoldsRounds (with_line t) new = holds_counted t old new was.ready.holds creates calls rounds lines in
     subst (λ (n : ℕ). LineRead h t line (λ s. Refines h s new) (refusal n c)) (sym holds.lines)
     (refused h t line c (λ s. Refines h s new) judges (record {
-      ready = record { book = subst (HoldsBook h t.book) (sym book) was.ready.book; holds = holds };
+      ready = record {
+        book = subst (HoldsBook OneCell h t.book) (sym book) was.ready.book;
+        in_one_cell = was.ready.in_one_cell;
+        holds = holds;
+      };
       below_most = was.below_most;
     }))
 

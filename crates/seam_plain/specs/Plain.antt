@@ -11,6 +11,8 @@ use Rattle.seam_toml.specs.declared.header.Header.{Header}
 use Rattle.seam_transcript.specs.declared.limits.TheConstants.{MOST_LINES}
 use Rattle.seam_transcript.specs.Header.{BeginWithHeader}
 use Rattle.seam_transcript.specs.Book.{open_lines, creates_of, calls_of}
+use Rattle.seam_transcript.specs.OneCell.{IsInOneCell}
+use Rattle.seam_transcript.specs.declared.commands.Commands.TheVariants.{OneCell}
 use Rattle.seam_transcript.specs.Standing.{Standing}
 use Rattle.seam_transcript.specs.InOrder.{in_order}
 use Rattle.seam_transcript.specs.Round.{DoneLine, RoundData, done_lines, home_line, base_line}
@@ -34,7 +36,8 @@ pub record HoldsRounds (t : Standing) (p : Plain) : Type 0 where
 
 -- it is between two lines, or the open round is to end
 pub record IsReady (h : Header) (t : Standing) (p : Plain) : Type 0 where
-  pub book : HoldsBook h t.book p.book
+  pub book : HoldsBook OneCell h t.book p.book
+  pub in_one_cell : IsInOneCell h.settings.size t.book
   pub holds : HoldsRounds t p
 
 -- it refines the standing
@@ -44,7 +47,8 @@ pub record Refines (h : Header) (t : Standing) (p : Plain) : Type 0 where
 
 -- the book has answered a line that the standing has counted, and nothing has followed
 pub record HasAccepted (h : Header) (t : Standing) (line : Line) (answer : Accepted) (p : Plain) : Type 0 where
-  pub answered : LineAccepted h t.book line answer p.book
+  pub answered : LineAccepted OneCell h t.book line answer p.book
+  pub in_one_cell : IsInOneCell h.settings.size t.book
   pub holds : HoldsRounds t p
   pub below_most : open_lines t.book < MOST_LINES
 

@@ -22,7 +22,7 @@ use seam_accept::{Accepted, Book, Refusal, next_count};
 use seam_call::{Call, Create, Order};
 use seam_defs::Part;
 use seam_report::{push_number_line, push_refusal};
-use seam_transcript::{Cause, Header, MOST_LINES};
+use seam_transcript::{Cause, Commands, Header, MOST_LINES};
 use std::alloc::{AllocError, Global};
 
 /// Computes an ended transcript of an input: the one in which each call is executed as it was accepted. None where the input
@@ -67,7 +67,7 @@ impl Plain {
     {
         Ok(Plain {
             alloc,
-            book: Book::new(alloc, header)?,
+            book: Book::new(alloc, header, Commands::OneCell)?,
             creates: Vec::new(alloc),
             calls: Vec::new(alloc),
             rounds: 0,

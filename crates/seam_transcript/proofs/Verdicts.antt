@@ -148,7 +148,7 @@ axis_is_one axis.Z axis.Z same = refl
 axis_is_one axis.X axis.Z same = let first = ap (λ (bytes : List ℕ). get_or bytes 0 0) same in absurd (omega (arith, first))
 axis_is_one axis.Z axis.X same = let first = ap (λ (bytes : List ℕ). get_or bytes 0 0) same in absurd (omega (arith, first))
 
-boundary_is_one : (a at : List ℕ) (b c : Boundary) → language.SpellsBoundary a at b → language.SpellsBoundary a at c → b ≡ c
+pub boundary_is_one : (a at : List ℕ) (b c : Boundary) → language.SpellsBoundary a at b → language.SpellsBoundary a at c → b ≡ c
 boundary_is_one a at b c one other =
     let same = axis_is_one b.axis c.axis (one.axis ∙ sym other.axis) in
     let place = spells_one_number at b.at c.at one.place other.place in

@@ -140,7 +140,7 @@ module _ (began : SourceState) (sink : SinkState) (now : SourceState) (reader : 
         rest = g.rest ++ line ∷ [];
         header = header_of_append g.read g.header g.count g.rest (line ∷ []) g.begins;
         run = run_with_line (Step g.header) (after_header g.header g.count) g.rest g.pieces g.standing line taken.pieces taken.next g.run
-          taken.step;
+            taken.step;
       },
       ap (λ (x : List ℕ). text ++ x) taken.whole ∙ sym (text_with taken.pieces),
     )

@@ -12,7 +12,7 @@ use seam_accept::{Accepted, Book, Refusal, next_count};
 use seam_flat::FlatTable;
 use seam_io::LONGEST_LINE;
 use seam_report::push_refusal;
-use seam_transcript::{Cause, Header, MOST_LINES};
+use seam_transcript::{Cause, Commands, Header, MOST_LINES};
 use std::alloc::{AllocError, Global};
 
 /// How far a script was read: the book of what was accepted, the world as the last round left it, and the counts of lines and
@@ -34,7 +34,7 @@ impl Script {
         ensures { IfOk result (ScriptRefines header (after_header header lines)) }
     {
         Ok(Script {
-            book: Book::new(alloc, &header)?,
+            book: Book::new(alloc, &header, Commands::OneCell)?,
             table: FlatTable::new(alloc, header),
             line: lines,
             round: 0,

@@ -7,6 +7,7 @@ use Rattle.seam_flat.specs.Batches.{Brings, calls_of_orders}
 use Rattle.seam_flat.proofs.BookBatches.{batch_brings}
 use Rattle.seam_plain.specs.Plain.{round_of}
 use Rattle.seam_plain.proofs.Turns.{round_ended}
+use Rattle.seam_transcript.specs.declared.commands.Commands.TheVariants.{OneCell}
 use Rattle.seam_plain.proofs.plain.Plain.end_round.Goals as goal
 
 pub returns : goal.returns
@@ -17,13 +18,13 @@ returns c =
     on_ok_weaker c.push_round.result
     (λ pushed t ready.
     let brings : Brings t.book c.take_batch-batch.result =
-    subst (λ (b : Batch). Brings t.book b) (sym (c.take_batch-batch.ensures.batch h t.book ready.book)) (batch_brings h t.book) in (
+    subst (λ (b : Batch). Brings t.book b) (sym (c.take_batch-batch.ensures.batch OneCell h t.book ready.book)) (batch_brings h t.book) in (
       round_text h.defs (round_of h c.in_ok-self.field-0 pushed.0 (drop c.len-earlier.result c.add_calls.new.calls.items)
           c.add_calls.new.calls.items),
       round_ended h t old _ c.take_batch-batch.result pushed.0 c.len-earlier.result ready brings
           (c.in_ok-extend_from_slice.ensures.items ∙ ap (λ xs. old.creates.items ++ xs) c.as_slice.ensures)
           (c.in_ok-add_calls.ensures ∙ ap (λ (os : List (ℕ × Order)). old.calls.items ++ calls_of_orders os) c.into_vec.ensures)
-          count c.in_ok-self.ensures refl (c.take_batch-batch.ensures.ended h t.book ready.book) pushed.1,
+          count c.in_ok-self.ensures refl (c.take_batch-batch.ensures.ended OneCell h t.book ready.book) pushed.1,
       pushed.2,
     ))
     c.push_round.ensures

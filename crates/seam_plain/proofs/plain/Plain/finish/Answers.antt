@@ -2,12 +2,13 @@ use Rattle.std.proofs.Common.{[], sym, ◌∙◌, append-nil}
 use Rattle.std.proofs.lemmas.Result.{on_ok_weaker}
 use Rattle.seam_transcript.proofs.Following.{last_round, nothing_open}
 use Rattle.seam_plain.specs.Plain.{Refines}
+use Rattle.seam_transcript.specs.declared.commands.Commands.TheVariants.{OneCell}
 use Rattle.seam_plain.proofs.plain.Plain.finish.Goals as goal
 
 pub returns-then-count-eq0 : goal.returns-then-count-eq0
 returns-then-count-eq0 c = λ t was.
     let h = c.args.header.now in
-    ([], nothing_open h t (sym (c.count.ensures h t.book was.ready.book) ∙ c.if-count-eq0.true), sym (append-nil c.args.out.now.items))
+    ([], nothing_open h t (sym (c.count.ensures OneCell h t.book was.ready.book) ∙ c.if-count-eq0.true), sym (append-nil c.args.out.now.items))
 
 pub returns : goal.returns
 returns c = on_ok_weaker c.end_round.result
@@ -16,7 +17,7 @@ returns c = on_ok_weaker c.end_round.result
     let e = ends t was.ready in (
       e.0,
       last_round h t (λ s. Refines h s c.end_round.new.self) e.0
-          (λ none. c.if-count-eq0.false (c.count.ensures h t.book was.ready.book ∙ none)) e.1,
+          (λ none. c.if-count-eq0.false (c.count.ensures OneCell h t.book was.ready.book ∙ none)) e.1,
       e.2,
     ))
     c.end_round.ensures

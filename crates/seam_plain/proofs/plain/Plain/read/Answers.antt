@@ -33,9 +33,9 @@ returns-in-Ok c = on_ok_weaker c.follow.result
     (λ followed t was.
     let h = c.args.header.now in
     let line = line_of c.args.text.now in
-    let answered = subst (λ (l : Line). LineAccepted h t.book l c.in-Ok.accepted c.accept.new.self)
+    let answered = subst (λ (l : Line). LineAccepted OneCell h t.book l c.in-Ok.accepted c.accept.new.self)
     (ap Content c.without_return.ensures ∙ sym (line_of-short c.args.text.now c.if-text-gt-MOST_BYTES.false))
-    (c.in-Ok.ensures.accepted h t.book was.ready.book) in
+    (c.in-Ok.ensures.accepted OneCell h t.book was.ready.book) in
     let accepted = has_accepted h t line c.in-Ok.accepted c.args.self.now _ was refl refl refl c.in_ok-self.ensures answered in
     let f = followed (with_line t) line accepted in
     (f.0, line_read h t line (λ s. Refines h s c.follow.new.self) f.0 f.1, f.2))
@@ -51,8 +51,8 @@ returns-in-Err-Cause c = on_ok_weaker c.push_refusal-in-Err-Cause.result
           c.in-Err-Cause.ensures.unchanged
           (subst (λ (l : Line). Judges OneCell h t.book l (verdict.Refused cause))
           (ap Content c.without_return.ensures ∙ sym (line_of-short c.args.text.now c.if-text-gt-MOST_BYTES.false))
-          (subst (LineRefused h t.book (Content c.without_return.result.now)) c.in-Err-Cause.field-0-is
-          (c.in-Err-Cause.ensures.refused h t.book was.ready.book))),
+          (subst (LineRefused OneCell h t.book (Content c.without_return.result.now)) c.in-Err-Cause.field-0-is
+          (c.in-Err-Cause.ensures.refused OneCell h t.book was.ready.book))),
       printed,
     ))
     c.push_refusal-in-Err-Cause.ensures

@@ -7,6 +7,7 @@ use Rattle.seam_transcript.proofs.Following.{skipped, synced, kept_last, kept_op
 use Rattle.seam_world.specs.Script.{HasAccepted, ScriptRefines}
 use Rattle.seam_accept.specs.declared.answers.Accepted.{Accepted}
 use Rattle.seam_world.proofs.ScriptLemmas.{skipped_ready, sync_ready, kept_ready, kept_refines}
+use Rattle.seam_transcript.specs.declared.commands.Commands.TheVariants.{OneCell}
 use Rattle.seam_world.proofs.script.Script.follow.Goals as goal
 
 pub returns-then-count-eq-MOST_LINES : goal.returns-then-count-eq-MOST_LINES
@@ -14,7 +15,7 @@ returns-then-count-eq-MOST_LINES c = on_ok_weaker c.end_round.result
     (λ ends h t line accepted.
     let was = subst (λ (a : Accepted). HasAccepted h t line a c.args.self.now) c.in-Kept.is accepted in
     let e = ends h (with_book t (with_entry t.book was.answered.0)) (kept_ready h t line c.args.self.now was) in
-    let full = sym (c.count.ensures h (with_entry t.book was.answered.0) was.answered.2) ∙ c.if-count-eq-MOST_LINES.true in (
+    let full = sym (c.count.ensures OneCell h (with_entry t.book was.answered.0) was.answered.2) ∙ c.if-count-eq-MOST_LINES.true in (
       e.0,
       kept_last h t line was.answered.0 (λ s. ScriptRefines h s c.end_round.new.self) e.0 was.answered.1 full e.1,
       e.2,
@@ -25,7 +26,7 @@ pub returns-else-count-eq-MOST_LINES : goal.returns-else-count-eq-MOST_LINES
 returns-else-count-eq-MOST_LINES c = λ h t line accepted.
     let was = subst (λ (a : Accepted). HasAccepted h t line a c.args.self.now) c.in-Kept.is accepted in
     let open_ : open_lines (with_entry t.book was.answered.0) ≢ MOST_LINES =
-    λ full. c.if-count-eq-MOST_LINES.false (c.count.ensures h (with_entry t.book was.answered.0) was.answered.2 ∙ full) in (
+    λ full. c.if-count-eq-MOST_LINES.false (c.count.ensures OneCell h (with_entry t.book was.answered.0) was.answered.2 ∙ full) in (
       [],
       kept_open h t line was.answered.0 (λ s. ScriptRefines h s c.args.self.now) was.answered.1 open_
           (kept_refines h t line c.args.self.now was open_),

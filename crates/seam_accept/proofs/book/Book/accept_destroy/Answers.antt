@@ -1,0 +1,15 @@
+use Rattle.std.proofs.Common.{sym, subst}
+use Rattle.std.proofs.lemmas.Result.{err_from_is_err_and}
+use Rattle.seam_transcript.specs.declared.verdict.Entry.TheVariants.{Destroyed}
+use Rattle.seam_accept.specs.Refines.{Refines}
+use Rattle.seam_accept.proofs.book.Book.accept_destroy.Goals as goal
+
+pub returns-in_err-entity-clause-refused : goal.returns-in_err-entity-clause-refused
+returns-in_err-entity-clause-refused c =
+    let p = err_from_is_err_and c.from_residual.result c.from_residual.ensures.1 in
+    rw (p.1, p.2) (λ t h b was. c.in_err-entity.ensures.refused h b (subst (Refines t h b) (sym c.self.view_is) was).entities)
+
+pub returns-clause-accepted : goal.returns-clause-accepted
+returns-clause-accepted c = λ t h b was.
+    let judged = c.in_ok-entity.ensures.accepted h b (subst (Refines t h b) (sym c.self.view_is) was).entities in
+    (Destroyed c.in_ok-entity.entity, judged.0, c.in_ok-keep_destroy.ensures.kept t h b was judged.1)

@@ -1,0 +1,27 @@
+use Rattle.std.proofs.Common.{refl, sym}
+use Rattle.std.proofs.Common.{subst, append-nil}
+use Rattle.seam_transcript.specs.declared.verdict.Entry.TheVariants as entry
+use Rattle.seam_accept.specs.Refines.{Refines}
+use Rattle.seam_accept.proofs.Books.{or_false}
+use Rattle.seam_accept.proofs.Keeping.{other_kept}
+use Rattle.seam_accept.proofs.book.Book.keep_tick.Goals as goal
+use Rattle.seam_accept.proofs.Causes.{none_against_tick}
+
+pub returns-clause-accepted : goal.returns-clause-accepted
+returns-clause-accepted c = λ t h b was. (
+  entry.Ticked,
+  record { none = none_against_tick h b; adds = refl },
+  other_kept t h b entry.Ticked _ _ (subst (Refines t h b) (sym c.self.view_is) was) refl
+      (λ e. record { makes = refl; destroys = refl; joins = refl; calls = λ p s. refl }) refl refl
+      (record {
+        header = refl;
+        commands = refl;
+        tree = refl;
+        count = c.in_ok-count.ensures;
+        creates = sym (append-nil c.self.inside.creates.items);
+        joined_ = sym (append-nil c.self.inside.joined.items);
+        orders = c.in_ok-push.ensures.items;
+        destroyed_ = sym (append-nil c.self.inside.destroyed.items);
+        balance = sym (or_false c.self.inside.balance);
+      }),
+)
