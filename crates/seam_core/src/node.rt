@@ -1,0 +1,106 @@
+//! Nodes of a world: cells and base nodes.
+
+ghost use Rattle.std.specs.Prelude.{◌≡◌, ◌++◌, true, OnOk, OnErr, IfErr};
+ghost use Rattle.seam_machine.specs.declared.machines.Input.{Input as AnyInput};
+ghost use Rattle.seam_steps.specs.Nodes.{NodeView, node_steps, node_has_work, node_peers};
+ghost use Rattle.seam_steps.specs.Valid.{IsNode};
+ghost use Rattle.seam_core.specs.Machines.{targets, keeps_peers, stays_valid};
+
+use seam_base::Base;
+use seam_cell::Cell;
+use seam_entity::Msg;
+use seam_machine::{Input, Machine, Out};
+use seam_memory::NoMemoryFor;
+use std::alloc::Global;
+use std::marker::Model;
+
+// What a node is.
+#[derive(Drop)]
+enum Kind {
+    Cell(Cell),
+    Base(Base),
+}
+
+/// A node of a world: a cell or a base node.
+#[derive(Drop)]
+pub struct Node {
+    kind: Kind,
+}
+
+impl Model for Node {
+    ghost use Rattle.std.specs.Coded.{codes};
+    ghost use Rattle.std.specs.FinMap as table;
+    ghost use Rattle.std.specs.FinSet as set;
+    ghost use Rattle.seam_steps.specs.Nodes.{NodeView};
+    ghost use Rattle.seam_core.specs.Nodes.{node_of};
+
+    ghost Value = { NodeView };
+
+    ghost coded = { Prim.hlevel (codes, table.code, set.code) };
+
+    ghost view = { λ n. node_of n.kind };
+}
+
+impl Machine for Node {
+    type Msg = Msg;
+
+    ghost has_work = { node_has_work };
+
+    ghost peer_count = { node_peers };
+
+    ghost steps = { node_steps };
+
+    ghost valid = { IsNode };
+
+    ghost targets = { targets };
+
+    ghost keeps_peers = { keeps_peers };
+
+    ghost stays_valid = { stays_valid };
+
+    fn peers(&self) -> u8 {
+        match &self.kind {
+            Kind::Cell(cell) => cell.peers(),
+            Kind::Base(base) => base.peers(),
+        }
+    }
+
+    fn has_task(&self) -> bool {
+        match &self.kind {
+            Kind::Cell(cell) => cell.has_task(),
+            Kind::Base(base) => base.has_task(),
+        }
+    }
+
+    fn known(&self) {
+        match &self.kind {
+            Kind::Cell(cell) => cell.known(),
+            Kind::Base(base) => base.known(),
+        }
+    }
+
+    fn step(
+        &mut self,
+        alloc: Global,
+        input: Input<Msg>,
+        out: &mut Out<Msg>,
+    ) -> Result<(), NoMemoryFor<Input<Msg>>>
+        requires { input ≡ Input.Task → node_has_work self.old ≡ true }
+        ensures state { OnOk result (self.new ≡ (node_steps self.old input).state) }
+        ensures sent { OnOk result (out.new.items ≡ out.old.items ++ (node_steps self.old input).sent) }
+        ensures err_state { OnErr result (self.new ≡ self.old) }
+        ensures err_out { OnErr result (out.new.items ≡ out.old.items) }
+        ensures err_input { IfErr result (λ e. e.item ≡ input) }
+    {
+        match &mut self.kind {
+            Kind::Cell(cell) => match cell.step(alloc, input, out) {
+                Ok(()) => return Ok(()),
+                Err(refused) => return Err(refused),
+            },
+            Kind::Base(base) => match base.step(alloc, input, out) {
+                Ok(()) => return Ok(()),
+                Err(refused) => return Err(refused),
+            },
+        }
+    }
+}
