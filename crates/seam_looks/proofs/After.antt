@@ -33,9 +33,9 @@ use Rattle.seam_base_calls.specs.Strays.{IsBaseNumber}
 use Rattle.seam_newest.specs.Copies.{AreCopiesBetweenRounds}
 use Rattle.seam_replica.specs.Clients.{ClientReplica, with_copy_shown, after_shown, after_all_shown}
 use Rattle.seam_looks.specs.Clients.{version_in, own_now, FitsWitness}
-use Rattle.seam_looks.proofs.Sorted.{tied_same}
+use Rattle.seam_known.proofs.Sorted.{tied_same}
 use Rattle.seam_looks.proofs.Near.{as_seen, seen_found, known_found}
-use Rattle.seam_looks.proofs.Knowing.{known_at, known_to_is}
+use Rattle.seam_known.proofs.Knowing.{known_at, known_to_is}
 use Rattle.seam_looks.proofs.OneLook.{shown_now, same_real, known_nowhere, IsKnown, knows, knows_not, known_there, own_by}
 
 -- ---- looks

@@ -16,7 +16,7 @@ use Rattle.seam_steps.specs.Nodes.{NodeView, node_steps, node_has_work}
 use Rattle.seam_steps.specs.Loads.{loaded, one_cell}
 use Rattle.std.specs.Ordering.{eq_by_cmp}
 use Rattle.std.specs.Cmp.{nat_cmp_total}
-use Rattle.seam_looks.proofs.Sorted.{tied_same}
+use Rattle.seam_known.proofs.Sorted.{tied_same}
 use Rattle.seam_steps.specs.Rows.{empty_world, idle}
 use Rattle.seam_steps.specs.Rows as rows
 use Rattle.seam_steps.specs.ViewRounds.{batch_1, first_0, first_2, first_steps, watcher, blind, still, space, both}

@@ -25,9 +25,9 @@ use Rattle.seam_steps.specs.Cells.{CellView, slot_of, stepped, known_to, has_wit
 use Rattle.seam_steps.specs.Cells.{ready_entity, real_is_ready, looks_around, cell_has_work}
 use Rattle.seam_steps.proofs.Slots.{get-set_at}
 use Rattle.seam_looks.specs.Phases.{witness_looked, looked_by, having_looked}
-use Rattle.seam_looks.proofs.Sorted.{first, second}
-use Rattle.seam_looks.proofs.Sorted.{tied_same, none_below, passing, find_filter, sorted_filter, or_else}
-use Rattle.seam_looks.proofs.Knowing.{known_by, known_at, unless_self, known_rises, known_to_is}
+use Rattle.seam_known.proofs.Sorted.{first, second}
+use Rattle.seam_known.proofs.Sorted.{tied_same, none_below, passing, find_filter, sorted_filter, or_else}
+use Rattle.seam_known.proofs.Knowing.{known_by, known_at, unless_self, known_rises, known_to_is}
 
 -- whether the entity is in the list
 abbrev pub is_in : ℕ → List ℕ → Bool

@@ -31,7 +31,7 @@ use Rattle.seam_between.specs.Between.{IsBetweenRounds}
 use Rattle.seam_rounds.proofs.Shape.{many_leads}
 use Rattle.seam_rounds.proofs.Giving.{look_framed, some_base}
 use Rattle.seam_looks.specs.Phases.{having_looked, HaveRoomToLook}
-use Rattle.seam_looks.proofs.Sorted.{each_found}
+use Rattle.seam_known.proofs.Sorted.{each_found}
 use Rattle.seam_looks.proofs.Near.{all_filtered}
 use Rattle.seam_looks.proofs.LookCells.{MayLook, IsMidway, work_is}
 use Rattle.seam_looks.proofs.LookRuns.{tick_order, unready, CellAt, ordered, told, midway, IsLooking, looking_more}

@@ -20,8 +20,9 @@ use Rattle.seam_view.specs.Plain.{is_gone, is_new, plain_look}
 use Rattle.seam_call.specs.declared.shown.GhostCopy.{GhostCopy}
 use Rattle.seam_call.specs.declared.shown.Shown.{Shown}
 use Rattle.seam_call.specs.declared.shown.Shown.TheVariants.{Set, Enter}
-use Rattle.seam_steps.specs.Looks.{Known, seen_as, shown_of_known, known_of, shown_for}
-use Rattle.seam_looks.proofs.Sorted.{tied_same, passing, find_filter, sorted_filter, each_found}
+use Rattle.seam_steps.specs.Looks.{Known, seen_as, known_of, shown_for}
+pub use Rattle.seam_known.proofs.Knowing.{known_found}
+use Rattle.seam_known.proofs.Sorted.{tied_same, passing, find_filter, sorted_filter, each_found}
 
 -- ---- what is known, by number
 
@@ -41,17 +42,6 @@ seen_found x [] = refl
 seen_found x (k ∷ es) =
     ap (λ b. cond b (Some (seen_as k)) (seen_of x (map seen_as es))) (same_test k.0 x)
     ∙ seen_by x k (seen_of x (map seen_as es)) (table.find nat_cmp x es) (eq_by_cmp nat_cmp x k.0) refl (seen_found x es)
-
-known_by : (k : Known) (s : Option Known) (o : Option GhostCopy) (t : Bool) → option_map shown_of_known s ≡ o →
-    option_map shown_of_known (cond t (Some k) s) ≡ cond t (Some k.1) o
-known_by k s o true h = refl
-known_by k s o false h = h
-
-pub known_found : (x : ℕ) (es : List Known) → known_of x es ≡ table.find nat_cmp x es
-known_found x [] = refl
-known_found x (k ∷ es) =
-    known_by k _ (table.find nat_cmp x es) (nat_eq k.0 x) (known_found x es)
-    ∙ ap (λ b. cond b (Some k.1) (table.find nat_cmp x es)) (same_test k.0 x)
 
 -- ---- lists of looks
 

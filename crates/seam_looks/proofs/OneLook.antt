@@ -46,9 +46,9 @@ use Rattle.seam_replica.specs.Looks as replica
 use Rattle.seam_replica.specs.Looks.{Row, row_of, rows_but, seen, is_newer, own_shown, look_at, look_by, one_look}
 use Rattle.seam_looks.specs.Tables.{row_of_real, rows_of}
 use Rattle.seam_looks.specs.Clients.{version_in, FitsWitness}
-use Rattle.seam_looks.proofs.Sorted.{each_found}
+use Rattle.seam_known.proofs.Sorted.{each_found}
 use Rattle.seam_looks.proofs.Near.{near, AreAlike, lines_alike}
-use Rattle.seam_looks.proofs.Knowing.{known_by, known_at, known_rises, known_to_is}
+use Rattle.seam_known.proofs.Knowing.{known_by, known_at, known_rises, known_to_is}
 use Rattle.seam_looks.proofs.Rows.{found_in, IsRowIn, real_at, searched, row_found, others, others_rise, others_found, seen_others}
 use Rattle.seam_looks.proofs.Rows.{lines_of_others}
 

@@ -23,10 +23,10 @@ use Rattle.seam_ones.specs.Ones.{real_in}
 use Rattle.seam_replica.specs.Looks as replica
 use Rattle.seam_replica.specs.Looks.{Row, row_of, rows_but, seen}
 use Rattle.seam_looks.specs.Tables.{row_of_real, rows_at, row_in, rows_of}
-use Rattle.seam_looks.proofs.Sorted.{passing, find_filter, sorted_filter, each_found, or_else, find_mapped, sorted_mapped}
-use Rattle.seam_looks.proofs.Sorted.{find_append, find_entries}
+use Rattle.seam_known.proofs.Sorted.{passing, find_filter, sorted_filter, each_found, or_else, find_mapped, sorted_mapped}
+use Rattle.seam_known.proofs.Sorted.{find_append, find_entries}
 use Rattle.seam_looks.proofs.Near.{lines_agree}
-use Rattle.seam_looks.proofs.Knowing.{unless_self, passing_others}
+use Rattle.seam_known.proofs.Knowing.{unless_self, passing_others}
 
 -- ---- where a row is from
 

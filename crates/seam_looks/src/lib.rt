@@ -6,10 +6,9 @@
 //! are those of `seam_replica`. (After the witness and the area of interest of the BigWorld Server Overview: a cell knows whom a witness
 //! in it may see, by the real or by the ghost.)
 //!
-//! Crates above cite these modules of `proofs`: `Sorted` (what is found in a list in rising number), `Near` (a look at a flat table
-//! depends on those that are near), `Knowing` (what a cell knows of an entity), `Rows` (the rows of a world), `OneLook` (a look), `After`
-//! (what it leaves of a client), `LookCells`, `LookBases`, `LookRuns`, `LookEnds` and `LookFits` (the phase of looks: a cell, a base node,
-//! every list of events, its quiet end, and its clients).
+//! Crates above cite these modules of `proofs`: `Near` (a look at a flat table depends on those that are near), `Rows` (the rows of a
+//! world), `OneLook` (a look), `After` (what it leaves of a client), `LookCells`, `LookBases`, `LookRuns`, `LookEnds` and `LookFits` (the
+//! phase of looks: a cell, a base node, every list of events, its quiet end, and its clients).
 #![tactic(auto)]
 
 ghost use Rattle.std.specs.Prelude.{◌≡◌, ℕ, ◌≤◌, List, None, Some, slice_get};

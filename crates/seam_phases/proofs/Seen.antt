@@ -33,7 +33,7 @@ use Rattle.seam_places.proofs.Ends.{looks_leave}
 use Rattle.seam_newest.specs.Copies.{AreCopiesBetweenRounds}
 use Rattle.seam_looks.specs.Phases.{witness_looked, looked_by, having_looked, HaveRoomToLook}
 use Rattle.seam_looks.proofs.Near.{as_seen, seen_found}
-use Rattle.seam_looks.proofs.Knowing.{known_at, known_to_is}
+use Rattle.seam_known.proofs.Knowing.{known_at, known_to_is}
 use Rattle.seam_looks.proofs.OneLook.{known_nowhere}
 use Rattle.seam_looks.proofs.LookEnds.{looked}
 use Rattle.seam_shown.proofs.ShownOnce.{cell_at}

@@ -46,7 +46,7 @@ use Rattle.seam_newest.specs.Copies.{present}
 use Rattle.seam_replica.specs.Clients.{ClientReplica, after_shown, after_all_shown}
 use Rattle.seam_replica.specs.Lines.{Truth, ShowsTruth}
 use Rattle.seam_looks.specs.Clients.{FitsWitness}
-use Rattle.seam_looks.proofs.Sorted.{tied_same}
+use Rattle.seam_known.proofs.Sorted.{tied_same}
 use Rattle.seam_told.specs.Telling.{IsAbsent}
 use Rattle.seam_shown.specs.Fits.{FitsWithin}
 use Rattle.seam_shown.specs.Telling.{TellsRightly}

@@ -35,7 +35,7 @@ use Rattle.seam_replica.specs.Looks.{Row, row_of, rows_but, seen, is_newer, own_
 use Rattle.seam_replica.proofs.EachOne.{turned}
 use Rattle.seam_looks.specs.Tables.{row_of_real, rows_at, row_in, rows_of}
 use Rattle.seam_looks.specs.Phases.{looked_by, having_looked, HaveRoomToLook}
-use Rattle.seam_looks.proofs.Sorted.{each_found, find_entries}
+use Rattle.seam_known.proofs.Sorted.{each_found, find_entries}
 use Rattle.seam_looks.proofs.Near.{as_seen, seen_found}
 use Rattle.seam_looks.proofs.Rows.{found_in, others, others_rise, seen_others, lines_of_others}
 use Rattle.seam_looks.proofs.OneLook.{row_there, row_nowhere}

@@ -22,7 +22,7 @@ use Rattle.seam_replica.specs.Looks.{is_newer}
 use Rattle.seam_replica.specs.Lines.{Truth, ShowsRightly}
 use Rattle.seam_looks.specs.Clients.{version_in, own_now}
 use Rattle.seam_looks.proofs.Near.{known_found}
-use Rattle.seam_looks.proofs.Knowing.{known_at, known_rises, known_to_is}
+use Rattle.seam_known.proofs.Knowing.{known_at, known_rises, known_to_is}
 use Rattle.seam_looks.proofs.OneLook.{own_by}
 use Rattle.seam_looks.proofs.After.{same_distances, follows}
 use Rattle.seam_shown.specs.Fits.{FitsWithin, KnowsTruth}

@@ -43,7 +43,7 @@ use Rattle.seam_told.specs.Telling.{IsAbsent, BringsNone}
 use Rattle.seam_told.proofs.Absent.{absent_happens}
 use Rattle.seam_newest.specs.Copies.{present, copy_at, AreCopiesBetweenRounds}
 use Rattle.seam_looks.proofs.Near.{known_found}
-use Rattle.seam_looks.proofs.Knowing.{known_by, known_at, known_to_is}
+use Rattle.seam_known.proofs.Knowing.{known_by, known_at, known_to_is}
 use Rattle.seam_shown.specs.Telling.{ComesBetween, IsTrueBetween}
 use Rattle.seam_shown.specs.Rounds.{WasOther, true_between}
 
