@@ -20,6 +20,7 @@ ghost use Rattle.seam_base.specs.Parts.{with_orders, with_call, with_ready_call,
 use crate::part::{BasePart, Body, Proxy};
 use seam_call::{Call, ClientText, Sender};
 use seam_defs::{Defs, Group, State, TypeDef};
+use seam_entity::reserve_one;
 use seam_memory::NoMemoryFor;
 use seam_order::Offer;
 use std::alloc::{AllocError, Global};
@@ -37,7 +38,7 @@ fn reserve_line(proxy: &mut Option<Box<Proxy>>) -> Result<(), AllocError>
     ensures room { OnOk result (HasLine proxy.new) }
 {
     match proxy {
-        Some(proxy) => return proxy.lines.reserve(1),
+        Some(proxy) => return reserve_one(&mut proxy.lines),
         None => return Ok(()),
     }
 }
@@ -49,7 +50,7 @@ fn make_place(body: &mut Body) -> Result<(), AllocError>
     ensures done { OnOk result (vec_len body.new.done < vec_capacity body.new.done) }
     ensures line { OnOk result (HasLine body.new.proxy) }
 {
-    body.done.reserve(1)?;
+    reserve_one(&mut body.done)?;
     reserve_line(&mut body.proxy)
 }
 

@@ -20,7 +20,7 @@ use crate::calls::text_of;
 use crate::part::{BasePart, Proxy};
 use seam_call::{ClientText, Update};
 use seam_defs::{Defs, Group, Property, TypeDef};
-use seam_entity::may_rise as number_may_rise;
+use seam_entity::{may_rise as number_may_rise, reserve_one};
 use seam_memory::NoMemoryFor;
 use seam_order::{InOrder, Offer};
 use std::alloc::{AllocError, Global};
@@ -42,7 +42,7 @@ fn offer_update(proxy: &mut Proxy, update: Update) -> Result<(), NoMemoryFor<Upd
     ensures err { OnErr result (proxy_of proxy.new ≡ proxy_of proxy.old) }
     ensures err_item { IfErr result (λ e. e.item ≡ update) }
 {
-    if proxy.lines.reserve(1).is_err() {
+    if reserve_one(&mut proxy.lines).is_err() {
         return Err(NoMemoryFor { item: update });
     }
     let Update {
@@ -75,7 +75,7 @@ fn show_next(proxy: &mut Proxy) -> Result<(), AllocError>
     ensures after { OnOk result (proxy_of proxy.new ≡ shows_next (proxy_of proxy.old) (next_item proxy.old.updates)) }
     ensures err { OnErr result (proxy_of proxy.new ≡ proxy_of proxy.old) }
 {
-    proxy.lines.reserve(1)?;
+    reserve_one(&mut proxy.lines)?;
     let Some(shown) = proxy.updates.take_next() else {
         return Ok(());
     };
@@ -166,7 +166,7 @@ impl BasePart {
         let t = defs.type_at(self.body.ty);
         let text = text_of(t, self.body.version, &self.body.state, has_for_clients(t))?;
         let mut proxy = new_proxy(alloc);
-        proxy.lines.reserve(1)?;
+        reserve_one(&mut proxy.lines)?;
         if let Some(text) = text {
             proxy.show(text);
         }

@@ -13,7 +13,7 @@ ghost use Rattle.seam_cell.specs.Beginning.{changed_at};
 use crate::entity_set::EntitySet;
 use crate::known::Known;
 use crate::reals::{Reals, make_place, put_in, take_out};
-use seam_entity::{Parcel, Real};
+use seam_entity::{Parcel, Real, Witness};
 use seam_geo::Pos;
 use seam_table::Table;
 use std::alloc::{AllocError, Global};
@@ -62,12 +62,13 @@ pub fn give_witness(
     if reals.items.get(e).is_none() {
         return Ok(());
     }
+    let witness = Witness::new(alloc, &known.settings)?;
     let mut real = take_out(reals, e)?;
     if let Err(error) = reals.witnesses.insert(e) {
         put_in(reals, e, real);
         return Err(error);
     }
-    real.attach(alloc, &known.settings);
+    real.put_witness(witness);
     put_in(reals, e, real);
     Ok(())
 }

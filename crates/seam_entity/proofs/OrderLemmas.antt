@@ -1,6 +1,6 @@
 -- What entries are seen before: the orders from which something came, and the senders that have a place.
 use Rattle.std.proofs.Common.{◌≡◌, ◌≤◌, ◌<◌, ◌+◌, ℕ, zero, suc, Bool, true, false, cond, ◌&&◌, ◌||◌, eqb, List, [], ◌∷◌, ◌++◌, length}
-use Rattle.std.proofs.Common.{take, drop}
+use Rattle.std.proofs.Common.{take, drop, is_ok}
 use Rattle.std.proofs.Common.{ltb, inl, inr, Result, Ok, Err, OnOk, get_or, set, None, Some, refl, sym, ap, subst, ◌∙◌, arith}
 use Rattle.std.specs.Ordering.{nat_cmp, eq_by_cmp, is_eq, match_ordering}
 use Rattle.std.specs.declared.cmp.Ordering.TheVariants.{Less, Equal, Greater}
@@ -435,3 +435,7 @@ new_is o e f = let same : o ≡ new_order = λ i. record { next = e i; held = f 
 pub either : {X : Type 0} (P : X → Type 0) (b : Bool) (x y : X) → P x → P y → P (cond b x y)
 either P true x y h k = h
 either P false x y h k = k
+
+pub where_ok : {X A B : Type 0} (P : X → Type 0) (r : Result A B) (x y : X) → P x → OnOk r (P (cond (is_ok r) x y))
+where_ok P (Ok a) x y h = h
+where_ok P (Err e) x y h = tt

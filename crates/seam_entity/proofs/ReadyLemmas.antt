@@ -1,7 +1,7 @@
 -- Which order is ready, by places.
 use Rattle.std.proofs.Common.{◌≡◌, ◌≤◌, ◌<◌, ℕ, zero, suc, Bool, true, false, cond, List, [], ◌∷◌, length, get_or, None, Some, Option}
 use Rattle.std.proofs.Common.{refl, sym, ap}
-use Rattle.std.proofs.Common.{◌∙◌, ◌+◌, ◌&&◌, subst, arith, find, is_some, IfSome, IfNone, set}
+use Rattle.std.proofs.Common.{◌∙◌, ◌+◌, ◌&&◌, arith, find, is_some, IfSome, IfNone, set}
 use Rattle.std.specs.Ordering.{nat_cmp}
 use Rattle.std.specs.declared.cmp.Ordering.TheVariants.{Less}
 use Rattle.std.specs.Cmp.{nat_cmp_total}

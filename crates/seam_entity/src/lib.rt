@@ -6,7 +6,8 @@
 //! `execute_after` needs no memory.
 //!
 //! `specs/Reals` has what contracts see of a real, `specs/Orders` what they see of the calls that it holds, `specs/Executing` which
-//! calls a real executes and what they leave of it, and `specs/Here` what a node knows beside its entities.
+//! calls a real executes and what they leave of it, and `specs/Here` what a node knows beside its entities. Of `proofs/`,
+//! `HeldLemmas` (calls that are held all pass a test, whatever becomes of their orders) is for callers.
 #![tactic(auto)]
 
 mod fitting;
@@ -14,6 +15,7 @@ mod message;
 mod numbers;
 mod orders;
 mod real;
+mod room;
 mod witness;
 
 pub use fitting::{can_do, fits_cell_part, fits_copy, is_inside};
@@ -21,6 +23,7 @@ pub use message::{Msg, Parcel};
 pub use numbers::{is_small, may_rise};
 pub use orders::Orders;
 pub use real::{After, Did, Real, ghost_copy};
+pub use room::reserve_one;
 pub use seam_memory::NoMemoryFor;
 pub use witness::{Witness, copy_for_others};
 

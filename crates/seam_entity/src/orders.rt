@@ -17,6 +17,7 @@ ghost use Rattle.seam_entity.specs.Calls.{has_ready, ready_call, after_ready, al
 ghost use Rattle.seam_entity.specs.Places.{AreOrdered, IsAt, IsGap, NoneReady, IsFirstReady};
 
 use crate::fitting::holds_fitting;
+use crate::room::insert;
 use seam_call::{Call, Sender};
 use seam_defs::{Defs, Settings};
 use seam_memory::NoMemoryFor;
@@ -115,10 +116,7 @@ fn make_place(entries: &mut Vec<(Sender, InOrder<Call>)>, sender: &Sender) -> Re
         return Ok(());
     };
     let alloc = *entries.allocator();
-    match entries.insert(at, (*sender, InOrder::new(alloc))) {
-        Ok(_) => Ok(()),
-        Err(_) => Err(AllocError),
-    }
+    insert(entries, at, (*sender, InOrder::new(alloc)))
 }
 
 // Offers the call to its sender's order, which has a place.

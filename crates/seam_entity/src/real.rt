@@ -1,12 +1,11 @@
 //! An entity's real.
 
 ghost use Rattle.std.specs.Prelude.{◌≡◌, ◌≤◌, ◌<◌, ◌^◌, ◌==◌, ℕ, IfOk, IfErr, OnOk, OnErr, [], true, false};
-ghost use Rattle.std.specs.Prelude.{is_some, None, Some, option_map, List};
+ghost use Rattle.std.specs.Prelude.{is_some, None, Some, option_map};
 ghost use Rattle.std.specs.FinSet as set;
 ghost use Rattle.seam_defs.specs.Deeds.{after as after_deed, own_of};
 ghost use Rattle.seam_defs.specs.Tests.{changes};
 ghost use Rattle.seam_defs.specs.Types.{type_of};
-ghost use Rattle.seam_defs.specs.declared.types.TypeDef.{TypeDef};
 ghost use Rattle.seam_defs.specs.declared.settings.Settings.{Settings as AllSettings};
 ghost use Rattle.seam_order.specs.Held.{item_at};
 ghost use Rattle.seam_entity.specs.Orders.{order_of};
@@ -17,8 +16,8 @@ ghost use Rattle.seam_entity.specs.Executing.{settled_to};
 ghost use Rattle.seam_entity.specs.Preparing.{node_with, advanced, with_after, met, offered as after_call, HasRoom, HasSpare, HasReady};
 ghost use Rattle.seam_entity.specs.Calls.{has_ready};
 ghost use Rattle.seam_entity.specs.Executing.{executed_ready, with_order, fits_real};
-ghost use Rattle.seam_entity.specs.Looks.{with_witness, other_of_real};
-ghost use Rattle.seam_entity.specs.Witnesses.{witness_of};
+ghost use Rattle.seam_entity.specs.Looks.{other_of_real};
+ghost use Rattle.seam_entity.specs.Witnesses.{witness_in};
 ghost use Rattle.seam_order.specs.Held.{OrderView};
 ghost use Rattle.seam_order.specs.Offers.{after_taking};
 ghost use Rattle.seam_call.specs.declared.call.Call.{Call as CallData};
@@ -26,6 +25,7 @@ ghost use Rattle.seam_entity.specs.declared.real.Did.TheVariants.{Done as DidDon
 
 use crate::fitting::is_inside;
 use crate::orders::Orders;
+use crate::room::reserve_one;
 use crate::witness::Witness;
 use seam_call::{Call, GhostCopy, Sender};
 use seam_defs::{Deed, Defs, Group, Settings, State};
@@ -66,7 +66,8 @@ struct Body {
     haunts: CellSet,
     beat: u64,
     generation: u64,
-    witness: Option<Witness>,
+    // In a box of its own, since most reals have none.
+    witness: Option<Box<Witness>>,
 }
 
 /// The real of an entity, which is moved and never cloned.
@@ -84,7 +85,7 @@ impl Model for Real {
     ghost use Rattle.std.specs.FinMap as table;
     ghost use Rattle.std.specs.FinSet as set;
     ghost use Rattle.seam_entity.specs.Reals.{RoomyReal};
-    ghost use Rattle.seam_entity.specs.Witnesses.{witness_of};
+    ghost use Rattle.seam_entity.specs.Witnesses.{witness_in};
 
     ghost Value = { RoomyReal };
 
@@ -102,7 +103,7 @@ impl Model for Real {
         haunts = (box_value r.body).haunts;
         beat = (box_value r.body).beat;
         generation = (box_value r.body).generation;
-        witness = option_map witness_of (box_value r.body).witness;
+        witness = option_map witness_in (box_value r.body).witness;
       };
       spare = vec_capacity (box_value r.body).done - vec_len (box_value r.body).done;
       senders = (box_value r.body).orders.senders;
@@ -312,14 +313,6 @@ impl Real {
                     && body.orders.all_fit(defs, settings, body.entity, body.ty)))
     }
 
-    /// Gives it a witness that has told nothing.
-    pub fn attach(&mut self, alloc: Global, settings: &Settings)
-        ensures core { (defs : List TypeDef) (me : ℕ) →
-            self.new.core ≡ with_witness (node_with defs me settings.now) self.old.core }
-    {
-        self.body.witness = Some(Witness::new(alloc, settings));
-    }
-
     /// Whether it has a witness.
     pub fn has_witness(&self) -> bool
         ensures { result ≡ is_some self.now.core.witness }
@@ -328,16 +321,16 @@ impl Real {
     }
 
     /// Takes its witness, so that it can look.
-    pub fn take_witness(&mut self) -> Option<Witness>
-        ensures witness { option_map witness_of result ≡ self.old.core.witness }
+    pub fn take_witness(&mut self) -> Option<Box<Witness>>
+        ensures witness { option_map witness_in result ≡ self.old.core.witness }
         ensures after { self.new.core ≡ record self.old.core { witness = None } }
     {
         self.body.witness.take()
     }
 
-    /// Puts the witness back.
-    pub fn put_witness(&mut self, witness: Witness)
-        ensures { self.new.core ≡ record self.old.core { witness = Some (witness_of witness) } }
+    /// Gives it a witness, a new one or the one that it had.
+    pub fn put_witness(&mut self, witness: Box<Witness>)
+        ensures { self.new.core ≡ record self.old.core { witness = Some (witness_in witness) } }
     {
         self.body.witness = Some(witness);
     }
@@ -408,7 +401,7 @@ impl Real {
         ensures room { OnOk result (HasRoom self.new call.now) }
     {
         self.body.orders.reserve(&call.sender)?;
-        self.body.done.reserve(1)
+        reserve_one(&mut self.body.done)
     }
 
     /// Executes a call whose turn it is, from what `prepare` said of it. It needs no memory, and cannot fail.
@@ -537,7 +530,7 @@ impl Real {
             IfOk result (λ a. a.changed ≡ shows (node_with defs.now me settings) self.old.core k) }
         ensures room { OnOk result (HasSpare self.new) }
     {
-        self.body.done.reserve(1)?;
+        reserve_one(&mut self.body.done)?;
         let Some(call) = self.body.orders.ready_call() else {
             unreachable!()
         };

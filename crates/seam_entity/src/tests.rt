@@ -1,5 +1,5 @@
 // What the calls that take memory give with ample memory.
-use crate::{Did, Msg, Real, copy_for_others};
+use crate::{Did, Msg, Real, Witness, copy_for_others};
 use seam_call::{Call, Sender};
 use seam_defs::{Args, Deed, Defs, Part, Settings};
 use seam_geo::Pos;
@@ -144,7 +144,7 @@ fn a_held_call_becomes_ready(rt: HostRuntime) -> Result<(), Fail> {
 fn a_witness_tells_its_own_state_once(rt: HostRuntime) -> Result<(), Fail> {
     let defs = builtin(rt.alloc())?;
     let mut real = create(rt.alloc(), &defs)?;
-    real.attach(rt.alloc(), &Settings::standard());
+    real.put_witness(Witness::new(rt.alloc(), &Settings::standard())?);
     assert_eq!(rt; told_once(&mut real)?, (true, false));
     assert!(rt; real.has_witness());
     Ok(())

@@ -7,7 +7,7 @@ ghost use Rattle.seam_defs.specs.declared.settings.Settings.{Settings as AllSett
 ghost use Rattle.seam_view.specs.Replica.{HasRoom as HasRoomFor, after_looks};
 ghost use Rattle.seam_entity.specs.Looks.{new_witness, other_of_copy as copy_for_others, own_due, told_after};
 ghost use Rattle.seam_entity.specs.Preparing.{node_with};
-ghost use Rattle.seam_entity.specs.Witnesses.{witness_of};
+ghost use Rattle.seam_entity.specs.Witnesses.{witness_in};
 
 use seam_call::GhostCopy;
 use seam_defs::{Defs, Group, Settings, State};
@@ -24,15 +24,16 @@ pub struct Witness {
 }
 
 impl Witness {
-    /// A witness that has told nothing.
-    pub fn new(alloc: Global, settings: &Settings) -> Witness
-        ensures { witness_of result ≡ new_witness settings.now }
+    /// A witness that has told nothing, in a box, since most reals have none.
+    pub fn new(alloc: Global, settings: &Settings) -> Result<Box<Witness>, AllocError>
+        ensures { IfOk result (λ w. witness_in w ≡ new_witness settings.now) }
     {
-        Witness {
+        let witness = Witness {
             view: View::new(alloc, settings.view_radius, settings.view_hysteresis),
             told: None,
             sent: 0,
-        }
+        };
+        Ok(Box::new(alloc, witness)?)
     }
 
     /// Whether its own entity's state is to be told, which has that version: it never was, or at a lower version.

@@ -1,4 +1,4 @@
-use Rattle.std.proofs.Common.{◌≡◌, sym, ap, subst, option_map, is_some, not, ◌∙◌}
+use Rattle.std.proofs.Common.{◌≡◌, sym, ap, subst, option_map, is_some, not, Some, ◌∙◌}
 use Rattle.std.specs.FinMap as table
 use Rattle.seam_entity.specs.Looks.{with_witness}
 use Rattle.seam_steps.specs.Maps.{set_at}
@@ -27,7 +27,7 @@ put_in-requires-2 c =
     let k = c.args.known.now in
     let s = c.take_out.new.reals in
     subst (λ o. IsOpen (record { items = s.items; ready = s.ready; witnesses = c.insert.new.self }) c.args.e (is_some o))
-    (sym (ap (λ x. x.witness) (c.attach.ensures.core k.defs k.me)))
+    (sym (ap (λ x. x.witness) c.put_witness.ensures))
     (witness_marked s c.args.e (is_some c.in_ok-real.real.core.witness) c.insert.new.self c.in_ok-real.ensures.place
     c.in_default.ensures.ok)
 
@@ -36,7 +36,8 @@ returns-clause-after c =
     let k = c.args.known.now in
     let m = c.args.reals.now.items.items in
     let x = c.in_ok-real.real.core in
+    let given = c.put_witness.ensures ∙ ap (λ w. record x { witness = Some w }) c.in_ok-witness.ensures in
     c.put_in-2.ensures.items
-    ∙ ((λ i. table.insert (c.in_ok-real.ensures.items i) c.args.e (c.attach.ensures.core k.defs k.me i))
+    ∙ ((λ i. table.insert (c.in_ok-real.ensures.items i) c.args.e (given i))
     ∙ (put_again m c.args.e (with_witness (here_in k) x)
     ∙ ap (λ o. set_at m c.args.e (option_map (with_witness (here_in k)) o)) (sym c.in_ok-real.ensures.real)))

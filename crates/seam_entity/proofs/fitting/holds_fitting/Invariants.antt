@@ -1,6 +1,5 @@
-use Rattle.std.proofs.Common.{◌≡◌, ℕ, Bool}
+use Rattle.std.proofs.Common.{◌≡◌, ℕ}
 use Rattle.std.specs.List.{list_all}
-use Rattle.seam_call.specs.declared.call.Call.{Call}
 use Rattle.seam_entity.specs.Calls.{item_passes}
 use Rattle.seam_entity.specs.Executing.{fits_cell_part}
 use Rattle.seam_entity.specs.Preparing.{node_with}

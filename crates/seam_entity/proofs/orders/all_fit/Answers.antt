@@ -1,4 +1,4 @@
-use Rattle.std.proofs.Common.{◌≡◌, ℕ, Bool, sym, ap, ◌∙◌, ◌+◌, drop, get_or, true}
+use Rattle.std.proofs.Common.{Bool, sym, ap, ◌∙◌, ◌+◌, drop, get_or}
 use Rattle.std.specs.List.{list_all}
 use Rattle.std.proofs.lemmas.List.{drop_more, at_drop_all}
 use Rattle.seam_call.specs.declared.call.Call.{Call}

@@ -1,4 +1,4 @@
-use Rattle.std.proofs.Common.{◌∙◌, refl}
+use Rattle.std.proofs.Common.{◌∙◌}
 use Rattle.seam_entity.proofs.ReadyLemmas.{no_call, call_there}
 use Rattle.seam_entity.proofs.orders.ready_in.Goals as goal
 

@@ -1,4 +1,4 @@
-use Rattle.std.proofs.Common.{◌≡◌, ℕ, IfOk, subst, ap, ◌∙◌}
+use Rattle.std.proofs.Common.{◌≡◌, IfOk, subst, ap, ◌∙◌}
 use Rattle.seam_call.specs.declared.shown.GhostCopy.{GhostCopy}
 use Rattle.seam_entity.specs.Executing.{copy_with}
 use Rattle.seam_entity.specs.Preparing.{node_with}
