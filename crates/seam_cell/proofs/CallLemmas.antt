@@ -15,7 +15,7 @@ use Rattle.seam_entity.specs.Executing.{public_after, with_deed, with_offer, exe
 use Rattle.seam_entity.specs.Preparing.{with_after}
 use Rattle.seam_entity.specs.declared.real.After.{After}
 use Rattle.seam_cell.specs.Stepping.{IsLater}
-use Rattle.seam_cell.proofs.HeldLemmas.{both}
+use Rattle.seam_entity.proofs.HeldLemmas.{both}
 
 not_true : (a : Bool) → not a ≡ true → a ≡ false
 not_true true h = cc

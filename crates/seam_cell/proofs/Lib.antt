@@ -1,7 +1,6 @@
 pub mod SetLemmas
 pub mod MarkLemmas
 pub mod RealLemmas
-pub mod HeldLemmas
 pub mod KeptLemmas
 pub mod HomeLemmas
 pub mod LoadLemmas

@@ -19,7 +19,7 @@ use Rattle.seam_cell.specs.declared.lists.Lists.{Lists}
 use Rattle.seam_cell.specs.Kept.{here_in, cell_of}
 use Rattle.seam_cell.specs.Stepping.{parts_of, slot_in, IsDone, list_after}
 use Rattle.seam_cell.proofs.MarkLemmas.{put_back}
-use Rattle.seam_cell.proofs.HeldLemmas.{both}
+use Rattle.seam_entity.proofs.HeldLemmas.{both}
 use Rattle.seam_cell.proofs.CallLemmas.{rises}
 use Rattle.seam_cell.proofs.StepLemmas.{done_stepped}
 

@@ -2,3 +2,4 @@ pub mod OrderLemmas
 pub mod RealLemmas
 pub mod ReadyLemmas
 pub mod FitLemmas
+pub mod HeldLemmas
