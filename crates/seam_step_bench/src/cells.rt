@@ -65,11 +65,6 @@ const VISIT_CASES: [Case; 5] = [
 // How many entities a cell knows in which witnesses look.
 const KNOWN: u32 = 4_000;
 
-// Cell 0 without avatars, in a space that it has alone.
-fn made(alloc: Global) -> Result<Cell, AllocError> {
-    Ok(Cell::new(alloc, 0, builtin(alloc)?, Settings::standard()))
-}
-
 // Cell 1 without avatars, which has the upper half of the space.
 fn upper(alloc: Global, settings: Settings) -> Result<Cell, AllocError>
     requires { AreLegal settings }
@@ -138,8 +133,6 @@ pub fn looks(rt: &HostRuntime, sizes: &Sizes) -> io::Result<()> {
 
 /// A cell of so many avatars, each called once.
 pub fn filled(alloc: Global, count: u32) -> Result<u64, AllocError> {
-    let mut cell = made(alloc)?;
-    let came = fill(alloc, &mut cell, Kind::Hand, count)?;
-    let called = fill(alloc, &mut cell, Kind::Call(1), count)?;
-    Ok(came.wrapping_add(called))
+    let mut cell = begun(alloc, Settings::standard(), count)?;
+    fill(alloc, &mut cell, Kind::Call(1), count)
 }
