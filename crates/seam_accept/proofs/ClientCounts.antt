@@ -1,5 +1,5 @@
 -- How many live entities have a client.
-use Rattle.std.proofs.Common.{◌≡◌, ◌≢◌, ◌+◌, ℕ, Bool, true, false, cond, List, [], ◌∷◌, ◌++◌, map, refl, sym, ◌∙◌, ap, subst, arith}
+use Rattle.std.proofs.Common.{◌≡◌, ◌≢◌, ◌+◌, ℕ, Bool, true, false, cond, List, [], ◌∷◌, ◌++◌, length, map, refl, sym, ◌∙◌, ap, subst, arith}
 use Rattle.std.proofs.Common.{Some, None, append-nil, inl, inr}
 use Rattle.std.specs.Prelude.{◌==◌, ◌&&◌, ◌||◌, find, eqb, is_some}
 use Rattle.std.specs.List.{AllByRecursion, IsDistinct, list_any, count_by}
@@ -13,7 +13,7 @@ use Rattle.seam_transcript.specs.Book.{count_of_clients, with_entry}
 use Rattle.seam_transcript.specs.declared.verdict.Entry.{Entry}
 use Rattle.seam_transcript.specs.declared.verdict.Entry.TheVariants as entry
 use Rattle.seam_transcript.proofs.BookEntries.{creates_with_entry, created_other, differ}
-use Rattle.seam_accept.specs.Entities.{IsUnknown}
+use Rattle.seam_accept.specs.Entities.{IsUnknown, ClientsRefine, is_client}
 use Rattle.seam_accept.proofs.NamedEntities.{no_client_there}
 use Rattle.seam_accept.proofs.Books.{created_with, any_with, or_none, or_false}
 
@@ -87,7 +87,7 @@ creates_stay b x none =
     creates_with_entry b x ∙ ap (λ (cs : List Create). creates_of (entries b) ++ cs) none ∙ append-nil (creates_of (entries b))
 
 -- an entry that is about no client and no death
-pub count_stays : (b : Book) (x : Entry) → creates_of (x ∷ []) ≡ [] → ((e : ℕ) → destroys e x ≡ false) → ((e : ℕ) → joins e x ≡ false) →
+count_stays : (b : Book) (x : Entry) → creates_of (x ∷ []) ≡ [] → ((e : ℕ) → destroys e x ≡ false) → ((e : ℕ) → joins e x ≡ false) →
     count_of_clients (with_entry b x) ≡ count_of_clients b
 count_stays b x none spared alone =
     ap (count_by (λ (c : Create). has_client (with_entry b x) c.entity)) (creates_stay b x none)
@@ -95,7 +95,7 @@ count_stays b x none spared alone =
     (λ e. client_same b x e (created_stays b x e none) (spared e) (alone e))
 
 -- an entity that lives without a client is given one
-pub one_more : (b : Book) (e : ℕ) (made : Create) → IsDistinct eqb (map (λ c. c.entity) (creates_of (entries b))) →
+one_more : (b : Book) (e : ℕ) (made : Create) → IsDistinct eqb (map (λ c. c.entity) (creates_of (entries b))) →
     created_as b e ≡ Some made → has_client b e ≡ false → has_client (with_entry b (entry.Joined e)) e ≡ true →
     count_of_clients (with_entry b (entry.Joined e)) ≡ count_of_clients b + 1
 one_more b e made distinct is alone joined =
@@ -108,7 +108,7 @@ one_more b e made distinct is alone joined =
     omega (arith, here, before, after, all)
 
 -- a live entity dies, and with it its client
-pub one_less : (b : Book) (e : ℕ) (made : Create) → IsDistinct eqb (map (λ c. c.entity) (creates_of (entries b))) →
+one_less : (b : Book) (e : ℕ) (made : Create) → IsDistinct eqb (map (λ c. c.entity) (creates_of (entries b))) →
     created_as b e ≡ Some made → has_client (with_entry b (entry.Destroyed e)) e ≡ false →
     count_of_clients b ≡ count_of_clients (with_entry b (entry.Destroyed e)) + cond (has_client b e) 1 0
 one_less b e made distinct is dead =
@@ -120,33 +120,89 @@ one_less b e made distinct is dead =
     omega (arith, here, after, all)
 
 -- a new entity has no client
-pub count_with_new : (b : Book) (c : Create) → IsUnknown b c.entity →
-    count_of_clients (with_entry b (entry.Created c)) ≡ count_of_clients b
-count_with_new b c unknown =
-    ap (count_by (λ (d : Create). has_client (with_entry b x) d.entity)) (creates_with_entry b x)
-    ∙ sum_by-append (λ (d : Create). cond (has_client (with_entry b x) d.entity) 1 0) (creates_of (entries b)) (c ∷ [])
-    ∙ ap (λ (n : ℕ). count_by (λ (d : Create). has_client (with_entry b x) d.entity) (creates_of (entries b)) + (0 + n))
-    (ap bit (alone c.entity ∙ no_client_there b c.entity unknown))
-    ∙ add_zero (count_by (λ (d : Create). has_client (with_entry b x) d.entity) (creates_of (entries b)))
-    ∙ same_count (has_client (with_entry b x)) (has_client b) (creates_of (entries b)) alone
-  where
-    x : Entry
-    x = entry.Created c
+module _ (b : Book) (c : Create) (unknown : IsUnknown b c.entity) where
+  same_with_new : (e : ℕ) → has_client (with_entry b (entry.Created c)) e ≡ has_client b e
+  same_with_new e = elim (eqb_tells c.entity e) [
+    | inl is ↦ subst (λ (d : ℕ). has_client (with_entry b x) d ≡ has_client b d) is.1
+        (ap (λ (y : Bool). is_some (live_as (with_entry b x) c.entity) && y) (joined_same ∙ unknown.unjoined)
+        ∙ no_and (is_some (live_as (with_entry b x) c.entity)) ∙ sym (no_client_there b c.entity unknown))
+    | inr ne ↦ client_same b x e (created_other b c e ne.1) refl refl
+  ]
+    where
+      x : Entry
+      x = entry.Created c
 
-    add_zero : (n : ℕ) → n + (0 + 0) ≡ n
-    add_zero n = omega arith
+      joined_same : list_any (joins c.entity) (entries (with_entry b x)) ≡ list_any (joins c.entity) (entries b)
+      joined_same = any_with (joins c.entity) b x ∙ or_false (list_any (joins c.entity) (entries b))
 
-    joined_same : (e : ℕ) → list_any (joins e) (entries (with_entry b x)) ≡ list_any (joins e) (entries b)
-    joined_same e = any_with (joins e) b x ∙ or_false (list_any (joins e) (entries b))
+      no_and : (y : Bool) → (y && false) ≡ false
+      no_and true = refl
+      no_and false = refl
 
-    alone : (e : ℕ) → has_client (with_entry b x) e ≡ has_client b e
-    alone e = elim (eqb_tells c.entity e) [
-      | inl is ↦ subst (λ (d : ℕ). has_client (with_entry b x) d ≡ has_client b d) is.1
-          (ap (λ (y : Bool). is_some (live_as (with_entry b x) c.entity) && y) (joined_same c.entity ∙ unknown.unjoined)
-          ∙ no_and (is_some (live_as (with_entry b x) c.entity)) ∙ sym (no_client_there b c.entity unknown))
-      | inr ne ↦ client_same b x e (created_other b c e ne.1) refl refl
-    ]
-      where
-        no_and : (y : Bool) → (y && false) ≡ false
-        no_and true = refl
-        no_and false = refl
+  count_with_new : count_of_clients (with_entry b (entry.Created c)) ≡ count_of_clients b
+  count_with_new =
+      ap (count_by (λ (d : Create). has_client (with_entry b x) d.entity)) (creates_with_entry b x)
+      ∙ sum_by-append (λ (d : Create). cond (has_client (with_entry b x) d.entity) 1 0) (creates_of (entries b)) (c ∷ [])
+      ∙ ap (λ (n : ℕ). count_by (λ (d : Create). has_client (with_entry b x) d.entity) (creates_of (entries b)) + (0 + n))
+      (ap bit (same_with_new c.entity ∙ no_client_there b c.entity unknown))
+      ∙ add_zero (count_by (λ (d : Create). has_client (with_entry b x) d.entity) (creates_of (entries b)))
+      ∙ same_count (has_client (with_entry b x)) (has_client b) (creates_of (entries b)) same_with_new
+    where
+      x : Entry
+      x = entry.Created c
+
+      add_zero : (n : ℕ) → n + (0 + 0) ≡ n
+      add_zero n = omega arith
+
+-- ---- the clients that are kept
+
+-- they stay where an entry makes no entity, and is about neither a client nor a death
+pub clients_stay : (b : Book) (x : Entry) (clients : List ℕ) → ClientsRefine b clients → creates_of (x ∷ []) ≡ [] →
+    ((e : ℕ) → destroys e x ≡ false) → ((e : ℕ) → joins e x ≡ false) → ClientsRefine (with_entry b x) clients
+clients_stay b x clients was none spared alone = record {
+  count = was.count ∙ sym (count_stays b x none spared alone);
+  each = λ e. was.each e ∙ sym (client_same b x e (created_stays b x e none) (spared e) (alone e));
+}
+
+pub clients_with_new : (b : Book) (c : Create) (clients : List ℕ) → ClientsRefine b clients → IsUnknown b c.entity →
+    ClientsRefine (with_entry b (entry.Created c)) clients
+clients_with_new b c clients was unknown = record {
+  count = was.count ∙ sym (count_with_new b c unknown);
+  each = λ e. was.each e ∙ sym (same_with_new b c unknown e);
+}
+
+-- the number is one of the new clients or is not, and the others stay
+pub record SetsClient (old new : List ℕ) (e : ℕ) (is : Bool) : Type 0 where
+  pub here : is_client new e ≡ is
+  pub others : (d : ℕ) → d ≢ e → is_client new d ≡ is_client old d
+
+-- they are those of the book after an entry about one entity
+clients_set : (b : Book) (x : Entry) (e : ℕ) (is : Bool) (old new : List ℕ) → ClientsRefine b old → SetsClient old new e is →
+    length new ≡ count_of_clients (with_entry b x) → has_client (with_entry b x) e ≡ is →
+    ((d : ℕ) → d ≢ e → has_client (with_entry b x) d ≡ has_client b d) → ClientsRefine (with_entry b x) new
+clients_set b x e is old new was sets count here others = record {
+  count = count;
+  each = λ d. elim (eqb_tells e d) [
+    | inl same ↦ subst (λ (n : ℕ). is_client new n ≡ has_client (with_entry b x) n) same.1 (sets.here ∙ sym here)
+    | inr ne ↦ (let apart : d ≢ e = λ s. ne.1 (sym s) in sets.others d apart ∙ was.each d ∙ sym (others d apart))
+  ];
+}
+
+pub clients_with_one : (b : Book) (e : ℕ) (made : Create) (old new : List ℕ) → ClientsRefine b old → SetsClient old new e true →
+    length new ≡ length old + 1 → IsDistinct eqb (map (λ c. c.entity) (creates_of (entries b))) → created_as b e ≡ Some made →
+    has_client b e ≡ false → has_client (with_entry b (entry.Joined e)) e ≡ true → ClientsRefine (with_entry b (entry.Joined e)) new
+clients_with_one b e made old new was sets count distinct is alone joined =
+    clients_set b (entry.Joined e) e true old new was sets
+    (count ∙ ap (λ (n : ℕ). n + 1) was.count ∙ sym (one_more b e made distinct is alone joined)) joined
+    (λ d ne. client_same b (entry.Joined e) d (created_stays b (entry.Joined e) d refl) refl (differ e d (λ s. ne (sym s))))
+
+pub clients_without_one : (b : Book) (e : ℕ) (made : Create) (old new : List ℕ) → ClientsRefine b old → SetsClient old new e false →
+    length new + cond (is_client old e) 1 0 ≡ length old → IsDistinct eqb (map (λ c. c.entity) (creates_of (entries b))) →
+    created_as b e ≡ Some made → has_client (with_entry b (entry.Destroyed e)) e ≡ false →
+    ClientsRefine (with_entry b (entry.Destroyed e)) new
+clients_without_one b e made old new was sets count distinct is dead =
+    let less = one_less b e made distinct is dead in
+    let counted = was.count in
+    let had = ap bit (was.each e) in
+    clients_set b (entry.Destroyed e) e false old new was sets (omega (arith, count, less, counted, had)) dead
+    (λ d ne. client_same b (entry.Destroyed e) d (created_stays b (entry.Destroyed e) d refl) (differ e d (λ s. ne (sym s))) refl)

@@ -1,7 +1,7 @@
 -- What a book in code holds after it kept a line.
 use Rattle.std.proofs.Common.{◌≡◌, ◌≢◌, ◌+◌, ◌-◌, ℕ, Bool, true, false, List, [], ◌∷◌, ◌++◌, length, map, refl, sym}
 use Rattle.std.proofs.Common.{◌∙◌, ap, subst, arith, inl, inr, Option, Some, None, append-nil, length-append}
-use Rattle.std.specs.Prelude.{MatchOption, IfSome, IsSome, ◌==◌, ◌&&◌, ◌||◌, not, find, filter, cond, eqb, is_some}
+use Rattle.std.specs.Prelude.{MatchOption, IfSome, IsSome, ◌==◌, ◌&&◌, ◌||◌, not, find, filter, cond, eqb, is_some, fold}
 use Rattle.std.specs.List.{AllByRecursion, IsDistinct, list_any, filter_map, cons_option, count_by}
 use Rattle.std.proofs.lemmas.List.Elements.{filter_map-append}
 use Rattle.std.proofs.lemmas.List.Folds.{list_any-append}
@@ -18,7 +18,8 @@ use Rattle.seam_call.specs.declared.call.Call.{Call}
 use Rattle.seam_call.specs.declared.create.Create.{Create}
 use Rattle.seam_toml.specs.declared.header.Header.{Header}
 use Rattle.seam_transcript.specs.Book.{Book, entries, created, creates_of, calls_of, created_as, live_as, destroys, joins, has_client}
-use Rattle.seam_transcript.specs.Book.{empty_book, one_cell, count_of_clients, accepted, with_entry, with_round_ended, divided, is_balance}
+use Rattle.seam_transcript.specs.Book.{empty_book, one_cell, count_of_clients, accepted, with_entry, with_round_ended, with_tree, divided}
+use Rattle.seam_transcript.specs.Book.{is_balance, tree_of}
 use Rattle.seam_transcript.specs.declared.commands.Commands.{Commands}
 use Rattle.seam_transcript.specs.declared.verdict.Entry.{Entry}
 use Rattle.seam_transcript.specs.declared.verdict.Entry.TheVariants as entry
@@ -27,13 +28,13 @@ use Rattle.seam_transcript.proofs.InOrderLemmas.{entries_after_round}
 use Rattle.seam_transcript.proofs.OneSender.{same_sender_is}
 use Rattle.seam_accept.specs.Last.{LastView, number_of}
 use Rattle.seam_accept.specs.Entities.{last_of, Remembers, EntitiesRefine, EntityRefines, IsUnknown, IsNextCall, ChangesOne, KeepsLast}
-use Rattle.seam_accept.specs.Entities.{Joins, Dies, LivesAlone, entity_at}
+use Rattle.seam_accept.specs.Entities.{Dies, LivesAlone, entity_at, ClientsRefine, is_client}
 use Rattle.seam_accept.specs.Batches.{ordered, joined, destroyed}
-use Rattle.seam_accept.specs.BookView.{BookView}
+use Rattle.seam_accept.specs.BookView.{BookView, counted}
 use Rattle.seam_accept.specs.Refines.{Refines}
 use Rattle.seam_accept.specs.declared.entity.Entity.{Entity}
 use Rattle.seam_accept.proofs.NamedEntities.{entity_unknown, entity_found, live_is_there, client_now, none_now}
-use Rattle.seam_accept.proofs.ClientCounts.{count_stays, count_with_new, one_more, one_less}
+use Rattle.seam_accept.proofs.ClientCounts.{SetsClient, clients_stay, clients_with_new, clients_with_one, clients_without_one}
 use Rattle.seam_accept.proofs.Books.{Spares, created_same, destroyed_same, joined_same, accepted_same, accepted_with_entry, any_with}
 use Rattle.seam_accept.proofs.Books.{created_with, or_none, or_false, tree_with, spares_create, spares_call, spares_joined}
 use Rattle.seam_accept.proofs.Books.{spares_destroyed}
@@ -57,7 +58,6 @@ spared b x e (Some v) spares was = record {
   whole = was.whole;
   ty = was.ty;
   live = was.live ∙ ap not (sym (destroyed_same b x e spares));
-  joined = was.joined ∙ sym (joined_same b x e spares);
   last = λ p s is. was.last p s is ∙ ap length (sym (accepted_same b x e spares p s));
 }
 
@@ -135,11 +135,10 @@ pub record IsPut (old new : List (ℕ × Entity)) (e : ℕ) (v : Entity) : Type 
   pub here : entity_at new e ≡ Some v
   pub others : (other : ℕ) → other ≢ e → entity_at new other ≡ entity_at old other
 
--- a live entity of this type, without a client, that no call was accepted for
+-- a live entity of this type that no call was accepted for
 pub record IsFresh (c : Create) (v : Entity) : Type 0 where
   pub ty : v.ty ≡ c.ty
   pub live : v.live ≡ true
-  pub joined : v.joined ≡ false
   pub last : (p : Part) (s : Sender) → IsSender s → number_of (last_of p v) s ≡ 0
 
 module _ (b : Book) (c : Create) (whole : IsWhole c.entity) (unknown : IsUnknown b c.entity) where
@@ -151,7 +150,6 @@ module _ (b : Book) (c : Create) (whole : IsWhole c.entity) (unknown : IsUnknown
     ty = fresh.ty;
     live = fresh.live
         ∙ sym (ap not (any_with (destroys c.entity) b (entry.Created c) ∙ ap (λ (y : Bool). y || false) unknown.undestroyed));
-    joined = fresh.joined ∙ sym (any_with (joins c.entity) b (entry.Created c) ∙ ap (λ (y : Bool). y || false) unknown.unjoined);
     last = λ p s is. fresh.last p s is
         ∙ ap length (sym (accepted_with_entry b (entry.Created c) p c.entity s ∙ append-nil (accepted b p c.entity s)
         ∙ unknown.uncalled p s));
@@ -195,7 +193,6 @@ entity_called b call v w next kept was = record {
   whole = was.whole;
   ty = kept.ty ∙ was.ty;
   live = kept.live ∙ was.live ∙ ap not (sym (any_with (destroys call.entity) b (entry.Called call) ∙ or_false _));
-  joined = kept.joined ∙ was.joined ∙ sym (any_with (joins call.entity) b (entry.Called call) ∙ or_false _);
   last = λ p s is. kept.last p s is ∙ by p s is (same_part call.part p && same_sender call.sender s) refl;
 }
   where
@@ -232,26 +229,16 @@ entities_with_call b old new call v was next found kept =
 
 -- ---- clients and deaths
 
-entity_joined : (b : Book) (e : ℕ) (v w : Entity) → Joins v w → EntityRefines b e v → EntityRefines (with_entry b (entry.Joined e)) e w
-entity_joined b e v w is was = subst (EntityRefines (with_entry b (entry.Joined e)) e) (sym is) (record {
+entity_joined : (b : Book) (e : ℕ) (v : Entity) → EntityRefines b e v → EntityRefines (with_entry b (entry.Joined e)) e v
+entity_joined b e v was = record {
   made = was.made;
   is = created_with b (entry.Joined e) e ∙ or_none (created_as b e) ∙ was.is;
   whole = was.whole;
   ty = was.ty;
   live = was.live ∙ ap not (sym (any_with (destroys e) b (entry.Joined e) ∙ or_false (list_any (destroys e) (entries b))));
-  joined = sym (any_with (joins e) b (entry.Joined e) ∙ ap (λ (y : Bool). list_any (joins e) (entries b) || y) (same e)
-      ∙ or_true (list_any (joins e) (entries b)));
-  last = λ p s sender. ap (λ (l : LastView). number_of l s) (same_last p) ∙ was.last p s sender
+  last = λ p s sender. was.last p s sender
       ∙ ap length (sym (accepted_with_entry b (entry.Joined e) p e s ∙ append-nil (accepted b p e s)));
-})
-  where
-    same_last : (p : Part) → last_of p (record v { joined = true }) ≡ last_of p v
-    same_last part.Cell = refl
-    same_last part.Base = refl
-
-    or_true : (x : Bool) → (x || true) ≡ true
-    or_true true = refl
-    or_true false = refl
+}
 
 entity_destroyed : (b : Book) (e : ℕ) (v w : Entity) → Dies v w → EntityRefines b e v → EntityRefines (with_entry b (entry.Destroyed e)) e w
 entity_destroyed b e v w is was = subst (EntityRefines (with_entry b (entry.Destroyed e)) e) (sym is) (record {
@@ -261,7 +248,6 @@ entity_destroyed b e v w is was = subst (EntityRefines (with_entry b (entry.Dest
   ty = was.ty;
   live = ap not (sym (any_with (destroys e) b (entry.Destroyed e) ∙ ap (λ (y : Bool). list_any (destroys e) (entries b) || y) (same e)
       ∙ or_true (list_any (destroys e) (entries b))));
-  joined = was.joined ∙ sym (any_with (joins e) b (entry.Destroyed e) ∙ or_false (list_any (joins e) (entries b)));
   last = λ p s sender. ap (λ (l : LastView). number_of l s) (same_last p) ∙ was.last p s sender
       ∙ ap length (sym (accepted_with_entry b (entry.Destroyed e) p e s ∙ append-nil (accepted b p e s)));
 })
@@ -276,25 +262,54 @@ entity_destroyed b e v w is was = subst (EntityRefines (with_entry b (entry.Dest
 
 -- ---- books
 
+-- the book in code has counted one more line
+pub line_counted : (t : Commands) (h : Header) (b : Book) (x : Entry) (old new : BookView) (count : ℕ) → Refines t h b old →
+    count ≡ old.count + 1 → Refines t h (with_entry b x) (counted new) → Refines t h (with_entry b x) (record new { count = count })
+line_counted t h b x old new count was is after =
+    let lines : length (b.current ++ x ∷ []) ≡ length b.current + 1 = length-append b.current (x ∷ []) in
+    let before = was.count in
+    let now = after.count in
+    let same : new.count + 1 ≡ count = omega (arith, lines, before, now, is) in
+    subst (λ (n : ℕ). Refines t h (with_entry b x) (record new { count = n })) same after
+
+-- a list with one more item, where there is one
+abbrev pub with_one : {X : Type 0} → List X → Option X → List X
+with_one xs None = xs
+with_one xs (Some x) = xs ++ x ∷ []
+
+-- whether a balance was asked for, with an entry more
+abbrev pub or_balanced : Bool → Entry → Bool
+or_balanced was entry.Balanced = true
+or_balanced was x = was
+
 -- the book in code holds one more entry, in all its parts
 pub record HoldsMore (h : Header) (x : Entry) (old new : BookView) : Type 0 where
   pub header : new.header ≡ old.header
   pub commands : new.commands ≡ old.commands
   pub tree : new.tree ≡ divided old.tree x
   pub count : new.count ≡ old.count + 1
-  pub creates : new.creates ≡ old.creates ++ cons_option (created x) []
-  pub joined_ : new.joined ≡ old.joined ++ cons_option (joined x) []
-  pub orders : new.orders ≡ old.orders ++ cons_option (ordered h x) []
-  pub destroyed_ : new.destroyed ≡ old.destroyed ++ cons_option (destroyed x) []
-  pub balance : new.balance ≡ (old.balance || is_balance x)
+  pub creates : new.creates ≡ with_one old.creates (created x)
+  pub joined_ : new.joined ≡ with_one old.joined (joined x)
+  pub orders : new.orders ≡ with_one old.orders (ordered h x)
+  pub destroyed_ : new.destroyed ≡ with_one old.destroyed (destroyed x)
+  pub balance : new.balance ≡ or_balanced old.balance x
 
 some_more : {X : Type 0} (f : Entry → Option X) (old new : List X) (b : Book) (x : Entry) → old ≡ filter_map f b.current →
-    new ≡ old ++ cons_option (f x) [] → new ≡ filter_map f (b.current ++ x ∷ [])
+    new ≡ with_one old (f x) → new ≡ filter_map f (b.current ++ x ∷ [])
 some_more {X} f old new b x was is =
-    is ∙ ap (λ (xs : List X). xs ++ cons_option (f x) []) was ∙ sym (filter_map-append f b.current (x ∷ []))
+    is ∙ one old (f x) ∙ ap (λ (xs : List X). xs ++ cons_option (f x) []) was ∙ sym (filter_map-append f b.current (x ∷ []))
+  where
+    one : (xs : List X) (o : Option X) → with_one xs o ≡ xs ++ cons_option o []
+    one xs None = sym (append-nil xs)
+    one xs (Some x) = refl
+
+balance_with : (was : Bool) (x : Entry) → or_balanced was x ≡ (was || is_balance x)
+balance_with true entry.Balanced = refl
+balance_with false entry.Balanced = refl
+balance_with was x = sym (or_false was)
 
 pub entry_kept : (t : Commands) (h : Header) (b : Book) (x : Entry) (old new : BookView) → Refines t h b old → HoldsMore h x old new →
-    EntitiesRefine (with_entry b x) new.entities → new.clients ≡ count_of_clients (with_entry b x) → Refines t h (with_entry b x) new
+    EntitiesRefine (with_entry b x) new.entities → ClientsRefine (with_entry b x) new.clients → Refines t h (with_entry b x) new
 entry_kept t h b x old new was more entities clients = record {
   header = more.header ∙ was.header;
   commands = more.commands ∙ was.commands;
@@ -306,10 +321,19 @@ entry_kept t h b x old new was more entities clients = record {
   joined_ = some_more joined old.joined new.joined b x was.joined_ more.joined_;
   orders = some_more (ordered h) old.orders new.orders b x was.orders more.orders;
   destroyed_ = some_more destroyed old.destroyed new.destroyed b x was.destroyed_ more.destroyed_;
-  balance = more.balance ∙ ap (λ (y : Bool). y || is_balance x) was.balance
+  balance = more.balance ∙ balance_with old.balance x ∙ ap (λ (y : Bool). y || is_balance x) was.balance
       ∙ sym (list_any-append is_balance b.current (x ∷ [])
       ∙ ap (λ (y : Bool). list_any is_balance b.current || y) (or_false (is_balance x)));
 }
+
+-- an entity that the book has not made is not there
+pub absent_where_new : (b : Book) (entities : List (ℕ × Entity)) (e : ℕ) → EntitiesRefine b entities → created_as b e ≡ None →
+    entity_at entities e ≡ None
+absent_where_new b entities e was new = cases (entity_at entities e) refl (was.each e)
+  where
+    cases : (o : Option Entity) → entity_at entities e ≡ o → IsKept b e o → entity_at entities e ≡ None
+    cases None found none = found
+    cases (Some v) found here = absurd (none-some here.made (sym new ∙ here.is))
 
 -- after an entity was made
 pub create_kept : (t : Commands) (h : Header) (b : Book) (old new : BookView) (c : Create) (v : Entity) → Refines t h b old →
@@ -319,7 +343,7 @@ create_kept t h b old new c v was whole absent fresh put clients more =
     let unknown = entity_unknown b old.entities c.entity was.entities absent in
     entry_kept t h b (entry.Created c) old new was more
     (entities_with_create b c whole unknown old.entities new.entities v was.entities fresh put)
-    (clients ∙ was.clients ∙ sym (count_with_new b c unknown))
+    (subst (ClientsRefine (with_entry b (entry.Created c))) (sym clients) (clients_with_new b c old.clients was.clients unknown))
 
 -- the entity that the next call is for is there
 next_is_there : (b : Book) (entities : List (ℕ × Entity)) (call : Call) → EntitiesRefine b entities → IsNextCall b call →
@@ -339,7 +363,8 @@ call_kept t h b old new call was is kept clients more =
     let there = next_is_there b old.entities call was.entities is in
     entry_kept t h b (entry.Called call) old new was more
     (entities_with_call b old.entities new.entities call there.0 was.entities is there.1 kept)
-    (clients ∙ was.clients ∙ sym (count_stays b (entry.Called call) refl (λ e. refl) (λ e. refl)))
+    (subst (ClientsRefine (with_entry b (entry.Called call))) (sym clients)
+    (clients_stay b (entry.Called call) old.clients was.clients refl (λ e. refl) (λ e. refl)))
 
 -- after an entry that is about no entity
 pub other_kept : (t : Commands) (h : Header) (b : Book) (x : Entry) (old new : BookView) → Refines t h b old → creates_of (x ∷ []) ≡ [] →
@@ -348,33 +373,71 @@ pub other_kept : (t : Commands) (h : Header) (b : Book) (x : Entry) (old new : B
 other_kept t h b x old new was none spares entities clients more =
     entry_kept t h b x old new was more
     (subst (EntitiesRefine (with_entry b x)) (sym entities) (entities_stay b x old.entities was.entities none spares))
-    (clients ∙ was.clients ∙ sym (count_stays b x none (λ e. (spares e).destroys) (λ e. (spares e).joins)))
+    (subst (ClientsRefine (with_entry b x)) (sym clients)
+    (clients_stay b x old.clients was.clients none (λ e. (spares e).destroys) (λ e. (spares e).joins)))
+
+-- after the space was divided, and after a balance was asked for
+module _ (t : Commands) (h : Header) (b : Book) (old : BookView) (was : Refines t h b old) where
+  pub division_kept : (tree : Division) → Refines t h (with_entry b (entry.Divided tree)) (counted (record old { tree = tree }))
+  division_kept tree =
+      other_kept t h b (entry.Divided tree) old _ was refl
+      (λ e. record { makes = refl; destroys = refl; joins = refl; calls = λ p s. refl }) refl refl
+      (record {
+        header = refl;
+        commands = refl;
+        tree = refl;
+        count = refl;
+        creates = refl;
+        joined_ = refl;
+        orders = refl;
+        destroyed_ = refl;
+        balance = refl;
+      })
+
+  pub balance_kept : Refines t h (with_entry b entry.Balanced) (counted (record old { balance = true }))
+  balance_kept =
+      other_kept t h b entry.Balanced old _ was refl
+      (λ e. record { makes = refl; destroys = refl; joins = refl; calls = λ p s. refl }) refl refl
+      (record {
+        header = refl;
+        commands = refl;
+        tree = refl;
+        count = refl;
+        creates = refl;
+        joined_ = refl;
+        orders = refl;
+        destroyed_ = refl;
+        balance = refl;
+      })
 
 -- after an entity was given a client
 pub client_kept : (t : Commands) (h : Header) (b : Book) (old new : BookView) (e : ℕ) → Refines t h b old → LivesAlone b e →
-    ChangesOne old.entities new.entities e Joins → new.clients ≡ old.clients + 1 → HoldsMore h (entry.Joined e) old new →
-    Refines t h (with_entry b (entry.Joined e)) new
-client_kept t h b old new e was alone changes clients more =
+    new.entities ≡ old.entities → SetsClient old.clients new.clients e true → length new.clients ≡ length old.clients + 1 →
+    HoldsMore h (entry.Joined e) old new → Refines t h (with_entry b (entry.Joined e)) new
+client_kept t h b old new e was alone entities sets count more =
     let there = live_is_there b old.entities e was.entities alone.lives in
     let here = entity_found b old.entities e there.0 was.entities there.1 in
-    let entities = entities_changed b (entry.Joined e) old.entities new.entities e Joins there.0 was.entities changes refl
-    (λ other ne. spares_joined e other ne) there.1 (λ w joins_ before. entity_joined b e there.0 w joins_ before) in
-    entry_kept t h b (entry.Joined e) old new was more entities
-    (clients ∙ ap (λ (n : ℕ). n + 1) was.clients
-    ∙ sym (one_more b e here.made was.entities.once here.is alone.alone (client_now b e there.0 here alone)))
+    entry_kept t h b (entry.Joined e) old new was more
+    (subst (EntitiesRefine (with_entry b (entry.Joined e))) (sym entities)
+    (entities_with b (entry.Joined e) old.entities old.entities e was.entities
+    (was.entities.count ∙ sym (count_without_create b (entry.Joined e) refl))
+    (subst (IsKept (with_entry b (entry.Joined e)) e) (sym there.1) (entity_joined b e there.0 here)) (λ other ne. refl)
+    (λ other ne. spares_joined e other ne) (once_stays b (entry.Joined e) refl was.entities.once)))
+    (clients_with_one b e here.made old.clients new.clients was.clients sets count was.entities.once here.is alone.alone
+    (client_now b e there.0 here alone))
 
 -- after one was destroyed
 pub destroy_kept : (t : Commands) (h : Header) (b : Book) (old new : BookView) (e : ℕ) → Refines t h b old → IsSome (live_as b e) →
-    ChangesOne old.entities new.entities e Dies → new.clients ≡ old.clients - cond (has_client b e) 1 0 →
-    HoldsMore h (entry.Destroyed e) old new → Refines t h (with_entry b (entry.Destroyed e)) new
-destroy_kept t h b old new e was lives changes clients more =
+    ChangesOne old.entities new.entities e Dies → SetsClient old.clients new.clients e false →
+    length new.clients + cond (is_client old.clients e) 1 0 ≡ length old.clients → HoldsMore h (entry.Destroyed e) old new →
+    Refines t h (with_entry b (entry.Destroyed e)) new
+destroy_kept t h b old new e was lives changes sets count more =
     let there = live_is_there b old.entities e was.entities lives in
     let here = entity_found b old.entities e there.0 was.entities there.1 in
     let entities = entities_changed b (entry.Destroyed e) old.entities new.entities e Dies there.0 was.entities changes refl
     (λ other ne. spares_destroyed e other ne) there.1 (λ w dies before. entity_destroyed b e there.0 w dies before) in
-    let less = one_less b e here.made was.entities.once here.is (none_now b e) in
-    let counted = was.clients in
-    entry_kept t h b (entry.Destroyed e) old new was more entities (omega (arith, clients, less, counted))
+    entry_kept t h b (entry.Destroyed e) old new was more entities
+    (clients_without_one b e here.made old.clients new.clients was.clients sets count was.entities.once here.is (none_now b e))
 
 -- ---- the next round
 
@@ -401,7 +464,6 @@ module _ (b d : Book) (alike : entries b ≡ entries d) where
     whole = was.whole;
     ty = was.ty;
     live = was.live ∙ ap not (same_any (destroys e));
-    joined = was.joined ∙ same_any (joins e);
     last = λ p s is. was.last p s is ∙ ap length (same_accepted p e s);
   }
 
@@ -413,11 +475,17 @@ module _ (b d : Book) (alike : entries b ≡ entries d) where
     once = subst (λ (xs : List Entry). IsDistinct eqb (map (λ c. c.entity) (creates_of xs))) alike was.once;
   }
 
-  -- and so does the number of those that have a client
-  same_clients : count_of_clients b ≡ count_of_clients d
-  same_clients = λ i. count_by (λ (c : Create).
+  -- and so do those that have a client
+  same_has : (e : ℕ) → has_client b e ≡ has_client d e
+  same_has e = λ i. is_some (cond (list_any (destroys e) (alike i)) None (same_created e i)) && list_any (joins e) (alike i)
+
+  same_count : count_of_clients b ≡ count_of_clients d
+  same_count = λ i. count_by (λ (c : Create).
       is_some (cond (list_any (destroys c.entity) (alike i)) None (same_created c.entity i)) && list_any (joins c.entity) (alike i))
       (creates_of (alike i))
+
+  pub same_clients : (clients : List ℕ) → ClientsRefine b clients → ClientsRefine d clients
+  same_clients clients was = record { count = was.count ∙ same_count; each = λ e. was.each e ∙ same_has e }
 
 -- the open round has no line
 pub record IsEmptyRound (new : BookView) : Type 0 where
@@ -438,13 +506,38 @@ round_kept t h b old new was header commands tree entities clients none = record
   tree = tree ∙ was.tree;
   entities = same_entities b (with_round_ended b) (sym (entries_after_round b)) new.entities
       (subst (EntitiesRefine b) (sym entities) was.entities);
-  clients = clients ∙ was.clients ∙ same_clients b (with_round_ended b) (sym (entries_after_round b));
+  clients = same_clients b (with_round_ended b) (sym (entries_after_round b)) new.clients
+      (subst (ClientsRefine b) (sym clients) was.clients);
   count = none.count;
   creates = none.creates;
   joined_ = none.joined_;
   orders = none.orders;
   destroyed_ = none.destroyed_;
   balance = none.balance;
+}
+
+-- ---- another tree
+
+-- a round without lines ends with the tree that it began with
+tree_of_none : (t : Division) (xs : List Entry) → length xs ≡ 0 → fold divided t xs ≡ t
+tree_of_none t [] none = refl
+tree_of_none t (x ∷ xs) none = let never : ⊥ = omega (arith, none) in absurd never
+
+-- the book in code whose open round, which has no line, begins with another tree
+pub tree_kept : (t : Commands) (h : Header) (b : Book) (old : BookView) (tree : Division) → Refines t h b old → old.count ≡ 0 →
+    Refines t h (with_tree b tree) (record old { tree = tree })
+tree_kept t h b old tree was none = record {
+  header = was.header;
+  commands = was.commands;
+  tree = sym (tree_of_none tree b.current (sym was.count ∙ none));
+  entities = same_entities b (with_tree b tree) refl old.entities was.entities;
+  clients = same_clients b (with_tree b tree) refl old.clients was.clients;
+  count = was.count;
+  creates = was.creates;
+  joined_ = was.joined_;
+  orders = was.orders;
+  destroyed_ = was.destroyed_;
+  balance = was.balance;
 }
 
 -- where a book begins
@@ -457,13 +550,13 @@ nothing_kept size = record {
 }
 
 pub begins : (t : Commands) (h : Header) (new : BookView) → new.header ≡ h → new.commands ≡ t → new.tree ≡ one_cell h.settings.size →
-    new.entities ≡ [] → new.clients ≡ 0 → IsEmptyRound new → Refines t h (empty_book h.settings.size) new
+    new.entities ≡ [] → new.clients ≡ [] → IsEmptyRound new → Refines t h (empty_book h.settings.size) new
 begins t h new header commands tree entities clients none = record {
   header = header;
   commands = commands;
   tree = tree;
   entities = subst (EntitiesRefine (empty_book h.settings.size)) (sym entities) (nothing_kept h.settings.size);
-  clients = clients;
+  clients = subst (ClientsRefine (empty_book h.settings.size)) (sym clients) (record { count = refl; each = λ e. refl });
   count = none.count;
   creates = none.creates;
   joined_ = none.joined_;

@@ -1,11 +1,11 @@
 -- What is kept of entities by their names.
-use Rattle.std.proofs.Common.{◌≡◌, ◌≢◌, ℕ, Bool, true, false, cond, List, refl, sym, ◌∙◌, ap, subst, Option, Some, None, inl, inr, arith}
-use Rattle.std.specs.Prelude.{MatchOption, ◌&&◌, ◌||◌, not, is_some, IsSome}
+use Rattle.std.proofs.Common.{◌≡◌, ◌≢◌, ℕ, Bool, true, false, cond, List, refl, sym, ◌∙◌, ap, subst, Option, Some, None, arith}
+use Rattle.std.specs.Prelude.{MatchOption, ◌&&◌, ◌||◌, not, is_some, IsSome, eqb}
 use Rattle.std.specs.Ordering.{nat_cmp}
-use Rattle.std.specs.Cmp.{nat_cmp_total}
-use Rattle.std.specs.BTreeMap.{BTreeMap, get, is_at, IsOrdered, WritesThrough}
-use Rattle.std.proofs.lemmas.Map.Lookups.{btree_map_from_get, exact_unsigned}
-use Rattle.std.proofs.lemmas.Bool.Decides.{eqb_tells, nat_tests}
+use Rattle.std.specs.BTreeMap.{is_at}
+use Rattle.indexmap.specs.IndexMap.{IndexMap, get, WritesThrough}
+use Rattle.std.proofs.lemmas.Map.Steps.{set_value_same}
+use Rattle.std.proofs.lemmas.Bool.Decides.{nat_tests}
 use Rattle.seam_value.specs.NumberWords.{IsWhole}
 use Rattle.std.specs.List.{list_any}
 use Rattle.std.specs.Borrow.{Bor}
@@ -18,9 +18,13 @@ use Rattle.seam_accept.proofs.Books.{any_with, created_with, or_false, or_none}
 use Rattle.seam_accept.specs.Entities.{EntitiesRefine, EntityRefines, IsUnknown, IsLive, LivesAlone, entity_at}
 use Rattle.seam_accept.specs.declared.entity.Entity.{Entity}
 
--- another number is not at the query of a number
-pub apart : (e other : ℕ) → other ≢ e → is_at (nat_cmp e) other ≡ false
+-- another number is not the one that is asked for
+pub apart : (e other : ℕ) → other ≢ e → eqb e other ≡ false
 apart e other ne = grind (arith, nat_tests)
+
+-- nor is it at the query of that one in a set
+pub apart_in_set : (e other : ℕ) → other ≢ e → is_at (nat_cmp e) other ≡ false
+apart_in_set e other ne = grind (arith, nat_tests)
 
 module _ (b : Book) (e : ℕ) (v : Entity) (was : EntityRefines b e v) where
   pub live_is : live_as b e ≡ cond v.live (Some was.made) None
@@ -31,15 +35,6 @@ module _ (b : Book) (e : ℕ) (v : Entity) (was : EntityRefines b e v) where
       turned : (x : Bool) → cond x None (created_as b e) ≡ cond (not x) (created_as b e) None
       turned true = refl
       turned false = refl
-
-  pub client_is : has_client b e ≡ (v.live && v.joined)
-  client_is =
-      ap (λ (o : Option Create). is_some o && list_any (joins e) (entries b)) live_is ∙ by v.live
-      ∙ ap (λ (x : Bool). v.live && x) (sym was.joined)
-    where
-      by : (x : Bool) → (is_some (cond x (Some was.made) None) && list_any (joins e) (entries b)) ≡ (x && list_any (joins e) (entries b))
-      by true = refl
-      by false = refl
 
 module _ (b : Book) (e : ℕ) (was : IsUnknown b e) where
   pub none_lives : live_as b e ≡ None
@@ -84,17 +79,10 @@ client_is_whole b entities e was is = cases (entity_at entities e) (was.each e)
 -- ---- writing to one of them
 
 -- what `get_mut` lent was given back as it was
-pub given_back : (m n : BTreeMap ℕ Entity) (e : ℕ) (v w : Entity) → WritesThrough nat_cmp (nat_cmp e) m w n →
-    Some v ≡ get nat_cmp m e → w ≡ v → IsOrdered nat_cmp m → n.entries ≡ m.entries
-given_back m n e v w writes found same ordered =
-    let updates = writes.3 (subst (λ (o : Option Entity). IsSome o) found refl) in
-    btree_map_from_get nat_cmp_total n m writes.4 ordered
-    (λ q. elim (eqb_tells e q) [
-      | inl is ↦ subst (λ (k : ℕ). get nat_cmp n k ≡ get nat_cmp m k) is.1
-          (updates.1 ∙ ap (λ (x : Entity). Some x) same ∙ found)
-      | inr differ ↦ updates.2 q (apart e q (λ s. differ.1 (sym s)))
-    ])
-    exact_unsigned
+pub given_back : {S : Type 0} (m n : IndexMap ℕ Entity S) (e : ℕ) (v w : Entity) → WritesThrough eqb (eqb e) m w n →
+    Some v ≡ get eqb m e → w ≡ v → n.entries ≡ m.entries
+given_back m n e v w writes found same =
+    writes.0 ∙ set_value_same (eqb e) m.entries w (sym (ap (λ (x : Entity). Some x) same ∙ found))
 
 -- a live entity is there
 pub live_is_there : (b : Book) (entities : List (ℕ × Entity)) (e : ℕ) → EntitiesRefine b entities → IsSome (live_as b e) →

@@ -1,6 +1,6 @@
 -- What is kept of entities, beside the book of a transcript.
-use Rattle.std.specs.Prelude.{◌≡◌, ◌≢◌, ℕ, ◌+◌, true, false, not, cond, ◌&&◌, eqb, map, List, [], length, Option, None, Some, MatchOption}
-use Rattle.std.specs.Prelude.{IfSome, IsSome}
+use Rattle.std.specs.Prelude.{◌≡◌, ◌≢◌, ⊤, ℕ, ◌+◌, Bool, true, false, not, cond, ◌&&◌, eqb, map, List, [], length}
+use Rattle.std.specs.Prelude.{Option, None, Some, MatchOption, IfSome, IsSome}
 use Rattle.std.specs.Borrow.{Bor}
 use Rattle.std.specs.Map.{lookup}
 use Rattle.std.specs.Ordering.{nat_cmp}
@@ -14,7 +14,10 @@ use Rattle.seam_call.specs.Calls.{same_part}
 use Rattle.seam_call.specs.declared.sender.Sender.{Sender}
 use Rattle.seam_call.specs.declared.call.Call.{Call}
 use Rattle.seam_call.specs.declared.create.Create.{Create}
-use Rattle.seam_transcript.specs.Book.{Book, entries, creates_of, created_as, live_as, destroys, joins, has_client, accepted}
+use Rattle.seam_transcript.specs.Book.{Book, entries, creates_of, created_as, live_as, destroys, joins, has_client, count_of_clients}
+use Rattle.seam_transcript.specs.Book.{accepted}
+use Rattle.seam_transcript.specs.declared.verdict.Entry.{Entry}
+use Rattle.seam_transcript.specs.declared.verdict.Entry.TheVariants as entry
 use Rattle.seam_accept.specs.Last.{LastView, number_of}
 use Rattle.seam_accept.specs.declared.entity.Entity.{Entity}
 
@@ -27,18 +30,16 @@ last_of part.Base v = v.base
 pub record Remembers (p : Part) (s : Sender) (number : ℕ) (old new : Entity) : Type 0 where
   pub ty : new.ty ≡ old.ty
   pub live : new.live ≡ old.live
-  pub joined : new.joined ≡ old.joined
   pub last : (q : Part) (t : Sender) → IsSender t →
       number_of (last_of q new) t ≡ cond (same_part p q && same_sender s t) number (number_of (last_of q old) t)
 
--- an entity of the book: its type, whether it was destroyed or given a client, and how many calls each sender made to its parts
+-- an entity of the book: its type, whether it was destroyed, and how many calls each sender made to its parts
 pub record EntityRefines (b : Book) (e : ℕ) (v : Entity) : Type 0 where
   pub made : Create
   pub is : created_as b e ≡ Some made
   pub whole : IsWhole e
   pub ty : v.ty ≡ made.ty
   pub live : v.live ≡ not (list_any (destroys e) (entries b))
-  pub joined : v.joined ≡ list_any (joins e) (entries b)
   pub last : (p : Part) (s : Sender) → IsSender s → number_of (last_of p v) s ≡ length (accepted b p e s)
 
 -- the book has no entity of this number, and nothing was accepted for one
@@ -50,13 +51,22 @@ pub record IsUnknown (b : Book) (e : ℕ) : Type 0 where
 
 -- the entity of a number among entities by number
 abbrev pub entity_at : List (ℕ × Entity) → ℕ → Option Entity
-entity_at entities e = lookup (is_at (nat_cmp e)) entities
+entity_at entities e = lookup (eqb e) entities
 
 -- the entities are those of the book
 pub record EntitiesRefine (b : Book) (entities : List (ℕ × Entity)) : Type 0 where
   pub count : length entities ≡ length (creates_of (entries b))
   pub each : (e : ℕ) → MatchOption (entity_at entities e) (IsUnknown b e) (EntityRefines b e)
   pub once : IsDistinct eqb (map (λ c. c.entity) (creates_of (entries b)))
+
+-- whether a number is one of the clients
+abbrev pub is_client : List ℕ → ℕ → Bool
+is_client clients e = list_any (is_at (nat_cmp e)) clients
+
+-- the clients are those of the live entities that have one
+pub record ClientsRefine (b : Book) (clients : List ℕ) : Type 0 where
+  pub count : length clients ≡ count_of_clients b
+  pub each : (e : ℕ) → is_client clients e ≡ has_client b e
 
 -- an entity lives, and is kept so
 pub record IsLive (b : Book) (e : ℕ) (v : Bor Entity) : Type 0 where
@@ -74,16 +84,21 @@ pub record IsNextCall (b : Book) (c : Call) : Type 0 where
   pub is : created_as b c.entity ≡ Some made
   pub next : c.number ≡ length (accepted b c.part c.entity c.sender) + 1
 
+-- an entry that may come next: it makes an entity whose number is new, calls one of the book, or is about a live one
+abbrev pub IsNext : Book → Entry → Type 0
+IsNext b (entry.Created c) = created_as b c.entity ≡ None
+IsNext b (entry.Called c) = IsNextCall b c
+IsNext b (entry.Joined e) = LivesAlone b e
+IsNext b (entry.Destroyed e) = IsSome (live_as b e)
+IsNext b x = ⊤
+
 -- an entity, where it is there, was changed so, and the others stay
 pub record ChangesOne (old new : List (ℕ × Entity)) (e : ℕ) (Changes : Entity → Entity → Type 0) : Type 0 where
   pub count : length new ≡ length old
   pub here : IfSome (entity_at old e) (λ v. (w : Entity) × (entity_at new e ≡ Some w) × Changes v w)
   pub others : (other : ℕ) → other ≢ e → entity_at new other ≡ entity_at old other
 
--- an entity is given a client, or is destroyed
-abbrev pub Joins : Entity → Entity → Type 0
-Joins v w = w ≡ record v { joined = true }
-
+-- an entity is destroyed
 abbrev pub Dies : Entity → Entity → Type 0
 Dies v w = w ≡ record v { live = false }
 

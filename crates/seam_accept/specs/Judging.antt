@@ -1,5 +1,5 @@
 -- What a command is judged to be.
-use Rattle.std.specs.Prelude.{⊤, ℕ, List}
+use Rattle.std.specs.Prelude.{◌≡◌, ⊤, ℕ, List, Option, Some, None}
 use Rattle.seam_value.specs.declared.values.Value.{Value}
 use Rattle.seam_geo.specs.declared.pos.Pos.{Pos}
 use Rattle.seam_defs.specs.Types.{method_of}
@@ -7,7 +7,7 @@ use Rattle.seam_defs.specs.declared.types.TypeDef.{TypeDef}
 use Rattle.seam_defs.specs.declared.states.Deed.{Deed}
 use Rattle.seam_defs.specs.declared.states.Deed.TheVariants as deed
 use Rattle.seam_call.specs.declared.sender.Sender.{Sender}
-use Rattle.seam_transcript.specs.Language.{Command}
+use Rattle.seam_transcript.specs.Language.{Command, Sync}
 use Rattle.seam_toml.specs.declared.header.Header.{Header}
 use Rattle.seam_transcript.specs.Book.{Book}
 use Rattle.seam_transcript.specs.Judging.{MayCall, MayMove}
@@ -16,6 +16,7 @@ use Rattle.seam_transcript.specs.declared.verdict.Entry.{Entry}
 use Rattle.seam_transcript.specs.declared.verdict.Cause.{Cause}
 use Rattle.seam_transcript.specs.declared.verdict.Cause.TheVariants as cause
 use Rattle.seam_accept.specs.Commands.{texts_of}
+use Rattle.seam_accept.specs.Entities.{IsNext}
 use Rattle.seam_accept.specs.declared.command.MethodWords.{MethodWords}
 use Rattle.seam_accept.specs.declared.command.PlaceWords.{PlaceWords}
 use Rattle.seam_accept.specs.declared.command.DeedWords.{DeedWords}
@@ -32,6 +33,11 @@ pub record Accepts (h : Header) (b : Book) (c : Command) (x : Entry) : Type 0 wh
 abbrev pub Refuses : Header → Book → Command → Refusal → Type 0
 Refuses h b c (refusal.Cause k) = IsFirst (HoldsAgainst h b c) k
 Refuses h b c refusal.NoMemory = ⊤
+
+-- what was judged of a command: the entry that it adds, which may come next; or it ends the round
+abbrev pub Judged : Header → Book → Command → Option Entry → Type 0
+Judged h b c (Some x) = Accepts h b c x × IsNext b x
+Judged h b c None = c ≡ Sync
 
 -- the words ask an entity of this type for the deed
 abbrev pub Asks : Header → DeedWords → TypeDef → Deed → Type 0

@@ -4,7 +4,7 @@ use Rattle.std.specs.List.{filter_map}
 use Rattle.seam_io.specs.Lines.{Line}
 use Rattle.seam_toml.specs.declared.header.Header.{Header}
 use Rattle.seam_transcript.specs.Language.{Command, Sync}
-use Rattle.seam_transcript.specs.Book.{Book, creates_of, with_entry, tree_of, has_balance, count_of_clients}
+use Rattle.seam_transcript.specs.Book.{Book, creates_of, with_entry, tree_of, has_balance}
 use Rattle.seam_transcript.specs.Judging.{Judges}
 use Rattle.seam_transcript.specs.declared.commands.Commands.{Commands}
 use Rattle.seam_transcript.specs.declared.verdict.Entry.{Entry}
@@ -13,7 +13,7 @@ use Rattle.seam_accept.specs.declared.answers.Accepted.{Accepted}
 use Rattle.seam_accept.specs.declared.answers.Accepted.TheVariants as answer
 use Rattle.seam_accept.specs.declared.answers.Refusal.{Refusal}
 use Rattle.seam_accept.specs.declared.answers.Refusal.TheVariants as refusal
-use Rattle.seam_accept.specs.Entities.{EntitiesRefine}
+use Rattle.seam_accept.specs.Entities.{EntitiesRefine, ClientsRefine}
 use Rattle.seam_accept.specs.Judging.{Accepts}
 use Rattle.seam_accept.specs.Batches.{ordered, joined, destroyed}
 use Rattle.seam_accept.specs.BookView.{BookView}
@@ -24,7 +24,7 @@ pub record Refines (taken : Commands) (h : Header) (b : Book) (book : BookView) 
   pub commands : book.commands ≡ taken
   pub tree : book.tree ≡ tree_of b
   pub entities : EntitiesRefine b book.entities
-  pub clients : book.clients ≡ count_of_clients b
+  pub clients : ClientsRefine b book.clients
   pub count : book.count ≡ length b.current
   pub creates : book.creates ≡ creates_of b.current
   pub joined_ : book.joined ≡ filter_map joined b.current

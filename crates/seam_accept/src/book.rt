@@ -1,27 +1,27 @@
 // The book of what was accepted.
-ghost use Rattle.std.specs.Prelude.{◌-◌, cond, ◌≡◌, ◌≤◌, ◌<◌, ℕ, IsSome, None, length, IfOk, IfErr, OnOk, OnErr};
+ghost use Rattle.std.specs.Prelude.{◌≡◌, ◌≤◌, IsSome, None, length, IfOk, IfErr, OnOk, OnErr};
 ghost use Rattle.seam_io.specs.Lines.{Content};
 ghost use Rattle.seam_defs.specs.Settings.{AreInRange};
 ghost use Rattle.seam_toml.specs.declared.header.Header.{Header as Headers};
-ghost use Rattle.seam_transcript.specs.Language.{Client, Tick, Balance, Destroy};
 ghost use Rattle.seam_transcript.specs.declared.commands.Commands.{Commands as Takens};
-ghost use Rattle.seam_transcript.specs.declared.limits.TheConstants.{MOST_CLIENTS};
-ghost use Rattle.seam_transcript.specs.Book.{Book as Books, empty_book, open_lines, with_entry, with_round_ended, created_as, live_as};
+ghost use Rattle.seam_transcript.specs.Book.{Book as Books, empty_book, open_lines, with_entry, with_round_ended, with_tree};
+ghost use Rattle.seam_transcript.specs.Book.{created_as, live_as};
 ghost use Rattle.seam_defs.specs.declared.limits.TheConstants.{MOST_BASE_NODES};
-ghost use Rattle.seam_accept.specs.Commands.{create_of, call_of, cut_of, shift_of};
-ghost use Rattle.seam_accept.specs.Entities.{entity_at, IsNextCall, LivesAlone};
-ghost use Rattle.seam_accept.specs.Judging.{Refuses};
+ghost use Rattle.seam_accept.specs.Commands.{command_of};
+ghost use Rattle.seam_accept.specs.Entities.{IsNext, IsNextCall, LivesAlone};
+ghost use Rattle.seam_accept.specs.Judging.{Judged, Refuses};
 ghost use Rattle.seam_accept.specs.Batches.{batch_of, passes_to, node_of as node_of_sender};
+ghost use Rattle.seam_accept.specs.BookView.{counted};
 ghost use Rattle.seam_accept.specs.Refines.{Refines, LineAccepted, LineRefused, CommandAccepted};
 
 use crate::answers::{Accepted, Refusal};
-use crate::command::{CallWords, Command, CreateWords, CutWords, Form, ShiftWords, read_line};
+use crate::command::{Command, Form, read_line};
 use crate::count::next_len;
-use crate::entity::{Entity, keep_destroyed, keep_joined, keep_last};
+use crate::entity::{Entity, keep_destroyed, keep_last};
 use crate::judging::{
     judge_call, judge_client, judge_create, judge_cut, judge_destroy, judge_shift,
 };
-use crate::naming::has_client_now;
+use indexmap::IndexMap;
 use seam_call::{Batch, Call, Create, Order, Sender};
 use seam_defs::{Listed, Part};
 use seam_io::LONGEST_LINE;
@@ -29,21 +29,21 @@ use seam_transcript::{Commands, Entry, Header};
 use seam_tree::{MOST_CELLS, Tree};
 use seam_words::MOST_WORDS;
 use std::alloc::{AllocError, Global};
-use std::collections::BTreeMap;
+use std::collections::BTreeSet;
 use std::marker::Model;
 
 /// The book of what was accepted. It takes the lines after a header, one after another, and gives what a round brings as a batch.
 ///
-/// A line costs a logarithm of the entities that were created.
+/// A line costs two look-ups in a hashed map at most, and of a client a logarithm of the clients; nothing for each entity.
 #[derive(Drop)]
 pub struct Book {
     alloc: Global,
     header: Header,
     commands: Commands,
     tree: Tree,
-    entities: BTreeMap<u32, Entity>,
-    // how many live entities have a client
-    clients: usize,
+    entities: IndexMap<u32, Entity>,
+    // the live entities that have a client
+    clients: BTreeSet<u32>,
     // how many lines of the open round were kept, and what it brings
     count: usize,
     creates: Vec<Create>,
@@ -66,7 +66,7 @@ impl Model for Book {
       commands = b.commands;
       tree = b.tree;
       entities = b.entities.entries;
-      clients = b.clients;
+      clients = b.clients.keys;
       count = b.count;
       creates = b.creates.items;
       joined = b.joined.items;
@@ -89,8 +89,8 @@ impl Book {
             header: Header { settings, defs },
             commands,
             tree: Tree::one(settings.size),
-            entities: BTreeMap::new(alloc),
-            clients: 0,
+            entities: IndexMap::new(alloc),
+            clients: BTreeSet::new(alloc),
             count: 0,
             creates: Vec::new(alloc),
             joined: Vec::new(alloc),
@@ -129,194 +129,136 @@ impl Book {
             → Refuses h b command.now r) }
         ensures unchanged { OnErr result (self.new ≡ self.old) }
     {
-        match command.form() {
-            Form::Create(words) => self.accept_create(words),
-            Form::Call(words) => self.accept_call(words),
-            Form::Sync => Ok(Accepted::Synced),
-            Form::Client(word) => self.accept_client(word),
-            Form::Tick => self.keep_tick(),
-            Form::Cut(words) => self.accept_cut(words),
-            Form::Shift(words) => self.accept_shift(words),
-            Form::Balance => self.keep_balance(),
-            Form::Destroy(word) => self.accept_destroy(word),
+        match self.judge(command.form())? {
+            Some(entry) => {
+                self.keep(entry)?;
+                Ok(Accepted::Kept)
+            }
+            None => Ok(Accepted::Synced),
         }
     }
 
-    // Takes a `create`.
-    fn accept_create(&mut self, words: &CreateWords) -> Result<Accepted, Refusal>
-        ensures accepted { IfOk result (λ a. (t : Takens) (h : Headers) (b : Books) → Refines t h b self.old
-            → CommandAccepted t h b (create_of words.now) a self.new) }
-        ensures refused { IfErr result (λ r. (t : Takens) (h : Headers) (b : Books) → Refines t h b self.old
-            → Refuses h b (create_of words.now) r) }
-        ensures unchanged { OnErr result (self.new ≡ self.old) }
+    // What a command adds; nothing where it ends the round.
+    fn judge(&self, form: &Form) -> Result<Option<Entry>, Refusal>
+        ensures judged { IfOk result (λ x. (t : Takens) (h : Headers) (b : Books) → Refines t h b self.now
+            → Judged h b (command_of form.now) x) }
+        ensures refused { IfErr result (λ r. (t : Takens) (h : Headers) (b : Books) → Refines t h b self.now
+            → Refuses h b (command_of form.now) r) }
     {
-        let create = judge_create(&self.header, &self.entities, words)?;
-        self.keep_create(create)?;
-        Ok(Accepted::Kept)
+        let (entities, clients) = (&self.entities, &self.clients);
+        let entry = match form {
+            Form::Create(words) => Entry::Created(judge_create(&self.header, entities, words)?),
+            Form::Call(words) => Entry::Called(judge_call(
+                self.alloc,
+                &self.header,
+                entities,
+                clients,
+                words,
+            )?),
+            Form::Sync => return Ok(None),
+            Form::Client(word) => Entry::Joined(judge_client(entities, clients, word)?),
+            Form::Tick => Entry::Ticked,
+            Form::Cut(words) => Entry::Divided(judge_cut(&self.tree, words)?),
+            Form::Shift(words) => Entry::Divided(judge_shift(&self.tree, words)?),
+            Form::Balance => Entry::Balanced,
+            Form::Destroy(word) => Entry::Destroyed(judge_destroy(entities, word)?),
+        };
+        Ok(Some(entry))
     }
 
-    // Takes a `call` or a `move`.
-    fn accept_call(&mut self, words: &CallWords) -> Result<Accepted, Refusal>
-        ensures accepted { IfOk result (λ a. (t : Takens) (h : Headers) (b : Books) → Refines t h b self.old
-            → CommandAccepted t h b (call_of words.now) a self.new) }
-        ensures refused { IfErr result (λ r. (t : Takens) (h : Headers) (b : Books) → Refines t h b self.old
-            → Refuses h b (call_of words.now) r) }
-        ensures unchanged { OnErr result (self.new ≡ self.old) }
-    {
-        let call = judge_call(self.alloc, &self.header, &self.entities, words)?;
-        self.keep_call(call)?;
-        Ok(Accepted::Kept)
-    }
-
-    // Takes a `client`.
-    fn accept_client(&mut self, word: &[u8]) -> Result<Accepted, Refusal>
-        ensures accepted { IfOk result (λ a. (t : Takens) (h : Headers) (b : Books) → Refines t h b self.old
-            → CommandAccepted t h b (Client word.now) a self.new) }
-        ensures refused { IfErr result (λ r. (t : Takens) (h : Headers) (b : Books) → Refines t h b self.old
-            → Refuses h b (Client word.now) r) }
-        ensures unchanged { OnErr result (self.new ≡ self.old) }
-    {
-        let entity = judge_client(&self.entities, self.clients, word)?;
-        self.keep_client(entity)?;
-        Ok(Accepted::Kept)
-    }
-
-    // Takes a `cut`.
-    fn accept_cut(&mut self, words: &CutWords) -> Result<Accepted, Refusal>
-        ensures accepted { IfOk result (λ a. (t : Takens) (h : Headers) (b : Books) → Refines t h b self.old
-            → CommandAccepted t h b (cut_of words.now) a self.new) }
-        ensures refused { IfErr result (λ r. (t : Takens) (h : Headers) (b : Books) → Refines t h b self.old
-            → Refuses h b (cut_of words.now) r) }
-        ensures unchanged { OnErr result (self.new ≡ self.old) }
-    {
-        let tree = judge_cut(&self.tree, words)?;
-        self.keep_tree(tree)?;
-        Ok(Accepted::Kept)
-    }
-
-    // Takes a `shift`.
-    fn accept_shift(&mut self, words: &ShiftWords) -> Result<Accepted, Refusal>
-        ensures accepted { IfOk result (λ a. (t : Takens) (h : Headers) (b : Books) → Refines t h b self.old
-            → CommandAccepted t h b (shift_of words.now) a self.new) }
-        ensures refused { IfErr result (λ r. (t : Takens) (h : Headers) (b : Books) → Refines t h b self.old
-            → Refuses h b (shift_of words.now) r) }
-        ensures unchanged { OnErr result (self.new ≡ self.old) }
-    {
-        let tree = judge_shift(&self.tree, words)?;
-        self.keep_tree(tree)?;
-        Ok(Accepted::Kept)
-    }
-
-    // Takes a `destroy`.
-    fn accept_destroy(&mut self, word: &[u8]) -> Result<Accepted, Refusal>
-        ensures accepted { IfOk result (λ a. (t : Takens) (h : Headers) (b : Books) → Refines t h b self.old
-            → CommandAccepted t h b (Destroy word.now) a self.new) }
-        ensures refused { IfErr result (λ r. (t : Takens) (h : Headers) (b : Books) → Refines t h b self.old
-            → Refuses h b (Destroy word.now) r) }
-        ensures unchanged { OnErr result (self.new ≡ self.old) }
-    {
-        let entity = judge_destroy(&self.entities, word)?;
-        self.keep_destroy(entity)?;
-        Ok(Accepted::Kept)
-    }
-
-    // Takes a `tick`.
-    fn keep_tick(&mut self) -> Result<Accepted, Refusal>
-        ensures accepted { IfOk result (λ a. (t : Takens) (h : Headers) (b : Books) → Refines t h b self.old
-            → CommandAccepted t h b Tick a self.new) }
-        ensures refused { IfErr result (λ r. (t : Takens) (h : Headers) (b : Books) → Refines t h b self.old
-            → Refuses h b Tick r) }
+    // Keeps an entry that may come next.
+    fn keep(&mut self, entry: Entry) -> Result<(), AllocError>
+        ensures kept { OnOk result ((t : Takens) (h : Headers) (b : Books) → Refines t h b self.old → IsNext b entry
+            → Refines t h (with_entry b entry) self.new) }
         ensures unchanged { OnErr result (self.new ≡ self.old) }
     {
         let count = next_len(self.count)?;
-        self.orders.push((MOST_CELLS as u8, Order::Tick))?;
-        self.count = count;
-        Ok(Accepted::Kept)
-    }
-
-    // Takes a `balance`.
-    fn keep_balance(&mut self) -> Result<Accepted, Refusal>
-        ensures accepted { IfOk result (λ a. (t : Takens) (h : Headers) (b : Books) → Refines t h b self.old
-            → CommandAccepted t h b Balance a self.new) }
-        ensures refused { IfErr result (λ r. (t : Takens) (h : Headers) (b : Books) → Refines t h b self.old
-            → Refuses h b Balance r) }
-        ensures unchanged { OnErr result (self.new ≡ self.old) }
-    {
-        self.count = next_len(self.count)?;
-        self.balance = true;
-        Ok(Accepted::Kept)
-    }
-
-    // Keeps a tree.
-    fn keep_tree(&mut self, tree: Tree) -> Result<(), AllocError>
-        ensures kept { OnOk result ((t : Takens) (h : Headers) (b : Books) → Refines t h b self.old
-            → Refines t h (with_entry b (Entry.Divided tree)) self.new) }
-        ensures unchanged { OnErr result (self.new ≡ self.old) }
-    {
-        self.count = next_len(self.count)?;
-        self.tree = tree;
-        Ok(())
-    }
-
-    // Keeps that a live entity has a client.
-    fn keep_client(&mut self, entity: u32) -> Result<(), AllocError>
-        requires { self.old.clients < MOST_CLIENTS }
-        ensures kept { OnOk result ((t : Takens) (h : Headers) (b : Books) → Refines t h b self.old → LivesAlone b entity
-            → Refines t h (with_entry b (Entry.Joined entity)) self.new) }
-        ensures unchanged { OnErr result (self.new ≡ self.old) }
-    {
-        let count = next_len(self.count)?;
-        self.joined.push(entity)?;
-        keep_joined(&mut self.entities, entity);
-        self.clients += 1;
+        self.add(entry)?;
         self.count = count;
         Ok(())
     }
 
-    // Keeps that a live entity is destroyed.
-    fn keep_destroy(&mut self, entity: u32) -> Result<(), AllocError>
-        ensures kept { OnOk result ((t : Takens) (h : Headers) (b : Books) → Refines t h b self.old → IsSome (live_as b entity)
-            → Refines t h (with_entry b (Entry.Destroyed entity)) self.new) }
+    // Keeps an entry, in all but the count.
+    fn add(&mut self, entry: Entry) -> Result<(), AllocError>
+        ensures kept { OnOk result ((t : Takens) (h : Headers) (b : Books) → Refines t h b self.old → IsNext b entry
+            → Refines t h (with_entry b entry) (counted self.new)) }
         ensures unchanged { OnErr result (self.new ≡ self.old) }
     {
-        let count = next_len(self.count)?;
-        self.destroyed.push(entity)?;
-        let had = has_client_now(&self.entities, entity);
-        self.clients = without(self.clients, had);
-        keep_destroyed(&mut self.entities, entity);
-        self.count = count;
-        Ok(())
+        match entry {
+            Entry::Created(create) => self.add_create(create),
+            Entry::Called(call) => self.add_call(call),
+            Entry::Joined(entity) => self.add_client(entity),
+            Entry::Ticked => self.add_tick(),
+            Entry::Divided(tree) => {
+                self.tree = tree;
+                Ok(())
+            }
+            Entry::Balanced => {
+                self.balance = true;
+                Ok(())
+            }
+            Entry::Destroyed(entity) => self.add_death(entity),
+        }
     }
 
-    // Keeps an entity whose number is new.
-    fn keep_create(&mut self, create: Create) -> Result<(), AllocError>
-        requires { entity_at self.old.entities create.entity ≡ None }
-        ensures kept { OnOk result ((t : Takens) (h : Headers) (b : Books) → Refines t h b self.old
-            → Refines t h (with_entry b (Entry.Created create)) self.new) }
+    // Keeps a new entity.
+    fn add_create(&mut self, create: Create) -> Result<(), AllocError>
+        ensures kept { OnOk result ((t : Takens) (h : Headers) (b : Books) → Refines t h b self.old → created_as b create.entity ≡ None
+            → Refines t h (with_entry b (Entry.Created create)) (counted self.new)) }
         ensures unchanged { OnErr result (self.new ≡ self.old) }
     {
-        let count = next_len(self.count)?;
         self.creates.reserve(1)?;
         let _ = self
             .entities
             .insert(create.entity, Entity::new(self.alloc, create.ty))?;
         self.creates.push_reserved(create);
-        self.count = count;
         Ok(())
     }
 
     // Keeps a call.
-    fn keep_call(&mut self, call: Call) -> Result<(), AllocError>
+    fn add_call(&mut self, call: Call) -> Result<(), AllocError>
         ensures kept { OnOk result ((t : Takens) (h : Headers) (b : Books) → Refines t h b self.old → IsNextCall b call
-            → Refines t h (with_entry b (Entry.Called call)) self.new) }
+            → Refines t h (with_entry b (Entry.Called call)) (counted self.new)) }
         ensures unchanged { OnErr result (self.new ≡ self.old) }
     {
-        let count = next_len(self.count)?;
         self.orders.reserve(1)?;
         keep_last(&mut self.entities, &call)?;
         let node = node_of(call.sender, self.header.settings.bases);
         self.orders.push_reserved((node, order(call)));
-        self.count = count;
+        Ok(())
+    }
+
+    // Keeps that a live entity has a client.
+    fn add_client(&mut self, entity: u32) -> Result<(), AllocError>
+        ensures kept { OnOk result ((t : Takens) (h : Headers) (b : Books) → Refines t h b self.old → LivesAlone b entity
+            → Refines t h (with_entry b (Entry.Joined entity)) (counted self.new)) }
+        ensures unchanged { OnErr result (self.new ≡ self.old) }
+    {
+        self.joined.reserve(1)?;
+        self.clients.insert(entity)?;
+        self.joined.push_reserved(entity);
+        Ok(())
+    }
+
+    // Keeps that the witnesses look, which the first base node tells the cells.
+    fn add_tick(&mut self) -> Result<(), AllocError>
+        ensures kept { OnOk result ((t : Takens) (h : Headers) (b : Books) → Refines t h b self.old
+            → Refines t h (with_entry b Entry.Ticked) (counted self.new)) }
+        ensures unchanged { OnErr result (self.new ≡ self.old) }
+    {
+        self.orders.push((MOST_CELLS as u8, Order::Tick))?;
+        Ok(())
+    }
+
+    // Keeps that a live entity is destroyed, and its client with it.
+    fn add_death(&mut self, entity: u32) -> Result<(), AllocError>
+        ensures kept { OnOk result ((t : Takens) (h : Headers) (b : Books) → Refines t h b self.old → IsSome (live_as b entity)
+            → Refines t h (with_entry b (Entry.Destroyed entity)) (counted self.new)) }
+        ensures unchanged { OnErr result (self.new ≡ self.old) }
+    {
+        self.destroyed.push(entity)?;
+        self.clients.remove(&entity);
+        keep_destroyed(&mut self.entities, entity);
         Ok(())
     }
 
@@ -331,6 +273,7 @@ impl Book {
     pub fn take_batch(&mut self) -> Batch
         ensures batch { (t : Takens) (h : Headers) (b : Books) → Refines t h b self.old → result ≡ batch_of h b }
         ensures ended { (t : Takens) (h : Headers) (b : Books) → Refines t h b self.old → Refines t h (with_round_ended b) self.new }
+        ensures none { self.new.count ≡ 0 }
     {
         let creates = std::mem::replace(&mut self.creates, Vec::new(self.alloc));
         let clients = std::mem::replace(&mut self.joined, Vec::new(self.alloc));
@@ -347,16 +290,13 @@ impl Book {
             balance,
         }
     }
-}
 
-// How many there are without one, if it was one of them.
-fn without(clients: usize, one: bool) -> usize
-    ensures { result ≡ clients - cond one 1 0 }
-{
-    if one {
-        clients.saturating_sub(1)
-    } else {
-        clients
+    /// Begins the open round, of which no line was kept so far, with this tree: the one that a balance made when the last round ended.
+    pub fn set_tree(&mut self, tree: Tree)
+        requires { self.old.count ≡ 0 }
+        ensures { (t : Takens) (h : Headers) (b : Books) → Refines t h b self.old → Refines t h (with_tree b tree) self.new }
+    {
+        self.tree = tree;
     }
 }
 

@@ -1,40 +1,37 @@
 // What is kept of an entity.
-ghost use Rattle.std.specs.Prelude.{◌≡◌, ◌+◌, ℕ, true, false, IfOk, OnOk, OnErr};
+ghost use Rattle.std.specs.Prelude.{◌≡◌, ◌+◌, ℕ, true, IfOk, OnOk, OnErr};
 ghost use Rattle.seam_call.specs.Senders.{IsSender};
 ghost use Rattle.seam_call.specs.declared.sender.Sender.{Sender as Senders};
 ghost use Rattle.seam_defs.specs.declared.flags.Part.{Part as Parts};
 ghost use Rattle.seam_accept.specs.Last.{number_of};
-ghost use Rattle.seam_accept.specs.Entities.{last_of, Remembers, ChangesOne, Joins, Dies, KeepsLast};
+ghost use Rattle.seam_accept.specs.Entities.{last_of, Remembers, ChangesOne, Dies, KeepsLast};
 
 use crate::count::next_count;
 use crate::last::LastCalls;
+use indexmap::IndexMap;
 use seam_call::{Call, Sender};
 use seam_defs::Part;
 use std::alloc::{AllocError, Global};
-use std::collections::BTreeMap;
 
-/// An entity: its type, whether it lives, whether it was given a client, and for each part and sender the number of the last call.
+/// An entity: its type, whether it lives, and for each part and sender the number of the last call.
 #[derive(Drop)]
 pub struct Entity {
     pub ty: u16,
     pub live: bool,
-    pub joined: bool,
     cell: LastCalls,
     base: LastCalls,
 }
 
 impl Entity {
-    /// A live entity without a client that no call was accepted for.
+    /// A live entity that no call was accepted for.
     pub fn new(alloc: Global, ty: u16) -> Self
         ensures ty { result.ty ≡ ty }
         ensures live { result.live ≡ true }
-        ensures joined { result.joined ≡ false }
         ensures last { (p : Parts) (s : Senders) → IsSender s → number_of (last_of p result) s ≡ 0 }
     {
         Entity {
             ty,
             live: true,
-            joined: false,
             cell: LastCalls::new(alloc),
             base: LastCalls::new(alloc),
         }
@@ -62,18 +59,8 @@ impl Entity {
     }
 }
 
-/// Keeps that an entity has a client.
-pub fn keep_joined(entities: &mut BTreeMap<u32, Entity>, entity: u32)
-    ensures { ChangesOne entities.old.entries entities.new.entries entity Joins }
-{
-    let Some(found) = entities.get_mut(&entity) else {
-        return;
-    };
-    found.joined = true;
-}
-
 /// Keeps that an entity is destroyed.
-pub fn keep_destroyed(entities: &mut BTreeMap<u32, Entity>, entity: u32)
+pub fn keep_destroyed(entities: &mut IndexMap<u32, Entity>, entity: u32)
     ensures { ChangesOne entities.old.entries entities.new.entries entity Dies }
 {
     let Some(found) = entities.get_mut(&entity) else {
@@ -83,7 +70,7 @@ pub fn keep_destroyed(entities: &mut BTreeMap<u32, Entity>, entity: u32)
 }
 
 /// Keeps the number of a call as that of its sender's last one.
-pub fn keep_last(entities: &mut BTreeMap<u32, Entity>, call: &Call) -> Result<(), AllocError>
+pub fn keep_last(entities: &mut IndexMap<u32, Entity>, call: &Call) -> Result<(), AllocError>
     ensures kept { OnOk result (KeepsLast entities.old.entries entities.new.entries call.now) }
     ensures unchanged { OnErr result (entities.new.entries ≡ entities.old.entries) }
 {

@@ -1,35 +1,35 @@
 // The judging of commands: the first cause that holds against one, or what it adds.
-ghost use Rattle.std.specs.Prelude.{◌≡◌, ◌<◌, ℕ, IfOk, IfErr, IsSome, None};
+ghost use Rattle.std.specs.Prelude.{◌≡◌, Some, IfOk, IfErr};
 ghost use Rattle.seam_toml.specs.declared.header.Header.{Header as Headers};
 ghost use Rattle.seam_transcript.specs.Language.{Client, Destroy};
-ghost use Rattle.seam_transcript.specs.Book.{Book, live_as, tree_of, count_of_clients};
+ghost use Rattle.seam_transcript.specs.Book.{Book, tree_of};
 ghost use Rattle.seam_transcript.specs.Judging.{HoldsAgainst, IsFirst};
 ghost use Rattle.seam_accept.specs.Commands.{create_of, call_of, cut_of, shift_of};
-ghost use Rattle.seam_accept.specs.Entities.{EntitiesRefine, LivesAlone, entity_at};
-ghost use Rattle.seam_accept.specs.Judging.{Accepts, Refuses};
+ghost use Rattle.seam_accept.specs.Entities.{EntitiesRefine, ClientsRefine};
+ghost use Rattle.seam_accept.specs.Judging.{Judged, Refuses};
 
 use crate::answers::Refusal;
 use crate::command::{CallWords, CreateWords, CutWords, ShiftWords};
 use crate::deeds::{Asked, deed_named};
 use crate::entity::Entity;
-use crate::naming::{axis_named, has_client_now, live_entity, sender_named, type_named};
+use crate::naming::{axis_named, live_entity, sender_named, type_named};
+use indexmap::IndexMap;
 use seam_call::{Call, Create};
 use seam_geo::Pos;
 use seam_transcript::{Cause, Entry, Header, MOST_CLIENTS, MOST_ENTITIES};
 use seam_tree::Tree;
 use seam_value::{positive_number, whole_number};
 use std::alloc::Global;
-use std::collections::BTreeMap;
+use std::collections::BTreeSet;
 
 /// The entity that a `create` makes.
 pub fn judge_create(
     header: &Header,
-    entities: &BTreeMap<u32, Entity>,
+    entities: &IndexMap<u32, Entity>,
     words: &CreateWords,
 ) -> Result<Create, Cause>
-    ensures new { IfOk result (λ c. entity_at entities.now.entries c.entity ≡ None) }
-    ensures accepted { IfOk result (λ c. (b : Book) → EntitiesRefine b entities.now.entries
-        → Accepts header.now b (create_of words.now) (Entry.Created c)) }
+    ensures judged { IfOk result (λ c. (b : Book) → EntitiesRefine b entities.now.entries
+        → Judged header.now b (create_of words.now) (Some (Entry.Created c))) }
     ensures refused { IfErr result (λ k. (b : Book) → EntitiesRefine b entities.now.entries
         → IsFirst (HoldsAgainst header.now b (create_of words.now)) k) }
 {
@@ -59,37 +59,36 @@ pub fn judge_create(
     Ok(Create { entity, ty, pos })
 }
 
-/// The entity that a `client` gives a client, where so many live ones have one.
+/// The entity that a `client` gives a client, beside the live ones that have one.
 pub fn judge_client(
-    entities: &BTreeMap<u32, Entity>,
-    clients: usize,
+    entities: &IndexMap<u32, Entity>,
+    clients: &BTreeSet<u32>,
     word: &[u8],
 ) -> Result<u32, Cause>
-    ensures room { IfOk result (λ _. clients < MOST_CLIENTS) }
-    ensures accepted { IfOk result (λ e. (h : Headers) (b : Book) → EntitiesRefine b entities.now.entries → clients ≡ count_of_clients b
-        → Accepts h b (Client word.now) (Entry.Joined e) × LivesAlone b e) }
-    ensures refused { IfErr result (λ k. (h : Headers) (b : Book) → EntitiesRefine b entities.now.entries → clients ≡ count_of_clients b
-        → IsFirst (HoldsAgainst h b (Client word.now)) k) }
+    ensures judged { IfOk result (λ e. (h : Headers) (b : Book) → EntitiesRefine b entities.now.entries → ClientsRefine b clients.now.keys
+        → Judged h b (Client word.now) (Some (Entry.Joined e))) }
+    ensures refused { IfErr result (λ k. (h : Headers) (b : Book) → EntitiesRefine b entities.now.entries
+        → ClientsRefine b clients.now.keys → IsFirst (HoldsAgainst h b (Client word.now)) k) }
 {
     let Some(entity) = positive_number(word) else {
         return Err(Cause::BadNumber);
     };
-    if has_client_now(entities, entity) {
+    if clients.contains(&entity) {
         return Err(Cause::Exists);
     }
     let Some(_) = live_entity(entities, entity) else {
         return Err(Cause::Dead);
     };
-    if MOST_CLIENTS <= clients {
+    if MOST_CLIENTS <= clients.len() {
         return Err(Cause::Full);
     }
     Ok(entity)
 }
 
 /// The entity that a `destroy` destroys.
-pub fn judge_destroy(entities: &BTreeMap<u32, Entity>, word: &[u8]) -> Result<u32, Cause>
-    ensures accepted { IfOk result (λ e. (h : Headers) (b : Book) → EntitiesRefine b entities.now.entries
-        → Accepts h b (Destroy word.now) (Entry.Destroyed e) × IsSome (live_as b e)) }
+pub fn judge_destroy(entities: &IndexMap<u32, Entity>, word: &[u8]) -> Result<u32, Cause>
+    ensures judged { IfOk result (λ e. (h : Headers) (b : Book) → EntitiesRefine b entities.now.entries
+        → Judged h b (Destroy word.now) (Some (Entry.Destroyed e))) }
     ensures refused { IfErr result (λ k. (h : Headers) (b : Book) → EntitiesRefine b entities.now.entries
         → IsFirst (HoldsAgainst h b (Destroy word.now)) k) }
 {
@@ -104,8 +103,8 @@ pub fn judge_destroy(entities: &BTreeMap<u32, Entity>, word: &[u8]) -> Result<u3
 
 /// The tree that a `cut` makes of this one.
 pub fn judge_cut(tree: &Tree, words: &CutWords) -> Result<Tree, Cause>
-    ensures accepted { IfOk result (λ t. (h : Headers) (b : Book) → tree.now ≡ tree_of b
-        → Accepts h b (cut_of words.now) (Entry.Divided t)) }
+    ensures judged { IfOk result (λ t. (h : Headers) (b : Book) → tree.now ≡ tree_of b
+        → Judged h b (cut_of words.now) (Some (Entry.Divided t))) }
     ensures refused { IfErr result (λ k. (h : Headers) (b : Book) → tree.now ≡ tree_of b
         → IsFirst (HoldsAgainst h b (cut_of words.now)) k) }
 {
@@ -127,8 +126,8 @@ pub fn judge_cut(tree: &Tree, words: &CutWords) -> Result<Tree, Cause>
 
 /// The tree that a `shift` makes of this one.
 pub fn judge_shift(tree: &Tree, words: &ShiftWords) -> Result<Tree, Cause>
-    ensures accepted { IfOk result (λ t. (h : Headers) (b : Book) → tree.now ≡ tree_of b
-        → Accepts h b (shift_of words.now) (Entry.Divided t)) }
+    ensures judged { IfOk result (λ t. (h : Headers) (b : Book) → tree.now ≡ tree_of b
+        → Judged h b (shift_of words.now) (Some (Entry.Divided t))) }
     ensures refused { IfErr result (λ k. (h : Headers) (b : Book) → tree.now ≡ tree_of b
         → IsFirst (HoldsAgainst h b (shift_of words.now)) k) }
 {
@@ -149,18 +148,19 @@ pub fn judge_shift(tree: &Tree, words: &ShiftWords) -> Result<Tree, Cause>
 pub fn judge_call(
     alloc: Global,
     header: &Header,
-    entities: &BTreeMap<u32, Entity>,
+    entities: &IndexMap<u32, Entity>,
+    clients: &BTreeSet<u32>,
     words: &CallWords,
 ) -> Result<Call, Refusal>
-    ensures accepted { IfOk result (λ call. (b : Book) → EntitiesRefine b entities.now.entries
-        → Accepts header.now b (call_of words.now) (Entry.Called call)) }
-    ensures refused { IfErr result (λ r. (b : Book) → EntitiesRefine b entities.now.entries
+    ensures judged { IfOk result (λ call. (b : Book) → EntitiesRefine b entities.now.entries → ClientsRefine b clients.now.keys
+        → Judged header.now b (call_of words.now) (Some (Entry.Called call))) }
+    ensures refused { IfErr result (λ r. (b : Book) → EntitiesRefine b entities.now.entries → ClientsRefine b clients.now.keys
         → Refuses header.now b (call_of words.now) r) }
 {
     let Some(entity) = positive_number(words.entity) else {
         return Err(Refusal::Cause(Cause::BadNumber));
     };
-    let Some(sender) = sender_named(header, entities, words.sender_name) else {
+    let Some(sender) = sender_named(header, clients, words.sender_name) else {
         return Err(Refusal::Cause(Cause::NoSender));
     };
     let Some(called) = live_entity(entities, entity) else {

@@ -1,5 +1,5 @@
 // What words name.
-ghost use Rattle.std.specs.Prelude.{◌≡◌, ◌≢◌, ◌<◌, ◌≤◌, ◌↔◌, ℕ, IsTrue, None, Some, MatchOption};
+ghost use Rattle.std.specs.Prelude.{◌≡◌, ◌≢◌, ◌<◌, ◌≤◌, ◌↔◌, ℕ, List, IsTrue, None, Some, MatchOption};
 ghost use Rattle.seam_value.specs.NumberWords.{SpellsNumber};
 ghost use Rattle.seam_geo.specs.declared.pos.Pos.{Pos as Positions};
 ghost use Rattle.seam_defs.specs.Types.{IsType};
@@ -8,18 +8,19 @@ ghost use Rattle.seam_transcript.specs.Language.{sender_text, axis_text};
 ghost use Rattle.seam_tree.specs.declared.boundary.Axis.{Axis as Axes};
 ghost use Rattle.seam_call.specs.declared.sender.Sender.{Sender as Senders};
 ghost use Rattle.seam_transcript.specs.Book.{Book, has_client, live_as};
-ghost use Rattle.seam_accept.specs.Entities.{EntitiesRefine, IsLive};
+ghost use Rattle.seam_accept.specs.Entities.{EntitiesRefine, ClientsRefine, IsLive};
 ghost use Rattle.seam_transcript.specs.Judging.{NamesSender, NamesType, NamesMethod, SpellsPosition};
 
 use crate::command::PlaceWords;
 use crate::entity::Entity;
+use indexmap::IndexMap;
 use seam_call::{BaseNode, Sender};
 use seam_defs::{Defs, MOST_BASE_NODES, TypeDef};
 use seam_geo::Pos;
 use seam_transcript::Header;
 use seam_tree::Axis;
 use seam_value::whole_number;
-use std::collections::BTreeMap;
+use std::collections::BTreeSet;
 
 /// The base node of this name, of so many: `b`, and its number from 1 on.
 pub fn base_named(name: &[u8], bases: u32) -> Option<BaseNode>
@@ -43,23 +44,19 @@ pub fn base_named(name: &[u8], bases: u32) -> Option<BaseNode>
 }
 
 /// The sender of this name that is there: a base node, of so many, or the client of a live entity.
-pub fn sender_named(
-    header: &Header,
-    entities: &BTreeMap<u32, Entity>,
-    name: &[u8],
-) -> Option<Sender>
-    ensures { (b : Book) → EntitiesRefine b entities.now.entries → MatchOption result
+pub fn sender_named(header: &Header, clients: &BTreeSet<u32>, name: &[u8]) -> Option<Sender>
+    ensures { (b : Book) (entities : List (ℕ × Entity)) → EntitiesRefine b entities → ClientsRefine b clients.now.keys → MatchOption result
         ((s : Senders) → ¬ (NamesSender header.now b name.now s)) (NamesSender header.now b name.now) }
 {
     match base_named(name, header.settings.bases) {
         Some(node) => Some(Sender::Base(node)),
-        None => Some(Sender::Client(client_named(entities, name)?)),
+        None => Some(Sender::Client(client_named(clients, name)?)),
     }
 }
 
 // The live entity with a client of this name: `c`, and the number of the entity.
-fn client_named(entities: &BTreeMap<u32, Entity>, name: &[u8]) -> Option<u32>
-    ensures { (b : Book) → EntitiesRefine b entities.now.entries → MatchOption result
+fn client_named(clients: &BTreeSet<u32>, name: &[u8]) -> Option<u32>
+    ensures { (b : Book) (entities : List (ℕ × Entity)) → EntitiesRefine b entities → ClientsRefine b clients.now.keys → MatchOption result
         ((e : ℕ) → IsTrue (has_client b e) → sender_text (Sender.Client e) ≢ name.now)
         (λ e. IsTrue (has_client b e) × (sender_text (Sender.Client e) ≡ name.now)) }
 {
@@ -68,7 +65,7 @@ fn client_named(entities: &BTreeMap<u32, Entity>, name: &[u8]) -> Option<u32>
             let Some(entity) = whole_number(number) else {
                 return None;
             };
-            if has_client_now(entities, entity) {
+            if clients.contains(&entity) {
                 Some(entity)
             } else {
                 None
@@ -78,18 +75,8 @@ fn client_named(entities: &BTreeMap<u32, Entity>, name: &[u8]) -> Option<u32>
     }
 }
 
-/// Whether the entity lives and has a client.
-pub fn has_client_now(entities: &BTreeMap<u32, Entity>, entity: u32) -> bool
-    ensures { (b : Book) → EntitiesRefine b entities.now.entries → result ≡ has_client b entity }
-{
-    match entities.get(&entity) {
-        Some(entity) => entity.live && entity.joined,
-        None => false,
-    }
-}
-
 /// The live entity of this number.
-pub fn live_entity(entities: &BTreeMap<u32, Entity>, entity: u32) -> Option<&Entity>
+pub fn live_entity(entities: &IndexMap<u32, Entity>, entity: u32) -> Option<&Entity>
     ensures { (b : Book) → EntitiesRefine b entities.now.entries → MatchOption result (live_as b entity ≡ None) (IsLive b entity) }
 {
     match entities.get(&entity) {

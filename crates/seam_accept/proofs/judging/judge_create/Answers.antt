@@ -49,17 +49,20 @@ returns-then-len-ge-MOST_ENTITIES-clause-refused c = λ b was.
     c.in-Some-type_named.ty c.in-Some-type_named.ensures (omega (arith, c.if-size-x.false)) (omega (arith, c.if-size-z.false))
     (omega (arith, count, c.len.ensures.len, c.if-len-ge-MOST_ENTITIES.true))
 
-pub returns-clause-accepted : goal.returns-clause-accepted
-returns-clause-accepted c = λ b was.
-    let count = was.count in
-    create_accepted c.args.header.now b c.args.words.now.entity.now c.args.words.now.type_name.now c.args.words.now.place.x.now
-    c.args.words.now.place.z.now c.in-Some.entity c.in-Some-whole_number.x c.in-Some-whole_number-2.z
-    (record {
-      number = c.in-Some.ensures;
-      spelled_x = c.in-Some-whole_number.ensures;
-      spelled_z = c.in-Some-whole_number-2.ensures;
-      new = (entity_unknown b c.args.entities.now.entries c.in-Some.entity was
-          (none_of_false _ (sym c.contains_key.ensures ∙ c.if-contains_key.false))).uncreated;
-    })
-    c.in-Some-type_named.ty c.in-Some-type_named.ensures (omega (arith, c.if-size-x.false)) (omega (arith, c.if-size-z.false))
-    (omega (arith, count, c.len.ensures.len, c.if-len-ge-MOST_ENTITIES.false))
+pub returns-clause-judged : goal.returns-clause-judged
+returns-clause-judged c = λ b was.
+    let count = was.count in (
+      create_accepted c.args.header.now b c.args.words.now.entity.now c.args.words.now.type_name.now c.args.words.now.place.x.now
+          c.args.words.now.place.z.now c.in-Some.entity c.in-Some-whole_number.x c.in-Some-whole_number-2.z
+          (record {
+            number = c.in-Some.ensures;
+            spelled_x = c.in-Some-whole_number.ensures;
+            spelled_z = c.in-Some-whole_number-2.ensures;
+            new = (entity_unknown b c.args.entities.now.entries c.in-Some.entity was
+                (none_of_false _ (sym c.contains_key.ensures ∙ c.if-contains_key.false))).uncreated;
+          })
+          c.in-Some-type_named.ty c.in-Some-type_named.ensures (omega (arith, c.if-size-x.false)) (omega (arith, c.if-size-z.false))
+          (omega (arith, count, c.len.ensures.len, c.if-len-ge-MOST_ENTITIES.false)),
+      (entity_unknown b c.args.entities.now.entries c.in-Some.entity was
+          (none_of_false _ (sym c.contains_key.ensures ∙ c.if-contains_key.false))).uncreated,
+    )

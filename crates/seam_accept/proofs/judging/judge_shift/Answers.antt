@@ -7,11 +7,13 @@ use Rattle.seam_accept.specs.Judging.{Accepts}
 use Rattle.seam_accept.proofs.TreeLemmas.{shift_accepted}
 use Rattle.seam_accept.proofs.judging.judge_shift.Goals as goal
 
-pub returns-in-Ok-clause-accepted : goal.returns-in-Ok-clause-accepted
-returns-in-Ok-clause-accepted c = λ h b is.
-    subst (λ (t : Division). Accepts h b (Shift c.args.words.now.boundary.now c.args.words.now.at.now) (Divided t))
-    (sym (c.in-Ok.ensures.moved ∙ ap (λ (t : Division). with_place t c.in-Some.boundary c.in-Some-whole_number.at) is))
-    (shift_accepted h b c.args.words.now.boundary.now c.args.words.now.at.now c.in-Some.boundary c.in-Some-whole_number.at
-    c.in-Some.ensures c.in-Some-whole_number.ensures
-    (subst (λ (t : Division). HasBoundary t c.in-Some.boundary) is c.in-Ok.ensures.allowed.0)
-    (subst (λ (t : Division). NoneEmpty (with_place t c.in-Some.boundary c.in-Some-whole_number.at)) is c.in-Ok.ensures.allowed.1))
+pub returns-in-Ok-clause-judged : goal.returns-in-Ok-clause-judged
+returns-in-Ok-clause-judged c = λ h b is. (
+  subst (λ (t : Division). Accepts h b (Shift c.args.words.now.boundary.now c.args.words.now.at.now) (Divided t))
+      (sym (c.in-Ok.ensures.moved ∙ ap (λ (t : Division). with_place t c.in-Some.boundary c.in-Some-whole_number.at) is))
+      (shift_accepted h b c.args.words.now.boundary.now c.args.words.now.at.now c.in-Some.boundary c.in-Some-whole_number.at
+      c.in-Some.ensures c.in-Some-whole_number.ensures
+      (subst (λ (t : Division). HasBoundary t c.in-Some.boundary) is c.in-Ok.ensures.allowed.0)
+      (subst (λ (t : Division). NoneEmpty (with_place t c.in-Some.boundary c.in-Some-whole_number.at)) is c.in-Ok.ensures.allowed.1)),
+  tt,
+)

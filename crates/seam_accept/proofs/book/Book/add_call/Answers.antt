@@ -1,10 +1,9 @@
-use Rattle.std.proofs.Common.{◌≡◌, ◌++◌, ◌∷◌, [], refl, sym, ◌∙◌, ap, subst, append-nil}
+use Rattle.std.proofs.Common.{◌≡◌, ◌++◌, ◌∷◌, [], refl, sym, ◌∙◌, ap, subst}
 use Rattle.seam_toml.specs.declared.header.Header.{Header}
 use Rattle.seam_accept.specs.Batches.{node_of}
 use Rattle.seam_accept.specs.Refines.{Refines}
-use Rattle.seam_accept.proofs.Books.{or_false}
 use Rattle.seam_accept.proofs.Keeping.{call_kept}
-use Rattle.seam_accept.proofs.book.Book.keep_call.Goals as goal
+use Rattle.seam_accept.proofs.book.Book.add_call.Goals as goal
 
 pub returns-clause-kept : goal.returns-clause-kept
 returns-clause-kept c = λ t h b was is.
@@ -16,10 +15,10 @@ returns-clause-kept c = λ t h b was is.
       header = refl;
       commands = refl;
       tree = refl;
-      count = c.in_ok-count.ensures;
-      creates = sym (append-nil c.self.inside.creates.items);
-      joined_ = sym (append-nil c.self.inside.joined.items);
+      count = refl;
+      creates = refl;
+      joined_ = refl;
       orders = c.push_reserved.ensures.items ∙ (λ i. c.reserve.ensures.items i ++ (node i, c.order.ensures i) ∷ []);
-      destroyed_ = sym (append-nil c.self.inside.destroyed.items);
-      balance = sym (or_false c.self.inside.balance);
+      destroyed_ = refl;
+      balance = refl;
     })
