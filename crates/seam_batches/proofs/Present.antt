@@ -39,7 +39,7 @@ module _ (b : Book) (e : ℕ) where
   pub created_begun : created_as (as_begun b) e ≡ made_among (creates_of b.past) e
   created_begun = ap (λ xs. made_among (creates_of xs) e) (append-nil b.past)
 
-  any_begun : (test : Entry → Bool) → list_any test (entries (as_begun b)) ≡ list_any test b.past
+  pub any_begun : (test : Entry → Bool) → list_any test (entries (as_begun b)) ≡ list_any test b.past
   any_begun test = ap (list_any test) (append-nil b.past)
 
   live_begun : live_as (as_begun b) e ≡ cond (list_any (destroys e) b.past) None (made_among (creates_of b.past) e)
@@ -77,11 +77,14 @@ module _ (b : Book) (e : ℕ) where
   undestroyed_by c true h = absurd (none-some c h)
   undestroyed_by c false h = refl
 
-  -- a live entity was not destroyed in the round
+  -- a live entity was not destroyed
+  pub alive : (c : Create) → live_as b e ≡ Some c → list_any (destroys e) (entries b) ≡ false
+  alive c lives = undestroyed_by c (list_any (destroys e) (entries b)) lives
+
   pub undestroyed : (c : Create) → live_as b e ≡ Some c → list_any (destroys e) b.current ≡ false
   undestroyed c lives =
       (neither (list_any (destroys e) b.past) (list_any (destroys e) b.current)
-      (sym (any_split (destroys e)) ∙ undestroyed_by c (list_any (destroys e) (entries b)) lives)).1
+      (sym (any_split (destroys e)) ∙ alive c lives)).1
 
   unjoined_by : (c : Create) (x : Bool) → (is_some (Some c) && x) ≡ false → x ≡ false
   unjoined_by c x h = h

@@ -192,7 +192,7 @@ orderly_same h b c same tree space was = record {
   space = space;
 }
 
-one_cell_tree : (h : Header) → AreLegal h.settings → IsTree (one_cell h.settings.size)
+pub one_cell_tree : (h : Header) → AreLegal h.settings → IsTree (one_cell h.settings.size)
 one_cell_tree h legal =
     let range = legal.in_range in
     record {
