@@ -9,6 +9,7 @@ use Rattle.std.proofs.lemmas.List.Elements.{filter-append, filter_map-append}
 use Rattle.std.proofs.lemmas.List.Folds.{find-append, list_any-append}
 use Rattle.std.proofs.lemmas.List.Sums.{fold-append}
 use Rattle.seam_defs.specs.declared.flags.Part.{Part}
+use Rattle.seam_defs.specs.declared.flags.Part.TheVariants as part
 use Rattle.seam_call.specs.Calls.{is_from, same_part}
 use Rattle.seam_call.specs.Senders.{same_sender}
 use Rattle.seam_call.specs.declared.sender.Sender.{Sender}
@@ -108,6 +109,19 @@ spares_joined d e ne = record { makes = refl; destroys = refl; joins = differ d 
 
 pub spares_destroyed : (d e : ℕ) → d ≢ e → Spares (entry.Destroyed d) e
 spares_destroyed d e ne = record { makes = refl; destroys = differ d e ne; joins = refl; calls = λ p s. refl }
+
+-- ---- tests
+
+pub same_part_is : (p q : Part) → same_part p q ≡ true → p ≡ q
+same_part_is part.Cell part.Cell is = refl
+same_part_is part.Base part.Base is = refl
+same_part_is part.Cell part.Base is = cc
+same_part_is part.Base part.Cell is = cc
+
+pub both : (x y : Bool) → (x && y) ≡ true → (x ≡ true) × (y ≡ true)
+both true true is = (refl, refl)
+both true false is = cc
+both false y is = cc
 
 -- ---- counts
 

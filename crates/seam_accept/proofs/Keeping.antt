@@ -37,7 +37,7 @@ use Rattle.seam_accept.proofs.NamedEntities.{entity_unknown, entity_found, live_
 use Rattle.seam_accept.proofs.ClientCounts.{SetsClient, clients_stay, clients_with_new, clients_with_one, clients_without_one}
 use Rattle.seam_accept.proofs.Books.{Spares, created_same, destroyed_same, joined_same, accepted_same, accepted_with_entry, any_with}
 use Rattle.seam_accept.proofs.Books.{created_with, or_none, or_false, tree_with, spares_create, spares_call, spares_joined}
-use Rattle.seam_accept.proofs.Books.{spares_destroyed}
+use Rattle.seam_accept.proofs.Books.{spares_destroyed, same_part_is, both}
 use Rattle.seam_accept.proofs.Books.{count_with_create, count_without_create}
 
 -- ---- entities that an entry is not about
@@ -167,17 +167,6 @@ module _ (b : Book) (c : Create) (whole : IsWhole c.entity) (unknown : IsUnknown
       (one_more_once (creates_of (entries b)) c unknown.uncreated was.once))
 
 -- ---- a call
-
-same_part_is : (p q : Part) → same_part p q ≡ true → p ≡ q
-same_part_is part.Cell part.Cell is = refl
-same_part_is part.Base part.Base is = refl
-same_part_is part.Cell part.Base is = cc
-same_part_is part.Base part.Cell is = cc
-
-both : (x y : Bool) → (x && y) ≡ true → (x ≡ true) × (y ≡ true)
-both true true is = (refl, refl)
-both true false is = cc
-both false y is = cc
 
 -- which calls the call adds to those of a sender to a part of its entity
 added : (call : Call) (p : Part) (s : Sender) →

@@ -5,7 +5,7 @@ mod CreateLemmas
 mod ArgLemmas
 mod NamedEntities
 mod CallLemmas
-mod Books
+pub mod Books
 mod TreeLemmas
 mod ClientLemmas
 mod ClientCounts

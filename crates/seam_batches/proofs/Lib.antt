@@ -1,0 +1,5 @@
+pub mod Proper
+pub mod Adding
+pub mod Present
+pub mod Untouched
+mod Round

@@ -1,0 +1,10 @@
+mod Orders
+mod Holding
+mod Origins
+mod Numbering
+mod Fitting
+mod Given
+mod Nowhere
+mod Parts
+mod Playing
+mod Ended

@@ -1,0 +1,66 @@
+//! The script and the core together: a book of accepted lines beside a world, from round to round.
+//!
+//! `specs/Going` says which book goes with which quiet world. Then what the lines of the open round bring may be given to that world, and
+//! when the world has gone through the round, the book with its round ended goes with it again.
+#![tactic(auto)]
+
+ghost use Rattle.std.specs.Prelude.{◌≡◌, ℕ, List};
+ghost use Rattle.seam_defs.specs.Settings.{AreLegal};
+ghost use Rattle.seam_defs.specs.Types.{AreDefs};
+ghost use Rattle.seam_tree.specs.Division.{Division};
+ghost use Rattle.seam_machine.specs.Nets.{IsQuiet, LeadsTo};
+ghost use Rattle.seam_machine.specs.declared.machines.Event.{Event};
+ghost use Rattle.seam_toml.specs.declared.header.Header.{Header};
+ghost use Rattle.seam_transcript.specs.Book.{Book, empty_book, one_cell, with_round_ended, with_tree, tree_of};
+ghost use Rattle.seam_accept.specs.Batches.{batch_of};
+ghost use Rattle.seam_batches.specs.Books.{IsOfLines, MayReplace, as_begun};
+ghost use Rattle.seam_steps.specs.Loads.{opened, loaded};
+ghost use Rattle.seam_steps.specs.Nodes.{World, node_steps, node_has_work};
+ghost use Rattle.seam_rounds.specs.Rounds.{AreReapable};
+ghost use Rattle.seam_places.specs.Places.{GoesThroughRound};
+ghost use Rattle.seam_replica.specs.Clients.{ClientReplica};
+ghost use Rattle.seam_laws.specs.Records.{KeepsRecords, MayBeGiven};
+ghost use Rattle.seam_legal.specs.Going.{frame_of, GoesWith, HasRoomForCalls, HasRoomForRound};
+
+/// A book without lines goes with a world as it is opened for the same header.
+pub fn an_empty_book_goes_with_an_opened_world()
+    ensures { (h : Header) → AreLegal h.settings → AreDefs h.defs →
+        GoesWith h (empty_book h.settings.size) (one_cell h.settings.size) (opened h.defs h.settings) }
+{
+    seam_rounds::a_round_goes_from_record_to_record();
+}
+
+/// Where a world that keeps the records goes with the book as its open round began, what that round brings may be given to it (`given`).
+/// Where its calls leave the world quiet, the entities that it destroys may be reaped (`reaped`).
+pub fn what_lines_bring_fits()
+    ensures given { (h : Header) (b : Book) → AreLegal h.settings → IsOfLines h b → (t : Division) (clients : ℕ → ClientReplica)
+        (w : World) → KeepsRecords (frame_of h t) clients w → GoesWith h (as_begun b) t w → HasRoomForCalls b → HasRoomForRound h w →
+        MayBeGiven (frame_of h t) w (batch_of h b) }
+    ensures reaped { (h : Header) (b : Book) (t : Division) (clients : ℕ → ClientReplica) (w : World) →
+        KeepsRecords (frame_of h t) clients w → MayBeGiven (frame_of h t) w (batch_of h b) → (es : List Event) (v : World) →
+        LeadsTo node_has_work node_steps (loaded w (batch_of h b)) es v → IsQuiet node_has_work v →
+        AreReapable v (batch_of h b).destroys }
+{
+    seam_batches::lines_bring_what_fits();
+    seam_batches::uncreated_numbers_are_untouched();
+    seam_laws::calls_obey_the_laws();
+}
+
+/// When the world has gone through that round, in which what the lines destroyed was reaped, and is quiet, the book with its round ended
+/// goes with it (`round`), and so does the book that begins the next round with another tree (`balanced`).
+pub fn a_book_goes_with_the_world_after_its_round()
+    ensures round { (h : Header) (b : Book) → AreLegal h.settings → IsOfLines h b → (t : Division) (clients : ℕ → ClientReplica)
+        (w : World) → KeepsRecords (frame_of h t) clients w → GoesWith h (as_begun b) t w → HasRoomForCalls b → HasRoomForRound h w →
+        (v : World) (round : GoesThroughRound w (batch_of h b) v) → round.gone ≡ (batch_of h b).destroys → IsQuiet node_has_work v →
+        GoesWith h (with_round_ended b) (tree_of b) v }
+    ensures balanced { (h : Header) (b : Book) (t u : Division) (w : World) → GoesWith h (with_round_ended b) t w →
+        MayReplace (tree_of b) u → GoesWith h (with_tree (with_round_ended b) u) t w }
+{
+    seam_batches::lines_bring_what_fits();
+    seam_batches::uncreated_numbers_are_untouched();
+    seam_base_rounds::a_base_part_of_a_loaded_world_is_ready();
+    seam_laws::calls_obey_the_laws();
+    seam_laws::reaps_obey_the_laws();
+    seam_laws::looks_obey_the_laws();
+    what_lines_bring_fits();
+}
