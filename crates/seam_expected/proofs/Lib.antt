@@ -1,0 +1,3 @@
+pub mod ListedLemmas
+mod Walks
+mod States

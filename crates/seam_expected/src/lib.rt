@@ -1,0 +1,17 @@
+//! What a round has to print, computed from plain lists: each list of a round by the standing that the round leaves, entity by entity and
+//! call by call from the first one on. It is slow, and as plain as the definitions of `seam_rules` that its contracts cite.
+//!
+//! Of `proofs/`, `ListedLemmas` (lists of entities in rising number) is for callers.
+#![tactic(auto)]
+
+mod entities;
+mod entries;
+mod lines;
+mod places;
+mod rows;
+mod states;
+
+pub use entities::{created_in, entities_in, live_among, made_in};
+pub use entries::{has_died, has_joined, is_made_by};
+pub use lines::{base_line_of, bases_of, done_lines_of, ghosts_of, home_line_of, homes_of};
+pub use states::{changes_past, public_at, state_at};
