@@ -1,3 +1,4 @@
 pub mod ListedLemmas
 mod Walks
-mod States
+mod Versions
+mod Settlings

@@ -1,7 +1,7 @@
 -- Lists of entities in rising number.
-use Rattle.std.proofs.Common.{◌≡◌, ℕ, Bool, true, false, List, [], ◌∷◌, map, refl, sym, ◌∙◌, ap}
-use Rattle.std.proofs.Common.{subst, arith, inl, inr, Option, Some, None}
-use Rattle.std.specs.Prelude.{filter, find, ◌==◌, Contains, is_some, cond, All}
+use Rattle.std.proofs.Common.{◌≡◌, ◌⊎◌, ℕ, Bool, true, false, List, [], ◌∷◌, map, refl, sym, ◌∙◌, ap}
+use Rattle.std.proofs.Common.{Result, Ok, Err, subst, arith, inl, inr, Option, Some, None}
+use Rattle.std.specs.Prelude.{IfOk, OnOk, filter, find, ◌==◌, Contains, is_some, cond, All, not}
 use Rattle.std.specs.List.{cons_option}
 use Rattle.std.specs.Ordering.{nat_cmp}
 use Rattle.std.specs.List.Sorted.{IsStrictlyIncreasing, IsPermutation, IsSorted}
@@ -17,7 +17,15 @@ use Rattle.seam_transcript.proofs.Lists.{contains_first, contains_later, contain
 use Rattle.seam_transcript.proofs.InOrderLemmas.{found_entity}
 use Rattle.seam_expected.specs.Entities.{among_numbers}
 
--- ---- the live entities
+-- what holds of the value of a success, by something else that does
+pub if_ok : {A E : Type 0} {P Q : A → Type 0} → (r : Result A E) → ((x : A) → P x → Q x) → IfOk r P → IfOk r Q
+if_ok (Ok x) f h = f x h
+if_ok (Err e) f h = h
+
+-- what holds after a success, by something else that does
+pub on_ok : {A E P Q : Type 0} → (r : Result A E) → (P → Q) → OnOk r P → OnOk r Q
+on_ok (Ok x) f h = f h
+on_ok (Err e) f h = h
 
 -- numbers that were sorted, of which each was kept once
 pub numbers_rise : (all numbers sorted kept : List ℕ) → numbers ≡ all → IsPermutation numbers sorted → IsSorted nat_cmp sorted →
@@ -97,5 +105,67 @@ lists_live creates numbers rise = record {
     (λ (k, within, is). subst (λ (x : Create). find (λ d. d.entity == x.entity) creates ≡ Some x) is
         (live_made creates numbers k c within)),
     (λ is. live_has creates numbers c.entity c (rise.1 c.entity (found_among creates c.entity c is)) is),
+  );
+}
+
+-- ---- those that live
+
+numbers_kept : (dead : ℕ → Bool) (made : List Create) →
+    map (λ c. c.entity) (filter (λ c. not (dead c.entity)) made) ≡ filter (λ e. not (dead e)) (map (λ c. c.entity) made)
+numbers_kept dead [] = refl
+numbers_kept dead (x ∷ xs) = by (not (dead x.entity)) (numbers_kept dead xs)
+  where
+    by : (b : Bool) → map (λ c. c.entity) (filter (λ c. not (dead c.entity)) xs) ≡ filter (λ e. not (dead e)) (map (λ c. c.entity) xs) →
+        map (λ c. c.entity) (cond b (x ∷ filter (λ c. not (dead c.entity)) xs) (filter (λ c. not (dead c.entity)) xs))
+        ≡ cond b (x.entity ∷ filter (λ e. not (dead e)) (map (λ c. c.entity) xs)) (filter (λ e. not (dead e)) (map (λ c. c.entity) xs))
+    by true again = ap (λ (es : List ℕ). x.entity ∷ es) again
+    by false again = again
+
+-- what is among those that pass a test
+pub in_filter : {X : Type 0} (q : X → Bool) (xs : List X) (x : X) → Contains (filter q xs) x → Contains xs x × (q x ≡ true)
+in_filter q [] x (k, within, is) = absurd (omega arith)
+in_filter {X} q (y ∷ ys) x has = by (q y) refl (in_filter q ys x) has
+  where
+    by : (b : Bool) → q y ≡ b → (Contains (filter q ys) x → Contains ys x × (q x ≡ true)) →
+        Contains (cond b (y ∷ filter q ys) (filter q ys)) x → Contains (y ∷ ys) x × (q x ≡ true)
+    by true at again h = elim (contains_cases y x (filter q ys) h) [
+      | inl same ↦ (subst (λ (z : X). Contains (y ∷ ys) z) same (contains_first y ys), ap q (sym same) ∙ at)
+      | inr there ↦ (contains_later y x ys (again there).0, (again there).1)
+    ]
+    by false at again h = (contains_later y x ys (again h).0, (again h).1)
+
+pub filter_has : {X : Type 0} (q : X → Bool) (xs : List X) (x : X) → q x ≡ true → Contains xs x → Contains (filter q xs) x
+filter_has q [] x passes (k, within, is) = absurd (omega arith)
+filter_has {X} q (y ∷ ys) x passes has = by (q y) refl (filter_has q ys x passes) (contains_cases y x ys has)
+  where
+    by : (b : Bool) → q y ≡ b → (Contains ys x → Contains (filter q ys) x) → (y ≡ x) ⊎ Contains ys x →
+        Contains (cond b (y ∷ filter q ys) (filter q ys)) x
+    by true at again (inl same) = subst (λ (z : X). Contains (y ∷ filter q ys) z) same (contains_first y (filter q ys))
+    by true at again (inr there) = contains_later y x (filter q ys) (again there)
+    by false at again (inl same) = let no : true ≡ false = sym passes ∙ ap q (sym same) ∙ at in absurd (cc)
+    by false at again (inr there) = again there
+
+unless : (b : Bool) (o : Option Create) (c : Create) → not b ≡ true → o ≡ Some c → cond b None o ≡ Some c
+unless true o c lives is = absurd (cc)
+unless false o c lives is = is
+
+lives_and_is : (b : Bool) (o : Option Create) (c : Create) → cond b None o ≡ Some c → (not b ≡ true) × (o ≡ Some c)
+lives_and_is true o c is = absurd (cc)
+lives_and_is false o c is = (refl, is)
+
+-- those of listed entities that are not dead
+pub lists_living : (entities : ℕ → Option Create) (dead : ℕ → Bool) (made : List Create) → Lists entities made →
+    Lists (λ e. cond (dead e) None (entities e)) (filter (λ c. not (dead c.entity)) made)
+lists_living entities dead made listed = record {
+  rising =
+      subst IsStrictlyIncreasing (sym (numbers_kept dead made))
+      (IsStrictlyIncreasing-filter (λ e. not (dead e)) (map (λ c. c.entity) made) listed.rising);
+  exact = λ c. (
+    (λ has.
+        let found = in_filter (λ (x : Create). not (dead x.entity)) made c has in
+        unless (dead c.entity) (entities c.entity) c found.1 ((listed.exact c).0 found.0)),
+    (λ is.
+        let both = lives_and_is (dead c.entity) (entities c.entity) c is in
+        filter_has (λ (x : Create). not (dead x.entity)) made c both.0 ((listed.exact c).1 both.1)),
   );
 }

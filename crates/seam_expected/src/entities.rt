@@ -1,6 +1,6 @@
 // The entities of a standing.
-ghost use Rattle.std.specs.Prelude.{◌≡◌, ◌==◌, ℕ, List, find, map, not, filter, IfOk, Contains, option_copied};
-ghost use Rattle.std.specs.List.{list_any, filter_map};
+ghost use Rattle.std.specs.Prelude.{◌≡◌, ◌==◌, ◌++◌, ◌∷◌, [], ℕ, find, map, not, filter, IfOk, OnOk, Contains, option_copied};
+ghost use Rattle.std.specs.List.{list_any};
 ghost use Rattle.std.specs.List.Sorted.{IsStrictlyIncreasing};
 ghost use Rattle.seam_transcript.specs.Book.{created_as, creates_of, entries, live_as, destroys, tree_of};
 ghost use Rattle.seam_transcript.specs.Round.{Lists};
@@ -65,11 +65,22 @@ fn among_numbers(
 {
     let mut made = Vec::new(alloc);
     for number in numbers {
-        if let Some(create) = created_as(creates, *number) {
-            made.push(*create)?;
-        }
+        add_found(&mut made, creates, *number)?;
     }
     Ok(made)
+}
+
+// Adds the entity of a number, where there is one.
+fn add_found(made: &mut Vec<Create>, creates: &[Create], number: u32) -> Result<(), AllocError>
+    ensures { OnOk result (made.new.items ≡ made.old.items ++ among_numbers creates.now (number ∷ [])) }
+{
+    match created_as(creates, number) {
+        Some(create) => {
+            made.push(*create)?;
+            Ok(())
+        }
+        None => Ok(()),
+    }
 }
 
 /// The entities that were created up to now, in rising number.
@@ -89,10 +100,21 @@ pub fn live_among(
     requires { Lists (created_as (standing_of standing.now).book) made.now }
     ensures { IfOk result (λ live. Lists (live_as (standing_of standing.now).book) live.items) }
 {
-    made.iter()
-        .copied()
-        .filter(|c| !is_dead(standing, c.entity))
-        .collect(alloc)
+    living(alloc, standing, made)
+}
+
+// Those of the entities that no entry destroys.
+fn living(alloc: Global, standing: &Standing, made: &[Create]) -> Result<Vec<Create>, AllocError>
+    ensures { IfOk result (λ live. live.items
+        ≡ filter (λ c. not (list_any (destroys c.entity) (entries (standing_of standing.now).book))) made.now) }
+{
+    let mut live = Vec::new(alloc);
+    for create in made {
+        if !is_dead(standing, create.entity) {
+            live.push(*create)?;
+        }
+    }
+    Ok(live)
 }
 
 /// Whether an entity was destroyed.

@@ -1,11 +1,10 @@
 // What entries say of an entity and of a round.
-ghost use Rattle.std.specs.Prelude.{◌≡◌, IfOk, map, find};
+ghost use Rattle.std.specs.Prelude.{◌≡◌, ◌++◌, ◌∷◌, [], IfOk, OnOk, fold, option_copied};
 ghost use Rattle.std.specs.List.{list_any};
-ghost use Rattle.seam_tree.specs.Division.{Division};
-ghost use Rattle.std.specs.Prelude.{fold};
 ghost use Rattle.seam_transcript.specs.Book.{created, called, creates_of, calls_of, destroys, joins, makes, is_tick, is_balance, divided};
 
 use seam_call::{Call, Create};
+use seam_same::Copied;
 use seam_transcript::Entry;
 use seam_tree::Tree;
 use std::alloc::{AllocError, Global};
@@ -25,11 +24,53 @@ pub(crate) fn creates_of(alloc: Global, entries: &[Entry]) -> Result<Vec<Create>
 {
     let mut creates = Vec::new(alloc);
     for entry in entries {
-        if let Some(create) = created(entry) {
-            creates.push(create)?;
-        }
+        add_created(&mut creates, entry)?;
     }
     Ok(creates)
+}
+
+fn add_created(creates: &mut Vec<Create>, entry: &Entry) -> Result<(), AllocError>
+    ensures { OnOk result (creates.new.items ≡ creates.old.items ++ creates_of (entry.now ∷ [])) }
+{
+    match created(entry) {
+        Some(create) => {
+            creates.push(create)?;
+            Ok(())
+        }
+        None => Ok(()),
+    }
+}
+
+fn called(entry: &Entry) -> Option<&Call>
+    ensures { option_copied result ≡ called entry.now }
+{
+    match entry {
+        Entry::Called(call) => Some(call),
+        _ => None,
+    }
+}
+
+/// The calls that the entries bring, in their order.
+pub fn calls_of(alloc: Global, entries: &[Entry]) -> Result<Vec<Call>, AllocError>
+    ensures { IfOk result (λ calls. calls.items ≡ calls_of entries.now) }
+{
+    let mut calls = Vec::new(alloc);
+    for entry in entries {
+        add_called(&mut calls, entry)?;
+    }
+    Ok(calls)
+}
+
+fn add_called(calls: &mut Vec<Call>, entry: &Entry) -> Result<(), AllocError>
+    ensures { OnOk result (calls.new.items ≡ calls.old.items ++ calls_of (entry.now ∷ [])) }
+{
+    match called(entry) {
+        Some(call) => {
+            calls.push(call.copied()?)?;
+            Ok(())
+        }
+        None => Ok(()),
+    }
 }
 
 fn destroys(entry: &Entry, entity: u32) -> bool
@@ -106,15 +147,23 @@ pub fn has_balance(entries: &[Entry]) -> bool
     entries.iter().any(is_balance)
 }
 
+// The tree that an entry leaves of one.
+fn divided(tree: Tree, entry: &Entry) -> Tree
+    ensures { result ≡ divided tree entry.now }
+{
+    match entry {
+        Entry::Divided(next) => *next,
+        _ => tree,
+    }
+}
+
 /// The tree that the entries leave of one.
 pub fn tree_after(tree: Tree, entries: &[Entry]) -> Tree
     ensures { result ≡ fold divided tree entries.now }
 {
     let mut tree = tree;
     for entry in entries {
-        if let Entry::Divided(next) = entry {
-            tree = *next;
-        }
+        tree = divided(tree, entry);
     }
     tree
 }

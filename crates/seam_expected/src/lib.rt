@@ -8,10 +8,12 @@ mod entities;
 mod entries;
 mod lines;
 mod places;
-mod rows;
 mod states;
 
-pub use entities::{created_in, entities_in, live_among, made_in};
-pub use entries::{has_died, has_joined, is_made_by};
-pub use lines::{base_line_of, bases_of, done_lines_of, ghosts_of, home_line_of, homes_of};
-pub use states::{changes_past, public_at, state_at};
+pub use entities::{created_in, entities_in, is_dead, live_among, made_in, tree_in};
+pub use entries::{calls_of, has_balance, has_died, has_joined, has_tick, is_made_by};
+pub use lines::{
+    base_line_of, bases_of, done_lines_of, ghosts_of, home_line_of, homes_of, public_version,
+};
+pub use places::{place_before, position_of, positions_past, settled, settled_along};
+pub use states::{base_shown, changes_past, public_at, state_at, state_shown};

@@ -1,7 +1,7 @@
 // What an entity was at each version.
-ghost use Rattle.std.specs.Prelude.{◌≡◌, ◌≤◌, IfOk, map, length};
+ghost use Rattle.std.specs.Prelude.{◌≡◌, ◌≤◌, ◌++◌, ◌∷◌, [], if◌then◌else◌, IfOk, OnOk, map, length};
 ghost use Rattle.seam_defs.specs.Deeds.{projected, client_of};
-ghost use Rattle.seam_defs.specs.Tests.{same_shown};
+ghost use Rattle.seam_defs.specs.Tests.{same_shown, same_state, same_values};
 ghost use Rattle.seam_defs.specs.declared.flags.Group.TheVariants as group;
 ghost use Rattle.seam_transcript.specs.FlatTable.{flat};
 ghost use Rattle.seam_rules.specs.FlatTable.{has_changed_at, changes_past, public_at};
@@ -38,12 +38,12 @@ pub fn state_at(
 }
 
 /// A state with those values of a cell part that are in a group.
-pub fn state_shown(ty: &TypeDef, state: &State, group: Group) -> Result<State, AllocError>
-    ensures { IfOk result (λ s. s ≡ record { pos = state.now.pos; props = projected ty.now.properties group.Real group state.now.props }) }
+pub fn state_shown(ty: &TypeDef, state: &State, to: Group) -> Result<State, AllocError>
+    ensures { IfOk result (λ s. s ≡ record { pos = state.now.pos; props = projected ty.now.properties group.Real to state.now.props }) }
 {
     Ok(State {
         pos: state.pos,
-        props: ty.project_group(Group::Real, &state.props, group)?,
+        props: ty.project_group(Group::Real, &state.props, to)?,
     })
 }
 
@@ -54,18 +54,33 @@ pub fn base_shown(ty: &TypeDef, state: &State) -> Result<Props, AllocError>
     ty.project_group(Group::Base, &state.props, Group::BaseClient)
 }
 
+fn are_same_states(a: &State, b: &State) -> bool
+    ensures { result ≡ same_state a.now b.now }
+{
+    a.is(b)
+}
+
+fn are_same_props(a: &Props, b: &Props) -> bool
+    ensures { result ≡ same_values a.now b.now }
+{
+    a.is(b)
+}
+
 // Whether what others may see of a part is the same in two states.
-fn is_shown_same(
-    ty: &TypeDef,
-    part: Part,
-    old: &State,
-    new: &State,
-) -> Result<bool, AllocError>
+fn is_shown_same(ty: &TypeDef, part: Part, old: &State, new: &State) -> Result<bool, AllocError>
     ensures { IfOk result (λ same. same ≡ same_shown ty.now.properties part old.now new.now) }
 {
     match part {
-        Part::Cell => Ok(state_shown(ty, old, Group::Ghost)?.is(&state_shown(ty, new, Group::Ghost)?)),
-        Part::Base => Ok(base_shown(ty, old)?.is(&base_shown(ty, new)?)),
+        Part::Cell => {
+            let was = state_shown(ty, old, Group::Ghost)?;
+            let is = state_shown(ty, new, Group::Ghost)?;
+            Ok(are_same_states(&was, &is))
+        }
+        Part::Base => {
+            let was = base_shown(ty, old)?;
+            let is = base_shown(ty, new)?;
+            Ok(are_same_props(&was, &is))
+        }
     }
 }
 
@@ -98,7 +113,8 @@ pub fn public_at(
 {
     let mut public = version;
     while public > 0 {
-        if has_changed_at(header, Part::Cell, create, order, public)? {
+        let changed = has_changed_at(header, Part::Cell, create, order, public)?;
+        if changed {
             return Ok(public);
         }
         public -= 1;
@@ -119,9 +135,18 @@ pub fn changes_past(
 {
     let mut changes = Vec::new(alloc);
     for v in version..order.len() {
-        if has_changed_at(header, part, create, order, v + 1)? {
-            changes.push(v + 1)?;
-        }
+        let changed = has_changed_at(header, part, create, order, v + 1)?;
+        add_change(&mut changes, v + 1, changed)?;
     }
     Ok(changes)
+}
+
+// Adds a version, if something changed at it.
+fn add_change(changes: &mut Vec<usize>, version: usize, changed: bool) -> Result<(), AllocError>
+    ensures { OnOk result (changes.new.items ≡ changes.old.items ++ (if changed then version ∷ [] else [])) }
+{
+    if changed {
+        changes.push(version)?;
+    }
+    Ok(())
 }
