@@ -23,7 +23,7 @@ at_most_unless m n refute = by (nat_le m n) refl
     by true is = grind (arith, nat_tests, is)
     by false is = absurd (refute (grind (arith, nat_tests, is)))
 
-range_more : (a n : ℕ) → range_with_len a (suc n) ≡ range_with_len a n ++ (a + n) ∷ []
+pub range_more : (a n : ℕ) → range_with_len a (suc n) ≡ range_with_len a n ++ (a + n) ∷ []
 range_more a zero = let same : a ≡ a + 0 = omega arith in ap (λ (k : ℕ). k ∷ []) same
 range_more a (suc n) =
     let same : a + 1 + n ≡ a + suc n = omega arith in
@@ -92,6 +92,15 @@ module _ (h : Header) (c : Create) (order : List Call) (v : ℕ) where
 
   pub public_last : (w : ℕ) → public_at h c order v < w → w ≤ v → has_changed_at h part.Cell c order w ≡ false
   public_last = is.last
+
+-- the public version at one version more
+pub public_more : (h : Header) (c : Create) (order : List Call) (n : ℕ) →
+    public_at h c order (suc n) ≡ cond (has_changed_at h part.Cell c order (suc n)) (suc n) (public_at h c order n)
+public_more h c order n =
+    ap (latest (has_changed_at h part.Cell c order)) (whole h c order (suc n))
+    ∙ latest_more (has_changed_at h part.Cell c order) n
+    ∙ ap (cond (has_changed_at h part.Cell c order (suc n)) (suc n))
+    (ap (latest (has_changed_at h part.Cell c order)) (sym (whole h c order n)))
 
 pub one_table : (h : Header) (b : Book) (orders : Orders) (xs ys : List Create) → Lists (live_as b) xs → Lists (live_as b) ys →
     rows_of h orders xs ≡ rows_of h orders ys

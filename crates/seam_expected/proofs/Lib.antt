@@ -1,0 +1,4 @@
+pub mod ListedLemmas
+mod Walks
+mod Versions
+mod Settlings

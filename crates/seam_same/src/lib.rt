@@ -1,0 +1,9 @@
+//! When two values of the world are the same, and copies of them: of calls and states, and of what clients are shown. Slow programs use it
+//! that compare what a server did with what it has to do; the server itself moves its values, and copies none.
+#![tactic(auto)]
+
+mod copies;
+mod same;
+
+pub use copies::{Copied, copies_of};
+pub use same::{Same, are_same};
