@@ -123,7 +123,7 @@ rising_above q (k ∷ es) h = (less (nat_cmp q k.0) (first _ _ h), rising_above 
     less Equal p = absurd p
     less Greater p = absurd p
 
-rising : (es : List Known) → T (is_sorted nat_cmp es) → IsStrictlySortedBy nat_cmp (map (λ s. s.entity) (map seen_as es))
+pub rising : (es : List Known) → T (is_sorted nat_cmp es) → IsStrictlySortedBy nat_cmp (map (λ s. s.entity) (map seen_as es))
 unfolding IsStrictlySortedBy
 rising [] h = tt
 rising (k ∷ es) h = (rising_above k.0 es (first _ _ h), rising es (second _ _ h))
@@ -133,7 +133,7 @@ known_in_order c e = rising (known_to c e) (known_rises c e)
 
 -- ---- the own real is none of what is known
 
-same_found : (es fs : List Known) → T (is_sorted nat_cmp es) → T (is_sorted nat_cmp fs) →
+pub same_found : (es fs : List Known) → T (is_sorted nat_cmp es) → T (is_sorted nat_cmp fs) →
     ((q : ℕ) → table.find nat_cmp q es ≡ table.find nat_cmp q fs) → es ≡ fs
 same_found es fs he hf same =
     let m : Map GhostCopy = table.from_sorted es in

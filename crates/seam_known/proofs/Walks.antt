@@ -126,7 +126,7 @@ module _ {X : Type 0} where
       by false is e rest =
           ap (λ b. cond b (Some x.1) (table.find nat_cmp q xs)) (differ (eq_by_cmp nat_cmp q x.0) refl is) ∙ rest e
 
-  there : (a : Option ℕ) (es : List (ℕ × X)) (p : ℕ × X) → T (is_sorted nat_cmp es) → find (comes_after a) es ≡ Some p →
+  pub there : (a : Option ℕ) (es : List (ℕ × X)) (p : ℕ × X) → T (is_sorted nat_cmp es) → find (comes_after a) es ≡ Some p →
       (table.find nat_cmp p.0 es ≡ Some p.1) × (is_after a p.0 ≡ true)
   there a es p h is =
       let k = found (comes_after a) (table.from_sorted es) p (ap (find (comes_after a)) (table.entries-from_sorted nat_cmp es h) ∙ is) in

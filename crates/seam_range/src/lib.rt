@@ -56,6 +56,13 @@ impl RangeList {
         }
     }
 
+    /// Where the entity is, if it was put.
+    pub fn get(&self, e: u32) -> Option<Pos>
+        ensures { result ≡ map.get self.now e }
+    {
+        self.places.get(&e).copied()
+    }
+
     /// Puts the entity at the position, or moves it there.
     pub fn put(&mut self, e: u32, p: Pos) -> Result<(), AllocError>
         ensures after { OnOk result (self.new ≡ map.insert self.old e p) }

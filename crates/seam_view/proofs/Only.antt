@@ -1,7 +1,11 @@
 -- Looks depend on what is known of entities in view or near alone.
 use Rattle.std.proofs.Common.{◌≡◌, ◌≤◌, ◌+◌, ℕ, Bool, true, false, cond, not, ◌&&◌, ◌||◌, eqb, List, [], ◌∷◌, ◌++◌, map, find, Option, Some}
-use Rattle.std.proofs.Common.{refl, sym, ap, ◌∙◌, arith}
+use Rattle.std.proofs.Common.{refl, sym, ap, ◌∙◌, subst, arith}
 use Rattle.std.specs.Prelude.{nat_lt, nat_le}
+use Rattle.std.specs.Ordering.{nat_cmp}
+use Rattle.std.specs.declared.cmp.Ordering.TheVariants.{Less}
+use Rattle.std.specs.List.Sorted.{IsStrictlySortedBy}
+use Rattle.std.proofs.lemmas.Map.Keys.{sorted_head, sorted_tail}
 use Rattle.std.specs.List.{AllByRecursion, list_any, filter}
 use Rattle.std.specs.FinMap as versions
 use Rattle.std.proofs.lemmas.Bool.Decides.{nat_tests}
@@ -9,8 +13,9 @@ use Rattle.seam_geo.specs.declared.pos.Pos.{Pos}
 use Rattle.seam_geo.specs.Pos.{distance}
 use Rattle.seam_view.specs.declared.Seen.{Seen}
 use Rattle.seam_view.specs.declared.Look.TheVariants.{Leave, Set, Enter}
-use Rattle.seam_view.specs.Replica.{Replica, seen_of}
-use Rattle.seam_view.specs.Looks.{leaves, has_changed, enters, matters, in_view, not_older, one_look}
+use Rattle.seam_view.specs.Replica.{Replica, seen_of, after_showing, after_look, after_looks, entity_of}
+use Rattle.seam_view.specs.declared.Look.{Look}
+use Rattle.seam_view.specs.Looks.{leaves, has_changed, enters, entering, leaving, changed, matters, in_view, not_older, one_look}
 use Rattle.seam_view.proofs.Numbers.{number_is, or_second, same_again}
 
 filter_step : {A : Type 0} (x : A) (xs ys : List A) (p : A → Bool) (b c : Bool) → p x ≡ b → (b ≡ true → c ≡ true) → xs ≡ filter p ys →
@@ -108,3 +113,97 @@ looks_agree r own known other same =
     let b = viewed_agree r own known other (has_changed r own) same in
     let c = entering_agree r own known other same in
     λ i. map (λ p. Leave p.0) (a i) ++ map (λ p. Set p.0) (b i) ++ map (λ s. Enter s.entity) (c i)
+
+-- ---- and so does what they leave
+
+module _ {A : Type 0} (P : A → Type 0) where
+  kept_by_filter : (t : A → Bool) (xs : List A) → AllByRecursion P xs → AllByRecursion P (filter t xs)
+  kept_by_filter t [] h = tt
+  kept_by_filter t (x ∷ xs) h = by (t x) (kept_by_filter t xs h.1)
+    where
+      by : (b : Bool) → AllByRecursion P (filter t xs) → AllByRecursion P (cond b (x ∷ filter t xs) (filter t xs))
+      by true rest = (h.0, rest)
+      by false rest = rest
+
+  all_of_both : (xs ys : List A) → AllByRecursion P xs → AllByRecursion P ys → AllByRecursion P (xs ++ ys)
+  all_of_both [] ys h k = k
+  all_of_both (x ∷ xs) ys h k = (h.0, all_of_both xs ys h.1 k)
+
+  all_mapped : {B : Type 0} (f : B → A) (xs : List B) → AllByRecursion (λ x. P (f x)) xs → AllByRecursion P (map f xs)
+  all_mapped f [] h = tt
+  all_mapped f (x ∷ xs) h = (h.0, all_mapped f xs h.1)
+
+module _ (known other : List Seen) where
+  -- both know the same of the look's entity
+  abbrev Agree : Look → Type 0
+  Agree look = seen_of (entity_of look) known ≡ seen_of (entity_of look) other
+
+  one_agrees : (r : Replica) (look : Look) → Agree look → after_look known r look ≡ after_look other r look
+  one_agrees r (Leave e) same = refl
+  one_agrees r (Set e) same = ap (after_showing r e) same
+  one_agrees r (Enter e) same = ap (after_showing r e) same
+
+  all_agree : (looks : List Look) (r : Replica) → AllByRecursion Agree looks → after_looks known r looks ≡ after_looks other r looks
+  all_agree [] r h = refl
+  all_agree (look ∷ looks) r h =
+      ap (λ q. after_looks known q looks) (one_agrees r look h.0) ∙ all_agree looks (after_look other r look) h.1
+
+less_differs : (a b : ℕ) → nat_cmp a b ≡ Less → eqb a b ≡ false
+less_differs a b e = grind (arith, nat_tests)
+
+-- what is known of each of those known is itself
+abbrev IsItself : List Seen → Seen → Type 0
+IsItself xs s = seen_of s.entity xs ≡ Some s
+
+itself_later : (x : Seen) (xs ys : List Seen) → AllByRecursion (λ y. nat_cmp x.entity y ≡ Less) (map (λ s. s.entity) ys) →
+    AllByRecursion (IsItself xs) ys → AllByRecursion (IsItself (x ∷ xs)) ys
+itself_later x xs [] h k = tt
+itself_later x xs (y ∷ ys) h k = (
+  ap (λ b. cond b (Some x) (seen_of y.entity xs)) (less_differs x.entity y.entity h.0) ∙ k.0,
+  itself_later x xs ys h.1 k.1,
+)
+
+each_itself : (xs : List Seen) → IsStrictlySortedBy nat_cmp (map (λ s. s.entity) xs) → AllByRecursion (IsItself xs) xs
+each_itself [] o = tt
+each_itself (x ∷ xs) o = (
+  ap (λ b. cond b (Some x) (seen_of x.entity xs)) (same_again x.entity),
+  itself_later x xs xs (sorted_head nat_cmp x.entity (map (λ s. s.entity) xs) o)
+      (each_itself xs (sorted_tail nat_cmp x.entity (map (λ s. s.entity) xs) o)),
+)
+
+same_itself : (known other xs : List Seen) → AllByRecursion (IsItself known) xs → AllByRecursion (IsItself other) xs →
+    AllByRecursion (λ s. seen_of s.entity known ≡ seen_of s.entity other) xs
+same_itself known other [] h k = tt
+same_itself known other (x ∷ xs) h k = (h.0 ∙ sym k.0, same_itself known other xs h.1 k.1)
+
+module _ (r : Replica) (own : Pos) (known other : List Seen) (same : filter (matters r own) known ≡ filter (matters r own) other) where
+  same_in_view : (xs : List (ℕ × ℕ)) → Viewed r.entries xs → AllByRecursion (λ p. seen_of p.0 known ≡ seen_of p.0 other) xs
+  same_in_view [] v = tt
+  same_in_view (x ∷ xs) v = (seen_when_same r own known other x.0 same v.0, same_in_view xs v.1)
+
+  leaves_agree : AllByRecursion (Agree known other) (leaving r own known r.entries)
+  leaves_agree =
+      all_mapped (Agree known other) (λ p. Leave p.0) _
+      (kept_by_filter (λ p. seen_of p.0 known ≡ seen_of p.0 other) _ r.entries (same_in_view r.entries (all_viewed r.entries)))
+
+  changes_agree : AllByRecursion (Agree known other) (changed r own known r.entries)
+  changes_agree =
+      all_mapped (Agree known other) (λ p. Set p.0) _
+      (kept_by_filter (λ p. seen_of p.0 known ≡ seen_of p.0 other) _ r.entries (same_in_view r.entries (all_viewed r.entries)))
+
+  module _ (rises : IsStrictlySortedBy nat_cmp (map (λ s. s.entity) known))
+      (others_rise : IsStrictlySortedBy nat_cmp (map (λ s. s.entity) other)) where
+    enters_agree : AllByRecursion (Agree known other) (entering r own known)
+    enters_agree =
+        all_mapped (Agree known other) (λ s. Enter s.entity) (filter (enters r own) known)
+        (same_itself known other (filter (enters r own) known)
+        (kept_by_filter (IsItself known) (enters r own) known (each_itself known rises))
+        (subst (AllByRecursion (IsItself other)) (sym (entering_agree r own known other same))
+        (kept_by_filter (IsItself other) (enters r own) other (each_itself other others_rise))))
+
+    pub kept_agree : after_looks known r (one_look r own known) ≡ after_looks other r (one_look r own known)
+    kept_agree =
+        all_agree known other (one_look r own known) r
+        (all_of_both (Agree known other) (leaving r own known r.entries ++ changed r own known r.entries) (entering r own known)
+        (all_of_both (Agree known other) (leaving r own known r.entries) (changed r own known r.entries) leaves_agree changes_agree)
+        enters_agree)

@@ -2,6 +2,8 @@
 //!
 //! An entity enters a view within a radius, and leaves it beyond the radius and a hysteresis. (After the area of interest
 //! of the BigWorld Server Overview.)
+//!
+//! Of `proofs/`, `Only` (looks at two lists that agree on all that matters) is for callers.
 #![tactic(auto)]
 
 ghost use Rattle.std.specs.Prelude.{◌≡◌, ◌≤◌, ◌++◌, ℕ, List, [], filter, map, length, slice_get, option_copied, IfOk, OnOk, OnErr, is_some};
@@ -177,6 +179,13 @@ impl View {
             Some((e, version)) => Some((e, *version)),
             None => None,
         }
+    }
+
+    /// The radius and the hysteresis together: beyond it nothing matters that is not in view. None where a `u32` does not hold it.
+    pub fn reach(&self) -> Option<u32>
+        ensures { IfSome result (λ d. d ≡ self.now.core.radius + self.now.core.hysteresis) }
+    {
+        self.radius.checked_add(self.hysteresis)
     }
 
     // Whether the position is farther than radius and hysteresis together.
@@ -484,10 +493,13 @@ fn reserve_versions(shown: &mut Table<u64>, looks: &[Look]) -> Result<(), AllocE
 }
 
 /// What is known of entities that are neither in view nor near makes no difference: two lists that agree on all the others give the
-/// same looks.
+/// same looks, which leave the same.
 pub fn only_near_matters()
-    ensures { (r : Replica) (own : Pos) (known other : List Seen) → filter (matters r own) known ≡ filter (matters r own) other →
+    ensures looks { (r : Replica) (own : Pos) (known other : List Seen) → filter (matters r own) known ≡ filter (matters r own) other →
         one_look r own known ≡ one_look r own other }
+    ensures kept { (r : Replica) (own : Pos) (known other : List Seen) → IsStrictlySortedBy nat_cmp (map (λ s. s.entity) known) →
+        IsStrictlySortedBy nat_cmp (map (λ s. s.entity) other) → filter (matters r own) known ≡ filter (matters r own) other →
+        after_looks known r (one_look r own known) ≡ after_looks other r (one_look r own known) }
 {}
 
 /// No version shown ever falls: after the looks that `plan` gives for what is known, each entity is shown at the version that it was
