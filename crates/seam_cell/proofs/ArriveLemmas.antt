@@ -16,7 +16,7 @@ use Rattle.seam_steps.specs.Slots.{NextPlace, unless_stray}
 use Rattle.seam_steps.specs.CellCases.{stray_reap, reap, may_come, stray_hand, hand_over_comes, currents, drops}
 use Rattle.seam_steps.specs.Cells.{CellView, slot_of, stepped, cell_steps, without}
 use Rattle.seam_steps.proofs.Slots.{set_at-same}
-use Rattle.seam_cell.proofs.NewsLemmas.{range_more}
+use Rattle.seam_parts.proofs.NewsLemmas.{range_more}
 
 -- ---- tests of all cells
 

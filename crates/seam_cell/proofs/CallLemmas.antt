@@ -14,7 +14,7 @@ use Rattle.seam_entity.specs.Executing.{fits_cell_part, may_settle, may_execute,
 use Rattle.seam_entity.specs.Executing.{public_after, with_deed, with_offer, executed, shows}
 use Rattle.seam_entity.specs.Preparing.{with_after}
 use Rattle.seam_entity.specs.declared.real.After.{After}
-use Rattle.seam_cell.specs.Stepping.{IsLater}
+use Rattle.seam_parts.specs.Stepping.{IsLater}
 use Rattle.seam_entity.proofs.HeldLemmas.{both}
 
 not_true : (a : Bool) → not a ≡ true → a ≡ false

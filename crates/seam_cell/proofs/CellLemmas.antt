@@ -21,11 +21,11 @@ use Rattle.seam_steps.specs.CellCases.{ghost_set, ghost_drop, stray_ghost_set, s
 use Rattle.seam_steps.specs.Cells.{CellView, slot_of, stepped, cell_steps, real_is_ready, has_witness}
 use Rattle.seam_steps.proofs.Slots.{set_at-same}
 use Rattle.seam_defs.specs.Settings.{AreLegal}
-use Rattle.seam_cell.specs.declared.known.Known.{Known}
-use Rattle.seam_cell.specs.declared.reals.Reals.{Reals}
-use Rattle.seam_cell.specs.declared.places.Places.{Places}
-use Rattle.seam_cell.specs.declared.lists.Lists.{Lists}
-use Rattle.seam_cell.specs.Kept.{marked, AreWhole}
+use Rattle.seam_parts.specs.declared.known.Known.{Known}
+use Rattle.seam_parts.specs.declared.reals.Reals.{Reals}
+use Rattle.seam_parts.specs.declared.places.Places.{Places}
+use Rattle.seam_parts.specs.declared.lists.Lists.{Lists}
+use Rattle.seam_parts.specs.Kept.{marked, AreWhole}
 
 pub none_there : {X : Type 0} (o : Option (Bor X)) (p : Option X) → option_copied o ≡ p → is_some o ≡ false → p ≡ None
 none_there None p e t = sym e
@@ -35,15 +35,6 @@ pub third_decides : (a b c : Bool) → a ≡ true → b ≡ true → not c ≡ n
 third_decides true true c e f = refl
 third_decides true false c e f = cc
 third_decides false b c e f = cc
-
--- what the book has after a message
-pub book_after : {P : Type 0} (w : BookView P) (e : ℕ) (g : Ghost P) →
-    (after_message w e g).ghosts ≡ set_at w.ghosts e (ghost_after (table.get w.ghosts e) g)
-book_after w e g = elim (nat_lt (beat_of w e) g.beat) as (λ b. (cond b (with_ghost w e g) w).ghosts
-    ≡ set_at w.ghosts e (cond b (Some g) (table.get w.ghosts e))) [
-      | true ↦ refl
-      | false ↦ sym (set_at-same w.ghosts e)
-    ]
 
 module _ (c : CellView) (from e beat : ℕ) (now : Map (Ghost GhostCopy)) where
   abbrev pub Heard : Option GhostCopy → Type 0

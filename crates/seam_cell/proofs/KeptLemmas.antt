@@ -49,7 +49,7 @@ use Rattle.seam_steps.specs.Maps.{Map, set_at}
 use Rattle.seam_steps.proofs.Slots.{get-set_at}
 use Rattle.seam_steps.proofs.Peers.{cell_frame}
 use Rattle.seam_steps.proofs.ValidCells.{cell_stays_valid}
-use Rattle.seam_cell.specs.Kept.{IsThere, AreThere, IsKept}
+use Rattle.seam_parts.specs.Kept.{IsThere, AreThere, IsKept}
 use Rattle.seam_entity.proofs.HeldLemmas.{both, item_passes_too, held_offered, held_taken, got_passes, same_value}
 
 not_false : (a : Bool) → not a ≡ false → a ≡ true

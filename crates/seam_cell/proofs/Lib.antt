@@ -1,16 +1,9 @@
-pub mod SetLemmas
-pub mod MarkLemmas
-pub mod RealLemmas
 pub mod KeptLemmas
-pub mod HomeLemmas
 pub mod LoadLemmas
 pub mod RoundLemmas
 pub mod CellLemmas
-pub mod NewsLemmas
-pub mod SettleLemmas
 pub mod StepLemmas
 pub mod CallLemmas
 pub mod ReadyLemmas
-pub mod LookLemmas
 pub mod ArriveLemmas
 pub mod SurveyLemmas

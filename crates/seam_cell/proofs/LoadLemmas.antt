@@ -20,11 +20,11 @@ use Rattle.seam_steps.specs.Slots.{NextPlace}
 use Rattle.seam_steps.specs.Valid.{NextsAreCells}
 use Rattle.seam_steps.specs.Cells.{CellView}
 use Rattle.seam_steps.proofs.Slots.{get-set_at}
-use Rattle.seam_cell.specs.declared.known.Known.{Known}
-use Rattle.seam_cell.specs.declared.reals.Reals.{Reals}
-use Rattle.seam_cell.specs.declared.places.Places.{Places}
-use Rattle.seam_cell.specs.declared.lists.Lists.{Lists}
-use Rattle.seam_cell.specs.Kept.{here_in, cell_of, AreKept, IsThere, IsKept, AreWhole}
+use Rattle.seam_parts.specs.declared.known.Known.{Known}
+use Rattle.seam_parts.specs.declared.reals.Reals.{Reals}
+use Rattle.seam_parts.specs.declared.places.Places.{Places}
+use Rattle.seam_parts.specs.declared.lists.Lists.{Lists}
+use Rattle.seam_parts.specs.Kept.{here_in, cell_of, AreKept, IsThere, IsKept, AreWhole}
 use Rattle.seam_cell.proofs.RoundLemmas.{got_each}
 
 no_length : {A : Type 0} (xs : List A) → length xs ≡ 0 → xs ≡ []

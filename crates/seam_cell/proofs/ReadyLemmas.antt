@@ -15,7 +15,7 @@ use Rattle.seam_entity.specs.declared.real.After.{After}
 use Rattle.seam_steps.specs.Slots.{Slot}
 use Rattle.seam_steps.specs.Settle.{settled}
 use Rattle.seam_steps.specs.CellCases.{ready_call_task, ready_in, executes_ready}
-use Rattle.seam_cell.specs.Stepping.{IsLater}
+use Rattle.seam_parts.specs.Stepping.{IsLater}
 use Rattle.seam_cell.proofs.CallLemmas.{CanSettle, RisesLater, can_settle, after_is}
 
 -- the order and the call of the real's least sender that has a ready call

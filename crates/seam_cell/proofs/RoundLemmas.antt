@@ -18,10 +18,11 @@ use Rattle.seam_entity.specs.Reals.{RealView}
 use Rattle.seam_entity.specs.Executing.{real_begins}
 use Rattle.seam_steps.specs.Maps.{Map, number_of, set_at, with_value, each_value}
 use Rattle.seam_known.proofs.Walks.{comes_after, left_after, IsBefore, nothing_before, all_left, none_left, one_left}
-use Rattle.seam_cell.specs.Sets.{with_entity}
-use Rattle.seam_cell.specs.Kept.{marked, with_mark}
+use Rattle.seam_parts.specs.Sets.{with_entity}
+pub use Rattle.seam_parts.proofs.SpotLemmas.{left, fewer_left}
+use Rattle.seam_parts.specs.Kept.{marked, with_mark}
 use Rattle.seam_cell.specs.Beginning.{changed_at}
-use Rattle.seam_cell.proofs.MarkLemmas.{marked_in, marked_out, removed_gone, put_again}
+use Rattle.seam_parts.proofs.MarkLemmas.{marked_in, marked_out, removed_gone, put_again}
 
 -- ---- each value of a map
 
@@ -45,15 +46,6 @@ module _ {X Y : Type 0} (f : X → Y) where
 -- the reals up to the last one have begun, and the others are as they were
 abbrev pub AreBegun : Option ℕ → Map RealView → Map RealView → Type 0
 AreBegun last old now = (q : ℕ) → table.get now q ≡ cond (is_after last q) (table.get old q) (option_map real_begins (table.get old q))
-
--- how many numbers are left
-abbrev pub left : Option ℕ → ℕ
-left None = 4294967296
-left (Some e) = 4294967295 - e
-
-pub fewer_left : (last : Option ℕ) (e : ℕ) → is_after last e ≡ true → e < 4294967296 → left (Some e) < left last
-fewer_left None e after small = omega (arith, small)
-fewer_left (Some low) e after small = let lt : low < e = grind (arith, nat_tests, after) in omega (arith, small, lt)
 
 further : (last : Option ℕ) (e q : ℕ) → is_after last e ≡ true → e < q → is_after last q ≡ true
 further None e q after lt = refl

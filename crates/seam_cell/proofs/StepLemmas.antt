@@ -26,17 +26,17 @@ use Rattle.seam_steps.specs.CellCases
 use Rattle.seam_steps.specs.Cells.{CellView, slot_of, with_slot, after_slot, unlisted_by, stepped, cell_steps, cell_task}
 use Rattle.seam_steps.specs.Cells.{real_is_ready, ready_entity, ready_next, look_next}
 use Rattle.seam_steps.proofs.Slots.{set_at-same}
-use Rattle.seam_cell.specs.declared.known.Known.{Known}
-use Rattle.seam_cell.specs.declared.reals.Reals.{Reals}
-use Rattle.seam_cell.specs.declared.places.Places.{Places}
-use Rattle.seam_cell.specs.declared.lists.Lists.{Lists}
+use Rattle.seam_parts.specs.declared.known.Known.{Known}
+use Rattle.seam_parts.specs.declared.reals.Reals.{Reals}
+use Rattle.seam_parts.specs.declared.places.Places.{Places}
+use Rattle.seam_parts.specs.declared.lists.Lists.{Lists}
 use Rattle.seam_entity.specs.Preparing.{offered as held_or}
-use Rattle.seam_cell.specs.Kept.{here_in, cell_of, AreKept, IsKept, AreWhole}
+use Rattle.seam_parts.specs.Kept.{here_in, cell_of, AreKept, IsKept, AreWhole}
 use Rattle.seam_cell.specs.Calling.{called_by, is_called, IsTurn, may_run}
-use Rattle.seam_cell.specs.Stepping.{parts_of, slot_in, IsDone, list_after}
-use Rattle.seam_cell.proofs.MarkLemmas.{put_again, put_back}
+use Rattle.seam_parts.specs.Stepping.{parts_of, slot_in, IsDone, list_after}
+use Rattle.seam_parts.proofs.MarkLemmas.{put_again, put_back}
 use Rattle.seam_cell.proofs.KeptLemmas.{step_kept}
-use Rattle.seam_cell.proofs.RealLemmas.{set_removed}
+use Rattle.seam_parts.proofs.RealLemmas.{set_removed}
 
 -- a step that leaves a slot as it is puts it in as it is
 after_is_with : (c : CellView) (e : ℕ) (o : Option Slot) → after_slot c e o ≡ with_slot c e (slot_after o (slot_of c e))

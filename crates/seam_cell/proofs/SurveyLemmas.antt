@@ -12,13 +12,13 @@ use Rattle.seam_steps.specs.Slots.{SlotStep, unless_stray}
 use Rattle.seam_steps.specs.Settle.{settled}
 use Rattle.seam_steps.specs.CellCases.{stray_survey, survey_task as survey_step}
 use Rattle.seam_steps.specs.Cells.{CellView, slot_of, stepped, cell_task}
-use Rattle.seam_cell.specs.declared.known.Known.{Known}
-use Rattle.seam_cell.specs.declared.reals.Reals.{Reals}
-use Rattle.seam_cell.specs.declared.places.Places.{Places}
-use Rattle.seam_cell.specs.declared.lists.Lists.{Lists}
-use Rattle.seam_cell.specs.Kept.{here_in, cell_of}
-use Rattle.seam_cell.specs.Stepping.{parts_of, slot_in, IsDone, list_after}
-use Rattle.seam_cell.proofs.MarkLemmas.{put_back}
+use Rattle.seam_parts.specs.declared.known.Known.{Known}
+use Rattle.seam_parts.specs.declared.reals.Reals.{Reals}
+use Rattle.seam_parts.specs.declared.places.Places.{Places}
+use Rattle.seam_parts.specs.declared.lists.Lists.{Lists}
+use Rattle.seam_parts.specs.Kept.{here_in, cell_of}
+use Rattle.seam_parts.specs.Stepping.{parts_of, slot_in, IsDone, list_after}
+use Rattle.seam_parts.proofs.MarkLemmas.{put_back}
 use Rattle.seam_entity.proofs.HeldLemmas.{both}
 use Rattle.seam_cell.proofs.CallLemmas.{rises}
 use Rattle.seam_cell.proofs.StepLemmas.{done_stepped}

@@ -1,10 +1,4 @@
-pub mod Sets
-pub mod Kept
-pub mod News
-pub mod Settling
-pub mod Stepping
 pub mod Calling
 pub mod Machines
 pub mod Arriving
-pub mod Looking
 pub mod Beginning

@@ -15,17 +15,14 @@ ghost use Rattle.seam_steps.specs.CellCases.{may_come as real_may_come, is_in_tr
 ghost use Rattle.seam_steps.specs.CellCases.{has_small_numbers as numbers_are_small};
 ghost use Rattle.seam_steps.specs.CellCases.{is_cell_if, currents};
 ghost use Rattle.seam_steps.specs.Cells.{cell_steps};
-ghost use Rattle.seam_cell.specs.Kept.{here_in, cell_of, AreKept, IsOpen};
+ghost use Rattle.seam_parts.specs.Kept.{here_in, cell_of, AreKept, IsOpen};
 ghost use Rattle.seam_cell.specs.Arriving.{current_of, is_cell_in};
-ghost use Rattle.seam_cell.specs.declared.lists.Lists.{Lists as AnyLists};
+ghost use Rattle.seam_parts.specs.declared.lists.Lists.{Lists as AnyLists};
 
-use crate::known::Known;
-use crate::places::Places;
-use crate::reals::{Reals, make_place, put_in};
-use crate::settle::tell_own;
 use seam_entity::{Msg, Parcel, Real, is_small};
 use seam_machine::Out;
 use seam_memory::NoMemoryFor;
+use seam_parts::{Known, Places, Reals, make_place, put_in, tell_own};
 use seam_tree::{CellSet, MOST_CELLS, Tree};
 use std::alloc::AllocError;
 

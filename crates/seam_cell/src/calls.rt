@@ -9,17 +9,14 @@ ghost use Rattle.seam_entity.specs.Executing.{may_settle as real_may_settle, may
 ghost use Rattle.seam_entity.specs.Executing.{executed, shows, with_deed};
 ghost use Rattle.seam_entity.specs.Preparing.{HasRoom, offered};
 ghost use Rattle.seam_steps.specs.Settle.{settled};
-ghost use Rattle.seam_cell.specs.Kept.{here_in, IsThere};
-ghost use Rattle.seam_cell.specs.Stepping.{IsReadyFor, IsDone, parts_of, slot_in, core_of};
+ghost use Rattle.seam_parts.specs.Kept.{here_in, IsThere};
+ghost use Rattle.seam_parts.specs.Stepping.{IsReadyFor, IsDone, parts_of, slot_in, core_of};
 
-use crate::known::Known;
-use crate::news::Subject;
-use crate::places::Places;
-use crate::settle::{Ready, make_room, ready_for, settle_real};
 use seam_call::Call;
 use seam_entity::{After, Msg, Real, fits_cell_part, may_rise};
 use seam_machine::Out;
 use seam_memory::NoMemoryFor;
+use seam_parts::{Known, Places, Ready, Subject, make_room, ready_for, settle_real};
 use std::alloc::{AllocError, Global};
 
 /// A real, and a call whose turn it is.

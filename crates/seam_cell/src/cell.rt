@@ -21,13 +21,7 @@ ghost use Rattle.seam_cell.specs.Calling.{is_called, IsTurn, may_run};
 
 use crate::arriving::arrive;
 use crate::calls::{Turn, execute_turn, hold, may_call, may_execute};
-use crate::entity_set::EntitySet;
-use crate::known::Known;
-use crate::lists::Lists;
 use crate::loads::{Making, begin_round, give_witness, make_real};
-use crate::looking::look_task;
-use crate::places::Places;
-use crate::reals::{Reals, first_ready, put_after, put_in, take_out};
 use crate::reaping::reap;
 use crate::surveying::survey_task;
 use crate::tasks::execute_ready;
@@ -37,6 +31,11 @@ use seam_entity::{Msg, Parcel, fits_copy, is_small};
 use seam_ghosts::GhostBook;
 use seam_machine::{Input, Machine, Out};
 use seam_memory::NoMemoryFor;
+use seam_parts::{
+    CopyBook, EntitySet, Known, Lists, Places, RealTable, Reals, first_ready, put_after, put_in,
+    take_out,
+};
+use seam_sight::look_task;
 use seam_table::Table;
 use seam_tree::{MOST_CELLS, Tree};
 use std::alloc::{AllocError, Global};
@@ -56,7 +55,7 @@ impl Model for Cell {
     ghost use Rattle.std.specs.FinMap as table;
     ghost use Rattle.std.specs.FinSet as set;
     ghost use Rattle.seam_steps.specs.Cells.{CellView};
-    ghost use Rattle.seam_cell.specs.Kept.{cell_of, AreWhole};
+    ghost use Rattle.seam_parts.specs.Kept.{cell_of, AreWhole};
 
     ghost Value = { CellView };
 
@@ -80,36 +79,11 @@ fn is_stray_set(defs: &Defs, settings: &Settings, beat: u64, copy: &GhostCopy) -
     !fits_copy(defs, settings, copy)
 }
 
-// The book takes the copy at that beat.
-pub(crate) fn set_in(
-    book: &mut GhostBook<GhostCopy>,
-    e: u32,
-    beat: u64,
-    copy: GhostCopy,
-) -> Result<(), NoMemoryFor<GhostCopy>>
-    ensures ok { OnOk result (book.new.ghosts
-        ≡ set_at book.old.ghosts e (ghost_after (table.get book.old.ghosts e) (record { beat = beat; copy = Some copy }))) }
-    ensures err { OnErr result (book.new.ghosts ≡ book.old.ghosts) }
-    ensures err_item { IfErr result (λ r. r.item ≡ copy) }
-    ensures err_only_first { OnErr result (set.contains book.old.room e ≡ false) }
+// The message comes back.
+fn no_memory_for(item: Msg) -> Result<(), NoMemoryFor<Msg>>
+    ensures { result ≡ Err (record { item = item }) }
 {
-    match book.set(e, beat, copy) {
-        Ok(_) => Ok(()),
-        Err(refused) => Err(refused),
-    }
-}
-
-// The book drops the copy at that beat.
-pub(crate) fn drop_in(book: &mut GhostBook<GhostCopy>, e: u32, beat: u64) -> Result<(), AllocError>
-    ensures ok { OnOk result (book.new.ghosts
-        ≡ set_at book.old.ghosts e (ghost_after (table.get book.old.ghosts e) (record { beat = beat; copy = None }))) }
-    ensures err { OnErr result (book.new.ghosts ≡ book.old.ghosts) }
-    ensures err_only_first { OnErr result (set.contains book.old.room e ≡ false) }
-{
-    match book.drop_copy(e, beat) {
-        Ok(_) => Ok(()),
-        Err(refused) => Err(refused),
-    }
+    Err(NoMemoryFor { item })
 }
 
 impl Cell {
@@ -128,13 +102,13 @@ impl Cell {
                 tree,
             },
             reals: Reals {
-                items: Table::new(alloc),
+                items: RealTable::new(alloc),
                 ready: EntitySet::new(alloc),
                 witnesses: EntitySet::new(alloc),
             },
             places: Places {
                 nexts: Table::new(alloc),
-                copies: GhostBook::new(alloc),
+                copies: CopyBook::new(alloc),
             },
             lists: Lists {
                 survey: EntitySet::new(alloc),
@@ -198,7 +172,7 @@ impl Cell {
         if is_stray_set(&self.known.defs, &self.known.settings, beat, &copy) {
             return Ok(());
         }
-        set_in(&mut self.places.copies, e, beat, copy)
+        self.places.copies.set(e, beat, copy)
     }
 
     /// Ghost drop: the own book drops the copy at that beat.
@@ -210,7 +184,7 @@ impl Cell {
         if !is_small(beat) {
             return Ok(());
         }
-        drop_in(&mut self.places.copies, e, beat)
+        self.places.copies.drop_copy(e, beat)
     }
 
     /// Tick: the witnesses here are to look.
@@ -373,7 +347,7 @@ impl Cell {
             alloc,
             &self.known,
             &mut self.reals,
-            &self.places,
+            &mut self.places,
             &mut self.lists,
             out,
         )
@@ -443,43 +417,27 @@ impl Cell {
         match message {
             Msg::Call(call) => match self.hear_call(alloc, call, out) {
                 Ok(()) => return Ok(()),
-                Err(refused) => {
-                    return Err(NoMemoryFor {
-                        item: Msg::Call(refused.item),
-                    });
-                }
+                Err(refused) => return no_memory_for(Msg::Call(refused.item)),
             },
             Msg::Hand(parcel) => match self.hear_hand(parcel, out) {
                 Ok(()) => return Ok(()),
-                Err(refused) => {
-                    return Err(NoMemoryFor {
-                        item: Msg::Hand(refused.item),
-                    });
-                }
+                Err(refused) => return no_memory_for(Msg::Hand(refused.item)),
             },
             Msg::GhostSet(e, beat, copy) => match self.hear_ghost_set(e, beat, copy) {
                 Ok(()) => return Ok(()),
-                Err(refused) => {
-                    return Err(NoMemoryFor {
-                        item: Msg::GhostSet(e, beat, refused.item),
-                    });
-                }
+                Err(refused) => return no_memory_for(Msg::GhostSet(e, beat, refused.item)),
             },
             Msg::GhostDrop(e, beat) => match self.hear_ghost_drop(e, beat) {
                 Ok(()) => return Ok(()),
-                Err(_) => {
-                    return Err(NoMemoryFor {
-                        item: Msg::GhostDrop(e, beat),
-                    });
-                }
+                Err(_) => return no_memory_for(Msg::GhostDrop(e, beat)),
             },
             Msg::Tick => match self.hear_tick() {
                 Ok(()) => return Ok(()),
-                Err(_) => return Err(NoMemoryFor { item: Msg::Tick }),
+                Err(_) => return no_memory_for(Msg::Tick),
             },
             Msg::Reap(e) => match self.hear_reap(e, out) {
                 Ok(()) => return Ok(()),
-                Err(_) => return Err(NoMemoryFor { item: Msg::Reap(e) }),
+                Err(_) => return no_memory_for(Msg::Reap(e)),
             },
             Msg::BaseCall(_) => return Ok(()),
             Msg::Current(_, _, _) => return Ok(()),
@@ -511,7 +469,7 @@ impl Cell {
     pub fn copies(&self) -> &GhostBook<GhostCopy>
         ensures { result.now.ghosts ≡ self.now.ghosts }
     {
-        &self.places.copies
+        self.places.copies.book()
     }
 }
 

@@ -5,17 +5,14 @@ ghost use Rattle.std.specs.FinMap as table;
 ghost use Rattle.seam_entity.specs.Executing.{created, real_begins};
 ghost use Rattle.seam_entity.specs.Looks.{with_witness};
 ghost use Rattle.seam_steps.specs.Maps.{Map, set_at, each_value};
-ghost use Rattle.seam_cell.specs.Kept.{here_in, AreKept, marked};
+ghost use Rattle.seam_parts.specs.Kept.{here_in, AreKept, marked};
 ghost use Rattle.seam_steps.specs.Cells.{real_is_ready, has_witness};
-ghost use Rattle.seam_cell.specs.Sets.{with_entity};
+ghost use Rattle.seam_parts.specs.Sets.{with_entity};
 ghost use Rattle.seam_cell.specs.Beginning.{changed_at};
 
-use crate::entity_set::EntitySet;
-use crate::known::Known;
-use crate::reals::{Reals, make_place, put_in, take_out};
 use seam_entity::{Parcel, Real, Witness};
 use seam_geo::Pos;
-use seam_table::Table;
+use seam_parts::{EntitySet, Known, RealTable, Reals, make_place, put_in, take_out};
 use std::alloc::{AllocError, Global};
 
 /// A real that is to be made.
@@ -82,7 +79,7 @@ fn add(all: &mut EntitySet, e: u32) -> Result<(), AllocError>
 }
 
 // The entities of all reals.
-fn all_entities(alloc: Global, items: &Table<Parcel>) -> Result<EntitySet, AllocError>
+fn all_entities(alloc: Global, items: &RealTable) -> Result<EntitySet, AllocError>
     ensures { IfOk result (λ s. s ≡ table.keys items.now.items) }
 {
     let mut all = EntitySet::new(alloc);
@@ -95,7 +92,7 @@ fn all_entities(alloc: Global, items: &Table<Parcel>) -> Result<EntitySet, Alloc
 }
 
 // Begins a round for the entity's real, which is here.
-fn begin(items: &mut Table<Parcel>, e: u32)
+fn begin(items: &mut RealTable, e: u32)
     requires { is_some (table.get items.old.items e) ≡ true }
     ensures after { items.new.items ≡ changed_at real_begins items.old.items e }
     ensures small { e < 2 ^ 32 }
@@ -109,7 +106,7 @@ fn begin(items: &mut Table<Parcel>, e: u32)
 }
 
 // Begins a round for every real.
-fn begin_all(items: &mut Table<Parcel>)
+fn begin_all(items: &mut RealTable)
     ensures after { items.new.items ≡ each_value real_begins items.old.items }
     ensures ready { marked real_is_ready items.new.items ≡ marked real_is_ready items.old.items }
     ensures witnesses { marked has_witness items.new.items ≡ marked has_witness items.old.items }

@@ -6,16 +6,13 @@ ghost use Rattle.seam_machine.specs.declared.machines.Input.TheVariants.{From};
 ghost use Rattle.seam_entity.specs.declared.message.Msg.TheVariants as msg;
 ghost use Rattle.seam_steps.specs.CellCases.{drop_at, drops, stray_reap};
 ghost use Rattle.seam_steps.specs.Cells.{cell_steps};
-ghost use Rattle.seam_cell.specs.News.{listed};
-ghost use Rattle.seam_cell.specs.Kept.{cell_of, AreKept};
-ghost use Rattle.seam_cell.specs.declared.known.Known.{Known as AnyKnown};
+ghost use Rattle.seam_parts.specs.News.{listed};
+ghost use Rattle.seam_parts.specs.Kept.{cell_of, AreKept};
+ghost use Rattle.seam_parts.specs.declared.known.Known.{Known as AnyKnown};
 
-use crate::lists::{Lists, unlist};
-use crate::places::Places;
-use crate::reals::{Reals, close, take_out};
-use crate::settle::tell_own;
 use seam_entity::{Msg, Real, may_rise};
 use seam_machine::Out;
+use seam_parts::{Lists, Places, Reals, close, take_out, tell_own, unlist};
 use seam_tree::MOST_CELLS;
 use std::alloc::AllocError;
 

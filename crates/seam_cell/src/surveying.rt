@@ -9,19 +9,17 @@ ghost use Rattle.seam_steps.specs.Settle.{settled};
 ghost use Rattle.seam_steps.specs.CellCases.{stray_survey};
 ghost use Rattle.seam_steps.specs.Cells.{cell_task};
 ghost use Rattle.seam_steps.specs.Maps.{has_any};
-ghost use Rattle.seam_cell.specs.Kept.{here_in, cell_of, AreKept, AreWhole, IsThere};
-ghost use Rattle.seam_cell.specs.Stepping.{IsReadyFor, IsDone, parts_of, slot_in, core_of};
+ghost use Rattle.seam_parts.specs.Kept.{here_in, cell_of, AreKept, AreWhole, IsThere};
+ghost use Rattle.seam_parts.specs.Stepping.{IsReadyFor, IsDone, parts_of, slot_in, core_of};
 
 use crate::calls::may_settle;
-use crate::known::Known;
-use crate::lists::Lists;
-use crate::news::Subject;
-use crate::places::Places;
-use crate::reals::{Reals, put_after, take_out};
-use crate::settle::{Ready, make_room, ready_for, settle_real};
 use crate::tasks::Tasked;
 use seam_entity::{Msg, Real};
 use seam_machine::Out;
+use seam_parts::{
+    Known, Lists, Places, Ready, Reals, Subject, make_room, put_after, ready_for, settle_real,
+    take_out,
+};
 use std::alloc::{AllocError, Global};
 
 // Makes what a real takes to settle as it is.

@@ -9,16 +9,13 @@ ghost use Rattle.seam_entity.specs.Calls.{has_ready};
 ghost use Rattle.seam_entity.specs.Executing.{may_settle, may_execute, executed_ready, shows, with_deed};
 ghost use Rattle.seam_entity.specs.Preparing.{HasSpare, HasReady};
 ghost use Rattle.seam_steps.specs.CellCases.{survey_task, ready_call_task};
-ghost use Rattle.seam_cell.specs.Kept.{here_in, IsThere};
-ghost use Rattle.seam_cell.specs.Stepping.{IsReadyFor, IsDone, parts_of, slot_in, core_of};
+ghost use Rattle.seam_parts.specs.Kept.{here_in, IsThere};
+ghost use Rattle.seam_parts.specs.Stepping.{IsReadyFor, IsDone, parts_of, slot_in, core_of};
 
 use crate::calls::Made;
-use crate::known::Known;
-use crate::news::Subject;
-use crate::places::Places;
-use crate::settle::{make_room, ready_for, settle_real};
 use seam_entity::{Msg, Real};
 use seam_machine::Out;
+use seam_parts::{Known, Places, Subject, make_room, ready_for, settle_real};
 use std::alloc::{AllocError, Global};
 
 /// The real after a task, where it is still here, and whether there was memory for the task.

@@ -1,5 +1,5 @@
 // What the calls that take memory give with ample memory.
-use crate::{Cell, EntitySet};
+use crate::Cell;
 use seam_call::{Call, GhostCopy, Sender};
 use seam_defs::{Deed, Defs, Part, Settings};
 use seam_entity::Real;
@@ -57,17 +57,5 @@ fn a_call_without_a_place_goes_nowhere(rt: HostRuntime) -> Result<(), Fail> {
     }
     assert!(rt; cell.pass_call_on(call, &mut out).is_ok());
     assert!(rt; out.is_empty());
-    Ok(())
-}
-
-#[test]
-fn a_set_is_in_order(rt: HostRuntime) -> Result<(), Fail> {
-    let mut set = EntitySet::new(rt.alloc());
-    set.insert(7)?;
-    set.insert(2)?;
-    let mut copy = set.copy()?;
-    set.remove(2);
-    assert_eq!(rt; set.first(), Some(7));
-    assert_eq!(rt; copy.take_first(), Some(2));
     Ok(())
 }

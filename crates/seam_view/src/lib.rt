@@ -2,6 +2,8 @@
 //!
 //! An entity enters a view within a radius, and leaves it beyond the radius and a hysteresis. (After the area of interest
 //! of the BigWorld Server Overview.)
+//!
+//! Of `proofs/`, `Only` (looks at two lists that agree on all that matters) is for callers.
 #![tactic(auto)]
 
 ghost use Rattle.std.specs.Prelude.{◌≡◌, ◌≤◌, ◌++◌, ℕ, List, [], filter, map, length, slice_get, option_copied, IfOk, OnOk, OnErr, is_some};
@@ -491,7 +493,7 @@ fn reserve_versions(shown: &mut Table<u64>, looks: &[Look]) -> Result<(), AllocE
 }
 
 /// What is known of entities that are neither in view nor near makes no difference: two lists that agree on all the others give the
-/// same looks.
+/// same looks, which leave the same.
 pub fn only_near_matters()
     ensures looks { (r : Replica) (own : Pos) (known other : List Seen) → filter (matters r own) known ≡ filter (matters r own) other →
         one_look r own known ≡ one_look r own other }

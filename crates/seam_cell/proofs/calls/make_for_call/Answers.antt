@@ -1,8 +1,8 @@
 use Rattle.std.proofs.Common.{sym, ap, subst, ◌∙◌}
 use Rattle.seam_tree.specs.Division.{IsInSpace}
 use Rattle.seam_entity.specs.Executing.{executed}
-use Rattle.seam_cell.specs.Kept.{here_in}
-use Rattle.seam_cell.specs.Stepping.{IsReadyFor}
+use Rattle.seam_parts.specs.Kept.{here_in}
+use Rattle.seam_parts.specs.Stepping.{IsReadyFor}
 use Rattle.seam_cell.proofs.KeptLemmas.{executed_there}
 use Rattle.seam_cell.proofs.CallLemmas.{after_is, executed_later}
 use Rattle.seam_cell.proofs.calls.make_for_call.Goals as goal

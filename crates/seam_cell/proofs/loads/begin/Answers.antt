@@ -2,7 +2,7 @@ use Rattle.std.proofs.Common.{Some, option_map, sym, ap, ◌∙◌}
 use Rattle.std.specs.FinMap as table
 use Rattle.seam_entity.specs.Executing.{real_begins}
 use Rattle.seam_steps.specs.Maps.{set_at}
-use Rattle.seam_cell.proofs.MarkLemmas.{put_again}
+use Rattle.seam_parts.proofs.MarkLemmas.{put_again}
 use Rattle.seam_cell.proofs.loads.begin.Goals as goal
 
 pub returns-clause-after : goal.returns-clause-after

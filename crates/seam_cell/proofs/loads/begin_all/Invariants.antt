@@ -1,6 +1,6 @@
 use Rattle.std.proofs.Common.{◌≡◌}
 use Rattle.seam_steps.specs.Cells.{real_is_ready, has_witness}
-use Rattle.seam_cell.specs.Kept.{marked}
+use Rattle.seam_parts.specs.Kept.{marked}
 use Rattle.seam_cell.proofs.RoundLemmas.{AreBegun, left}
 use Rattle.seam_cell.proofs.loads.begin_all.Given as goal
 

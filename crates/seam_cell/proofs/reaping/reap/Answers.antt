@@ -3,7 +3,7 @@ use Rattle.std.specs.FinMap as table
 use Rattle.seam_ghosts.specs.Book.{ghost_after}
 use Rattle.seam_steps.specs.Maps.{set_at}
 use Rattle.seam_steps.specs.Cells.{CellView}
-use Rattle.seam_cell.specs.Kept.{cell_of}
+use Rattle.seam_parts.specs.Kept.{cell_of}
 use Rattle.seam_cell.proofs.ArriveLemmas.{reaped}
 use Rattle.seam_cell.proofs.reaping.reap.Goals as goal
 

@@ -1,7 +1,7 @@
 use Rattle.std.proofs.Common.{◌≡◌, false, subst, option_map}
 use Rattle.seam_steps.specs.Settle.{settled}
-use Rattle.seam_cell.specs.Kept.{here_in}
-use Rattle.seam_cell.specs.Stepping.{IsDone, parts_of, slot_in, core_of}
+use Rattle.seam_parts.specs.Kept.{here_in}
+use Rattle.seam_parts.specs.Stepping.{IsDone, parts_of, slot_in, core_of}
 use Rattle.seam_cell.proofs.surveying.settle_again.Goals as goal
 
 pub returns-clause-done : goal.returns-clause-done

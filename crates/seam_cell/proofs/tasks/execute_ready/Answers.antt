@@ -4,8 +4,8 @@ use Rattle.seam_order.specs.Offers.{after_taking}
 use Rattle.seam_entity.specs.Executing.{executed_ready, shows, with_order}
 use Rattle.seam_steps.specs.Settle.{settled}
 use Rattle.seam_steps.specs.CellCases.{ready_call_task}
-use Rattle.seam_cell.specs.Kept.{here_in}
-use Rattle.seam_cell.specs.Stepping.{IsReadyFor, IsDone, parts_of, slot_in, core_of}
+use Rattle.seam_parts.specs.Kept.{here_in}
+use Rattle.seam_parts.specs.Stepping.{IsReadyFor, IsDone, parts_of, slot_in, core_of}
 use Rattle.seam_cell.proofs.CallLemmas.{after_is}
 use Rattle.seam_cell.proofs.ReadyLemmas.{Readied, readied, same_ready, ready_rises, task_is}
 use Rattle.seam_cell.proofs.tasks.execute_ready.Goals as goal

@@ -1,7 +1,7 @@
 use Rattle.std.proofs.Common.{Some, ap, sym, subst}
 use Rattle.seam_tree.specs.Division.{IsInSpace}
 use Rattle.seam_entity.specs.Executing.{created}
-use Rattle.seam_cell.specs.Kept.{here_in}
+use Rattle.seam_parts.specs.Kept.{here_in}
 use Rattle.seam_cell.proofs.LoadLemmas.{whole_or, created_fits}
 use Rattle.seam_cell.proofs.cell.Cell.add_entity.Goals as goal
 

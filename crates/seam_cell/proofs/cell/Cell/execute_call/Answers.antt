@@ -4,9 +4,9 @@ use Rattle.seam_machine.specs.declared.machines.Input.TheVariants.{From}
 use Rattle.seam_entity.specs.declared.message.Msg.TheVariants.{Call}
 use Rattle.seam_steps.specs.Maps.{set_at}
 use Rattle.seam_steps.specs.Cells.{cell_steps}
-use Rattle.seam_cell.specs.Kept.{cell_of, AreWhole}
+use Rattle.seam_parts.specs.Kept.{cell_of, AreWhole}
 use Rattle.seam_cell.specs.Calling.{is_called, IsTurn}
-use Rattle.seam_cell.specs.Stepping.{core_of}
+use Rattle.seam_parts.specs.Stepping.{core_of}
 use Rattle.seam_cell.proofs.StepLemmas.{by_result, both_err, whole_after, whole_again, undone, turn_left}
 use Rattle.seam_cell.proofs.cell.Cell.execute_call.Goals as goal
 

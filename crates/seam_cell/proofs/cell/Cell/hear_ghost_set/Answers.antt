@@ -16,8 +16,8 @@ returns-then-is_stray_set-clause-state c from =
 
 pub returns-clause-state : goal.returns-clause-state
 returns-clause-state c from =
-    on_ok_weaker c.set_in.result
-    (λ e. ghost_set_here (the_view c.self.inside) from c.args.e c.args.beat c.set_in.new.book.ghosts c.args.copy
+    on_ok_weaker c.set.result
+    (λ e. ghost_set_here (the_view c.self.inside) from c.args.e c.args.beat c.set.new.self.ghosts c.args.copy
     (none_there c.get.result _ c.get.ensures.item (sym c.is_some.ensures ∙ c.if-is_some.false))
     (sym (c.is_stray_set.ensures c.self.inside.known.me) ∙ c.if-is_stray_set.false) e
-    ∙ ap (λ v. (cell_steps v (From from (GhostSet c.args.e c.args.beat c.args.copy))).state) c.self.view_is) c.set_in.ensures.ok
+    ∙ ap (λ v. (cell_steps v (From from (GhostSet c.args.e c.args.beat c.args.copy))).state) c.self.view_is) c.set.ensures.ok

@@ -4,7 +4,7 @@ use Rattle.std.proofs.lemmas.Result.{on_ok_weaker, on_err_weaker}
 use Rattle.seam_machine.specs.declared.machines.Input.TheVariants.{From}
 use Rattle.seam_entity.specs.declared.message.Msg.TheVariants.{Call}
 use Rattle.seam_steps.specs.Cells.{cell_steps}
-use Rattle.seam_cell.specs.Kept.{cell_of, AreWhole}
+use Rattle.seam_parts.specs.Kept.{cell_of, AreWhole}
 use Rattle.seam_cell.specs.Calling.{is_called, IsTurn}
 use Rattle.seam_cell.proofs.StepLemmas.{by_result, whole_after, whole_again, held_sends, held_left, held_not}
 use Rattle.seam_cell.proofs.cell.Cell.hold_call.Goals as goal

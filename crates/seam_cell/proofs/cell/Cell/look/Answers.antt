@@ -2,7 +2,7 @@ use Rattle.std.proofs.Common.{◌≡◌, ◌++◌, ap, sym, ◌∙◌}
 use Rattle.std.proofs.lemmas.Result.{on_ok_weaker, on_err_weaker}
 use Rattle.seam_machine.specs.declared.machines.Input.TheVariants.{Task}
 use Rattle.seam_steps.specs.Cells.{cell_steps, look_next, ready_entity}
-use Rattle.seam_cell.specs.Kept.{cell_of}
+use Rattle.seam_parts.specs.Kept.{cell_of}
 use Rattle.seam_cell.proofs.StepLemmas.{whole_either, task_looks}
 use Rattle.seam_cell.proofs.cell.Cell.look.Goals as goal
 
@@ -16,7 +16,7 @@ module _ (c : goal.After-look_task) where
 pub invariant_of-self : goal.invariant_of-self
 invariant_of-self c =
     let old = c.self.inside in
-    whole_either old.known old.reals c.look_task.new.reals old.places old.places old.lists c.look_task.new.lists Task c.look_task.result
+    whole_either old.known old.reals c.look_task.new.reals old.places c.look_task.new.places old.lists c.look_task.new.lists Task c.look_task.result
     c.self.invariant c.look_task.ensures.marks
     (on_ok_weaker c.look_task.result (λ e. e ∙ ap (λ w. w.state) (sym (looks c))) c.look_task.ensures.state) c.look_task.ensures.err
 

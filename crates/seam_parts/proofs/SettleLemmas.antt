@@ -1,0 +1,178 @@
+-- What is ready for a real that settles, and what its settling leaves.
+use Rattle.std.proofs.Common.{◌≡◌, ◌≢◌, ◌+◌, ◌++◌, ℕ, Bool, true, false, cond, eqb, List, [], ◌∷◌, Option, None, Some, is_none}
+use Rattle.std.proofs.Common.{refl, ap, sym, subst, ◌∙◌, append_assoc, nat_lt, arith}
+use Rattle.std.specs.FinMap as table
+use Rattle.std.specs.FinSet as set
+use Rattle.std.proofs.lemmas.Bool.Decides.{nat_tests}
+use Rattle.seam_geo.specs.declared.pos.Pos.{Pos}
+use Rattle.seam_tree.specs.Division.{Division}
+use Rattle.seam_ghosts.specs.declared.Ghost.{Ghost}
+use Rattle.seam_ghosts.specs.Book.{BookView, beat_of, with_ghost, after_message, ghost_after}
+use Rattle.seam_call.specs.declared.shown.GhostCopy.{GhostCopy}
+use Rattle.seam_entity.specs.Here.{Here}
+use Rattle.seam_entity.specs.Reals.{RealView}
+use Rattle.seam_defs.specs.declared.types.TypeDef.{TypeDef}
+use Rattle.seam_defs.specs.declared.states.State.{State}
+use Rattle.seam_entity.specs.Executing.{copy_of_real, copy_with}
+use Rattle.seam_entity.specs.Preparing.{node_with}
+use Rattle.seam_entity.specs.declared.message.Msg.TheVariants.{Hand}
+use Rattle.seam_steps.specs.Maps.{set_at}
+use Rattle.seam_steps.specs.Slots.{Slot}
+use Rattle.seam_steps.specs.Settle.{home_after, haunts_at, ghost_messages, copy_if, stayed, gone_to, settled_by, settled}
+use Rattle.seam_steps.proofs.Slots.{set_at-same}
+use Rattle.seam_parts.specs.declared.news.Telling.{Telling}
+use Rattle.seam_parts.specs.declared.settle.Ready.{Ready}
+use Rattle.seam_parts.specs.News.{Tells}
+use Rattle.seam_parts.specs.Settling.{former, staying, going, IsGone}
+use Rattle.seam_parts.specs.Stepping.{telling_at, IsReadyFor, IsLater, PartsView, slot_in, IsDone}
+
+same_number : (a b : ℕ) → eqb a b ≡ true → a ≡ b
+same_number a b t = grind (arith, nat_tests)
+
+pub equal_test : (a b : ℕ) → a ≡ b → eqb a b ≡ true
+equal_test a b t = grind (arith, nat_tests)
+
+pub other_test : (a b : ℕ) → a ≢ b → eqb a b ≡ false
+other_test a b t = grind (arith, nat_tests)
+
+-- what is told, from a plan
+pub told_from : (h : Here) (t : Division) (r : RealView) (p : Pos) (changed : Bool) (told : Telling) → told.me ≡ h.me →
+    told.home ≡ home_after h t p → told.old ≡ r.haunts →
+    told.haunts ≡ haunts_at h t p (home_after h t p) (former h.me (home_after h t p) r.haunts) → told.changed ≡ changed →
+    told.entity ≡ r.entity → told.beat ≡ r.beat + 1 → told ≡ telling_at h t r p changed
+told_from h t r p changed told me home old haunts same entity beat = λ i. record {
+  me = me i;
+  home = home i;
+  old = old i;
+  haunts = haunts i;
+  changed = same i;
+  entity = entity i;
+  beat = beat i;
+}
+
+-- the copy of a real of that type, public version and state
+pub copy_is : (h : Here) (defs : List TypeDef) (r : RealView) (ty version : ℕ) (state : State) → defs ≡ h.defs → r.ty ≡ ty →
+    r.public ≡ version → r.state ≡ state → copy_with (node_with defs h.me h.settings) ty version state ≡ copy_of_real h r
+copy_is h defs r ty version state same ty_is public_is state_is =
+    λ i. copy_with (node_with (same i) h.me h.settings) (sym ty_is i) (sym public_is i) (sym state_is i)
+
+-- ---- what is ready
+
+module _ (h : Here) (t : Division) (r later : RealView) (changed : Bool) (is : IsLater r later) where
+  same_telling : (p : Pos) → telling_at h t r p changed ≡ telling_at h t later p changed
+  same_telling p = λ i. record {
+    me = h.me;
+    home = home_after h t p;
+    old = sym is.haunts i;
+    haunts = haunts_at h t p (home_after h t p) (former h.me (home_after h t p) (sym is.haunts i));
+    changed = changed;
+    entity = sym is.entity i;
+    beat = sym is.beat i + 1;
+  }
+
+  module _ (y : Ready) (told : Telling) (g : GhostCopy) (is_told : told ≡ telling_at h t r later.state.pos changed)
+      (copy : g ≡ copy_of_real h later) where
+    told_later : told ≡ telling_at h t later later.state.pos changed
+    told_later = is_told ∙ same_telling later.state.pos
+
+    tells : Tells h later told g
+    tells = record {
+      me = ap (λ x. x.me) told_later;
+      entity = ap (λ x. x.entity) told_later;
+      beat = ap (λ x. x.beat) told_later;
+      old = ap (λ x. x.old) told_later;
+      copy = copy;
+    }
+
+    pub ready_is : y.telling ≡ told →
+        (Tells h later told g → y.news.items ≡ ghost_messages h later told.home told.haunts told.changed) →
+        y.own ≡ copy_if (set.contains told.haunts told.me) g → IsReadyFor h t later changed y
+    ready_is kept news own = record {
+      telling = kept ∙ told_later;
+      news =
+          news tells
+          ∙ (ap (λ x. ghost_messages h later x.home x.haunts told.changed) (sym kept)
+          ∙ ap (λ b. ghost_messages h later y.telling.home y.telling.haunts b) (ap (λ x. x.changed) told_later));
+      own =
+          own
+          ∙ (ap (λ x. copy_if (set.contains x.haunts x.me) g) (sym kept)
+          ∙ ap (copy_if (set.contains y.telling.haunts y.telling.me)) copy);
+    }
+
+-- ---- what settling leaves
+
+module _ (h : Here) (t : Division) (s : Slot) (r : RealView) (changed : Bool) (y : Ready) (is : IsReadyFor h t r changed y) where
+  home_is : y.telling.home ≡ home_after h t r.state.pos
+  home_is = ap (λ x. x.home) is.telling
+
+  me_is : y.telling.me ≡ h.me
+  me_is = ap (λ x. x.me) is.telling
+
+  test_is : (b : Bool) → eqb y.telling.home y.telling.me ≡ b → eqb (home_after h t r.state.pos) h.me ≡ b
+  test_is b test = (λ i. eqb (sym home_is i) (sym me_is i)) ∙ test
+
+  haunts_by : (b : Bool) → eqb y.telling.home y.telling.me ≡ b → y.telling.haunts
+      ≡ haunts_at h t r.state.pos (home_after h t r.state.pos) (cond b r.haunts (set.insert r.haunts h.me))
+  haunts_by b test =
+      ap (λ x. x.haunts) is.telling
+      ∙ ap (λ x. haunts_at h t r.state.pos (home_after h t r.state.pos) (cond x r.haunts (set.insert r.haunts h.me))) (test_is b test)
+
+  pub stays_is : eqb y.telling.home y.telling.me ≡ true → settled h t s r changed ≡ stayed s r y.telling.haunts y.news.items
+  stays_is test =
+      let same : home_after h t r.state.pos ≡ h.me = same_number _ _ (test_is true test) in
+      let haunts : haunts_at h t r.state.pos h.me r.haunts ≡ y.telling.haunts =
+      sym (haunts_by true test ∙ ap (λ j. haunts_at h t r.state.pos j r.haunts) same) in
+      let home : h.me ≡ y.telling.home = sym same ∙ sym home_is in
+      ap (λ b. settled_by b h t s r changed (home_after h t r.state.pos)) (test_is true test)
+      ∙ ((λ i. stayed s r (haunts i) (ghost_messages h r (home i) (haunts i) changed)) ∙ ap (stayed s r y.telling.haunts) (sym is.news))
+
+  pub goes_is : eqb y.telling.home y.telling.me ≡ false → settled h t s r changed
+      ≡ gone_to h s r y.telling.home y.telling.haunts y.news.items
+  goes_is test =
+      let haunts : haunts_at h t r.state.pos (home_after h t r.state.pos) (set.insert r.haunts h.me) ≡ y.telling.haunts =
+      sym (haunts_by false test) in
+      ap (λ b. settled_by b h t s r changed (home_after h t r.state.pos)) (test_is false test)
+      ∙ ((λ i. gone_to h s r (sym home_is i) (haunts i) (ghost_messages h r (sym home_is i) (haunts i) changed))
+      ∙ ap (gone_to h s r y.telling.home y.telling.haunts) (sym is.news))
+
+module _ (h : Here) (t : Division) (r was : RealView) (changed : Bool) (y : Ready) (is : IsReadyFor h t r changed y)
+    (left : Option RealView) (before after : PartsView) where
+  abbrev Settles : Type 0
+  Settles = IsDone (settled h t (slot_in before r.entity was) r changed) r.entity was left before after
+
+  pub stay_done : eqb y.telling.home y.telling.me ≡ true → left ≡ Some (staying r y) → after.nexts ≡ before.nexts →
+      after.ghosts ≡ before.ghosts → after.sent ≡ before.sent ++ y.news.items → Settles
+  stay_done test stays nexts ghosts sent =
+      subst (λ x. IsDone x r.entity was left before after) (sym (stays_is h t (slot_in before r.entity was) r changed y is test))
+      (record {
+        real = stays;
+        nexts = nexts ∙ sym (set_at-same before.nexts r.entity);
+        ghosts = ghosts ∙ sym (set_at-same before.ghosts r.entity);
+        sent = sent;
+        unlisted = ap is_none (sym stays);
+      })
+
+  pub leave_done : eqb y.telling.home y.telling.me ≡ false → left ≡ None →
+      IsGone r y before.nexts after.nexts before.ghosts after.ghosts before.sent after.sent → Settles
+  leave_done test none gone =
+      subst (λ x. IsDone x r.entity was left before after) (sym (goes_is h t (slot_in before r.entity was) r changed y is test))
+      (record {
+        real = none;
+        nexts = gone.next;
+        ghosts =
+            gone.ghost
+            ∙ ap (λ o. set_at before.ghosts r.entity
+            (ghost_after (table.get before.ghosts r.entity) (record { beat = r.beat + 1; copy = o })))
+            (is.own ∙ ap (λ k. copy_if (set.contains y.telling.haunts k) (copy_of_real h r)) (ap (λ x. x.me) is.telling));
+        sent = gone.sent ∙ append_assoc before.sent y.news.items ((y.telling.home, Hand (going r y)) ∷ []);
+        unlisted = ap is_none (sym none);
+      })
+
+-- what the book has after a message
+pub book_after : {P : Type 0} (w : BookView P) (e : ℕ) (g : Ghost P) →
+    (after_message w e g).ghosts ≡ set_at w.ghosts e (ghost_after (table.get w.ghosts e) g)
+book_after w e g = elim (nat_lt (beat_of w e) g.beat) as (λ b. (cond b (with_ghost w e g) w).ghosts
+    ≡ set_at w.ghosts e (cond b (Some g) (table.get w.ghosts e))) [
+      | true ↦ refl
+      | false ↦ sym (set_at-same w.ghosts e)
+    ]

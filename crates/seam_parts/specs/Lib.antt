@@ -1,0 +1,6 @@
+pub mod Sets
+pub mod Spots
+pub mod Kept
+pub mod News
+pub mod Settling
+pub mod Stepping

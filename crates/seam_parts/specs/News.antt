@@ -1,0 +1,49 @@
+-- What the haunts of a real are told, cell by cell.
+use Rattle.std.specs.Prelude.{◌≡◌, ℕ, ◌+◌, Bool, true, false, ◌||◌, ◌==◌, List, [], ◌∷◌, filter_map, Option, None, Some, if◌then◌else◌}
+use Rattle.std.specs.List.{range_with_len}
+use Rattle.std.specs.FinSet as set
+use Rattle.seam_call.specs.declared.shown.GhostCopy.{GhostCopy}
+use Rattle.seam_entity.specs.Reals.{RealView}
+use Rattle.seam_entity.specs.Here.{Here}
+use Rattle.seam_entity.specs.Executing.{copy_of_real}
+use Rattle.seam_entity.specs.declared.message.Msg.{Msg}
+use Rattle.seam_entity.specs.declared.message.Msg.TheVariants.{GhostSet, GhostDrop}
+use Rattle.seam_parts.specs.declared.news.Telling.{Telling}
+use Rattle.seam_parts.specs.declared.news.Told.{Told}
+use Rattle.seam_parts.specs.declared.news.Told.TheVariants.{Nothing, Set, Drop}
+
+-- what a cell is told, by whether it is a haunt now, was one, and others may see a change
+abbrev pub word_at : Bool → Bool → Bool → Told
+word_at true true true = Set
+word_at true true false = Nothing
+word_at true false changed = Set
+word_at false true changed = Drop
+word_at false false changed = Nothing
+
+-- neither the cell itself nor the home is told
+abbrev pub word : Telling → ℕ → Told
+word t k = if (k == t.me) || (k == t.home) then Nothing else word_at (set.contains t.haunts k) (set.contains t.old k) t.changed
+
+abbrev pub said : Telling → GhostCopy → ℕ → Told → Option (ℕ × Msg)
+said t g k Nothing = None
+said t g k Set = Some (k, GhostSet t.entity t.beat g)
+said t g k Drop = Some (k, GhostDrop t.entity t.beat)
+
+abbrev pub listed : {A : Type 0} → Option A → List A
+listed None = []
+listed (Some x) = x ∷ []
+
+abbrev pub told_by : Telling → GhostCopy → ℕ → Option (ℕ × Msg)
+told_by t g k = said t g k (word t k)
+
+-- what the cells below n are told, in rising number
+abbrev pub news : Telling → GhostCopy → ℕ → List (ℕ × Msg)
+news t g n = filter_map (told_by t g) (range_with_len 0 n)
+
+-- this is told by cell h of the real r, of which the copy is g, under the next beat
+pub record Tells (h : Here) (r : RealView) (t : Telling) (g : GhostCopy) : Type 0 where
+  pub me : t.me ≡ h.me
+  pub entity : t.entity ≡ r.entity
+  pub beat : t.beat ≡ r.beat + 1
+  pub old : t.old ≡ r.haunts
+  pub copy : g ≡ copy_of_real h r

@@ -1,0 +1,163 @@
+//! The copies of a cell by entity, and where they are.
+
+ghost use Rattle.std.specs.Prelude.{◌≡◌, Option, Some, None, true, false, OnOk, OnErr, IfOk, IfErr, IfSome, find, option_map, option_copied};
+ghost use Rattle.std.specs.FinMap as map;
+ghost use Rattle.std.specs.FinSet as set;
+ghost use Rattle.seam_table.specs.Tables.{is_after};
+ghost use Rattle.seam_ghosts.specs.declared.Ghost.{Ghost};
+ghost use Rattle.seam_ghosts.specs.Book.{copies, copy_of, ghost_after};
+ghost use Rattle.seam_call.specs.declared.shown.GhostCopy.{GhostCopy as AnyCopy};
+ghost use Rattle.seam_steps.specs.Maps.{Map, set_at};
+ghost use Rattle.seam_parts.specs.Spots.{AreNoted, AreKeptNoted, copy_places};
+
+use crate::spots::{forget, note, put};
+use seam_call::GhostCopy;
+use seam_ghosts::GhostBook;
+use seam_memory::NoMemoryFor;
+use seam_range::RangeList;
+use std::alloc::{AllocError, Global};
+use std::marker::Model;
+
+/// The cell's own book of ghosts. Contracts see it as the book; where the copies are is kept beside it from the first `locate` on.
+#[derive(Drop)]
+pub struct CopyBook {
+    book: GhostBook<GhostCopy>,
+    spots: Option<RangeList>,
+}
+
+impl Model for CopyBook {
+    ghost use Rattle.std.specs.Coded.{codes};
+    ghost use Rattle.std.specs.FinMap as map;
+    ghost use Rattle.std.specs.FinSet as set;
+    ghost use Rattle.seam_ghosts.specs.Book.{BookView};
+    ghost use Rattle.seam_call.specs.declared.shown.GhostCopy.{GhostCopy};
+    ghost use Rattle.seam_parts.specs.Spots.{AreKeptNoted, copy_places};
+
+    ghost Value = { BookView GhostCopy };
+
+    ghost coded = { Prim.hlevel (codes, map.code, set.code) };
+
+    ghost view = { λ b. b.book };
+
+    ghost invariant = { λ b. AreKeptNoted b.spots (copy_places b.book.ghosts) };
+}
+
+// Where all the copies are.
+fn places_of(alloc: Global, book: &GhostBook<GhostCopy>) -> Result<RangeList, AllocError>
+    ensures { IfOk result (λ l. AreNoted l (copy_places book.now.ghosts)) }
+{
+    let mut list = RangeList::new(alloc);
+    let mut last = None;
+    while let Some((e, copy)) = book.next_after(last) {
+        put(&mut list, e, copy.state.pos)?;
+        last = Some(e);
+    }
+    Ok(list)
+}
+
+// Notes where the entity's copy is after a message about it.
+fn follow(book: &GhostBook<GhostCopy>, e: u32, spots: &mut Option<RangeList>)
+    ensures { (before : Map (Ghost AnyCopy)) (g : Option (Ghost AnyCopy)) → book.now.ghosts ≡ set_at before e g →
+        AreKeptNoted spots.old (copy_places before) → AreKeptNoted spots.new (copy_places book.now.ghosts) }
+{
+    if spots.is_none() {
+        return;
+    }
+    match book.get(e) {
+        Some(copy) => note(spots, e, copy.state.pos),
+        None => forget(spots, e),
+    }
+}
+
+impl CopyBook {
+    /// A book that knows of no entity.
+    pub fn new(alloc: Global) -> Self
+        ensures { result ≡ record { ghosts = map.empty; room = set.empty } }
+    {
+        CopyBook {
+            book: GhostBook::new(alloc),
+            spots: None,
+        }
+    }
+
+    /// The book itself.
+    pub fn book(&self) -> &GhostBook<GhostCopy>
+        ensures { result.now ≡ self.now }
+    {
+        &self.book
+    }
+
+    /// The entity's copy, if there is one.
+    pub fn get(&self, e: u32) -> Option<&GhostCopy>
+        ensures { option_copied result ≡ copy_of self.now e }
+    {
+        self.book.get(e)
+    }
+
+    /// Makes room for the entity: until its copy is dropped no call on it wants memory.
+    pub fn reserve(&mut self, e: u32) -> Result<(), AllocError>
+        ensures same { self.new.ghosts ≡ self.old.ghosts }
+        ensures room { OnOk result (self.new.room ≡ set.insert self.old.room e) }
+        ensures there { OnOk result (set.contains self.new.room e ≡ true) }
+        ensures err { OnErr result (self.new.room ≡ self.old.room) }
+        ensures err_only_first { OnErr result (set.contains self.old.room e ≡ false) }
+    {
+        self.book.reserve(e)
+    }
+
+    /// Takes the copy at that beat, if none came at that or a later one. If allocation fails, it comes back and nothing has changed.
+    pub fn set(&mut self, e: u32, beat: u64, copy: GhostCopy) -> Result<(), NoMemoryFor<GhostCopy>>
+        ensures ok { OnOk result (self.new.ghosts
+            ≡ set_at self.old.ghosts e (ghost_after (map.get self.old.ghosts e) (record { beat = beat; copy = Some copy }))) }
+        ensures err { OnErr result (self.new.ghosts ≡ self.old.ghosts) }
+        ensures err_item { IfErr result (λ r. r.item ≡ copy) }
+        ensures err_only_first { OnErr result (set.contains self.old.room e ≡ false) }
+    {
+        match self.book.set(e, beat, copy) {
+            Ok(_) => {
+                follow(&self.book, e, &mut self.spots);
+                Ok(())
+            }
+            Err(refused) => Err(refused),
+        }
+    }
+
+    /// Drops the copy at that beat, if none came at that or a later one. If allocation fails, nothing has changed.
+    pub fn drop_copy(&mut self, e: u32, beat: u64) -> Result<(), AllocError>
+        ensures ok { OnOk result (self.new.ghosts
+            ≡ set_at self.old.ghosts e (ghost_after (map.get self.old.ghosts e) (record { beat = beat; copy = None }))) }
+        ensures err { OnErr result (self.new.ghosts ≡ self.old.ghosts) }
+        ensures err_only_first { OnErr result (set.contains self.old.room e ≡ false) }
+    {
+        match self.book.drop_copy(e, beat) {
+            Ok(_) => {
+                follow(&self.book, e, &mut self.spots);
+                Ok(())
+            }
+            Err(refused) => Err(refused),
+        }
+    }
+
+    /// The first copy, in rising entity number, of those whose number is greater than the given one, or of all where none is given.
+    pub fn next_after(&self, after: Option<u32>) -> Option<(u32, &GhostCopy)>
+        ensures { option_map (λ p. (p.0, p.1.now)) result ≡ find (λ p. is_after after p.0) (copies self.now) }
+    {
+        self.book.next_after(after)
+    }
+
+    /// Keeps where the copies are from now on, where there is memory for that.
+    pub fn locate(&mut self, alloc: Global)
+        ensures { self.new ≡ self.old }
+    {
+        if self.spots.is_none() {
+            self.spots = places_of(alloc, &self.book).ok();
+        }
+    }
+
+    /// Where the copies are, if it is kept. Others may be in the list too.
+    pub fn spots(&self) -> Option<&RangeList>
+        ensures { IfSome result (λ l. AreNoted l.now (copy_places self.now.ghosts)) }
+    {
+        self.spots.as_ref()
+    }
+}

@@ -1,0 +1,35 @@
+//! The parts of a cell, and how a real settles among them.
+//!
+//! Which reals have a ready call, which have a witness, and which are to settle or to look are ordered sets, so that no step searches
+//! all reals; where reals and copies are is kept for looks, from the first one on. Settling first makes all that may want memory; what
+//! comes then cannot fail. Of `proofs/`, `SetLemmas`, `MarkLemmas` and `RealLemmas` (what the marks of reals are after a change),
+//! `NewsLemmas` (what haunts are told), `SettleLemmas` (what settling leaves) and `SpotLemmas` (how a walk ends) are for callers.
+#![tactic(auto)]
+
+mod copy_book;
+mod entity_set;
+mod known;
+mod lists;
+mod news;
+mod next;
+mod places;
+mod real_table;
+mod reals;
+mod settle;
+mod spots;
+
+pub use copy_book::CopyBook;
+pub use entity_set::EntitySet;
+pub use known::Known;
+pub use lists::{Lists, unlist};
+pub use news::{Subject, Telling, Told};
+pub use next::Next;
+pub use places::Places;
+pub use real_table::RealTable;
+pub use reals::{Reals, close, first_ready, make_place, put_after, put_in, take_out};
+pub use settle::{
+    Plan, Ready, get_ready, leave, make_plan, make_room, ready_for, settle_real, stay, tell_own,
+};
+
+#[cfg(test)]
+mod tests;

@@ -1,0 +1,134 @@
+//! The reals of a cell by entity, and where they are.
+
+ghost use Rattle.std.specs.Prelude.{◌≡◌, true, false, OnOk, OnErr, IfOk, IfSome, find, option_map, option_copied};
+ghost use Rattle.std.specs.FinMap as map;
+ghost use Rattle.std.specs.FinSet as set;
+ghost use Rattle.seam_table.specs.Tables.{with_item, without_item, without_room, is_after};
+ghost use Rattle.seam_parts.specs.Spots.{AreNoted, real_places};
+
+use crate::spots::{forget, note, put};
+use seam_entity::Parcel;
+use seam_range::RangeList;
+use seam_table::Table;
+use std::alloc::{AllocError, Global};
+use std::marker::Model;
+
+/// The reals by entity. Contracts see them as a table; where they are is kept beside it from the first `locate` on.
+#[derive(Drop)]
+pub struct RealTable {
+    items: Table<Parcel>,
+    spots: Option<RangeList>,
+}
+
+impl Model for RealTable {
+    ghost use Rattle.std.specs.Coded.{codes};
+    ghost use Rattle.std.specs.FinMap as map;
+    ghost use Rattle.std.specs.FinSet as set;
+    ghost use Rattle.seam_table.specs.Tables.{TableView};
+    ghost use Rattle.seam_entity.specs.Reals.{RealView};
+    ghost use Rattle.seam_parts.specs.Spots.{AreKeptNoted, real_places};
+
+    ghost Value = { TableView RealView };
+
+    ghost coded = { Prim.hlevel (codes, map.code, set.code) };
+
+    ghost view = { λ t. t.items };
+
+    ghost invariant = { λ t. AreKeptNoted t.spots (real_places t.items.items) };
+}
+
+// Where all the reals are.
+fn places_of(alloc: Global, items: &Table<Parcel>) -> Result<RangeList, AllocError>
+    ensures { IfOk result (λ l. AreNoted l (real_places items.now.items)) }
+{
+    let mut list = RangeList::new(alloc);
+    let mut last = None;
+    while let Some((e, parcel)) = items.next_after(last) {
+        put(&mut list, e, parcel.real.state().pos)?;
+        last = Some(e);
+    }
+    Ok(list)
+}
+
+impl RealTable {
+    /// A table with no real and room for none.
+    pub fn new(alloc: Global) -> Self
+        ensures { result ≡ record { items = map.empty; room = set.empty } }
+    {
+        RealTable {
+            items: Table::new(alloc),
+            spots: None,
+        }
+    }
+
+    /// The entity's real. There is room for what is there.
+    pub fn get(&self, e: u32) -> Option<&Parcel>
+        ensures item { option_copied result ≡ map.get self.now.items e }
+        ensures room { IfSome result (λ _. set.contains self.now.room e ≡ true) }
+    {
+        self.items.get(e)
+    }
+
+    /// Makes room for the entity's real.
+    pub fn reserve(&mut self, e: u32) -> Result<(), AllocError>
+        ensures same { self.new.items ≡ self.old.items }
+        ensures room { OnOk result (self.new.room ≡ set.insert self.old.room e) }
+        ensures there { OnOk result (set.contains self.new.room e ≡ true) }
+        ensures err { OnErr result (self.new.room ≡ self.old.room) }
+        ensures err_only_first { OnErr result (set.contains self.old.room e ≡ false) }
+    {
+        self.items.reserve(e)
+    }
+
+    /// Puts the entity's real in place of what was there. There is room for it, so no memory is needed.
+    pub fn put_reserved(&mut self, e: u32, parcel: Parcel) -> Option<Parcel>
+        requires { set.contains self.old.room e ≡ true }
+        ensures old { result ≡ map.get self.old.items e }
+        ensures after { self.new ≡ with_item self.old e parcel }
+        ensures room { self.new.room ≡ self.old.room }
+    {
+        note(&mut self.spots, e, parcel.real.state().pos);
+        self.items.put_reserved(e, parcel)
+    }
+
+    /// Gives the entity's real, which is not there from then on. The room stays, so that the real, changed, can be put again.
+    pub fn take(&mut self, e: u32) -> Option<Parcel>
+        ensures item { result ≡ map.get self.old.items e }
+        ensures after { self.new ≡ without_item self.old e }
+        ensures room { IfSome result (λ _. set.contains self.new.room e ≡ true) }
+    {
+        self.items.take(e)
+    }
+
+    /// Gives the entity's real, which is not there from then on, and gives back the room.
+    pub fn remove(&mut self, e: u32) -> Option<Parcel>
+        ensures item { result ≡ map.get self.old.items e }
+        ensures after { self.new ≡ without_room self.old e }
+    {
+        forget(&mut self.spots, e);
+        self.items.remove(e)
+    }
+
+    /// The first real, in rising number, of those whose entity's number is greater than the given one, or of all where none is given.
+    pub fn next_after(&self, after: Option<u32>) -> Option<(u32, &Parcel)>
+        ensures { option_map (λ p. (p.0, p.1.now)) result ≡ find (λ p. is_after after p.0) (map.entries self.now.items) }
+    {
+        self.items.next_after(after)
+    }
+
+    /// Keeps where the reals are from now on, where there is memory for that.
+    pub fn locate(&mut self, alloc: Global)
+        ensures { self.new ≡ self.old }
+    {
+        if self.spots.is_none() {
+            self.spots = places_of(alloc, &self.items).ok();
+        }
+    }
+
+    /// Where the reals are, if it is kept. Others may be in the list too.
+    pub fn spots(&self) -> Option<&RangeList>
+        ensures { IfSome result (λ l. AreNoted l.now (real_places self.now.items)) }
+    {
+        self.spots.as_ref()
+    }
+}

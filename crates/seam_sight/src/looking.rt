@@ -1,0 +1,470 @@
+//! What a witness sees of others, and what it tells.
+
+ghost use Rattle.std.specs.Prelude.{◌≡◌, ℕ, ◌<◌, ◌≤◌, ◌^◌, ◌+◌, ◌++◌, [], ◌∷◌, length, map, find, filter_map, IfOk, OnOk, OnErr};
+ghost use Rattle.std.specs.Prelude.{option_map};
+ghost use Rattle.std.specs.List.Sorted.{IsStrictlySortedBy};
+ghost use Rattle.std.specs.Ordering.{nat_cmp};
+ghost use Rattle.std.specs.FinMap as table;
+ghost use Rattle.seam_ghosts.specs.Book.{copies};
+ghost use Rattle.std.specs.List.{filter};
+ghost use Rattle.seam_view.specs.Looks.{matters};
+ghost use Rattle.seam_view.specs.Replica.{HasRoom};
+ghost use Rattle.seam_defs.specs.declared.limits.TheConstants.{MOST_BASE_NODES};
+ghost use Rattle.seam_entity.specs.Here.{Here, base_of};
+ghost use Rattle.seam_call.specs.declared.shown.Shown.TheVariants.{Set, Enter};
+ghost use Rattle.seam_entity.specs.Numbers.{is_small as is_small_number};
+ghost use Rattle.seam_entity.specs.Witnesses.{witness_of};
+ghost use Rattle.seam_steps.specs.Looks.{seen_as, known_of, shown_for, all_shown, numbered, looks_of, shown_of};
+ghost use Rattle.seam_steps.specs.Cells.{CellView, known_in, known_to, is_another, stepped, looks_around, look_next};
+ghost use Rattle.seam_parts.specs.Kept.{here_in, cell_of, AreKept};
+ghost use Rattle.seam_parts.specs.News.{listed};
+ghost use Rattle.seam_sight.specs.Looking.{seeing, looked, told_at_look, own_told, told_these, real_has_witness};
+ghost use Rattle.seam_sight.specs.Looking.{comes_after, seen_if, seen_real_of, seen_copy_of, earlier_seen};
+
+use seam_call::{GhostCopy, Shown, Update};
+use seam_entity::{Msg, Real, Witness, copy_for_others, is_small};
+use seam_machine::Out;
+use seam_parts::{CopyBook, Known, Lists, Places, RealTable, Reals, put_in, take_out};
+use seam_tree::MOST_CELLS;
+use seam_view::{Look, Seen};
+use std::alloc::{AllocError, Global};
+use std::collections::VecDeque;
+
+/// What a cell knows of others than entity `own`: its reals, and its copies.
+#[derive(Drop)]
+pub struct Sight<'a> {
+    pub alloc: Global,
+    pub own: u32,
+    pub known: &'a Known,
+    pub reals: &'a RealTable,
+    pub copies: &'a CopyBook,
+}
+
+/// A look that was made ready: what was seen, the looks at it, and what is told of them.
+#[derive(Drop)]
+pub struct Glance {
+    pub seen: Vec<Seen>,
+    pub looks: Vec<Look>,
+    pub shown: VecDeque<Shown>,
+}
+
+/// A real as it is seen.
+pub fn seen_real(e: u32, real: &Real) -> Seen
+    ensures { result ≡ record { entity = e; version = real.now.core.public; pos = real.now.core.state.pos } }
+{
+    Seen {
+        entity: e,
+        version: real.public_version(),
+        pos: real.state().pos,
+    }
+}
+
+/// A copy as it is seen.
+pub fn seen_copy(e: u32, copy: &GhostCopy) -> Seen
+    ensures { result ≡ record { entity = e; version = copy.now.version; pos = copy.now.state.pos } }
+{
+    Seen {
+        entity: e,
+        version: copy.version,
+        pos: copy.state.pos,
+    }
+}
+
+// The first real, in rising number, after the given entity, or of all where none is given.
+fn next_real(reals: &RealTable, after: Option<u32>) -> Option<Seen>
+    ensures { (h : Here) → result ≡ option_map (seen_real_of h) (find (comes_after after) (table.entries reals.now.items)) }
+{
+    match reals.next_after(after) {
+        Some((e, parcel)) => Some(seen_real(e, &parcel.real)),
+        None => None,
+    }
+}
+
+// The first copy, in rising number, after the given entity, or of all where none is given.
+fn next_copy(book: &CopyBook, after: Option<u32>) -> Option<Seen>
+    ensures { (h : Here) → result ≡ option_map (seen_copy_of h) (find (comes_after after) (copies book.now)) }
+{
+    match book.next_after(after) {
+        Some((e, copy)) => Some(seen_copy(e, copy)),
+        None => None,
+    }
+}
+
+// The one of lower number, and where both have the number the first.
+fn earlier_of(first: Option<Seen>, second: Option<Seen>) -> Option<Seen>
+    ensures { result ≡ earlier_seen first second }
+{
+    match (first, second) {
+        (None, other) => other,
+        (Some(one), None) => Some(one),
+        (Some(one), Some(other)) => if one.entity <= other.entity {
+            Some(one)
+        } else {
+            Some(other)
+        },
+    }
+}
+
+// The entity is set, where there is a copy of it.
+fn set_of(e: u32, copy: Option<GhostCopy>) -> Option<Shown>
+    ensures { result ≡ option_map (Set e) copy }
+{
+    match copy {
+        Some(copy) => Some(Shown::Set(e, copy)),
+        None => None,
+    }
+}
+
+// The entity enters, where there is a copy of it.
+fn enter_of(e: u32, copy: Option<GhostCopy>) -> Option<Shown>
+    ensures { result ≡ option_map (Enter e) copy }
+{
+    match copy {
+        Some(copy) => Some(Shown::Enter(e, copy)),
+        None => None,
+    }
+}
+
+/// Adds an entity that is seen, if it is another one.
+pub fn see(seen: &mut Vec<Seen>, next: Seen, own: u32) -> Result<(), AllocError>
+    ensures seen { OnOk result (seen.new.items ≡ seen.old.items ++ seen_if (is_another own next.entity) next) }
+    ensures small { next.entity < 2 ^ 32 }
+{
+    if next.entity == own {
+        return Ok(());
+    }
+    match seen.push(next) {
+        Ok(()) => Ok(()),
+        Err(_) => Err(AllocError),
+    }
+}
+
+// Adds what is shown.
+fn push(shown: &mut VecDeque<Shown>, item: Shown) -> Result<(), AllocError>
+    ensures { OnOk result (shown.new.items ≡ shown.old.items ++ item ∷ []) }
+{
+    match shown.push_back(item) {
+        Ok(()) => Ok(()),
+        Err(_) => Err(AllocError),
+    }
+}
+
+// Adds what is shown, if anything is.
+fn push_if(shown: &mut VecDeque<Shown>, item: Option<Shown>) -> Result<(), AllocError>
+    ensures { OnOk result (shown.new.items ≡ shown.old.items ++ listed item) }
+{
+    match item {
+        Some(item) => push(shown, item),
+        None => Ok(()),
+    }
+}
+
+impl Sight<'_> {
+    // The first entity that is known, in rising number, after the given one, or of all where none is given.
+    fn next_after(&self, after: Option<u32>) -> Option<Seen>
+        ensures { (c : CellView) → let d = seeing c (here_in self.now.known.now) self.now.reals.now.items self.now.copies.now.ghosts in
+            result ≡ option_map seen_as (find (comes_after after) (table.entries (table.from_entries {R = nat_cmp} (known_in d)))) }
+    {
+        earlier_of(next_real(self.reals, after), next_copy(self.copies, after))
+    }
+
+    /// All that is known of others, in rising number.
+    pub fn others(&self) -> Result<Vec<Seen>, AllocError>
+        ensures { (c : CellView) → let d = seeing c (here_in self.now.known.now) self.now.reals.now.items self.now.copies.now.ghosts in
+            IfOk result (λ v. v.items ≡ map seen_as (known_to d self.now.own)) }
+    {
+        let mut seen = Vec::new(self.alloc);
+        let mut last = None;
+        while let Some(next) = self.next_after(last) {
+            last = Some(next.entity);
+            see(&mut seen, next, self.own)?;
+        }
+        Ok(seen)
+    }
+
+    // What is known of an entity: its real or, where that is not here, its copy.
+    fn copy_of(&self, e: u32) -> Result<Option<GhostCopy>, AllocError>
+        ensures { (c : CellView) → let d = seeing c (here_in self.now.known.now) self.now.reals.now.items self.now.copies.now.ghosts in
+            IfOk result (λ o. o ≡ known_of e (known_to d self.now.own)) }
+    {
+        if e == self.own {
+            return Ok(None);
+        }
+        if let Some(parcel) = self.reals.get(e) {
+            let copy = parcel.real.copy_for_others(&self.known.defs)?;
+            return Ok(Some(copy));
+        }
+        let Some(copy) = self.copies.get(e) else {
+            return Ok(None);
+        };
+        let shown = copy_for_others(&self.known.defs, copy)?;
+        Ok(Some(shown))
+    }
+
+    // What is shown for a look, if anything is.
+    fn shown_for(&self, look: &Look) -> Result<Option<Shown>, AllocError>
+        ensures { (c : CellView) → let d = seeing c (here_in self.now.known.now) self.now.reals.now.items self.now.copies.now.ghosts in
+            IfOk result (λ o. o ≡ shown_for (known_to d self.now.own) look.now) }
+    {
+        match look {
+            Look::Leave(e) => Ok(Some(Shown::Leave(*e))),
+            Look::Set(e) => {
+                let copy = self.copy_of(*e)?;
+                Ok(set_of(*e, copy))
+            }
+            Look::Enter(e) => {
+                let copy = self.copy_of(*e)?;
+                Ok(enter_of(*e, copy))
+            }
+        }
+    }
+
+    // Adds what is shown for a look.
+    fn add(&self, look: &Look, shown: &mut VecDeque<Shown>) -> Result<(), AllocError>
+        ensures { (c : CellView) → let d = seeing c (here_in self.now.known.now) self.now.reals.now.items self.now.copies.now.ghosts in
+            OnOk result (shown.new.items ≡ shown.old.items ++ listed (shown_for (known_to d self.now.own) look.now)) }
+    {
+        let item = self.shown_for(look)?;
+        push_if(shown, item)
+    }
+
+    // Adds what is shown for the looks, in their order.
+    fn add_all(&self, looks: &[Look], shown: &mut VecDeque<Shown>) -> Result<(), AllocError>
+        ensures { (c : CellView) → let d = seeing c (here_in self.now.known.now) self.now.reals.now.items self.now.copies.now.ghosts in
+            OnOk result (shown.new.items ≡ shown.old.items ++ filter_map (shown_for (known_to d self.now.own)) looks.now) }
+    {
+        for look in looks {
+            self.add(look, shown)?;
+        }
+        Ok(())
+    }
+
+    // Adds the own state, where that is due.
+    fn add_own(
+        &self,
+        real: &Real,
+        witness: &Witness,
+        shown: &mut VecDeque<Shown>,
+    ) -> Result<(), AllocError>
+        ensures { let h = here_in self.now.known.now in
+            OnOk result (shown.new.items ≡ shown.old.items ++ own_told h real.now.core witness.now.told) }
+    {
+        if !witness.is_own_due(real.version()) {
+            return Ok(());
+        }
+        let state = real.own_state(&self.known.defs)?;
+        push(shown, Shown::Own(real.version(), state))
+    }
+
+    // What the witness shows for the looks, after the own state where that is due.
+    fn show(
+        &self,
+        real: &Real,
+        witness: &Witness,
+        looks: &[Look],
+    ) -> Result<VecDeque<Shown>, AllocError>
+        ensures { (c : CellView) → let h = here_in self.now.known.now in
+            let d = seeing c h self.now.reals.now.items self.now.copies.now.ghosts in
+            IfOk result (λ q. q.items ≡ all_shown h real.now.core (witness_of witness.now) (known_to d self.now.own) looks.now) }
+    {
+        let mut shown = VecDeque::new(self.alloc);
+        self.add_own(real, witness, &mut shown)?;
+        self.add_all(looks, &mut shown)?;
+        Ok(shown)
+    }
+
+    // Makes all that a look takes; nothing changes but the room of the witness.
+    fn get_ready(&self, real: &Real, witness: &mut Witness) -> Result<Glance, AllocError>
+        ensures same { witness_of witness.new ≡ witness_of witness.old }
+        ensures rising { IfOk result (λ g. IsStrictlySortedBy nat_cmp (map (λ s. s.entity) g.seen.items)) }
+        ensures near { (c : CellView) → let h = here_in self.now.known.now in let own = real.now.core.state.pos in
+            let d = seeing c h self.now.reals.now.items self.now.copies.now.ghosts in
+            IfOk result (λ g. filter (matters witness.old.view.core own) g.seen.items
+            ≡ filter (matters witness.old.view.core own) (map seen_as (known_to d self.now.own))) }
+        ensures looks { (c : CellView) → let h = here_in self.now.known.now in
+            let d = seeing c h self.now.reals.now.items self.now.copies.now.ghosts in
+            IfOk result (λ g. g.looks.items ≡ looks_of real.now.core (witness_of witness.old) (known_to d self.now.own)) }
+        ensures shown { (c : CellView) → let h = here_in self.now.known.now in
+            let d = seeing c h self.now.reals.now.items self.now.copies.now.ghosts in
+            IfOk result (λ g. g.shown.items ≡ shown_of h real.now.core (witness_of witness.old) (known_to d self.now.own)) }
+        ensures room { IfOk result (λ g. HasRoom witness.new.view g.looks.items) }
+    {
+        let own = real.state().pos;
+        let seen = self.seen(own, &witness.view)?;
+        let looks = witness.view.plan(own, &seen)?;
+        let shown = self.show(real, witness, &looks)?;
+        Ok(Glance { seen, looks, shown })
+    }
+
+    /// The witness of the real looks at what is known, and its updates go to the entity's base node.
+    pub fn look(
+        &self,
+        real: &Real,
+        witness: &mut Witness,
+        out: &mut Out<Msg>,
+    ) -> Result<(), AllocError>
+        requires bases { 1 ≤ self.now.known.now.settings.bases }
+        requires most { self.now.known.now.settings.bases ≤ MOST_BASE_NODES }
+        ensures witness { (c : CellView) → let h = here_in self.now.known.now in
+            let d = seeing c h self.now.reals.now.items self.now.copies.now.ghosts in
+            OnOk result (witness_of witness.new ≡ looked h real.now.core (witness_of witness.old) (known_to d self.now.own)) }
+        ensures sent { (c : CellView) → let h = here_in self.now.known.now in
+            let d = seeing c h self.now.reals.now.items self.now.copies.now.ghosts in
+            OnOk result (out.new.items
+            ≡ out.old.items ++ told_at_look h real.now.core (witness_of witness.old) (known_to d self.now.own)) }
+        ensures err { OnErr result (witness_of witness.new ≡ witness_of witness.old) }
+        ensures err_out { OnErr result (out.new.items ≡ out.old.items) }
+    {
+        let glance = self.get_ready(real, witness)?;
+        let updates = count(&glance.shown);
+        if !are_numbers_small(witness.sent, updates) {
+            return Ok(());
+        }
+        out.reserve(updates)?;
+        self.tell(real, witness, glance, out);
+        Ok(())
+    }
+
+    // The witness keeps what it looked at and tells it, in room that was made before.
+    fn tell(&self, real: &Real, witness: &mut Witness, glance: Glance, out: &mut Out<Msg>)
+        requires bases { 1 ≤ self.now.known.now.settings.bases }
+        requires most { self.now.known.now.settings.bases ≤ MOST_BASE_NODES }
+        requires rising { IsStrictlySortedBy nat_cmp (map (λ s. s.entity) glance.seen.items) }
+        requires room { HasRoom witness.old.view glance.looks.items }
+        requires small { witness.old.sent + length glance.shown.items < 2 ^ 62 }
+        requires out { length glance.shown.items ≤ out.old.spare }
+        ensures witness { witness_of witness.new ≡ told_these glance real.now.core (witness_of witness.old) }
+        ensures sent { let h = here_in self.now.known.now in out.new.items
+            ≡ out.old.items ++ numbered (base_of h real.now.core.entity) real.now.core.entity witness.old.sent glance.shown.items }
+    {
+        let Glance { seen, looks, shown } = glance;
+        let e = real.entity();
+        let sent = witness.sent;
+        witness.keep(&seen, &looks, real.version(), count(&shown) as u64);
+        send_updates(e, base_node_of(self.known, e), sent, shown, out);
+    }
+}
+
+// The base node of the entity.
+fn base_node_of(known: &Known, e: u32) -> u8
+    requires bases { 1 ≤ known.now.settings.bases }
+    requires most { known.now.settings.bases ≤ MOST_BASE_NODES }
+    ensures { result ≡ base_of (here_in known.now) e }
+{
+    MOST_CELLS as u8 + (e % known.settings.bases) as u8
+}
+
+// How many there are to show.
+fn count(shown: &VecDeque<Shown>) -> usize
+    ensures { result ≡ length shown.now.items }
+{
+    shown.len()
+}
+
+// Whether n more updates have small numbers.
+fn are_numbers_small(sent: u64, n: usize) -> bool
+    ensures { result ≡ is_small_number (sent + n) }
+{
+    let n = n as u64;
+    is_small(sent) && is_small(n) && is_small(sent + n)
+}
+
+// Sends the updates that show these, numbered after those that were sent, to the base node, in room that was made before.
+fn send_updates(e: u32, to: u8, sent: u64, mut shown: VecDeque<Shown>, out: &mut Out<Msg>)
+    requires room { length shown.items ≤ out.old.spare }
+    requires small { sent + length shown.items < 2 ^ 62 }
+    ensures { out.new.items ≡ out.old.items ++ numbered to e sent shown.items }
+{
+    let mut number = sent;
+    while let Some(item) = shown.pop_front() {
+        number += 1;
+        let update = Update {
+            entity: e,
+            number,
+            shown: item,
+        };
+        out.send(to, Msg::Update(update));
+    }
+}
+
+// Whether the entity's real is here and has a witness.
+fn has_witness(reals: &Reals, e: u32) -> bool
+    ensures { result ≡ real_has_witness (table.get reals.now.items.items e) }
+{
+    match reals.items.get(e) {
+        Some(parcel) => parcel.real.has_witness(),
+        None => false,
+    }
+}
+
+// The entity's witness, if its real is here and has one, looks.
+fn look_around(
+    alloc: Global,
+    known: &Known,
+    e: u32,
+    reals: &mut Reals,
+    copies: &CopyBook,
+    out: &mut Out<Msg>,
+) -> Result<(), AllocError>
+    requires marks { AreKept reals.old }
+    requires bases { 1 ≤ known.now.settings.bases }
+    requires most { known.now.settings.bases ≤ MOST_BASE_NODES }
+    ensures reals { (c : CellView) → let d = seeing c (here_in known.now) reals.old.items.items copies.now.ghosts in
+        OnOk result (record d { reals = reals.new.items.items }
+        ≡ (stepped d e (looks_around d e (table.get d.reals e) (known_to d e))).state) }
+    ensures sent { (c : CellView) → let d = seeing c (here_in known.now) reals.old.items.items copies.now.ghosts in
+        OnOk result (out.new.items ≡ out.old.items ++ (stepped d e (looks_around d e (table.get d.reals e) (known_to d e))).sent) }
+    ensures err { OnErr result (reals.new.items.items ≡ reals.old.items.items) }
+    ensures err_out { OnErr result (out.new.items ≡ out.old.items) }
+    ensures marks { AreKept reals.new }
+{
+    if !has_witness(reals, e) {
+        return Ok(());
+    }
+    let mut real = take_out(reals, e)?;
+    let Some(mut witness) = real.take_witness() else {
+        unreachable!()
+    };
+    let sight = Sight {
+        alloc,
+        own: e,
+        known,
+        reals: &reals.items,
+        copies,
+    };
+    let result = sight.look(&real, &mut witness, out);
+    real.put_witness(witness);
+    put_in(reals, e, real);
+    result
+}
+
+/// Look task: the first entity of the look list is taken off it, and its witness looks. From the first look on it is kept where the
+/// reals and the copies are, so that a look goes over those that are near or in view alone.
+pub fn look_task(
+    alloc: Global,
+    known: &Known,
+    reals: &mut Reals,
+    places: &mut Places,
+    lists: &mut Lists,
+    out: &mut Out<Msg>,
+) -> Result<(), AllocError>
+    requires marks { AreKept reals.old }
+    requires bases { 1 ≤ known.now.settings.bases }
+    requires most { known.now.settings.bases ≤ MOST_BASE_NODES }
+    ensures state { let c = cell_of known.now reals.old places.old lists.old in
+        OnOk result (cell_of known.now reals.new places.new lists.new ≡ (look_next c lists.old.looks).state) }
+    ensures sent { let c = cell_of known.now reals.old places.old lists.old in
+        OnOk result (out.new.items ≡ out.old.items ++ (look_next c lists.old.looks).sent) }
+    ensures err { OnErr result (cell_of known.now reals.new places.new lists.new ≡ cell_of known.now reals.old places.old lists.old) }
+    ensures err_out { OnErr result (out.new.items ≡ out.old.items) }
+    ensures marks { AreKept reals.new }
+{
+    let Some(e) = lists.looks.first() else {
+        return Ok(());
+    };
+    reals.items.locate(alloc);
+    places.copies.locate(alloc);
+    look_around(alloc, known, e, reals, &places.copies, out)?;
+    let _ = lists.looks.take_first();
+    Ok(())
+}
