@@ -1,1 +1,6 @@
 pub mod Worlds
+pub mod Nodes
+pub mod Loading
+pub mod Fitting
+pub mod Counts
+pub mod Opened

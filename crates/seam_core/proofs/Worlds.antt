@@ -1,14 +1,27 @@
--- What an event keeps of a world.
-use Rattle.std.proofs.Common.{◌≡◌, ℕ, ◌++◌, ◌∷◌, [], List, true, ◌∙◌, subst, sym}
+-- What an event keeps of a world; and a world as it is opened.
+use Rattle.std.proofs.Common.{◌≡◌, ℕ, zero, suc, ◌+◌, ◌<◌, ◌≤◌, ◌++◌, ◌∷◌, [], List, length, replicate, true, refl, ap, ◌∙◌, subst, sym, arith}
+use Rattle.seam_geo.specs.Rect.{IsProper}
+use Rattle.seam_tree.specs.Division.{IsTree, area}
+use Rattle.seam_defs.specs.declared.settings.Settings.{Settings}
+use Rattle.seam_defs.specs.declared.types.TypeDef.{TypeDef}
+use Rattle.seam_defs.specs.Types.{AreDefs}
+use Rattle.seam_defs.specs.Settings.{AreLegal}
 use Rattle.seam_machine.specs.Nets.{enabled, happens}
 use Rattle.seam_machine.specs.declared.machines.Event.{Event}
 use Rattle.seam_machine.proofs.Occurring.{occurs, length-happens}
 use Rattle.seam_runs.proofs.Runs.{leads_extend}
-use Rattle.seam_steps.specs.Nodes.{World, node_steps, node_has_work}
+use Rattle.seam_entity.specs.Here.{cell_count}
+use Rattle.seam_steps.specs.Holders.{holders}
+use Rattle.seam_steps.specs.Nodes.{NodeView, World, node_steps, node_has_work}
+use Rattle.seam_steps.specs.Loads.{one_cell, opened}
 use Rattle.seam_moves.proofs.Classify.{frame_happens}
-use Rattle.seam_core.specs.Worlds.{IsWorld, Leads}
+use Rattle.seam_ones.specs.Ones.{IsFrame}
+use Rattle.seam_between.specs.Between.{IsBetweenRounds}
+use Rattle.seam_rounds.specs.Rounds.{first_frame}
+use Rattle.seam_rounds.proofs.Opened.{opened_between}
+use Rattle.seam_core.specs.Worlds.{IsWorld, Leads, KeepsLaws, Lives, in_calls, in_reaps, in_looks}
 
-pub still_world : (w : World) (e : Event) → IsWorld w → enabled node_has_work w e ≡ true → IsWorld (happens node_steps w e)
+abbrev pub still_world : (w : World) (e : Event) → IsWorld w → enabled node_has_work w e ≡ true → IsWorld (happens node_steps w e)
 still_world w e is can =
     let o = occurs node_has_work w e can in
     record {
@@ -22,3 +35,52 @@ pub leads_on : (start w v : World) (es : List Event) (e : Event) → enabled nod
     Leads start es w → Leads start (es ++ e ∷ []) v
 leads_on start w v es e can is leads =
     subst (Leads start (es ++ e ∷ [])) (sym is) (leads_extend node_has_work node_steps start w es e leads can)
+
+-- an entity that lives has one holder
+pub lives_once : (e : ℕ) (v : World) → KeepsLaws v → Lives e v → holders v e ≡ 1
+lives_once e v laws (in_calls f clients w b from one) = (laws.calls f clients w b from).one_real e one
+lives_once e v laws (in_reaps f clients u es from one spared) = (laws.reaps f clients u es from).one_real e one spared
+lives_once e v laws (in_looks f clients u from one) = (laws.looks f clients u from).one_real e one
+
+-- no event leads to the same world
+pub leads_none : (u v : World) → v ≡ u → Leads u [] v
+leads_none u v same = record { each = tt; is_run = same }
+
+-- ---- a world as it is opened
+
+-- the tree of one cell is a tree
+one_is_tree : (size : ℕ) → 1 ≤ size → size ≤ 1000000 → IsTree (one_cell size)
+one_is_tree size from to = record {
+  size_from = from;
+  size_to = to;
+  cells_to = omega arith;
+  cell_was_there = λ n h. absurd (omega (arith, h));
+  none_empty = proper;
+}
+  where
+    proper : (c : ℕ) → c < 1 → IsProper (area (one_cell size) c)
+    proper zero h = record { wide = omega (arith, from); deep = omega (arith, from) }
+    proper (suc c) h = absurd (omega (arith, h))
+
+module _ (defs : List TypeDef) (settings : Settings) (are : AreDefs defs) (legal : AreLegal settings) where
+  pub frame_opened : IsFrame (first_frame defs settings)
+  frame_opened = record { defs = are; tree = one_is_tree settings.size legal.in_range.some_size legal.in_range.size }
+
+  abbrev between : IsBetweenRounds (first_frame defs settings) (opened defs settings)
+  between = opened_between defs settings frame_opened legal.in_range.some_bases
+
+  pub many_opened : length (opened defs settings).nodes ≡ cell_count + settings.bases
+  many_opened = between.many
+
+  pub world_opened : IsWorld (opened defs settings)
+  world_opened = record { frame = first_frame defs settings; nodes = between.nodes; many = between.many; space = refl }
+
+  -- a net of its nodes with empty links is such a world
+  pub is_opened : (ns : List NodeView) (net : World) → ns ≡ (opened defs settings).nodes →
+      net ≡ record { nodes = ns; rows = replicate (length ns) (replicate (length ns) []) } → net ≡ opened defs settings
+  is_opened ns net nodes is =
+      let many = ap length nodes ∙ many_opened in
+      is ∙ ap (λ (xs : List NodeView). net_of xs (length ns)) nodes ∙ ap (net_of (opened defs settings).nodes) many
+    where
+      net_of : List NodeView → ℕ → World
+      net_of xs n = record { nodes = xs; rows = replicate n (replicate n []) }

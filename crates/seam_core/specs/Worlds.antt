@@ -1,18 +1,25 @@
 -- Worlds that a run reaches, and the laws that hold of each.
-use Rattle.std.specs.Prelude.{◌≡◌, ℕ, ◌+◌, List, length}
-use Rattle.seam_machine.specs.Nets.{LeadsTo}
+use Rattle.std.specs.Prelude.{◌≡◌, ℕ, ◌+◌, List, length, Some}
+use Rattle.std.specs.List.{AllByRecursion}
+use Rattle.seam_machine.specs.Nets.{LeadsTo, IsQuiet}
 use Rattle.seam_machine.specs.declared.machines.Event.{Event}
 use Rattle.seam_call.specs.declared.order.Batch.{Batch}
+use Rattle.seam_entity.specs.Here.{cell_count}
+use Rattle.seam_entity.specs.Reals.{RealView}
+use Rattle.seam_steps.specs.Holders.{holders}
 use Rattle.seam_steps.specs.Nodes.{World, node_steps, node_has_work}
 use Rattle.seam_steps.specs.Loads.{loaded, reaps_loaded, look_loaded}
-use Rattle.seam_entity.specs.Here.{cell_count}
 use Rattle.seam_moves.specs.Frames.{Frame, IsInFrame}
+use Rattle.seam_moves.specs.Sights.{entity_flow}
+use Rattle.seam_ones.specs.Ones.{real_in}
+use Rattle.seam_between.specs.Between.{framed}
 use Rattle.seam_rounds.specs.Rounds.{AreReapable}
 use Rattle.seam_replica.specs.Clients.{ClientReplica}
+use Rattle.seam_clients.specs.Clients.{clients_loaded, clients_shown}
 use Rattle.seam_laws.specs.Records.{KeepsRecords, KeepsRecordsWithin, MayBeGiven}
-use Rattle.seam_laws.specs.Calls.{ObeysLaws}
-use Rattle.seam_laws.specs.Reaps.{ObeysLawsOfReaps}
-use Rattle.seam_laws.specs.Looks.{ObeysLawsOfLooks}
+use Rattle.seam_laws.specs.Calls.{ObeysLaws, EndsRightly}
+use Rattle.seam_laws.specs.Reaps.{ObeysLawsOfReaps, AreGone}
+use Rattle.seam_laws.specs.Looks.{ObeysLawsOfLooks, AreShownOneLook, clients_looked}
 
 -- a world has all its nodes, and they go by the same definitions, settings and tree, in the settings' space
 pub record IsWorld (w : World) : Type 0 where
@@ -25,12 +32,58 @@ pub record IsWorld (w : World) : Type 0 where
 abbrev pub Leads : World → List Event → World → Type 0
 Leads u es v = LeadsTo node_has_work node_steps u es v
 
--- The laws, of a world v: wherever it comes from, by the calls of a batch that was loaded into a world which keeps the records between
--- rounds, by reaps, or by looks, it obeys the laws of that phase.
+-- ---- where a world comes from
+
+-- events led to v from a world w that keeps the records between rounds and was given the batch b, which fits it
+pub record FromCalls (f : Frame) (clients : ℕ → ClientReplica) (w : World) (b : Batch) (v : World) : Type 0 where
+  pub keeps : KeepsRecords f clients w
+  pub may : MayBeGiven f w b
+  pub events : List Event
+  pub leads : Leads (loaded w b) events v
+
+-- events led to v from a world u that keeps the records within a round and was told to reap entities that are there
+pub record FromReaps (f : Frame) (clients : ℕ → ClientReplica) (u : World) (es : List ℕ) (v : World) : Type 0 where
+  pub keeps : KeepsRecordsWithin f clients u
+  pub may : AreReapable u es
+  pub events : List Event
+  pub leads : Leads (reaps_loaded u es) events v
+
+-- events led to v from such a world u, whose witnesses are to look
+pub record FromLooks (f : Frame) (clients : ℕ → ClientReplica) (u v : World) : Type 0 where
+  pub keeps : KeepsRecordsWithin f clients u
+  pub events : List Event
+  pub leads : Leads (look_loaded u) events v
+
+-- an entity lives in v: it was there once as the phase began, and is not to be reaped
+pub data Lives (e : ℕ) (v : World) : Type 0 where
+  in_calls : (f : Frame) (clients : ℕ → ClientReplica) (w : World) (b : Batch) → FromCalls f clients w b v → holders (loaded w b) e ≡ 1
+      → Lives e v
+  in_reaps : (f : Frame) (clients : ℕ → ClientReplica) (u : World) (es : List ℕ) → FromReaps f clients u es v → holders u e ≡ 1
+      → AllByRecursion (λ x. x ≡ e → ⊥) es → Lives e v
+  in_looks : (f : Frame) (clients : ℕ → ClientReplica) (u : World) → FromLooks f clients u v → holders u e ≡ 1 → Lives e v
+
+-- ---- the laws
+
+-- What a phase leaves where it ends, in a quiet world v: it did all that it was to do, and v keeps the records again.
+pub record EndsPhases (v : World) : Type 0 where
+  -- all calls were executed, and everything is settled
+  pub settled : (f : Frame) (clients : ℕ → ClientReplica) (w : World) (b : Batch) → FromCalls f clients w b v → (e home : ℕ)
+      (r : RealView) → real_in ((entity_flow e (loaded w b)).slot home) ≡ Some r → (k : ℕ) (q : RealView) →
+      real_in ((entity_flow e v).slot k) ≡ Some q → EndsRightly f b e k q v
+  pub calls : (f : Frame) (clients : ℕ → ClientReplica) (w : World) (b : Batch) → FromCalls f clients w b v →
+      KeepsRecordsWithin (framed f b) (clients_shown (framed f b) (clients_loaded f b clients) v) v
+  -- nothing is left of the reaped
+  pub gone : (f : Frame) (clients : ℕ → ClientReplica) (u : World) (es : List ℕ) → FromReaps f clients u es v → AreGone es v
+  pub reaps : (f : Frame) (clients : ℕ → ClientReplica) (u : World) (es : List ℕ) → FromReaps f clients u es v →
+      KeepsRecordsWithin f clients v
+  -- each client was shown one look
+  pub shown : (f : Frame) (clients : ℕ → ClientReplica) (u : World) → FromLooks f clients u v → AreShownOneLook f clients u v
+  pub looks : (f : Frame) (clients : ℕ → ClientReplica) (u : World) → FromLooks f clients u v → KeepsRecords f (clients_looked clients u) v
+
+-- The laws, of a world v: wherever it comes from, by calls, by reaps or by looks, it obeys the laws of that phase, and where it is quiet
+-- the phase has ended rightly.
 pub record KeepsLaws (v : World) : Type 0 where
-  pub calls : (f : Frame) (clients : ℕ → ClientReplica) (w : World) → KeepsRecords f clients w → (b : Batch) → MayBeGiven f w b →
-      (es : List Event) → Leads (loaded w b) es v → ObeysLaws f clients w b v
-  pub reaps : (f : Frame) (clients : ℕ → ClientReplica) (u : World) → KeepsRecordsWithin f clients u → (es : List ℕ) →
-      AreReapable u es → (vs : List Event) → Leads (reaps_loaded u es) vs v → ObeysLawsOfReaps f u es v
-  pub looks : (f : Frame) (clients : ℕ → ClientReplica) (u : World) → KeepsRecordsWithin f clients u → (vs : List Event) →
-      Leads (look_loaded u) vs v → ObeysLawsOfLooks f clients u v
+  pub calls : (f : Frame) (clients : ℕ → ClientReplica) (w : World) (b : Batch) → FromCalls f clients w b v → ObeysLaws f clients w b v
+  pub reaps : (f : Frame) (clients : ℕ → ClientReplica) (u : World) (es : List ℕ) → FromReaps f clients u es v → ObeysLawsOfReaps f u es v
+  pub looks : (f : Frame) (clients : ℕ → ClientReplica) (u : World) → FromLooks f clients u v → ObeysLawsOfLooks f clients u v
+  pub ends : IsQuiet node_has_work v → EndsPhases v

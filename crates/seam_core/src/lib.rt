@@ -1,8 +1,15 @@
 //! A world: cells and base nodes, with a link for each ordered pair of them.
+//!
+//! A world is opened, and loaded for each phase of a round: a batch, reaps, a look (`specs/Loads` has what a load asks). `step` makes
+//! one event. `specs/Worlds` has what holds of it: it is always a world of its header and tree (*IsWorld*), and wherever it comes from it
+//! obeys the laws of its phase (*KeepsLaws*, over `seam_laws`).
 #![tactic(auto)]
 
+mod holders;
+mod loads;
 mod node;
+mod opening;
 mod world;
 
 pub use node::Node;
-pub use world::{World, every_world_obeys_the_laws};
+pub use world::{World, a_fitting_batch_may_be_loaded, every_world_obeys_the_laws};

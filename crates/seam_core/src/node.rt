@@ -1,10 +1,13 @@
 //! Nodes of a world: cells and base nodes.
 
-ghost use Rattle.std.specs.Prelude.{◌≡◌, ◌++◌, true, OnOk, OnErr, IfErr};
+ghost use Rattle.std.specs.Prelude.{◌≡◌, ◌++◌, true, OnOk, OnErr, IfErr, option_copied, if◌then◌else◌};
 ghost use Rattle.seam_machine.specs.declared.machines.Input.{Input as AnyInput};
 ghost use Rattle.seam_steps.specs.Nodes.{NodeView, node_steps, node_has_work, node_peers};
+ghost use Rattle.seam_steps.specs.Nodes.NodeView.{Cell as CellNode, Base as BaseNode};
 ghost use Rattle.seam_steps.specs.Valid.{IsNode};
+ghost use Rattle.seam_steps.specs.Holders.{held_at};
 ghost use Rattle.seam_core.specs.Machines.{targets, keeps_peers, stays_valid};
+ghost use Rattle.seam_core.specs.Nodes.{cell_in, base_in};
 
 use seam_base::Base;
 use seam_cell::Cell;
@@ -16,7 +19,7 @@ use std::marker::Model;
 
 // What a node is.
 #[derive(Drop)]
-enum Kind {
+pub(crate) enum Kind {
     Cell(Cell),
     Base(Base),
 }
@@ -24,7 +27,7 @@ enum Kind {
 /// A node of a world: a cell or a base node.
 #[derive(Drop)]
 pub struct Node {
-    kind: Kind,
+    pub(crate) kind: Kind,
 }
 
 impl Model for Node {
@@ -39,6 +42,56 @@ impl Model for Node {
     ghost coded = { Prim.hlevel (codes, table.code, set.code) };
 
     ghost view = { λ n. node_of n.kind };
+}
+
+impl Node {
+    // A cell, as a node.
+    pub(crate) fn of_cell(cell: Cell) -> Node
+        ensures { result ≡ CellNode cell }
+    {
+        Node {
+            kind: Kind::Cell(cell),
+        }
+    }
+
+    // A base node, as a node.
+    pub(crate) fn of_base(base: Base) -> Node
+        ensures { result ≡ BaseNode base }
+    {
+        Node {
+            kind: Kind::Base(base),
+        }
+    }
+
+    /// The cell, where the node is one.
+    pub fn as_cell(&self) -> Option<&Cell>
+        ensures { option_copied result ≡ cell_in self.now }
+    {
+        match &self.kind {
+            Kind::Cell(cell) => Some(cell),
+            Kind::Base(_) => None,
+        }
+    }
+
+    /// Whether the entity's real is here.
+    pub fn has_real(&self, e: u32) -> bool
+        ensures { held_at e self.now ≡ if result then 1 else 0 }
+    {
+        match &self.kind {
+            Kind::Cell(cell) => cell.has_real(e),
+            Kind::Base(_) => false,
+        }
+    }
+
+    /// The base node, where the node is one.
+    pub fn as_base(&self) -> Option<&Base>
+        ensures { option_copied result ≡ base_in self.now }
+    {
+        match &self.kind {
+            Kind::Cell(_) => None,
+            Kind::Base(base) => Some(base),
+        }
+    }
 }
 
 impl Machine for Node {

@@ -1,13 +1,28 @@
 //! A world, and its events.
 
-ghost use Rattle.std.specs.Prelude.{◌≡◌, ◌++◌, ◌∷◌, [], ℕ, List, true, OnOk, OnErr, IfOk};
+ghost use Rattle.std.specs.Prelude.{◌≡◌, ◌++◌, ◌∷◌, ◌-◌, ◌^◌, [], ℕ, List, min, true, OnOk, OnErr, IfOk};
+ghost use Rattle.seam_defs.specs.Settings.{AreLegal};
 ghost use Rattle.seam_machine.specs.Nets.{enabled, happens};
 ghost use Rattle.seam_machine.specs.declared.machines.Event.{Event as AnyEvent};
 ghost use Rattle.seam_steps.specs.Nodes.{World as AnyWorld, node_steps, node_has_work};
-ghost use Rattle.seam_core.specs.Worlds.{IsWorld, Leads, KeepsLaws};
+ghost use Rattle.seam_steps.specs.Loads.{opened, loaded, reaps_loaded, look_loaded};
+ghost use Rattle.seam_steps.specs.Holders.{holders};
+ghost use Rattle.seam_rounds.specs.Rounds.{first_frame};
+ghost use Rattle.seam_call.specs.declared.order.Batch.{Batch as AnyBatch};
+ghost use Rattle.seam_moves.specs.Frames.{Frame};
+ghost use Rattle.seam_replica.specs.Clients.{ClientReplica};
+ghost use Rattle.seam_laws.specs.Records.{KeepsRecords, MayBeGiven};
+ghost use Rattle.seam_core.specs.Worlds.{IsWorld, Leads, Lives, KeepsLaws};
+ghost use Rattle.seam_core.specs.Loads.{MayLoad};
 
+use crate::holders::count_holders;
+use crate::loads::{begin_all, give, give_all, reap_all};
 use crate::node::Node;
+use crate::opening::open_nodes;
+use seam_call::{Batch, Order};
+use seam_defs::{Defs, Settings};
 use seam_machine::{Event, Net};
+use seam_tree::MOST_CELLS;
 use std::alloc::{AllocError, Global};
 use std::marker::Model;
 
@@ -44,7 +59,88 @@ pub fn every_world_obeys_the_laws()
     seam_laws::looks_obey_the_laws();
 }
 
+/// What the rules ask of a batch lets a world load it: one that keeps the records between rounds may be given each that fits it.
+pub fn a_fitting_batch_may_be_loaded()
+    ensures { (f : Frame) (clients : ℕ → ClientReplica) (w : AnyWorld) → KeepsRecords f clients w → (b : AnyBatch) → MayBeGiven f w b →
+        MayLoad w b }
+{}
+
 impl World {
+    /// Sixteen cells and the base nodes of these settings, without entities, with empty links and the tree of one cell.
+    pub fn open(alloc: Global, defs: &Defs, settings: Settings) -> Result<World, AllocError>
+        requires { AreLegal settings }
+        ensures opened { IfOk result (λ w. w ≡ opened defs.now settings) }
+
+        // It keeps the records between rounds.
+        ensures records { IfOk result (λ w. (clients : ℕ → ClientReplica) → KeepsRecords (first_frame defs.now settings) clients w) }
+    {
+        seam_laws::an_opened_world_keeps_the_records();
+        defs.known();
+        let nodes = open_nodes(alloc, defs, settings)?;
+        let net = Net::new(alloc, nodes)?;
+        Ok(World { net })
+    }
+
+    /// Loads a batch: base nodes begin the round, entities are created, clients attached, cells begin the round with the batch's
+    /// tree, and the orders are given to their base nodes. Which entities die is told later (`load_reaps`).
+    ///
+    /// If allocation fails, the world is gone.
+    pub fn load(self, alloc: Global, batch: Batch) -> Result<World, AllocError>
+        requires { MayLoad self batch }
+        ensures loaded { IfOk result (λ w. w ≡ loaded self batch) }
+        ensures starts { IfOk result (λ w. Leads (loaded self batch) [] w) }
+        ensures laws { IfOk result KeepsLaws }
+    {
+        every_world_obeys_the_laws();
+        let World { mut net } = self;
+        // `size` is called for its clause that it is a tree.
+        let _ = batch.tree.size();
+        begin_all(&mut net, alloc, &batch)?;
+        give_all(&mut net, batch.orders.into_vec())?;
+        Ok(World { net })
+    }
+
+    /// Gives the base node of each entity the order to reap it.
+    ///
+    /// If allocation fails, the world is gone.
+    pub fn load_reaps(self, destroys: &[u32]) -> Result<World, AllocError>
+        ensures loaded { IfOk result (λ w. w ≡ reaps_loaded self destroys.now) }
+        ensures starts { IfOk result (λ w. Leads (reaps_loaded self destroys.now) [] w) }
+        ensures laws { IfOk result KeepsLaws }
+    {
+        every_world_obeys_the_laws();
+        let World { mut net } = self;
+        let bases = (net.node_count() - MOST_CELLS) as u32;
+        reap_all(&mut net, bases, destroys)?;
+        Ok(World { net })
+    }
+
+    /// Gives the first base node a tick: it tells every cell that its witnesses look.
+    ///
+    /// If allocation fails, the world is gone.
+    pub fn load_look(self) -> Result<World, AllocError>
+        ensures loaded { IfOk result (λ w. w ≡ look_loaded self) }
+        ensures starts { IfOk result (λ w. Leads (look_loaded self) [] w) }
+        ensures laws { IfOk result KeepsLaws }
+    {
+        every_world_obeys_the_laws();
+        let World { mut net } = self;
+        give(&mut net, MOST_CELLS as u8, Order::Tick)?;
+        Ok(World { net })
+    }
+
+    /// In how many places the entity's real is: cells that have it, and hand-overs that carry it. The count stands still at the
+    /// greatest number.
+    ///
+    /// Of an entity that lives it is 1 at every moment of a round.
+    pub fn holders(&self, e: u32) -> u32
+        ensures count { result ≡ min (holders self.now e) (2 ^ 32 - 1) }
+        ensures one { Lives e self.now → result ≡ 1 }
+    {
+        every_world_obeys_the_laws();
+        count_holders(&self.net, e)
+    }
+
     /// The nodes and the links.
     pub fn net(&self) -> &Net<Node>
         ensures { result.now ≡ self.now }

@@ -1,0 +1,254 @@
+-- What the loads make of a world, node by node; and that it is a world again.
+use Rattle.std.proofs.Common.{◌≡◌, ℕ, zero, suc, ◌+◌, ◌%◌, ◌<◌, ◌≤◌, Bool, true, false, eqb, List, [], ◌∷◌, ◌++◌, length, map, set}
+use Rattle.std.proofs.Common.{take, drop, None}
+use Rattle.std.proofs.Common.{Some, refl, sym, ap, ◌∙◌, subst, arith, inl, inr}
+use Rattle.std.specs.Prelude.{slice_get}
+use Rattle.std.proofs.lemmas.Bool.{ne_eqb}
+use Rattle.std.proofs.lemmas.List.{length-map, map-id}
+use Rattle.std.proofs.lemmas.List.Edits.{map_over_more}
+use Rattle.std.proofs.lemmas.Option.{slice_get_cases, slice_get-map, slice_get_within, get_or_from_slice_get}
+use Rattle.std.proofs.lemmas.Simd.{map-map}
+use Rattle.seam_tree.specs.Division.{IsTree}
+use Rattle.seam_machine.specs.Nets.{with_node}
+use Rattle.seam_machine.specs.Events.{EachNode}
+use Rattle.seam_call.specs.declared.order.Order.{Order}
+use Rattle.seam_call.specs.declared.order.Order.TheVariants as order
+use Rattle.seam_call.specs.declared.order.Batch.{Batch}
+use Rattle.seam_entity.specs.Here.{Here, cell_count, base_of}
+use Rattle.seam_steps.specs.Bases.{BaseView}
+use Rattle.seam_steps.specs.Nodes.{NodeView, World}
+use Rattle.seam_steps.specs.Nodes.NodeView.{Cell, Base}
+use Rattle.seam_steps.specs.Valid.{IsNode}
+use Rattle.seam_steps.specs.Loads.{with_nodes, order_if, ordered_at, reap_ordered_at, with_order, with_orders, with_reap, reaps_loaded}
+use Rattle.seam_steps.specs.Loads.{loaded, look_loaded}
+use Rattle.seam_moves.specs.Frames.{Frame, here_at, IsAt, IsInFrame}
+use Rattle.seam_between.specs.Between.{framed}
+use Rattle.seam_between.proofs.Loading.{each, nodes_after, node_loaded, loaded_is, node_there}
+use Rattle.seam_between.proofs.Framing.{node_begun, node_goes, frame_turns}
+use Rattle.seam_rounds.proofs.Giving.{reaps_framed, look_framed}
+use Rattle.seam_core.specs.Nodes.{here_in}
+use Rattle.seam_core.specs.Loads.{MayLoad, IsNumbered, HasBases, HasSize}
+use Rattle.seam_core.specs.Begun.{begun, HasSpace, MayBegin}
+use Rattle.seam_core.specs.Worlds.{IsWorld}
+
+-- ---- lists
+
+-- two changes that agree on each item
+pub maps_agree : {A B : Type 0} (f g : A → B) (xs : List A) → ((k : ℕ) (x : A) → slice_get xs k ≡ Some x → f x ≡ g x) → map f xs ≡ map g xs
+maps_agree f g [] same = refl
+maps_agree f g (x ∷ xs) same =
+    ap (λ y. y ∷ map f xs) (same 0 x refl) ∙ ap (λ ys. g x ∷ ys) (maps_agree f g xs (λ k y at. same (suc k) y at))
+
+-- a change that leaves all items but one
+map_at : {A : Type 0} (f : A → A) (xs : List A) (k : ℕ) (x : A) → slice_get xs k ≡ Some x →
+    ((j : ℕ) (y : A) → slice_get xs j ≡ Some y → (j ≡ k → ⊥) → f y ≡ y) → map f xs ≡ set xs k (f x)
+map_at f [] k x at others = absurd (let z = at in cc)
+map_at f (y ∷ ys) zero x at others =
+    let same : y ≡ x = cc in
+    ap (λ z. f z ∷ map f ys) same
+    ∙ ap (λ zs. f x ∷ zs) (maps_agree f (λ z. z) ys (λ j z there. others (suc j) z there (λ is. absurd (omega (arith, is)))) ∙ map-id ys)
+map_at f (y ∷ ys) (suc k) x at others =
+    ap (λ z. z ∷ map f ys) (others 0 y refl (λ is. absurd (omega (arith, is))))
+    ∙ ap (λ zs. y ∷ zs) (map_at f ys k x at (λ j z there apart. others (suc j) z there (λ is. apart (omega (arith, is)))))
+
+-- a change that leaves all items
+map_none : {A : Type 0} (f : A → A) (xs : List A) → ((j : ℕ) (y : A) → slice_get xs j ≡ Some y → f y ≡ y) → map f xs ≡ xs
+map_none f xs same = maps_agree f (λ z. z) xs same ∙ map-id xs
+
+abbrev nodes_by : World → List NodeView → World
+nodes_by w ns = record { nodes = ns; rows = w.rows }
+
+-- ---- one node after the other
+
+-- the first k items changed
+abbrev pub first_by : {A : Type 0} → (A → A) → ℕ → List A → List A
+first_by f k xs = map f (take k xs) ++ drop k xs
+
+pub next_is : {A : Type 0} (f : A → A) (k : ℕ) (xs : List A) → slice_get (first_by f k xs) k ≡ slice_get xs k
+next_is f zero xs = refl
+next_is f (suc k) [] = refl
+next_is f (suc k) (x ∷ xs) = next_is f k xs
+
+pub next_by : {A : Type 0} (f : A → A) (k : ℕ) (xs ys : List A) (x : A) → ys ≡ first_by f k xs → slice_get ys k ≡ Some x →
+    set ys k (f x) ≡ first_by f (k + 1) xs
+next_by f k xs ys x is at =
+    map_over_more f xs ys k x (slice_get_within xs k x (sym (next_is f k xs) ∙ (ap (λ l. slice_get l k) (sym is) ∙ at))) is
+    (sym (get_or_from_slice_get ys k x x at))
+
+-- the first k nodes changed
+abbrev pub partly : (NodeView → NodeView) → ℕ → World → World
+partly f k w = nodes_by w (first_by f k w.nodes)
+
+-- one node more is changed
+pub one_more : (f : NodeView → NodeView) (k : ℕ) (w net new : World) → net ≡ partly f k w → k < length w.nodes →
+    ((s : NodeView) → slice_get net.nodes k ≡ Some s → new ≡ with_node net k (f s)) → new ≡ partly f (k + 1) w
+one_more f k w net new is lt then = elim (slice_get_cases w.nodes k).1 [
+  | inl p ↦
+      let nodes = ap (λ v. v.nodes) is in
+      let at = ap (λ l. slice_get l k) nodes ∙ (next_is f k w.nodes ∙ p.2) in
+      then p.0 at
+      ∙ (ap (nodes_by net) (next_by f k w.nodes net.nodes p.0 nodes at) ∙ ap (λ v. nodes_by v (first_by f (k + 1) w.nodes)) is)
+  | inr p ↦ let past = p.0 in absurd (omega (arith, past, lt))
+]
+
+-- ---- orders
+
+module _ (k : ℕ) (o : Order) where
+  order_by : (n : BaseView) (d : Bool) → d ≡ false → order_if d n o ≡ n
+  order_by n d is = ap (λ b. order_if b n o) is
+
+  -- a node of another number stays
+  stays : (j : ℕ) (s : NodeView) → IsNumbered j s → (j ≡ k → ⊥) → ordered_at (k, o) s ≡ s
+  stays j (Cell c) number apart = refl
+  stays j (Base n) number apart = ap Base (order_by n (eqb k n.here.me) (ne_eqb k n.here.me (λ is. apart (sym number ∙ sym is))))
+
+  -- one node is given an order
+  pub order_given : (w : World) → EachNode IsNumbered w.nodes → (s : NodeView) → slice_get w.nodes k ≡ Some s →
+      with_node w k (ordered_at (k, o) s) ≡ with_order w (k, o)
+  order_given w numbered s at =
+      ap (nodes_by w) (sym (map_at (ordered_at (k, o)) w.nodes k s at (λ j y there apart. stays j y (numbered j y there) apart)))
+
+  -- or none
+  pub order_lost : (w : World) → EachNode IsNumbered w.nodes → slice_get w.nodes k ≡ None → with_order w (k, o) ≡ w
+  order_lost w numbered none =
+      ap (nodes_by w) (map_none (ordered_at (k, o)) w.nodes
+      (λ j y there. stays j y (numbered j y there) (λ is. absurd (let z = sym (ap (slice_get w.nodes) is) ∙ there in let y = none in cc))))
+
+-- ---- what nodes know
+
+order_keeps : (d : Bool) (n : BaseView) (o : Order) → (order_if d n o).here ≡ n.here
+order_keeps true n o = refl
+order_keeps false n o = refl
+
+-- an order and a reap leave it
+here_ordered : (o : ℕ × Order) (s : NodeView) → here_in (ordered_at o s) ≡ here_in s
+here_ordered o (Cell c) = refl
+here_ordered o (Base n) = order_keeps (eqb o.0 n.here.me) n o.1
+
+here_reaped : (e : ℕ) (s : NodeView) → here_in (reap_ordered_at e s) ≡ here_in s
+here_reaped e (Cell c) = refl
+here_reaped e (Base n) = order_keeps (eqb (base_of n.here e) n.here.me) n (order.Reap e)
+
+-- and so what is true of it stays true
+module _ (P : ℕ → Here → Type 0) where
+  abbrev All : World → Type 0
+  All w = EachNode (λ k s. P k (here_in s)) w.nodes
+
+  known_more : (f : NodeView → NodeView) → ((s : NodeView) → here_in (f s) ≡ here_in s) → (w : World) → All w → All (with_nodes w f)
+  known_more f same w all k t at =
+      let b = node_there (slice_get w.nodes k) f t (sym (slice_get-map f w.nodes k) ∙ at) in
+      subst (P k) (sym (same b.0) ∙ ap here_in b.2) (all k b.0 b.1)
+
+  pub known_ordered : (w : World) (os : List (ℕ × Order)) → All w → All (with_orders w os)
+  known_ordered w [] all = all
+  known_ordered w (o ∷ os) all = known_ordered (with_order w o) os (known_more (ordered_at o) (here_ordered o) w all)
+
+  pub known_reaped : (w : World) (es : List ℕ) → All w → All (reaps_loaded w es)
+  known_reaped w [] all = all
+  known_reaped w (e ∷ es) all = known_reaped (with_reap w e) es (known_more (reap_ordered_at e) (here_reaped e) w all)
+
+-- a reap is an order for the entity's base node
+pub reap_is_order : (w : World) (n e : ℕ) → EachNode (λ k s. HasBases n s) w.nodes →
+    with_order w (cell_count + (e % n), order.Reap e) ≡ with_reap w e
+reap_is_order w n e bases =
+    ap (nodes_by w) (maps_agree (ordered_at (cell_count + (e % n), order.Reap e)) (reap_ordered_at e) w.nodes
+    (λ k s at. same s (bases k s at)))
+  where
+    same : (s : NodeView) → HasBases n s → ordered_at (cell_count + (e % n), order.Reap e) s ≡ reap_ordered_at e s
+    same (Cell c) h = refl
+    same (Base b) h = ap (λ m. Base (order_if (eqb (cell_count + (e % m)) b.here.me) b (order.Reap e))) (sym h)
+
+-- ---- a batch
+
+-- the orders are given to nodes that began the round
+pub loaded_as : (w : World) (b : Batch) → with_orders (with_nodes w (begun b)) b.orders ≡ loaded w b
+loaded_as w b =
+    nodes_after ordered_at (with_nodes w (begun b)) b.orders
+    ∙ (ap (nodes_by w) (map-map (each ordered_at b.orders) (begun b) w.nodes) ∙ sym (loaded_is w b))
+
+pub loaded_by : (w net v : World) (b : Batch) (os : List (ℕ × Order)) → net ≡ with_nodes w (begun b) → os ≡ b.orders →
+    v ≡ with_orders net os → v ≡ loaded w b
+loaded_by w net v b os begun_is all is =
+    is ∙ (ap (with_orders net) all ∙ (ap (λ u. with_orders u b.orders) begun_is ∙ loaded_as w b))
+
+-- what a node of a frame knows
+pub here_is : (f : Frame) (k : ℕ) (s : NodeView) → IsAt f k s → here_in s ≡ here_at f k
+here_is f k (Cell c) at = at.here
+here_is f k (Base n) at = at.here
+
+module _ (w : World) (is : IsWorld w) where
+  abbrev f : Frame
+  f = is.frame
+
+  pub knows : (k : ℕ) (s : NodeView) → slice_get w.nodes k ≡ Some s → here_in s ≡ here_at f k
+  knows k s at = here_is f k s (is.nodes.nodes k s at)
+
+  pub are_numbered : EachNode IsNumbered w.nodes
+  are_numbered k s at = ap (λ h. h.me) (knows k s at)
+
+  pub have_bases : (n : ℕ) → n ≡ f.settings.bases → EachNode (λ k s. HasBases n s) w.nodes
+  have_bases n same k s at = ap (λ h. h.settings.bases) (knows k s at) ∙ sym same
+
+  -- there is a node, and so a base node
+  pub first_node : (s : NodeView) × (slice_get w.nodes 0 ≡ Some s)
+  first_node =
+      let many = is.many in
+      elim (slice_get_cases w.nodes 0).1 [
+        | inl p ↦ (p.0, p.2)
+        | inr p ↦ let past = p.0 in absurd (omega (arith, past, many))
+      ]
+
+  size_by : (size k : ℕ) (s : NodeView) → IsAt f k s → HasSize size s → HasSpace size s
+  size_by size k (Cell c) at same =
+      (ap (λ t. t.size) at.tree ∙ (is.space ∙ (sym (ap (λ h. h.settings.size) at.here) ∙ same)), same)
+  size_by size k (Base n) at same = tt
+
+  -- so there is a base node
+  bases_by : (k : ℕ) (s : NodeView) → IsNode s → IsAt f k s → 1 ≤ f.settings.bases
+  bases_by k (Cell c) node at = let same = ap (λ h. h.settings.bases) at.here in let one = node.bases in omega (arith, same, one)
+  bases_by k (Base n) node at = let same = ap (λ h. h.settings.bases) at.here in let one = node.bases in omega (arith, same, one)
+
+  pub some_bases : 1 ≤ f.settings.bases
+  some_bases = let n = first_node in bases_by 0 n.0 (is.nodes.sound.states 0 n.0 n.1) (is.nodes.nodes 0 n.0 n.1)
+
+  module _ (b : Batch) (may : MayLoad w b) where
+    -- nodes that began the round know their numbers
+    pub numbered_begun : IsTree b.tree → EachNode IsNumbered (with_nodes w (begun b)).nodes
+    numbered_begun tree k t at =
+        let n = node_there (slice_get w.nodes k) (begun b) t (sym (slice_get-map (begun b) w.nodes k) ∙ at) in
+        let goes = node_begun f b tree k n.0 (is.nodes.sound.states k n.0 n.1) (is.nodes.nodes k n.0 n.1) in
+        subst (IsNumbered k) n.2 (ap (λ h. h.me) (here_is (framed f b) k (begun b n.0) goes.1))
+
+    pub may_begin : EachNode (MayBegin b) w.nodes
+    may_begin k s at = record {
+      numbered = are_numbered k s at;
+      space = size_by b.tree.size k s (is.nodes.nodes k s at) (may k s at).space;
+      can = may k s at;
+    }
+
+    abbrev pub world_loaded : IsTree b.tree → IsWorld (loaded w b)
+    world_loaded tree = record {
+      frame = framed f b;
+      nodes = subst (λ v. IsInFrame (framed f b) v) (sym (loaded_is w b))
+          (frame_turns f (framed f b) refl (node_loaded b) (node_goes f b tree) w is.nodes);
+      many = ap (λ v. length v.nodes) (loaded_is w b) ∙ (length-map w.nodes (node_loaded b) ∙ is.many);
+      space = let n = first_node in sym (may 0 n.0 n.1).space ∙ ap (λ h. h.settings.size) (knows 0 n.0 n.1);
+    }
+
+  pub world_reaps : (es : List ℕ) → IsWorld (reaps_loaded w es)
+  world_reaps es =
+      let same = nodes_after reap_ordered_at w es in
+      record {
+        frame = f;
+        nodes = subst (λ v. IsInFrame f v) (sym same) (reaps_framed f w is.nodes es);
+        many = ap (λ v. length v.nodes) same ∙ (length-map w.nodes (each reap_ordered_at es) ∙ is.many);
+        space = is.space;
+      }
+
+  abbrev pub world_looks : IsWorld (look_loaded w)
+  world_looks = record {
+    frame = f;
+    nodes = look_framed f w is.nodes (cell_count, order.Tick);
+    many = length-map w.nodes (ordered_at (cell_count, order.Tick)) ∙ is.many;
+    space = is.space;
+  }

@@ -1,0 +1,10 @@
+use Rattle.std.proofs.Common.{◌≡◌, ◌+◌, min, take, []}
+use Rattle.std.specs.Prelude.{slice_index_or}
+use Rattle.seam_machine.specs.Totals.{total}
+use Rattle.seam_runs.specs.Weights.{totals}
+use Rattle.seam_steps.specs.Holders.{carried}
+use Rattle.seam_core.proofs.Counts.{most}
+use Rattle.seam_core.proofs.holders.count_from.Given as goal
+
+abbrev pub invariant-loop-to : goal.invariant-loop-to
+invariant-loop-to l = l.count ≡ min (l.so_far + totals (λ b. total (carried l.e b)) 0 (take l.to (slice_index_or l.net.rows l.fn.from []))) most

@@ -1,0 +1,16 @@
+use Rattle.std.proofs.Common.{◌+◌, ◌<◌, [], length, take, arith}
+use Rattle.seam_machine.specs.Totals.{total}
+use Rattle.seam_machine.proofs.Totals.{total-take}
+use Rattle.seam_runs.specs.Weights.{row_weight}
+use Rattle.seam_steps.specs.Holders.{carried}
+use Rattle.seam_core.proofs.Counts.{counted_on}
+use Rattle.seam_core.proofs.holders.count_hands.Goals as goal
+
+pub loop-from-preserved : goal.loop-from-preserved
+loop-from-preserved c =
+    let rows = c.args.net.now.rows in
+    let f = row_weight (carried c.args.e) in
+    let square = c.node_count-from-end.ensures.square.rows in
+    let lt : c.loop-from.from < length rows = omega (arith, square) in
+    counted_on c.args.so_far (total f (take c.loop-from.from rows)) (f _) (total f (take (c.loop-from.from + 1) rows)) c.loop-from.count
+    c.count_from-count.result c.loop-from.invariant (total-take f rows c.loop-from.from [] lt) c.count_from-count.ensures

@@ -1,0 +1,9 @@
+use Rattle.std.proofs.Common.{◌≡◌, ◌+◌, min, take}
+use Rattle.seam_machine.specs.Totals.{total}
+use Rattle.seam_runs.specs.Weights.{row_weight}
+use Rattle.seam_steps.specs.Holders.{carried}
+use Rattle.seam_core.proofs.Counts.{most}
+use Rattle.seam_core.proofs.holders.count_hands.Given as goal
+
+abbrev pub invariant-loop-from : goal.invariant-loop-from
+invariant-loop-from l = l.count ≡ min (l.so_far + total (row_weight (carried l.e)) (take l.from l.net.rows)) most

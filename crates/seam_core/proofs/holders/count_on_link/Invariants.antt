@@ -1,0 +1,9 @@
+use Rattle.std.proofs.Common.{◌≡◌, ◌+◌, min, take}
+use Rattle.seam_machine.specs.Nets.{link}
+use Rattle.seam_machine.specs.Totals.{total}
+use Rattle.seam_steps.specs.Holders.{carried}
+use Rattle.seam_core.proofs.Counts.{most}
+use Rattle.seam_core.proofs.holders.count_on_link.Given as goal
+
+abbrev pub invariant-loop-i : goal.invariant-loop-i
+invariant-loop-i l = l.count ≡ min (l.so_far + total (carried l.e l.to) (take l.i (link l.net.rows l.from l.to))) most

@@ -1,0 +1,8 @@
+use Rattle.std.proofs.Common.{◌≡◌, ◌+◌, min, take}
+use Rattle.seam_machine.specs.Totals.{total}
+use Rattle.seam_steps.specs.Holders.{held_at}
+use Rattle.seam_core.proofs.Counts.{most}
+use Rattle.seam_core.proofs.holders.count_reals.Given as goal
+
+abbrev pub invariant-loop-k : goal.invariant-loop-k
+invariant-loop-k l = l.count ≡ min (0 + total (held_at l.e) (take l.k l.net.nodes)) most

@@ -1,0 +1,7 @@
+use Rattle.std.proofs.Common.{◌≡◌, take}
+use Rattle.seam_steps.specs.Loads.{attached}
+use Rattle.seam_between.proofs.Loading.{each}
+use Rattle.seam_core.proofs.node.Node.attach_all.Given as goal
+
+abbrev pub invariant-loop-e : goal.invariant-loop-e
+invariant-loop-e l = l.self ≡ each attached (take l.e-index l.clients) l.initial.self

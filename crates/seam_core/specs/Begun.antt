@@ -1,0 +1,23 @@
+-- What the load of a batch makes of each node before the orders are given.
+use Rattle.std.specs.Prelude.{◌≡◌, ℕ}
+use Rattle.seam_call.specs.declared.order.Batch.{Batch}
+use Rattle.seam_steps.specs.Nodes.{NodeView}
+use Rattle.seam_steps.specs.Nodes.NodeView.{Cell, Base}
+use Rattle.seam_steps.specs.Loads.{cell_round}
+use Rattle.seam_between.proofs.Loading.{made}
+use Rattle.seam_core.specs.Loads.{CanBegin, IsNumbered}
+
+-- a node that began the batch's round
+abbrev pub begun : Batch → NodeView → NodeView
+begun b s = cell_round b.tree (made b s)
+
+-- a cell's space is that of its settings, of this size
+abbrev pub HasSpace : ℕ → NodeView → Type 0
+HasSpace size (Cell c) = (c.tree.size ≡ size) × (c.here.settings.size ≡ size)
+HasSpace size (Base b) = Unit {0}
+
+-- what is asked of node k
+pub record MayBegin (b : Batch) (k : ℕ) (s : NodeView) : Type 0 where
+  pub numbered : IsNumbered k s
+  pub space : HasSpace b.tree.size s
+  pub can : CanBegin b s
