@@ -4,7 +4,10 @@ mod Origins
 mod Numbering
 mod Fitting
 mod Given
+mod Started
 mod Nowhere
 mod Parts
 mod Playing
 mod Ended
+mod Executed
+mod Done
