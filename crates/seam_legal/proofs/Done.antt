@@ -101,7 +101,7 @@ module _ (h : Header) (some : 1 ≤ h.settings.bases) (b : Book) (t : Division) 
         ((entity_flow e (loaded w B)).slot j).base.part refl) run (base_node h e)
 
   -- the real that an entity had where it has one now
-  began_by : (e k : ℕ) (q : RealView) → real_in ((entity_flow e v).slot k) ≡ Some q → Somewhere e (loaded w B) ⊎ Nowhere e (loaded w B) →
+  pub began_by : (e k : ℕ) (q : RealView) → real_in ((entity_flow e v).slot k) ≡ Some q → Somewhere e (loaded w B) ⊎ Nowhere e (loaded w B) →
       Somewhere e (loaded w B)
   began_by e k q at (inl p) = p
   began_by e k q at (inr n) =
@@ -115,7 +115,7 @@ module _ (h : Header) (some : 1 ≤ h.settings.bases) (b : Book) (t : Division) 
 
   -- ---- each part
 
-  done_cell : (e k : ℕ) (q : RealView) → real_in ((entity_flow e v).slot k) ≡ Some q → done_in h v part.Cell e ≡ q.done
+  pub done_cell : (e k : ℕ) (q : RealView) → real_in ((entity_flow e v).slot k) ≡ Some q → done_in h v part.Cell e ≡ q.done
   done_cell e k q at =
       let settled = within.records.reals.settled e k q at in
       let home = settled.fits.home in

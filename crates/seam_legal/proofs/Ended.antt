@@ -98,7 +98,7 @@ module _ (b : Book) (e : ℕ) where
   created_ended : created_as ended_book e ≡ created_as b e
   created_ended = ap (λ xs. made_among (creates_of xs) e) same_entries
 
-  live_ended : live_as ended_book e ≡ live_as b e
+  pub live_ended : live_as ended_book e ≡ live_as b e
   live_ended = ap (λ xs. cond (list_any (destroys e) xs) None (made_among (creates_of xs) e)) same_entries
 
   last_ended : (p : Part) (s : ℕ) → last_number ended_book p e s ≡ last_number b p e s

@@ -87,7 +87,7 @@ module _ (n : ℕ) (not : IsSender (sender.Base n) → ⊥) where
   and_false true = refl
   and_false false = refl
 
-  none_from : (p : Part) (e : ℕ) (cs : List CallData) → AllByRecursion IsFromSender cs → filter (is_from p e (sender.Base n)) cs ≡ []
+  pub none_from : (p : Part) (e : ℕ) (cs : List CallData) → AllByRecursion IsFromSender cs → filter (is_from p e (sender.Base n)) cs ≡ []
   none_from p e [] all = refl
   none_from p e (c ∷ cs) all =
       ap (λ x. cond (is_for p e c && x) (c ∷ filter (is_from p e (sender.Base n)) cs) (filter (is_from p e (sender.Base n)) cs))
@@ -96,7 +96,7 @@ module _ (n : ℕ) (not : IsSender (sender.Base n) → ⊥) where
       ∙ none_from p e cs all.1
 
 -- whether a number is that of a base node
-sender_or_not : (n : ℕ) → IsSender (sender.Base n) ⊎ (IsSender (sender.Base n) → ⊥)
+pub sender_or_not : (n : ℕ) → IsSender (sender.Base n) ⊎ (IsSender (sender.Base n) → ⊥)
 sender_or_not n = elim (cases_lt n 1) [
   | inl zero_ ↦ inr (λ is. let from = is.from_one in omega (arith, zero_, from))
   | inr from ↦ elim (cases_lt MOST_BASE_NODES n) [

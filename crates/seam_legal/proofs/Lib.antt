@@ -11,3 +11,4 @@ mod Playing
 mod Ended
 mod Executed
 mod Done
+mod Table

@@ -1,9 +1,12 @@
--- What a round executed, read off the world in which its calls left the nodes quiet.
-use Rattle.std.specs.Prelude.{List, [], ◌++◌, Option, None, Some}
+-- What a round executed, read off the world in which its calls left the nodes quiet, and the flat table after it.
+use Rattle.std.specs.Prelude.{◌≡◌, ℕ, length, List, [], ◌++◌, Option, None, Some}
 use Rattle.std.specs.List.{flat_map}
 use Rattle.seam_defs.specs.declared.flags.Part.TheVariants as part
 use Rattle.seam_call.specs.declared.call.Call.{Call}
+use Rattle.seam_call.specs.declared.create.Create.{Create}
 use Rattle.seam_toml.specs.declared.header.Header.{Header}
+use Rattle.seam_transcript.specs.Book.{Book, live_as}
+use Rattle.seam_transcript.specs.FlatTable.{flat}
 use Rattle.seam_transcript.specs.Orders.{Orders}
 use Rattle.seam_entity.specs.Here.{cell_numbers}
 use Rattle.seam_entity.specs.Reals.{RealView}
@@ -30,3 +33,16 @@ done_in h w part.Base e = done_by_part ((entity_flow e w).slot (base_node h e)).
 -- the orders of all rounds once these were executed too
 abbrev pub with_done : Orders → Orders → Orders
 with_done orders done p e = orders p e ++ done p e
+
+-- ---- the flat table
+
+-- the real is what the flat table has of the entity, which was made so, after these calls of its cell part
+pub record IsInTable (h : Header) (made : Create) (order : List Call) (r : RealView) : Type 0 where
+  pub version : r.version ≡ length order
+  pub state : r.state ≡ flat h part.Cell made order (length order)
+
+-- each real of an entity that lives in the book is that, by these orders
+abbrev pub AreInTable : Header → Book → Orders → World → Type 0
+AreInTable h b orders w =
+    (e k : ℕ) (r : RealView) (made : Create) → real_in ((entity_flow e w).slot k) ≡ Some r → live_as b e ≡ Some made →
+    IsInTable h made (orders part.Cell e) r
