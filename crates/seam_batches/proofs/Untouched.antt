@@ -28,7 +28,7 @@ use Rattle.seam_batches.proofs.Present.{both_none, unmade_apart}
 
 -- ---- senders and their places
 
-same_place : (s t : Sender) → IsSender s → IsSender t → same_sender s t ≡ (rank_of s == rank_of t)
+pub same_place : (s t : Sender) → IsSender s → IsSender t → same_sender s t ≡ (rank_of s == rank_of t)
 same_place (sender.Base m) (sender.Base n) is too = refl
 same_place (sender.Client d) (sender.Client e) is too = grind arith
 same_place (sender.Base m) (sender.Client e) is too =

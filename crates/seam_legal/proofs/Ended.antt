@@ -1,5 +1,5 @@
 -- Where a world went through the round of a book's open lines, the book with its round ended goes with it.
-use Rattle.std.proofs.Common.{◌≡◌, ℕ, ◌+◌, ◌≤◌, Bool, true, false, cond, eqb, List, [], ◌∷◌, length, Option, Some, None}
+use Rattle.std.proofs.Common.{◌≡◌, ℕ, ◌+◌, ◌≤◌, Bool, true, false, cond, eqb, List, [], ◌∷◌, length, Some, None}
 use Rattle.std.proofs.Common.{refl, sym, ap, ◌∙◌, subst, arith, inl, inr, append-nil, ◌⊎◌}
 use Rattle.std.specs.Prelude.{is_some, ◌==◌, ◌||◌, ◌&&◌}
 use Rattle.std.specs.List.{AllByRecursion, list_any, filter_map}
@@ -7,7 +7,6 @@ use Rattle.std.specs.Option.{option_or}
 use Rattle.std.proofs.lemmas.Bool.{eq-eqb, eqb-true}
 use Rattle.std.proofs.lemmas.Option.{none-some}
 use Rattle.seam_machine.specs.Nets.{IsQuiet}
-use Rattle.seam_flows.specs.Flows.{letters_of}
 use Rattle.seam_tree.specs.Division.{Division}
 use Rattle.seam_defs.specs.declared.flags.Part.{Part}
 use Rattle.seam_defs.specs.declared.flags.Part.TheVariants as part
@@ -31,14 +30,13 @@ use Rattle.seam_steps.specs.Nodes.{World, node_has_work}
 use Rattle.seam_steps.specs.Loads.{loaded, reaps_loaded, look_loaded, reap_ordered_at}
 use Rattle.seam_moves.specs.Frames.{IsInFrame}
 use Rattle.seam_moves.specs.Sights.{order_about, entity_flow}
-use Rattle.seam_ones.specs.Ones.{real_in, real_of}
-use Rattle.seam_ones.proofs.Counting.{counted_none, none_counts}
+use Rattle.seam_ones.specs.Ones.{real_in}
+use Rattle.seam_ones.proofs.Counting.{counted_none}
 use Rattle.seam_between.specs.Between.{IsNew, next_from}
 use Rattle.seam_between.proofs.Loading.{nodes_after}
 use Rattle.seam_between.proofs.Framing.{in_frame}
 use Rattle.seam_between.proofs.Making.{AreOthers}
 use Rattle.seam_between.proofs.Ready.{Home}
-use Rattle.seam_between.proofs.Loaded.{no_mail}
 use Rattle.seam_rounds.proofs.Giving.{reaps_framed, look_framed}
 use Rattle.seam_rounds.proofs.Shape.{Somewhere, Nowhere, search_real}
 use Rattle.seam_base_rounds.specs.Parts.{HasSettledPart, next_to}
@@ -46,9 +44,10 @@ use Rattle.seam_places.specs.Places.{GoesThroughRound}
 use Rattle.seam_replica.specs.Clients.{ClientReplica}
 use Rattle.seam_laws.specs.Records.{KeepsRecords, MayBeGiven}
 use Rattle.seam_legal.specs.Going.{frame_of, base_node, IsHeld, Lives, GoesWith, HasRoomForCalls}
-use Rattle.seam_legal.proofs.Origins.{RealFrom, was, made, real_from, PartFrom, had, comes, part_from, IsCreate}
+use Rattle.seam_legal.proofs.Origins.{RealFrom, was, made}
 use Rattle.seam_legal.proofs.Numbering.{cell_calls, base_calls}
-use Rattle.seam_legal.proofs.Fitting.{new_number, found_by, type_by, next_by, next_to_by}
+use Rattle.seam_legal.proofs.Fitting.{new_number, type_by, next_by, next_to_by}
+use Rattle.seam_legal.proofs.Started.{real_comes, part_comes, made_now, nobody, no_part_there}
 use Rattle.seam_legal.proofs.Nowhere.{new_after_calls, new_after_reaps, new_after_looks, no_part_leads}
 use Rattle.seam_legal.proofs.Parts.{both_seen, among_joined, client_kept, client_made, tick, looked_parts, reaped_parts}
 use Rattle.seam_legal.proofs.Playing.{Obeyed, loaded_home, one_at_end, end_home, was_reaped, was_called, type_at_end, next_at_end}
@@ -99,7 +98,7 @@ module _ (b : Book) (e : ℕ) where
   created_ended : created_as ended_book e ≡ created_as b e
   created_ended = ap (λ xs. made_among (creates_of xs) e) same_entries
 
-  live_ended : live_as ended_book e ≡ live_as b e
+  pub live_ended : live_as ended_book e ≡ live_as b e
   live_ended = ap (λ xs. cond (list_any (destroys e) xs) None (made_among (creates_of xs) e)) same_entries
 
   last_ended : (p : Part) (s : ℕ) → last_number ended_book p e s ≡ last_number b p e s
@@ -123,15 +122,6 @@ module _ (h : Header) (some : 1 ≤ h.settings.bases) (b : Book) (t : Division) 
   abbrev B : Batch
   B = batch_of h b
 
-  real_comes : (e k : ℕ) (r : RealView) → real_in ((entity_flow e (loaded w B)).slot k) ≡ Some r → RealFrom w B.creates e k r
-  real_comes = real_from (frame_of h t) w B keeps.reals may.reals.tree may.reals.creates may.reals.spares may.reals.once
-
-  part_comes : (e k : ℕ) (p : PartView) → ((entity_flow e (loaded w B)).slot k).base.part ≡ Some p → PartFrom w B.creates e k p
-  part_comes = part_from (frame_of h t) w B keeps.reals may.reals.tree may.reals.creates may.reals.spares may.reals.once
-
-  made_now : (e : ℕ) (x : Create) → IsCreate e B.creates x → made_among B.creates e ≡ Some x
-  made_now e x i = ap (λ l. made_among l e) i.is ∙ found_by e x i.before i.later i.first i.entity
-
   -- ---- numbers that were not created
 
   module _ (e : ℕ) (none : created_as b e ≡ None) where
@@ -140,12 +130,12 @@ module _ (h : Header) (some : 1 ≤ h.settings.bases) (b : Book) (t : Division) 
 
     absent_by : (k : ℕ) (r : RealView) → RealFrom w B.creates e k r → ⊥
     absent_by k r (was others q x at is) = let z = sym (ap real_in (new_before k)) ∙ at in cc
-    absent_by k r (made x i ty orders) = none-some x (sym (uncreated b e none).1 ∙ made_now e x i)
+    absent_by k r (made x i ty orders) = none-some x (sym (uncreated b e none).1 ∙ made_now h some b t clients w keeps may goes R untouched few present e x i)
 
     absent : holders (loaded w B) e ≡ 1 → ⊥
     absent one =
         let home = loaded_home (frame_of h t) clients w B keeps may v round laws e one in
-        absent_by home.node home.real (real_comes e home.node home.real home.here)
+        absent_by home.node home.real (real_comes h some b t clients w keeps may goes R untouched few present e home.node home.real home.here)
 
     absent_other : (q : ℕ) → holders (loaded w B) q ≡ 1 → q ≡ e → ⊥
     absent_other q one is = absent (subst (λ d. holders (loaded w B) d ≡ 1) is one)
@@ -206,13 +196,13 @@ module _ (h : Header) (some : 1 ≤ h.settings.bases) (b : Book) (t : Division) 
     same_type : end.real.ty ≡ c.ty
     same_type =
         type_at_end (frame_of h t) clients w B keeps may v round laws e end.node end.real end.here began.node began.real began.here
-        ∙ type_by h b t w keeps.reals goes R untouched e began.node began.real (real_comes e began.node began.real began.here) c
+        ∙ type_by h b t w keeps.reals goes R untouched e began.node began.real (real_comes h some b t clients w keeps may goes R untouched few present e began.node began.real began.here) c
         (live_is_present b e c lives)
 
     next_cell : (s : ℕ) → next_from s end.real ≡ last_number (with_round_ended b) part.Cell e s + 1
     next_cell s =
         let first = next_by h b t w keeps.reals goes R untouched e began.node began.real
-        (real_comes e began.node began.real began.here) s in
+        (real_comes h some b t clients w keeps may goes R untouched few present e began.node began.real began.here) s in
         let more = next_at_end (frame_of h t) clients w B keeps may v round laws e end.node end.real end.here began.node began.real began.here s in
         let calls = ap length (cell_calls h some b R few t e s) in
         let all = counted b part.Cell e s in
@@ -222,7 +212,7 @@ module _ (h : Header) (some : 1 ≤ h.settings.bases) (b : Book) (t : Division) 
     next_base : (s : ℕ) → next_to s has_part.part ≡ last_number (with_round_ended b) part.Base e s + 1
     next_base s =
         let first = next_to_by h b t w keeps.reals goes R untouched e had_part.part
-        (part_comes e (base_node h e) had_part.part had_part.here) s in
+        (part_comes h some b t clients w keeps may goes R untouched few present e (base_node h e) had_part.part had_part.here) s in
         let more = next_to_at_end (frame_of h t) clients w B keeps may v round laws e end.node end.real end.here began.node began.real
         began.here s in
         let calls = ap length (base_calls h some b R few t e s) in
@@ -251,7 +241,7 @@ module _ (h : Header) (some : 1 ≤ h.settings.bases) (b : Book) (t : Division) 
     same_client : is_some end.real.witness ≡ has_client (with_round_ended b) e
     same_client =
         client_at_end (frame_of h t) clients w B keeps may v round laws e end.node end.real end.here began.node began.real began.here
-        ∙ begun_client began.node began.real (real_comes e began.node began.real began.here)
+        ∙ begun_client began.node began.real (real_comes h some b t clients w keeps may goes R untouched few present e began.node began.real began.here)
         ∙ or_turned (list_any (joins e) b.current) (list_any (joins e) b.past) ∙ sym (any_split b e (joins e))
         ∙ sym (client_of b e c lives)
 
@@ -291,7 +281,7 @@ module _ (h : Header) (some : 1 ≤ h.settings.bases) (b : Book) (t : Division) 
         x,
         created_by e x (list_any (destroys e) (entries b)) (any_split b e (destroys e) ∙ ap (λ y. y || list_any (destroys e) b.current)
             (sym (any_begun b e (destroys e)) ∙ (untouched e none).end) ∙ not)
-            (created_split b e ∙ ap (λ o. option_or o (made_among (creates_of b.current) e)) (sym (created_begun b e) ∙ none) ∙ made_now e x i),
+            (created_split b e ∙ ap (λ o. option_or o (made_among (creates_of b.current) e)) (sym (created_begun b e) ∙ none) ∙ made_now h some b t clients w keeps may goes R untouched few present e x i),
       )
 
   -- one that has a real at the end was not destroyed
@@ -304,19 +294,13 @@ module _ (h : Header) (some : 1 ≤ h.settings.bases) (b : Book) (t : Division) 
       (subst (AllByRecursion (λ d. holders round.reaped d ≡ 0)) dies laws.gone.reals) is in
       absurd (let z = sym ((counted_none round.reaped e gone).slots k) ∙ there.here in cc)
 
-  nobody : (e : ℕ) → Nowhere e (loaded w B) → holders (loaded w B) e ≡ 0
-  nobody e n = none_counts (loaded w B) e (record {
-    slots = n;
-    mail = λ x y. ap (letters_of real_of) (no_mail (frame_of h t) w B keeps.reals may.reals e x y);
-  })
-
   real_lives_by : (e k : ℕ) (q : RealView) → real_in ((entity_flow e v).slot k) ≡ Some q →
       Somewhere e (loaded w B) ⊎ Nowhere e (loaded w B) → Lives b e
   real_lives_by e k q at (inl p) =
-      lives_by e (not_destroyed e k q at (list_any (destroys e) b.current) refl) p.0 p.1 (real_comes e p.0 p.1 p.2)
+      lives_by e (not_destroyed e k q at (list_any (destroys e) b.current) refl) p.0 p.1 (real_comes h some b t clients w keeps may goes R untouched few present e p.0 p.1 p.2)
   real_lives_by e k q at (inr n) =
       let there = was_called (frame_of h t) clients w B keeps may v round laws e k q at in
-      let none = counted_none round.called e (laws.calls.no_other e (nobody e n)) in
+      let none = counted_none round.called e (laws.calls.no_other e (nobody h some b t clients w keeps may goes R untouched few present e n)) in
       absurd (let z = sym (none.slots k) ∙ there.here in cc)
 
   abbrev Lives_ended : ℕ → Type 0
@@ -350,30 +334,16 @@ module _ (h : Header) (some : 1 ≤ h.settings.bases) (b : Book) (t : Division) 
       no_part_leads (frame_of h B.tree) e (loaded w B) round.called round.call_events
       (in_frame (frame_of h t) w B keeps.reals may.reals) none round.calls
 
-  no_one : (e : ℕ) → Nowhere e (loaded w B) → holders (loaded w B) e ≡ 1 → ⊥
-  no_one e n one = let zero_ = nobody e n in omega (arith, one, zero_)
-
-  no_part_there : (e : ℕ) → Nowhere e (loaded w B) → (k : ℕ) (o : Option PartView) →
-      ((entity_flow e (loaded w B)).slot k).base.part ≡ o → o ≡ None
-  no_part_there e n k None at = refl
-  no_part_there e n k (Some p) at = absurd (by (part_comes e k p at))
-    where
-      by : PartFrom w B.creates e k p → ⊥
-      by (had others q there ty orders) =
-          let l = goes.parts e k q there in
-          no_one e n (present e l.0 (inl l.1))
-      by (comes x i ty orders) = no_one e n (present e x (inr (made_now e x i)))
-
   part_lives_by : (e k : ℕ) (p : PartView) → ((entity_flow e v).slot k).base.part ≡ Some p →
       Somewhere e (loaded w B) ⊎ Nowhere e (loaded w B) → (x : Bool) → list_any (destroys e) b.current ≡ x → Lives b e
-  part_lives_by e k p at (inl there) false not = lives_by e not there.0 there.1 (real_comes e there.0 there.1 there.2)
+  part_lives_by e k p at (inl there) false not = lives_by e not there.0 there.1 (real_comes h some b t clients w keeps may goes R untouched few present e there.0 there.1 there.2)
   part_lives_by e k p at (inl there) true is =
       let gone = of_destroyed (λ d. HasNone d round.reaped) e b.current
       (subst (AllByRecursion (λ d. HasNone d round.reaped)) dies laws.gone.parts) is in
       absurd (let z = sym (none_after_looks e gone k) ∙ at in cc)
   part_lives_by e k p at (inr n) x is =
       let none = none_after_looks e (none_after_reaps e (none_after_calls e
-      (λ j. no_part_there e n j ((entity_flow e (loaded w B)).slot j).base.part refl))) k in
+      (λ j. no_part_there h some b t clients w keeps may goes R untouched few present e n j ((entity_flow e (loaded w B)).slot j).base.part refl))) k in
       absurd (let z = sym none ∙ at in cc)
 
   -- ---- all of it

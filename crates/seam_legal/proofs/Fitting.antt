@@ -76,7 +76,7 @@ can_test h t p d fits is inside =
 -- ---- who is made
 
 -- no other is made so
-others_none : (e : ℕ) (cs : List Create) → AreOthers e cs → made_among cs e ≡ None
+pub others_none : (e : ℕ) (cs : List Create) → AreOthers e cs → made_among cs e ≡ None
 others_none e [] h = refl
 others_none e (c ∷ cs) h =
     ap (λ x. cond x (Some c) (made_among cs e)) (differ c.entity e h.0) ∙ others_none e cs h.1

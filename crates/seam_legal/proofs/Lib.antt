@@ -4,7 +4,11 @@ mod Origins
 mod Numbering
 mod Fitting
 mod Given
+mod Started
 mod Nowhere
 mod Parts
 mod Playing
 mod Ended
+mod Executed
+mod Done
+mod Table

@@ -11,7 +11,11 @@ ghost use Rattle.seam_tree.specs.Division.{Division};
 ghost use Rattle.seam_machine.specs.Nets.{IsQuiet, LeadsTo};
 ghost use Rattle.seam_machine.specs.declared.machines.Event.{Event};
 ghost use Rattle.seam_toml.specs.declared.header.Header.{Header};
-ghost use Rattle.seam_transcript.specs.Book.{Book, empty_book, one_cell, with_round_ended, with_tree, tree_of};
+ghost use Rattle.seam_transcript.specs.Book.{Book, empty_book, one_cell, with_round_ended, with_tree, tree_of, created_as, accepted};
+ghost use Rattle.seam_transcript.specs.Orders.{Orders, IsFull};
+ghost use Rattle.seam_transcript.specs.Round.{Lists, ExtendsOrders, done_lines};
+ghost use Rattle.seam_defs.specs.declared.flags.Part.{Part};
+ghost use Rattle.seam_call.specs.declared.create.Create.{Create};
 ghost use Rattle.seam_accept.specs.Batches.{batch_of};
 ghost use Rattle.seam_batches.specs.Books.{IsOfLines, MayReplace, as_begun};
 ghost use Rattle.seam_steps.specs.Loads.{opened, loaded};
@@ -20,6 +24,7 @@ ghost use Rattle.seam_rounds.specs.Rounds.{AreReapable};
 ghost use Rattle.seam_places.specs.Places.{GoesThroughRound};
 ghost use Rattle.seam_replica.specs.Clients.{ClientReplica};
 ghost use Rattle.seam_laws.specs.Records.{KeepsRecords, MayBeGiven};
+ghost use Rattle.seam_legal.specs.Rounds.{done_in, with_done, AreInTable};
 ghost use Rattle.seam_legal.specs.Going.{frame_of, GoesWith, HasRoomForCalls, HasRoomForRound};
 
 /// A book without lines goes with a world as it is opened for the same header.
@@ -62,5 +67,46 @@ pub fn a_book_goes_with_the_world_after_its_round()
     seam_laws::calls_obey_the_laws();
     seam_laws::reaps_obey_the_laws();
     seam_laws::looks_obey_the_laws();
+    what_lines_bring_fits();
+}
+
+/// Where the calls of that round leave the world quiet, each part executed all that was accepted for it, each sender's calls in their order
+/// and once (`full`), whatever of them each part executed before. So the lines of what was executed are those that the rules ask for (`lines`).
+pub fn each_part_executed_what_was_accepted()
+    ensures full { (h : Header) (b : Book) → AreLegal h.settings → IsOfLines h b → (t : Division) (clients : ℕ → ClientReplica)
+        (w : World) → KeepsRecords (frame_of h t) clients w → GoesWith h (as_begun b) t w → HasRoomForCalls b → HasRoomForRound h w →
+        (es : List Event) (v : World) → LeadsTo node_has_work node_steps (loaded w (batch_of h b)) es v → IsQuiet node_has_work v →
+        (orders : Orders) → ((p : Part) (e : ℕ) → IsFull (accepted (as_begun b) p e) (orders p e)) → (p : Part) (e : ℕ) →
+        IsFull (accepted b p e) (with_done orders (done_in h v) p e) }
+    ensures lines { (h : Header) (b : Book) (v : World) (orders : Orders) →
+        ((p : Part) (e : ℕ) → IsFull (accepted b p e) (with_done orders (done_in h v) p e)) → (made : List Create) →
+        Lists (created_as b) made → (p : Part) →
+        ExtendsOrders b p (orders p) (with_done orders (done_in h v) p) (done_lines (done_in h v p) made) }
+{
+    seam_batches::lines_bring_what_fits();
+    seam_batches::uncreated_numbers_are_untouched();
+    seam_laws::calls_obey_the_laws();
+    what_lines_bring_fits();
+}
+
+/// Then each real of an entity that lives is what the flat table has of it (`called`), and so it is to the end of the round (`ended`).
+pub fn reals_are_those_of_the_flat_table()
+    ensures called { (h : Header) (b : Book) → AreLegal h.settings → IsOfLines h b → (t : Division) (clients : ℕ → ClientReplica)
+        (w : World) → KeepsRecords (frame_of h t) clients w → GoesWith h (as_begun b) t w → HasRoomForCalls b → HasRoomForRound h w →
+        (orders : Orders) → ((p : Part) (e : ℕ) → IsFull (accepted (as_begun b) p e) (orders p e)) → AreInTable h (as_begun b) orders w →
+        (es : List Event) (v : World) → LeadsTo node_has_work node_steps (loaded w (batch_of h b)) es v → IsQuiet node_has_work v →
+        AreInTable h b (with_done orders (done_in h v)) v }
+    ensures ended { (h : Header) (b : Book) → AreLegal h.settings → IsOfLines h b → (t : Division) (clients : ℕ → ClientReplica)
+        (w : World) → KeepsRecords (frame_of h t) clients w → GoesWith h (as_begun b) t w → HasRoomForCalls b → HasRoomForRound h w →
+        (orders : Orders) → ((p : Part) (e : ℕ) → IsFull (accepted (as_begun b) p e) (orders p e)) → AreInTable h (as_begun b) orders w →
+        (v : World) (round : GoesThroughRound w (batch_of h b) v) →
+        AreInTable h (with_round_ended b) (with_done orders (done_in h round.called)) v }
+{
+    seam_batches::lines_bring_what_fits();
+    seam_batches::uncreated_numbers_are_untouched();
+    seam_places::a_load_begins_at_former_places();
+    seam_places::the_last_phases_leave_places();
+    seam_laws::calls_obey_the_laws();
+    seam_laws::reaps_obey_the_laws();
     what_lines_bring_fits();
 }

@@ -1,0 +1,38 @@
+use Rattle.std.proofs.Common.{◌≡◌, ℕ, None, refl}
+use Rattle.seam_transcript.specs.Book.{created_as}
+use Rattle.seam_accept.specs.Batches.{batch_of}
+use Rattle.seam_batches.specs.Books.{as_begun}
+use Rattle.seam_batches.specs.Bringing.{IsUntouched}
+use Rattle.seam_between.specs.Between.{framed}
+use Rattle.seam_clients.specs.Clients.{clients_loaded, clients_shown}
+use Rattle.seam_legal.specs.Going.{frame_of}
+use Rattle.seam_legal.specs.Rounds.{done_in}
+use Rattle.seam_legal.proofs.Given.{present_one}
+use Rattle.seam_legal.proofs.Done.{all_executed}
+use Rattle.seam_legal.proofs.each_part_executed_what_was_accepted.Goals as goal
+
+pub returns-clause-full : goal.returns-clause-full
+returns-clause-full c h b legal of_lines t clients w keeps goes few room es v run quiet orders full p e =
+    let f = frame_of h t in
+    let B = batch_of h b in
+    let some = legal.in_range.some_bases in
+    let R = c.lines_bring_what_fits.ensures.brings h b legal of_lines in
+    let untouched : (e : ℕ) → created_as (as_begun b) e ≡ None → IsUntouched (as_begun b) e =
+    λ e none. c.uncreated_numbers_are_untouched.ensures h (as_begun b) legal (c.lines_bring_what_fits.ensures.begun h b of_lines) e none in
+    let may = c.what_lines_bring_fits.ensures.given h b legal of_lines t clients w keeps goes few room in
+    all_executed h some b t clients w keeps may goes R untouched few
+    (present_one h some b t w keeps.reals goes R untouched few room) v es run
+    (c.calls_obey_the_laws.ensures.laws f clients w keeps B may es v run)
+    (λ e home r here k q at. c.calls_obey_the_laws.ensures.ends f clients w keeps B may es v run quiet e home r here k q at)
+    (clients_shown (framed f B) (clients_loaded f B clients) v)
+    (c.calls_obey_the_laws.ensures.records f clients w keeps B may es v run quiet) orders full p e
+
+pub returns-clause-lines : goal.returns-clause-lines
+returns-clause-lines c h b v orders full made listed p = record {
+  made = made;
+  listed = listed;
+  done = done_in h v p;
+  are = refl;
+  further = λ e. refl;
+  full = full p;
+}

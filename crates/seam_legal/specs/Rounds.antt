@@ -1,0 +1,48 @@
+-- What a round executed, read off the world in which its calls left the nodes quiet, and the flat table after it.
+use Rattle.std.specs.Prelude.{◌≡◌, ℕ, length, List, [], ◌++◌, Option, None, Some}
+use Rattle.std.specs.List.{flat_map}
+use Rattle.seam_defs.specs.declared.flags.Part.TheVariants as part
+use Rattle.seam_call.specs.declared.call.Call.{Call}
+use Rattle.seam_call.specs.declared.create.Create.{Create}
+use Rattle.seam_toml.specs.declared.header.Header.{Header}
+use Rattle.seam_transcript.specs.Book.{Book, live_as}
+use Rattle.seam_transcript.specs.FlatTable.{flat}
+use Rattle.seam_transcript.specs.Orders.{Orders}
+use Rattle.seam_entity.specs.Here.{cell_numbers}
+use Rattle.seam_entity.specs.Reals.{RealView}
+use Rattle.seam_steps.specs.Bases.{PartView}
+use Rattle.seam_steps.specs.Nodes.{World}
+use Rattle.seam_moves.specs.Sights.{entity_flow}
+use Rattle.seam_ones.specs.Ones.{real_in}
+use Rattle.seam_legal.specs.Going.{base_node}
+
+-- the calls that a real, and a base part, executed in the round
+abbrev pub done_by_real : Option RealView → List Call
+done_by_real None = []
+done_by_real (Some r) = r.done
+
+abbrev pub done_by_part : Option PartView → List Call
+done_by_part None = []
+done_by_part (Some p) = p.done
+
+-- what each part of each entity executed: its cell part in whichever cell the real is, its base part at the entity's base node
+abbrev pub done_in : Header → World → Orders
+done_in h w part.Cell e = flat_map (λ k. done_by_real (real_in ((entity_flow e w).slot k))) cell_numbers
+done_in h w part.Base e = done_by_part ((entity_flow e w).slot (base_node h e)).base.part
+
+-- the orders of all rounds once these were executed too
+abbrev pub with_done : Orders → Orders → Orders
+with_done orders done p e = orders p e ++ done p e
+
+-- ---- the flat table
+
+-- the real is what the flat table has of the entity, which was made so, after these calls of its cell part
+pub record IsInTable (h : Header) (made : Create) (order : List Call) (r : RealView) : Type 0 where
+  pub version : r.version ≡ length order
+  pub state : r.state ≡ flat h part.Cell made order (length order)
+
+-- each real of an entity that lives in the book is that, by these orders
+abbrev pub AreInTable : Header → Book → Orders → World → Type 0
+AreInTable h b orders w =
+    (e k : ℕ) (r : RealView) (made : Create) → real_in ((entity_flow e w).slot k) ≡ Some r → live_as b e ≡ Some made →
+    IsInTable h made (orders part.Cell e) r
