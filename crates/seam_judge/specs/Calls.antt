@@ -1,0 +1,9 @@
+-- Whether calls were executed as they were accepted, sender by sender.
+use Rattle.std.specs.Prelude.{◌≡◌, List, filter}
+use Rattle.seam_defs.specs.declared.flags.Part.{Part}
+use Rattle.seam_call.specs.Calls.{is_from}
+use Rattle.seam_call.specs.declared.call.Call.{Call}
+
+-- of the sender of a call, that call's entity executed exactly what was accepted for it
+abbrev pub AgreesAt : Part → List Call → List Call → Call → Type 0
+AgreesAt p accepted executed x = filter (is_from p x.entity x.sender) executed ≡ filter (is_from p x.entity x.sender) accepted
