@@ -1,4 +1,4 @@
-use Rattle.std.proofs.Common.{map, ℕ, ◌∙◌, ap, arith}
+use Rattle.std.proofs.Common.{ℕ}
 use Rattle.std.specs.FinSet as set
 use Rattle.seam_rules.specs.Lines.{GhostLine}
 use Rattle.seam_expected.proofs.Settlings.{chosen_more}

@@ -1,6 +1,4 @@
-use Rattle.std.proofs.Common.{◌≡◌, ◌+◌, ◌-◌, ◌++◌, ◌∷◌, [], ◌∙◌, ap, map, Bool, cond, arith, ℕ, length}
-use Rattle.std.specs.Prelude.{filter}
-use Rattle.std.specs.List.{range_with_len}
+use Rattle.std.proofs.Common.{◌+◌, ◌++◌, ◌∷◌, [], ◌∙◌, ap, map, Bool, cond, arith}
 use Rattle.seam_rules.specs.FlatTable.{has_changed_at}
 use Rattle.seam_expected.proofs.Versions.{filtered_more}
 use Rattle.seam_expected.proofs.states.changes_past.Goals as goal

@@ -1,4 +1,4 @@
-use Rattle.std.proofs.Common.{◌≡◌, ◌≤◌, map, ℕ}
+use Rattle.std.proofs.Common.{◌≡◌, ◌≤◌, map}
 use Rattle.seam_rules.specs.FlatTable.{public_at}
 use Rattle.seam_expected.proofs.states.public_at.Given as goal
 

@@ -1,4 +1,4 @@
-use Rattle.std.proofs.Common.{arith, refl, ◌∙◌, sym}
+use Rattle.std.proofs.Common.{arith, refl}
 use Rattle.seam_same.proofs.Trees.{same_trees}
 use Rattle.seam_same.proofs.same.TreeSame.is.Goals as goal
 
