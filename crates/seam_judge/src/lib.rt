@@ -10,6 +10,3 @@ mod points;
 pub use calls::extends_orders;
 pub use places::have_places;
 pub use points::{are_bases, are_bounds, are_ghosts, are_homes, is_numbered};
-
-#[cfg(test)]
-mod tests;
