@@ -12,3 +12,4 @@ mod Ended
 mod Executed
 mod Done
 mod Table
+mod Placing

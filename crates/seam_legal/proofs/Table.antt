@@ -57,7 +57,7 @@ use Rattle.seam_legal.proofs.Executed.{none_from, sender_or_not}
 -- ---- what calls make of an account
 
 module _ (t : TypeDef) where
-  abbrev done_deed : State → CallData → State
+  abbrev pub done_deed : State → CallData → State
   done_deed s x = after t s x.deed
 
   pub state_after : (a : Account) (ks : List CallData) → (after_calls t a ks).state ≡ fold done_deed a.state ks
@@ -101,7 +101,7 @@ module _ (p : Part) (e : ℕ) (cs : List CallData) (senders : AllByRecursion IsF
   none_accepted (sender.Base n) = none_by n (sender_or_not n)
   none_accepted (sender.Client d) = accepted_by_place p e (sender.Client d) tt cs senders ∙ none (rank_of (sender.Client d))
 
-  none_ordered : (order : List CallData) → IsFull (λ s. filter (is_from p e s) cs) order → order ≡ []
+  pub none_ordered : (order : List CallData) → IsFull (λ s. filter (is_from p e s) cs) order → order ≡ []
   none_ordered [] full = refl
   none_ordered (c ∷ order) full =
       let first = ap (λ x. cond x (c ∷ of_sender c.sender order) (of_sender c.sender order)) (same_self c.sender) in

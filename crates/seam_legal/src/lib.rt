@@ -4,14 +4,14 @@
 //! when the world has gone through the round, the book with its round ended goes with it again.
 #![tactic(auto)]
 
-ghost use Rattle.std.specs.Prelude.{◌≡◌, ℕ, List};
+ghost use Rattle.std.specs.Prelude.{◌≡◌, ℕ, List, Some};
 ghost use Rattle.seam_defs.specs.Settings.{AreLegal};
 ghost use Rattle.seam_defs.specs.Types.{AreDefs};
 ghost use Rattle.seam_tree.specs.Division.{Division};
 ghost use Rattle.seam_machine.specs.Nets.{IsQuiet, LeadsTo};
 ghost use Rattle.seam_machine.specs.declared.machines.Event.{Event};
 ghost use Rattle.seam_toml.specs.declared.header.Header.{Header};
-ghost use Rattle.seam_transcript.specs.Book.{Book, empty_book, one_cell, with_round_ended, with_tree, tree_of, created_as, accepted};
+ghost use Rattle.seam_transcript.specs.Book.{Book, empty_book, one_cell, with_round_ended, with_tree, tree_of, created_as, live_as, accepted};
 ghost use Rattle.seam_transcript.specs.Orders.{Orders, IsFull};
 ghost use Rattle.seam_transcript.specs.Round.{Lists, ExtendsOrders, done_lines};
 ghost use Rattle.seam_defs.specs.declared.flags.Part.{Part};
@@ -24,6 +24,12 @@ ghost use Rattle.seam_rounds.specs.Rounds.{AreReapable};
 ghost use Rattle.seam_places.specs.Places.{GoesThroughRound};
 ghost use Rattle.seam_replica.specs.Clients.{ClientReplica};
 ghost use Rattle.seam_laws.specs.Records.{KeepsRecords, MayBeGiven};
+ghost use Rattle.seam_entity.specs.Reals.{RealView};
+ghost use Rattle.seam_moves.specs.Sights.{entity_flow};
+ghost use Rattle.seam_ones.specs.Ones.{real_in};
+ghost use Rattle.seam_rules.specs.Standing.{Standing};
+ghost use Rattle.seam_rules.specs.Places.{HasPlace};
+ghost use Rattle.seam_legal.specs.Standings.{AreInPlace};
 ghost use Rattle.seam_legal.specs.Rounds.{done_in, with_done, AreInTable};
 ghost use Rattle.seam_legal.specs.Going.{frame_of, GoesWith, HasRoomForCalls, HasRoomForRound};
 
@@ -105,6 +111,25 @@ pub fn reals_are_those_of_the_flat_table()
     seam_batches::lines_bring_what_fits();
     seam_batches::uncreated_numbers_are_untouched();
     seam_places::a_load_begins_at_former_places();
+    seam_places::the_last_phases_leave_places();
+    seam_laws::calls_obey_the_laws();
+    seam_laws::reaps_obey_the_laws();
+    what_lines_bring_fits();
+}
+
+/// And each place that the round leaves is one that the rules allow: settled, by the round's tree, where the entity was when the round began
+/// and after each call that it executed, whatever order of calls that was.
+pub fn places_are_those_that_the_rules_allow()
+    ensures { (h : Header) (s t : Standing) → AreLegal h.settings → IsOfLines h s.book → (tree : Division) (clients : ℕ → ClientReplica)
+        (w : World) → KeepsRecords (frame_of h tree) clients w → GoesWith h (as_begun s.book) tree w → HasRoomForCalls s.book →
+        HasRoomForRound h w → ((p : Part) (e : ℕ) → IsFull (accepted (as_begun s.book) p e) (s.orders p e)) →
+        AreInTable h (as_begun s.book) s.orders w → AreInPlace s.places w → (v : World) (round : GoesThroughRound w (batch_of h s.book) v) →
+        t.orders ≡ with_done s.orders (done_in h round.called) → AreInPlace t.places v → (c : Create) (k : ℕ) (q : RealView) →
+        real_in ((entity_flow c.entity v).slot k) ≡ Some q → live_as s.book c.entity ≡ Some c → HasPlace h s t c }
+{
+    seam_batches::lines_bring_what_fits();
+    seam_batches::uncreated_numbers_are_untouched();
+    seam_places::a_round_leaves_right_places();
     seam_places::the_last_phases_leave_places();
     seam_laws::calls_obey_the_laws();
     seam_laws::reaps_obey_the_laws();
