@@ -29,7 +29,9 @@ ghost use Rattle.seam_moves.specs.Sights.{entity_flow};
 ghost use Rattle.seam_ones.specs.Ones.{real_in};
 ghost use Rattle.seam_rules.specs.Standing.{Standing};
 ghost use Rattle.seam_rules.specs.Places.{HasPlace};
-ghost use Rattle.seam_legal.specs.Standings.{AreInPlace};
+ghost use Rattle.seam_rules.specs.Round.{home_line};
+ghost use Rattle.seam_between.specs.Between.{IsBetweenRounds};
+ghost use Rattle.seam_legal.specs.Standings.{AreInPlace, home_read};
 ghost use Rattle.seam_legal.specs.Rounds.{done_in, with_done, AreInTable};
 ghost use Rattle.seam_legal.specs.Going.{frame_of, GoesWith, HasRoomForCalls, HasRoomForRound};
 
@@ -135,3 +137,11 @@ pub fn places_are_those_that_the_rules_allow()
     seam_laws::reaps_obey_the_laws();
     what_lines_bring_fits();
 }
+
+/// The home line that is read off a world is that of the rules, for each entity that lives in a book that goes with it and is what the flat
+/// table has, in its place.
+pub fn home_lines_are_those_of_the_rules()
+    ensures { (h : Header) (b : Book) (tree : Division) (v : World) (t : Standing) → GoesWith h b tree v → AreInTable h b t.orders v →
+        AreInPlace t.places v → (c : Create) (k : ℕ) (q : RealView) → real_in ((entity_flow c.entity v).slot k) ≡ Some q →
+        live_as b c.entity ≡ Some c → IsBetweenRounds (frame_of h tree) v → home_read c.entity k q ≡ home_line h t c }
+{}
