@@ -6,10 +6,12 @@
 #![tactic(auto)]
 
 mod holders;
+mod laws;
 mod loads;
 mod node;
 mod opening;
 mod world;
 
+pub use laws::{a_fitting_batch_may_be_loaded, every_world_obeys_the_laws};
 pub use node::Node;
-pub use world::{World, a_fitting_batch_may_be_loaded, every_world_obeys_the_laws};
+pub use world::World;

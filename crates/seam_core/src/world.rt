@@ -8,14 +8,13 @@ ghost use Rattle.seam_steps.specs.Nodes.{World as AnyWorld, node_steps, node_has
 ghost use Rattle.seam_steps.specs.Loads.{opened, loaded, reaps_loaded, look_loaded};
 ghost use Rattle.seam_steps.specs.Holders.{holders};
 ghost use Rattle.seam_rounds.specs.Rounds.{first_frame};
-ghost use Rattle.seam_call.specs.declared.order.Batch.{Batch as AnyBatch};
-ghost use Rattle.seam_moves.specs.Frames.{Frame};
 ghost use Rattle.seam_replica.specs.Clients.{ClientReplica};
-ghost use Rattle.seam_laws.specs.Records.{KeepsRecords, MayBeGiven};
+ghost use Rattle.seam_laws.specs.Records.{KeepsRecords};
 ghost use Rattle.seam_core.specs.Worlds.{IsWorld, Leads, Lives, KeepsLaws};
 ghost use Rattle.seam_core.specs.Loads.{MayLoad};
 
 use crate::holders::count_holders;
+use crate::laws::every_world_obeys_the_laws;
 use crate::loads::{begin_all, give, give_all, reap_all};
 use crate::node::Node;
 use crate::opening::open_nodes;
@@ -49,21 +48,6 @@ impl Model for World {
 
     ghost invariant = { λ w. IsWorld w.net };
 }
-
-/// Every world obeys the laws of the phase that it is in, wherever it comes from.
-pub fn every_world_obeys_the_laws()
-    ensures { (v : AnyWorld) → KeepsLaws v }
-{
-    seam_laws::calls_obey_the_laws();
-    seam_laws::reaps_obey_the_laws();
-    seam_laws::looks_obey_the_laws();
-}
-
-/// What the rules ask of a batch lets a world load it: one that keeps the records between rounds may be given each that fits it.
-pub fn a_fitting_batch_may_be_loaded()
-    ensures { (f : Frame) (clients : ℕ → ClientReplica) (w : AnyWorld) → KeepsRecords f clients w → (b : AnyBatch) → MayBeGiven f w b →
-        MayLoad w b }
-{}
 
 impl World {
     /// Sixteen cells and the base nodes of these settings, without entities, with empty links and the tree of one cell.

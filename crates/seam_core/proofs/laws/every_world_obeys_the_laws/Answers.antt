@@ -1,4 +1,4 @@
-use Rattle.seam_core.proofs.world.every_world_obeys_the_laws.Goals as goal
+use Rattle.seam_core.proofs.laws.every_world_obeys_the_laws.Goals as goal
 
 pub returns : goal.returns
 returns c v = record {

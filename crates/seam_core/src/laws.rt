@@ -1,0 +1,25 @@
+//! Laws of all worlds, each on a function that does nothing.
+
+ghost use Rattle.std.specs.Prelude.{ℕ};
+ghost use Rattle.seam_call.specs.declared.order.Batch.{Batch};
+ghost use Rattle.seam_steps.specs.Nodes.{World};
+ghost use Rattle.seam_moves.specs.Frames.{Frame};
+ghost use Rattle.seam_replica.specs.Clients.{ClientReplica};
+ghost use Rattle.seam_laws.specs.Records.{KeepsRecords, MayBeGiven};
+ghost use Rattle.seam_core.specs.Worlds.{KeepsLaws};
+ghost use Rattle.seam_core.specs.Loads.{MayLoad};
+
+/// Every world obeys the laws of the phase that it is in, wherever it comes from.
+pub fn every_world_obeys_the_laws()
+    ensures { (v : World) → KeepsLaws v }
+{
+    seam_laws::calls_obey_the_laws();
+    seam_laws::reaps_obey_the_laws();
+    seam_laws::looks_obey_the_laws();
+}
+
+/// What the rules ask of a batch lets a world load it: one that keeps the records between rounds may be given each that fits it.
+pub fn a_fitting_batch_may_be_loaded()
+    ensures { (f : Frame) (clients : ℕ → ClientReplica) (w : World) → KeepsRecords f clients w → (b : Batch) → MayBeGiven f w b →
+        MayLoad w b }
+{}
