@@ -10,6 +10,8 @@ mod Parts
 mod Playing
 mod Ended
 mod Executed
+mod Accounts
 mod Done
 mod Table
 mod Placing
+mod Ghosts

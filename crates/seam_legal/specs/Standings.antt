@@ -1,12 +1,17 @@
--- Where a standing has the entities of a world, and the home lines that are read off one.
-use Rattle.std.specs.Prelude.{◌≡◌, ℕ, Some}
+-- Where a standing has the entities of a world, and the home lines and ghost lines that are read off one.
+use Rattle.std.specs.Prelude.{◌≡◌, ℕ, List, [], ◌∷◌, Option, None, Some}
+use Rattle.std.specs.List.{flat_map}
 use Rattle.seam_haunt.specs.Places.{Place}
+use Rattle.seam_call.specs.declared.shown.GhostCopy.{GhostCopy}
 use Rattle.seam_transcript.specs.Round.{HomeLine}
+use Rattle.seam_entity.specs.Here.{cell_numbers}
 use Rattle.seam_entity.specs.Reals.{RealView}
 use Rattle.seam_steps.specs.Nodes.{World}
 use Rattle.seam_moves.specs.Sights.{entity_flow}
 use Rattle.seam_ones.specs.Ones.{real_in}
 use Rattle.seam_places.specs.Places.{place_of}
+use Rattle.seam_newest.specs.Copies.{copy_at}
+use Rattle.seam_rules.specs.Lines.{GhostLine}
 
 -- each real is in the cell, and has a ghost in the cells, that these places say
 abbrev pub AreInPlace : (ℕ → Place) → World → Type 0
@@ -15,3 +20,12 @@ AreInPlace places w = (e k : ℕ) (r : RealView) → real_in ((entity_flow e w).
 -- the home line of a real that is in a cell
 abbrev pub home_read : ℕ → ℕ → RealView → HomeLine
 home_read e k r = record { entity = e; ty = r.ty; cell = k; version = r.version; state = r.state }
+
+-- the ghost line of the copy that a cell has of an entity, if it has one
+abbrev pub ghost_read : ℕ → ℕ → Option GhostCopy → List GhostLine
+ghost_read e k None = []
+ghost_read e k (Some c) = record { entity = e; cell = k; version = c.version } ∷ []
+
+-- the ghost lines of an entity: of each cell that has a copy of it
+abbrev pub ghosts_read : ℕ → World → List GhostLine
+ghosts_read e w = flat_map (λ k. ghost_read e k (copy_at e w k)) cell_numbers

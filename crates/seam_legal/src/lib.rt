@@ -22,6 +22,7 @@ ghost use Rattle.seam_steps.specs.Loads.{opened, loaded};
 ghost use Rattle.seam_steps.specs.Nodes.{World, node_steps, node_has_work};
 ghost use Rattle.seam_rounds.specs.Rounds.{AreReapable};
 ghost use Rattle.seam_places.specs.Places.{GoesThroughRound};
+ghost use Rattle.seam_newest.specs.Copies.{AreCopiesBetweenRounds};
 ghost use Rattle.seam_replica.specs.Clients.{ClientReplica};
 ghost use Rattle.seam_laws.specs.Records.{KeepsRecords, MayBeGiven};
 ghost use Rattle.seam_entity.specs.Reals.{RealView};
@@ -29,9 +30,9 @@ ghost use Rattle.seam_moves.specs.Sights.{entity_flow};
 ghost use Rattle.seam_ones.specs.Ones.{real_in};
 ghost use Rattle.seam_rules.specs.Standing.{Standing};
 ghost use Rattle.seam_rules.specs.Places.{HasPlace};
-ghost use Rattle.seam_rules.specs.Round.{home_line};
+ghost use Rattle.seam_rules.specs.Round.{home_line, ghost_lines};
 ghost use Rattle.seam_between.specs.Between.{IsBetweenRounds};
-ghost use Rattle.seam_legal.specs.Standings.{AreInPlace, home_read};
+ghost use Rattle.seam_legal.specs.Standings.{AreInPlace, home_read, ghosts_read};
 ghost use Rattle.seam_legal.specs.Rounds.{done_in, with_done, AreInTable};
 ghost use Rattle.seam_legal.specs.Going.{frame_of, GoesWith, HasRoomForCalls, HasRoomForRound};
 
@@ -144,4 +145,11 @@ pub fn home_lines_are_those_of_the_rules()
     ensures { (h : Header) (b : Book) (tree : Division) (v : World) (t : Standing) → GoesWith h b tree v → AreInTable h b t.orders v →
         AreInPlace t.places v → (c : Create) (k : ℕ) (q : RealView) → real_in ((entity_flow c.entity v).slot k) ≡ Some q →
         live_as b c.entity ≡ Some c → IsBetweenRounds (frame_of h tree) v → home_read c.entity k q ≡ home_line h t c }
+{}
+
+/// So are the ghost lines: a cell has a copy of such an entity exactly where the rules ask for a ghost, at the entity's public version.
+pub fn ghost_lines_are_those_of_the_rules()
+    ensures { (h : Header) (b : Book) (tree : Division) (v : World) (t : Standing) → AreInTable h b t.orders v → AreInPlace t.places v →
+        (c : Create) (k : ℕ) (q : RealView) → real_in ((entity_flow c.entity v).slot k) ≡ Some q → live_as b c.entity ≡ Some c →
+        IsBetweenRounds (frame_of h tree) v → AreCopiesBetweenRounds (frame_of h tree) v → ghosts_read c.entity v ≡ ghost_lines h tree t c }
 {}
