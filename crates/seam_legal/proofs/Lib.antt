@@ -15,3 +15,5 @@ mod Done
 mod Table
 mod Placing
 mod Ghosts
+mod Rows
+mod Further
