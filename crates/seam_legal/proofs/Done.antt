@@ -1,9 +1,12 @@
 -- What a round leaves executed is what its lines brought, part by part.
 use Rattle.std.proofs.Common.{◌≡◌, ℕ, ◌≤◌, List, [], ◌∷◌, Some, None, refl, sym, ap, ◌∙◌, subst, arith, inl, inr, ◌⊎◌}
-use Rattle.std.proofs.Common.{cond}
+use Rattle.std.proofs.Common.{Bool, true, false, cond}
 use Rattle.std.specs.Prelude.{◌==◌, ◌&&◌}
 use Rattle.std.specs.List.{AllByRecursion}
-use Rattle.seam_call.specs.Calls.{same_part}
+use Rattle.std.proofs.lemmas.Bool.{eqb-true}
+use Rattle.seam_defs.specs.Deeds.{part_of_deed}
+use Rattle.seam_defs.specs.Types.{type_of}
+use Rattle.seam_call.specs.Calls.{is_for, same_part}
 use Rattle.seam_call.specs.Senders.{rank_of}
 use Rattle.seam_machine.specs.Nets.{LeadsTo}
 use Rattle.seam_machine.specs.declared.machines.Event.{Event}
@@ -32,6 +35,7 @@ use Rattle.seam_steps.specs.Loads.{loaded}
 use Rattle.seam_moves.specs.Sights.{mine, entity_flow}
 use Rattle.seam_ones.specs.Ones.{real_in, real_of}
 use Rattle.seam_ones.proofs.Counting.{counted_none, none_counts}
+use Rattle.seam_ones.proofs.Holds.{both}
 use Rattle.seam_once.specs.CellTurns.{from_sender}
 use Rattle.seam_between.proofs.Framing.{in_frame}
 use Rattle.seam_between.proofs.Loaded.{no_mail}
@@ -44,9 +48,17 @@ use Rattle.seam_laws.specs.Records.{KeepsRecords, KeepsRecordsWithin, MayBeGiven
 use Rattle.seam_legal.specs.Going.{frame_of, base_node, GoesWith, HasRoomForCalls}
 use Rattle.seam_legal.specs.Rounds.{done_by_real, done_by_part, done_in, with_done}
 use Rattle.seam_legal.proofs.Numbering.{cell_calls, base_calls}
-use Rattle.seam_legal.proofs.Started.{nobody, no_part_there}
+use Rattle.seam_legal.proofs.Fitting.{type_by}
+use Rattle.seam_legal.proofs.Started.{nobody, no_part_there, real_comes}
 use Rattle.seam_legal.proofs.Nowhere.{no_part_leads}
-use Rattle.seam_legal.proofs.Executed.{one_in, none_in, executes_all}
+use Rattle.seam_legal.proofs.Accounts.{IsDoneOn}
+use Rattle.seam_legal.proofs.Executed.{letters_are_of_place, all_by_place, one_in, none_in, executes_all}
+
+part_by : (p q : Part) → same_part p q ≡ true → p ≡ q
+part_by part.Cell part.Cell is = refl
+part_by part.Base part.Base is = refl
+part_by part.Cell part.Base is = cc
+part_by part.Base part.Cell is = cc
 
 -- calls to others are none of these
 no_calls_to : (p : Part) (e n : ℕ) (cs : List CallData) → AllByRecursion (λ c. c.entity ≡ e → ⊥) cs → calls_from p e n cs ≡ []
@@ -145,6 +157,42 @@ module _ (h : Header) (some : 1 ≤ h.settings.bases) (b : Book) (t : Division) 
   executed : (p : Part) (e n : ℕ) → letters_of (from_sender n) (done_in h v p e) ≡ calls_from p e n (calls_of b.current)
   executed part.Cell e n = executed_cell e (search_real e v) n
   executed part.Base e n = executed_base e (search_real e v) n
+
+  -- what an entity's part executed was done on it
+  module _ (e k : ℕ) (q : RealView) (at : real_in ((entity_flow e v).slot k) ≡ Some q) (c : Create) (is_there : IsPresent b e c) (p : Part)
+      where
+    abbrev Its : CallData → Type 0
+    Its = IsDoneOn p (type_of h.defs c.ty)
+
+    same_type : (m : Create) → IsPresent b e m → m.ty ≡ c.ty
+    same_type m also =
+        let was = began_by e k q at (search_real e (loaded w B)) in
+        let type = type_by h b t w keeps.reals goes R untouched e was.0 was.1
+        (real_comes h some b t clients w keeps may goes R untouched few present e was.0 was.1 was.2) in
+        sym (type m also) ∙ type c is_there
+
+    is_done_on : (x : CallData) → IsFitCall h b x → is_for p e x ≡ true → Its x
+    is_done_on x fit is =
+        let for_it = both (x.entity == e) (same_part x.part p) is in
+        let made = fit.made in
+        sym (part_by x.part p for_it.1) ∙ fit.part ∙ ap (λ y. part_of_deed (type_of h.defs y) x.deed)
+        (same_type made (subst (λ d. IsPresent b d made) (eqb-true x.entity e for_it.0) fit.present))
+
+    kept_call : (n : ℕ) (x : CallData) (cs : List CallData) (y : Bool) → (is_for p e x && (rank_of x.sender == n)) ≡ y → IsFitCall h b x →
+        AllByRecursion Its cs → AllByRecursion Its (cond y (x ∷ cs) cs)
+    kept_call n x cs true is fit all = (is_done_on x fit (both (is_for p e x) (rank_of x.sender == n) is).0, all)
+    kept_call n x cs false is fit all = all
+
+    called_from : (n : ℕ) (cs : List CallData) → AllByRecursion (IsFitCall h b) cs → AllByRecursion Its (calls_from p e n cs)
+    called_from n [] all = tt
+    called_from n (x ∷ cs) all =
+        kept_call n x (calls_from p e n cs) (is_for p e x && (rank_of x.sender == n)) refl all.0 (called_from n cs all.1)
+
+    pub done_on : AllByRecursion Its (done_in h v p e)
+    done_on =
+        all_by_place Its (done_in h v p e)
+        (λ n. subst (AllByRecursion Its) (sym (sym (letters_are_of_place n (done_in h v p e)) ∙ executed p e n))
+        (called_from n (calls_of b.current) R.calls))
 
   pub all_executed : (orders : Orders) → ((p : Part) (e : ℕ) → IsFull (accepted (as_begun b) p e) (orders p e)) → (p : Part) (e : ℕ) →
       IsFull (accepted b p e) (with_done orders (done_in h v) p e)

@@ -105,7 +105,7 @@ module _ (b : Book) (e : ℕ) where
   last_ended p s = ap (λ xs. length (calls_from p e s (calls_of xs))) same_entries
 
   -- a live entity has a client where it was given one
-  client_of : (c : Create) → live_as b e ≡ Some c → has_client ended_book e ≡ list_any (joins e) (entries b)
+  pub client_of : (c : Create) → live_as b e ≡ Some c → has_client ended_book e ≡ list_any (joins e) (entries b)
   client_of c lives =
       ap (λ o. is_some o && list_any (joins e) (entries ended_book)) (live_ended ∙ lives) ∙ ap (list_any (joins e)) same_entries
 

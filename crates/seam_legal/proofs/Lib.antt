@@ -10,6 +10,10 @@ mod Parts
 mod Playing
 mod Ended
 mod Executed
+mod Accounts
 mod Done
 mod Table
 mod Placing
+mod Ghosts
+mod Rows
+mod Further

@@ -47,7 +47,8 @@ use Rattle.seam_legal.specs.Standings.{AreInPlace}
 use Rattle.seam_legal.proofs.Origins.{RealFrom, was, made}
 use Rattle.seam_legal.proofs.Fitting.{others_none, made_is, new_number, type_by}
 use Rattle.seam_rules.specs.FlatTable.{position_at, positions_past}
-use Rattle.seam_legal.proofs.Table.{done_deed, none_ordered}
+use Rattle.seam_legal.proofs.Accounts.{done_deed, one_more}
+use Rattle.seam_legal.proofs.Table.{none_ordered}
 
 -- ---- who is made in the round
 
@@ -90,12 +91,6 @@ module _ (h : Header) (c : Create) where
   began_is before more =
       ap (λ l. (fold deed (first_state h part.Cell c) l).pos) (take-append_seam before more ∙ sym (take-length before))
 
-  one_more : (before : List CallData) (k : CallData) → began (before ++ k ∷ []) ≡ deed (began before) k
-  one_more before k =
-      ap (fold deed (first_state h part.Cell c)) (take-length (before ++ k ∷ []))
-      ∙ fold-append deed (first_state h part.Cell c) before (k ∷ [])
-      ∙ ap (λ l. deed (fold deed (first_state h part.Cell c) l) k) (sym (take-length before))
-
   -- where the entity is after each of these calls
   path_by : (before ks : List CallData) → positions_after (type_of h.defs c.ty) (began before) ks
       ≡ map (position_at h c (before ++ ks)) (range_with_len (length before + 1) (length ks))
@@ -105,11 +100,11 @@ module _ (h : Header) (c : Create) where
       let same : next ++ ks ≡ before ++ k ∷ ks = append_assoc before (k ∷ []) ks in
       let longer : length next ≡ length before + 1 = length-append before (k ∷ []) in
       let head : (deed (began before) k).pos ≡ position_at h c (before ++ k ∷ ks) (length before + 1) =
-      ap (λ (s : State). s.pos) (sym (one_more before k)) ∙ sym (began_is next ks) ∙ ap (λ l. position_at h c l (length next)) same
+      ap (λ (s : State). s.pos) (sym (one_more h part.Cell c before k)) ∙ sym (began_is next ks) ∙ ap (λ l. position_at h c l (length next)) same
       ∙ ap (position_at h c (before ++ k ∷ ks)) longer in
       let rest : positions_after (type_of h.defs c.ty) (deed (began before) k) ks
       ≡ map (position_at h c (before ++ k ∷ ks)) (range_with_len (length before + 1 + 1) (length ks)) =
-      ap (λ s. positions_after (type_of h.defs c.ty) s ks) (sym (one_more before k)) ∙ path_by next ks
+      ap (λ s. positions_after (type_of h.defs c.ty) s ks) (sym (one_more h part.Cell c before k)) ∙ path_by next ks
       ∙ ap (λ l. map (position_at h c l) (range_with_len (length next + 1) (length ks))) same
       ∙ ap (λ n. map (position_at h c (before ++ k ∷ ks)) (range_with_len (n + 1) (length ks))) longer in
       ap (λ p. p ∷ positions_after (type_of h.defs c.ty) (deed (began before) k) ks) head

@@ -4,16 +4,11 @@ use Rattle.std.proofs.Common.{refl, sym, ap, ◌∙◌, subst, arith, inl, inr, 
 use Rattle.std.specs.Prelude.{filter}
 use Rattle.std.proofs.lemmas.Bool.{cases_eq, eq-eqb}
 use Rattle.std.specs.List.{AllByRecursion}
-use Rattle.std.proofs.lemmas.List.{take_all}
-use Rattle.std.proofs.lemmas.List.Sums.{fold-append}
 use Rattle.std.proofs.lemmas.Option.{none-some}
 use Rattle.seam_flows.proofs.TokenLemmas.{sole_here}
 use Rattle.seam_tree.specs.Division.{Division, leaf_at}
-use Rattle.seam_defs.specs.Deeds.{after}
 use Rattle.seam_defs.specs.Types.{type_of}
 use Rattle.seam_defs.specs.declared.flags.Part.TheVariants as part
-use Rattle.seam_defs.specs.declared.states.State.{State}
-use Rattle.seam_defs.specs.declared.types.TypeDef.{TypeDef}
 use Rattle.seam_defs.specs.declared.flags.Part.{Part}
 use Rattle.seam_call.specs.Calls.{is_from}
 use Rattle.seam_call.specs.Senders.{IsSender, same_sender, rank_of}
@@ -24,7 +19,8 @@ use Rattle.seam_call.specs.declared.create.Create.{Create}
 use Rattle.seam_call.specs.declared.order.Batch.{Batch}
 use Rattle.seam_toml.specs.declared.header.Header.{Header}
 use Rattle.seam_transcript.specs.Book.{Book, entries, calls_of, created_as, live_as, accepted}
-use Rattle.seam_transcript.specs.FlatTable.{first_state, flat}
+use Rattle.seam_transcript.specs.FlatTable.{flat}
+use Rattle.seam_rules.specs.FlatTable.{public_at}
 use Rattle.seam_transcript.specs.Orders.{Orders, of_sender, IsFull}
 use Rattle.seam_accept.specs.Batches.{batch_of}
 use Rattle.seam_batches.specs.Books.{as_begun}
@@ -38,7 +34,7 @@ use Rattle.seam_steps.specs.Nodes.{World}
 use Rattle.seam_steps.specs.Loads.{loaded}
 use Rattle.seam_moves.specs.Sights.{entity_flow}
 use Rattle.seam_ones.specs.Ones.{real_in, real_of, OneFrom}
-use Rattle.seam_ones.specs.Replays.{Account, account_of, after_call, after_calls}
+use Rattle.seam_ones.specs.Replays.{Account, account_of, after_calls}
 use Rattle.seam_steps.specs.Holders.{holders}
 use Rattle.seam_between.proofs.Making.{middle}
 use Rattle.seam_between.proofs.Loaded.{real_loaded}
@@ -49,42 +45,11 @@ use Rattle.seam_laws.specs.Calls.{ObeysLaws}
 use Rattle.seam_laws.specs.Records.{KeepsRecords, MayBeGiven}
 use Rattle.seam_legal.specs.Going.{frame_of, GoesWith, HasRoomForCalls}
 use Rattle.seam_legal.specs.Rounds.{IsInTable, AreInTable}
+use Rattle.seam_legal.proofs.Accounts.{IsDoneOn, done_after, Agrees, agrees_after, in_table_by}
 use Rattle.seam_legal.proofs.Origins.{IsCreate, RealFrom, was, made}
 use Rattle.seam_legal.proofs.Fitting.{others_none, made_is, new_number, type_by}
 use Rattle.seam_legal.proofs.Started.{real_comes}
 use Rattle.seam_legal.proofs.Executed.{none_from, sender_or_not}
-
--- ---- what calls make of an account
-
-module _ (t : TypeDef) where
-  abbrev pub done_deed : State → CallData → State
-  done_deed s x = after t s x.deed
-
-  pub state_after : (a : Account) (ks : List CallData) → (after_calls t a ks).state ≡ fold done_deed a.state ks
-  state_after a [] = refl
-  state_after a (k ∷ ks) = state_after (after_call t a k) ks
-
-  pub version_after : (a : Account) (ks : List CallData) → (after_calls t a ks).version ≡ a.version + length ks
-  version_after a [] = omega arith
-  version_after a (k ∷ ks) = let more = version_after (after_call t a k) ks in omega (arith, more)
-
-  pub done_after : (a : Account) (ks : List CallData) → (after_calls t a ks).done ≡ a.done ++ ks
-  done_after a [] = sym (append-nil a.done)
-  done_after a (k ∷ ks) = done_after (after_call t a k) ks ∙ append_assoc a.done (k ∷ []) ks
-
--- the flat table after all of an order, and after more
-flat_all : (h : Header) (c : Create) (order : List CallData) →
-    flat h part.Cell c order (length order) ≡ fold (done_deed (type_of h.defs c.ty)) (first_state h part.Cell c) order
-flat_all h c order =
-    ap (fold (done_deed (type_of h.defs c.ty)) (first_state h part.Cell c)) (take_all (length order) order (omega arith))
-
-pub flat_more : (h : Header) (c : Create) (order more : List CallData) →
-    flat h part.Cell c (order ++ more) (length (order ++ more))
-    ≡ fold (done_deed (type_of h.defs c.ty)) (flat h part.Cell c order (length order)) more
-flat_more h c order more =
-    let deed = done_deed (type_of h.defs c.ty) in
-    flat_all h c (order ++ more) ∙ fold-append deed (first_state h part.Cell c) order more
-    ∙ ap (λ s. fold deed s more) (sym (flat_all h c order))
 
 -- ---- an order of nothing
 
@@ -157,12 +122,13 @@ module _ (h : Header) (some : 1 ≤ h.settings.bases) (b : Book) (t : Division) 
         record {
           version = sym (ap (λ (y : RealView). y.version) same) ∙ ap length (sym none);
           state = sym (ap (λ (y : RealView). y.state) same) ∙ ap (λ o. flat h part.Cell x o (length o)) (sym none);
+          public = sym (ap (λ (y : RealView). y.public) same) ∙ ap (λ o. public_at h x o (length o)) (sym none);
         }
 
     start_by : RealFrom w B.creates e home r → IsPresent b e c → Start e c r
     start_by (was others q x at is) (inl before) =
         let row = rows e home q c at before in
-        subst (Start e c) is (record { version = row.version; state = row.state })
+        subst (Start e c) is (record { version = row.version; state = row.state; public = row.public })
     start_by (was others q x at is) (inr now) = absurd (none-some c (sym (others_none e B.creates others) ∙ now))
     start_by (made x i ty ords) (inl before) =
         absurd (none-some c (sym (new_number h b t w keeps.reals goes R untouched e x i) ∙ live_is_created (as_begun b) e c before))
@@ -199,14 +165,16 @@ module _ (h : Header) (some : 1 ≤ h.settings.bases) (b : Book) (t : Division) 
           type_by h b t w keeps.reals goes R untouched e home r (real_comes h some b t clients w keeps may goes R untouched few present e home r here)
           c (live_is_present b e c lives)
 
-      pub in_table : (done : List CallData) → done ≡ q.done → IsInTable h c (orders part.Cell e ++ done) q
-      in_table done is = subst (λ l. IsInTable h c (orders part.Cell e ++ l) q) (sym is) (record {
-        version = ap (λ (a : Account). a.version) its_account ∙ version_after (type_of h.defs r.ty) (account_of r) its.replays.further
-            ∙ ap (λ n. n + length its.replays.further) starts.version
-            ∙ ap (λ l. length (orders part.Cell e) + length l) (sym further_is) ∙ sym (length-append (orders part.Cell e) q.done);
-        state = ap (λ (a : Account). a.state) its_account ∙ state_after (type_of h.defs r.ty) (account_of r) its.replays.further
-            ∙ ap (λ l. fold (done_deed (type_of h.defs r.ty)) r.state l) (sym further_is)
-            ∙ ap (λ y. fold (done_deed (type_of h.defs y)) r.state q.done) types
-            ∙ ap (λ s. fold (done_deed (type_of h.defs c.ty)) s q.done) starts.state
-            ∙ sym (flat_more h c (orders part.Cell e) q.done);
-      })
+      pub in_table : (done : List CallData) → done ≡ q.done → AllByRecursion (IsDoneOn part.Cell (type_of h.defs c.ty)) done →
+          IsInTable h c (orders part.Cell e ++ done) q
+      in_table done is deeds =
+          let further = its.replays.further in
+          let same : done ≡ further = is ∙ further_is in
+          let begun : Agrees h c (orders part.Cell e) (account_of r) =
+          record { version = starts.version; state = starts.state; public = starts.public } in
+          let so = agrees_after h c (orders part.Cell e) (account_of r) further
+          (subst (AllByRecursion (IsDoneOn part.Cell (type_of h.defs c.ty))) same deeds) begun in
+          let account : after_calls (type_of h.defs c.ty) (account_of r) further ≡ account_of q =
+          sym (its_account ∙ ap (λ y. after_calls (type_of h.defs y) (account_of r) further) types) in
+          subst (λ l. IsInTable h c (orders part.Cell e ++ l) q) (sym same)
+          (in_table_by h c (orders part.Cell e ++ further) q (subst (Agrees h c (orders part.Cell e ++ further)) account so))

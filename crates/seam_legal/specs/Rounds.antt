@@ -8,6 +8,7 @@ use Rattle.seam_toml.specs.declared.header.Header.{Header}
 use Rattle.seam_transcript.specs.Book.{Book, live_as}
 use Rattle.seam_transcript.specs.FlatTable.{flat}
 use Rattle.seam_transcript.specs.Orders.{Orders}
+use Rattle.seam_rules.specs.FlatTable.{public_at}
 use Rattle.seam_entity.specs.Here.{cell_numbers}
 use Rattle.seam_entity.specs.Reals.{RealView}
 use Rattle.seam_steps.specs.Bases.{PartView}
@@ -40,6 +41,7 @@ with_done orders done p e = orders p e ++ done p e
 pub record IsInTable (h : Header) (made : Create) (order : List Call) (r : RealView) : Type 0 where
   pub version : r.version ≡ length order
   pub state : r.state ≡ flat h part.Cell made order (length order)
+  pub public : r.public ≡ public_at h made order (length order)
 
 -- each real of an entity that lives in the book is that, by these orders
 abbrev pub AreInTable : Header → Book → Orders → World → Type 0

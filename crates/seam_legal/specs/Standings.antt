@@ -1,12 +1,26 @@
--- Where a standing has the entities of a world, and the home lines that are read off one.
-use Rattle.std.specs.Prelude.{◌≡◌, ℕ, Some}
+-- Where a standing has the entities of a world, the home lines and ghost lines that are read off one, and what clients show.
+use Rattle.std.specs.Prelude.{◌≡◌, ℕ, List, [], ◌∷◌, Option, None, Some}
+use Rattle.std.specs.List.{flat_map}
 use Rattle.seam_haunt.specs.Places.{Place}
+use Rattle.seam_call.specs.declared.shown.GhostCopy.{GhostCopy}
 use Rattle.seam_transcript.specs.Round.{HomeLine}
+use Rattle.seam_entity.specs.Here.{cell_numbers}
 use Rattle.seam_entity.specs.Reals.{RealView}
 use Rattle.seam_steps.specs.Nodes.{World}
 use Rattle.seam_moves.specs.Sights.{entity_flow}
 use Rattle.seam_ones.specs.Ones.{real_in}
-use Rattle.seam_places.specs.Places.{place_of}
+use Rattle.seam_places.specs.Places.{place_of, GoesThroughRound}
+use Rattle.seam_tree.specs.Division.{Division}
+use Rattle.seam_toml.specs.declared.header.Header.{Header}
+use Rattle.seam_transcript.specs.Book.{Book}
+use Rattle.seam_accept.specs.Batches.{batch_of}
+use Rattle.seam_between.specs.Between.{framed}
+use Rattle.seam_replica.specs.Clients.{ClientReplica}
+use Rattle.seam_clients.specs.Clients.{clients_loaded, clients_shown}
+use Rattle.seam_laws.specs.Looks.{clients_looked}
+use Rattle.seam_newest.specs.Copies.{copy_at}
+use Rattle.seam_rules.specs.Lines.{GhostLine}
+use Rattle.seam_legal.specs.Going.{frame_of}
 
 -- each real is in the cell, and has a ghost in the cells, that these places say
 abbrev pub AreInPlace : (ℕ → Place) → World → Type 0
@@ -15,3 +29,20 @@ AreInPlace places w = (e k : ℕ) (r : RealView) → real_in ((entity_flow e w).
 -- the home line of a real that is in a cell
 abbrev pub home_read : ℕ → ℕ → RealView → HomeLine
 home_read e k r = record { entity = e; ty = r.ty; cell = k; version = r.version; state = r.state }
+
+-- the ghost line of the copy that a cell has of an entity, if it has one
+abbrev pub ghost_read : ℕ → ℕ → Option GhostCopy → List GhostLine
+ghost_read e k None = []
+ghost_read e k (Some c) = record { entity = e; cell = k; version = c.version } ∷ []
+
+-- the ghost lines of an entity: of each cell that has a copy of it
+abbrev pub ghosts_read : ℕ → World → List GhostLine
+ghosts_read e w = flat_map (λ k. ghost_read e k (copy_at e w k)) cell_numbers
+
+-- what clients show after the round: what they were shown to the end of its calls, and then one look
+abbrev pub clients_ended : (h : Header) → Division → (ℕ → ClientReplica) → (w : World) (b : Book) (v : World) →
+    GoesThroughRound w (batch_of h b) v → ℕ → ClientReplica
+clients_ended h t clients w b v round =
+    let f = frame_of h t in
+    let batch = batch_of h b in
+    clients_looked (clients_shown (framed f batch) (clients_loaded f batch clients) round.called) round.reaped

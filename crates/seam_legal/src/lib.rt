@@ -4,14 +4,14 @@
 //! when the world has gone through the round, the book with its round ended goes with it again.
 #![tactic(auto)]
 
-ghost use Rattle.std.specs.Prelude.{◌≡◌, ℕ, List, Some};
+ghost use Rattle.std.specs.Prelude.{◌≡◌, ℕ, List, [], Some, IsTrue};
 ghost use Rattle.seam_defs.specs.Settings.{AreLegal};
 ghost use Rattle.seam_defs.specs.Types.{AreDefs};
 ghost use Rattle.seam_tree.specs.Division.{Division};
 ghost use Rattle.seam_machine.specs.Nets.{IsQuiet, LeadsTo};
 ghost use Rattle.seam_machine.specs.declared.machines.Event.{Event};
 ghost use Rattle.seam_toml.specs.declared.header.Header.{Header};
-ghost use Rattle.seam_transcript.specs.Book.{Book, empty_book, one_cell, with_round_ended, with_tree, tree_of, created_as, live_as, accepted};
+ghost use Rattle.seam_transcript.specs.Book.{Book, empty_book, one_cell, with_round_ended, with_tree, tree_of, created_as, live_as, is_shown, accepted};
 ghost use Rattle.seam_transcript.specs.Orders.{Orders, IsFull};
 ghost use Rattle.seam_transcript.specs.Round.{Lists, ExtendsOrders, done_lines};
 ghost use Rattle.seam_defs.specs.declared.flags.Part.{Part};
@@ -22,16 +22,20 @@ ghost use Rattle.seam_steps.specs.Loads.{opened, loaded};
 ghost use Rattle.seam_steps.specs.Nodes.{World, node_steps, node_has_work};
 ghost use Rattle.seam_rounds.specs.Rounds.{AreReapable};
 ghost use Rattle.seam_places.specs.Places.{GoesThroughRound};
+ghost use Rattle.seam_newest.specs.Copies.{AreCopiesBetweenRounds};
 ghost use Rattle.seam_replica.specs.Clients.{ClientReplica};
+ghost use Rattle.seam_replica.specs.Looks.{one_look};
 ghost use Rattle.seam_laws.specs.Records.{KeepsRecords, MayBeGiven};
 ghost use Rattle.seam_entity.specs.Reals.{RealView};
 ghost use Rattle.seam_moves.specs.Sights.{entity_flow};
 ghost use Rattle.seam_ones.specs.Ones.{real_in};
 ghost use Rattle.seam_rules.specs.Standing.{Standing};
 ghost use Rattle.seam_rules.specs.Places.{HasPlace};
-ghost use Rattle.seam_rules.specs.Round.{home_line};
+ghost use Rattle.seam_rules.specs.Round.{home_line, ghost_lines};
 ghost use Rattle.seam_between.specs.Between.{IsBetweenRounds};
-ghost use Rattle.seam_legal.specs.Standings.{AreInPlace, home_read};
+ghost use Rattle.seam_looks.specs.Tables as world;
+ghost use Rattle.seam_rules.specs.FlatTable.{rows_of};
+ghost use Rattle.seam_legal.specs.Standings.{AreInPlace, home_read, ghosts_read, clients_ended};
 ghost use Rattle.seam_legal.specs.Rounds.{done_in, with_done, AreInTable};
 ghost use Rattle.seam_legal.specs.Going.{frame_of, GoesWith, HasRoomForCalls, HasRoomForRound};
 
@@ -145,3 +149,35 @@ pub fn home_lines_are_those_of_the_rules()
         AreInPlace t.places v → (c : Create) (k : ℕ) (q : RealView) → real_in ((entity_flow c.entity v).slot k) ≡ Some q →
         live_as b c.entity ≡ Some c → IsBetweenRounds (frame_of h tree) v → home_read c.entity k q ≡ home_line h t c }
 {}
+
+/// So are the ghost lines: a cell has a copy of such an entity exactly where the rules ask for a ghost, at the entity's public version.
+pub fn ghost_lines_are_those_of_the_rules()
+    ensures { (h : Header) (b : Book) (tree : Division) (v : World) (t : Standing) → AreInTable h b t.orders v → AreInPlace t.places v →
+        (c : Create) (k : ℕ) (q : RealView) → real_in ((entity_flow c.entity v).slot k) ≡ Some q → live_as b c.entity ≡ Some c →
+        IsBetweenRounds (frame_of h tree) v → AreCopiesBetweenRounds (frame_of h tree) v → ghosts_read c.entity v ≡ ghost_lines h tree t c }
+{}
+
+/// The flat table of a world is that of the rules, for the entities that live in a book that goes with it and are what the flat table has
+/// (`rows`). So it is where a round ended, and there a further look at it shows no client of the round anything (`nothing_left`).
+pub fn the_table_of_a_world_is_that_of_the_rules()
+    ensures rows { (h : Header) (b : Book) (tree : Division) (v : World) (orders : Orders) → GoesWith h b tree v → AreInTable h b orders v →
+        IsBetweenRounds (frame_of h tree) v → (live : List Create) → Lists (live_as b) live → world.rows_of v ≡ rows_of h orders live }
+    ensures nothing_left { (h : Header) (b : Book) → AreLegal h.settings → IsOfLines h b → (t : Division) (clients : ℕ → ClientReplica)
+        (w : World) → KeepsRecords (frame_of h t) clients w → GoesWith h (as_begun b) t w → HasRoomForCalls b → HasRoomForRound h w →
+        (orders : Orders) → ((p : Part) (e : ℕ) → IsFull (accepted (as_begun b) p e) (orders p e)) → AreInTable h (as_begun b) orders w →
+        (v : World) (round : GoesThroughRound w (batch_of h b) v) → round.gone ≡ (batch_of h b).destroys → IsQuiet node_has_work v →
+        (live : List Create) → Lists (live_as b) live → (e : ℕ) → IsTrue (is_shown b e) →
+        one_look (clients_ended h t clients w b v round e) e (rows_of h (with_done orders (done_in h round.called)) live) ≡ [] }
+{
+    seam_defs::laws::others_see_the_ghost();
+    seam_looks::the_table_has_each_real();
+    seam_places::the_last_phases_leave_places();
+    seam_shown::a_further_look_shows_nothing();
+    seam_clients::clients_go_from_record_to_record();
+    seam_laws::calls_obey_the_laws();
+    seam_laws::reaps_obey_the_laws();
+    seam_laws::looks_obey_the_laws();
+    what_lines_bring_fits();
+    a_book_goes_with_the_world_after_its_round();
+    reals_are_those_of_the_flat_table();
+}

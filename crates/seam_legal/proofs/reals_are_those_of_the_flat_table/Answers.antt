@@ -5,6 +5,7 @@ use Rattle.seam_accept.specs.Batches.{batch_of}
 use Rattle.seam_batches.specs.Books.{as_begun}
 use Rattle.seam_batches.specs.Bringing.{IsUntouched}
 use Rattle.seam_batches.proofs.Untouched.{orderly}
+use Rattle.seam_batches.proofs.Present.{live_is_present}
 use Rattle.seam_entity.specs.Reals.{RealView}
 use Rattle.seam_between.specs.Between.{framed}
 use Rattle.seam_rounds.proofs.Shape.{search_real}
@@ -13,7 +14,7 @@ use Rattle.seam_clients.specs.Clients.{clients_loaded, clients_shown}
 use Rattle.seam_legal.specs.Going.{frame_of}
 use Rattle.seam_legal.specs.Rounds.{done_in}
 use Rattle.seam_legal.proofs.Given.{present_one}
-use Rattle.seam_legal.proofs.Done.{began_by, done_cell}
+use Rattle.seam_legal.proofs.Done.{began_by, done_cell, done_on}
 use Rattle.seam_legal.proofs.Ended.{live_ended}
 use Rattle.seam_legal.proofs.Table.{in_table}
 use Rattle.seam_legal.proofs.reals_are_those_of_the_flat_table.Goals as goal
@@ -39,6 +40,8 @@ returns-clause-called c h b legal of_lines t clients w keeps goes few room order
     (c.a_load_begins_at_former_places.ensures.made f w B keeps.reals may.reals) e made lives p.0 p.1 p.2 v laws k q at
     (done_in h v part.Cell e)
     (done_cell h some b t clients w keeps may goes R untouched few present v es run laws ends then within e k q at)
+    (done_on h some b t clients w keeps may goes R untouched few present v es run laws ends then within e k q at made
+    (live_is_present b e made lives) part.Cell)
 
 pub returns-clause-ended : goal.returns-clause-ended
 returns-clause-ended c h b legal of_lines t clients w keeps goes few room orders full rows v round e k q made at lives =
@@ -58,4 +61,5 @@ returns-clause-ended c h b legal of_lines t clients w keeps goes few room orders
     record {
       version = ap (λ (y : RealView). y.version) last.same ∙ ap (λ (y : RealView). y.version) first.same ∙ row.version;
       state = ap (λ (y : RealView). y.state) last.same ∙ ap (λ (y : RealView). y.state) first.same ∙ row.state;
+      public = ap (λ (y : RealView). y.public) last.same ∙ ap (λ (y : RealView). y.public) first.same ∙ row.public;
     }

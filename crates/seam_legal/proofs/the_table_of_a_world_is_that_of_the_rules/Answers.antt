@@ -1,0 +1,62 @@
+use Rattle.std.proofs.Common.{◌≡◌, ℕ, List, [], sym, ap, ◌∙◌, subst, inl, inr, ◌⊎◌}
+use Rattle.seam_view.specs.Replica.{IsView}
+use Rattle.seam_call.specs.declared.create.Create.{Create}
+use Rattle.seam_transcript.specs.Book.{live_as, tree_of, with_round_ended}
+use Rattle.seam_transcript.specs.Round.{Lists}
+use Rattle.seam_accept.specs.Batches.{batch_of}
+use Rattle.seam_between.specs.Between.{framed}
+use Rattle.seam_rounds.proofs.Shape.{Somewhere, Nowhere, search_real}
+use Rattle.seam_clients.specs.Clients.{clients_loaded, clients_shown}
+use Rattle.seam_laws.specs.Looks.{clients_looked}
+use Rattle.seam_replica.specs.Clients.{ClientReplica}
+use Rattle.seam_replica.specs.Looks.{rows_but, look_by, one_look}
+use Rattle.seam_looks.specs.Tables as world
+use Rattle.seam_looks.proofs.Rows.{row_found}
+use Rattle.seam_looks.proofs.OneLook.{row_nowhere}
+use Rattle.seam_rules.specs.FlatTable.{properties, rows_of}
+use Rattle.seam_legal.specs.Going.{frame_of}
+use Rattle.seam_legal.specs.Rounds.{done_in, with_done}
+use Rattle.seam_legal.proofs.Ended.{live_ended}
+use Rattle.seam_legal.proofs.Rows.{rows_are}
+use Rattle.seam_legal.proofs.Further.{has_witness, its_witness}
+use Rattle.seam_legal.proofs.the_table_of_a_world_is_that_of_the_rules.Goals as goal
+
+pub returns-clause-rows : goal.returns-clause-rows
+returns-clause-rows c h b tree v orders goes rows between live listed =
+    rows_are (λ g x s t same. c.others_see_the_ghost.ensures.shown (properties g x) s t same) h b tree v orders goes rows between live listed
+
+pub returns-clause-nothing_left : goal.returns-clause-nothing_left
+returns-clause-nothing_left c h b legal of_lines t clients w keeps goes few room orders full rows v round dies quiet live listed e shown =
+    let f = frame_of h t in
+    let B = batch_of h b in
+    let g = framed f B in
+    let may = c.what_lines_bring_fits.ensures.given h b legal of_lines t clients w keeps goes few room in
+    let then = clients_shown g (clients_loaded f B clients) round.called in
+    let called = c.calls_obey_the_laws.ensures.records f clients w keeps B may round.call_events round.called round.calls round.calls_done in
+    let reaped = c.reaps_obey_the_laws.ensures.records g then round.called called round.gone round.may round.reap_events round.reaped
+    round.reaps round.reaps_done in
+    let last = c.looks_obey_the_laws.ensures.records g then round.reaped reaped round.look_events v round.looks quiet in
+    let on = c.a_book_goes_with_the_world_after_its_round.ensures.round h b legal of_lines t clients w keeps goes few room v round dies quiet in
+    let now = c.reals_are_those_of_the_flat_table.ensures.ended h b legal of_lines t clients w keeps goes few room orders full rows v round in
+    let listed_ended : Lists (live_as (with_round_ended b)) live = record {
+      rising = listed.rising;
+      exact = λ x. ((λ has. live_ended b x.entity ∙ (listed.exact x).0 has), (λ lives. (listed.exact x).1 (sym (live_ended b x.entity) ∙ lives)));
+    } in
+    let same = returns-clause-rows c h (with_round_ended b) (tree_of b) v (with_done orders (done_in h round.called)) on now last.reals live
+    listed_ended in
+    let client = clients_looked then round.reaped e in
+    let left : Somewhere e v ⊎ Nowhere e v → one_look client e (world.rows_of v) ≡ [] = λ s. elim s [
+      | inl p ↦
+          let was = c.the_last_phases_leave_places.ensures.looks g round.reaped reaped.records.reals round.look_events v round.looks e p.0 p.1
+          p.2 in
+          let seen = has_witness h b (tree_of b) v on last.reals e p.0 p.1 p.2 shown in
+          let x = its_witness g round.reaped reaped.records.reals reaped.records.parts v round.look_events round.looks last.parts e p.0 p.1
+          p.2 was seen in
+          let fits = reaped.records.shown.each e p.0 was.real was.here x.0 x.1 in
+          c.a_further_look_shows_nothing.ensures.after g round.reaped reaped.records.reals
+          (c.clients_go_from_record_to_record.ensures.room g round.reaped reaped.records.parts reaped.small) round.look_events v round.looks
+          quiet (then e) (subst IsView (sym fits.others) fits.view) e
+      | inr n ↦
+          ap (λ o. look_by client o (rows_but e (world.rows_of v))) (row_found v e ∙ row_nowhere g v last.reals e n)
+    ] in
+    sym (ap (one_look client e) same) ∙ left (search_real e v)
