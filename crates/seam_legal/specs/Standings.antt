@@ -1,11 +1,12 @@
--- Where a standing has the entities of a world, the home lines and ghost lines that are read off one, and what clients show.
+-- Where a standing has the entities of a world, the home, base and ghost lines that are read off one, and what clients show.
 use Rattle.std.specs.Prelude.{◌≡◌, ℕ, List, [], ◌∷◌, Option, None, Some}
 use Rattle.std.specs.List.{flat_map}
 use Rattle.seam_haunt.specs.Places.{Place}
 use Rattle.seam_call.specs.declared.shown.GhostCopy.{GhostCopy}
-use Rattle.seam_transcript.specs.Round.{HomeLine}
+use Rattle.seam_transcript.specs.Round.{HomeLine, BaseLine}
 use Rattle.seam_entity.specs.Here.{cell_numbers}
 use Rattle.seam_entity.specs.Reals.{RealView}
+use Rattle.seam_steps.specs.Bases.{PartView}
 use Rattle.seam_steps.specs.Nodes.{World}
 use Rattle.seam_moves.specs.Sights.{entity_flow}
 use Rattle.seam_ones.specs.Ones.{real_in}
@@ -29,6 +30,10 @@ AreInPlace places w = (e k : ℕ) (r : RealView) → real_in ((entity_flow e w).
 -- the home line of a real that is in a cell
 abbrev pub home_read : ℕ → ℕ → RealView → HomeLine
 home_read e k r = record { entity = e; ty = r.ty; cell = k; version = r.version; state = r.state }
+
+-- the base line of a base part
+abbrev pub base_read : ℕ → PartView → BaseLine
+base_read e p = record { entity = e; ty = p.ty; version = p.version; props = p.state.props }
 
 -- the ghost line of the copy that a cell has of an entity, if it has one
 abbrev pub ghost_read : ℕ → ℕ → Option GhostCopy → List GhostLine

@@ -19,6 +19,7 @@ ghost use Rattle.seam_call.specs.declared.create.Create.{Create};
 ghost use Rattle.seam_accept.specs.Batches.{batch_of};
 ghost use Rattle.seam_batches.specs.Books.{IsOfLines, MayReplace, as_begun};
 ghost use Rattle.seam_steps.specs.Loads.{opened, loaded};
+ghost use Rattle.seam_steps.specs.Bases.{PartView};
 ghost use Rattle.seam_steps.specs.Nodes.{World, node_steps, node_has_work};
 ghost use Rattle.seam_rounds.specs.Rounds.{AreReapable};
 ghost use Rattle.seam_places.specs.Places.{GoesThroughRound};
@@ -31,13 +32,13 @@ ghost use Rattle.seam_moves.specs.Sights.{entity_flow};
 ghost use Rattle.seam_ones.specs.Ones.{real_in};
 ghost use Rattle.seam_rules.specs.Standing.{Standing};
 ghost use Rattle.seam_rules.specs.Places.{HasPlace};
-ghost use Rattle.seam_rules.specs.Round.{home_line, ghost_lines};
+ghost use Rattle.seam_rules.specs.Round.{home_line, base_line, ghost_lines};
 ghost use Rattle.seam_between.specs.Between.{IsBetweenRounds};
 ghost use Rattle.seam_looks.specs.Tables as world;
 ghost use Rattle.seam_rules.specs.FlatTable.{rows_of};
-ghost use Rattle.seam_legal.specs.Standings.{AreInPlace, home_read, ghosts_read, clients_ended};
-ghost use Rattle.seam_legal.specs.Rounds.{done_in, with_done, AreInTable};
-ghost use Rattle.seam_legal.specs.Going.{frame_of, GoesWith, HasRoomForCalls, HasRoomForRound};
+ghost use Rattle.seam_legal.specs.Standings.{AreInPlace, home_read, base_read, ghosts_read, clients_ended};
+ghost use Rattle.seam_legal.specs.Rounds.{done_in, with_done, AreInTable, ArePartsInTable};
+ghost use Rattle.seam_legal.specs.Going.{frame_of, base_node, GoesWith, HasRoomForCalls, HasRoomForRound};
 
 /// A book without lines goes with a world as it is opened for the same header.
 pub fn an_empty_book_goes_with_an_opened_world()
@@ -123,6 +124,31 @@ pub fn reals_are_those_of_the_flat_table()
     what_lines_bring_fits();
 }
 
+/// And so is each base part of an entity that lives, with or without a client: after every list of events of the calls (`called`), and at
+/// the end of the round (`ended`).
+pub fn base_parts_are_those_of_the_flat_table()
+    ensures called { (h : Header) (b : Book) → AreLegal h.settings → IsOfLines h b → (t : Division) (clients : ℕ → ClientReplica)
+        (w : World) → KeepsRecords (frame_of h t) clients w → GoesWith h (as_begun b) t w → HasRoomForCalls b → HasRoomForRound h w →
+        (orders : Orders) → ((p : Part) (e : ℕ) → IsFull (accepted (as_begun b) p e) (orders p e)) →
+        ArePartsInTable h (as_begun b) orders w → (es : List Event) (v : World) →
+        LeadsTo node_has_work node_steps (loaded w (batch_of h b)) es v → ArePartsInTable h b (with_done orders (done_in h v)) v }
+    ensures ended { (h : Header) (b : Book) → AreLegal h.settings → IsOfLines h b → (t : Division) (clients : ℕ → ClientReplica)
+        (w : World) → KeepsRecords (frame_of h t) clients w → GoesWith h (as_begun b) t w → HasRoomForCalls b → HasRoomForRound h w →
+        (orders : Orders) → ((p : Part) (e : ℕ) → IsFull (accepted (as_begun b) p e) (orders p e)) →
+        ArePartsInTable h (as_begun b) orders w → (v : World) (round : GoesThroughRound w (batch_of h b) v) →
+        round.gone ≡ (batch_of h b).destroys → IsQuiet node_has_work v →
+        ArePartsInTable h (with_round_ended b) (with_done orders (done_in h round.called)) v }
+{
+    seam_batches::lines_bring_what_fits();
+    seam_batches::uncreated_numbers_are_untouched();
+    seam_base_rounds::a_base_part_of_a_loaded_world_is_ready();
+    seam_places::the_last_phases_leave_places();
+    seam_laws::calls_obey_the_laws();
+    seam_laws::reaps_obey_the_laws();
+    what_lines_bring_fits();
+    a_book_goes_with_the_world_after_its_round();
+}
+
 /// And each place that the round leaves is one that the rules allow: settled, by the round's tree, where the entity was when the round began
 /// and after each call that it executed, whatever order of calls that was.
 pub fn places_are_those_that_the_rules_allow()
@@ -148,6 +174,13 @@ pub fn home_lines_are_those_of_the_rules()
     ensures { (h : Header) (b : Book) (tree : Division) (v : World) (t : Standing) → GoesWith h b tree v → AreInTable h b t.orders v →
         AreInPlace t.places v → (c : Create) (k : ℕ) (q : RealView) → real_in ((entity_flow c.entity v).slot k) ≡ Some q →
         live_as b c.entity ≡ Some c → IsBetweenRounds (frame_of h tree) v → home_read c.entity k q ≡ home_line h t c }
+{}
+
+/// So is the base line of its base part, whether it has a client or none.
+pub fn base_lines_are_those_of_the_rules()
+    ensures { (h : Header) (b : Book) (tree : Division) (v : World) (t : Standing) → GoesWith h b tree v → ArePartsInTable h b t.orders v →
+        (c : Create) (p : PartView) → ((entity_flow c.entity v).slot (base_node h c.entity)).base.part ≡ Some p →
+        live_as b c.entity ≡ Some c → base_read c.entity p ≡ base_line h t c }
 {}
 
 /// So are the ghost lines: a cell has a copy of such an entity exactly where the rules ask for a ghost, at the entity's public version.
