@@ -1,11 +1,9 @@
 -- After a round each base part is what the flat table has of it.
 use Rattle.std.proofs.Common.{◌≡◌, ℕ, ◌≤◌, List, [], ◌∷◌, ◌++◌, length, fold, Some, None}
-use Rattle.std.proofs.Common.{refl, sym, ap, ◌∙◌, subst, arith, inl, inr, length-append, ◌⊎◌}
+use Rattle.std.proofs.Common.{sym, ap, ◌∙◌, subst, arith, inl, inr, length-append, ◌⊎◌}
 use Rattle.std.specs.List.{AllByRecursion}
 use Rattle.std.proofs.lemmas.Option.{none-some}
 use Rattle.seam_tree.specs.Division.{Division}
-use Rattle.seam_machine.specs.Nets.{LeadsTo}
-use Rattle.seam_machine.specs.declared.machines.Event.{Event}
 use Rattle.seam_value.specs.declared.values.Value.{Value}
 use Rattle.seam_defs.specs.Deeds.{after}
 use Rattle.seam_defs.specs.Types.{type_of}
@@ -28,17 +26,13 @@ use Rattle.seam_batches.specs.Books.{as_begun}
 use Rattle.seam_batches.specs.Bringing.{IsPresent, Brings, IsUntouched}
 use Rattle.seam_batches.proofs.Present.{live_is_present}
 use Rattle.seam_batches.proofs.Untouched.{IsFromSender}
-use Rattle.seam_entity.specs.Reals.{RealView}
 use Rattle.seam_steps.specs.Bases.{PartView}
 use Rattle.seam_steps.specs.Holders.{holders}
 use Rattle.seam_steps.specs.Loads.{loaded}
-use Rattle.seam_steps.specs.Nodes.{World, node_steps, node_has_work}
+use Rattle.seam_steps.specs.Nodes.{World}
 use Rattle.seam_moves.specs.Frames.{here_at}
 use Rattle.seam_moves.specs.Sights.{entity_flow}
-use Rattle.seam_ones.specs.Ones.{real_in}
-use Rattle.seam_between.proofs.Framing.{in_frame}
 use Rattle.seam_rounds.proofs.Shape.{Somewhere, Nowhere}
-use Rattle.seam_base_rounds.specs.Parts.{HasSettledPart}
 use Rattle.seam_replica.specs.Clients.{ClientReplica}
 use Rattle.seam_laws.specs.Records.{KeepsRecords, MayBeGiven}
 use Rattle.seam_legal.specs.Going.{frame_of, base_node, GoesWith, HasRoomForCalls}
@@ -48,7 +42,7 @@ use Rattle.seam_legal.proofs.Fitting.{others_none, made_is, new_number, part_typ
 use Rattle.seam_legal.proofs.Started.{part_comes, no_one}
 use Rattle.seam_legal.proofs.Accounts.{done_deed, flat_more}
 use Rattle.seam_legal.proofs.Table.{none_ordered}
-use Rattle.seam_legal.proofs.Bases.{Became, part_leads}
+use Rattle.seam_legal.proofs.Bases.{Became}
 
 -- what a deed makes of values does not depend on the position
 module _ (t : TypeDef) where

@@ -44,10 +44,13 @@ ghost_read e k (Some c) = record { entity = e; cell = k; version = c.version } �
 abbrev pub ghosts_read : ℕ → World → List GhostLine
 ghosts_read e w = flat_map (λ k. ghost_read e k (copy_at e w k)) cell_numbers
 
--- what clients show after the round: what they were shown to the end of its calls, and then one look
+-- what clients show after the calls of a round: what they were shown since its load
+abbrev pub clients_called : Header → Division → (ℕ → ClientReplica) → Book → World → ℕ → ClientReplica
+clients_called h t clients b u =
+    let f = frame_of h t in
+    clients_shown (framed f (batch_of h b)) (clients_loaded f (batch_of h b) clients) u
+
+-- and after the round: then they were shown one look
 abbrev pub clients_ended : (h : Header) → Division → (ℕ → ClientReplica) → (w : World) (b : Book) (v : World) →
     GoesThroughRound w (batch_of h b) v → ℕ → ClientReplica
-clients_ended h t clients w b v round =
-    let f = frame_of h t in
-    let batch = batch_of h b in
-    clients_looked (clients_shown (framed f batch) (clients_loaded f batch clients) round.called) round.reaped
+clients_ended h t clients w b v round = clients_looked (clients_called h t clients b round.called) round.reaped

@@ -5,7 +5,6 @@ use Rattle.seam_accept.specs.Batches.{batch_of}
 use Rattle.seam_batches.specs.Books.{as_begun}
 use Rattle.seam_batches.specs.Bringing.{IsUntouched}
 use Rattle.seam_batches.proofs.Untouched.{orderly}
-use Rattle.seam_steps.specs.Bases.{PartView}
 use Rattle.seam_steps.specs.Loads.{loaded}
 use Rattle.seam_between.specs.Between.{framed}
 use Rattle.seam_between.proofs.Framing.{in_frame}
