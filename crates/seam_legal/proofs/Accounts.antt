@@ -35,14 +35,18 @@ module _ (t : TypeDef) where
   done_after a [] = sym (append-nil a.done)
   done_after a (k ∷ ks) = done_after (after_call t a k) ks ∙ append_assoc a.done (k ∷ []) ks
 
--- the flat table after all of an order, and one more
+-- the flat table after all of an order, and more
+pub flat_more : (h : Header) (p : Part) (c : Create) (order more : List CallData) →
+    flat h p c (order ++ more) (length (order ++ more)) ≡ fold (done_deed (type_of h.defs c.ty)) (flat h p c order (length order)) more
+flat_more h p c order more =
+    let deed = done_deed (type_of h.defs c.ty) in
+    ap (fold deed (first_state h p c)) (take_all (length (order ++ more)) (order ++ more) (omega arith))
+    ∙ fold-append deed (first_state h p c) order more
+    ∙ ap (λ l. fold deed (fold deed (first_state h p c) l) more) (sym (take_all (length order) order (omega arith)))
+
 pub one_more : (h : Header) (p : Part) (c : Create) (order : List CallData) (k : CallData) →
     flat h p c (order ++ k ∷ []) (length (order ++ k ∷ [])) ≡ done_deed (type_of h.defs c.ty) (flat h p c order (length order)) k
-one_more h p c order k =
-    let deed = done_deed (type_of h.defs c.ty) in
-    ap (fold deed (first_state h p c)) (take_all (length (order ++ k ∷ [])) (order ++ k ∷ []) (omega arith))
-    ∙ fold-append deed (first_state h p c) order (k ∷ [])
-    ∙ ap (λ l. deed (fold deed (first_state h p c) l) k) (sym (take_all (length order) order (omega arith)))
+one_more h p c order k = flat_more h p c order (k ∷ [])
 
 module _ (h : Header) (c : Create) where
   abbrev its_type : TypeDef

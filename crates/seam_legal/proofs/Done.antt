@@ -160,39 +160,39 @@ module _ (h : Header) (some : 1 ≤ h.settings.bases) (b : Book) (t : Division) 
 
   -- what an entity's part executed was done on it
   module _ (e k : ℕ) (q : RealView) (at : real_in ((entity_flow e v).slot k) ≡ Some q) (c : Create) (is_there : IsPresent b e c) (p : Part)
-      where
-    abbrev Its : CallData → Type 0
-    Its = IsDoneOn p (type_of h.defs c.ty)
+    where
+      abbrev Its : CallData → Type 0
+      Its = IsDoneOn p (type_of h.defs c.ty)
 
-    same_type : (m : Create) → IsPresent b e m → m.ty ≡ c.ty
-    same_type m also =
-        let was = began_by e k q at (search_real e (loaded w B)) in
-        let type = type_by h b t w keeps.reals goes R untouched e was.0 was.1
-        (real_comes h some b t clients w keeps may goes R untouched few present e was.0 was.1 was.2) in
-        sym (type m also) ∙ type c is_there
+      same_type : (m : Create) → IsPresent b e m → m.ty ≡ c.ty
+      same_type m also =
+          let was = began_by e k q at (search_real e (loaded w B)) in
+          let type = type_by h b t w keeps.reals goes R untouched e was.0 was.1
+          (real_comes h some b t clients w keeps may goes R untouched few present e was.0 was.1 was.2) in
+          sym (type m also) ∙ type c is_there
 
-    is_done_on : (x : CallData) → IsFitCall h b x → is_for p e x ≡ true → Its x
-    is_done_on x fit is =
-        let for_it = both (x.entity == e) (same_part x.part p) is in
-        let made = fit.made in
-        sym (part_by x.part p for_it.1) ∙ fit.part ∙ ap (λ y. part_of_deed (type_of h.defs y) x.deed)
-        (same_type made (subst (λ d. IsPresent b d made) (eqb-true x.entity e for_it.0) fit.present))
+      is_done_on : (x : CallData) → IsFitCall h b x → is_for p e x ≡ true → Its x
+      is_done_on x fit is =
+          let for_it = both (x.entity == e) (same_part x.part p) is in
+          let made = fit.made in
+          sym (part_by x.part p for_it.1) ∙ fit.part ∙ ap (λ y. part_of_deed (type_of h.defs y) x.deed)
+          (same_type made (subst (λ d. IsPresent b d made) (eqb-true x.entity e for_it.0) fit.present))
 
-    kept_call : (n : ℕ) (x : CallData) (cs : List CallData) (y : Bool) → (is_for p e x && (rank_of x.sender == n)) ≡ y → IsFitCall h b x →
-        AllByRecursion Its cs → AllByRecursion Its (cond y (x ∷ cs) cs)
-    kept_call n x cs true is fit all = (is_done_on x fit (both (is_for p e x) (rank_of x.sender == n) is).0, all)
-    kept_call n x cs false is fit all = all
+      kept_call : (n : ℕ) (x : CallData) (cs : List CallData) (y : Bool) → (is_for p e x && (rank_of x.sender == n)) ≡ y → IsFitCall h b x →
+          AllByRecursion Its cs → AllByRecursion Its (cond y (x ∷ cs) cs)
+      kept_call n x cs true is fit all = (is_done_on x fit (both (is_for p e x) (rank_of x.sender == n) is).0, all)
+      kept_call n x cs false is fit all = all
 
-    called_from : (n : ℕ) (cs : List CallData) → AllByRecursion (IsFitCall h b) cs → AllByRecursion Its (calls_from p e n cs)
-    called_from n [] all = tt
-    called_from n (x ∷ cs) all =
-        kept_call n x (calls_from p e n cs) (is_for p e x && (rank_of x.sender == n)) refl all.0 (called_from n cs all.1)
+      called_from : (n : ℕ) (cs : List CallData) → AllByRecursion (IsFitCall h b) cs → AllByRecursion Its (calls_from p e n cs)
+      called_from n [] all = tt
+      called_from n (x ∷ cs) all =
+          kept_call n x (calls_from p e n cs) (is_for p e x && (rank_of x.sender == n)) refl all.0 (called_from n cs all.1)
 
-    pub done_on : AllByRecursion Its (done_in h v p e)
-    done_on =
-        all_by_place Its (done_in h v p e)
-        (λ n. subst (AllByRecursion Its) (sym (sym (letters_are_of_place n (done_in h v p e)) ∙ executed p e n))
-        (called_from n (calls_of b.current) R.calls))
+      pub done_on : AllByRecursion Its (done_in h v p e)
+      done_on =
+          all_by_place Its (done_in h v p e)
+          (λ n. subst (AllByRecursion Its) (sym (sym (letters_are_of_place n (done_in h v p e)) ∙ executed p e n))
+          (called_from n (calls_of b.current) R.calls))
 
   pub all_executed : (orders : Orders) → ((p : Part) (e : ℕ) → IsFull (accepted (as_begun b) p e) (orders p e)) → (p : Part) (e : ℕ) →
       IsFull (accepted b p e) (with_done orders (done_in h v) p e)

@@ -155,21 +155,22 @@ module _ (h : Header) (b : Book) (t : Division) (w : World) (between : IsBetween
     pub part_is : held_with.base ≡ q
     part_is = let z = sym held_with.base_here ∙ at in cc
 
-  pub part_type_by : (e : ℕ) (p : PartView) → PartFrom w xs e (home e) p → (c : Create) → IsPresent b e c → p.ty ≡ c.ty
-  part_type_by e p (had others q at ty orders) c (inl lives) =
-      ty ∙ sym (ap (λ (y : PartView). y.ty) (part_is e q at c lives)) ∙ (held_with e q at c lives).base_type
-  part_type_by e p (had others q at ty orders) c (inr now) = absurd (none-some c (sym (others_none e xs others) ∙ now))
-  part_type_by e p (comes x i ty orders) c (inl lives) = absurd (not_lived e x c i lives)
-  part_type_by e p (comes x i ty orders) c (inr now) = ty ∙ ap (λ (y : Create). y.ty) (made_is e xs x c i now)
+  pub part_type_by : (e : ℕ) (p : PartView) → PartFrom (frame_of h t) w xs e (home e) p → (c : Create) → IsPresent b e c → p.ty ≡ c.ty
+  part_type_by e p (had others q x at is) c (inl lives) =
+      sym (ap (λ (y : PartView). y.ty) is) ∙ sym (ap (λ (y : PartView). y.ty) (part_is e q at c lives)) ∙ (held_with e q at c lives).base_type
+  part_type_by e p (had others q x at is) c (inr now) = absurd (none-some c (sym (others_none e xs others) ∙ now))
+  part_type_by e p (comes x i y is) c (inl lives) = absurd (not_lived e x c i lives)
+  part_type_by e p (comes x i y is) c (inr now) =
+      sym (ap (λ (z : PartView). z.ty) is) ∙ ap (λ (z : Create). z.ty) (made_is e xs x c i now)
 
-  pub next_to_by : (e : ℕ) (p : PartView) → PartFrom w xs e (home e) p → (s : ℕ) →
+  pub next_to_by : (e : ℕ) (p : PartView) → PartFrom (frame_of h t) w xs e (home e) p → (s : ℕ) →
       next_to s p ≡ last_number (as_begun b) part.Base e s + 1
-  next_to_by e p (had others q at ty orders) s =
+  next_to_by e p (had others q x at is) s =
       let l = goes.parts e (home e) q at in
-      ap (λ os. (order_or (table.get os s)).next) orders ∙ sym (ap (next_to s) (part_is e q at l.0 l.1))
+      sym (ap (next_to s) is) ∙ sym (ap (next_to s) (part_is e q at l.0 l.1))
       ∙ (held_with e q at l.0 l.1).base_calls s
-  next_to_by e p (comes x i ty orders) s =
-      ap (λ os. (order_or (table.get os s)).next) orders ∙ ap (λ o. (order_or o).next) (table.get-empty nat_cmp s)
+  next_to_by e p (comes x i y is) s =
+      sym (ap (next_to s) is) ∙ ap (λ o. (order_or o).next) (table.get-empty nat_cmp s)
       ∙ ap (λ n. n + 1) (sym (no_last part.Base e s (new_number e x i)))
 
   -- ---- clients

@@ -1,14 +1,13 @@
 -- A client of a round has a witness at the round's end, and had it before the look.
-use Rattle.std.proofs.Common.{◌≡◌, ℕ, List, Bool, true, Option, None, Some, refl, sym, ap, ◌∙◌, inl, inr}
+use Rattle.std.proofs.Common.{◌≡◌, ℕ, List, true, Option, None, Some, refl, sym, ap, ◌∙◌, inl, inr}
 use Rattle.std.specs.Prelude.{is_some, IsTrue, not, ◌&&◌}
 use Rattle.std.specs.List.{list_any}
 use Rattle.std.proofs.lemmas.Bool.{cases_eq}
 use Rattle.seam_tree.specs.Division.{Division}
 use Rattle.seam_machine.specs.Nets.{LeadsTo}
 use Rattle.seam_machine.specs.declared.machines.Event.{Event}
-use Rattle.seam_call.specs.declared.create.Create.{Create}
 use Rattle.seam_toml.specs.declared.header.Header.{Header}
-use Rattle.seam_transcript.specs.Book.{Book, entries, created_as, joins, live_as, has_client, was_dead, is_shown, with_round_ended}
+use Rattle.seam_transcript.specs.Book.{Book, entries, created_as, joins, was_dead, is_shown, with_round_ended}
 use Rattle.seam_entity.specs.Reals.{RealView, WitnessView}
 use Rattle.seam_steps.specs.Nodes.{World, node_steps, node_has_work}
 use Rattle.seam_steps.specs.Loads.{look_loaded}

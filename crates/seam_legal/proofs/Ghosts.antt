@@ -5,7 +5,6 @@ use Rattle.std.specs.Prelude.{filter}
 use Rattle.std.specs.FinSet as set
 use Rattle.std.specs.List.{flat_map, range_with_len}
 use Rattle.seam_tree.specs.Division.{Division, cells_of}
-use Rattle.seam_haunt.specs.Places.{Place}
 use Rattle.seam_defs.specs.declared.flags.Part.TheVariants as part
 use Rattle.seam_call.specs.declared.create.Create.{Create}
 use Rattle.seam_call.specs.declared.shown.GhostCopy.{GhostCopy}

@@ -17,3 +17,5 @@ mod Placing
 mod Ghosts
 mod Rows
 mod Further
+mod Bases
+mod PartsTable

@@ -9,7 +9,7 @@ use Rattle.seam_call.specs.declared.create.Create.{Create}
 use Rattle.seam_call.specs.declared.order.Batch.{Batch}
 use Rattle.seam_entity.specs.Reals.{RealView, WitnessView}
 use Rattle.seam_entity.specs.Executing.{created, real_begins}
-use Rattle.seam_steps.specs.Bases.{PartView}
+use Rattle.seam_steps.specs.Bases.{PartView, ProxyView}
 use Rattle.seam_steps.specs.Nodes.{NodeView, World}
 use Rattle.seam_steps.specs.Loads.{new_part, part_begins, loaded}
 use Rattle.seam_moves.specs.Frames.{Frame, here_at}
@@ -39,10 +39,11 @@ pub data RealFrom (w : World) (xs : List Create) (e k : ℕ) (r : RealView) : Ty
   made : (x : Create) → IsCreate e xs x → r.ty ≡ x.ty → r.orders ≡ table.empty → RealFrom w xs e k r
 
 -- and a base part
-pub data PartFrom (w : World) (xs : List Create) (e k : ℕ) (p : PartView) : Type 0 where
-  had : AreOthers e xs → (q : PartView) → ((entity_flow e w).slot k).base.part ≡ Some q → p.ty ≡ q.ty → p.orders ≡ q.orders
-      → PartFrom w xs e k p
-  comes : (x : Create) → IsCreate e xs x → p.ty ≡ x.ty → p.orders ≡ table.empty → PartFrom w xs e k p
+pub data PartFrom (f : Frame) (w : World) (xs : List Create) (e k : ℕ) (p : PartView) : Type 0 where
+  had : AreOthers e xs → (q : PartView) (x : Option ProxyView) → ((entity_flow e w).slot k).base.part ≡ Some q
+      → record (part_begins q) { proxy = x } ≡ p → PartFrom f w xs e k p
+  comes : (x : Create) → IsCreate e xs x → (y : Option ProxyView) → record (new_part (here_at f k) x.ty) { proxy = y } ≡ p
+      → PartFrom f w xs e k p
 
 module _ (f : Frame) (w : World) (b : Batch) (between : IsBetweenRounds f w) (tree : IsTree b.tree)
     (creates : AllByRecursion (MayBeMade f w) b.creates) (spares : AllByRecursion (λ o. reaped_by_order o.1 ≡ None) b.orders) where
@@ -96,28 +97,28 @@ module _ (f : Frame) (w : World) (b : Batch) (between : IsBetweenRounds f w) (tr
   -- ---- base parts
 
   part_by : (o : Option PartView) (p : Option PartView) → SamePart (option_map part_begins o) p → (a : PartView) → p ≡ Some a →
-      (q : PartView) × (o ≡ Some q) × (a.ty ≡ q.ty) × (a.orders ≡ q.orders)
+      (q : PartView) × (o ≡ Some q) × (x : Option ProxyView) × (record (part_begins q) { proxy = x } ≡ a)
   part_by None p same a at = absurd (let z = sym same ∙ at in cc)
   part_by (Some q) p same a at =
-      let is : record (part_begins q) { proxy = same.0 } ≡ a = (let z = sym same.1 ∙ at in cc) in
-      (q, refl, sym (ap (λ (y : PartView). y.ty) is), sym (ap (λ (y : PartView). y.orders) is))
+      (q, refl, same.0, let z = sym same.1 ∙ at in cc)
 
   stays_at : (e k : ℕ) → AreOthers e b.creates → (o : Option NodeView) → (p : PartView) →
       (slot_at (has_of e) has_none (option_map (node_loaded b) o)).base.part ≡ Some p →
-      (q : PartView) × ((slot_at (has_of e) has_none o).base.part ≡ Some q) × (p.ty ≡ q.ty) × (p.orders ≡ q.orders)
+      (q : PartView) × ((slot_at (has_of e) has_none o).base.part ≡ Some q) × (x : Option ProxyView)
+      × (record (part_begins q) { proxy = x } ≡ p)
   stays_at e k others None p here = absurd (let z = here in cc)
   stays_at e k others (Some s) p here = part_by (has_of e s).base.part (has_of e (node_loaded b s)).base.part (part_stays e b others s) p here
 
   new_part_by : (k : ℕ) (x : Create) (c : Bool) (p : Option PartView) →
-      SamePart (cond c (Some (new_part (here_at f k) x.ty)) None) p → (a : PartView) → p ≡ Some a → (a.ty ≡ x.ty) × (a.orders ≡ table.empty)
-  new_part_by k x true p same a at =
-      let is : record (new_part (here_at f k) x.ty) { proxy = same.0 } ≡ a = (let z = sym same.1 ∙ at in cc) in
-      (sym (ap (λ (y : PartView). y.ty) is), sym (ap (λ (y : PartView). y.orders) is))
+      SamePart (cond c (Some (new_part (here_at f k) x.ty)) None) p → (a : PartView) → p ≡ Some a →
+      (y : Option ProxyView) × (record (new_part (here_at f k) x.ty) { proxy = y } ≡ a)
+  new_part_by k x true p same a at = (same.0, let z = sym same.1 ∙ at in cc)
   new_part_by k x false p same a at = absurd (let z = sym same ∙ at in cc)
 
   comes_at : (k : ℕ) (x : Create) (first later : List Create) → b.creates ≡ first ++ x ∷ later → AreOthers x.entity first →
       AreOthers x.entity later → (o : Option NodeView) → slice_get w.nodes k ≡ o → (p : PartView) →
-      (slot_at (has_of x.entity) has_none (option_map (node_loaded b) o)).base.part ≡ Some p → (p.ty ≡ x.ty) × (p.orders ≡ table.empty)
+      (slot_at (has_of x.entity) has_none (option_map (node_loaded b) o)).base.part ≡ Some p →
+      (y : Option ProxyView) × (record (new_part (here_at f k) x.ty) { proxy = y } ≡ p)
   comes_at k x first later is others more None at p here = absurd (let z = here in cc)
   comes_at k x first later is others more (Some s) at p here =
       let may = middle (MayBeMade f w) first x later (subst (AllByRecursion (MayBeMade f w)) is creates) in
@@ -125,10 +126,10 @@ module _ (f : Frame) (w : World) (b : Batch) (between : IsBetweenRounds f w) (tr
       (part_comes f k x b first later is others more s (between.nodes.nodes k s at)
       (ap (λ h. h.base.part) (sym (ap (slot_at (has_of x.entity) has_none) at) ∙ may.new k))) p here
 
-  part_from_by : (e k : ℕ) (p : PartView) → Creation e b.creates → ((entity_flow e (loaded w b)).slot k).base.part ≡ Some p → PartFrom w b.creates e k p
+  part_from_by : (e k : ℕ) (p : PartView) → Creation e b.creates → ((entity_flow e (loaded w b)).slot k).base.part ≡ Some p → PartFrom f w b.creates e k p
   part_from_by e k p (nowhere others) here =
       let q = stays_at e k others (slice_get w.nodes k) p (sym (ap (λ h. h.base.part) (slot_is w b e k)) ∙ here) in
-      had others q.0 q.1 q.2 q.3
+      had others q.0 q.2 q.1 q.3
   part_from_by e k p (once first x later is at others more) here =
       let o = subst (λ d. AreOthers d first) (sym at) others in
       let m = subst (λ d. AreOthers d later) (sym at) more in
@@ -137,5 +138,5 @@ module _ (f : Frame) (w : World) (b : Batch) (between : IsBetweenRounds f w) (tr
       comes x (record { before = first; later = later; is = is; entity = at; first = others; last = more }) two.0 two.1
 
   pub part_from : IsDistinct eqb (map created_entity b.creates) → (e k : ℕ) (p : PartView) →
-      ((entity_flow e (loaded w b)).slot k).base.part ≡ Some p → PartFrom w b.creates e k p
+      ((entity_flow e (loaded w b)).slot k).base.part ≡ Some p → PartFrom f w b.creates e k p
   part_from one e k p here = part_from_by e k p (creation_of e b.creates one) here

@@ -46,6 +46,8 @@ tick = (cell_count, order.Tick)
 pub record IsButClient (p q : PartView) : Type 0 where
   pub type : q.ty ≡ p.ty
   pub orders : q.orders ≡ p.orders
+  pub version : q.version ≡ p.version
+  pub state : q.state ≡ p.state
   pub client : is_some q.proxy ≡ is_some p.proxy
 
 -- ---- a client stays
@@ -122,6 +124,8 @@ module _ (f : Frame) (u : World) (between : IsBetweenRounds f u) (v : World) (es
       record {
         type = sym (ap (λ (y : PartView). y.ty) same);
         orders = sym (ap (λ (y : PartView). y.orders) same);
+        version = sym (ap (λ (y : PartView). y.version) same);
+        state = sym (ap (λ (y : PartView). y.state) same);
         client = client_stays f e (look_loaded u) v es then_frame starts.spared run (home_of f e) h.part
             (same_parts (home_of f e) ∙ h.here) (λ j n. same_parts j ∙ h.others j n) q there;
       }

@@ -4,7 +4,6 @@ use Rattle.std.proofs.Common.{Option, Some, None, refl, sym, ap, ◌∙◌, subs
 use Rattle.std.specs.Prelude.{◌==◌, ◌||◌}
 use Rattle.std.specs.List.{AllByRecursion, list_any, range_with_len}
 use Rattle.std.proofs.Math.Seq.{take-length, take-append_seam}
-use Rattle.std.proofs.lemmas.List.Sums.{fold-append}
 use Rattle.seam_tree.specs.Division.{Division}
 use Rattle.seam_haunt.specs.Places.{Place, IsPlaceAfter}
 use Rattle.seam_defs.specs.Types.{type_of}

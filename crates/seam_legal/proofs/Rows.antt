@@ -1,5 +1,5 @@
 -- The flat table of a world is that of the rules.
-use Rattle.std.proofs.Common.{◌≡◌, ℕ, zero, suc, ◌+◌, ◌-◌, ◌⊎◌, Bool, true, false, cond, eqb, T, List, [], ◌∷◌, map, length, Option, Some, None}
+use Rattle.std.proofs.Common.{◌≡◌, ℕ, zero, suc, ◌-◌, ◌⊎◌, Bool, true, false, cond, eqb, T, List, [], ◌∷◌, map, length, Some, None}
 use Rattle.std.proofs.Common.{refl, sym, ap, ◌∙◌, subst, arith, inl, inr}
 use Rattle.std.specs.Prelude.{Contains, not, ◌&&◌}
 use Rattle.std.specs.List.{AllByRecursion, flat_map}
@@ -33,8 +33,6 @@ use Rattle.seam_transcript.proofs.Lists.{contains_first, contains_later, contain
 use Rattle.seam_entity.specs.Reals.{RealView}
 use Rattle.seam_steps.specs.Nodes.{World}
 use Rattle.seam_moves.specs.Frames.{here_at}
-use Rattle.seam_moves.specs.Sights.{entity_flow}
-use Rattle.seam_ones.specs.Ones.{real_in}
 use Rattle.seam_between.specs.Between.{IsBetweenRounds}
 use Rattle.seam_ones.proofs.Holds.{both as both_hold}
 use Rattle.seam_rounds.proofs.Shape.{Somewhere, Nowhere, search_real}

@@ -36,7 +36,7 @@ module _ (h : Header) (some : 1 ≤ h.settings.bases) (b : Book) (t : Division) 
   pub real_comes : (e k : ℕ) (r : RealView) → real_in ((entity_flow e (loaded w B)).slot k) ≡ Some r → RealFrom w B.creates e k r
   real_comes = real_from (frame_of h t) w B keeps.reals may.reals.tree may.reals.creates may.reals.spares may.reals.once
 
-  pub part_comes : (e k : ℕ) (p : PartView) → ((entity_flow e (loaded w B)).slot k).base.part ≡ Some p → PartFrom w B.creates e k p
+  pub part_comes : (e k : ℕ) (p : PartView) → ((entity_flow e (loaded w B)).slot k).base.part ≡ Some p → PartFrom (frame_of h t) w B.creates e k p
   part_comes = part_from (frame_of h t) w B keeps.reals may.reals.tree may.reals.creates may.reals.spares may.reals.once
 
   pub made_now : (e : ℕ) (x : Create) → IsCreate e B.creates x → made_among B.creates e ≡ Some x
@@ -48,7 +48,7 @@ module _ (h : Header) (some : 1 ≤ h.settings.bases) (b : Book) (t : Division) 
     mail = λ x y. ap (letters_of real_of) (no_mail (frame_of h t) w B keeps.reals may.reals e x y);
   })
 
-  no_one : (e : ℕ) → Nowhere e (loaded w B) → holders (loaded w B) e ≡ 1 → ⊥
+  pub no_one : (e : ℕ) → Nowhere e (loaded w B) → holders (loaded w B) e ≡ 1 → ⊥
   no_one e n one = let zero_ = nobody e n in omega (arith, one, zero_)
 
   pub no_part_there : (e : ℕ) → Nowhere e (loaded w B) → (k : ℕ) (o : Option PartView) →
@@ -56,8 +56,8 @@ module _ (h : Header) (some : 1 ≤ h.settings.bases) (b : Book) (t : Division) 
   no_part_there e n k None at = refl
   no_part_there e n k (Some p) at = absurd (by (part_comes e k p at))
     where
-      by : PartFrom w B.creates e k p → ⊥
-      by (had others q there ty orders) =
+      by : PartFrom (frame_of h t) w B.creates e k p → ⊥
+      by (had others q x there is) =
           let l = goes.parts e k q there in
           no_one e n (present e l.0 (inl l.1))
-      by (comes x i ty orders) = no_one e n (present e x (inr (made_now e x i)))
+      by (comes x i y is) = no_one e n (present e x (inr (made_now e x i)))

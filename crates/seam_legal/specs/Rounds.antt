@@ -43,8 +43,19 @@ pub record IsInTable (h : Header) (made : Create) (order : List Call) (r : RealV
   pub state : r.state ≡ flat h part.Cell made order (length order)
   pub public : r.public ≡ public_at h made order (length order)
 
+-- the base part is; the position of its state means nothing
+pub record IsPartInTable (h : Header) (made : Create) (order : List Call) (p : PartView) : Type 0 where
+  pub version : p.version ≡ length order
+  pub props : p.state.props ≡ (flat h part.Base made order (length order)).props
+
 -- each real of an entity that lives in the book is that, by these orders
 abbrev pub AreInTable : Header → Book → Orders → World → Type 0
 AreInTable h b orders w =
     (e k : ℕ) (r : RealView) (made : Create) → real_in ((entity_flow e w).slot k) ≡ Some r → live_as b e ≡ Some made →
     IsInTable h made (orders part.Cell e) r
+
+-- and so is each base part
+abbrev pub ArePartsInTable : Header → Book → Orders → World → Type 0
+ArePartsInTable h b orders w =
+    (e : ℕ) (p : PartView) (made : Create) → ((entity_flow e w).slot (base_node h e)).base.part ≡ Some p → live_as b e ≡ Some made →
+    IsPartInTable h made (orders part.Base e) p

@@ -1,11 +1,12 @@
--- Where a standing has the entities of a world, the home lines and ghost lines that are read off one, and what clients show.
+-- Where a standing has the entities of a world, the home, base and ghost lines that are read off one, and what clients show.
 use Rattle.std.specs.Prelude.{◌≡◌, ℕ, List, [], ◌∷◌, Option, None, Some}
 use Rattle.std.specs.List.{flat_map}
 use Rattle.seam_haunt.specs.Places.{Place}
 use Rattle.seam_call.specs.declared.shown.GhostCopy.{GhostCopy}
-use Rattle.seam_transcript.specs.Round.{HomeLine}
+use Rattle.seam_transcript.specs.Round.{HomeLine, BaseLine}
 use Rattle.seam_entity.specs.Here.{cell_numbers}
 use Rattle.seam_entity.specs.Reals.{RealView}
+use Rattle.seam_steps.specs.Bases.{PartView}
 use Rattle.seam_steps.specs.Nodes.{World}
 use Rattle.seam_moves.specs.Sights.{entity_flow}
 use Rattle.seam_ones.specs.Ones.{real_in}
@@ -30,6 +31,10 @@ AreInPlace places w = (e k : ℕ) (r : RealView) → real_in ((entity_flow e w).
 abbrev pub home_read : ℕ → ℕ → RealView → HomeLine
 home_read e k r = record { entity = e; ty = r.ty; cell = k; version = r.version; state = r.state }
 
+-- the base line of a base part
+abbrev pub base_read : ℕ → PartView → BaseLine
+base_read e p = record { entity = e; ty = p.ty; version = p.version; props = p.state.props }
+
 -- the ghost line of the copy that a cell has of an entity, if it has one
 abbrev pub ghost_read : ℕ → ℕ → Option GhostCopy → List GhostLine
 ghost_read e k None = []
@@ -39,10 +44,13 @@ ghost_read e k (Some c) = record { entity = e; cell = k; version = c.version } �
 abbrev pub ghosts_read : ℕ → World → List GhostLine
 ghosts_read e w = flat_map (λ k. ghost_read e k (copy_at e w k)) cell_numbers
 
--- what clients show after the round: what they were shown to the end of its calls, and then one look
+-- what clients show after the calls of a round: what they were shown since its load
+abbrev pub clients_called : Header → Division → (ℕ → ClientReplica) → Book → World → ℕ → ClientReplica
+clients_called h t clients b u =
+    let f = frame_of h t in
+    clients_shown (framed f (batch_of h b)) (clients_loaded f (batch_of h b) clients) u
+
+-- and after the round: then they were shown one look
 abbrev pub clients_ended : (h : Header) → Division → (ℕ → ClientReplica) → (w : World) (b : Book) (v : World) →
     GoesThroughRound w (batch_of h b) v → ℕ → ClientReplica
-clients_ended h t clients w b v round =
-    let f = frame_of h t in
-    let batch = batch_of h b in
-    clients_looked (clients_shown (framed f batch) (clients_loaded f batch clients) round.called) round.reaped
+clients_ended h t clients w b v round = clients_looked (clients_called h t clients b round.called) round.reaped

@@ -4,14 +4,15 @@
 //! when the world has gone through the round, the book with its round ended goes with it again.
 #![tactic(auto)]
 
-ghost use Rattle.std.specs.Prelude.{◌≡◌, ℕ, List, [], Some, IsTrue};
+ghost use Rattle.std.specs.Prelude.{◌≡◌, ℕ, List, [], ◌++◌, Some, IsTrue};
 ghost use Rattle.seam_defs.specs.Settings.{AreLegal};
 ghost use Rattle.seam_defs.specs.Types.{AreDefs};
 ghost use Rattle.seam_tree.specs.Division.{Division};
 ghost use Rattle.seam_machine.specs.Nets.{IsQuiet, LeadsTo};
 ghost use Rattle.seam_machine.specs.declared.machines.Event.{Event};
 ghost use Rattle.seam_toml.specs.declared.header.Header.{Header};
-ghost use Rattle.seam_transcript.specs.Book.{Book, empty_book, one_cell, with_round_ended, with_tree, tree_of, created_as, live_as, is_shown, accepted};
+ghost use Rattle.seam_transcript.specs.Book.{Book, empty_book, one_cell, with_round_ended, with_tree, tree_of, created_as, live_as};
+ghost use Rattle.seam_transcript.specs.Book.{is_shown, accepted};
 ghost use Rattle.seam_transcript.specs.Orders.{Orders, IsFull};
 ghost use Rattle.seam_transcript.specs.Round.{Lists, ExtendsOrders, done_lines};
 ghost use Rattle.seam_defs.specs.declared.flags.Part.{Part};
@@ -19,25 +20,27 @@ ghost use Rattle.seam_call.specs.declared.create.Create.{Create};
 ghost use Rattle.seam_accept.specs.Batches.{batch_of};
 ghost use Rattle.seam_batches.specs.Books.{IsOfLines, MayReplace, as_begun};
 ghost use Rattle.seam_steps.specs.Loads.{opened, loaded};
+ghost use Rattle.seam_steps.specs.Bases.{PartView};
 ghost use Rattle.seam_steps.specs.Nodes.{World, node_steps, node_has_work};
 ghost use Rattle.seam_rounds.specs.Rounds.{AreReapable};
 ghost use Rattle.seam_places.specs.Places.{GoesThroughRound};
 ghost use Rattle.seam_newest.specs.Copies.{AreCopiesBetweenRounds};
 ghost use Rattle.seam_replica.specs.Clients.{ClientReplica};
 ghost use Rattle.seam_replica.specs.Looks.{one_look};
+ghost use Rattle.seam_laws.specs.Looks.{shown_to};
 ghost use Rattle.seam_laws.specs.Records.{KeepsRecords, MayBeGiven};
 ghost use Rattle.seam_entity.specs.Reals.{RealView};
 ghost use Rattle.seam_moves.specs.Sights.{entity_flow};
 ghost use Rattle.seam_ones.specs.Ones.{real_in};
 ghost use Rattle.seam_rules.specs.Standing.{Standing};
 ghost use Rattle.seam_rules.specs.Places.{HasPlace};
-ghost use Rattle.seam_rules.specs.Round.{home_line, ghost_lines};
+ghost use Rattle.seam_rules.specs.Round.{home_line, base_line, ghost_lines};
 ghost use Rattle.seam_between.specs.Between.{IsBetweenRounds};
 ghost use Rattle.seam_looks.specs.Tables as world;
 ghost use Rattle.seam_rules.specs.FlatTable.{rows_of};
-ghost use Rattle.seam_legal.specs.Standings.{AreInPlace, home_read, ghosts_read, clients_ended};
-ghost use Rattle.seam_legal.specs.Rounds.{done_in, with_done, AreInTable};
-ghost use Rattle.seam_legal.specs.Going.{frame_of, GoesWith, HasRoomForCalls, HasRoomForRound};
+ghost use Rattle.seam_legal.specs.Standings.{AreInPlace, home_read, base_read, ghosts_read, clients_called, clients_ended};
+ghost use Rattle.seam_legal.specs.Rounds.{done_in, with_done, AreInTable, ArePartsInTable};
+ghost use Rattle.seam_legal.specs.Going.{frame_of, base_node, GoesWith, HasRoomForCalls, HasRoomForRound};
 
 /// A book without lines goes with a world as it is opened for the same header.
 pub fn an_empty_book_goes_with_an_opened_world()
@@ -123,6 +126,31 @@ pub fn reals_are_those_of_the_flat_table()
     what_lines_bring_fits();
 }
 
+/// And so is each base part of an entity that lives, with or without a client: after every list of events of the calls (`called`), and at
+/// the end of the round (`ended`).
+pub fn base_parts_are_those_of_the_flat_table()
+    ensures called { (h : Header) (b : Book) → AreLegal h.settings → IsOfLines h b → (t : Division) (clients : ℕ → ClientReplica)
+        (w : World) → KeepsRecords (frame_of h t) clients w → GoesWith h (as_begun b) t w → HasRoomForCalls b → HasRoomForRound h w →
+        (orders : Orders) → ((p : Part) (e : ℕ) → IsFull (accepted (as_begun b) p e) (orders p e)) →
+        ArePartsInTable h (as_begun b) orders w → (es : List Event) (v : World) →
+        LeadsTo node_has_work node_steps (loaded w (batch_of h b)) es v → ArePartsInTable h b (with_done orders (done_in h v)) v }
+    ensures ended { (h : Header) (b : Book) → AreLegal h.settings → IsOfLines h b → (t : Division) (clients : ℕ → ClientReplica)
+        (w : World) → KeepsRecords (frame_of h t) clients w → GoesWith h (as_begun b) t w → HasRoomForCalls b → HasRoomForRound h w →
+        (orders : Orders) → ((p : Part) (e : ℕ) → IsFull (accepted (as_begun b) p e) (orders p e)) →
+        ArePartsInTable h (as_begun b) orders w → (v : World) (round : GoesThroughRound w (batch_of h b) v) →
+        round.gone ≡ (batch_of h b).destroys → IsQuiet node_has_work v →
+        ArePartsInTable h (with_round_ended b) (with_done orders (done_in h round.called)) v }
+{
+    seam_batches::lines_bring_what_fits();
+    seam_batches::uncreated_numbers_are_untouched();
+    seam_base_rounds::a_base_part_of_a_loaded_world_is_ready();
+    seam_places::the_last_phases_leave_places();
+    seam_laws::calls_obey_the_laws();
+    seam_laws::reaps_obey_the_laws();
+    what_lines_bring_fits();
+    a_book_goes_with_the_world_after_its_round();
+}
+
 /// And each place that the round leaves is one that the rules allow: settled, by the round's tree, where the entity was when the round began
 /// and after each call that it executed, whatever order of calls that was.
 pub fn places_are_those_that_the_rules_allow()
@@ -150,6 +178,13 @@ pub fn home_lines_are_those_of_the_rules()
         live_as b c.entity ≡ Some c → IsBetweenRounds (frame_of h tree) v → home_read c.entity k q ≡ home_line h t c }
 {}
 
+/// So is the base line of its base part, whether it has a client or none.
+pub fn base_lines_are_those_of_the_rules()
+    ensures { (h : Header) (b : Book) (tree : Division) (v : World) (t : Standing) → GoesWith h b tree v → ArePartsInTable h b t.orders v →
+        (c : Create) (p : PartView) → ((entity_flow c.entity v).slot (base_node h c.entity)).base.part ≡ Some p →
+        live_as b c.entity ≡ Some c → base_read c.entity p ≡ base_line h t c }
+{}
+
 /// So are the ghost lines: a cell has a copy of such an entity exactly where the rules ask for a ghost, at the entity's public version.
 pub fn ghost_lines_are_those_of_the_rules()
     ensures { (h : Header) (b : Book) (tree : Division) (v : World) (t : Standing) → AreInTable h b t.orders v → AreInPlace t.places v →
@@ -158,10 +193,19 @@ pub fn ghost_lines_are_those_of_the_rules()
 {}
 
 /// The flat table of a world is that of the rules, for the entities that live in a book that goes with it and are what the flat table has
-/// (`rows`). So it is where a round ended, and there a further look at it shows no client of the round anything (`nothing_left`).
+/// (`rows`). So it is where a round ended: after what it was shown in the calls, the client of each entity that lives was shown exactly
+/// one look at it (`one_each`), and a further look shows no client of the round anything (`nothing_left`).
 pub fn the_table_of_a_world_is_that_of_the_rules()
     ensures rows { (h : Header) (b : Book) (tree : Division) (v : World) (orders : Orders) → GoesWith h b tree v → AreInTable h b orders v →
         IsBetweenRounds (frame_of h tree) v → (live : List Create) → Lists (live_as b) live → world.rows_of v ≡ rows_of h orders live }
+    ensures one_each { (h : Header) (b : Book) → AreLegal h.settings → IsOfLines h b → (t : Division) (clients : ℕ → ClientReplica)
+        (w : World) → KeepsRecords (frame_of h t) clients w → GoesWith h (as_begun b) t w → HasRoomForCalls b → HasRoomForRound h w →
+        (orders : Orders) → ((p : Part) (e : ℕ) → IsFull (accepted (as_begun b) p e) (orders p e)) → AreInTable h (as_begun b) orders w →
+        (v : World) (round : GoesThroughRound w (batch_of h b) v) → round.gone ≡ (batch_of h b).destroys → IsQuiet node_has_work v →
+        (live : List Create) → Lists (live_as b) live → (e : ℕ) → IsTrue (is_shown b e) → (k : ℕ) (q : RealView) →
+        real_in ((entity_flow e v).slot k) ≡ Some q → shown_to (frame_of h (tree_of b)) e v
+        ≡ shown_to (frame_of h (tree_of b)) e round.called
+        ++ one_look (clients_called h t clients b round.called e) e (rows_of h (with_done orders (done_in h round.called)) live) }
     ensures nothing_left { (h : Header) (b : Book) → AreLegal h.settings → IsOfLines h b → (t : Division) (clients : ℕ → ClientReplica)
         (w : World) → KeepsRecords (frame_of h t) clients w → GoesWith h (as_begun b) t w → HasRoomForCalls b → HasRoomForRound h w →
         (orders : Orders) → ((p : Part) (e : ℕ) → IsFull (accepted (as_begun b) p e) (orders p e)) → AreInTable h (as_begun b) orders w →
