@@ -132,6 +132,8 @@ module _ (b : Book) (p : Part) (before done : List Call) (made : List Create) (l
           (λ e s. ap (filter (is_from p e s)) (sym executed_is) ∙ at_f.0 two.1 e s ∙ ap (filter (is_from p e s)) accepted_is)),
       (λ extends.
           let two = extends_to extends in
-          at_r.1 (at_a.1 (expected_is ∙ two.0),
-          at_f.1 (λ e s. ap (filter (is_from p e s)) executed_is ∙ two.1 e s ∙ ap (filter (is_from p e s)) (sym accepted_is)))),
+          at_r.1 (
+            at_a.1 (expected_is ∙ two.0),
+            at_f.1 (λ e s. ap (filter (is_from p e s)) executed_is ∙ two.1 e s ∙ ap (filter (is_from p e s)) (sym accepted_is)),
+          )),
     )

@@ -26,11 +26,7 @@ fn accepted_in(alloc: Global, standing: &Standing) -> Result<Vec<Call>, AllocErr
 }
 
 // What was executed up to now, and then these calls.
-fn executed_with(
-    alloc: Global,
-    standing: &Standing,
-    done: &[Call],
-) -> Result<Vec<Call>, AllocError>
+fn executed_with(alloc: Global, standing: &Standing, done: &[Call]) -> Result<Vec<Call>, AllocError>
     ensures { IfOk result (λ calls. calls.items ≡ standing.now.calls.items ++ done.now) }
 {
     let mut calls = copies_of(alloc, &standing.calls)?;

@@ -33,13 +33,7 @@ fn first_or_both(first: bool, second: bool, third: bool) -> bool
 }
 
 // Whether a place is settled along all of a path, or, where there is more than its start, along the rest.
-fn is_place_after(
-    settings: &Settings,
-    tree: &Tree,
-    was: Place,
-    path: &[Pos],
-    after: Place,
-) -> bool
+fn is_place_after(settings: &Settings, tree: &Tree, was: Place, path: &[Pos], after: Place) -> bool
     requires home { was.home < cells_of tree.now }
     requires range { AreInRange settings.now }
     requires start { 1 ≤ length path.now }

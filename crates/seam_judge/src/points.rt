@@ -65,7 +65,10 @@ pub fn are_ghosts(
     ensures { IfOk result (λ r. IsTrue r
         ↔ (lines.now ≡ flat_map (ghost_lines header.now (tree_of (standing_of before.now).book) (standing_of after.now)) live.now)) }
 {
-    Ok(are_same(lines, &ghosts_of(alloc, header, &tree_in(before), after, live)?))
+    Ok(are_same(
+        lines,
+        &ghosts_of(alloc, header, &tree_in(before), after, live)?,
+    ))
 }
 
 // Where the homes of a round are.
