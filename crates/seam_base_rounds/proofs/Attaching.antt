@@ -16,7 +16,7 @@ use Rattle.seam_moves.specs.Frames.{Frame, here_at}
 use Rattle.seam_moves.specs.Sights.{Has, has_of, has_none, entity_flow}
 use Rattle.seam_ones.specs.Ones.{real_in}
 use Rattle.seam_between.specs.Between.{IsBetweenRounds, MayBeMade, IsFitting}
-use Rattle.seam_between.proofs.Loading.{node_loaded}
+use Rattle.seam_between.specs.Loaded.{node_loaded}
 use Rattle.seam_between.proofs.Making.{Creation, nowhere, once, creation_of, middle}
 use Rattle.seam_between.proofs.Loaded.{slot_is}
 use Rattle.seam_base_calls.specs.BaseTurns.{home_of}

@@ -28,7 +28,7 @@ use Rattle.seam_moves.specs.Sights.{mine, times, order_concerns, orders_of, has_
 use Rattle.seam_ones.specs.Ones.{real_in, real_of}
 use Rattle.seam_ones.proofs.Counting.{counted_none, none_counts}
 use Rattle.seam_between.specs.Between.{numbers_of, IsBetweenRounds}
-use Rattle.seam_between.proofs.Loading.{each}
+use Rattle.seam_between.specs.Loaded.{each}
 use Rattle.seam_rounds.specs.Rounds.{AreReapable}
 use Rattle.seam_rounds.proofs.Shape.{Somewhere, Nowhere, search_real, frame_leads}
 use Rattle.seam_rounds.proofs.Calm.{IsSame, IsCalm}

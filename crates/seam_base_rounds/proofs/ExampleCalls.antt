@@ -34,7 +34,7 @@ use Rattle.seam_ones.specs.Ones.{real_in}
 use Rattle.seam_ones.proofs.ExampleMet.{EachFrom, each_node, slots, none_there, row_leads}
 use Rattle.seam_between.specs.Between.{IsBetweenRounds, IsFitting, IsForReal, AreNumbered, numbers_of, calls_of, calls_at}
 use Rattle.seam_between.proofs.Loaded.{slot_is, real_was}
-use Rattle.seam_between.proofs.Loading.{node_loaded}
+use Rattle.seam_between.specs.Loaded.{node_loaded}
 use Rattle.seam_rounds.proofs.CallsEnd.{calls_end_between}
 use Rattle.seam_rounds.proofs.Looking.{look_ends_between}
 use Rattle.seam_base_calls.specs.BaseTurns.{home_of}

@@ -25,7 +25,7 @@ use Rattle.seam_ones.specs.Example.{events_of}
 use Rattle.seam_ones.specs.Ones.{real_in}
 use Rattle.seam_ones.proofs.ExampleMet.{row_leads}
 use Rattle.seam_between.specs.Between.{IsBetweenRounds, IsFitting, IsForReal}
-use Rattle.seam_between.proofs.Loading.{node_loaded}
+use Rattle.seam_between.specs.Loaded.{node_loaded}
 use Rattle.seam_between.proofs.Loaded.{slot_is}
 use Rattle.seam_rounds.proofs.CallsEnd.{calls_end_between}
 use Rattle.seam_rounds.proofs.Looking.{look_ends_between}

@@ -24,7 +24,7 @@ use Rattle.seam_moves.specs.Sights.{Has, has_of, has_none, entity_flow}
 use Rattle.seam_ones.specs.Ones.{real_in}
 use Rattle.seam_between.specs.Between.{IsBetweenRounds, MayBeMade, IsFitting, framed}
 use Rattle.seam_between.proofs.Framing.{in_frame}
-use Rattle.seam_between.proofs.Loading.{node_loaded}
+use Rattle.seam_between.specs.Loaded.{node_loaded}
 use Rattle.seam_between.proofs.Staying.{Kept}
 use Rattle.seam_between.proofs.Making.{AreOthers, Creation, nowhere, once, creation_of, middle, until, node_made, node_after}
 use Rattle.seam_between.proofs.Loaded.{slot_is, real_was}

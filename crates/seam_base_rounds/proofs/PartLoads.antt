@@ -22,7 +22,8 @@ use Rattle.seam_steps.specs.Loads.{proxy_begins, order_if, ordered_at}
 use Rattle.seam_steps.proofs.Slots.{get-set_at}
 use Rattle.seam_moves.specs.Frames.{Frame, here_at, IsAt}
 use Rattle.seam_moves.specs.Sights.{has_of}
-use Rattle.seam_between.proofs.Loading.{each, each_keeps, Any, any, node_loaded, get-each_value}
+use Rattle.seam_between.specs.Loaded.{each, node_loaded}
+use Rattle.seam_between.proofs.Loading.{each_keeps, Any, any, get-each_value}
 use Rattle.seam_between.proofs.Staying.{other_set}
 use Rattle.seam_between.proofs.Making.{AreOthers}
 use Rattle.seam_base_calls.specs.PartMoves.{HasNoProxy}

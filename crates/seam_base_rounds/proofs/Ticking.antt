@@ -34,7 +34,8 @@ use Rattle.seam_moves.specs.Sights.{mine, times, order_concerns, orders_of, has_
 use Rattle.seam_ones.specs.Ones.{real_in}
 use Rattle.seam_once.proofs.Quieting.{neither, none_left}
 use Rattle.seam_between.specs.Between.{IsBetweenRounds, IsFitting}
-use Rattle.seam_between.proofs.Loading.{each, each_keeps, Any, any, made, node_loaded, loaded_is, node_there}
+use Rattle.seam_between.specs.Loaded.{each, made, node_loaded}
+use Rattle.seam_between.proofs.Loading.{each_keeps, Any, any, loaded_is, node_there}
 use Rattle.seam_between.proofs.Loaded.{no_mail, slot_is}
 use Rattle.seam_between.proofs.Making.{AreOthers}
 use Rattle.seam_between.proofs.Room.{from_all, most, sum_most, rows_none}

@@ -35,7 +35,8 @@ use Rattle.seam_ones.specs.Ones.{real_in}
 use Rattle.seam_once.specs.CellTurns.{is_from, from_sender, numbered_from}
 use Rattle.seam_between.specs.Between.{order_in, framed}
 use Rattle.seam_between.proofs.Framing.{in_frame}
-use Rattle.seam_between.proofs.Loading.{node_loaded, loaded_is, node_there}
+use Rattle.seam_between.specs.Loaded.{node_loaded}
+use Rattle.seam_between.proofs.Loading.{loaded_is, node_there}
 use Rattle.seam_between.proofs.Loaded.{no_mail, slot_is}
 use Rattle.seam_between.proofs.Turns.{node_orders, node_none}
 use Rattle.seam_between.proofs.Room.{no_held, none_below, from_all, most, sum_most, rows_none}

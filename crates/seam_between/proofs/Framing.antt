@@ -26,7 +26,8 @@ use Rattle.seam_steps.specs.Loads.{base_round, order_if, ordered_at, loaded}
 use Rattle.seam_steps.specs.Valid.{IsCell, IsBase, IsNode}
 use Rattle.seam_moves.specs.Frames.{Frame, here_at, IsBaseAt, IsAt, IsInFrame}
 use Rattle.seam_between.specs.Between.{IsBetweenRounds, IsFitting, framed}
-use Rattle.seam_between.proofs.Loading.{each, each_keeps, Any, any, made, node_loaded, loaded_is, node_there, set_keeps, get-each_value}
+use Rattle.seam_between.specs.Loaded.{each, made, node_loaded}
+use Rattle.seam_between.proofs.Loading.{each_keeps, Any, any, loaded_is, node_there, set_keeps, get-each_value}
 
 abbrev IsUnder : ℕ → RealView → Type 0
 IsUnder e r = r.entity ≡ e

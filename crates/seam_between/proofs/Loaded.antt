@@ -33,7 +33,8 @@ use Rattle.seam_ones.specs.Ones.{real_in, real_of, reaped_by_order, HasNoReaps}
 use Rattle.seam_ones.proofs.Counting.{counted_none, none_counts}
 use Rattle.seam_ones.proofs.ExampleMet.{slots}
 use Rattle.seam_between.specs.Between.{next_from, numbers_of, IsSettled, IsBetweenRounds, MayBeMade, IsFitting, framed}
-use Rattle.seam_between.proofs.Loading.{node_loaded, loaded_is}
+use Rattle.seam_between.specs.Loaded.{node_loaded}
+use Rattle.seam_between.proofs.Loading.{loaded_is}
 use Rattle.seam_between.proofs.Staying.{Kept, Becomes, node_becomes}
 use Rattle.seam_between.proofs.Making.{AreOthers, Creation, nowhere, once, creation_of, middle, Made, until, node_made, node_after}
 use Rattle.seam_between.proofs.Making.{made_fits}

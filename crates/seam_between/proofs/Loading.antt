@@ -15,21 +15,18 @@ use Rattle.seam_steps.specs.Maps.{Map, set_at, with_value, each_value}
 use Rattle.seam_steps.specs.Nodes.{NodeView, World}
 use Rattle.seam_steps.specs.Loads.{with_nodes, created_at, attached, cell_round, base_round, ordered_at, loaded}
 use Rattle.seam_steps.proofs.Slots.{get-set_at}
+use Rattle.seam_between.specs.Loaded.{each, node_loaded}
 
 module _ {A : Type 0} (g : A → NodeView → NodeView) where
-  -- a node after the changes, one for each of the list
-  abbrev pub each : List A → NodeView → NodeView
-  each xs s = fold (λ t x. g x t) s xs
-
-  pub nodes_after : (w : World) (xs : List A) → fold (λ v x. with_nodes v (g x)) w xs ≡ with_nodes w (each xs)
+  pub nodes_after : (w : World) (xs : List A) → fold (λ v x. with_nodes v (g x)) w xs ≡ with_nodes w (each g xs)
   nodes_after w [] = ap (λ ns. let v : World = record { nodes = ns; rows = w.rows } in v) (sym (map-id w.nodes))
   nodes_after w (x ∷ xs) =
       nodes_after (with_nodes w (g x)) xs
-      ∙ ap (λ ns. let v : World = record { nodes = ns; rows = w.rows } in v) (map-map (each xs) (g x) w.nodes)
+      ∙ ap (λ ns. let v : World = record { nodes = ns; rows = w.rows } in v) (map-map (each g xs) (g x) w.nodes)
 
   -- what each change keeps of a node is true after all of them
   pub each_keeps : (P : NodeView → Type 0) (Q : A → Type 0) → ((x : A) (s : NodeView) → Q x → P s → P (g x s)) → (xs : List A) →
-      AllByRecursion Q xs → (s : NodeView) → P s → P (each xs s)
+      AllByRecursion Q xs → (s : NodeView) → P s → P (each g xs s)
   each_keeps P Q step [] all s h = h
   each_keeps P Q step (x ∷ xs) all s h = each_keeps P Q step xs all.1 (g x s) (step x s all.0 h)
 
@@ -40,13 +37,6 @@ Any x = Unit {0}
 pub any : {A : Type 0} (xs : List A) → AllByRecursion Any xs
 any [] = tt
 any (x ∷ xs) = (tt, any xs)
-
--- what a load makes of a node
-abbrev pub made : Batch → NodeView → NodeView
-made b s = each attached b.clients (each (created_at b.tree) b.creates (base_round (cells_of b.tree) s))
-
-abbrev pub node_loaded : Batch → NodeView → NodeView
-node_loaded b s = each ordered_at b.orders (cell_round b.tree (made b s))
 
 abbrev nodes_by : World → List NodeView → World
 nodes_by w ns = record { nodes = ns; rows = w.rows }

@@ -32,7 +32,7 @@ use Rattle.seam_moves.specs.Sights.{Has, has_of, has_none, orders_of}
 use Rattle.seam_ones.specs.Fits.{RealFits}
 use Rattle.seam_ones.specs.Ones.{real_in, reaped_by_order, HasNoReaps}
 use Rattle.seam_between.specs.Between.{created_entity, MayBeMade, framed}
-use Rattle.seam_between.proofs.Loading.{each, node_loaded}
+use Rattle.seam_between.specs.Loaded.{each, node_loaded}
 use Rattle.seam_between.proofs.Framing.{While, while_created}
 use Rattle.seam_between.proofs.Staying.{Stays, same, stays_as, Becomes, base_stays, creates_stay, becomes_after}
 

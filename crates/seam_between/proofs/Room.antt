@@ -41,7 +41,8 @@ use Rattle.seam_moves.specs.Sights.{Has, has_of, has_none, times, one_more_if, o
 use Rattle.seam_ones.specs.Burdens.{held_of, held_in, real_burden, order_burden, node_burden, mine_burden, burden}
 use Rattle.seam_ones.specs.Ones.{real_in}
 use Rattle.seam_between.specs.Between.{IsBetweenRounds, IsFitting}
-use Rattle.seam_between.proofs.Loading.{each, each_keeps, Any, any, made, node_loaded, loaded_is, node_there, get-each_value}
+use Rattle.seam_between.specs.Loaded.{each, made, node_loaded}
+use Rattle.seam_between.proofs.Loading.{each_keeps, Any, any, loaded_is, node_there, get-each_value}
 use Rattle.seam_between.proofs.Loaded.{Loaded, slot_is}
 use Rattle.seam_between.proofs.Turns.{node_orders, node_none}
 

@@ -27,7 +27,8 @@ use Rattle.seam_steps.specs.Loads.{order_if, ordered_at}
 use Rattle.seam_steps.proofs.Slots.{get-set_at}
 use Rattle.seam_moves.specs.Sights.{Has, has_of, orders_of, order_concerns}
 use Rattle.seam_ones.specs.Ones.{real_in, reaped_by_order, HasNoReaps}
-use Rattle.seam_between.proofs.Loading.{each, each_keeps, Any, any, made, node_loaded, get-each_value}
+use Rattle.seam_between.specs.Loaded.{each, made, node_loaded}
+use Rattle.seam_between.proofs.Loading.{each_keeps, Any, any, get-each_value}
 
 -- the real is the same but for its witness, and what the turn makes of it
 abbrev pub Kept : (RealView → RealView) → Option RealView → Option RealView → Type 0

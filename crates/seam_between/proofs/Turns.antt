@@ -39,7 +39,7 @@ use Rattle.seam_once.specs.CellTurns.{is_from, from_sender, cell_order_from, rea
 use Rattle.seam_once.specs.CellTurns.{CellCallsInTurn}
 use Rattle.seam_between.specs.Between.{order_in, cell_call_from, calls_of, calls_at, AreNumbered, IsFitOrder, next_from}
 use Rattle.seam_between.specs.Between.{IsBetweenRounds, IsFitting, framed}
-use Rattle.seam_between.proofs.Loading.{each, made, node_loaded}
+use Rattle.seam_between.specs.Loaded.{each, made, node_loaded}
 use Rattle.seam_between.proofs.Framing.{node_begun, node_goes}
 use Rattle.seam_between.proofs.Staying.{made_orders}
 use Rattle.seam_between.proofs.Loaded.{no_items, after, no_mail, slot_is, Loaded, real_loaded}

@@ -1,8 +1,8 @@
 //! Worlds between rounds: what the laws of the core ask of a loaded world is true of each that a fitting batch makes of one that keeps
 //! the record.
 //!
-//! `specs/Between` has the record, a sentence for each of its fields, and what a fitting batch is. These laws speak of each entity of the
-//! loaded world, whether it was there before or the batch creates it.
+//! `specs/Between` has the record, a sentence for each of its fields, and what a fitting batch is; `specs/Loaded` has what a load makes
+//! of each node. These laws speak of each entity of the loaded world, whether it was there before or the batch creates it.
 //!
 //! Crates above cite these modules of `proofs`: `Loading` (a load node by node), `Framing` (the frame), `Staying` (what a load leaves of
 //! an entity at a node), `Making` (what it makes of one that the batch creates), `Loaded` (and in the world), `Ready` (what the laws ask of

@@ -24,7 +24,8 @@ use Rattle.seam_moves.specs.Frames.{Frame, here_at}
 use Rattle.seam_moves.specs.Sights.{has_of, has_none, entity_flow}
 use Rattle.seam_ones.specs.Ones.{real_in}
 use Rattle.seam_between.specs.Between.{MayBeMade, framed}
-use Rattle.seam_between.proofs.Loading.{each, each_keeps, Any, any, node_loaded}
+use Rattle.seam_between.specs.Loaded.{each, node_loaded}
+use Rattle.seam_between.proofs.Loading.{each_keeps, Any, any}
 use Rattle.seam_between.proofs.Loaded.{slot_is}
 use Rattle.seam_between.proofs.Making.{Creation, nowhere, once, creation_of, middle}
 use Rattle.seam_rounds.proofs.Giving.{some_base}

@@ -16,7 +16,7 @@ use Rattle.seam_moves.specs.Frames.{Frame, IsInFrame}
 use Rattle.seam_moves.specs.Sights.{mine, has_of, has_none, entity_flow}
 use Rattle.seam_ones.specs.Ones.{real_in, real_of}
 use Rattle.seam_between.specs.Between.{IsBetweenRounds}
-use Rattle.seam_between.proofs.Loading.{each}
+use Rattle.seam_between.specs.Loaded.{each}
 use Rattle.seam_rounds.specs.Rounds.{AreReapable}
 use Rattle.seam_rounds.proofs.Starting.{idle_orders}
 use Rattle.seam_rounds.proofs.Giving.{reaps_framed, reaps_given, reaps_cell, reals_stay}

@@ -23,7 +23,8 @@ use Rattle.seam_steps.specs.Loads.{real_if, part_if, with_route, new_part, creat
 use Rattle.seam_moves.specs.Sights.{has_of}
 use Rattle.seam_ones.specs.Ones.{real_in}
 use Rattle.seam_between.specs.Between.{created_entity}
-use Rattle.seam_between.proofs.Loading.{each, each_keeps, Any, any}
+use Rattle.seam_between.specs.Loaded.{each}
+use Rattle.seam_between.proofs.Loading.{each_keeps, Any, any}
 use Rattle.seam_between.proofs.Staying.{Kept, same, stays_as, creates_stay, other_set}
 use Rattle.seam_base_rounds.proofs.PartLoads.{part_at, part_begun}
 use Rattle.seam_core.specs.Nodes.{here_in}

@@ -14,7 +14,7 @@ ghost use Rattle.seam_steps.specs.Nodes.{NodeView};
 ghost use Rattle.seam_moves.specs.Sights.{has_of};
 ghost use Rattle.seam_ones.specs.Ones.{real_in};
 ghost use Rattle.seam_between.specs.Between.{created_entity};
-ghost use Rattle.seam_between.proofs.Loading.{each};
+ghost use Rattle.seam_between.specs.Loaded.{each};
 ghost use Rattle.seam_core.specs.Loads.{IsNumbered, HasBases};
 ghost use Rattle.seam_core.specs.Begun.{begun, HasSpace, MayBegin};
 

@@ -49,7 +49,8 @@ use Rattle.seam_moves.proofs.Classify.{event_moves, frame_happens}
 use Rattle.seam_ones.proofs.ExampleMet.{slots}
 use Rattle.seam_ones.proofs.Sparing.{items_all}
 use Rattle.seam_between.specs.Between.{IsNew}
-use Rattle.seam_between.proofs.Loading.{each, each_keeps, Any, any, nodes_after, node_loaded, loaded_is, get-each_value}
+use Rattle.seam_between.specs.Loaded.{each, node_loaded}
+use Rattle.seam_between.proofs.Loading.{each_keeps, Any, any, nodes_after, loaded_is, get-each_value}
 use Rattle.seam_once.proofs.Quieting.{neither, none_left}
 use Rattle.seam_between.proofs.Staying.{other_set}
 use Rattle.seam_between.proofs.Making.{AreOthers}

@@ -16,7 +16,7 @@ use Rattle.seam_moves.specs.Frames.{Frame, here_at}
 use Rattle.seam_moves.specs.Sights.{has_of, has_none, entity_flow}
 use Rattle.seam_ones.specs.Ones.{real_in, reaped_by_order}
 use Rattle.seam_between.specs.Between.{created_entity, MayBeMade, IsBetweenRounds}
-use Rattle.seam_between.proofs.Loading.{node_loaded}
+use Rattle.seam_between.specs.Loaded.{node_loaded}
 use Rattle.seam_between.proofs.Staying.{Kept}
 use Rattle.seam_between.proofs.Making.{AreOthers, Creation, nowhere, once, creation_of, middle, until, node_made, node_after}
 use Rattle.seam_between.proofs.Loaded.{slot_is, real_was}

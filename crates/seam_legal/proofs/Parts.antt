@@ -25,7 +25,8 @@ use Rattle.seam_moves.specs.Frames.{Frame, here_at, IsInFrame}
 use Rattle.seam_moves.specs.Sights.{has_of, has_none, entity_flow}
 use Rattle.seam_ones.specs.Ones.{IsSpared}
 use Rattle.seam_between.specs.Between.{IsBetweenRounds}
-use Rattle.seam_between.proofs.Loading.{each, nodes_after, node_loaded}
+use Rattle.seam_between.specs.Loaded.{each, node_loaded}
+use Rattle.seam_between.proofs.Loading.{nodes_after}
 use Rattle.seam_between.proofs.Making.{AreOthers}
 use Rattle.seam_between.proofs.Loaded.{slot_is}
 use Rattle.seam_rounds.proofs.Giving.{look_framed, look_given}

@@ -24,7 +24,8 @@ use Rattle.seam_moves.specs.Sights.{mine, has_of, has_none, entity_flow}
 use Rattle.seam_moves.proofs.Classify.{frame_happens}
 use Rattle.seam_ones.specs.Ones.{real_in, real_of}
 use Rattle.seam_between.specs.Between.{IsBetweenRounds}
-use Rattle.seam_between.proofs.Loading.{each, node_there}
+use Rattle.seam_between.specs.Loaded.{each}
+use Rattle.seam_between.proofs.Loading.{node_there}
 use Rattle.seam_rounds.specs.Rounds.{AreReapable}
 use Rattle.seam_measure.proofs.ReapPhase as reap
 use Rattle.seam_rounds.proofs.Shape.{Somewhere, Nowhere, search_real}

@@ -32,7 +32,8 @@ use Rattle.seam_steps.specs.Loads.{order_if, with_nodes, reap_ordered_at, reaps_
 use Rattle.seam_moves.specs.Frames.{Frame, IsInFrame}
 use Rattle.seam_moves.specs.Sights.{has_of, has_none, entity_flow}
 use Rattle.seam_between.specs.Between.{IsBetweenRounds}
-use Rattle.seam_between.proofs.Loading.{each, node_there}
+use Rattle.seam_between.specs.Loaded.{each}
+use Rattle.seam_between.proofs.Loading.{node_there}
 use Rattle.seam_between.proofs.Ready.{quiet_home}
 use Rattle.seam_rounds.specs.Rounds.{AreReapable}
 use Rattle.seam_rounds.proofs.Shape.{frame_leads, many_leads}

@@ -34,7 +34,8 @@ use Rattle.seam_moves.specs.Sights.{order_about, has_of, has_none}
 use Rattle.seam_between.specs.Between.{framed}
 use Rattle.seam_between.proofs.Framing.{in_frame}
 use Rattle.seam_between.proofs.Going.{settled_loaded, spared_loaded}
-use Rattle.seam_between.proofs.Loading.{node_loaded, loaded_is, node_there}
+use Rattle.seam_between.specs.Loaded.{node_loaded}
+use Rattle.seam_between.proofs.Loading.{loaded_is, node_there}
 use Rattle.seam_rounds.proofs.Shape.{Somewhere, Nowhere, search_real, frame_leads}
 use Rattle.seam_strays.proofs.Beginning.{unknown_loaded}
 use Rattle.seam_strays.proofs.InRound.{nobody}

@@ -30,7 +30,8 @@ use Rattle.seam_moves.specs.Sights.{order_concerns, orders_of, has_of, has_none,
 use Rattle.seam_ones.specs.Burdens.{held_in}
 use Rattle.seam_ones.specs.Ones.{real_in, reaped_by_order}
 use Rattle.seam_between.specs.Between.{IsBetweenRounds, IsFitting, framed}
-use Rattle.seam_between.proofs.Loading.{each, made, node_loaded, loaded_is, node_there, nodes_after}
+use Rattle.seam_between.specs.Loaded.{each, made, node_loaded}
+use Rattle.seam_between.proofs.Loading.{loaded_is, node_there, nodes_after}
 use Rattle.seam_between.proofs.Framing.{node_begun}
 use Rattle.seam_between.proofs.Going.{settled_loaded}
 use Rattle.seam_between.proofs.Room.{one_if, Surveys, loaded_surveys, no_held, rows_none}

@@ -39,7 +39,8 @@ use Rattle.seam_ones.proofs.Counting.{none_counts}
 use Rattle.seam_between.specs.Between.{framed}
 use Rattle.seam_between.proofs.Framing.{in_frame}
 use Rattle.seam_between.proofs.Going.{one_after}
-use Rattle.seam_between.proofs.Loading.{each_keeps, Any, any, made, node_loaded, loaded_is, get-each_value}
+use Rattle.seam_between.specs.Loaded.{made, node_loaded}
+use Rattle.seam_between.proofs.Loading.{each_keeps, Any, any, loaded_is, get-each_value}
 use Rattle.seam_between.proofs.Loaded.{slot_is, no_mail, holds_kept}
 use Rattle.seam_rounds.proofs.Shape.{Somewhere, Nowhere, search_real}
 use Rattle.seam_newest.specs.Copies.{AreCopiesBetweenRounds}

@@ -15,7 +15,7 @@ use Rattle.seam_moves.specs.Frames.{Frame}
 use Rattle.seam_moves.specs.Sights.{entity_flow}
 use Rattle.seam_ones.specs.Ones.{real_in, IsFrame}
 use Rattle.seam_between.specs.Between.{IsBetweenRounds}
-use Rattle.seam_between.proofs.Loading.{each}
+use Rattle.seam_between.specs.Loaded.{each}
 use Rattle.seam_rounds.specs.Rounds.{first_frame, AreReapable}
 use Rattle.seam_rounds.proofs.Giving.{reaps_cell, look_cell, reals_stay}
 use Rattle.seam_rounds.proofs.Reaping as reaping

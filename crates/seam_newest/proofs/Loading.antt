@@ -26,7 +26,8 @@ use Rattle.seam_moves.specs.Frames.{Frame}
 use Rattle.seam_moves.specs.Sights.{Has, has_of, has_none, entity_flow}
 use Rattle.seam_ones.specs.Ones.{real_in, real_of}
 use Rattle.seam_between.specs.Between.{IsNew, MayBeMade, IsBetweenRounds, IsFitting, framed}
-use Rattle.seam_between.proofs.Loading.{each_keeps, Any, any, made, node_loaded, get-each_value}
+use Rattle.seam_between.specs.Loaded.{made, node_loaded}
+use Rattle.seam_between.proofs.Loading.{each_keeps, Any, any, get-each_value}
 use Rattle.seam_between.proofs.Loaded.{slot_is, no_mail}
 use Rattle.seam_rounds.proofs.Shape.{Somewhere, Nowhere, search_real}
 use Rattle.seam_ones.proofs.Counting.{none_counts}

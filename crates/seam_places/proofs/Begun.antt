@@ -25,7 +25,8 @@ use Rattle.seam_moves.specs.Frames.{Frame}
 use Rattle.seam_moves.specs.Sights.{has_of, has_none, times, one_more_if, entity_flow}
 use Rattle.seam_ones.specs.Ones.{real_in}
 use Rattle.seam_between.specs.Between.{created_entity, IsBetweenRounds, MayBeMade, IsFitting}
-use Rattle.seam_between.proofs.Loading.{each_keeps, Any, any, made, node_loaded, get-each_value}
+use Rattle.seam_between.specs.Loaded.{made, node_loaded}
+use Rattle.seam_between.proofs.Loading.{each_keeps, Any, any, get-each_value}
 use Rattle.seam_between.proofs.Making.{AreOthers, Creation, nowhere, once, creation_of, middle, until, node_made, node_after}
 use Rattle.seam_between.proofs.Loaded.{kept_some, slot_is, slot_becomes}
 use Rattle.seam_places.specs.Places.{made_real, BeginsAt}

@@ -21,7 +21,8 @@ use Rattle.seam_ones.specs.Ones.{real_in, real_of}
 use Rattle.seam_ones.proofs.Counting.{counted_none, none_counts}
 use Rattle.seam_ones.proofs.Gone.{gone_leads}
 use Rattle.seam_between.specs.Between.{IsBetweenRounds}
-use Rattle.seam_between.proofs.Loading.{each, nodes_after}
+use Rattle.seam_between.specs.Loaded.{each}
+use Rattle.seam_between.proofs.Loading.{nodes_after}
 use Rattle.seam_between.proofs.Ready.{quiet_home}
 use Rattle.seam_rounds.specs.Rounds.{AreReapable, reap_comes, HasNoCalls}
 use Rattle.seam_rounds.proofs.Calm.{one_if, IsCalm}

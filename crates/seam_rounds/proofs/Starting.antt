@@ -19,7 +19,8 @@ use Rattle.seam_moves.specs.Frames.{Frame, here_at, IsInFrame}
 use Rattle.seam_moves.specs.Sights.{mine, orders_of, times, has_of, has_none, entity_flow}
 use Rattle.seam_ones.specs.Ones.{real_in}
 use Rattle.seam_between.specs.Between.{IsSettled, IsBetweenRounds}
-use Rattle.seam_between.proofs.Loading.{each, node_there}
+use Rattle.seam_between.specs.Loaded.{each}
+use Rattle.seam_between.proofs.Loading.{node_there}
 use Rattle.seam_between.proofs.Loaded.{no_items}
 use Rattle.seam_between.proofs.Room.{rows_none}
 use Rattle.seam_rounds.proofs.Calm.{IsCalmOrder, IsCalmAt, IsCalmTo, has_reaps, node_reaps, mine_reaps, one_if, IsCalm}

@@ -26,7 +26,8 @@ use Rattle.seam_moves.specs.Sights.{has_of, has_none, times, order_about, order_
 use Rattle.seam_ones.specs.Ones.{real_in}
 use Rattle.seam_ones.proofs.Counting.{counted_none}
 use Rattle.seam_between.specs.Between.{IsBetweenRounds, IsFitting, framed}
-use Rattle.seam_between.proofs.Loading.{each_keeps, Any, any, made, node_loaded}
+use Rattle.seam_between.specs.Loaded.{made, node_loaded}
+use Rattle.seam_between.proofs.Loading.{each_keeps, Any, any}
 use Rattle.seam_between.proofs.Framing.{in_frame}
 use Rattle.seam_between.proofs.Loaded.{slot_is, no_mail}
 use Rattle.seam_between.proofs.Room.{one_if, loaded_surveys}

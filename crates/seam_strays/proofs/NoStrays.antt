@@ -40,7 +40,8 @@ use Rattle.seam_ones.specs.Ones.{real_in, real_of}
 use Rattle.seam_ones.proofs.Counting.{none_counts}
 use Rattle.seam_ones.proofs.Holds.{all_two}
 use Rattle.seam_between.specs.Between.{IsBetweenRounds, IsFitting, framed}
-use Rattle.seam_between.proofs.Loading.{each, node_there}
+use Rattle.seam_between.specs.Loaded.{each}
+use Rattle.seam_between.proofs.Loading.{node_there}
 use Rattle.seam_between.proofs.Framing.{in_frame}
 use Rattle.seam_between.proofs.Going.{kept_after}
 use Rattle.seam_rounds.specs.Rounds.{AreReapable}
