@@ -7,8 +7,7 @@ use seam_defs::{Defs, Part, Settings};
 use seam_geo::Pos;
 use seam_io::LONGEST_LINE;
 use seam_transcript::{Cause, Commands, Header};
-use seam_tree::{Axis, Boundary, CutError, ShiftError};
-use seam_words::WordsError;
+use seam_tree::{Axis, Boundary, CutError};
 use std::alloc::{AllocError, Global};
 use std::ops::Range;
 use std::process::Abort;
@@ -16,149 +15,17 @@ use std::test::Fail;
 
 type Answer = Result<Accepted, Refusal>;
 
-const KEPT: Answer = Ok(Accepted::Kept);
-
 const DEAD: Answer = Err(Refusal::Cause(Cause::Dead));
 
 const EXISTS: Answer = Err(Refusal::Cause(Cause::Exists));
 
 const OUTSIDE: Answer = Err(Refusal::Cause(Cause::Outside));
 
-const NO_TYPE: Answer = Err(Refusal::Cause(Cause::NoType));
-
-const NUMBER: Answer = Err(Refusal::Cause(Cause::BadNumber));
-
-const COUNT: Answer = Err(Refusal::Cause(Cause::WrongCount));
-
-const ILL_TYPED: Answer = Err(Refusal::Cause(Cause::IllTyped));
-
-const UNKNOWN: Answer = Err(Refusal::Cause(Cause::UnknownMethod));
-
-const NO_SENDER: Answer = Err(Refusal::Cause(Cause::NoSender));
-
-const NO_COMMAND: Answer = Err(Refusal::Cause(Cause::NoCommand));
-
-const OPEN_QUOTE: Answer = Err(Refusal::Cause(Cause::BadWords(WordsError::OpenQuote)));
-
-const NO_CELL: Answer = Err(Refusal::Cause(Cause::CutRefused(CutError::NoCell)));
-
 const OUTSIDE_CELL: Answer = Err(Refusal::Cause(Cause::CutRefused(CutError::OutsideCell)));
-
-const NO_BOUNDARY: Answer = Err(Refusal::Cause(Cause::ShiftRefused(ShiftError::NoBoundary)));
-
-const WOULD_EMPTY: Answer = Err(Refusal::Cause(Cause::ShiftRefused(ShiftError::WouldEmpty)));
 
 const FULL: Answer = Err(Refusal::Cause(Cause::Full));
 
 const TOO_MANY_CELLS: Answer = Err(Refusal::Cause(Cause::CutRefused(CutError::TooManyCells)));
-
-// Lines of one script of a world of one cell, and what becomes of each.
-const IN_ONE_CELL: &[(&str, Answer)] = &[
-    ("call b1 9 heal 1", DEAD),
-    ("create 1 Avatar 100 100", KEPT),
-    ("create 1 Avatar 0 0", EXISTS),
-    ("create 2 Avatar 10000 5", OUTSIDE),
-    ("create 2 Door 10000 5", NO_TYPE),
-    ("create 1 Door 10000 5", EXISTS),
-    ("create 1 Door 10000 -5", NUMBER),
-    ("create 0 Avatar 5 5", NUMBER),
-    ("create 2 Avatar 5", COUNT),
-    ("call b1 1 feel 128", ILL_TYPED),
-    ("call b1 1 feel -0", ILL_TYPED),
-    ("call b1 1 feel 1 1", ILL_TYPED),
-    ("call b1 1 fly 1 1", UNKNOWN),
-    ("call b1 9 fly 1 1", DEAD),
-    ("call b3 9 fly 1 1", NO_SENDER),
-    ("call b3 x fly 1 1", NUMBER),
-    ("call c1 1 hit 1", NO_SENDER),
-    ("call b1 1", COUNT),
-    ("move b1 1 10000 5", ILL_TYPED),
-    ("move b1 1 x 5", ILL_TYPED),
-    ("move b1 9 x 5", DEAD),
-    ("sync now", COUNT),
-    ("tick", NO_COMMAND),
-    ("tick 1", NO_COMMAND),
-    ("call b1 1 write \"abc", OPEN_QUOTE),
-    ("call b1 1 write \"abc\"", KEPT),
-];
-
-// Lines of one script about clients: they may ask for exposed methods of cell parts and of their own base part, and move their own entity.
-const OF_CLIENTS: &[(&str, Answer)] = &[
-    ("client 1", DEAD),
-    ("create 1 Avatar 100 100", KEPT),
-    ("create 2 Chest 200 200", KEPT),
-    ("create 3 Avatar 300 300", KEPT),
-    ("client", COUNT),
-    ("client 0", NUMBER),
-    ("client one", NUMBER),
-    ("call c1 1 heal 1", NO_SENDER),
-    ("client 1", KEPT),
-    ("client 1", EXISTS),
-    ("call c1 1 heal 1", KEPT),
-    ("call c1 3 heal 1", KEPT),
-    ("call c1 2 lift", KEPT),
-    ("call c1 1 promote", KEPT),
-    ("call c1 3 promote", UNKNOWN),
-    ("call c1 1 mark 1", UNKNOWN),
-    ("call c1 1 pay 1", UNKNOWN),
-    ("call c1 1 pay x", UNKNOWN),
-    ("call c1 1 heal x", ILL_TYPED),
-    ("move c1 1 120 95", KEPT),
-    ("move c1 3 120 95", UNKNOWN),
-    ("move c1 3 x 95", UNKNOWN),
-    ("move c1 1 10000 95", ILL_TYPED),
-    ("call c3 3 heal 1", NO_SENDER),
-    ("call c01 1 heal 1", NO_SENDER),
-    ("call c9 9 heal 1", NO_SENDER),
-    ("call c1 9 heal 1", DEAD),
-];
-
-// Lines of one script about looks, balances and the tree of the cells.
-const OF_TREES: &[(&str, Answer)] = &[
-    ("tick", KEPT),
-    ("tick 1", COUNT),
-    ("balance", KEPT),
-    ("balance 1", COUNT),
-    ("cut 1 x 5000", NO_CELL),
-    ("cut 0 x 0", OUTSIDE_CELL),
-    ("cut 0 x 10000", OUTSIDE_CELL),
-    ("cut 0 y 5000", NUMBER),
-    ("cut 9 x -1", NUMBER),
-    ("cut x x 5000", NUMBER),
-    ("cut 0 x", COUNT),
-    ("cut 0 x 5000", KEPT),
-    ("cut 0 x 5000", OUTSIDE_CELL),
-    ("cut 1 z 5000", KEPT),
-    ("shift 0 4000", NO_BOUNDARY),
-    ("shift 3 4000", NO_BOUNDARY),
-    ("shift 1 0", WOULD_EMPTY),
-    ("shift 1 10000", WOULD_EMPTY),
-    ("shift one 4000", NUMBER),
-    ("shift 3 x", NUMBER),
-    ("shift 1", COUNT),
-    ("shift 1 4000", KEPT),
-    ("cut 0 x 4000", OUTSIDE_CELL),
-];
-
-// Lines of one script about deaths.
-const OF_DEATHS: &[(&str, Answer)] = &[
-    ("create 1 Avatar 5 5", KEPT),
-    ("create 2 Chest 5 5", KEPT),
-    ("create 3 Avatar 5 5", KEPT),
-    ("client 1", KEPT),
-    ("destroy", COUNT),
-    ("destroy 0", NUMBER),
-    ("destroy 9", DEAD),
-    ("destroy 1", KEPT),
-    ("destroy 1", DEAD),
-    ("client 1", DEAD),
-    ("call b1 1 heal 1", DEAD),
-    ("move b1 1 5 5", DEAD),
-    ("call c1 2 lift", NO_SENDER),
-    ("create 1 Avatar 5 5", EXISTS),
-    ("client 3", KEPT),
-    ("dance", NO_COMMAND),
-];
 
 // Lines of a round in which everything happens but a division of the space.
 const PARTS_OF_A_ROUND: &[&str] = &[
@@ -182,34 +49,19 @@ fn standard_header(alloc: Global) -> Result<Header, AllocError>
     })
 }
 
-// Each of the lines is answered so.
-fn answer_all(rt: &impl Abort, book: &mut Book, rows: &[(&str, Answer)]) {
-    for (line, answer) in rows {
-        assert!(rt; line.len() <= LONGEST_LINE);
-        assert_eq!(rt; book.accept(line.as_bytes()), *answer);
-    }
-}
-
 #[test]
-fn lines_are_judged(rt: HostRuntime) -> Result<(), Fail> {
+fn a_line_is_kept_or_skipped_or_ends_the_round(rt: HostRuntime) -> Result<(), Fail> {
     let header = standard_header(rt.alloc())?;
     let mut book = Book::new(rt.alloc(), &header, Commands::OneCell)?;
-    answer_all(&rt, &mut book, IN_ONE_CELL);
+    keep(
+        &rt,
+        &mut book,
+        &["create 1 Avatar 100 100", "call b1 1 hit 1"],
+    );
     assert_eq!(rt; book.accept(b"\t# a note"), Ok(Accepted::Skipped));
+    assert_eq!(rt; book.accept(b"tick"), Err(Refusal::Cause(Cause::NoCommand)));
     assert_eq!(rt; book.accept(b"sync"), Ok(Accepted::Synced));
     assert_eq!(rt; book.count(), 2);
-    Ok(())
-}
-
-#[test]
-fn commands_of_every_kind_are_judged(rt: HostRuntime) -> Result<(), Fail> {
-    let header = standard_header(rt.alloc())?;
-    let mut of_clients = Book::new(rt.alloc(), &header, Commands::All)?;
-    answer_all(&rt, &mut of_clients, OF_CLIENTS);
-    let mut of_trees = Book::new(rt.alloc(), &header, Commands::All)?;
-    answer_all(&rt, &mut of_trees, OF_TREES);
-    let mut of_deaths = Book::new(rt.alloc(), &header, Commands::All)?;
-    answer_all(&rt, &mut of_deaths, OF_DEATHS);
     Ok(())
 }
 
