@@ -1,12 +1,21 @@
-//! Writes the lines of refused lines and of rounds, as `Texts` of `seam_transcript` says. If allocation fails, a text has no use.
+//! Writes the lines of refused lines and of rounds, and rounds, as `Texts` of `seam_transcript` and of `seam_rules` say. If allocation
+//! fails, a text has no use.
 #![tactic(auto)]
 
+mod bounds;
 mod lines;
 mod refusals;
+mod round;
+mod told;
 mod values;
 
-pub use lines::{BaseLine, DoneLine, HomeLine, push_base, push_done, push_home, push_number_line};
+pub use bounds::push_bounds;
+pub use lines::{
+    BaseLine, DoneLine, HomeLine, push_base, push_done, push_ghost, push_home, push_number_line,
+};
 pub use refusals::push_refusal;
+pub use round::write_round;
+pub use told::push_client;
 
 #[cfg(test)]
 mod tests;

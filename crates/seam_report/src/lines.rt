@@ -1,6 +1,7 @@
 // The lines of rounds.
 ghost use Rattle.std.specs.Prelude.{◌≡◌, ◌++◌, OnOk};
 ghost use Rattle.seam_transcript.specs.Texts.{field, number_text, done_text, home_text, base_text};
+ghost use Rattle.seam_rules.specs.Texts.{ghost_text};
 
 use crate::values::{LONGEST_FIELD, push_deed, push_field, push_sender, write_field};
 use seam_call::Call;
@@ -111,5 +112,17 @@ pub fn push_base(out: &mut Vec<u8>, defs: &Defs, line: &BaseLine) -> Result<(), 
     out.extend_from_slice(&text[at..])?;
     defs.type_at(line.ty)
         .write_props(Group::Base, line.props, out)?;
+    out.extend_from_slice(b"\n")
+}
+
+/// Appends the line of an entity's ghost in a cell, at a public version.
+pub fn push_ghost(out: &mut Vec<u8>, entity: u32, cell: u8, version: u64) -> Result<(), AllocError>
+    ensures { OnOk result (out.new.items ≡ out.old.items
+        ++ ghost_text (record { entity = entity; cell = cell; version = version })) }
+{
+    out.extend_from_slice(b"ghost ")?;
+    push_number(out, u64::from(entity))?;
+    push_field(out, u64::from(cell))?;
+    push_field(out, version)?;
     out.extend_from_slice(b"\n")
 }

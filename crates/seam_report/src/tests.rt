@@ -1,10 +1,12 @@
-use crate::{DoneLine, push_done, push_number_line, push_refusal};
-use seam_call::{Call, Sender};
-use seam_defs::{Deed, Defs, Part};
+use crate::{DoneLine, push_done, push_number_line, push_refusal, write_round};
+use seam_call::{Call, ClientText, GhostCopy, Line, Sender, Shown};
+use seam_defs::{Deed, Defs, Group, Part, State};
 use seam_geo::Pos;
+use seam_round::{BaseLine, ClientLine, GhostLine, HomeLine, Round};
 use seam_transcript::Cause;
-use seam_tree::{CutError, ShiftError};
+use seam_tree::{Axis, CutError, ShiftError, Tree};
 use seam_words::WordsError;
+use std::alloc::{AllocError, Global};
 use std::test::Fail;
 
 #[test]
@@ -50,5 +52,99 @@ fn refusals_have_their_texts(rt: HostRuntime) -> Result<(), Fail> {
         line 8 outside\nline 9 full\nline 10 sender\nline 11 dead\nline 12 unknown\nline 13 illtyped\n\
         line 14 tree 3\nline 15 tree 2\n";
     assert_eq!(rt; out.as_slice(), lines.as_slice());
+    Ok(())
+}
+
+// A new avatar, or what a group of its properties holds.
+fn avatar(defs: &Defs, values: Group) -> Result<State, AllocError> {
+    Ok(State {
+        pos: Pos { x: 5, z: 6 },
+        props: defs.type_at(0).start_props(values)?,
+    })
+}
+
+fn copy_of_avatar(defs: &Defs, version: u64) -> Result<GhostCopy, AllocError> {
+    Ok(GhostCopy {
+        ty: 0,
+        version,
+        state: avatar(defs, Group::Other)?,
+    })
+}
+
+// What the client of entity 3 is shown.
+fn shown_to_three(alloc: Global, defs: &Defs) -> Result<Vec<ClientLine>, AllocError> {
+    let base = defs.type_at(0).start_props(Group::BaseClient)?;
+    let own = avatar(defs, Group::Own)?;
+    let mut texts = Vec::new(alloc);
+    texts.push(ClientText::Base(0, base))?;
+    texts.push(ClientText::Shown(Shown::Own(1, own)))?;
+    texts.push(ClientText::Shown(Shown::Enter(4, copy_of_avatar(defs, 0)?)))?;
+    texts.push(ClientText::Shown(Shown::Set(4, copy_of_avatar(defs, 2)?)))?;
+    texts.push(ClientText::Shown(Shown::Leave(4)))?;
+    let mut lines = Vec::new(alloc);
+    let mut number = 0;
+    for text in texts {
+        number += 1;
+        let line = Line { number, text };
+        lines.push(ClientLine {
+            entity: 3,
+            ty: 0,
+            line,
+        })?;
+    }
+    Ok(lines)
+}
+
+// A tree of two cells.
+fn two_cells() -> Tree {
+    let mut tree = Tree::one(100);
+    let _ = tree.cut(0, Axis::Z, 50);
+    tree
+}
+
+// A round with one line of each kind, and each kind of client's line.
+fn full_round(alloc: Global, defs: &Defs) -> Result<Round, AllocError> {
+    let home = HomeLine {
+        entity: 3,
+        ty: 0,
+        cell: 1,
+        version: 2,
+        state: avatar(defs, Group::Real)?,
+    };
+    let base = BaseLine {
+        entity: 3,
+        ty: 0,
+        version: 4,
+        props: defs.type_at(0).start_props(Group::Base)?,
+    };
+    Ok(Round {
+        number: 7,
+        did: Vec::new(alloc),
+        dob: Vec::new(alloc),
+        homes: vec![in alloc; home]?,
+        bases: vec![in alloc; base]?,
+        ghosts: vec![in alloc;
+            GhostLine {
+                entity: 3,
+                cell: 0,
+                version: 2
+            },
+        ]?,
+        shown: shown_to_three(alloc, defs)?,
+        bounds: Some(two_cells()),
+    })
+}
+
+#[test]
+fn a_round_has_its_text(rt: HostRuntime) -> Result<(), Fail> {
+    let defs = Defs::builtin(rt.alloc())?;
+    let round = full_round(rt.alloc(), &defs)?;
+    let mut out = Vec::new(rt.alloc());
+    write_round(&mut out, &defs, &round)?;
+    let text =
+        b"round 7\nhome 3 1 2 5 6 hp=100 mana=50 mood=0 note=\"\" scent=0 xp=0\nbase 3 4 gold=0 rank=1\nghost 3 0 2\n\
+        to 3 1 base 0 rank=1\nto 3 2 own 1 5 6 hp=100 mana=50 xp=0\nto 3 3 enter 4 Avatar 0 5 6 hp=100 mood=0\n\
+        to 3 4 set 4 2 5 6 hp=100 mood=0\nto 3 5 leave 4\nbound 1 z 50\nend 7\n";
+    assert_eq!(rt; out.as_slice(), text.as_slice());
     Ok(())
 }

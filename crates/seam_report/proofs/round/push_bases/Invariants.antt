@@ -1,0 +1,7 @@
+use Rattle.std.proofs.Common.{◌≡◌, ◌++◌, take}
+use Rattle.std.specs.List.{flat_map}
+use Rattle.seam_transcript.specs.Texts.{base_text}
+use Rattle.seam_report.proofs.round.push_bases.Given as goal
+
+abbrev pub invariant-loop-line : goal.invariant-loop-line
+invariant-loop-line l = l.out.items ≡ l.initial.out.items ++ flat_map (base_text l.defs) (take l.line-index l.lines)

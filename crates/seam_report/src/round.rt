@@ -1,0 +1,111 @@
+// The text of a round.
+ghost use Rattle.std.specs.Prelude.{◌≡◌, ◌++◌, OnOk};
+ghost use Rattle.std.specs.List.{flat_map};
+ghost use Rattle.seam_transcript.specs.Texts.{done_text, home_text, base_text};
+ghost use Rattle.seam_rules.specs.Texts.{ghost_text, client_text, bounds_text, round_text};
+
+use crate::bounds::push_bounds;
+use crate::lines::{
+    BaseLine, DoneLine, HomeLine, push_base, push_done, push_ghost, push_home, push_number_line,
+};
+use crate::told::push_client;
+use seam_defs::Defs;
+use seam_round::{ClientLine, GhostLine, Round};
+use seam_tree::Tree;
+use std::alloc::AllocError;
+
+/// Appends the text of a round: its lines, each kind in its order.
+pub fn write_round(out: &mut Vec<u8>, defs: &Defs, round: &Round) -> Result<(), AllocError>
+    ensures { OnOk result (out.new.items ≡ out.old.items ++ round_text defs.now round.now) }
+{
+    push_number_line(out, b"round ", round.number)?;
+    push_all_done(out, b"did ", defs, round.did.as_slice())?;
+    push_all_done(out, b"dob ", defs, round.dob.as_slice())?;
+    push_homes(out, defs, round.homes.as_slice())?;
+    push_bases(out, defs, round.bases.as_slice())?;
+    push_ghosts(out, round.ghosts.as_slice())?;
+    push_clients(out, defs, round.shown.as_slice())?;
+    push_tree(out, &round.bounds)?;
+    push_number_line(out, b"end ", round.number)
+}
+
+fn push_all_done(
+    out: &mut Vec<u8>,
+    word: &[u8],
+    defs: &Defs,
+    lines: &[seam_round::DoneLine],
+) -> Result<(), AllocError>
+    ensures { OnOk result (out.new.items ≡ out.old.items ++ flat_map (done_text word.now defs.now) lines.now) }
+{
+    for line in lines {
+        let call = &line.call;
+        push_done(out, word, defs, &DoneLine { ty: line.ty, call })?;
+    }
+    Ok(())
+}
+
+fn push_homes(
+    out: &mut Vec<u8>,
+    defs: &Defs,
+    lines: &[seam_round::HomeLine],
+) -> Result<(), AllocError>
+    ensures { OnOk result (out.new.items ≡ out.old.items ++ flat_map (home_text defs.now) lines.now) }
+{
+    for line in lines {
+        let line = HomeLine {
+            entity: line.entity,
+            ty: line.ty,
+            cell: line.cell,
+            version: line.version,
+            state: &line.state,
+        };
+        push_home(out, defs, &line)?;
+    }
+    Ok(())
+}
+
+fn push_bases(
+    out: &mut Vec<u8>,
+    defs: &Defs,
+    lines: &[seam_round::BaseLine],
+) -> Result<(), AllocError>
+    ensures { OnOk result (out.new.items ≡ out.old.items ++ flat_map (base_text defs.now) lines.now) }
+{
+    for line in lines {
+        let line = BaseLine {
+            entity: line.entity,
+            ty: line.ty,
+            version: line.version,
+            props: &line.props,
+        };
+        push_base(out, defs, &line)?;
+    }
+    Ok(())
+}
+
+fn push_ghosts(out: &mut Vec<u8>, lines: &[GhostLine]) -> Result<(), AllocError>
+    ensures { OnOk result (out.new.items ≡ out.old.items ++ flat_map ghost_text lines.now) }
+{
+    for line in lines {
+        push_ghost(out, line.entity, line.cell, line.version)?;
+    }
+    Ok(())
+}
+
+fn push_clients(out: &mut Vec<u8>, defs: &Defs, lines: &[ClientLine]) -> Result<(), AllocError>
+    ensures { OnOk result (out.new.items ≡ out.old.items ++ flat_map (client_text defs.now) lines.now) }
+{
+    for line in lines {
+        push_client(out, defs, line.entity, line.ty, &line.line)?;
+    }
+    Ok(())
+}
+
+fn push_tree(out: &mut Vec<u8>, tree: &Option<Tree>) -> Result<(), AllocError>
+    ensures { OnOk result (out.new.items ≡ out.old.items ++ bounds_text tree.now) }
+{
+    match tree {
+        Some(tree) => push_bounds(out, tree),
+        None => Ok(()),
+    }
+}
