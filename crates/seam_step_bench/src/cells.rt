@@ -1,13 +1,10 @@
-ghost use Rattle.std.specs.Prelude.{◌≡◌, ◌<◌, ◌≤◌};
-ghost use Rattle.seam_defs.specs.Settings.{AreLegal};
+ghost use Rattle.std.specs.Prelude.{◌≡◌, ◌≤◌};
 ghost use Rattle.seam_steps.specs.Loads.{one_cell};
 
-use crate::cases::{Case, Sizes, What, each, print};
-use crate::messages::{AVATAR, Kind, builtin, place};
-use crate::steps::{fill, hear, works};
+use crate::messages::{AVATAR, Kind, Maker, builtin, place};
+use crate::steps::{Case, Sizes, each, fill, run};
 use seam_cell::{Cell, Making};
-use seam_defs::Settings;
-use seam_entity::Msg;
+use seam_defs::{Defs, Settings};
 use seam_tree::{Axis, Tree};
 use std::alloc::{AllocError, Global};
 use std::io;
@@ -15,82 +12,90 @@ use std::io;
 const HOME_CASES: [Case; 6] = [
     Case {
         name: "survey task",
-        what: What::Works,
+        kind: Kind::Task,
     },
     Case {
         name: "call, real here, executed",
-        what: What::Hears(Kind::Call(1)),
+        kind: Kind::Call(1),
     },
     Case {
         name: "call, real here, held",
-        what: What::Hears(Kind::Call(3)),
+        kind: Kind::Call(3),
     },
     Case {
         name: "call, real here, executed before a held one",
-        what: What::Hears(Kind::Call(2)),
+        kind: Kind::Call(2),
     },
     Case {
         name: "ready-call task",
-        what: What::Works,
+        kind: Kind::Task,
     },
     Case {
         name: "reap",
-        what: What::Hears(Kind::Reap),
+        kind: Kind::Reap,
     },
 ];
 
 const VISIT_CASES: [Case; 5] = [
     Case {
         name: "hand-over comes",
-        what: What::Hears(Kind::Hand),
+        kind: Kind::Hand,
     },
     Case {
         name: "call, real here, executed, and the real goes",
-        what: What::Hears(Kind::Call(1)),
+        kind: Kind::Call(1),
     },
     Case {
         name: "call, next place",
-        what: What::Hears(Kind::Call(2)),
+        kind: Kind::Call(2),
     },
     Case {
         name: "ghost set",
-        what: What::Hears(Kind::GhostSet),
+        kind: Kind::GhostSet,
     },
     Case {
         name: "ghost drop",
-        what: What::Hears(Kind::GhostDrop),
+        kind: Kind::GhostDrop,
     },
 ];
+
+const TICK: Case = Case {
+    name: "tick",
+    kind: Kind::Tick,
+};
+
+const LOOK: Case = Case {
+    name: "look task",
+    kind: Kind::Task,
+};
+
+// The size of the space of the standard settings.
+const SIZE: u32 = 10_000;
 
 // How many entities a cell knows in which witnesses look.
 const KNOWN: u32 = 4_000;
 
-// Cell 1 without avatars, which has the upper half of the space.
-fn upper(alloc: Global, settings: Settings) -> Result<Cell, AllocError>
-    requires { AreLegal settings }
+// The cell of that number, without avatars, in a space that cell 0 has alone.
+fn made(alloc: Global, me: u8, defs: Defs) -> Cell
+    requires { me ≤ 1 }
+    ensures tree { result.tree ≡ one_cell 10000 }
+    ensures size { result.here.settings.size ≡ 10000 }
 {
-    let mut cell = Cell::new(alloc, 1, builtin(alloc)?, settings);
-    let mut tree = Tree::one(settings.size);
-    let _cut = tree.cut(0, Axis::X, settings.size / 2);
-    cell.start_round(alloc, tree)?;
-    Ok(cell)
+    Cell::new(alloc, me, defs, Settings::standard())
 }
 
-// Cell 0 with so many avatars, at the begin of a round.
-fn begun(alloc: Global, settings: Settings, count: u32) -> Result<Cell, AllocError>
-    requires { AreLegal settings }
+// The cell, which is without avatars, gets the upper half of the space.
+fn halve(cell: &mut Cell, alloc: Global) -> Result<(), AllocError>
+    requires { cell.old.here.settings.size ≡ 10000 }
 {
-    let mut cell = Cell::new(alloc, 0, builtin(alloc)?, settings);
-    for e in 0..count {
-        add(&mut cell, alloc, settings.size, e)?;
-    }
-    cell.start_round(alloc, Tree::one(settings.size))?;
-    Ok(cell)
+    let mut tree = Tree::one(SIZE);
+    let _cut = tree.cut(0, Axis::X, SIZE / 2);
+    cell.start_round(alloc, tree)
 }
 
-fn add(cell: &mut Cell, alloc: Global, size: u32, e: u32) -> Result<(), AllocError>
-    requires size { 1 ≤ size }
-    requires tree { cell.old.tree ≡ one_cell size }
+// An avatar is made in the cell.
+fn add(cell: &mut Cell, alloc: Global, e: u32) -> Result<(), AllocError>
+    requires { cell.old.tree ≡ one_cell 10000 }
     ensures tree { cell.new.tree ≡ cell.old.tree }
     ensures here { cell.new.here ≡ cell.old.here }
 {
@@ -100,39 +105,101 @@ fn add(cell: &mut Cell, alloc: Global, size: u32, e: u32) -> Result<(), AllocErr
     let making = Making {
         entity: e,
         ty: AVATAR,
-        pos: place(e, size),
+        pos: place(e, SIZE),
     };
     cell.add_entity(alloc, making)
 }
 
-/// The cases of a cell that keeps its avatars.
-pub fn homes(rt: &HostRuntime, sizes: &Sizes) -> io::Result<()> {
-    let mut cell = begun(rt.alloc(), Settings::standard(), sizes.avatars)?;
-    each(rt, &mut cell, &HOME_CASES, sizes)
-}
-
-/// The cases of a cell that avatars come to and leave with their first call.
-pub fn visits(rt: &HostRuntime, sizes: &Sizes) -> io::Result<()> {
-    let mut cell = upper(rt.alloc(), Settings::standard())?;
-    each(rt, &mut cell, &VISIT_CASES, sizes)
-}
-
-/// A look of each witness, the first ones of the avatars.
-pub fn looks(rt: &HostRuntime, sizes: &Sizes) -> io::Result<()> {
-    let alloc = rt.alloc();
-    let known = sizes.avatars.min(KNOWN);
-    let mut cell = begun(alloc, Settings::standard(), known)?;
-    let _surveyed = works(rt, &mut cell, known)?;
-    for e in 0..sizes.witnesses {
-        cell.attach(alloc, e)?;
+// So many avatars are made in the cell.
+fn add_all(cell: &mut Cell, alloc: Global, count: u32) -> Result<(), AllocError>
+    requires { cell.old.tree ≡ one_cell 10000 }
+    ensures { cell.new.here ≡ cell.old.here }
+{
+    for e in 0..count {
+        add(cell, alloc, e)?;
     }
-    let _ticked = hear(&mut cell, alloc, Msg::Tick)?;
-    let cost = works(rt, &mut cell, sizes.witnesses)?;
-    print(rt, "look task, at most 4,000 known", cost, sizes)
+    Ok(())
+}
+
+// So many avatars are made in the cell, and a round begins.
+fn load(cell: &mut Cell, alloc: Global, count: u32) -> Result<(), AllocError>
+    requires tree { cell.old.tree ≡ one_cell 10000 }
+    requires size { cell.old.here.settings.size ≡ 10000 }
+{
+    add_all(cell, alloc, count)?;
+    cell.start_round(alloc, Tree::one(SIZE))
+}
+
+// The steps of a cell that keeps its avatars.
+fn keep(rt: &HostRuntime, cell: &mut Cell, maker: &Maker, sizes: &Sizes) -> io::Result<()>
+    requires tree { cell.old.tree ≡ one_cell 10000 }
+    requires size { cell.old.here.settings.size ≡ 10000 }
+{
+    load(cell, rt.alloc(), sizes.avatars)?;
+    each(rt, cell, maker, &HOME_CASES, sizes)
+}
+
+// The steps of a cell that avatars come to and leave with their first call.
+fn visit(rt: &HostRuntime, cell: &mut Cell, maker: &Maker, sizes: &Sizes) -> io::Result<()>
+    requires { cell.old.here.settings.size ≡ 10000 }
+{
+    halve(cell, rt.alloc())?;
+    each(rt, cell, maker, &VISIT_CASES, sizes)
+}
+
+// A tick, and a look of each witness, the first ones of the avatars.
+fn look(rt: &HostRuntime, cell: &mut Cell, maker: &Maker, sizes: &Sizes) -> io::Result<()>
+    requires tree { cell.old.tree ≡ one_cell 10000 }
+    requires size { cell.old.here.settings.size ≡ 10000 }
+{
+    let known = sizes.avatars.min(KNOWN);
+    load(cell, rt.alloc(), known)?;
+    let _surveyed = fill(cell, maker, Kind::Task, known)?;
+    for e in 0..sizes.witnesses {
+        cell.attach(rt.alloc(), e)?;
+    }
+    let ticking = Sizes {
+        avatars: 1,
+        ..*sizes
+    };
+    let looking = Sizes {
+        avatars: sizes.witnesses,
+        ..*sizes
+    };
+    run(rt, cell, maker, &TICK, &ticking)?;
+    run(rt, cell, maker, &LOOK, &looking)
+}
+
+// So many avatars, each called once.
+fn call_all(rt: &HostRuntime, cell: &mut Cell, maker: &Maker, count: u32) -> io::Result<()>
+    requires tree { cell.old.tree ≡ one_cell 10000 }
+    requires size { cell.old.here.settings.size ≡ 10000 }
+{
+    load(cell, rt.alloc(), count)?;
+    let sum = fill(cell, maker, Kind::Call(1), count)?;
+    println!(rt; "{sum}")
+}
+
+/// The cases of a cell that keeps its avatars.
+pub fn homes(rt: &HostRuntime, maker: &Maker, sizes: &Sizes) -> io::Result<()> {
+    let mut cell = made(rt.alloc(), 0, builtin(rt.alloc())?);
+    keep(rt, &mut cell, maker, sizes)
+}
+
+/// The cases of a cell that avatars come to and leave.
+pub fn visits(rt: &HostRuntime, maker: &Maker, sizes: &Sizes) -> io::Result<()> {
+    let mut cell = made(rt.alloc(), 1, builtin(rt.alloc())?);
+    visit(rt, &mut cell, maker, sizes)
+}
+
+/// The cases of a cell in which witnesses look.
+pub fn looks(rt: &HostRuntime, maker: &Maker, sizes: &Sizes) -> io::Result<()> {
+    let mut cell = made(rt.alloc(), 0, builtin(rt.alloc())?);
+    look(rt, &mut cell, maker, sizes)
 }
 
 /// A cell of so many avatars, each called once.
-pub fn filled(alloc: Global, count: u32) -> Result<u64, AllocError> {
-    let mut cell = begun(alloc, Settings::standard(), count)?;
-    fill(alloc, &mut cell, Kind::Call(1), count)
+pub fn filled(rt: &HostRuntime, maker: &Maker, count: u32) -> io::Result<()> {
+    let mut cell = made(rt.alloc(), 0, builtin(rt.alloc())?);
+    call_all(rt, &mut cell, maker, count)
 }

@@ -1,18 +1,18 @@
 //! Prints what the steps of cells and base nodes cost, one line a case.
 //!
 //! With the word `measure` a line has the nanoseconds of one step, over 65,536 avatars. Without it there are few, and the line has a
-//! number that depends on what the steps sent. With the word `cell` or `base` it makes a node of 65,536 avatars, each called once,
-//! and prints such a number, so that the memory of that node can be measured from outside.
+//! number that depends on what the steps sent. With the word `cell`, `base` or `bases` it makes a node of a world of 65,536 avatars,
+//! each called once (a cell with all of them, the only base node, or one of two base nodes), and prints such a number, so that the
+//! memory of that node can be measured from outside.
 #![tactic(auto)]
 
 mod bases;
-mod cases;
 mod cells;
-mod cost;
 mod messages;
 mod steps;
 
-use crate::cases::Sizes;
+use crate::messages::Maker;
+use crate::steps::Sizes;
 use std::{env, io};
 
 const FEW: Sizes = Sizes {
@@ -28,25 +28,25 @@ const MANY: Sizes = Sizes {
 };
 
 fn main(rt: HostRuntime) -> io::Result<()> {
-    let Some(word) = env::args(&rt)?.skip(1).next() else {
-        return all(&rt, &FEW);
+    let maker = Maker::new(rt.alloc())?;
+    measure(&rt, &maker)
+}
+
+fn measure(rt: &HostRuntime, maker: &Maker) -> io::Result<()> {
+    let Some(word) = env::args(rt)?.skip(1).next() else {
+        return all(rt, maker, &FEW);
     };
     match word.as_str() {
-        "cell" => {
-            let sum = cells::filled(rt.alloc(), MANY.avatars)?;
-            println!(rt; "{sum}")
-        }
-        "base" => {
-            let sum = bases::filled(rt.alloc(), MANY.avatars)?;
-            println!(rt; "{sum}")
-        }
-        _ => all(&rt, &MANY),
+        "cell" => cells::filled(rt, maker, MANY.avatars),
+        "base" => bases::filled(rt, maker, MANY.avatars, 1),
+        "bases" => bases::filled(rt, maker, MANY.avatars, 2),
+        _ => all(rt, maker, &MANY),
     }
 }
 
-fn all(rt: &HostRuntime, sizes: &Sizes) -> io::Result<()> {
-    cells::homes(rt, sizes)?;
-    cells::visits(rt, sizes)?;
-    cells::looks(rt, sizes)?;
-    bases::all(rt, sizes)
+fn all(rt: &HostRuntime, maker: &Maker, sizes: &Sizes) -> io::Result<()> {
+    cells::homes(rt, maker, sizes)?;
+    cells::visits(rt, maker, sizes)?;
+    cells::looks(rt, maker, sizes)?;
+    bases::all(rt, maker, sizes)
 }

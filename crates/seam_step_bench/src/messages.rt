@@ -1,6 +1,6 @@
 ghost use Rattle.std.specs.Prelude.{◌<◌, ◌≤◌};
 
-use seam_call::{BaseNode, Call, GhostCopy, Sender, Shown, Update};
+use seam_call::{BaseNode, Call, GhostCopy, Order, Sender, Shown, Update};
 use seam_defs::{Args, Deed, Defs, Part};
 use seam_entity::{Msg, Parcel, Real};
 use seam_geo::Pos;
@@ -14,9 +14,11 @@ const SIDE: u32 = 10_000;
 
 const MOVED: u32 = 4_000;
 
-/// What a node hears of avatar after avatar.
+/// What a node is fed for avatar after avatar.
 #[derive(Clone, Copy)]
 pub enum Kind {
+    /// Its task.
+    Task,
     /// The real comes.
     Hand,
     /// A call of that number for its cell part, which moves it.
@@ -24,18 +26,19 @@ pub enum Kind {
     GhostSet,
     GhostDrop,
     Reap,
-    /// The first call for its base part.
-    BaseCall,
+    Tick,
+    /// A call of that number for its base part.
+    BaseCall(u32),
     /// The real is in cell 1.
     Current,
-    /// The client of the first avatar no longer sees this one.
-    Update,
+    /// Its client's update of that number: entity 0 leaves its view.
+    Update(u32),
 }
 
 /// Makes messages.
 #[derive(Drop)]
 pub struct Maker {
-    alloc: Global,
+    pub alloc: Global,
     defs: Defs,
     sender: Sender,
     promote: u16,
@@ -58,15 +61,11 @@ pub fn place(e: u32, size: u32) -> Pos
     }
 }
 
-/// The number of that avatar at base node 16 of two, which has those of even number.
-pub fn own(e: u32) -> u32 {
-    e.wrapping_mul(2)
-}
-
 impl Maker {
+    /// A maker with the built-in definitions, of messages of base node 1.
     pub fn new(alloc: Global) -> Result<Maker, AllocError> {
-        let defs = builtin(alloc)?;
         let sender = BaseNode::new(1).ok_or(AllocError)?;
+        let defs = builtin(alloc)?;
         let promote = defs
             .type_at(AVATAR)
             .find_method(b"promote")
@@ -79,59 +78,77 @@ impl Maker {
         })
     }
 
-    /// The message of that kind about that avatar.
-    pub fn message(&self, kind: Kind, e: u32) -> Result<Msg, AllocError> {
-        Ok(match kind {
-            Kind::Hand => self.hand(e)?,
-            Kind::Call(number) => self.moves(e, number),
-            Kind::GhostSet => Msg::GhostSet(e, 1, self.copy(e)?),
-            Kind::GhostDrop => Msg::GhostDrop(e, 2),
-            Kind::Reap => Msg::Reap(e),
-            Kind::BaseCall => self.promotes(e),
-            Kind::Current => Msg::Current(own(e), 1, 1),
-            Kind::Update => leaves(e),
-        })
-    }
-
-    fn real(&self, e: u32) -> Result<Real, AllocError> {
-        Real::create(self.alloc, &self.defs, e, AVATAR, place(e, SIDE))
-    }
-
-    fn hand(&self, e: u32) -> Result<Msg, AllocError> {
-        let real = self.real(e)?;
-        Ok(Msg::Hand(Parcel { real }))
+    /// What a node is fed of that kind for that avatar: a message, or none for its task.
+    pub fn input(&self, kind: Kind, e: u32) -> Result<Option<Msg>, AllocError> {
+        match kind {
+            Kind::Task => Ok(None),
+            Kind::Hand => {
+                let real = self.real(e)?;
+                Ok(Some(Msg::Hand(Parcel { real })))
+            }
+            Kind::GhostSet => {
+                let copy = self.copy(e)?;
+                Ok(Some(Msg::GhostSet(e, 1, copy)))
+            }
+            _ => Ok(Some(self.note(kind, e))),
+        }
     }
 
     fn copy(&self, e: u32) -> Result<GhostCopy, AllocError> {
         self.real(e)?.copy_out(&self.defs)
     }
 
-    fn moves(&self, e: u32, number: u32) -> Msg {
+    // A message for which the definitions are not asked.
+    fn note(&self, kind: Kind, e: u32) -> Msg {
+        match kind {
+            Kind::Call(number) => Msg::Call(self.moves(e, number)),
+            Kind::GhostDrop => Msg::GhostDrop(e, 2),
+            Kind::Reap => Msg::Reap(e),
+            Kind::BaseCall(number) => Msg::BaseCall(self.promotes(e, number)),
+            Kind::Current => Msg::Current(e, 1, 1),
+            Kind::Update(number) => Msg::Update(leaves(e, number)),
+            _ => Msg::Tick,
+        }
+    }
+
+    /// An order for that avatar: a call of that number for its cell part, or for its base part.
+    pub fn order(&self, part: Part, e: u32, number: u32) -> Order {
+        match part {
+            Part::Cell => Order::Cell(self.moves(e, number)),
+            Part::Base => Order::Base(self.promotes(e, number)),
+        }
+    }
+
+    fn real(&self, e: u32) -> Result<Real, AllocError> {
+        Real::create(self.alloc, &self.defs, e, AVATAR, place(e, SIDE))
+    }
+
+    fn moves(&self, e: u32, number: u32) -> Call {
         let to = place(e.wrapping_add(number), MOVED);
-        Msg::Call(self.call(e, Part::Cell, u64::from(number), Deed::Move(to)))
+        self.call(e, Part::Cell, number, Deed::Move(to))
     }
 
-    fn promotes(&self, e: u32) -> Msg {
+    fn promotes(&self, e: u32, number: u32) -> Call {
         let deed = Deed::Method(self.promote, Args::of(Vec::new(self.alloc)));
-        Msg::BaseCall(self.call(own(e), Part::Base, 1, deed))
+        self.call(e, Part::Base, number, deed)
     }
 
-    /// A call of base node 1.
-    pub fn call(&self, e: u32, part: Part, number: u64, deed: Deed) -> Call {
+    // A call of base node 1.
+    fn call(&self, e: u32, part: Part, number: u32, deed: Deed) -> Call {
         Call {
             entity: e,
             part,
             sender: self.sender,
-            number,
+            number: u64::from(number),
             deed,
         }
     }
 }
 
-fn leaves(e: u32) -> Msg {
-    Msg::Update(Update {
-        entity: 0,
-        number: u64::from(e) + 1,
-        shown: Shown::Leave(e),
-    })
+fn leaves(e: u32, number: u32) -> Update {
+    Update {
+        entity: e,
+        number: u64::from(number),
+        shown: Shown::Leave(0),
+    }
 }

@@ -1,10 +1,26 @@
-use crate::cost::Cost;
+ghost use Rattle.std.specs.Prelude.{◌≡◌, true};
+
 use crate::messages::{Kind, Maker};
 use seam_entity::Msg;
 use seam_machine::{Input, Machine, Out};
 use std::alloc::{AllocError, Global};
 use std::io;
 use std::time::{Clock, Instant};
+
+/// How many avatars a node has and how many of them look, and whether times are printed or answers.
+#[derive(Clone, Copy)]
+pub struct Sizes {
+    pub avatars: u32,
+    pub witnesses: u32,
+    pub timed: bool,
+}
+
+/// A case of a step: its name, and what the node is fed for each avatar.
+#[derive(Clone, Copy)]
+pub struct Case {
+    pub name: &'static str,
+    pub kind: Kind,
+}
 
 // A number that depends on where the step sent its first message, and on whether the node has work.
 fn answer<M: Machine<Msg = Msg>>(node: &M, out: &Out<Msg>) -> u64 {
@@ -19,88 +35,115 @@ fn answer<M: Machine<Msg = Msg>>(node: &M, out: &Out<Msg>) -> u64 {
     }
 }
 
-/// The node hears a message.
-pub fn hear<M: Machine<Msg = Msg>>(
+// A step of the node.
+fn step<M: Machine<Msg = Msg>>(
     node: &mut M,
     alloc: Global,
-    message: Msg,
-) -> Result<u64, AllocError> {
-    let mut out = Out::new(alloc);
-    match node.step(alloc, Input::From(0, message), &mut out) {
-        Ok(()) => Ok(answer(node, &out)),
+    input: Input<Msg>,
+    out: &mut Out<Msg>,
+) -> Result<u64, AllocError>
+    requires { input ≡ Input.Task → M.has_work node.old ≡ true }
+{
+    match node.step(alloc, input, out) {
+        Ok(()) => Ok(answer(node, out)),
         Err(_) => Err(AllocError),
     }
 }
 
-/// The node's task, where there is one.
-pub fn work<M: Machine<Msg = Msg>>(node: &mut M, alloc: Global) -> Result<u64, AllocError> {
-    if !node.has_task() {
-        return Ok(0);
-    }
-    let mut out = Out::new(alloc);
-    match node.step(alloc, Input::Task, &mut out) {
-        Ok(()) => Ok(answer(node, &out)),
-        Err(_) => Err(AllocError),
-    }
-}
-
-/// So many tasks.
-pub fn works<M: Machine<Msg = Msg>>(
-    rt: &(impl Clock + Alloc<A = Global>),
-    node: &mut M,
-    count: u32,
-) -> io::Result<Cost> {
-    let alloc = rt.alloc();
-    let mut sum = 0u64;
-    let start = Instant::now(rt)?;
-    for _ in 0..count {
-        sum = sum.wrapping_add(work(node, alloc)?);
-    }
-    Cost::since(rt, start, count, sum)
-}
-
-/// The node hears a message of each of so many avatars. The messages are made before.
-pub fn hears<M: Machine<Msg = Msg>>(
-    rt: &(impl Clock + Alloc<A = Global>),
-    node: &mut M,
-    maker: &Maker,
-    kind: Kind,
-    count: u32,
-) -> io::Result<Cost> {
-    let alloc = rt.alloc();
-    let mut messages = Vec::new(alloc);
-    for e in 0..count {
-        messages.push(maker.message(kind, e)?)?;
-    }
-    let start = Instant::now(rt)?;
-    let sum = hear_all(node, alloc, messages)?;
-    Cost::since(rt, start, count, sum)
-}
-
-fn hear_all<M: Machine<Msg = Msg>>(
+// The node is fed the message, or does its task where none is given and it has one.
+fn feed<M: Machine<Msg = Msg>>(
     node: &mut M,
     alloc: Global,
-    messages: Vec<Msg>,
+    message: Option<Msg>,
+    out: &mut Out<Msg>,
+) -> Result<u64, AllocError> {
+    match message {
+        Some(message) => step(node, alloc, Input::From(0, message), out),
+        None => if node.has_task() {
+            step(node, alloc, Input::Task, out)
+        } else {
+            Ok(0)
+        },
+    }
+}
+
+// The node is fed all of that, the last first.
+fn feed_all<M: Machine<Msg = Msg>>(
+    node: &mut M,
+    alloc: Global,
+    inputs: &mut Vec<Option<Msg>>,
 ) -> Result<u64, AllocError> {
     let mut sum = 0u64;
-    for message in messages {
-        sum = sum.wrapping_add(hear(node, alloc, message)?);
+    for _ in 0..inputs.len() {
+        let Some(message) = inputs.pop() else {
+            return Ok(sum);
+        };
+        let mut out = Out::new(alloc);
+        sum = sum.wrapping_add(feed(node, alloc, message, &mut out)?);
     }
     Ok(sum)
 }
 
-/// The same, with one message at a time.
-pub fn fill<M: Machine<Msg = Msg>>(
-    alloc: Global,
+// Feeds the node all of that, and prints the line of the case.
+fn time<M: Machine<Msg = Msg>>(
+    rt: &HostRuntime,
     node: &mut M,
+    name: &str,
+    inputs: &mut Vec<Option<Msg>>,
+    timed: bool,
+) -> io::Result<()> {
+    let steps = inputs.len();
+    let start = Instant::now(rt)?;
+    let sum = feed_all(node, rt.alloc(), inputs)?;
+    let nanos = start.elapsed(rt)?.as_nanos();
+    if timed && steps > 0 {
+        let nanos = nanos / steps as u128;
+        return println!(rt; "{name}: {nanos} ns");
+    }
+    println!(rt; "{name}: {sum}")
+}
+
+/// The node makes the step of the case for each of so many avatars, and a line is printed. The messages are made before.
+pub fn run<M: Machine<Msg = Msg>>(
+    rt: &HostRuntime,
+    node: &mut M,
+    maker: &Maker,
+    case: &Case,
+    sizes: &Sizes,
+) -> io::Result<()> {
+    let mut inputs = Vec::new(rt.alloc());
+    for e in 0..sizes.avatars {
+        inputs.push(maker.input(case.kind, e)?)?;
+    }
+    time(rt, node, case.name, &mut inputs, sizes.timed)
+}
+
+/// The node makes the steps of each case in turn.
+pub fn each<M: Machine<Msg = Msg>>(
+    rt: &HostRuntime,
+    node: &mut M,
+    maker: &Maker,
+    cases: &[Case],
+    sizes: &Sizes,
+) -> io::Result<()> {
+    for case in cases {
+        run(rt, node, maker, case, sizes)?;
+    }
+    Ok(())
+}
+
+/// The node makes the step for each of so many avatars, with one message at a time.
+pub fn fill<M: Machine<Msg = Msg>>(
+    node: &mut M,
+    maker: &Maker,
     kind: Kind,
     count: u32,
 ) -> Result<u64, AllocError> {
-    let maker = Maker::new(alloc)?;
+    let mut out = Out::new(maker.alloc);
     let mut sum = 0u64;
     for e in 0..count {
-        let message = maker.message(kind, e)?;
-        sum = sum.wrapping_add(hear(node, alloc, message)?);
+        let message = maker.input(kind, e)?;
+        sum = sum.wrapping_add(feed(node, maker.alloc, message, &mut out)?);
     }
     Ok(sum)
 }
