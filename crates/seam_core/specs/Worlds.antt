@@ -1,9 +1,11 @@
 -- Worlds that a run reaches, and the laws that hold of each.
-use Rattle.std.specs.Prelude.{◌≡◌, ℕ, ◌+◌, List, length, Some}
+use Rattle.std.specs.Prelude.{◌≡◌, ℕ, ◌+◌, ◌≤◌, List, length, Some, if◌then◌else◌}
 use Rattle.std.specs.List.{AllByRecursion}
 use Rattle.seam_machine.specs.Nets.{LeadsTo, IsQuiet}
 use Rattle.seam_machine.specs.declared.machines.Event.{Event}
+use Rattle.seam_flows.specs.Tokens.{In}
 use Rattle.seam_call.specs.declared.order.Batch.{Batch}
+use Rattle.seam_call.specs.declared.shown.GhostCopy.{GhostCopy}
 use Rattle.seam_entity.specs.Here.{cell_count}
 use Rattle.seam_entity.specs.Reals.{RealView}
 use Rattle.seam_steps.specs.Holders.{holders}
@@ -13,7 +15,9 @@ use Rattle.seam_moves.specs.Frames.{Frame, IsInFrame}
 use Rattle.seam_moves.specs.Sights.{entity_flow}
 use Rattle.seam_ones.specs.Ones.{real_in}
 use Rattle.seam_between.specs.Between.{framed}
-use Rattle.seam_rounds.specs.Rounds.{AreReapable}
+use Rattle.seam_rounds.specs.Rounds.{AreReapable, reap_comes}
+use Rattle.seam_truths.specs.Truths.{IsHushed}
+use Rattle.seam_newest.specs.Copies.{copy_at}
 use Rattle.seam_replica.specs.Clients.{ClientReplica}
 use Rattle.seam_clients.specs.Clients.{clients_loaded, clients_shown}
 use Rattle.seam_laws.specs.Records.{KeepsRecords, KeepsRecordsWithin, MayBeGiven}
@@ -80,10 +84,23 @@ pub record EndsPhases (v : World) : Type 0 where
   pub shown : (f : Frame) (clients : ℕ → ClientReplica) (u : World) → FromLooks f clients u v → AreShownOneLook f clients u v
   pub looks : (f : Frame) (clients : ℕ → ClientReplica) (u : World) → FromLooks f clients u v → KeepsRecords f (clients_looked clients u) v
 
+-- whatever events follow on v, no cell has an older copy of the entity than it had
+abbrev pub CopiesNeverFall : ℕ → World → Type 0
+CopiesNeverFall e v = (u : World) (es : List Event) → Leads v es u → (k : ℕ) (c d : GhostCopy) → copy_at e v k ≡ Some c →
+    copy_at e u k ≡ Some d → c.version ≤ d.version
+
 -- The laws, of a world v: wherever it comes from, by calls, by reaps or by looks, it obeys the laws of that phase, and where it is quiet
 -- the phase has ended rightly.
 pub record KeepsLaws (v : World) : Type 0 where
   pub calls : (f : Frame) (clients : ℕ → ClientReplica) (w : World) (b : Batch) → FromCalls f clients w b v → ObeysLaws f clients w b v
+  -- by the calls copies never fall back, and where the real is no newer one comes
+  pub versions : (f : Frame) (clients : ℕ → ClientReplica) (w : World) (b : Batch) → FromCalls f clients w b v → (e : ℕ) →
+      holders (loaded w b) e ≡ 1 → CopiesNeverFall e v
+  pub hushed : (f : Frame) (clients : ℕ → ClientReplica) (w : World) (b : Batch) → FromCalls f clients w b v → (e : ℕ) →
+      holders (loaded w b) e ≡ 1 → (k : ℕ) (q : RealView) → real_in ((entity_flow e v).slot k) ≡ Some q → IsHushed e v (In k)
   pub reaps : (f : Frame) (clients : ℕ → ClientReplica) (u : World) (es : List ℕ) → FromReaps f clients u es v → ObeysLawsOfReaps f u es v
+  -- an entity has its one real until its Reap comes, and none from then on
+  pub until : (f : Frame) (clients : ℕ → ClientReplica) (u : World) (es : List ℕ) (from : FromReaps f clients u es v) (e : ℕ) →
+      holders u e ≡ 1 → holders v e ≡ (if reap_comes e (reaps_loaded u es) from.events then 0 else 1)
   pub looks : (f : Frame) (clients : ℕ → ClientReplica) (u : World) → FromLooks f clients u v → ObeysLawsOfLooks f clients u v
   pub ends : IsQuiet node_has_work v → EndsPhases v

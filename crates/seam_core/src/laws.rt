@@ -16,6 +16,8 @@ pub fn every_world_obeys_the_laws()
     seam_laws::calls_obey_the_laws();
     seam_laws::reaps_obey_the_laws();
     seam_laws::looks_obey_the_laws();
+    seam_newest::ghosts_of_a_round_are_true();
+    seam_rounds::reaps_end_reals();
 }
 
 /// What the rules ask of a batch lets a world load it: one that keeps the records between rounds may be given each that fits it.

@@ -125,6 +125,13 @@ impl World {
         count_holders(&self.net, e)
     }
 
+    /// Does nothing: it is called for its clause.
+    pub fn known(&self)
+        ensures { IsWorld self.now }
+    {
+        let _ = &self.net;
+    }
+
     /// The nodes and the links.
     pub fn net(&self) -> &Net<Node>
         ensures { result.now ≡ self.now }
