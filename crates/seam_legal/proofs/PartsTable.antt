@@ -45,7 +45,7 @@ use Rattle.seam_legal.proofs.Bases.{Became}
 
 -- what a deed makes of values does not depend on the position
 module _ (t : TypeDef) where
-  same_props : (s u : State) (d : Deed) → s.props ≡ u.props → (after t s d).props ≡ (after t u d).props
+  pub same_props : (s u : State) (d : Deed) → s.props ≡ u.props → (after t s d).props ≡ (after t u d).props
   same_props s u (deed.Move p) same = same
   same_props s u (deed.Method m args) same = ap (λ (ps : List Value). (after t (record s { props = ps }) (deed.Method m args)).props) same
 
