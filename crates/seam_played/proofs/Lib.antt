@@ -7,3 +7,4 @@ mod BaseVersions
 mod Told
 mod Replicas
 mod Tickless
+mod OneLook

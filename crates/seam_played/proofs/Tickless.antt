@@ -38,7 +38,7 @@ use Rattle.seam_base_rounds.proofs.Going.{its_part, few_lines}
 use Rattle.seam_base_rounds.proofs.Ticking.{idle_looks}
 use Rattle.seam_base_rounds.proofs.Turns.{few_more}
 
-abbrev IsNoTick : ℕ × Order → Type 0
+abbrev pub IsNoTick : ℕ × Order → Type 0
 IsNoTick o = is_tick_order o.1 ≡ false
 
 -- ---- no tick comes to a node

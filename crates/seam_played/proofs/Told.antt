@@ -33,11 +33,11 @@ pub record IsShown (told : ℕ) (ls : List Line) (texts : List ClientText) : Typ
   pub numbers : map number_of_line ls ≡ range_with_len (told + 1) (length ls)
   pub bases : base_lines ls ≡ texts
 
--- of one that dies in the round those of its calls, and else those of the whole round
-pub by_death : (told : ℕ) (texts : List ClientText) (called ended : List Line) (dies : Bool) → IsShown told called texts →
-    (dies ≡ false → IsShown told ended texts) → IsShown told (if dies then called else ended) texts
-by_death told texts called ended true first last = first
-by_death told texts called ended false first last = last refl
+-- what is true of the lines of the calls of one that dies in the round, and of those of the whole round of one that does not
+pub by_death : (P : List Line → Type 0) (called ended : List Line) (dies : Bool) → (dies ≡ true → P called) → (dies ≡ false → P ended) →
+    P (if dies then called else ended)
+by_death P called ended true first last = first refl
+by_death P called ended false first last = last refl
 
 -- the texts of lines about the base part are those of the rules
 pub base_texts_are : (ls : List Line) → filter is_base (map (λ l. l.text) ls) ≡ base_lines ls
@@ -112,3 +112,12 @@ module _ (f : Frame) (w : World) (b : Batch) (may : MayBeLoaded f w b) (e told :
           bases = ap base_lines looks.shown ∙ letters_of-append base_in s.proxy.lines looks.lines
               ∙ ap (λ l. base_lines s.proxy.lines ++ l) nothing ∙ append-nil (base_lines s.proxy.lines) ∙ bases_called;
         })
+
+    -- what it was shown in the looks, of which nothing is about the base part
+    pub later_lines : (later : List Line) × (shown v ≡ shown called ++ later) × (base_lines later ≡ [])
+    later_lines = (
+      looks.lines,
+      ap (λ o. lines_in (proxy_of o)) looks.is ∙ ap lines_in looks.has ∙ looks.shown
+          ∙ ap (λ l. l ++ looks.lines) (sym (ap (λ o. lines_in (proxy_of o)) s.is ∙ ap lines_in s.has)),
+      nothing,
+    )

@@ -12,6 +12,7 @@ use Rattle.seam_accept.specs.Batches.{joined}
 use Rattle.seam_batches.specs.Books.{as_begun}
 use Rattle.seam_batches.specs.Bringing.{IsPresent, GetsClient, IsNewEntity, IsUntouched, Brings, made_among}
 use Rattle.seam_batches.proofs.Present.{any_split, any_begun, created_split, created_begun, unjoined}
+use Rattle.seam_steps.specs.Bases.{ProxyView}
 use Rattle.seam_ones.proofs.Holds.{both}
 use Rattle.seam_base_rounds.proofs.Joining.{is_among}
 
@@ -79,3 +80,17 @@ module _ (h : Header) (b : Book) (R : Brings h b)
   pub unjoined_before : (e : ℕ) → is_among e (filter_map joined b.current) ≡ true → list_any (joins e) b.past ≡ false
   unjoined_before e is =
       let g = among_has (GetsClient b) e (filter_map joined b.current) R.clients is in alone_by e g g.present
+
+pub client_by : (o : Option ProxyView) → is_some o ≡ true → (x : ProxyView) × (o ≡ Some x)
+client_by None is = absurd (let z = is in cc)
+client_by (Some x) is = (x, refl)
+
+created_by : (o : Option Create) → is_some o ≡ true → (c : Create) × (o ≡ Some c)
+created_by None is = absurd (let z = is in cc)
+created_by (Some c) is = (c, refl)
+
+-- one that has a client in the round was created
+pub was_created : (b : Book) (e : ℕ) → IsTrue (is_shown b e) → (c : Create) × (created_as b e ≡ Some c)
+was_created b e shown =
+    let first = (both (is_some (created_as b e) && list_any (joins e) (entries b)) (not (was_dead b e)) shown).0 in
+    created_by (created_as b e) (both (is_some (created_as b e)) (list_any (joins e) (entries b)) first).0

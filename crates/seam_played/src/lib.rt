@@ -27,6 +27,7 @@ ghost use Rattle.seam_rules.specs.Lines.{lines_to, told_in};
 ghost use Rattle.seam_rules.specs.Round.{HasBounds, IsRound};
 ghost use Rattle.seam_rules.specs.Standing.{Standing, replica_of};
 ghost use Rattle.seam_legal.specs.Going.{frame_of};
+ghost use Rattle.seam_laws.specs.Looks.{shown_to};
 ghost use Rattle.seam_laws.specs.Records.{KeepsRecords};
 ghost use Rattle.seam_played.specs.Reading.{lines_told};
 ghost use Rattle.seam_played.specs.Playing.{IsPlayed, IsLegalButClients, ContinuesLines, data_of, standing_of, clients_ended_in};
@@ -127,19 +128,56 @@ pub fn a_look_after_the_round_shows_nothing()
     clients_show_what_they_were_told();
 }
 
-/// So a played round is legal, where what its clients are shown of cell parts is right, where in a round without a tick each was shown its
-/// base lines and then exactly one look at what the round left, and where the next round begins with the tree that the rules ask for.
+/// Where no tick was accepted, the calls show no client anything of cell parts.
+pub fn without_a_tick_calls_show_no_cell_parts()
+    ensures { (h : Header) (s : Standing) (tree : Division) (w v : World) (p : IsPlayed h s tree w v) → IsFalse (has_tick s.book) →
+        (c : Create) → created_as s.book c.entity ≡ Some c → IsTrue (is_shown s.book c.entity) →
+        shown_to (frame_of h (tree_of s.book)) c.entity p.round.called ≡ [] }
+{
+    seam_batches::lines_bring_what_fits();
+    seam_batches::uncreated_numbers_are_untouched();
+    seam_base_calls::each_base_call_waits_once();
+    seam_base_calls::a_clients_updates_come_in_order();
+    seam_base_calls::a_witness_tells_only_in_looks();
+    seam_laws::calls_obey_the_laws();
+    seam_legal::what_lines_bring_fits();
+}
+
+/// So each client of such a round is shown its base lines, and then exactly one look at what the round left; a look of a client whose
+/// entity died is empty.
+pub fn without_a_tick_each_client_is_shown_one_look()
+    ensures { (h : Header) (s : Standing) (tree : Division) (w v : World) (p : IsPlayed h s tree w v) (bounds : Option Division)
+        (next : Book) → let r = data_of h s tree w v p bounds in let t = standing_of h s tree w v p bounds next in
+        IsFalse (has_tick s.book) → (e : ℕ) → IsTrue (is_shown s.book e) →
+        texts_to r e ≡ base_texts r e ++ map Shown (one_look (replica_of h s e) e (rows_of h t.orders p.live)) }
+{
+    seam_batches::lines_bring_what_fits();
+    seam_batches::uncreated_numbers_are_untouched();
+    seam_places::the_last_phases_leave_places();
+    seam_clients::the_base_part_is_shown_at_each_change();
+    seam_laws::calls_obey_the_laws();
+    seam_laws::reaps_obey_the_laws();
+    seam_laws::looks_obey_the_laws();
+    seam_legal::what_lines_bring_fits();
+    seam_legal::a_book_goes_with_the_world_after_its_round();
+    seam_legal::reals_are_those_of_the_flat_table();
+    seam_legal::the_table_of_a_world_is_that_of_the_rules();
+    client_lines_are_gathered();
+    without_a_tick_calls_show_no_cell_parts();
+}
+
+/// So a played round is legal, where what its clients are shown of cell parts is right, and where the next round begins with the tree that
+/// the rules ask for.
 pub fn a_played_round_is_legal()
     ensures { (h : Header) (s : Standing) (tree : Division) (w v : World) (p : IsPlayed h s tree w v) (bounds : Option Division)
         (next : Book) → let r = data_of h s tree w v p bounds in let t = standing_of h s tree w v p bounds next in
         ((c : Create) → created_as s.book c.entity ≡ Some c → IsTrue (is_shown s.book c.entity) →
-        ShowsRightly (truth_of h s t c) c.entity (replica_of h s c.entity) (shown_by_lines (told_in r c.entity))) →
-        (IsFalse (has_tick s.book) → (e : ℕ) → IsTrue (is_shown s.book e) →
-        texts_to r e ≡ base_texts r e ++ map Shown (one_look (replica_of h s e) e (rows_of h t.orders p.live))) → HasBounds h s r t →
+        ShowsRightly (truth_of h s t c) c.entity (replica_of h s c.entity) (shown_by_lines (told_in r c.entity))) → HasBounds h s r t →
         IsRound h s r t }
 {
     a_played_round_is_legal_but_for_clients();
     client_lines_are_gathered();
     clients_are_shown_base_parts();
     a_look_after_the_round_shows_nothing();
+    without_a_tick_each_client_is_shown_one_look();
 }

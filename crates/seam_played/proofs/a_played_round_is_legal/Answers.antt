@@ -5,7 +5,7 @@ use Rattle.seam_played.specs.Playing.{ContinuesLines, data_of, standing_of}
 use Rattle.seam_played.proofs.a_played_round_is_legal.Goals as goal
 
 pub returns : goal.returns
-returns c h s tree w v p bounds next right one_each bound =
+returns c h s tree w v p bounds next right bound =
     let its = c.a_played_round_is_legal_but_for_clients.ensures h s tree w v p bounds next in
     let t = standing_of h s tree w v p bounds next in
     record {
@@ -34,7 +34,7 @@ returns c h s tree w v p bounds next right one_each bound =
       };
       looked = record {
         nothing_left = c.a_look_after_the_round_shows_nothing.ensures h s tree w v p bounds next;
-        one_each = one_each;
+        one_each = c.without_a_tick_each_client_is_shown_one_look.ensures h s tree w v p bounds next;
       };
       bounds = bound;
       lines = refl;

@@ -7,7 +7,6 @@ use Rattle.seam_transcript.specs.Book.{created_as, destroys, is_new_client}
 use Rattle.seam_accept.specs.Batches.{batch_of}
 use Rattle.seam_batches.specs.Books.{as_begun}
 use Rattle.seam_batches.specs.Bringing.{IsUntouched}
-use Rattle.seam_steps.specs.Bases.{ProxyView}
 use Rattle.seam_steps.specs.Loads.{loaded}
 use Rattle.seam_moves.specs.Frames.{here_at}
 use Rattle.seam_between.specs.Between.{framed}
@@ -27,14 +26,10 @@ use Rattle.seam_legal.proofs.Ended.{live_ended}
 use Rattle.seam_legal.proofs.Parts.{among_joined}
 use Rattle.seam_played.specs.Playing.{standing_of}
 use Rattle.seam_played.specs.Reading.{lines_shown, lines_told}
-use Rattle.seam_played.proofs.Who.{is_there, was_joined, lives_on, unjoined_before}
+use Rattle.seam_played.proofs.Who.{is_there, was_joined, lives_on, unjoined_before, client_by}
 use Rattle.seam_played.proofs.BaseVersions.{texts_are}
 use Rattle.seam_played.proofs.Told.{IsShown, by_death, base_texts_are, called_shown, ended_shown}
 use Rattle.seam_played.proofs.clients_are_shown_base_parts.Goals as goal
-
-client_by : (o : Option ProxyView) → is_some o ≡ true → (x : ProxyView) × (o ≡ Some x)
-client_by None is = absurd (let z = is in cc)
-client_by (Some x) is = (x, refl)
 
 pub returns : goal.returns
 returns c h s tree w v p bounds next x is shown =
@@ -100,5 +95,6 @@ returns c h s tree w v p bounds next x is shown =
     round.reaps).parts e held.cell before.real before.here (base_node h e) left.part left.here in
     ended_shown f w B loads e told (p.beside.numbers e) none l.base y.0 l.base_here y.1 round.called shows round.reaped v
     reaped.records.reals round.look_events round.looks was.real.ty left same in
-    let so = by_death told texts (lines_shown h round.called e) (lines_shown h v e) (list_any (destroys e) b.current) in_calls in_all in
+    let so = by_death (λ ls. IsShown told ls texts) (lines_shown h round.called e) (lines_shown h v e) (list_any (destroys e) b.current)
+    (λ now. in_calls) in_all in
     record { numbers = so.numbers; bases = base_texts_are (lines_told h b round.called v e) ∙ so.bases ∙ rules }
