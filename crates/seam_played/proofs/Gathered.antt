@@ -167,7 +167,7 @@ module _ (told : ℕ → List Line) where
         by true = refl
         by false = refl
 
-    none_of : (cs : List Create) → AllByRecursion (λ d. d.entity ≡ e → ⊥) cs → filter is_its (all_lines cs) ≡ []
+    pub none_of : (cs : List Create) → AllByRecursion (λ d. d.entity ≡ e → ⊥) cs → filter is_its (all_lines cs) ≡ []
     none_of [] all = refl
     none_of (c ∷ cs) all =
         filter-append is_its (its c) (all_lines cs)

@@ -113,6 +113,15 @@ module _ (f : Frame) (w : World) (b : Batch) (may : MayBeLoaded f w b) (e told :
               ∙ ap (λ l. base_lines s.proxy.lines ++ l) nothing ∙ append-nil (base_lines s.proxy.lines) ∙ bases_called;
         })
 
+    pub ended_last : (q : PartView) (z : ProxyView) → ((entity_flow e v).slot (home_of f e)).base.part ≡ Some q → q.proxy ≡ Some z →
+        z.last ≡ told + length (shown v)
+    ended_last q z at client_at =
+        let part_is : looks.part ≡ q = (let a = sym looks.is ∙ at in cc) in
+        let proxy_is : looks.proxy ≡ z =
+        (let a = sym looks.has ∙ (ap (λ (o : PartView). o.proxy) part_is ∙ client_at) in cc) in
+        ap (λ (o : ProxyView). o.last) (sym proxy_is) ∙ after.last
+        ∙ ap (λ ls. told + length ls) (sym (ap (λ o. lines_in (proxy_of o)) looks.is ∙ ap lines_in looks.has))
+
     -- what it was shown in the looks, of which nothing is about the base part
     pub later_lines : (later : List Line) × (shown v ≡ shown called ++ later) × (base_lines later ≡ [])
     later_lines = (

@@ -1,15 +1,17 @@
 -- A round of a standing's open lines, played from one world to another.
-use Rattle.std.specs.Prelude.{◌≡◌, ℕ, ◌+◌, List, map, filter, length, Option}
-use Rattle.std.specs.List.{All, flat_map, range_with_len}
+use Rattle.std.specs.Prelude.{◌≡◌, ℕ, ◌+◌, false, List, map, filter, length, Option, Some}
+use Rattle.std.specs.List.{All, flat_map, list_any, range_with_len}
 use Rattle.seam_tree.specs.Division.{Division}
 use Rattle.seam_defs.specs.declared.flags.Part.TheVariants as part
 use Rattle.seam_call.specs.declared.create.Create.{Create}
 use Rattle.seam_call.specs.declared.shown.Line.{Line}
 use Rattle.seam_toml.specs.declared.header.Header.{Header}
-use Rattle.seam_transcript.specs.Book.{Book, created_as, live_as, tree_of}
+use Rattle.seam_transcript.specs.Book.{Book, created_as, live_as, destroys, tree_of}
 use Rattle.seam_transcript.specs.Round.{Lists, ExtendsOrders}
 use Rattle.seam_accept.specs.Batches.{batch_of}
+use Rattle.seam_steps.specs.Bases.{PartView, ProxyView}
 use Rattle.seam_steps.specs.Nodes.{World}
+use Rattle.seam_moves.specs.Sights.{entity_flow}
 use Rattle.seam_between.specs.Between.{framed}
 use Rattle.seam_places.specs.Places.{GoesThroughRound}
 use Rattle.seam_replica.specs.Clients.{ClientReplica}
@@ -19,7 +21,7 @@ use Rattle.seam_rules.specs.Clients.{is_base, base_shown, base_versions}
 use Rattle.seam_rules.specs.Standing.{Standing, replica_of}
 use Rattle.seam_rules.specs.Places.{HasPlace}
 use Rattle.seam_rules.specs.Round.{home_line, base_line, ghost_lines}
-use Rattle.seam_legal.specs.Going.{frame_of}
+use Rattle.seam_legal.specs.Going.{frame_of, base_node}
 use Rattle.seam_legal.specs.Playing.{HasEnded}
 use Rattle.seam_played.specs.Beside.{StandsBeside}
 use Rattle.seam_played.specs.Reading.{round_read, standing_read}
@@ -59,7 +61,11 @@ pub record IsLegalButClients (h : Header) (s : Standing) (r : RoundData) (t : St
   pub bases : r.bases ≡ map (base_line h t) live
   pub ghosts : r.ghosts ≡ flat_map (ghost_lines h (tree_of s.book) t) live
 
--- The lines go on with the numbers of the entity's client, and show the entity's base part at its versions, in rising order.
-pub record ContinuesLines (h : Header) (s t : Standing) (c : Create) (lines : List Line) : Type 0 where
+-- The lines go on with the numbers of the entity's client, and show the entity's base part at its versions, in rising order. Where the
+-- entity lives on, in the world v, its client's last line has the next number after them.
+pub record ContinuesLines (h : Header) (s t : Standing) (c : Create) (v : World) (lines : List Line) : Type 0 where
   pub numbers : map (λ l. l.number) lines ≡ range_with_len (length (s.told c.entity) + 1) (length lines)
   pub bases : filter is_base (map (λ l. l.text) lines) ≡ map (base_shown h t c) (base_versions h s t c)
+  pub last : list_any (destroys c.entity) s.book.current ≡ false → (p : PartView) (x : ProxyView) →
+      ((entity_flow c.entity v).slot (base_node h c.entity)).base.part ≡ Some p → p.proxy ≡ Some x →
+      x.last ≡ length (s.told c.entity) + length lines

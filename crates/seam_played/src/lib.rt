@@ -5,7 +5,7 @@
 //! leaves (*standing_of*). Each law here is about one point of a legal round (*IsRound* of `seam_rules`).
 #![tactic(auto)]
 
-ghost use Rattle.std.specs.Prelude.{◌≡◌, ◌++◌, ℕ, List, [], IsTrue, IsFalse, Option, Some, is_some, map};
+ghost use Rattle.std.specs.Prelude.{◌≡◌, ◌++◌, ℕ, false, List, [], IsTrue, IsFalse, Option, Some, is_some, map};
 ghost use Rattle.std.specs.List.{All};
 ghost use Rattle.std.specs.List.Sorted.{IsNonDecreasing};
 ghost use Rattle.seam_tree.specs.Division.{Division};
@@ -19,7 +19,7 @@ ghost use Rattle.seam_replica.specs.Clients.{shown_by_lines};
 ghost use Rattle.seam_replica.specs.Lines.{ShowsRightly};
 ghost use Rattle.seam_replica.specs.Looks.{one_look};
 ghost use Rattle.seam_toml.specs.declared.header.Header.{Header};
-ghost use Rattle.seam_transcript.specs.Book.{Book, created_as, live_as, is_shown, has_tick, tree_of};
+ghost use Rattle.seam_transcript.specs.Book.{Book, created_as, live_as, is_shown, has_tick, tree_of, with_round_ended};
 ghost use Rattle.seam_transcript.specs.Round.{Lists};
 ghost use Rattle.seam_rules.specs.Clients.{truth_of, base_texts, texts_to};
 ghost use Rattle.seam_rules.specs.FlatTable.{rows_of};
@@ -29,6 +29,7 @@ ghost use Rattle.seam_rules.specs.Standing.{Standing, replica_of};
 ghost use Rattle.seam_legal.specs.Going.{frame_of};
 ghost use Rattle.seam_laws.specs.Looks.{shown_to};
 ghost use Rattle.seam_laws.specs.Records.{KeepsRecords};
+ghost use Rattle.seam_played.specs.Beside.{GoesBetween};
 ghost use Rattle.seam_played.specs.Reading.{lines_told};
 ghost use Rattle.seam_played.specs.Playing.{IsPlayed, IsLegalButClients, ContinuesLines, data_of, standing_of, clients_ended_in};
 
@@ -58,7 +59,8 @@ pub fn a_played_round_is_legal_but_for_clients()
 }
 
 /// The lines of its clients are gathered from entity to entity in rising number (`rising`), those of its clients alone (`only`), each under
-/// its entity's type (`types`); and those of an entity's client are the ones that this was shown (`told`).
+/// its entity's type (`types`); and those of an entity's client are the ones that this was shown (`told`), which are none where the entity
+/// has no client (`none`).
 pub fn client_lines_are_gathered()
     ensures rising { (h : Header) (s : Standing) (tree : Division) (w v : World) (p : IsPlayed h s tree w v) (bounds : Option Division) →
         IsNonDecreasing (map (λ l. l.entity) (data_of h s tree w v p bounds).shown) }
@@ -70,13 +72,15 @@ pub fn client_lines_are_gathered()
     ensures told { (h : Header) (s : Standing) (tree : Division) (w v : World) (p : IsPlayed h s tree w v) (bounds : Option Division)
         (c : Create) → created_as s.book c.entity ≡ Some c → IsTrue (is_shown s.book c.entity) →
         told_in (data_of h s tree w v p bounds) c.entity ≡ lines_told h s.book p.round.called v c.entity }
+    ensures none { (h : Header) (s : Standing) (tree : Division) (w v : World) (p : IsPlayed h s tree w v) (bounds : Option Division)
+        (e : ℕ) → is_shown s.book e ≡ false → told_in (data_of h s tree w v p bounds) e ≡ [] }
 {}
 
 /// The lines of each client go on with its numbers, and show the base part of its entity at the versions that the rules ask for.
 pub fn clients_are_shown_base_parts()
     ensures { (h : Header) (s : Standing) (tree : Division) (w v : World) (p : IsPlayed h s tree w v) (bounds : Option Division)
         (next : Book) (c : Create) → created_as s.book c.entity ≡ Some c → IsTrue (is_shown s.book c.entity) →
-        ContinuesLines h s (standing_of h s tree w v p bounds next) c (lines_told h s.book p.round.called v c.entity) }
+        ContinuesLines h s (standing_of h s tree w v p bounds next) c v (lines_told h s.book p.round.called v c.entity) }
 {
     seam_batches::lines_bring_what_fits();
     seam_batches::uncreated_numbers_are_untouched();
@@ -180,4 +184,22 @@ pub fn a_played_round_is_legal()
     clients_are_shown_base_parts();
     a_look_after_the_round_shows_nothing();
     without_a_tick_each_client_is_shown_one_look();
+}
+
+/// The standing that a played round leaves goes with the world that it leaves, by the round's tree.
+pub fn a_standing_goes_with_the_world_after_its_round()
+    ensures { (h : Header) (s : Standing) (tree : Division) (w v : World) (p : IsPlayed h s tree w v) (bounds : Option Division) →
+        GoesBetween h (standing_of h s tree w v p bounds (with_round_ended s.book)) (tree_of s.book) v }
+{
+    seam_laws::calls_obey_the_laws();
+    seam_laws::reaps_obey_the_laws();
+    seam_laws::looks_obey_the_laws();
+    seam_legal::what_lines_bring_fits();
+    seam_legal::a_book_goes_with_the_world_after_its_round();
+    seam_legal::each_part_executed_what_was_accepted();
+    seam_legal::reals_are_those_of_the_flat_table();
+    seam_legal::base_parts_are_those_of_the_flat_table();
+    client_lines_are_gathered();
+    clients_are_shown_base_parts();
+    clients_show_what_they_were_told();
 }

@@ -18,6 +18,7 @@ use Rattle.seam_rules.specs.Standing.{replica_of}
 use Rattle.seam_legal.specs.Going.{frame_of}
 use Rattle.seam_legal.proofs.Ended.{live_ended}
 use Rattle.seam_legal.proofs.Further.{has_witness, its_witness}
+use Rattle.seam_played.specs.Beside.{may_play}
 use Rattle.seam_played.specs.Playing.{standing_of}
 use Rattle.seam_played.proofs.a_look_after_the_round_shows_nothing.Goals as goal
 
@@ -27,7 +28,7 @@ returns c h s tree w v p bounds next e shown =
     let B = batch_of h b in
     let f = frame_of h tree in
     let g = framed f B in
-    let play = p.beside.play in
+    let play = may_play h s tree w p.beside in
     let round = p.round in
     let t = standing_of h s tree w v p bounds next in
     let clients = replica_of h s in
@@ -40,7 +41,7 @@ returns c h s tree w v p bounds next e shown =
     round.reaps round.reaps_done in
     let last = c.looks_obey_the_laws.ensures.records g then round.reaped reaped round.look_events v round.looks p.ended.quiet in
     let on = c.a_book_goes_with_the_world_after_its_round.ensures.round h b tree clients w play v round p.ended in
-    let now = c.reals_are_those_of_the_flat_table.ensures.ended h b tree clients w play s.orders p.beside.before v round in
+    let now = c.reals_are_those_of_the_flat_table.ensures.ended h b tree clients w play s.orders p.beside.between.before v round in
     let listed : Lists (live_as (with_round_ended b)) p.live = record {
       rising = p.live_listed.rising;
       exact = λ x. (
@@ -58,7 +59,7 @@ returns c h s tree w v p bounds next e shown =
           let x = its_witness g round.reaped reaped.records.reals reaped.records.parts v round.look_events round.looks last.parts e q.0
           q.1 q.2 was seen in
           let fits = reaped.records.shown.each e q.0 was.real was.here x.0 x.1 in
-          let one = c.the_table_of_a_world_is_that_of_the_rules.ensures.one_each h b tree clients w play s.orders p.beside.before v round
+          let one = c.the_table_of_a_world_is_that_of_the_rules.ensures.one_each h b tree clients w play s.orders p.beside.between.before v round
           p.ended p.live p.live_listed e shown q.0 q.1 q.2 in
           let looked : replica_of h t e ≡ after_all_shown (then e) (one_look (then e) e rows) =
           sym (c.clients_show_what_they_were_told.ensures.replicas h s tree w v p bounds next e q.0 q.1 q.2 seen)

@@ -22,7 +22,7 @@ returns c h s tree w v p bounds next right bound =
         rising = c.client_lines_are_gathered.ensures.rising h s tree w v p bounds;
         only = c.client_lines_are_gathered.ensures.only h s tree w v p bounds;
         each = λ x is shown.
-            let so = subst (ContinuesLines h s t x) (sym (c.client_lines_are_gathered.ensures.told h s tree w v p bounds x is shown))
+            let so = subst (ContinuesLines h s t x v) (sym (c.client_lines_are_gathered.ensures.told h s tree w v p bounds x is shown))
             (c.clients_are_shown_base_parts.ensures h s tree w v p bounds next x is shown) in
             record {
               types = c.client_lines_are_gathered.ensures.types h s tree w v p bounds x is shown;

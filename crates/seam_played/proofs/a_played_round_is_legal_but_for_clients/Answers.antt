@@ -12,6 +12,7 @@ use Rattle.seam_rules.specs.Round.{home_line, base_line, ghost_lines}
 use Rattle.seam_legal.specs.Going.{frame_of}
 use Rattle.seam_legal.specs.Standings.{AreInPlace, ghosts_read}
 use Rattle.seam_legal.proofs.Ended.{live_ended}
+use Rattle.seam_played.specs.Beside.{may_play}
 use Rattle.seam_played.specs.Playing.{standing_of}
 use Rattle.seam_played.specs.Reading.{homes_read, base_if, bases_read, place_read}
 use Rattle.seam_played.proofs.Held.{one_of_each, same_of_each, all_of_each, home_is, place_is}
@@ -23,7 +24,7 @@ returns c h s tree w v p bounds next =
     let B = batch_of h b in
     let f = frame_of h tree in
     let g = framed f B in
-    let play = p.beside.play in
+    let play = may_play h s tree w p.beside in
     let round = p.round in
     let t = standing_of h s tree w v p bounds next in
     let clients = replica_of h s in
@@ -36,9 +37,9 @@ returns c h s tree w v p bounds next =
     let last = c.looks_obey_the_laws.ensures.records g then round.reaped reaped round.look_events v round.looks p.ended.quiet in
     let on = c.a_book_goes_with_the_world_after_its_round.ensures.round h b tree clients w play v round p.ended in
     let full = c.each_part_executed_what_was_accepted.ensures.full h b tree clients w play round.call_events round.called round.calls
-    round.calls_done s.orders p.beside.before.full in
-    let rows = c.reals_are_those_of_the_flat_table.ensures.ended h b tree clients w play s.orders p.beside.before v round in
-    let parts = c.base_parts_are_those_of_the_flat_table.ensures.ended h b tree clients w play s.orders p.beside.before v round p.ended in
+    round.calls_done s.orders p.beside.between.before.full in
+    let rows = c.reals_are_those_of_the_flat_table.ensures.ended h b tree clients w play s.orders p.beside.between.before v round in
+    let parts = c.base_parts_are_those_of_the_flat_table.ensures.ended h b tree clients w play s.orders p.beside.between.before v round p.ended in
     let there : AreInPlace (place_read v) v = λ e k q at. place_is g v last.reals e k q at in
     let lives : (x : Create) → Contains p.live x → live_as (with_round_ended b) x.entity ≡ Some x =
     λ x has. live_ended b x.entity ∙ (p.live_listed.exact x).0 has in
@@ -48,7 +49,7 @@ returns c h s tree w v p bounds next =
       places = all_of_each (HasPlace h s t) p.live
           (λ x has.
           let held = on.live x.entity x (lives x has) in
-          c.places_are_those_that_the_rules_allow.ensures h s t tree clients w play p.beside.before p.beside.places v round refl there x
+          c.places_are_those_that_the_rules_allow.ensures h s t tree clients w play p.beside.between.before p.beside.between.places v round refl there x
           held.cell held.real held.here ((p.live_listed.exact x).0 has));
       homes = one_of_each (λ x. homes_read v x.entity) (home_line h t) p.live
           (λ x has.

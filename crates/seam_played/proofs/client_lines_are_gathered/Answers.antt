@@ -1,6 +1,6 @@
-use Rattle.std.proofs.Common.{◌≡◌, ℕ, Bool, List, map, Some, refl, sym, ap, ◌∙◌, subst}
+use Rattle.std.proofs.Common.{◌≡◌, ℕ, Bool, false, List, [], ◌∷◌, map, Some, refl, sym, ap, ◌∙◌, subst}
 use Rattle.std.specs.Prelude.{Contains, IsTrue, filter}
-use Rattle.std.specs.List.{All}
+use Rattle.std.specs.List.{All, AllByRecursion}
 use Rattle.seam_tree.specs.Division.{Division}
 use Rattle.seam_call.specs.declared.create.Create.{Create}
 use Rattle.seam_call.specs.declared.shown.Line.{Line}
@@ -11,7 +11,7 @@ use Rattle.seam_rules.specs.Standing.{Standing}
 use Rattle.seam_expected.proofs.ListedLemmas.{filter_has}
 use Rattle.seam_played.specs.Playing.{IsPlayed}
 use Rattle.seam_played.specs.Reading.{lines_told}
-use Rattle.seam_played.proofs.Gathered.{Rises, rises, rises_kept, all_pass, all_in, all_of, lines_rise, lines_found, line_of_each}
+use Rattle.seam_played.proofs.Gathered.{Rises, rises, rises_kept, all_pass, all_in, all_of, lines_rise, lines_found, none_of, line_of_each}
 use Rattle.seam_played.proofs.client_lines_are_gathered.Goals as goal
 
 module _ (h : Header) (s : Standing) (tree : Division) (w v : World) (p : IsPlayed h s tree w v) where
@@ -49,3 +49,14 @@ returns-clause-told c h s tree w v p bounds x is shown =
     ap (map (λ l. l.line))
     (lines_found (told h s tree w v p) (clients h s tree w v p) x (in_order h s tree w v p) (there h s tree w v p x is shown))
     ∙ line_of_each x (told h s tree w v p x.entity)
+
+apart : (p : ℕ → Bool) (e : ℕ) (cs : List Create) → p e ≡ false → AllByRecursion (λ x. IsTrue (p x.entity)) cs →
+    AllByRecursion (λ x. x.entity ≡ e → ⊥) cs
+apart p e [] not all = tt
+apart p e (x ∷ cs) not all = ((λ same. let z = sym not ∙ (ap p (sym same) ∙ all.0) in cc), apart p e cs not all.1)
+
+pub returns-clause-none : goal.returns-clause-none
+returns-clause-none c h s tree w v p bounds e not =
+    ap (map (λ l. l.line))
+    (none_of (told h s tree w v p) e (clients h s tree w v p)
+    (apart (λ n. is_shown s.book n) e (clients h s tree w v p) not (all_pass (shows h s tree w v p) p.made)))

@@ -1,4 +1,4 @@
-use Rattle.std.proofs.Common.{◌≡◌, ℕ, true, false, List, [], ◌++◌, map, length, Option, None, Some, refl, sym, ap, ◌∙◌}
+use Rattle.std.proofs.Common.{◌≡◌, ℕ, ◌+◌, true, false, List, [], ◌++◌, map, length, Option, None, Some, refl, sym, ap, ◌∙◌}
 use Rattle.std.specs.Prelude.{is_some, if◌then◌else◌}
 use Rattle.std.specs.List.{list_any}
 use Rattle.seam_defs.specs.declared.flags.Part.TheVariants as part
@@ -7,8 +7,10 @@ use Rattle.seam_transcript.specs.Book.{created_as, destroys, is_new_client}
 use Rattle.seam_accept.specs.Batches.{batch_of}
 use Rattle.seam_batches.specs.Books.{as_begun}
 use Rattle.seam_batches.specs.Bringing.{IsUntouched}
+use Rattle.seam_steps.specs.Bases.{PartView, ProxyView}
 use Rattle.seam_steps.specs.Loads.{loaded}
 use Rattle.seam_moves.specs.Frames.{here_at}
+use Rattle.seam_moves.specs.Sights.{entity_flow}
 use Rattle.seam_between.specs.Between.{framed}
 use Rattle.seam_between.proofs.Going.{settled_loaded}
 use Rattle.seam_between.proofs.Loaded.{no_mail}
@@ -24,11 +26,12 @@ use Rattle.seam_legal.specs.Going.{frame_of, base_node}
 use Rattle.seam_legal.specs.Rounds.{done_by_part, done_in}
 use Rattle.seam_legal.proofs.Ended.{live_ended}
 use Rattle.seam_legal.proofs.Parts.{among_joined}
+use Rattle.seam_played.specs.Beside.{may_play}
 use Rattle.seam_played.specs.Playing.{standing_of}
 use Rattle.seam_played.specs.Reading.{lines_shown, lines_told}
 use Rattle.seam_played.proofs.Who.{is_there, was_joined, lives_on, unjoined_before, client_by}
 use Rattle.seam_played.proofs.BaseVersions.{texts_are}
-use Rattle.seam_played.proofs.Told.{IsShown, by_death, base_texts_are, called_shown, ended_shown}
+use Rattle.seam_played.proofs.Told.{IsShown, by_death, base_texts_are, called_shown, ended_shown, ended_last}
 use Rattle.seam_played.proofs.clients_are_shown_base_parts.Goals as goal
 
 pub returns : goal.returns
@@ -38,7 +41,7 @@ returns c h s tree w v p bounds next x is shown =
     let B = batch_of h b in
     let f = frame_of h tree in
     let g = framed f B in
-    let play = p.beside.play in
+    let play = may_play h s tree w p.beside in
     let round = p.round in
     let t = standing_of h s tree w v p bounds next in
     let clients = replica_of h s in
@@ -63,7 +66,7 @@ returns c h s tree w v p bounds next x is shown =
     let first = c.the_base_part_is_shown_at_each_change.ensures.load f w B loads e l.base y.0 l.base_here y.1 in
     let shows = c.the_base_part_is_shown_at_each_change.ensures.round f w B loads e l.cell l.real l.here round.called round.call_events
     round.calls l.base y.0 l.base_here y.1 in
-    let begins = c.base_parts_are_those_of_the_flat_table.ensures.loaded h b tree clients w play s.orders p.beside.before e l.base x
+    let begins = c.base_parts_are_those_of_the_flat_table.ensures.loaded h b tree clients w play s.orders p.beside.between.before e l.base x
     l.base_here there in
     -- where its calls have ended
     let one = laws.one_real e
@@ -81,10 +84,12 @@ returns c h s tree w v p bounds next x is shown =
     (λ i. new i ++ lines_after here l.base.ty l.base.state l.base.version (sym done_is i))
     ∙ texts_are h tree (base_node h e) x l.base (s.orders part.Base e) done begins deeds (is_new_client b e) in
     let told = length (s.told e) in
-    let none : is_among e B.clients ≡ true → told ≡ 0 = λ among. ap length (p.beside.untold e (unjoined_before h b R untouched e among)) in
+    let none : is_among e B.clients ≡ true → told ≡ 0 = λ among. ap length (p.beside.between.untold e (unjoined_before h b R untouched e among)) in
     let in_calls : IsShown told (lines_shown h round.called e) texts =
-    called_shown f w B loads e told (p.beside.numbers e) none l.base y.0 l.base_here y.1 round.called shows in
-    let in_all : list_any (destroys e) b.current ≡ false → IsShown told (lines_shown h v e) texts = λ not.
+    called_shown f w B loads e told (p.beside.between.numbers e) none l.base y.0 l.base_here y.1 round.called shows in
+    let lived : list_any (destroys e) b.current ≡ false → IsShown told (lines_shown h v e) texts
+    × ((q : PartView) (z : ProxyView) → ((entity_flow e v).slot (base_node h e)).base.part ≡ Some q → q.proxy ≡ Some z →
+    z.last ≡ told + length (lines_shown h v e)) = λ not.
     let held = on.live e x (live_ended b e ∙ lives_on b e x is shown not) in
     let was = c.the_last_phases_leave_places.ensures.looks g round.reaped reaped.records.reals round.look_events v round.looks e held.cell
     held.real held.here in
@@ -92,9 +97,18 @@ returns c h s tree w v p bounds next x is shown =
     round.reaped round.reaps e held.cell was.real was.here in
     let left = reaped.records.parts.parts e held.cell was.real was.here in
     let same = (c.reaps_obey_the_laws.ensures.laws g mid round.called called round.gone round.may round.reap_events round.reaped
-    round.reaps).parts e held.cell before.real before.here (base_node h e) left.part left.here in
-    ended_shown f w B loads e told (p.beside.numbers e) none l.base y.0 l.base_here y.1 round.called shows round.reaped v
-    reaped.records.reals round.look_events round.looks was.real.ty left same in
+    round.reaps).parts e held.cell before.real before.here (base_node h e) left.part left.here in (
+      ended_shown f w B loads e told (p.beside.between.numbers e) none l.base y.0 l.base_here y.1 round.called shows round.reaped v
+          reaped.records.reals round.look_events round.looks was.real.ty left same,
+      ended_last f w B loads e told (p.beside.between.numbers e) none l.base y.0 l.base_here y.1 round.called shows round.reaped v
+          reaped.records.reals round.look_events round.looks was.real.ty left same,
+    ) in
+    let in_all : list_any (destroys e) b.current ≡ false → IsShown told (lines_shown h v e) texts = λ not. (lived not).0 in
     let so = by_death (λ ls. IsShown told ls texts) (lines_shown h round.called e) (lines_shown h v e) (list_any (destroys e) b.current)
     (λ now. in_calls) in_all in
-    record { numbers = so.numbers; bases = base_texts_are (lines_told h b round.called v e) ∙ so.bases ∙ rules }
+    record {
+      numbers = so.numbers;
+      bases = base_texts_are (lines_told h b round.called v e) ∙ so.bases ∙ rules;
+      last = λ not q z at has. (lived not).1 q z at has
+          ∙ ap (λ n. told + length (if n then lines_shown h round.called e else lines_shown h v e)) (sym not);
+    }

@@ -24,6 +24,7 @@ use Rattle.seam_rules.specs.Lines.{told_in}
 use Rattle.seam_rules.specs.Standing.{replica_of}
 use Rattle.seam_legal.specs.Going.{frame_of}
 use Rattle.seam_legal.proofs.Ended.{live_ended, client_of}
+use Rattle.seam_played.specs.Beside.{may_play}
 use Rattle.seam_played.specs.Playing.{data_of, standing_of, clients_ended_in}
 use Rattle.seam_played.specs.Reading.{lines_shown}
 use Rattle.seam_played.proofs.Who.{unjoined_before}
@@ -36,7 +37,7 @@ returns-clause-replicas c h s tree w v p bounds next e k q at seen =
     let B = batch_of h b in
     let f = frame_of h tree in
     let g = framed f B in
-    let play = p.beside.play in
+    let play = may_play h s tree w p.beside in
     let round = p.round in
     let r = data_of h s tree w v p bounds in
     let clients = replica_of h s in
@@ -55,7 +56,7 @@ returns-clause-replicas c h s tree w v p bounds next e k q at seen =
     let begun : (e : ℕ) → clients_loaded f B clients e ≡ replica_of h s e = λ e.
     begun_by (list_any (λ x. eqb x e) B.clients) (new_client h.settings) (replica_of h s e)
     (λ is.
-    ap (after_lines (new_client h.settings)) (p.beside.untold e (unjoined_before h b R untouched e (sym (among_is e B.clients) ∙ is)))) in
+    ap (after_lines (new_client h.settings)) (p.beside.between.untold e (unjoined_before h b R untouched e (sym (among_is e B.clients) ∙ is)))) in
     -- of one that lives, and was shown these lines in all
     let told : (x : Create) → live_as b x.entity ≡ Some x → list_any (joins x.entity) (entries b) ≡ true →
     told_in r x.entity ≡ lines_shown h v x.entity = λ x lives joined.
@@ -87,7 +88,7 @@ returns-clause-records c h s tree w v p bounds next =
     let B = batch_of h b in
     let f = frame_of h tree in
     let g = framed f B in
-    let play = p.beside.play in
+    let play = may_play h s tree w p.beside in
     let round = p.round in
     let clients = replica_of h s in
     let may = c.what_lines_bring_fits.ensures.given h b tree clients w play in

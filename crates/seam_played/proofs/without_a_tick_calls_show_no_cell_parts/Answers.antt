@@ -19,6 +19,7 @@ use Rattle.seam_clients.specs.Clients.{clients_loaded, clients_shown}
 use Rattle.seam_rules.specs.Standing.{replica_of}
 use Rattle.seam_legal.specs.Going.{frame_of}
 use Rattle.seam_legal.proofs.Parts.{both_seen}
+use Rattle.seam_played.specs.Beside.{may_play}
 use Rattle.seam_played.proofs.Who.{is_there, was_joined, unjoined_before, client_by}
 use Rattle.seam_played.proofs.Numbered.{loaded_unshown}
 use Rattle.seam_played.proofs.OneLook.{no_ticks}
@@ -36,7 +37,7 @@ returns c h s tree w v p tickless x is shown =
     let B = batch_of h b in
     let f = frame_of h tree in
     let g = framed f B in
-    let play = p.beside.play in
+    let play = may_play h s tree w p.beside in
     let round = p.round in
     let clients = replica_of h s in
     let R = c.lines_bring_what_fits.ensures.brings h b play.legal play.of_lines in
@@ -63,8 +64,8 @@ returns c h s tree w v p tickless x is shown =
     (are_for_loaded f w B play.keeps.reals may.reals play.keeps.parts e l.cell l.real l.here l.base l.base_here)
     ∙ ap is_some y.1) in
     let told = length (s.told e) in
-    let new : is_among e B.clients ≡ true → told ≡ 0 = λ among. ap length (p.beside.untold e (unjoined_before h b R untouched e among)) in
-    let none = loaded_unshown f w B loads e told (p.beside.numbers e) new l.base y.0 l.base_here y.1 in
+    let new : is_among e B.clients ≡ true → told ≡ 0 = λ among. ap length (p.beside.between.untold e (unjoined_before h b R untouched e among)) in
+    let none = loaded_unshown f w B loads e told (p.beside.between.numbers e) new l.base y.0 l.base_here y.1 in
     nothing_shown f w B loads (no_ticks h b.current tickless) e l.cell l.real l.here z.0 z.1 l.base y.0 l.base_here y.1 none its.served
     round.called round.call_events round.calls round.calls_done
     (λ update client most room looks.

@@ -29,6 +29,7 @@ use Rattle.seam_rules.specs.FlatTable.{rows_of}
 use Rattle.seam_rules.specs.Standing.{replica_of}
 use Rattle.seam_legal.specs.Going.{frame_of, base_node}
 use Rattle.seam_legal.proofs.Ended.{live_ended}
+use Rattle.seam_played.specs.Beside.{may_play}
 use Rattle.seam_played.specs.Playing.{data_of, standing_of}
 use Rattle.seam_played.specs.Reading.{lines_shown}
 use Rattle.seam_played.proofs.Who.{is_there, was_joined, was_created, lives_on, unjoined_before, client_by}
@@ -51,7 +52,7 @@ returns c h s tree w v p bounds next tickless d seen =
     let B = batch_of h b in
     let f = frame_of h tree in
     let g = framed f B in
-    let play = p.beside.play in
+    let play = may_play h s tree w p.beside in
     let round = p.round in
     let clients = replica_of h s in
     let R = c.lines_bring_what_fits.ensures.brings h b play.legal play.of_lines in
@@ -70,7 +71,7 @@ returns c h s tree w v p bounds next tickless d seen =
     round.reaps round.reaps_done in
     let last = c.looks_obey_the_laws.ensures.records g mid round.reaped reaped round.look_events v round.looks p.ended.quiet in
     let on = c.a_book_goes_with_the_world_after_its_round.ensures.round h b tree clients w play v round p.ended in
-    let now = c.reals_are_those_of_the_flat_table.ensures.ended h b tree clients w play s.orders p.beside.before v round in
+    let now = c.reals_are_those_of_the_flat_table.ensures.ended h b tree clients w play s.orders p.beside.between.before v round in
     let listed : Lists (live_as (with_round_ended b)) p.live = record {
       rising = p.live_listed.rising;
       exact = λ z. (
@@ -103,11 +104,11 @@ returns c h s tree w v p bounds next tickless d seen =
     (ap (letters_of shown_in) (append-nil (lines_shown h round.called e)) ∙ none ∙ sym (dead dies))) in
     -- of one that lives
     let new : is_among e B.clients ≡ true → length (s.told e) ≡ 0 =
-    λ among. ap length (p.beside.untold e (unjoined_before h b R untouched e among)) in
+    λ among. ap length (p.beside.between.untold e (unjoined_before h b R untouched e among)) in
     let begun : clients_loaded f B clients e ≡ replica_of h s e =
     begun_by (list_any (λ q. eqb q e) B.clients) (new_client h.settings) (replica_of h s e)
     (λ joins.
-    ap (after_lines (new_client h.settings)) (p.beside.untold e (unjoined_before h b R untouched e (sym (among_is e B.clients) ∙ joins)))) in
+    ap (after_lines (new_client h.settings)) (p.beside.between.untold e (unjoined_before h b R untouched e (sym (among_is e B.clients) ∙ joins)))) in
     let in_all : list_any (destroys e) b.current ≡ false →
     map (λ l. l.text) (lines_shown h v e) ≡ filter is_base (map (λ l. l.text) (lines_shown h v e)) ++ map text.Shown look = λ not.
     let shows = c.the_base_part_is_shown_at_each_change.ensures.round f w B loads e l.cell l.real l.here round.called round.call_events
@@ -120,9 +121,9 @@ returns c h s tree w v p bounds next tickless d seen =
     let left = reaped.records.parts.parts e held.cell was.real was.here in
     let same = (c.reaps_obey_the_laws.ensures.laws g mid round.called called round.gone round.may round.reap_events round.reaped
     round.reaps).parts e held.cell before.real before.here (base_node h e) left.part left.here in
-    let later = later_lines f w B loads e (length (s.told e)) (p.beside.numbers e) new l.base y.0 l.base_here y.1 round.called shows
+    let later = later_lines f w B loads e (length (s.told e)) (p.beside.between.numbers e) new l.base y.0 l.base_here y.1 round.called shows
     round.reaped v reaped.records.reals round.look_events round.looks was.real.ty left same in
-    let one = c.the_table_of_a_world_is_that_of_the_rules.ensures.one_each h b tree clients w play s.orders p.beside.before v round
+    let one = c.the_table_of_a_world_is_that_of_the_rules.ensures.one_each h b tree clients w play s.orders p.beside.between.before v round
     p.ended p.live p.live_listed e shown held.cell held.real held.here in
     let looked : letters_of shown_in (lines_shown h v e) ≡ look =
     one ∙ ap (λ l. l ++ one_look (mid e) e rows) none
