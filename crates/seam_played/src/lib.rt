@@ -9,9 +9,12 @@ ghost use Rattle.std.specs.Prelude.{◌≡◌, ◌++◌, ℕ, false, List, [], I
 ghost use Rattle.std.specs.List.{All};
 ghost use Rattle.std.specs.List.Sorted.{IsNonDecreasing};
 ghost use Rattle.seam_tree.specs.Division.{Division};
+ghost use Rattle.seam_defs.specs.Settings.{AreLegal};
+ghost use Rattle.seam_defs.specs.Types.{AreDefs};
 ghost use Rattle.seam_call.specs.declared.create.Create.{Create};
 ghost use Rattle.seam_call.specs.declared.shown.ClientText.TheVariants.{Shown};
 ghost use Rattle.seam_entity.specs.Reals.{RealView};
+ghost use Rattle.seam_steps.specs.Loads.{opened};
 ghost use Rattle.seam_steps.specs.Nodes.{World};
 ghost use Rattle.seam_moves.specs.Sights.{entity_flow};
 ghost use Rattle.seam_ones.specs.Ones.{real_in};
@@ -19,13 +22,16 @@ ghost use Rattle.seam_replica.specs.Clients.{shown_by_lines};
 ghost use Rattle.seam_replica.specs.Lines.{ShowsRightly};
 ghost use Rattle.seam_replica.specs.Looks.{one_look};
 ghost use Rattle.seam_toml.specs.declared.header.Header.{Header};
-ghost use Rattle.seam_transcript.specs.Book.{Book, created_as, live_as, is_shown, has_tick, tree_of, with_round_ended};
+ghost use Rattle.seam_transcript.specs.Book.{Book, one_cell, created_as, live_as, is_shown, has_tick, tree_of, with_entry, with_round_ended};
+ghost use Rattle.seam_transcript.specs.Book.{with_tree};
 ghost use Rattle.seam_transcript.specs.Round.{Lists};
+ghost use Rattle.seam_transcript.specs.declared.verdict.Entry.{Entry};
+ghost use Rattle.seam_batches.specs.Books.{MayReplace};
 ghost use Rattle.seam_rules.specs.Clients.{truth_of, base_texts, texts_to};
 ghost use Rattle.seam_rules.specs.FlatTable.{rows_of};
 ghost use Rattle.seam_rules.specs.Lines.{lines_to, told_in};
 ghost use Rattle.seam_rules.specs.Round.{HasBounds, IsRound};
-ghost use Rattle.seam_rules.specs.Standing.{Standing, replica_of};
+ghost use Rattle.seam_rules.specs.Standing.{Standing, after_header, with_line, with_book, replica_of};
 ghost use Rattle.seam_legal.specs.Going.{frame_of};
 ghost use Rattle.seam_laws.specs.Looks.{shown_to};
 ghost use Rattle.seam_laws.specs.Records.{KeepsRecords};
@@ -186,10 +192,27 @@ pub fn a_played_round_is_legal()
     without_a_tick_each_client_is_shown_one_look();
 }
 
-/// The standing that a played round leaves goes with the world that it leaves, by the round's tree.
+/// The standing after a header goes with a world that was opened for it (`opened`), and still goes with it when a line was read (`line`) or
+/// accepted (`entry`).
+pub fn a_standing_goes_with_a_world_before_its_round()
+    ensures opened { (h : Header) (count : ℕ) → AreLegal h.settings → AreDefs h.defs →
+        GoesBetween h (after_header h count) (one_cell h.settings.size) (opened h.defs h.settings) }
+    ensures line { (h : Header) (s : Standing) (tree : Division) (w : World) → GoesBetween h s tree w → GoesBetween h (with_line s) tree w }
+    ensures entry { (h : Header) (s : Standing) (tree : Division) (w : World) (x : Entry) → GoesBetween h s tree w →
+        GoesBetween h (with_book s (with_entry s.book x)) tree w }
+{
+    seam_laws::an_opened_world_keeps_the_records();
+    seam_legal::an_empty_book_goes_with_an_opened_world();
+}
+
+/// The standing that a played round leaves goes with the world that it leaves, by the round's tree (`ended`); also where the next round
+/// begins with another tree (`balanced`).
 pub fn a_standing_goes_with_the_world_after_its_round()
-    ensures { (h : Header) (s : Standing) (tree : Division) (w v : World) (p : IsPlayed h s tree w v) (bounds : Option Division) →
+    ensures ended { (h : Header) (s : Standing) (tree : Division) (w v : World) (p : IsPlayed h s tree w v) (bounds : Option Division) →
         GoesBetween h (standing_of h s tree w v p bounds (with_round_ended s.book)) (tree_of s.book) v }
+    ensures balanced { (h : Header) (s : Standing) (tree : Division) (w v : World) (p : IsPlayed h s tree w v) (bounds : Option Division)
+        (u : Division) → MayReplace (tree_of s.book) u →
+        GoesBetween h (standing_of h s tree w v p bounds (with_tree (with_round_ended s.book) u)) (tree_of s.book) v }
 {
     seam_laws::calls_obey_the_laws();
     seam_laws::reaps_obey_the_laws();

@@ -3,7 +3,7 @@ use Rattle.std.proofs.Common.{length-append, append-nil}
 use Rattle.std.specs.Prelude.{is_some, not, filter, ◌&&◌}
 use Rattle.std.specs.List.{list_any}
 use Rattle.seam_call.specs.declared.create.Create.{Create}
-use Rattle.seam_transcript.specs.Book.{entries, creates_of, calls_of, created_as, live_as, joins, destroys, was_dead, with_round_ended}
+use Rattle.seam_transcript.specs.Book.{entries, creates_of, calls_of, created_as, live_as, joins, destroys, was_dead, tree_of, with_round_ended, with_tree}
 use Rattle.seam_transcript.specs.Orders.{IsFull}
 use Rattle.seam_transcript.proofs.BookEntries.{live_is_created}
 use Rattle.seam_transcript.proofs.InOrderLemmas.{found_entity}
@@ -34,8 +34,8 @@ unseen None joined dead is = refl
 unseen (Some c) true dead is = absurd (let z = is in cc)
 unseen (Some c) false dead is = refl
 
-pub returns : goal.returns
-returns c h s tree w v p bounds =
+pub returns-clause-ended : goal.returns-clause-ended
+returns-clause-ended c h s tree w v p bounds =
     let b = s.book in
     let B = batch_of h b in
     let f = frame_of h tree in
@@ -97,4 +97,17 @@ returns c h s tree w v p bounds =
           let none = c.client_lines_are_gathered.ensures.none h s tree w v p bounds e
           (unseen (created_as b e) (list_any (joins e) (entries b)) (was_dead b e) never) in
           (λ i. p.beside.between.untold e two.0 i ++ none i);
+    }
+
+pub returns-clause-balanced : goal.returns-clause-balanced
+returns-clause-balanced c h s tree w v p bounds u may =
+    let b = s.book in
+    let its = returns-clause-ended c h s tree w v p bounds in
+    record {
+      keeps = c.clients_show_what_they_were_told.ensures.records h s tree w v p bounds (with_tree (with_round_ended b) u);
+      goes = c.a_book_goes_with_the_world_after_its_round.ensures.balanced h b (tree_of b) u v its.goes may;
+      before = record { full = its.before.full; reals = its.before.reals; parts = its.before.parts };
+      places = its.places;
+      numbers = its.numbers;
+      untold = its.untold;
     }
