@@ -5,7 +5,7 @@ use Rattle.std.specs.Prelude.{not}
 use Rattle.std.specs.List.{AllByRecursion}
 use Rattle.std.proofs.lemmas.List.{take_all, take-append-le}
 use Rattle.std.proofs.lemmas.List.Sums.{fold-append}
-use Rattle.seam_defs.specs.Deeds.{after, part_of_deed}
+use Rattle.seam_defs.specs.Deeds.{after}
 use Rattle.seam_defs.specs.Tests.{same_shown, changes}
 use Rattle.seam_defs.specs.Types.{type_of}
 use Rattle.seam_defs.specs.declared.flags.Part.{Part}
@@ -21,11 +21,7 @@ use Rattle.seam_rules.proofs.Public.{public_more}
 use Rattle.seam_entity.specs.Executing.{public_after}
 use Rattle.seam_entity.specs.Reals.{RealView}
 use Rattle.seam_ones.specs.Replays.{Account, account_of, after_call, after_calls}
-use Rattle.seam_legal.specs.Rounds.{IsInTable}
-
--- a call that is done on this part of a type
-abbrev pub IsDoneOn : Part → TypeDef → CallData → Type 0
-IsDoneOn p t x = p ≡ part_of_deed t x.deed
+use Rattle.seam_legal.specs.Rounds.{IsDoneOn, IsInTable}
 
 module _ (t : TypeDef) where
   abbrev pub done_deed : State → CallData → State

@@ -46,12 +46,11 @@ use Rattle.seam_replica.specs.Clients.{ClientReplica}
 use Rattle.seam_laws.specs.Calls.{ObeysLaws, EndsRightly}
 use Rattle.seam_laws.specs.Records.{KeepsRecords, KeepsRecordsWithin, MayBeGiven}
 use Rattle.seam_legal.specs.Going.{frame_of, base_node, GoesWith, HasRoomForCalls}
-use Rattle.seam_legal.specs.Rounds.{done_by_real, done_by_part, done_in, with_done}
+use Rattle.seam_legal.specs.Rounds.{done_by_real, done_by_part, done_in, with_done, IsDoneOn}
 use Rattle.seam_legal.proofs.Numbering.{cell_calls, base_calls}
 use Rattle.seam_legal.proofs.Fitting.{type_by}
 use Rattle.seam_legal.proofs.Started.{nobody, no_part_there, real_comes}
 use Rattle.seam_legal.proofs.Nowhere.{no_part_leads}
-use Rattle.seam_legal.proofs.Accounts.{IsDoneOn}
 use Rattle.seam_legal.proofs.Executed.{letters_are_of_place, all_by_place, one_in, none_in, executes_all}
 
 part_by : (p q : Part) → same_part p q ≡ true → p ≡ q

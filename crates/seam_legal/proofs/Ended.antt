@@ -49,7 +49,8 @@ use Rattle.seam_legal.proofs.Numbering.{cell_calls, base_calls}
 use Rattle.seam_legal.proofs.Fitting.{new_number, type_by, next_by, next_to_by}
 use Rattle.seam_legal.proofs.Started.{real_comes, part_comes, made_now, nobody, no_part_there}
 use Rattle.seam_legal.proofs.Nowhere.{new_after_calls, new_after_reaps, new_after_looks, no_part_leads}
-use Rattle.seam_legal.proofs.Parts.{both_seen, among_joined, client_kept, client_made, tick, looked_parts, reaped_parts}
+use Rattle.seam_legal.proofs.Parts.{tick, looked_parts, reaped_parts}
+use Rattle.seam_legal.proofs.Clients.{client_given}
 use Rattle.seam_legal.proofs.Playing.{Obeyed, loaded_home, one_at_end, end_home, was_reaped, was_called, type_at_end, next_at_end}
 use Rattle.seam_legal.proofs.Playing.{next_to_at_end, client_at_end}
 
@@ -63,12 +64,6 @@ others_by e c cs false at rest is = ((λ same. let z = sym (eq-eqb c.entity e sa
 others_of : (e : ℕ) (cs : List Create) → made_among cs e ≡ None → AreOthers e cs
 others_of e [] none = tt
 others_of e (c ∷ cs) none = others_by e c cs (c.entity == e) refl (others_of e cs) none
-
-or_turned : (x y : Bool) → (x || y) ≡ (y || x)
-or_turned true true = refl
-or_turned true false = refl
-or_turned false true = refl
-or_turned false false = refl
 
 destroyed_by : (P : ℕ → Type 0) (e d : ℕ) (y z : Bool) → (d == e) ≡ y → P d → (z ≡ true → P e) → (y || z) ≡ true → P e
 destroyed_by P e d true z at here rest h = subst P (eqb-true d e at) here
@@ -108,9 +103,6 @@ module _ (b : Book) (e : ℕ) where
   pub client_of : (c : Create) → live_as b e ≡ Some c → has_client ended_book e ≡ list_any (joins e) (entries b)
   client_of c lives =
       ap (λ o. is_some o && list_any (joins e) (entries ended_book)) (live_ended ∙ lives) ∙ ap (list_any (joins e)) same_entries
-
-  client_begun : (c : Create) → live_as (as_begun b) e ≡ Some c → has_client (as_begun b) e ≡ list_any (joins e) b.past
-  client_begun c lives = ap (λ o. is_some o && list_any (joins e) (entries (as_begun b))) lives ∙ any_begun b e (joins e)
 
 module _ (h : Header) (some : 1 ≤ h.settings.bases) (b : Book) (t : Division) (clients : ℕ → ClientReplica) (w : World)
     (keeps : KeepsRecords (frame_of h t) clients w) (may : MayBeGiven (frame_of h t) w (batch_of h b))
@@ -220,29 +212,11 @@ module _ (h : Header) (some : 1 ≤ h.settings.bases) (b : Book) (t : Division) 
         let same = last_ended b e part.Base s in
         omega (arith, first, more, calls, all, same)
 
-    -- the part of the loaded world has a client where the entity was given one, before or in the round
-    begun_client : (k : ℕ) (r : RealView) → RealFrom w B.creates e k r →
-        is_some had_part.part.proxy ≡ (list_any (joins e) b.current || list_any (joins e) b.past)
-    begun_client k r (was others q x at is) =
-        let l = goes.reals e k q at in
-        let held = goes.live e l.0 l.1 in
-        client_kept (frame_of h t) w B keeps.reals e (base_node h e) had_part.part had_part.here others held.base held.base_here
-        ∙ ap (λ y. y || is_some held.base.proxy) (among_joined e b.current)
-        ∙ ap (λ y. list_any (joins e) b.current || y)
-        (sym (both_seen held.real.witness held.base.proxy held.base.version
-        (keeps.parts.clients e held.cell held.real held.here held.base held.base_here)) ∙ held.client ∙ client_begun b e l.0 l.1)
-    begun_client k r (made x i ty orders) =
-        let none = new_number h b t w keeps.reals goes R untouched e x i in
-        client_made (frame_of h t) w B keeps.reals e (base_node h e) had_part.part had_part.here
-        (ap (λ a. a.base.part) (goes.known e none (base_node h e)))
-        ∙ ap (λ y. y || false) (among_joined e b.current)
-        ∙ ap (λ y. list_any (joins e) b.current || y) (sym (untouched e none).client ∙ any_begun b e (joins e))
-
     same_client : is_some end.real.witness ≡ has_client (with_round_ended b) e
     same_client =
         client_at_end (frame_of h t) clients w B keeps may v round laws e end.node end.real end.here began.node began.real began.here
-        ∙ begun_client began.node began.real (real_comes h some b t clients w keeps may goes R untouched few present e began.node began.real began.here)
-        ∙ or_turned (list_any (joins e) b.current) (list_any (joins e) b.past) ∙ sym (any_split b e (joins e))
+        ∙ client_given h some b t clients w keeps may goes R untouched few present e had_part.part had_part.here began.node began.real
+        (real_comes h some b t clients w keeps may goes R untouched few present e began.node began.real began.here)
         ∙ sym (client_of b e c lives)
 
     is_held : IsHeld h (with_round_ended b) v e c

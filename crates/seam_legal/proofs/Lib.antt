@@ -6,16 +6,17 @@ mod Fitting
 mod Given
 mod Started
 mod Nowhere
-mod Parts
+pub mod Parts
+mod Clients
 mod Playing
-mod Ended
-mod Executed
-mod Accounts
+pub mod Ended
+pub mod Executed
+pub mod Accounts
 mod Done
 mod Table
 mod Placing
 mod Ghosts
 mod Rows
-mod Further
+pub mod Further
 mod Bases
-mod PartsTable
+pub mod PartsTable

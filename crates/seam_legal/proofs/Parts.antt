@@ -38,6 +38,7 @@ use Rattle.seam_base_rounds.proofs.Loaded.{same_some}
 use Rattle.seam_base_rounds.proofs.Still.{is_still, still_leads}
 use Rattle.seam_base_rounds.proofs.Calms.{reaps_part}
 use Rattle.seam_base_rounds.proofs.Joining.{is_among, joined_if, peopled, part_joined, part_peopled, bare_peopled}
+use Rattle.seam_clients.specs.BaseLines.{ShowsItsPart}
 use Rattle.seam_clients.proofs.BaseLines.{shows_its_part}
 
 abbrev pub tick : ℕ × Order
@@ -130,6 +131,16 @@ module _ (f : Frame) (u : World) (between : IsBetweenRounds f u) (v : World) (es
         client = client_stays f e (look_loaded u) v es then_frame starts.spared run (home_of f e) h.part
             (same_parts (home_of f e) ∙ h.here) (λ j n. same_parts j ∙ h.others j n) q there;
       }
+
+  -- what its client was shown meanwhile, of which nothing is about the part
+  pub looks_show_part : (x : ProxyView) → h.part.proxy ≡ Some x →
+      ShowsItsPart (here_at f (home_of f e)) h.part x ((entity_flow e v).slot (home_of f e)).base.part
+  looks_show_part x client =
+      let starts =
+      is_still f u between e ty h (ordered_at tick) then_frame
+      (λ k s at. look_given e f k cell_count s (quiet_tasks node_has_work u between.quiet k s at)) (λ s. parts_ordered e (tick ∷ []) s) in
+      shows_its_part f e (look_loaded u) v es then_frame starts.spared run (home_of f e) h.part x
+      (same_parts (home_of f e) ∙ h.here) client
 
 -- ---- a load
 

@@ -17,14 +17,13 @@ use Rattle.seam_call.specs.declared.call.Call.{Call as CallData}
 use Rattle.seam_call.specs.declared.create.Create.{Create}
 use Rattle.seam_call.specs.declared.order.Batch.{Batch}
 use Rattle.seam_toml.specs.declared.header.Header.{Header}
-use Rattle.seam_transcript.specs.Book.{Book, entries, calls_of, created_as, live_as, accepted}
+use Rattle.seam_transcript.specs.Book.{Book, entries, calls_of, created_as, accepted}
 use Rattle.seam_transcript.specs.FlatTable.{flat}
 use Rattle.seam_transcript.specs.Orders.{Orders, IsFull}
 use Rattle.seam_transcript.proofs.BookEntries.{live_is_created}
 use Rattle.seam_accept.specs.Batches.{batch_of}
 use Rattle.seam_batches.specs.Books.{as_begun}
 use Rattle.seam_batches.specs.Bringing.{IsPresent, Brings, IsUntouched}
-use Rattle.seam_batches.proofs.Present.{live_is_present}
 use Rattle.seam_batches.proofs.Untouched.{IsFromSender}
 use Rattle.seam_steps.specs.Bases.{PartView}
 use Rattle.seam_steps.specs.Holders.{holders}
@@ -36,7 +35,7 @@ use Rattle.seam_rounds.proofs.Shape.{Somewhere, Nowhere}
 use Rattle.seam_replica.specs.Clients.{ClientReplica}
 use Rattle.seam_laws.specs.Records.{KeepsRecords, MayBeGiven}
 use Rattle.seam_legal.specs.Going.{frame_of, base_node, GoesWith, HasRoomForCalls}
-use Rattle.seam_legal.specs.Rounds.{IsPartInTable, ArePartsInTable}
+use Rattle.seam_legal.specs.Rounds.{IsPartInTable, ArePartsInTable, BeginsPart}
 use Rattle.seam_legal.proofs.Origins.{PartFrom, had, comes}
 use Rattle.seam_legal.proofs.Fitting.{others_none, made_is, new_number, part_type_by}
 use Rattle.seam_legal.proofs.Started.{part_comes, no_one}
@@ -46,7 +45,7 @@ use Rattle.seam_legal.proofs.Bases.{Became}
 
 -- what a deed makes of values does not depend on the position
 module _ (t : TypeDef) where
-  same_props : (s u : State) (d : Deed) → s.props ≡ u.props → (after t s d).props ≡ (after t u d).props
+  pub same_props : (s u : State) (d : Deed) → s.props ≡ u.props → (after t s d).props ≡ (after t u d).props
   same_props s u (deed.Move p) same = same
   same_props s u (deed.Method m args) same = ap (λ (ps : List Value). (after t (record s { props = ps }) (deed.Method m args)).props) same
 
@@ -61,7 +60,7 @@ module _ (h : Header) (some : 1 ≤ h.settings.bases) (b : Book) (t : Division) 
     (present : (e : ℕ) (c : Create) → IsPresent b e c → holders (loaded w (batch_of h b)) e ≡ 1)
     (senders : AllByRecursion IsFromSender (calls_of (entries (as_begun b)))) (orders : Orders)
     (full : (p : Part) (e : ℕ) → IsFull (accepted (as_begun b) p e) (orders p e)) (rows : ArePartsInTable h (as_begun b) orders w)
-    (e : ℕ) (c : Create) (lives : live_as b e ≡ Some c) where
+    (e : ℕ) (c : Create) (there : IsPresent b e c) where
   abbrev B : Batch
   B = batch_of h b
 
@@ -72,7 +71,7 @@ module _ (h : Header) (some : 1 ≤ h.settings.bases) (b : Book) (t : Division) 
   pub began_somewhere : Somewhere e (loaded w B) ⊎ Nowhere e (loaded w B) → Somewhere e (loaded w B)
   began_somewhere (inl p) = p
   began_somewhere (inr n) =
-      absurd (no_one h some b t clients w keeps may goes R untouched few present e n (present e c (live_is_present b e c lives)))
+      absurd (no_one h some b t clients w keeps may goes R untouched few present e n (present e c there))
 
   module _ (p : PartView) (here : ((entity_flow e (loaded w B)).slot (base_node h e)).base.part ≡ Some p) where
     abbrev origin : PartFrom (frame_of h t) w B.creates e (base_node h e) p
@@ -101,7 +100,10 @@ module _ (h : Header) (some : 1 ≤ h.settings.bases) (b : Book) (t : Division) 
     idle_by (comes x i y is) = sym (ap (λ (z : PartView). z.done) is)
 
     type : p.ty ≡ c.ty
-    type = part_type_by h b t w keeps.reals goes R untouched e p origin c (live_is_present b e c lives)
+    type = part_type_by h b t w keeps.reals goes R untouched e p origin c there
+
+    pub begins_part : BeginsPart h c before p
+    begins_part = record { type = type; idle = idle_by origin; row = start_by origin there }
 
     -- what it became after the load
     module _ (v : World) (became : Became (here_at (frame_of h B.tree) (base_node h e)) p ((entity_flow e v).slot (base_node h e)).base.part)
@@ -115,7 +117,7 @@ module _ (h : Header) (some : 1 ≤ h.settings.bases) (b : Book) (t : Division) 
 
       pub part_in_table : IsPartInTable h c (before ++ q.done) q
       part_in_table =
-          let start = start_by origin (live_is_present b e c lives) in
+          let start = start_by origin there in
           record {
             version =
                 let risen = became.version in

@@ -18,14 +18,13 @@ use Rattle.seam_call.specs.declared.call.Call.{Call as CallData}
 use Rattle.seam_call.specs.declared.create.Create.{Create}
 use Rattle.seam_call.specs.declared.order.Batch.{Batch}
 use Rattle.seam_toml.specs.declared.header.Header.{Header}
-use Rattle.seam_transcript.specs.Book.{Book, entries, calls_of, created_as, live_as, accepted}
+use Rattle.seam_transcript.specs.Book.{Book, entries, calls_of, created_as, accepted}
 use Rattle.seam_transcript.specs.FlatTable.{flat}
 use Rattle.seam_rules.specs.FlatTable.{public_at}
 use Rattle.seam_transcript.specs.Orders.{Orders, of_sender, IsFull}
 use Rattle.seam_accept.specs.Batches.{batch_of}
 use Rattle.seam_batches.specs.Books.{as_begun}
 use Rattle.seam_batches.specs.Bringing.{IsPresent, calls_from, Brings, IsUntouched}
-use Rattle.seam_batches.proofs.Present.{live_is_present}
 use Rattle.seam_batches.proofs.Untouched.{IsFromSender, accepted_by_place}
 use Rattle.seam_transcript.proofs.BookEntries.{live_is_created}
 use Rattle.seam_entity.specs.Reals.{RealView}
@@ -44,8 +43,8 @@ use Rattle.seam_replica.specs.Clients.{ClientReplica}
 use Rattle.seam_laws.specs.Calls.{ObeysLaws}
 use Rattle.seam_laws.specs.Records.{KeepsRecords, MayBeGiven}
 use Rattle.seam_legal.specs.Going.{frame_of, GoesWith, HasRoomForCalls}
-use Rattle.seam_legal.specs.Rounds.{IsInTable, AreInTable}
-use Rattle.seam_legal.proofs.Accounts.{IsDoneOn, done_after, Agrees, agrees_after, in_table_by}
+use Rattle.seam_legal.specs.Rounds.{IsInTable, AreInTable, BeginsReal, IsDoneOn}
+use Rattle.seam_legal.proofs.Accounts.{done_after, Agrees, agrees_after, in_table_by}
 use Rattle.seam_legal.proofs.Origins.{IsCreate, RealFrom, was, made}
 use Rattle.seam_legal.proofs.Fitting.{others_none, made_is, new_number, type_by}
 use Rattle.seam_legal.proofs.Started.{real_comes}
@@ -91,7 +90,7 @@ module _ (h : Header) (some : 1 ≤ h.settings.bases) (b : Book) (t : Division) 
 
   -- ---- as the batch is loaded
 
-  module _ (e : ℕ) (c : Create) (lives : live_as b e ≡ Some c) (home : ℕ) (r : RealView)
+  module _ (e : ℕ) (c : Create) (there : IsPresent b e c) (home : ℕ) (r : RealView)
       (here : real_in ((entity_flow e (loaded w B)).slot home) ≡ Some r) where
     abbrev Begins : Create → Type 0
     Begins x = BeginsAt w B x.entity (leaf_at B.tree x.pos) (made_real (frame_of h t) B.tree x)
@@ -135,9 +134,20 @@ module _ (h : Header) (some : 1 ≤ h.settings.bases) (b : Book) (t : Division) 
     start_by (made x i ty ords) (inr now) =
         subst (λ y. Start e y r) (made_is e B.creates x c i now) (new_started x i)
 
+    idle : r.done ≡ []
+    idle = (real_loaded (frame_of h t) w B keeps.reals may.reals e home r here).idle
+
+    types : r.ty ≡ c.ty
+    types =
+        type_by h b t w keeps.reals goes R untouched e home r
+        (real_comes h some b t clients w keeps may goes R untouched few present e home r here) c there
+
     pub starts : Start e c r
     starts =
-        start_by (real_comes h some b t clients w keeps may goes R untouched few present e home r here) (live_is_present b e c lives)
+        start_by (real_comes h some b t clients w keeps may goes R untouched few present e home r here) there
+
+    pub begins_real : BeginsReal h c (orders part.Cell e) r
+    begins_real = record { type = types; idle = idle; row = starts }
 
     -- ---- where the calls leave the world quiet
 
@@ -152,18 +162,10 @@ module _ (h : Header) (some : 1 ≤ h.settings.bases) (b : Book) (t : Division) 
       its_account : account_of q ≡ after_calls (type_of h.defs r.ty) (account_of r) its.replays.further
       its_account = ap account_of it_is ∙ its.replays.account
 
-      idle : r.done ≡ []
-      idle = (real_loaded (frame_of h t) w B keeps.reals may.reals e home r here).idle
-
       further_is : q.done ≡ its.replays.further
       further_is =
           ap (λ (a : Account). a.done) its_account ∙ done_after (type_of h.defs r.ty) (account_of r) its.replays.further
           ∙ ap (λ l. l ++ its.replays.further) idle
-
-      types : r.ty ≡ c.ty
-      types =
-          type_by h b t w keeps.reals goes R untouched e home r (real_comes h some b t clients w keeps may goes R untouched few present e home r here)
-          c (live_is_present b e c lives)
 
       pub in_table : (done : List CallData) → done ≡ q.done → AllByRecursion (IsDoneOn part.Cell (type_of h.defs c.ty)) done →
           IsInTable h c (orders part.Cell e ++ done) q

@@ -1,7 +1,10 @@
 -- What a round executed, read off the world in which its calls left the nodes quiet, and the flat table after it.
 use Rattle.std.specs.Prelude.{◌≡◌, ℕ, length, List, [], ◌++◌, Option, None, Some}
 use Rattle.std.specs.List.{flat_map}
+use Rattle.seam_defs.specs.Deeds.{part_of_deed}
+use Rattle.seam_defs.specs.declared.flags.Part.{Part}
 use Rattle.seam_defs.specs.declared.flags.Part.TheVariants as part
+use Rattle.seam_defs.specs.declared.types.TypeDef.{TypeDef}
 use Rattle.seam_call.specs.declared.call.Call.{Call}
 use Rattle.seam_call.specs.declared.create.Create.{Create}
 use Rattle.seam_toml.specs.declared.header.Header.{Header}
@@ -35,6 +38,10 @@ done_in h w part.Base e = done_by_part ((entity_flow e w).slot (base_node h e)).
 abbrev pub with_done : Orders → Orders → Orders
 with_done orders done p e = orders p e ++ done p e
 
+-- a call that is done on this part of a type
+abbrev pub IsDoneOn : Part → TypeDef → Call → Type 0
+IsDoneOn p t x = p ≡ part_of_deed t x.deed
+
 -- ---- the flat table
 
 -- the real is what the flat table has of the entity, which was made so, after these calls of its cell part
@@ -59,3 +66,17 @@ abbrev pub ArePartsInTable : Header → Book → Orders → World → Type 0
 ArePartsInTable h b orders w =
     (e : ℕ) (p : PartView) (made : Create) → ((entity_flow e w).slot (base_node h e)).base.part ≡ Some p → live_as b e ≡ Some made →
     IsPartInTable h made (orders part.Base e) p
+
+-- ---- as a batch is loaded
+
+-- the real of an entity that was made so: it is what the flat table has after the rounds before, and executed nothing in this one
+pub record BeginsReal (h : Header) (made : Create) (order : List Call) (r : RealView) : Type 0 where
+  pub type : r.ty ≡ made.ty
+  pub idle : r.done ≡ []
+  pub row : IsInTable h made order r
+
+-- and so is its base part
+pub record BeginsPart (h : Header) (made : Create) (order : List Call) (p : PartView) : Type 0 where
+  pub type : p.ty ≡ made.ty
+  pub idle : p.done ≡ []
+  pub row : IsPartInTable h made order p

@@ -1,12 +1,18 @@
 //! The script and the core together: a book of accepted lines beside a world, from round to round.
 //!
-//! `specs/Going` says which book goes with which quiet world. Then what the lines of the open round bring may be given to that world, and
-//! when the world has gone through the round, the book with its round ended goes with it again.
+//! `specs/Going` says which book goes with which quiet world, and `specs/Playing` what the laws below ask of the two, so that the open
+//! round may be played. Then what its lines bring may be given to that world, and when the world has gone through the round, the book with
+//! its round ended goes with it again.
+//!
+//! Crates above cite these modules of `proofs`: `Accounts` and `PartsTable` (what calls make of a part is what the flat table has), `Parts`
+//! (base parts and their clients along the last phases), `Executed` (what one of all cells has), `Ended` (who lives and has a client) and
+//! `Further` (a client's witness).
 #![tactic(auto)]
 
 ghost use Rattle.std.specs.Prelude.{◌≡◌, ℕ, List, [], ◌++◌, Some, IsTrue};
+ghost use Rattle.std.specs.List.{AllByRecursion};
 ghost use Rattle.seam_defs.specs.Settings.{AreLegal};
-ghost use Rattle.seam_defs.specs.Types.{AreDefs};
+ghost use Rattle.seam_defs.specs.Types.{AreDefs, type_of};
 ghost use Rattle.seam_tree.specs.Division.{Division};
 ghost use Rattle.seam_machine.specs.Nets.{IsQuiet, LeadsTo};
 ghost use Rattle.seam_machine.specs.declared.machines.Event.{Event};
@@ -16,9 +22,11 @@ ghost use Rattle.seam_transcript.specs.Book.{is_shown, accepted};
 ghost use Rattle.seam_transcript.specs.Orders.{Orders, IsFull};
 ghost use Rattle.seam_transcript.specs.Round.{Lists, ExtendsOrders, done_lines};
 ghost use Rattle.seam_defs.specs.declared.flags.Part.{Part};
+ghost use Rattle.seam_defs.specs.declared.flags.Part.TheVariants as part;
 ghost use Rattle.seam_call.specs.declared.create.Create.{Create};
 ghost use Rattle.seam_accept.specs.Batches.{batch_of};
-ghost use Rattle.seam_batches.specs.Books.{IsOfLines, MayReplace, as_begun};
+ghost use Rattle.seam_batches.specs.Books.{MayReplace, as_begun};
+ghost use Rattle.seam_batches.specs.Bringing.{IsPresent};
 ghost use Rattle.seam_steps.specs.Loads.{opened, loaded};
 ghost use Rattle.seam_steps.specs.Bases.{PartView};
 ghost use Rattle.seam_steps.specs.Nodes.{World, node_steps, node_has_work};
@@ -39,8 +47,9 @@ ghost use Rattle.seam_between.specs.Between.{IsBetweenRounds};
 ghost use Rattle.seam_looks.specs.Tables as world;
 ghost use Rattle.seam_rules.specs.FlatTable.{rows_of};
 ghost use Rattle.seam_legal.specs.Standings.{AreInPlace, home_read, base_read, ghosts_read, clients_called, clients_ended};
-ghost use Rattle.seam_legal.specs.Rounds.{done_in, with_done, AreInTable, ArePartsInTable};
-ghost use Rattle.seam_legal.specs.Going.{frame_of, base_node, GoesWith, HasRoomForCalls, HasRoomForRound};
+ghost use Rattle.seam_legal.specs.Rounds.{done_in, with_done, IsDoneOn, AreInTable, ArePartsInTable, BeginsReal, BeginsPart};
+ghost use Rattle.seam_legal.specs.Going.{frame_of, base_node, GoesWith};
+ghost use Rattle.seam_legal.specs.Playing.{MayPlay, AreOrdersBefore, HasEnded, IsLoaded};
 
 /// A book without lines goes with a world as it is opened for the same header.
 pub fn an_empty_book_goes_with_an_opened_world()
@@ -50,12 +59,14 @@ pub fn an_empty_book_goes_with_an_opened_world()
     seam_rounds::a_round_goes_from_record_to_record();
 }
 
-/// Where a world that keeps the records goes with the book as its open round began, what that round brings may be given to it (`given`).
-/// Where its calls leave the world quiet, the entities that it destroys may be reaped (`reaped`).
+/// Where the open round of a book may be played in a world, what it brings may be given to that world (`given`).
+/// Once it is loaded, each entity that is there in the round has its real and its base part (`there`). Where its calls leave the world
+/// quiet, the entities that it destroys may be reaped (`reaped`).
 pub fn what_lines_bring_fits()
-    ensures given { (h : Header) (b : Book) → AreLegal h.settings → IsOfLines h b → (t : Division) (clients : ℕ → ClientReplica)
-        (w : World) → KeepsRecords (frame_of h t) clients w → GoesWith h (as_begun b) t w → HasRoomForCalls b → HasRoomForRound h w →
+    ensures given { (h : Header) (b : Book) (t : Division) (clients : ℕ → ClientReplica) (w : World) → MayPlay h b t clients w →
         MayBeGiven (frame_of h t) w (batch_of h b) }
+    ensures there { (h : Header) (b : Book) (t : Division) (clients : ℕ → ClientReplica) (w : World) → MayPlay h b t clients w →
+        (e : ℕ) (made : Create) → IsPresent b e made → IsLoaded h b w e }
     ensures reaped { (h : Header) (b : Book) (t : Division) (clients : ℕ → ClientReplica) (w : World) →
         KeepsRecords (frame_of h t) clients w → MayBeGiven (frame_of h t) w (batch_of h b) → (es : List Event) (v : World) →
         LeadsTo node_has_work node_steps (loaded w (batch_of h b)) es v → IsQuiet node_has_work v →
@@ -63,15 +74,15 @@ pub fn what_lines_bring_fits()
 {
     seam_batches::lines_bring_what_fits();
     seam_batches::uncreated_numbers_are_untouched();
+    seam_base_rounds::a_base_part_of_a_loaded_world_is_ready();
     seam_laws::calls_obey_the_laws();
 }
 
 /// When the world has gone through that round, in which what the lines destroyed was reaped, and is quiet, the book with its round ended
 /// goes with it (`round`), and so does the book that begins the next round with another tree (`balanced`).
 pub fn a_book_goes_with_the_world_after_its_round()
-    ensures round { (h : Header) (b : Book) → AreLegal h.settings → IsOfLines h b → (t : Division) (clients : ℕ → ClientReplica)
-        (w : World) → KeepsRecords (frame_of h t) clients w → GoesWith h (as_begun b) t w → HasRoomForCalls b → HasRoomForRound h w →
-        (v : World) (round : GoesThroughRound w (batch_of h b) v) → round.gone ≡ (batch_of h b).destroys → IsQuiet node_has_work v →
+    ensures round { (h : Header) (b : Book) (t : Division) (clients : ℕ → ClientReplica) (w : World) → MayPlay h b t clients w →
+        (v : World) (round : GoesThroughRound w (batch_of h b) v) → HasEnded h b w v round →
         GoesWith h (with_round_ended b) (tree_of b) v }
     ensures balanced { (h : Header) (b : Book) (t u : Division) (w : World) → GoesWith h (with_round_ended b) t w →
         MayReplace (tree_of b) u → GoesWith h (with_tree (with_round_ended b) u) t w }
@@ -86,13 +97,17 @@ pub fn a_book_goes_with_the_world_after_its_round()
 }
 
 /// Where the calls of that round leave the world quiet, each part executed all that was accepted for it, each sender's calls in their order
-/// and once (`full`), whatever of them each part executed before. So the lines of what was executed are those that the rules ask for (`lines`).
+/// and once (`full`), whatever of them each part executed before; and each of them is done on that part of the entity's type (`on`). So the
+/// lines of what was executed are those that the rules ask for (`lines`).
 pub fn each_part_executed_what_was_accepted()
-    ensures full { (h : Header) (b : Book) → AreLegal h.settings → IsOfLines h b → (t : Division) (clients : ℕ → ClientReplica)
-        (w : World) → KeepsRecords (frame_of h t) clients w → GoesWith h (as_begun b) t w → HasRoomForCalls b → HasRoomForRound h w →
+    ensures full { (h : Header) (b : Book) (t : Division) (clients : ℕ → ClientReplica) (w : World) → MayPlay h b t clients w →
         (es : List Event) (v : World) → LeadsTo node_has_work node_steps (loaded w (batch_of h b)) es v → IsQuiet node_has_work v →
         (orders : Orders) → ((p : Part) (e : ℕ) → IsFull (accepted (as_begun b) p e) (orders p e)) → (p : Part) (e : ℕ) →
         IsFull (accepted b p e) (with_done orders (done_in h v) p e) }
+    ensures on { (h : Header) (b : Book) (t : Division) (clients : ℕ → ClientReplica) (w : World) → MayPlay h b t clients w →
+        (es : List Event) (v : World) → LeadsTo node_has_work node_steps (loaded w (batch_of h b)) es v → IsQuiet node_has_work v →
+        (e k : ℕ) (q : RealView) → real_in ((entity_flow e v).slot k) ≡ Some q → (made : Create) → IsPresent b e made → (p : Part) →
+        AllByRecursion (IsDoneOn p (type_of h.defs made.ty)) (done_in h v p e) }
     ensures lines { (h : Header) (b : Book) (v : World) (orders : Orders) →
         ((p : Part) (e : ℕ) → IsFull (accepted b p e) (with_done orders (done_in h v) p e)) → (made : List Create) →
         Lists (created_as b) made → (p : Part) →
@@ -104,16 +119,19 @@ pub fn each_part_executed_what_was_accepted()
     what_lines_bring_fits();
 }
 
-/// Then each real of an entity that lives is what the flat table has of it (`called`), and so it is to the end of the round (`ended`).
+/// As the batch is loaded, each real, also one that the round creates, is what the flat table has of its entity (`loaded`). So is each of
+/// an entity that lives where the calls have ended (`called`), and to the end of the round (`ended`).
 pub fn reals_are_those_of_the_flat_table()
-    ensures called { (h : Header) (b : Book) → AreLegal h.settings → IsOfLines h b → (t : Division) (clients : ℕ → ClientReplica)
-        (w : World) → KeepsRecords (frame_of h t) clients w → GoesWith h (as_begun b) t w → HasRoomForCalls b → HasRoomForRound h w →
-        (orders : Orders) → ((p : Part) (e : ℕ) → IsFull (accepted (as_begun b) p e) (orders p e)) → AreInTable h (as_begun b) orders w →
+    ensures loaded { (h : Header) (b : Book) (t : Division) (clients : ℕ → ClientReplica) (w : World) → MayPlay h b t clients w →
+        (orders : Orders) → AreOrdersBefore h b orders w → (e home : ℕ) (r : RealView) (made : Create) →
+        real_in ((entity_flow e (loaded w (batch_of h b))).slot home) ≡ Some r → IsPresent b e made →
+        BeginsReal h made (orders part.Cell e) r }
+    ensures called { (h : Header) (b : Book) (t : Division) (clients : ℕ → ClientReplica) (w : World) → MayPlay h b t clients w →
+        (orders : Orders) → AreOrdersBefore h b orders w →
         (es : List Event) (v : World) → LeadsTo node_has_work node_steps (loaded w (batch_of h b)) es v → IsQuiet node_has_work v →
         AreInTable h b (with_done orders (done_in h v)) v }
-    ensures ended { (h : Header) (b : Book) → AreLegal h.settings → IsOfLines h b → (t : Division) (clients : ℕ → ClientReplica)
-        (w : World) → KeepsRecords (frame_of h t) clients w → GoesWith h (as_begun b) t w → HasRoomForCalls b → HasRoomForRound h w →
-        (orders : Orders) → ((p : Part) (e : ℕ) → IsFull (accepted (as_begun b) p e) (orders p e)) → AreInTable h (as_begun b) orders w →
+    ensures ended { (h : Header) (b : Book) (t : Division) (clients : ℕ → ClientReplica) (w : World) → MayPlay h b t clients w →
+        (orders : Orders) → AreOrdersBefore h b orders w →
         (v : World) (round : GoesThroughRound w (batch_of h b) v) →
         AreInTable h (with_round_ended b) (with_done orders (done_in h round.called)) v }
 {
@@ -126,19 +144,19 @@ pub fn reals_are_those_of_the_flat_table()
     what_lines_bring_fits();
 }
 
-/// And so is each base part of an entity that lives, with or without a client: after every list of events of the calls (`called`), and at
-/// the end of the round (`ended`).
+/// And so is each base part, with or without a client: as the batch is loaded (`loaded`), and that of an entity that lives after every list
+/// of events of the calls (`called`), and at the end of the round (`ended`).
 pub fn base_parts_are_those_of_the_flat_table()
-    ensures called { (h : Header) (b : Book) → AreLegal h.settings → IsOfLines h b → (t : Division) (clients : ℕ → ClientReplica)
-        (w : World) → KeepsRecords (frame_of h t) clients w → GoesWith h (as_begun b) t w → HasRoomForCalls b → HasRoomForRound h w →
-        (orders : Orders) → ((p : Part) (e : ℕ) → IsFull (accepted (as_begun b) p e) (orders p e)) →
-        ArePartsInTable h (as_begun b) orders w → (es : List Event) (v : World) →
+    ensures loaded { (h : Header) (b : Book) (t : Division) (clients : ℕ → ClientReplica) (w : World) → MayPlay h b t clients w →
+        (orders : Orders) → AreOrdersBefore h b orders w → (e : ℕ) (p : PartView) (made : Create) →
+        ((entity_flow e (loaded w (batch_of h b))).slot (base_node h e)).base.part ≡ Some p → IsPresent b e made →
+        BeginsPart h made (orders part.Base e) p }
+    ensures called { (h : Header) (b : Book) (t : Division) (clients : ℕ → ClientReplica) (w : World) → MayPlay h b t clients w →
+        (orders : Orders) → AreOrdersBefore h b orders w → (es : List Event) (v : World) →
         LeadsTo node_has_work node_steps (loaded w (batch_of h b)) es v → ArePartsInTable h b (with_done orders (done_in h v)) v }
-    ensures ended { (h : Header) (b : Book) → AreLegal h.settings → IsOfLines h b → (t : Division) (clients : ℕ → ClientReplica)
-        (w : World) → KeepsRecords (frame_of h t) clients w → GoesWith h (as_begun b) t w → HasRoomForCalls b → HasRoomForRound h w →
-        (orders : Orders) → ((p : Part) (e : ℕ) → IsFull (accepted (as_begun b) p e) (orders p e)) →
-        ArePartsInTable h (as_begun b) orders w → (v : World) (round : GoesThroughRound w (batch_of h b) v) →
-        round.gone ≡ (batch_of h b).destroys → IsQuiet node_has_work v →
+    ensures ended { (h : Header) (b : Book) (t : Division) (clients : ℕ → ClientReplica) (w : World) → MayPlay h b t clients w →
+        (orders : Orders) → AreOrdersBefore h b orders w → (v : World) (round : GoesThroughRound w (batch_of h b) v) →
+        HasEnded h b w v round →
         ArePartsInTable h (with_round_ended b) (with_done orders (done_in h round.called)) v }
 {
     seam_batches::lines_bring_what_fits();
@@ -151,13 +169,12 @@ pub fn base_parts_are_those_of_the_flat_table()
     a_book_goes_with_the_world_after_its_round();
 }
 
-/// And each place that the round leaves is one that the rules allow: settled, by the round's tree, where the entity was when the round began
-/// and after each call that it executed, whatever order of calls that was.
+/// And each place that the round leaves is one that the rules allow: settled, by the round's tree, where the entity was when the round
+/// began and after each call that it executed, whatever order of calls that was.
 pub fn places_are_those_that_the_rules_allow()
-    ensures { (h : Header) (s t : Standing) → AreLegal h.settings → IsOfLines h s.book → (tree : Division) (clients : ℕ → ClientReplica)
-        (w : World) → KeepsRecords (frame_of h tree) clients w → GoesWith h (as_begun s.book) tree w → HasRoomForCalls s.book →
-        HasRoomForRound h w → ((p : Part) (e : ℕ) → IsFull (accepted (as_begun s.book) p e) (s.orders p e)) →
-        AreInTable h (as_begun s.book) s.orders w → AreInPlace s.places w → (v : World) (round : GoesThroughRound w (batch_of h s.book) v) →
+    ensures { (h : Header) (s t : Standing) (tree : Division) (clients : ℕ → ClientReplica) (w : World) →
+        MayPlay h s.book tree clients w → AreOrdersBefore h s.book s.orders w → AreInPlace s.places w →
+        (v : World) (round : GoesThroughRound w (batch_of h s.book) v) →
         t.orders ≡ with_done s.orders (done_in h round.called) → AreInPlace t.places v → (c : Create) (k : ℕ) (q : RealView) →
         real_in ((entity_flow c.entity v).slot k) ≡ Some q → live_as s.book c.entity ≡ Some c → HasPlace h s t c }
 {
@@ -198,18 +215,16 @@ pub fn ghost_lines_are_those_of_the_rules()
 pub fn the_table_of_a_world_is_that_of_the_rules()
     ensures rows { (h : Header) (b : Book) (tree : Division) (v : World) (orders : Orders) → GoesWith h b tree v → AreInTable h b orders v →
         IsBetweenRounds (frame_of h tree) v → (live : List Create) → Lists (live_as b) live → world.rows_of v ≡ rows_of h orders live }
-    ensures one_each { (h : Header) (b : Book) → AreLegal h.settings → IsOfLines h b → (t : Division) (clients : ℕ → ClientReplica)
-        (w : World) → KeepsRecords (frame_of h t) clients w → GoesWith h (as_begun b) t w → HasRoomForCalls b → HasRoomForRound h w →
-        (orders : Orders) → ((p : Part) (e : ℕ) → IsFull (accepted (as_begun b) p e) (orders p e)) → AreInTable h (as_begun b) orders w →
-        (v : World) (round : GoesThroughRound w (batch_of h b) v) → round.gone ≡ (batch_of h b).destroys → IsQuiet node_has_work v →
+    ensures one_each { (h : Header) (b : Book) (t : Division) (clients : ℕ → ClientReplica) (w : World) → MayPlay h b t clients w →
+        (orders : Orders) → AreOrdersBefore h b orders w →
+        (v : World) (round : GoesThroughRound w (batch_of h b) v) → HasEnded h b w v round →
         (live : List Create) → Lists (live_as b) live → (e : ℕ) → IsTrue (is_shown b e) → (k : ℕ) (q : RealView) →
         real_in ((entity_flow e v).slot k) ≡ Some q → shown_to (frame_of h (tree_of b)) e v
         ≡ shown_to (frame_of h (tree_of b)) e round.called
         ++ one_look (clients_called h t clients b round.called e) e (rows_of h (with_done orders (done_in h round.called)) live) }
-    ensures nothing_left { (h : Header) (b : Book) → AreLegal h.settings → IsOfLines h b → (t : Division) (clients : ℕ → ClientReplica)
-        (w : World) → KeepsRecords (frame_of h t) clients w → GoesWith h (as_begun b) t w → HasRoomForCalls b → HasRoomForRound h w →
-        (orders : Orders) → ((p : Part) (e : ℕ) → IsFull (accepted (as_begun b) p e) (orders p e)) → AreInTable h (as_begun b) orders w →
-        (v : World) (round : GoesThroughRound w (batch_of h b) v) → round.gone ≡ (batch_of h b).destroys → IsQuiet node_has_work v →
+    ensures nothing_left { (h : Header) (b : Book) (t : Division) (clients : ℕ → ClientReplica) (w : World) → MayPlay h b t clients w →
+        (orders : Orders) → AreOrdersBefore h b orders w →
+        (v : World) (round : GoesThroughRound w (batch_of h b) v) → HasEnded h b w v round →
         (live : List Create) → Lists (live_as b) live → (e : ℕ) → IsTrue (is_shown b e) →
         one_look (clients_ended h t clients w b v round e) e (rows_of h (with_done orders (done_in h round.called)) live) ≡ [] }
 {

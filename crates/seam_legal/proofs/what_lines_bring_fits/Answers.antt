@@ -1,22 +1,58 @@
-use Rattle.std.proofs.Common.{◌≡◌, ℕ, ◌+◌, ◌^◌, ◌<◌, true, arith}
+use Rattle.std.proofs.Common.{◌≡◌, ℕ, ◌+◌, ◌^◌, ◌<◌, true, None, arith, inl, inr, ◌⊎◌}
 use Rattle.std.proofs.lemmas.Bool.Decides.{nat_tests}
+use Rattle.seam_transcript.specs.Book.{created_as}
 use Rattle.seam_batches.specs.Books.{as_begun}
+use Rattle.seam_batches.specs.Bringing.{IsUntouched}
 use Rattle.seam_accept.specs.Batches.{batch_of}
 use Rattle.seam_batches.proofs.Adding.{all_turn}
 use Rattle.seam_entity.specs.Numbers.{limit, may_rise}
 use Rattle.seam_steps.specs.Holders.{holders}
 use Rattle.seam_steps.specs.Loads.{loaded}
 use Rattle.seam_between.specs.Between.{numbers_of}
+use Rattle.seam_rounds.proofs.Shape.{Somewhere, Nowhere, search_real}
+use Rattle.seam_base_rounds.specs.Parts.{MayBeLoaded}
 use Rattle.seam_entity.specs.Reals.{RealView}
 use Rattle.seam_legal.specs.Going.{frame_of}
-use Rattle.seam_legal.proofs.Given.{may_be_given}
+use Rattle.seam_legal.proofs.Given.{may_be_given, present_one}
+use Rattle.seam_legal.proofs.Started.{no_one, real_comes}
+use Rattle.seam_legal.proofs.Clients.{client_given}
 use Rattle.seam_legal.proofs.what_lines_bring_fits.Goals as goal
 
 pub returns-clause-given : goal.returns-clause-given
-returns-clause-given c h b legal of_lines t clients w keeps goes few room =
-    may_be_given h legal.in_range.some_bases b t w keeps.reals goes (c.lines_bring_what_fits.ensures.brings h b legal of_lines)
-    (λ e none. c.uncreated_numbers_are_untouched.ensures h (as_begun b) legal
-    (c.lines_bring_what_fits.ensures.begun h b of_lines) e none) few room
+returns-clause-given c h b t clients w play =
+    may_be_given h play.legal.in_range.some_bases b t w play.keeps.reals play.goes (c.lines_bring_what_fits.ensures.brings h b play.legal
+    play.of_lines)
+    (λ e none. c.uncreated_numbers_are_untouched.ensures h (as_begun b) play.legal
+    (c.lines_bring_what_fits.ensures.begun h b play.of_lines) e none) play.few play.room
+
+pub returns-clause-there : goal.returns-clause-there
+returns-clause-there c h b t clients w play e made there =
+    let f = frame_of h t in
+    let B = batch_of h b in
+    let some = play.legal.in_range.some_bases in
+    let R = c.lines_bring_what_fits.ensures.brings h b play.legal play.of_lines in
+    let begun = c.lines_bring_what_fits.ensures.begun h b play.of_lines in
+    let untouched : (e : ℕ) → created_as (as_begun b) e ≡ None → IsUntouched (as_begun b) e =
+    λ e none. c.uncreated_numbers_are_untouched.ensures h (as_begun b) play.legal begun e none in
+    let may = returns-clause-given c h b t clients w play in
+    let present = present_one h some b t w play.keeps.reals play.goes R untouched play.few play.room in
+    let loads : MayBeLoaded f w B = record { between = play.keeps.reals; parts = play.keeps.parts; fits = may.reals; brings = may.parts } in
+    let somewhere : Somewhere e (loaded w B) ⊎ Nowhere e (loaded w B) → Somewhere e (loaded w B) = λ s. elim s [
+      | inl p ↦ p
+      | inr n ↦
+          absurd (no_one h some b t clients w play.keeps may play.goes R untouched play.few present e n (present e made there))
+    ] in
+    let p = somewhere (search_real e (loaded w B)) in
+    let had = c.a_base_part_of_a_loaded_world_is_ready.ensures.settled f w B loads e p.0 p.1 p.2 in
+    record {
+      cell = p.0;
+      real = p.1;
+      here = p.2;
+      base = had.part;
+      base_here = had.here;
+      client = client_given h some b t clients w play.keeps may play.goes R untouched play.few present e had.part had.here p.0 p.1
+          (real_comes h some b t clients w play.keeps may play.goes R untouched play.few present e p.0 p.1 p.2);
+    }
 
 rises_by : (beat : ℕ) → beat + 1 < limit → may_rise beat ≡ true
 rises_by beat lt = grind (arith, nat_tests, lt)

@@ -1,0 +1,10 @@
+mod Listing
+mod Gathered
+mod Held
+mod Who
+mod Numbered
+mod BaseVersions
+mod Told
+mod Replicas
+mod Tickless
+mod OneLook

@@ -1,0 +1,228 @@
+//! What a round prints, read off the worlds that it goes through, is a legal round.
+//!
+//! `specs/Beside` says which standing goes with which world, `specs/Playing` that the standing's open round was played there, and
+//! `specs/Reading` what is then read off two of the worlds that it went through: what it prints (*data_of*), and the standing that it
+//! leaves (*standing_of*). Each law here is about one point of a legal round (*IsRound* of `seam_rules`).
+#![tactic(auto)]
+
+ghost use Rattle.std.specs.Prelude.{◌≡◌, ◌++◌, ℕ, false, List, [], IsTrue, IsFalse, Option, Some, is_some, map};
+ghost use Rattle.std.specs.List.{All};
+ghost use Rattle.std.specs.List.Sorted.{IsNonDecreasing};
+ghost use Rattle.seam_tree.specs.Division.{Division};
+ghost use Rattle.seam_defs.specs.Settings.{AreLegal};
+ghost use Rattle.seam_defs.specs.Types.{AreDefs};
+ghost use Rattle.seam_call.specs.declared.create.Create.{Create};
+ghost use Rattle.seam_call.specs.declared.shown.ClientText.TheVariants.{Shown};
+ghost use Rattle.seam_entity.specs.Reals.{RealView};
+ghost use Rattle.seam_steps.specs.Loads.{opened};
+ghost use Rattle.seam_steps.specs.Nodes.{World};
+ghost use Rattle.seam_moves.specs.Sights.{entity_flow};
+ghost use Rattle.seam_ones.specs.Ones.{real_in};
+ghost use Rattle.seam_replica.specs.Clients.{shown_by_lines};
+ghost use Rattle.seam_replica.specs.Lines.{ShowsRightly};
+ghost use Rattle.seam_replica.specs.Looks.{one_look};
+ghost use Rattle.seam_toml.specs.declared.header.Header.{Header};
+ghost use Rattle.seam_transcript.specs.Book.{Book, one_cell, created_as, live_as, is_shown, has_tick, tree_of, with_entry, with_round_ended};
+ghost use Rattle.seam_transcript.specs.Book.{with_tree};
+ghost use Rattle.seam_transcript.specs.Round.{Lists};
+ghost use Rattle.seam_transcript.specs.declared.verdict.Entry.{Entry};
+ghost use Rattle.seam_batches.specs.Books.{MayReplace};
+ghost use Rattle.seam_rules.specs.Clients.{truth_of, base_texts, texts_to};
+ghost use Rattle.seam_rules.specs.FlatTable.{rows_of};
+ghost use Rattle.seam_rules.specs.Lines.{lines_to, told_in};
+ghost use Rattle.seam_rules.specs.Round.{HasBounds, IsRound};
+ghost use Rattle.seam_rules.specs.Standing.{Standing, after_header, with_line, with_book, replica_of};
+ghost use Rattle.seam_legal.specs.Going.{frame_of};
+ghost use Rattle.seam_laws.specs.Looks.{shown_to};
+ghost use Rattle.seam_laws.specs.Records.{KeepsRecords};
+ghost use Rattle.seam_played.specs.Beside.{GoesBetween};
+ghost use Rattle.seam_played.specs.Reading.{lines_told};
+ghost use Rattle.seam_played.specs.Playing.{IsPlayed, IsLegalButClients, ContinuesLines, data_of, standing_of, clients_ended_in};
+
+/// The entities of a book, those that were created and those that live, can be listed in rising number.
+pub fn entities_can_be_listed()
+    ensures made { (b : Book) → (made : List Create) × Lists (created_as b) made }
+    ensures live { (b : Book) → (live : List Create) × Lists (live_as b) live }
+{}
+
+/// A played round is legal in all that speaks of no client.
+pub fn a_played_round_is_legal_but_for_clients()
+    ensures { (h : Header) (s : Standing) (tree : Division) (w v : World) (p : IsPlayed h s tree w v) (bounds : Option Division)
+        (next : Book) → IsLegalButClients h s (data_of h s tree w v p bounds) (standing_of h s tree w v p bounds next) p.live }
+{
+    seam_laws::calls_obey_the_laws();
+    seam_laws::reaps_obey_the_laws();
+    seam_laws::looks_obey_the_laws();
+    seam_legal::what_lines_bring_fits();
+    seam_legal::a_book_goes_with_the_world_after_its_round();
+    seam_legal::each_part_executed_what_was_accepted();
+    seam_legal::reals_are_those_of_the_flat_table();
+    seam_legal::base_parts_are_those_of_the_flat_table();
+    seam_legal::places_are_those_that_the_rules_allow();
+    seam_legal::home_lines_are_those_of_the_rules();
+    seam_legal::base_lines_are_those_of_the_rules();
+    seam_legal::ghost_lines_are_those_of_the_rules();
+}
+
+/// The lines of its clients are gathered from entity to entity in rising number (`rising`), those of its clients alone (`only`), each under
+/// its entity's type (`types`); and those of an entity's client are the ones that this was shown (`told`), which are none where the entity
+/// has no client (`none`).
+pub fn client_lines_are_gathered()
+    ensures rising { (h : Header) (s : Standing) (tree : Division) (w v : World) (p : IsPlayed h s tree w v) (bounds : Option Division) →
+        IsNonDecreasing (map (λ l. l.entity) (data_of h s tree w v p bounds).shown) }
+    ensures only { (h : Header) (s : Standing) (tree : Division) (w v : World) (p : IsPlayed h s tree w v) (bounds : Option Division) →
+        All (λ l. IsTrue (is_shown s.book l.entity)) (data_of h s tree w v p bounds).shown }
+    ensures types { (h : Header) (s : Standing) (tree : Division) (w v : World) (p : IsPlayed h s tree w v) (bounds : Option Division)
+        (c : Create) → created_as s.book c.entity ≡ Some c → IsTrue (is_shown s.book c.entity) →
+        All (λ l. l.ty ≡ c.ty) (lines_to (data_of h s tree w v p bounds) c.entity) }
+    ensures told { (h : Header) (s : Standing) (tree : Division) (w v : World) (p : IsPlayed h s tree w v) (bounds : Option Division)
+        (c : Create) → created_as s.book c.entity ≡ Some c → IsTrue (is_shown s.book c.entity) →
+        told_in (data_of h s tree w v p bounds) c.entity ≡ lines_told h s.book p.round.called v c.entity }
+    ensures none { (h : Header) (s : Standing) (tree : Division) (w v : World) (p : IsPlayed h s tree w v) (bounds : Option Division)
+        (e : ℕ) → is_shown s.book e ≡ false → told_in (data_of h s tree w v p bounds) e ≡ [] }
+{}
+
+/// The lines of each client go on with its numbers, and show the base part of its entity at the versions that the rules ask for.
+pub fn clients_are_shown_base_parts()
+    ensures { (h : Header) (s : Standing) (tree : Division) (w v : World) (p : IsPlayed h s tree w v) (bounds : Option Division)
+        (next : Book) (c : Create) → created_as s.book c.entity ≡ Some c → IsTrue (is_shown s.book c.entity) →
+        ContinuesLines h s (standing_of h s tree w v p bounds next) c v (lines_told h s.book p.round.called v c.entity) }
+{
+    seam_batches::lines_bring_what_fits();
+    seam_batches::uncreated_numbers_are_untouched();
+    seam_places::the_last_phases_leave_places();
+    seam_clients::the_base_part_is_shown_at_each_change();
+    seam_laws::calls_obey_the_laws();
+    seam_laws::reaps_obey_the_laws();
+    seam_legal::what_lines_bring_fits();
+    seam_legal::a_book_goes_with_the_world_after_its_round();
+    seam_legal::each_part_executed_what_was_accepted();
+    seam_legal::base_parts_are_those_of_the_flat_table();
+}
+
+/// Where the round has ended, each client shows what it was told in all (`replicas`), so that the world keeps the records of these clients
+/// (`records`).
+pub fn clients_show_what_they_were_told()
+    ensures replicas { (h : Header) (s : Standing) (tree : Division) (w v : World) (p : IsPlayed h s tree w v) (bounds : Option Division)
+        (next : Book) (e k : ℕ) (q : RealView) → real_in ((entity_flow e v).slot k) ≡ Some q → IsTrue (is_some q.witness) →
+        clients_ended_in h s tree w v p e ≡ replica_of h (standing_of h s tree w v p bounds next) e }
+    ensures records { (h : Header) (s : Standing) (tree : Division) (w v : World) (p : IsPlayed h s tree w v) (bounds : Option Division)
+        (next : Book) → KeepsRecords (frame_of h (tree_of s.book)) (replica_of h (standing_of h s tree w v p bounds next)) v }
+{
+    seam_batches::lines_bring_what_fits();
+    seam_batches::uncreated_numbers_are_untouched();
+    seam_clients::clients_go_from_record_to_record();
+    seam_laws::calls_obey_the_laws();
+    seam_laws::reaps_obey_the_laws();
+    seam_laws::looks_obey_the_laws();
+    seam_legal::what_lines_bring_fits();
+    seam_legal::a_book_goes_with_the_world_after_its_round();
+    client_lines_are_gathered();
+}
+
+/// So a further look at what the round left shows no client of it anything.
+pub fn a_look_after_the_round_shows_nothing()
+    ensures { (h : Header) (s : Standing) (tree : Division) (w v : World) (p : IsPlayed h s tree w v) (bounds : Option Division)
+        (next : Book) (e : ℕ) → IsTrue (is_shown s.book e) →
+        let t = standing_of h s tree w v p bounds next in one_look (replica_of h t e) e (rows_of h t.orders p.live) ≡ [] }
+{
+    seam_places::the_last_phases_leave_places();
+    seam_shown::a_further_look_shows_nothing();
+    seam_laws::calls_obey_the_laws();
+    seam_laws::reaps_obey_the_laws();
+    seam_laws::looks_obey_the_laws();
+    seam_legal::what_lines_bring_fits();
+    seam_legal::a_book_goes_with_the_world_after_its_round();
+    seam_legal::reals_are_those_of_the_flat_table();
+    seam_legal::the_table_of_a_world_is_that_of_the_rules();
+    clients_show_what_they_were_told();
+}
+
+/// Where no tick was accepted, the calls show no client anything of cell parts.
+pub fn without_a_tick_calls_show_no_cell_parts()
+    ensures { (h : Header) (s : Standing) (tree : Division) (w v : World) (p : IsPlayed h s tree w v) → IsFalse (has_tick s.book) →
+        (c : Create) → created_as s.book c.entity ≡ Some c → IsTrue (is_shown s.book c.entity) →
+        shown_to (frame_of h (tree_of s.book)) c.entity p.round.called ≡ [] }
+{
+    seam_batches::lines_bring_what_fits();
+    seam_batches::uncreated_numbers_are_untouched();
+    seam_base_calls::each_base_call_waits_once();
+    seam_base_calls::a_clients_updates_come_in_order();
+    seam_base_calls::a_witness_tells_only_in_looks();
+    seam_laws::calls_obey_the_laws();
+    seam_legal::what_lines_bring_fits();
+}
+
+/// So each client of such a round is shown its base lines, and then exactly one look at what the round left; a look of a client whose
+/// entity died is empty.
+pub fn without_a_tick_each_client_is_shown_one_look()
+    ensures { (h : Header) (s : Standing) (tree : Division) (w v : World) (p : IsPlayed h s tree w v) (bounds : Option Division)
+        (next : Book) → let r = data_of h s tree w v p bounds in let t = standing_of h s tree w v p bounds next in
+        IsFalse (has_tick s.book) → (e : ℕ) → IsTrue (is_shown s.book e) →
+        texts_to r e ≡ base_texts r e ++ map Shown (one_look (replica_of h s e) e (rows_of h t.orders p.live)) }
+{
+    seam_batches::lines_bring_what_fits();
+    seam_batches::uncreated_numbers_are_untouched();
+    seam_places::the_last_phases_leave_places();
+    seam_clients::the_base_part_is_shown_at_each_change();
+    seam_laws::calls_obey_the_laws();
+    seam_laws::reaps_obey_the_laws();
+    seam_laws::looks_obey_the_laws();
+    seam_legal::what_lines_bring_fits();
+    seam_legal::a_book_goes_with_the_world_after_its_round();
+    seam_legal::reals_are_those_of_the_flat_table();
+    seam_legal::the_table_of_a_world_is_that_of_the_rules();
+    client_lines_are_gathered();
+    without_a_tick_calls_show_no_cell_parts();
+}
+
+/// So a played round is legal, where what its clients are shown of cell parts is right, and where the next round begins with the tree that
+/// the rules ask for.
+pub fn a_played_round_is_legal()
+    ensures { (h : Header) (s : Standing) (tree : Division) (w v : World) (p : IsPlayed h s tree w v) (bounds : Option Division)
+        (next : Book) → let r = data_of h s tree w v p bounds in let t = standing_of h s tree w v p bounds next in
+        ((c : Create) → created_as s.book c.entity ≡ Some c → IsTrue (is_shown s.book c.entity) →
+        ShowsRightly (truth_of h s t c) c.entity (replica_of h s c.entity) (shown_by_lines (told_in r c.entity))) → HasBounds h s r t →
+        IsRound h s r t }
+{
+    a_played_round_is_legal_but_for_clients();
+    client_lines_are_gathered();
+    clients_are_shown_base_parts();
+    a_look_after_the_round_shows_nothing();
+    without_a_tick_each_client_is_shown_one_look();
+}
+
+/// The standing after a header goes with a world that was opened for it (`opened`), and still goes with it when a line was read (`line`) or
+/// accepted (`entry`).
+pub fn a_standing_goes_with_a_world_before_its_round()
+    ensures opened { (h : Header) (count : ℕ) → AreLegal h.settings → AreDefs h.defs →
+        GoesBetween h (after_header h count) (one_cell h.settings.size) (opened h.defs h.settings) }
+    ensures line { (h : Header) (s : Standing) (tree : Division) (w : World) → GoesBetween h s tree w → GoesBetween h (with_line s) tree w }
+    ensures entry { (h : Header) (s : Standing) (tree : Division) (w : World) (x : Entry) → GoesBetween h s tree w →
+        GoesBetween h (with_book s (with_entry s.book x)) tree w }
+{
+    seam_laws::an_opened_world_keeps_the_records();
+    seam_legal::an_empty_book_goes_with_an_opened_world();
+}
+
+/// The standing that a played round leaves goes with the world that it leaves, by the round's tree (`ended`); also where the next round
+/// begins with another tree (`balanced`).
+pub fn a_standing_goes_with_the_world_after_its_round()
+    ensures ended { (h : Header) (s : Standing) (tree : Division) (w v : World) (p : IsPlayed h s tree w v) (bounds : Option Division) →
+        GoesBetween h (standing_of h s tree w v p bounds (with_round_ended s.book)) (tree_of s.book) v }
+    ensures balanced { (h : Header) (s : Standing) (tree : Division) (w v : World) (p : IsPlayed h s tree w v) (bounds : Option Division)
+        (u : Division) → MayReplace (tree_of s.book) u →
+        GoesBetween h (standing_of h s tree w v p bounds (with_tree (with_round_ended s.book) u)) (tree_of s.book) v }
+{
+    seam_laws::calls_obey_the_laws();
+    seam_laws::reaps_obey_the_laws();
+    seam_laws::looks_obey_the_laws();
+    seam_legal::what_lines_bring_fits();
+    seam_legal::a_book_goes_with_the_world_after_its_round();
+    seam_legal::each_part_executed_what_was_accepted();
+    seam_legal::reals_are_those_of_the_flat_table();
+    seam_legal::base_parts_are_those_of_the_flat_table();
+    client_lines_are_gathered();
+    clients_are_shown_base_parts();
+    clients_show_what_they_were_told();
+}
