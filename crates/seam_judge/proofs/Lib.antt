@@ -1,3 +1,5 @@
 mod Agreeing
 mod Balancing
+mod ClientLists
 mod Settling
+mod Truths
