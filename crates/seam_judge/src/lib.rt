@@ -1,16 +1,20 @@
 //! The plain judge of a whole round: point by point, whether what a round prints is legal, computed anew from plain lists. Each function
 //! decides one field of *IsRound* (`seam_rules`), exactly: it answers `true` where the field holds of the standing before the round, of what
-//! the round prints and of the standing after it, and `false` where it does not. Of the point about clients `are_true` decides whether what one of them is shown is true.
+//! the round prints and of the standing after it, and `false` where it does not.
+//!
+//! Of the point about clients, `show_rightly` decides one field for one client (*right* of *ShowsClient*), and `are_true` a part of it.
 #![tactic(auto)]
 
 mod calls;
 mod case;
 mod places;
 mod points;
+mod shown;
 mod truth;
 
 pub use calls::extends_orders;
 pub use case::{Case, clients_among};
 pub use places::have_places;
 pub use points::{are_bases, are_bounds, are_ghosts, are_homes, is_numbered};
+pub use shown::show_rightly;
 pub use truth::are_true;
