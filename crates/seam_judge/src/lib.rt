@@ -2,11 +2,13 @@
 //! decides one field of *IsRound* (`seam_rules`), exactly: it answers `true` where the field holds of the standing before the round, of what
 //! the round prints and of the standing after it, and `false` where it does not.
 //!
-//! Of the point about clients, `show_rightly` decides one field for one client (*right* of *ShowsClient*), and `are_true` a part of it.
+//! Of the points about clients, `show_rightly` decides one field for one client (*right* of *ShowsClient*), `are_true` a part of it, and
+//! `is_nothing_left` one field for all (*nothing_left* of *HasLooked*).
 #![tactic(auto)]
 
 mod calls;
 mod case;
+mod looked;
 mod places;
 mod points;
 mod shown;
@@ -14,6 +16,7 @@ mod truth;
 
 pub use calls::extends_orders;
 pub use case::{Case, clients_among};
+pub use looked::is_nothing_left;
 pub use places::have_places;
 pub use points::{are_bases, are_bounds, are_ghosts, are_homes, is_numbered};
 pub use shown::show_rightly;
