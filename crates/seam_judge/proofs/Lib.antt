@@ -1,3 +1,6 @@
 mod Agreeing
 mod Balancing
+mod ClientLists
+mod Rightly
 mod Settling
+mod Truths

@@ -54,7 +54,7 @@ fn from_sender(
     Ok(own)
 }
 
-fn both(a: bool, b: bool) -> bool
+pub(crate) fn both(a: bool, b: bool) -> bool
     ensures { IsTrue result ↔ (IsTrue a × IsTrue b) }
 {
     a && b

@@ -1,0 +1,19 @@
+use Rattle.std.proofs.Common.{sym, subst, IsTrue, ◌↔◌}
+use Rattle.std.specs.Prelude.{IfOk}
+use Rattle.seam_call.specs.declared.shown.Shown.{Shown}
+use Rattle.seam_replica.specs.Lines.{ShowsTruth}
+use Rattle.seam_rules.specs.Clients.{truth_of}
+use Rattle.seam_round.specs.Standings.{standing_of}
+use Rattle.seam_judge.proofs.truth.is_true.Goals as goal
+
+pub returns-in-Enter : goal.returns-in-Enter
+returns-in-Enter c =
+    subst (λ (x : Shown). IfOk c.is_other.result (λ r. IsTrue r ↔ ShowsTruth
+    (truth_of c.args.case.now.header.now (standing_of c.args.case.now.before.now) (standing_of c.args.case.now.after.now) c.args.create) x))
+    (sym c.in-Enter.is) c.is_other.ensures
+
+pub returns-in-Set : goal.returns-in-Set
+returns-in-Set c =
+    subst (λ (x : Shown). IfOk c.is_other-in-Set.result (λ r. IsTrue r ↔ ShowsTruth
+    (truth_of c.args.case.now.header.now (standing_of c.args.case.now.before.now) (standing_of c.args.case.now.after.now) c.args.create) x))
+    (sym c.in-Set.is) c.is_other-in-Set.ensures

@@ -1,0 +1,6 @@
+mod Bases
+mod Entries
+mod InTurn
+mod Looking
+mod Steps
+mod Walks
