@@ -3,6 +3,8 @@
 //! A world is opened, and loaded for each phase of a round: a batch, reaps, a look (`specs/Loads` has what a load asks). `step` makes
 //! one event. `specs/Worlds` has what holds of it: it is always a world of its header and tree (*IsWorld*), and wherever it comes from it
 //! obeys the laws of its phase (*KeepsLaws*, over `seam_laws`).
+//!
+//! Of `proofs`, `Worlds` (what an event keeps of a world) is for callers with a loop of their own.
 #![tactic(auto)]
 
 mod holders;

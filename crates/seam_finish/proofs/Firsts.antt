@@ -1,5 +1,5 @@
 -- One event more, of a net whose events are each the first.
-use Rattle.std.proofs.Common.{◌≡◌, ℕ, ◌<◌, Bool, true, List, [], ◌∷◌, ◌++◌, length, subst, sym, ◌∙◌, arith}
+use Rattle.std.proofs.Common.{◌≡◌, ℕ, ◌<◌, Bool, true, List, [], ◌∷◌, ◌++◌, length, refl, subst, sym, ◌∙◌, arith}
 use Rattle.std.proofs.lemmas.List.{length-append}
 use Rattle.seam_machine.specs.Views.{Stepped, NetView}
 use Rattle.seam_machine.specs.Nets.{LeadsTo, AllEnabled, IsQuiet, enabled, happens, run}
@@ -34,3 +34,8 @@ module _ {N M : Type 0} (has_work : N → Bool) (steps : N → Input M → Stepp
   pub never_quiet : (w v : NetView N M) (es : List Event) (e : Event) → LeadsTo has_work steps w es v → enabled has_work v e ≡ true →
       IsQuiet has_work w → ⊥
   never_quiet w v es e leads can = quiet_by w es e (leads_extend has_work steps w v es e leads can).each
+
+  -- a net that is quiet has no event, and stays as it is
+  pub quiet_stays : (w v : NetView N M) (es : List Event) → LeadsTo has_work steps w es v → IsQuiet has_work w → (v ≡ w) × (es ≡ [])
+  quiet_stays w v [] leads quiet = (leads.is_run, refl)
+  quiet_stays w v (e ∷ es) leads quiet = absurd (let z = sym (quiet e) ∙ leads.each.0 in cc)

@@ -2,6 +2,8 @@
 //!
 //! Which event is next is settled, so the same net takes the same events each time. That a net comes to rest at all is for the caller
 //! to know: every list of its events is no longer than some number.
+//!
+//! Of `proofs`, `Firsts` (one event more, of a net whose events are each the first) is for callers with a loop of their own.
 #![tactic(auto)]
 
 ghost use Rattle.std.specs.Prelude.{ℕ, IfOk, OnErr};

@@ -1,0 +1,19 @@
+use Rattle.std.proofs.Common.{◌≡◌, ℕ, sym, ◌∙◌, subst}
+use Rattle.seam_defs.specs.Settings.{standard}
+use Rattle.seam_steps.specs.Loads.{opened}
+use Rattle.seam_steps.specs.Rows.{empty_world}
+use Rattle.seam_replica.specs.Clients.{ClientReplica, new_client}
+use Rattle.seam_base_rounds.specs.Example.{opening}
+use Rattle.seam_quiet.specs.Rounds.{MayRun}
+use Rattle.seam_quiet.proofs.tests.run.Goals as goal
+
+pub run_round-requires : goal.run_round-requires
+run_round-requires c =
+    let clients : ℕ → ClientReplica = λ e. new_client standard in
+    let world : c.in_ok-world.world ≡ empty_world =
+    c.in_ok-world.ensures.opened ∙ (λ i. opened (c.in_ok-defs.ensures i) (c.standard.ensures.value i)) in (
+      opening,
+      clients,
+      subst (λ w. MayRun opening clients w c.in_ok-batch.field-0) (sym world)
+          (subst (MayRun opening clients empty_world) (sym c.in_ok-batch.ensures) c.a_worked_round_may_run.ensures),
+    )

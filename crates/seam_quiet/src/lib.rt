@@ -1,0 +1,14 @@
+//! Rounds of a world on one thread, each the same for the same world and batch.
+//!
+//! A round has three phases: the calls of its batch, the reaps of the entities that die in it, and the looks of the witnesses that are
+//! left. In each phase events happen until the world is quiet (`seam_finish`). Which events happened is the round's journal, for who
+//! watches (`seam_watch`).
+#![tactic(auto)]
+
+mod laws;
+mod round;
+#[cfg(test)]
+mod tests;
+
+pub use laws::a_worked_round_may_run;
+pub use round::{run_phase, run_round};
