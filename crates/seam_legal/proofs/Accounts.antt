@@ -50,7 +50,7 @@ module _ (h : Header) (c : Create) where
 
   -- ---- further calls leave what was before
 
-  flat_before : (order more : List CallData) (v : ℕ) → v ≤ length order → flat h part.Cell c (order ++ more) v ≡ flat h part.Cell c order v
+  pub flat_before : (order more : List CallData) (v : ℕ) → v ≤ length order → flat h part.Cell c (order ++ more) v ≡ flat h part.Cell c order v
   flat_before order more v le = ap (fold (done_deed its_type) (first_state h part.Cell c)) (take-append-le v order more le)
 
   abbrev differ : State → State → Bool
@@ -62,7 +62,7 @@ module _ (h : Header) (c : Create) where
       ap (λ s. differ s (flat h part.Cell c (order ++ more) v)) (flat_before order more (v - 1) (omega (arith, le)))
       ∙ ap (differ (flat h part.Cell c order (v - 1))) (flat_before order more v le)
 
-  public_before : (order more : List CallData) (n : ℕ) → n ≤ length order → public_at h c (order ++ more) n ≡ public_at h c order n
+  pub public_before : (order more : List CallData) (n : ℕ) → n ≤ length order → public_at h c (order ++ more) n ≡ public_at h c order n
   public_before order more zero le = refl
   public_before order more (suc n) le =
       public_more h c (order ++ more) n

@@ -16,7 +16,7 @@ mod Done
 mod Table
 mod Placing
 mod Ghosts
-mod Rows
+pub mod Rows
 pub mod Further
 mod Bases
 pub mod PartsTable

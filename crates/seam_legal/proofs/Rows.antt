@@ -82,7 +82,7 @@ module _ (h : Header) (c : Create) (order : List CallData) where
       sym same ∙ ap ghost_at less ∙ before
 
   -- a ghost holds now what it held at the public version
-  ghost_is_public : (n : ℕ) → ghost_at n ≡ ghost_at (public_at h c order n)
+  pub ghost_is_public : (n : ℕ) → ghost_at n ≡ ghost_at (public_at h c order n)
   ghost_is_public zero = refl
   ghost_is_public (suc n) =
       same_by n (has_changed_at h part.Cell c order (suc n)) refl (ghost_is_public n) ∙ ap ghost_at (sym (public_more h c order n))

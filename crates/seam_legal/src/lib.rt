@@ -60,13 +60,15 @@ pub fn an_empty_book_goes_with_an_opened_world()
 }
 
 /// Where the open round of a book may be played in a world, what it brings may be given to that world (`given`).
-/// Once it is loaded, each entity that is there in the round has its real and its base part (`there`). Where its calls leave the world
+/// Once it is loaded, each entity that is there in the round has its real and its base part (`there`), and no other has a real (`comes`). Where its calls leave the world
 /// quiet, the entities that it destroys may be reaped (`reaped`).
 pub fn what_lines_bring_fits()
     ensures given { (h : Header) (b : Book) (t : Division) (clients : ℕ → ClientReplica) (w : World) → MayPlay h b t clients w →
         MayBeGiven (frame_of h t) w (batch_of h b) }
     ensures there { (h : Header) (b : Book) (t : Division) (clients : ℕ → ClientReplica) (w : World) → MayPlay h b t clients w →
         (e : ℕ) (made : Create) → IsPresent b e made → IsLoaded h b w e }
+    ensures comes { (h : Header) (b : Book) (t : Division) (clients : ℕ → ClientReplica) (w : World) → MayPlay h b t clients w →
+        (e k : ℕ) (r : RealView) → real_in ((entity_flow e (loaded w (batch_of h b))).slot k) ≡ Some r → (made : Create) × IsPresent b e made }
     ensures reaped { (h : Header) (b : Book) (t : Division) (clients : ℕ → ClientReplica) (w : World) →
         KeepsRecords (frame_of h t) clients w → MayBeGiven (frame_of h t) w (batch_of h b) → (es : List Event) (v : World) →
         LeadsTo node_has_work node_steps (loaded w (batch_of h b)) es v → IsQuiet node_has_work v →

@@ -8,3 +8,6 @@ mod Told
 mod Replicas
 mod Tickless
 mod OneLook
+mod Truths
+mod Later
+mod Rightly

@@ -11,7 +11,8 @@ use Rattle.seam_transcript.specs.Book.{Book, entries, creates_of, created_as, li
 use Rattle.seam_accept.specs.Batches.{joined}
 use Rattle.seam_batches.specs.Books.{as_begun}
 use Rattle.seam_batches.specs.Bringing.{IsPresent, GetsClient, IsNewEntity, IsUntouched, Brings, made_among}
-use Rattle.seam_batches.proofs.Present.{any_split, any_begun, created_split, created_begun, unjoined}
+use Rattle.seam_batches.proofs.Present.{any_split, any_begun, created_split, created_begun, unjoined, alive}
+use Rattle.seam_transcript.proofs.BookEntries.{live_is_created}
 use Rattle.seam_steps.specs.Bases.{ProxyView}
 use Rattle.seam_ones.proofs.Holds.{both}
 use Rattle.seam_base_rounds.proofs.Joining.{is_among}
@@ -94,3 +95,23 @@ pub was_created : (b : Book) (e : ℕ) → IsTrue (is_shown b e) → (c : Create
 was_created b e shown =
     let first = (both (is_some (created_as b e) && list_any (joins e) (entries b)) (not (was_dead b e)) shown).0 in
     created_by (created_as b e) (both (is_some (created_as b e)) (list_any (joins e) (entries b)) first).0
+
+-- one that is there in the round was created so, and was not dead before
+module _ (h : Header) (b : Book) (R : Brings h b)
+    (untouched : (e : ℕ) → created_as (as_begun b) e ≡ None → IsUntouched (as_begun b) e) (e : ℕ) (c : Create) where
+  new_one : made_among (creates_of b.current) e ≡ Some c → created_as (as_begun b) e ≡ None
+  new_one now =
+      let d = made_has (IsNewEntity h b) e c (creates_of b.current) R.creates now in
+      subst (λ n. created_as (as_begun b) n ≡ None) d.1 d.0.new
+
+  pub there_created : IsPresent b e c → created_as b e ≡ Some c
+  there_created (inl lives) =
+      created_split b e
+      ∙ ap (λ o. option_or o (made_among (creates_of b.current) e)) (sym (created_begun b e) ∙ live_is_created (as_begun b) e c lives)
+  there_created (inr now) =
+      created_split b e
+      ∙ ap (λ o. option_or o (made_among (creates_of b.current) e)) (sym (created_begun b e) ∙ new_one now) ∙ now
+
+  pub there_alive : IsPresent b e c → was_dead b e ≡ false
+  there_alive (inl lives) = sym (any_begun b e (destroys e)) ∙ alive (as_begun b) e c lives
+  there_alive (inr now) = sym (any_begun b e (destroys e)) ∙ (untouched e (new_one now)).end

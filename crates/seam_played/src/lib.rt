@@ -176,6 +176,23 @@ pub fn without_a_tick_each_client_is_shown_one_look()
     without_a_tick_calls_show_no_cell_parts();
 }
 
+/// What clients are shown of cell parts in the calls is right by the rules: each line may come when it is its turn, and shows what its
+/// entity was in the round.
+pub fn what_calls_show_of_cell_parts_is_right()
+    ensures { (h : Header) (s : Standing) (tree : Division) (w v : World) (p : IsPlayed h s tree w v) (bounds : Option Division)
+        (next : Book) (c : Create) → created_as s.book c.entity ≡ Some c → IsTrue (is_shown s.book c.entity) →
+        ShowsRightly (truth_of h s (standing_of h s tree w v p bounds next) c) c.entity (replica_of h s c.entity)
+        (shown_to (frame_of h (tree_of s.book)) c.entity p.round.called) }
+{
+    seam_defs::laws::others_see_the_ghost();
+    seam_batches::lines_bring_what_fits();
+    seam_batches::uncreated_numbers_are_untouched();
+    seam_laws::calls_obey_the_laws();
+    seam_legal::what_lines_bring_fits();
+    seam_legal::each_part_executed_what_was_accepted();
+    seam_legal::reals_are_those_of_the_flat_table();
+}
+
 /// So a played round is legal, where what its clients are shown of cell parts is right, and where the next round begins with the tree that
 /// the rules ask for.
 pub fn a_played_round_is_legal()

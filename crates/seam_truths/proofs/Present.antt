@@ -108,6 +108,8 @@ module _ (f : Frame) (start : RealView) where
         reached = omega (arith, n, low);
         is = h.is ∙ ap (λ l. shown_at f start.ty c.version (after_calls (type_of f.defs start.ty) (account_of start) l).state)
             (sym (take-append-le (c.version - start.version) further more short));
+        public = ap (λ l. (after_calls (type_of f.defs start.ty) (account_of start) l).public)
+            (take-append-le (c.version - start.version) further more short) ∙ h.public;
       }
 
   abbrev pub shown_of : RealView → GhostCopy
@@ -125,6 +127,8 @@ module _ (f : Frame) (start : RealView) where
             ap (λ t. shown_at f t q.public q.state) p.type
             ∙ (ap (λ a. shown_at f start.ty q.public a.state) p.account
             ∙ ap (λ l. shown_at f start.ty q.public (after_calls (type_of f.defs start.ty) (account_of start) l).state) (sym all));
+        public = ap (λ l. (after_calls (type_of f.defs start.ty) (account_of start) l).public) all
+            ∙ ap (λ a. a.public) (sym p.account);
       }
 
   pub same_shown_of : (r q : RealView) → q.ty ≡ r.ty → q.public ≡ r.public →
@@ -178,4 +182,6 @@ module _ (f : Frame) (start : RealView) where
     reached = omega (arith, low);
     is = ap (λ l. shown_at f start.ty start.public (after_calls (type_of f.defs start.ty) (account_of start) l).state)
         (sym (take_all (start.public - start.version) [] (omega arith)));
+    public = ap (λ l. (after_calls (type_of f.defs start.ty) (account_of start) l).public)
+        (take_all (start.public - start.version) [] (omega arith));
   }

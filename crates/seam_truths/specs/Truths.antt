@@ -19,14 +19,19 @@ use Rattle.seam_truths.specs.Entries.{Entry, brings, book_entry}
 abbrev pub state_at : Frame → RealView → List Call → ℕ → State
 state_at f start further v = (after_calls (type_of f.defs start.ty) (account_of start) (take (v - start.version) further)).state
 
+-- and its public version then
+abbrev pub public_at : Frame → RealView → List Call → ℕ → ℕ
+public_at f start further v = (after_calls (type_of f.defs start.ty) (account_of start) (take (v - start.version) further)).public
+
 -- what others may see of a state of a real of this type, with its version
 abbrev pub shown_at : Frame → ℕ → ℕ → State → GhostCopy
 shown_at f ty version s = record { ty = ty; version = version; state = ghost_of (type_of f.defs ty).properties s }
 
--- the copy is what others may see of the state that the real had at the copy's version
+-- the copy is what others may see of the state that the real had at the copy's version, which is a public one
 pub record IsTrueCopy (f : Frame) (start : RealView) (further : List Call) (c : GhostCopy) : Type 0 where
   pub reached : c.version ≤ start.version + length further
   pub is : c ≡ shown_at f start.ty c.version (state_at f start further c.version)
+  pub public : public_at f start further c.version ≡ c.version
 
 -- an entry of the table: its beat is not above the last, and its copy, if it has one, is the one that the table has for the beat
 pub record IsOfTable (table : ℕ → GhostCopy) (last : ℕ) (p : Entry) : Type 0 where

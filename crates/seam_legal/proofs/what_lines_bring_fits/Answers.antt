@@ -14,7 +14,8 @@ use Rattle.seam_base_rounds.specs.Parts.{MayBeLoaded}
 use Rattle.seam_entity.specs.Reals.{RealView}
 use Rattle.seam_legal.specs.Going.{frame_of}
 use Rattle.seam_legal.proofs.Given.{may_be_given, present_one}
-use Rattle.seam_legal.proofs.Started.{no_one, real_comes}
+use Rattle.seam_legal.proofs.Started.{no_one, made_now, real_comes}
+use Rattle.seam_legal.proofs.Origins.{was, made}
 use Rattle.seam_legal.proofs.Clients.{client_given}
 use Rattle.seam_legal.proofs.what_lines_bring_fits.Goals as goal
 
@@ -26,7 +27,7 @@ returns-clause-given c h b t clients w play =
     (c.lines_bring_what_fits.ensures.begun h b play.of_lines) e none) play.few play.room
 
 pub returns-clause-there : goal.returns-clause-there
-returns-clause-there c h b t clients w play e made there =
+returns-clause-there c h b t clients w play e d there =
     let f = frame_of h t in
     let B = batch_of h b in
     let some = play.legal.in_range.some_bases in
@@ -40,7 +41,7 @@ returns-clause-there c h b t clients w play e made there =
     let somewhere : Somewhere e (loaded w B) ⊎ Nowhere e (loaded w B) → Somewhere e (loaded w B) = λ s. elim s [
       | inl p ↦ p
       | inr n ↦
-          absurd (no_one h some b t clients w play.keeps may play.goes R untouched play.few present e n (present e made there))
+          absurd (no_one h some b t clients w play.keeps may play.goes R untouched play.few present e n (present e d there))
     ] in
     let p = somewhere (search_real e (loaded w B)) in
     let had = c.a_base_part_of_a_loaded_world_is_ready.ensures.settled f w B loads e p.0 p.1 p.2 in
@@ -53,6 +54,20 @@ returns-clause-there c h b t clients w play e made there =
       client = client_given h some b t clients w play.keeps may play.goes R untouched play.few present e had.part had.here p.0 p.1
           (real_comes h some b t clients w play.keeps may play.goes R untouched play.few present e p.0 p.1 p.2);
     }
+
+pub returns-clause-comes : goal.returns-clause-comes
+returns-clause-comes c h b t clients w play e k r at =
+    let some = play.legal.in_range.some_bases in
+    let R = c.lines_bring_what_fits.ensures.brings h b play.legal play.of_lines in
+    let begun = c.lines_bring_what_fits.ensures.begun h b play.of_lines in
+    let untouched : (e : ℕ) → created_as (as_begun b) e ≡ None → IsUntouched (as_begun b) e =
+    λ e none. c.uncreated_numbers_are_untouched.ensures h (as_begun b) play.legal begun e none in
+    let may = returns-clause-given c h b t clients w play in
+    let present = present_one h some b t w play.keeps.reals play.goes R untouched play.few play.room in
+    elim (real_comes h some b t clients w play.keeps may play.goes R untouched play.few present e k r at) [
+      | was others q y here is ↦ (let l = play.goes.reals e k q here in (l.0, inl l.1))
+      | made y i ty orders ↦ (y, inr (made_now h some b t clients w play.keeps may play.goes R untouched play.few present e y i))
+    ]
 
 rises_by : (beat : ℕ) → beat + 1 < limit → may_rise beat ≡ true
 rises_by beat lt = grind (arith, nat_tests, lt)
