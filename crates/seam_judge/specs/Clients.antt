@@ -1,5 +1,5 @@
 -- Which entities have a client in a round.
-use Rattle.std.specs.Prelude.{◌≡◌, ℕ, Bool, List, ◌++◌, ◌==◌, Option, None, if◌then◌else◌}
+use Rattle.std.specs.Prelude.{◌≡◌, ℕ, ◌++◌, Option, None, if◌then◌else◌}
 use Rattle.seam_call.specs.declared.create.Create.{Create}
 use Rattle.seam_transcript.specs.Book.{Book, created_as, is_shown}
 use Rattle.seam_rules.specs.Standing.{Standing}
