@@ -1,5 +1,5 @@
 -- A tree is the balanced one or not.
-use Rattle.std.proofs.Common.{◌≡◌, ℕ, Bool, true, false, List, map, Option, None, Some, refl, sym, ◌∙◌, ap, subst, IsTrue, ◌↔◌}
+use Rattle.std.proofs.Common.{◌≡◌, ℕ, Bool, true, false, List, map, Option, None, Some, sym, ◌∙◌, subst, IsTrue, ◌↔◌}
 use Rattle.std.specs.Prelude.{MatchBool}
 use Rattle.seam_geo.specs.declared.pos.Pos.{Pos}
 use Rattle.seam_tree.specs.Division.{Division}

@@ -1,5 +1,5 @@
 -- The clients of a round.
-use Rattle.std.proofs.Common.{◌≡◌, ◌⊎◌, ◌<◌, ℕ, Bool, true, false, cond, not, List, [], ◌∷◌, ◌++◌, length, map, get_or, Option, None, Some}
+use Rattle.std.proofs.Common.{◌≡◌, ◌⊎◌, ◌<◌, ℕ, Bool, true, false, cond, not, List, [], ◌∷◌, length, get_or, Option, None, Some}
 use Rattle.std.proofs.Common.{refl, sym, ap, ◌∙◌, subst, arith, inl, inr, IsTrue, ◌↔◌}
 use Rattle.std.specs.Prelude.{filter, ◌==◌, ◌&&◌, is_some, Contains}
 use Rattle.std.specs.List.{All, list_any}

@@ -1,5 +1,5 @@
 -- What a client is shown rightly, by what the code decides of it.
-use Rattle.std.proofs.Common.{◌≡◌, ℕ, Bool, suc, List, [], ◌∷◌, length, map, Bor, sym, subst, arith, IsTrue, ◌↔◌}
+use Rattle.std.proofs.Common.{◌≡◌, ℕ, Bool, suc, List, [], ◌∷◌, map, Bor, sym, subst, arith, IsTrue, ◌↔◌}
 use Rattle.std.specs.List.{All}
 use Rattle.std.proofs.lemmas.List.Elements.{All-cons, All-nil, All-from_recursion, recursion_from_All}
 use Rattle.seam_call.specs.declared.shown.Shown.{Shown}

@@ -1,5 +1,5 @@
 -- Whether a place is settled along all of a path, or along all but its start.
-use Rattle.std.proofs.Common.{◌≡◌, ◌⊎◌, ◌<◌, ◌≤◌, ◌+◌, ◌-◌, ℕ, Bool, List, ◌∷◌, length, map, drop, inl, inr, sym, ◌∙◌, ap, subst, arith, IsTrue, ◌↔◌}
+use Rattle.std.proofs.Common.{◌≡◌, ◌⊎◌, ◌<◌, ◌+◌, ◌-◌, ℕ, Bool, List, ◌∷◌, length, map, drop, inl, inr, sym, ◌∙◌, ap, subst, arith, IsTrue, ◌↔◌}
 use Rattle.std.specs.List.{range_with_len}
 use Rattle.seam_geo.specs.declared.pos.Pos.{Pos}
 use Rattle.seam_tree.specs.Division.{Division}

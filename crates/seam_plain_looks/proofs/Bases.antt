@@ -1,6 +1,5 @@
 -- The versions at which a base part is shown, by the lists that the code has.
-use Rattle.std.proofs.Common.{◌≡◌, ◌++◌, ◌∷◌, [], ◌&&◌, ℕ, Bool, cond, List, length, map, Bor, refl, sym, ap, ◌∙◌}
-use Rattle.std.specs.Prelude.{nat_lt}
+use Rattle.std.proofs.Common.{◌≡◌, ◌++◌, ◌∷◌, [], ◌&&◌, ℕ, Bool, cond, List, length, map, Bor, sym, ap, ◌∙◌}
 use Rattle.std.proofs.lemmas.List.{length-map}
 use Rattle.seam_defs.specs.declared.flags.Part.TheVariants as part
 use Rattle.seam_call.specs.declared.call.Call.{Call}

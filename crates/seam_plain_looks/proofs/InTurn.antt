@@ -1,5 +1,5 @@
 -- Lines that may be shown one after another, one by one.
-use Rattle.std.proofs.Common.{◌≡◌, ◌+◌, ◌<◌, ℕ, zero, suc, Bool, true, false, List, [], ◌∷◌, length, map, take, get_or, Bor, refl, sym, ap, ◌∙◌, subst, arith}
+use Rattle.std.proofs.Common.{◌≡◌, ◌+◌, ◌<◌, ℕ, zero, suc, Bool, false, List, [], ◌∷◌, length, map, take, get_or, Bor, sym, subst, arith}
 use Rattle.std.proofs.Common.{IsTrue, ◌↔◌}
 use Rattle.seam_call.specs.declared.shown.Shown.{Shown}
 use Rattle.seam_replica.specs.Clients.{ClientReplica, after_shown, after_all_shown}

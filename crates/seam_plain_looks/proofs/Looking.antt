@@ -9,9 +9,9 @@ use Rattle.seam_view.specs.declared.Look.{Look}
 use Rattle.seam_view.specs.declared.Look.TheVariants as look
 use Rattle.seam_view.specs.Replica.{seen_of}
 use Rattle.seam_view.specs.Looks.{has_changed}
-use Rattle.seam_view.specs.Plain.{is_gone, is_new, plain_look}
+use Rattle.seam_view.specs.Plain.{is_gone, is_new}
 use Rattle.seam_call.specs.declared.shown.Shown.{Shown}
-use Rattle.seam_call.specs.declared.shown.Shown.TheVariants.{Enter, Set, Leave}
+use Rattle.seam_call.specs.declared.shown.Shown.TheVariants.{Set, Leave}
 use Rattle.seam_replica.specs.Clients.{ClientReplica}
 use Rattle.seam_replica.specs.Looks.{Row, row_of, seen, shown_for, own_shown, look_at}
 use Rattle.seam_plain_looks.specs.Looks.{leave_of, set_of, enter_of}

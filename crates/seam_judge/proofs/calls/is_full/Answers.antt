@@ -1,4 +1,3 @@
-use Rattle.std.proofs.Common.{◌≡◌, ℕ}
 use Rattle.seam_judge.proofs.Agreeing.{all_agree}
 use Rattle.seam_judge.proofs.calls.is_full.Goals as goal
 

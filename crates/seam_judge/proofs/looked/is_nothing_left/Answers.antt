@@ -1,8 +1,6 @@
-use Rattle.std.proofs.Common.{◌≡◌, [], ◌∙◌, sym, subst, ℕ, List, IsTrue}
+use Rattle.std.proofs.Common.{◌≡◌, [], ◌∙◌, sym, subst, ℕ, List}
 use Rattle.seam_replica.specs.Looks.{Row, one_look}
-use Rattle.seam_rules.specs.FlatTable.{rows_of}
 use Rattle.seam_rules.specs.Standing.{replica_of}
-use Rattle.seam_transcript.specs.Book.{is_shown}
 use Rattle.seam_round.specs.Standings.{standing_of}
 use Rattle.seam_expected.proofs.ListedLemmas.{if_ok}
 use Rattle.seam_judge.proofs.ClientLists.{each_number}

@@ -1,4 +1,4 @@
-use Rattle.std.proofs.Common.{sym, ap, subst, Option, Some, IsTrue, ◌↔◌}
+use Rattle.std.proofs.Common.{sym, ap, subst, Option, IsTrue, ◌↔◌}
 use Rattle.std.specs.Prelude.{IfOk, option_copied}
 use Rattle.seam_tree.specs.Division.{Division}
 use Rattle.seam_round.specs.Standings.{standing_of}

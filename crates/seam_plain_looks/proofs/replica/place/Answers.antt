@@ -1,4 +1,4 @@
-use Rattle.std.proofs.Common.{◌++◌, ◌∷◌, [], ◌∙◌, ap, sym, refl, subst, List, ℕ}
+use Rattle.std.proofs.Common.{◌∙◌, refl, subst, List, ℕ}
 use Rattle.seam_plain_looks.specs.Replicas.{IsNotAmong, IsPlaceOf}
 use Rattle.seam_plain_looks.proofs.Entries.{placed_last, placed_there}
 use Rattle.seam_plain_looks.proofs.replica.place.Goals as goal

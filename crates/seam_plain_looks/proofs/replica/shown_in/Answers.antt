@@ -1,5 +1,3 @@
-use Rattle.std.proofs.Common.{◌∙◌, map, sym, ap, List, Bor}
-use Rattle.seam_call.specs.declared.shown.Line.{Line}
 use Rattle.seam_plain_looks.proofs.Steps.{lines_more}
 use Rattle.seam_plain_looks.proofs.replica.shown_in.Goals as goal
 

@@ -1,4 +1,4 @@
-use Rattle.std.proofs.Common.{◌≡◌, ap, sym, subst, true, false, arith, map, ℕ}
+use Rattle.std.proofs.Common.{◌≡◌, sym, subst, true, false, arith, map, ℕ}
 use Rattle.seam_view.specs.Looks.{in_view}
 use Rattle.seam_replica.specs.Lines.{IsNear}
 use Rattle.seam_plain_looks.specs.Replicas.{client_of, empty_client}
