@@ -17,6 +17,3 @@ pub use answers::{Accepted, Refusal};
 pub use book::Book;
 pub use count::next_count;
 pub use header::HeaderLines;
-
-#[cfg(test)]
-mod tests;

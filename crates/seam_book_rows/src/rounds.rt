@@ -1,12 +1,10 @@
-ghost use Rattle.std.specs.Prelude.{IfOk};
-ghost use Rattle.seam_defs.specs.Settings.{AreInRange};
-
-use crate::{Accepted, Book, HeaderLines, Refusal, next_count};
+use crate::header::standard_header;
+use seam_accept::{Accepted, Book, HeaderLines, Refusal, next_count};
 use seam_call::{Batch, Create, Order};
-use seam_defs::{Defs, Part, Settings};
+use seam_defs::Part;
 use seam_geo::Pos;
 use seam_io::LONGEST_LINE;
-use seam_transcript::{Cause, Commands, Header};
+use seam_transcript::{Cause, Commands};
 use seam_tree::{Axis, Boundary, CutError};
 use std::alloc::{AllocError, Global};
 use std::ops::Range;
@@ -38,16 +36,6 @@ const PARTS_OF_A_ROUND: &[&str] = &[
     "balance",
     "destroy 1",
 ];
-
-// The standard settings and the built-in types, which a test's proof does not compute.
-fn standard_header(alloc: Global) -> Result<Header, AllocError>
-    ensures { IfOk result (λ h. AreInRange h.settings) }
-{
-    Ok(Header {
-        settings: Settings::standard(),
-        defs: Defs::builtin(alloc)?,
-    })
-}
 
 #[test]
 fn a_line_is_kept_or_skipped_or_ends_the_round(rt: HostRuntime) -> Result<(), Fail> {

@@ -1,12 +1,9 @@
 // Lines of every command, and the refusals that the book gives to them.
-ghost use Rattle.std.specs.Prelude.{IfOk};
-ghost use Rattle.seam_defs.specs.Settings.{AreInRange};
-
+use crate::header::standard_header;
 use seam_accept::{Book, Refusal};
-use seam_defs::{Defs, Settings};
 use seam_io::LONGEST_LINE;
 use seam_report::push_refusal;
-use seam_transcript::{Commands, Header};
+use seam_transcript::Commands;
 use std::alloc::{AllocError, Global};
 use std::process::Abort;
 use std::test::Fail;
@@ -59,16 +56,6 @@ static SCRIPTS: [Script; 4] = [
             line 14 exists\nline 16 command\n",
     },
 ];
-
-// The standard settings and the built-in types, which a test's proof does not compute.
-fn standard_header(alloc: Global) -> Result<Header, AllocError>
-    ensures { IfOk result (λ h. AreInRange h.settings) }
-{
-    Ok(Header {
-        settings: Settings::standard(),
-        defs: Defs::builtin(alloc)?,
-    })
-}
 
 // What is written of the refused lines, numbered from 1.
 fn refusals_of(rt: &impl Abort, alloc: Global, lines: &str) -> Result<Vec<u8>, AllocError> {
