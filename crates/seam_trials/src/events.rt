@@ -1,5 +1,5 @@
 // Rows that go event by event: after each the entity is in so many places.
-use crate::{Orders, Stopped, Trial, first_batch, method_named, open_world};
+use crate::{Orders, Stopped, Trial, method_named};
 use seam_geo::Pos;
 use seam_machine::Event;
 use seam_tree::{Axis, Tree};
@@ -66,14 +66,8 @@ fn early_call(alloc: Global) -> Result<Trial, Stopped> {
     orders.pass_move(1, 1, 1, Pos { x: 6000, z: 100 })?;
     orders.pass_call(2, 1, 1, hit)?;
     orders.pass_call(2, 1, 2, hit)?;
-    let batch = first_batch(
-        alloc,
-        tree,
-        &[Pos { x: 4000, z: 100 }],
-        None,
-        orders.into_vec(),
-    )?;
-    Ok(Trial::load(alloc, open_world(alloc)?, batch)?)
+    let place = Pos { x: 4000, z: 100 };
+    Trial::begin(alloc, tree, &[place], None, orders.into_vec())
 }
 
 fn late_ghost(alloc: Global) -> Result<Trial, Stopped> {
@@ -83,14 +77,8 @@ fn late_ghost(alloc: Global) -> Result<Trial, Stopped> {
     let mut orders = Orders::new(alloc);
     orders.pass_move(1, 1, 1, Pos { x: 5100, z: 4900 })?;
     orders.pass_move(1, 1, 2, Pos { x: 5100, z: 4000 })?;
-    let batch = first_batch(
-        alloc,
-        tree,
-        &[Pos { x: 4900, z: 4900 }],
-        None,
-        orders.into_vec(),
-    )?;
-    Ok(Trial::load(alloc, open_world(alloc)?, batch)?)
+    let place = Pos { x: 4900, z: 4900 };
+    Trial::begin(alloc, tree, &[place], None, orders.into_vec())
 }
 
 #[test]

@@ -1,5 +1,5 @@
 // Rows of where an entity ends, and where its copies are.
-use crate::{Orders, Stopped, Trial, first_batch, open_world};
+use crate::{Orders, Stopped, Trial};
 use seam_geo::Pos;
 use seam_tree::{Axis, Tree};
 use std::alloc::Global;
@@ -33,8 +33,7 @@ fn trial_of(alloc: Global, row: &Row) -> Result<Trial, Stopped> {
     if let Some(to) = row.to {
         orders.pass_move(1, 1, 1, to)?;
     }
-    let batch = first_batch(alloc, tree, &[row.pos], None, orders.into_vec())?;
-    Ok(Trial::load(alloc, open_world(alloc)?, batch)?)
+    Trial::begin(alloc, tree, &[row.pos], None, orders.into_vec())
 }
 
 fn check(rt: &impl Abort, alloc: Global, row: &Row) -> Result<(), Fail> {

@@ -1,5 +1,5 @@
 // A row of what a client is shown.
-use crate::{Orders, Stopped, Trial, first_batch, open_world};
+use crate::{Orders, Stopped, Trial};
 use seam_call::{ClientText, Line, Shown};
 use seam_geo::Pos;
 use seam_tree::Tree;
@@ -49,8 +49,7 @@ fn at(x: u32) -> Pos {
 // Entity 1, which has a client, and entity 2.
 fn two(alloc: Global) -> Result<Trial, Stopped> {
     let places = [at(1000), at(1300)];
-    let batch = first_batch(alloc, Tree::one(10_000), &places, Some(1), Vec::new(alloc))?;
-    Ok(Trial::load(alloc, open_world(alloc)?, batch)?)
+    Trial::begin(alloc, Tree::one(10_000), &places, Some(1), Vec::new(alloc))
 }
 
 // The calls are made, and then the witness looks.
