@@ -7,7 +7,6 @@ use seam_io::LONGEST_LINE;
 use seam_transcript::{Cause, Commands};
 use seam_tree::{Axis, Boundary, CutError};
 use std::alloc::{AllocError, Global};
-use std::ops::Range;
 use std::process::Abort;
 use std::test::Fail;
 
@@ -117,7 +116,7 @@ fn there_are_sixteen_cells(rt: HostRuntime) -> Result<(), Fail> {
 fn there_are_256_clients(rt: HostRuntime) -> Result<(), Fail> {
     let header = standard_header(rt.alloc())?;
     let mut book = Book::new(rt.alloc(), &header, Commands::All)?;
-    create_all(&rt, rt.alloc(), &mut book, 1..258)?;
+    create_all(&rt, rt.alloc(), &mut book, 1, 257)?;
     for number in 1..257 {
         let line = format!(in rt.alloc(); "client {number}")?;
         keep(&rt, &mut book, &[line.as_str()]);
@@ -201,15 +200,16 @@ fn a_round_is_a_batch(rt: HostRuntime) -> Result<(), Fail> {
     Ok(())
 }
 
-// Creates entities of the numbers from one to another.
+// Creates so many entities, of the first number and those that follow.
 fn create_all(
     rt: &impl Abort,
     alloc: Global,
     book: &mut Book,
-    numbers: Range<u32>,
+    first: u32,
+    count: u32,
 ) -> Result<(), AllocError> {
-    for number in numbers {
-        let line = format!(in alloc; "create {number} Avatar 0 0")?;
+    for i in 0..count {
+        let line = format!(in alloc; "create {} Avatar 0 0", first.wrapping_add(i))?;
         keep(rt, book, &[line.as_str()]);
     }
     Ok(())
@@ -219,10 +219,10 @@ fn create_all(
 fn a_full_book_creates_no_more(rt: HostRuntime) -> Result<(), Fail> {
     let header = standard_header(rt.alloc())?;
     let mut book = Book::new(rt.alloc(), &header, Commands::OneCell)?;
-    create_all(&rt, rt.alloc(), &mut book, 1..40_001)?;
+    create_all(&rt, rt.alloc(), &mut book, 1, 40_000)?;
     let first = book.take_batch();
     assert_eq!(rt; first.creates.as_slice().len(), 40_000);
-    create_all(&rt, rt.alloc(), &mut book, 40_001..65_537)?;
+    create_all(&rt, rt.alloc(), &mut book, 40_001, 25_536)?;
     assert_eq!(rt; book.count(), 25_536);
     assert_eq!(rt; book.accept(b"create 65537 Avatar 0 0"), FULL);
     assert_eq!(rt; book.accept(b"create 65537 Avatar 0 10000"), OUTSIDE);

@@ -2,7 +2,13 @@
 //! orders of base nodes, and events one at a time.
 #![tactic(auto)]
 
+#[cfg(test)]
+mod events;
 mod first;
+#[cfg(test)]
+mod ghosts;
+#[cfg(test)]
+mod looks;
 mod orders;
 mod trial;
 

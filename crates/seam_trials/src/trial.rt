@@ -4,11 +4,12 @@ ghost use Rattle.seam_core.specs.Loads.{MayLoad};
 ghost use Rattle.seam_trials.specs.Trials.{IsStandard, IsSized};
 
 use crate::Stopped;
-use crate::first::orders_alone;
+use crate::first::{first_batch, open_world, orders_alone};
 use seam_base::Base;
 use seam_call::{Batch, Line, Order};
 use seam_cell::Cell;
 use seam_core::World;
+use seam_geo::Pos;
 use seam_machine::Event;
 use seam_tree::{MOST_CELLS, Tree};
 use std::alloc::{AllocError, Global};
@@ -32,6 +33,19 @@ impl Trial {
         let tree = batch.tree;
         let world = world.load(alloc, batch)?;
         Ok(Trial { world, tree })
+    }
+
+    /// Loads a world without entities with avatars 1, 2 and so on at these places, of which one may get a client, and with orders.
+    pub fn begin(
+        alloc: Global,
+        tree: Tree,
+        places: &[Pos],
+        client: Option<u32>,
+        orders: Vec<(u8, Order)>,
+    ) -> Result<Trial, Stopped> {
+        let batch = first_batch(alloc, tree, places, client, orders)?;
+        let world = open_world(alloc)?;
+        Ok(Trial::load(alloc, world, batch)?)
     }
 
     /// Loads orders alone.

@@ -1,0 +1,112 @@
+// Rows that go event by event: after each the entity is in so many places.
+use crate::{Orders, Stopped, Trial, method_named};
+use seam_geo::Pos;
+use seam_machine::Event;
+use seam_tree::{Axis, Tree};
+use std::alloc::Global;
+use std::process::Abort;
+use std::test::Fail;
+
+// A node, the node whose message it is fed, or none for its task, and in how many places entity 1 is then.
+type Turn = (u8, Option<u8>, u32);
+
+// The move comes to cell 0 first, the hit of number 2 comes to cell 1 before that of number 1.
+const EARLY_CALL: [Turn; 12] = [
+    (0, None, 1),
+    (16, None, 1),
+    (17, None, 1),
+    (0, Some(16), 1),
+    (1, Some(0), 1),
+    (17, Some(1), 1),
+    (17, None, 1),
+    (1, Some(17), 1),
+    (0, Some(17), 1),
+    (1, Some(0), 1),
+    (1, None, 1),
+    (16, Some(1), 1),
+];
+
+// Cell 2 hears that its copy is dropped before it hears of the copy.
+const LATE_GHOST: [Turn; 14] = [
+    (0, None, 1),
+    (16, None, 1),
+    (16, None, 1),
+    (0, Some(16), 1),
+    (0, Some(16), 1),
+    (1, Some(0), 1),
+    (1, Some(0), 1),
+    (1, Some(0), 1),
+    (2, Some(1), 1),
+    (2, Some(0), 1),
+    (2, Some(0), 1),
+    (0, Some(1), 1),
+    (16, Some(1), 1),
+    (17, Some(1), 1),
+];
+
+// It is reaped at its base node, in its cell, and where its copy is.
+const REAP: [Turn; 3] = [(17, None, 1), (1, Some(17), 0), (0, Some(1), 0)];
+
+fn play(rt: &impl Abort, alloc: Global, trial: &mut Trial, turns: &[Turn]) -> Result<(), Stopped> {
+    for (node, from, places) in turns {
+        let node = *node;
+        let from = *from;
+        trial.step(alloc, Event { node, from })?;
+        assert_eq!(rt; trial.holders(1), *places, "after {node}");
+    }
+    assert!(rt; trial.is_quiet());
+    Ok(())
+}
+
+fn early_call(alloc: Global) -> Result<Trial, Stopped> {
+    let mut tree = Tree::one(10_000);
+    let _ = tree.cut(0, Axis::X, 5000);
+    let hit = method_named(alloc, b"hit")?;
+    let mut orders = Orders::new(alloc);
+    orders.pass_move(1, 1, 1, Pos { x: 6000, z: 100 })?;
+    orders.pass_call(2, 1, 1, hit)?;
+    orders.pass_call(2, 1, 2, hit)?;
+    let place = Pos { x: 4000, z: 100 };
+    Trial::begin(alloc, tree, &[place], None, orders.into_vec())
+}
+
+fn late_ghost(alloc: Global) -> Result<Trial, Stopped> {
+    let mut tree = Tree::one(10_000);
+    let _ = tree.cut(0, Axis::X, 5000);
+    let _ = tree.cut(1, Axis::Z, 5000);
+    let mut orders = Orders::new(alloc);
+    orders.pass_move(1, 1, 1, Pos { x: 5100, z: 4900 })?;
+    orders.pass_move(1, 1, 2, Pos { x: 5100, z: 4000 })?;
+    let place = Pos { x: 4900, z: 4900 };
+    Trial::begin(alloc, tree, &[place], None, orders.into_vec())
+}
+
+#[test]
+fn an_early_call_is_held(rt: HostRuntime) -> Result<(), Fail> {
+    let mut trial = early_call(rt.alloc())?;
+    play(&rt, rt.alloc(), &mut trial, &EARLY_CALL)?;
+    assert!(rt; trial.has_real(1, 1));
+    assert_eq!(rt; trial.route(0, 1), Some((1, 1)));
+    assert_eq!(rt; trial.route(1, 1), Some((1, 1)));
+    Ok(())
+}
+
+#[test]
+fn a_late_ghost_message_is_ignored(rt: HostRuntime) -> Result<(), Fail> {
+    let mut trial = late_ghost(rt.alloc())?;
+    play(&rt, rt.alloc(), &mut trial, &LATE_GHOST)?;
+    assert!(rt; trial.has_real(1, 1));
+    assert_eq!(rt; trial.copy_version(0, 1), Some(2));
+    assert_eq!(rt; trial.copy_version(2, 1), None);
+    Ok(())
+}
+
+#[test]
+fn a_reaped_entity_is_gone(rt: HostRuntime) -> Result<(), Fail> {
+    let mut trial = late_ghost(rt.alloc())?;
+    play(&rt, rt.alloc(), &mut trial, &LATE_GHOST)?;
+    let mut trial = trial.reap(&[1])?;
+    play(&rt, rt.alloc(), &mut trial, &REAP)?;
+    assert_eq!(rt; trial.copy_version(0, 1), None);
+    Ok(())
+}
