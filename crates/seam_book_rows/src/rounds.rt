@@ -1,8 +1,7 @@
 use crate::header::standard_header;
 use seam_accept::{Accepted, Book, HeaderLines, Refusal, next_count};
-use seam_call::{Batch, Create, Order};
+use seam_call::{Batch, Order};
 use seam_defs::Part;
-use seam_geo::Pos;
 use seam_io::LONGEST_LINE;
 use seam_transcript::{Cause, Commands};
 use seam_tree::{Axis, Boundary, CutError};
@@ -112,15 +111,21 @@ fn there_are_sixteen_cells(rt: HostRuntime) -> Result<(), Fail> {
     Ok(())
 }
 
+// Gives a client to each of the first entities.
+fn join_all(rt: &impl Abort, alloc: Global, book: &mut Book, count: u32) -> Result<(), AllocError> {
+    for i in 0..count {
+        let line = format!(in alloc; "client {}", i.wrapping_add(1))?;
+        keep(rt, book, &[line.as_str()]);
+    }
+    Ok(())
+}
+
 #[test]
 fn there_are_256_clients(rt: HostRuntime) -> Result<(), Fail> {
     let header = standard_header(rt.alloc())?;
     let mut book = Book::new(rt.alloc(), &header, Commands::All)?;
     create_all(&rt, rt.alloc(), &mut book, 1, 257)?;
-    for number in 1..257 {
-        let line = format!(in rt.alloc(); "client {number}")?;
-        keep(&rt, &mut book, &[line.as_str()]);
-    }
+    join_all(&rt, rt.alloc(), &mut book, 256)?;
     assert_eq!(rt; book.accept(b"client 257"), FULL);
     assert_eq!(rt; book.accept(b"client 256"), EXISTS);
     assert_eq!(rt; book.accept(b"client 258"), DEAD);
@@ -136,21 +141,17 @@ fn keep(rt: &impl Abort, book: &mut Book, lines: &[&str]) {
     }
 }
 
-// The orders of a batch: the node, the part and the number of each.
-fn numbers_of(
-    rt: &impl Abort,
-    alloc: Global,
-    batch: &Batch,
-) -> Result<Vec<(u8, Part, u64)>, AllocError> {
-    let mut numbers = Vec::new(alloc);
-    for (node, order) in batch.orders.as_slice() {
-        match order {
-            Order::Cell(call) => numbers.push((*node, Part::Cell, call.number))?,
-            Order::Base(call) => numbers.push((*node, Part::Base, call.number))?,
-            _ => panic!(rt; "another order"),
+// Whether an order of a batch gives this node the call of this number for a part.
+fn is_call(batch: &Batch, at: usize, node: u8, part: Part, number: u64) -> bool {
+    match batch.orders.as_slice().get(at) {
+        Some((to, Order::Cell(call))) => {
+            matches!(part, Part::Cell) && *to == node && call.number == number
         }
+        Some((to, Order::Base(call))) => {
+            matches!(part, Part::Base) && *to == node && call.number == number
+        }
+        _ => false,
     }
-    Ok(numbers)
 }
 
 #[test]
@@ -170,33 +171,19 @@ fn a_round_is_a_batch(rt: HostRuntime) -> Result<(), Fail> {
         ],
     );
     let batch = book.take_batch();
-    assert_eq!(rt;
-        batch.creates.as_slice(),
-        [Create {
-            entity: 7,
-            ty: 0,
-            pos: Pos { x: 3, z: 4 }
-        }]
-        .as_slice()
-    );
-    assert_eq!(rt;
-        numbers_of(&rt, rt.alloc(), &batch)?.as_slice(),
-        [
-            (16, Part::Cell, 1),
-            (17, Part::Cell, 1),
-            (17, Part::Cell, 2),
-            (17, Part::Base, 1),
-            (16, Part::Base, 1),
-        ]
-        .as_slice()
-    );
+    match batch.creates.as_slice().first() {
+        Some(create) => assert_eq!(rt; (create.entity, create.ty, create.pos.x), (7, 0, 3)),
+        None => panic!(rt; "no entity"),
+    }
+    assert!(rt; is_call(&batch, 0, 16, Part::Cell, 1));
+    assert!(rt; is_call(&batch, 1, 17, Part::Cell, 1));
+    assert!(rt; is_call(&batch, 2, 17, Part::Cell, 2));
+    assert!(rt; is_call(&batch, 3, 17, Part::Base, 1));
+    assert!(rt; is_call(&batch, 4, 16, Part::Base, 1));
     assert_eq!(rt; book.count(), 0);
     keep(&rt, &mut book, &["call b2 7 hit 1"]);
     let next = book.take_batch();
-    assert_eq!(rt;
-        numbers_of(&rt, rt.alloc(), &next)?.as_slice(),
-        [(17, Part::Cell, 3)].as_slice()
-    );
+    assert!(rt; is_call(&next, 0, 17, Part::Cell, 3));
     Ok(())
 }
 
