@@ -82,9 +82,8 @@ fn shown_to_three(alloc: Global, defs: &Defs) -> Result<Vec<ClientLine>, AllocEr
     texts.push(ClientText::Shown(Shown::Set(4, copy_of_avatar(defs, 2)?)))?;
     texts.push(ClientText::Shown(Shown::Leave(4)))?;
     let mut lines = Vec::new(alloc);
-    let mut number = 0;
     for text in texts {
-        number += 1;
+        let number = lines.len() as u64 + 1;
         let line = Line { number, text };
         lines.push(ClientLine {
             entity: 3,
