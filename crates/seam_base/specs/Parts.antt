@@ -44,6 +44,14 @@ lines_or (Some x) = x.lines
 abbrev pub lines_of : PartView → List Line
 lines_of p = lines_or p.proxy
 
+abbrev pub next_or : Option ProxyView → ℕ
+next_or None = 0
+next_or (Some x) = x.updates.next
+
+-- the number of the client's next update, 0 where there is no client
+abbrev pub next_update_of : PartView → ℕ
+next_update_of p = next_or p.proxy
+
 -- the client, if there is one, has room for a line
 abbrev pub HasLine : {Z : Type 0} → Option (Box Proxy Z) → Type 0
 HasLine None = Unit {0}

@@ -11,7 +11,7 @@ ghost use Rattle.seam_steps.specs.Loads.{new_part};
 ghost use Rattle.seam_steps.specs.BaseCases.{may_call as part_may_call, may_execute as part_may_execute};
 ghost use Rattle.seam_steps.specs.BaseCases.{may_show as client_may_show, fits_base_part};
 ghost use Rattle.seam_base.specs.Nodes.{has_client as part_has_client};
-ghost use Rattle.seam_base.specs.Parts.{part_of, proxy_of, lines_of};
+ghost use Rattle.seam_base.specs.Parts.{part_of, proxy_of, lines_of, next_update_of};
 
 use seam_call::{Call, ClientText, Line, Shown};
 use seam_defs::{Defs, Group, Part, Props, Settings, State};
@@ -133,6 +133,16 @@ impl BasePart {
         match &self.body.proxy {
             Some(proxy) => &proxy.lines,
             None => &[],
+        }
+    }
+
+    /// The number of its client's next update; 0 where it has no client.
+    pub fn next_update(&self) -> u64
+        ensures { result ≡ next_update_of self.now }
+    {
+        match &self.body.proxy {
+            Some(proxy) => proxy.updates.next_number(),
+            None => 0,
         }
     }
 

@@ -12,9 +12,9 @@ use Rattle.seam_entity.specs.declared.message.Msg.{Msg}
 use Rattle.seam_entity.specs.declared.message.Msg.TheVariants.{BaseCall}
 use Rattle.seam_steps.specs.BaseCases.{may_show}
 use Rattle.seam_steps.specs.Nodes.{World, node_steps, node_has_work}
-use Rattle.seam_moves.specs.Frames.{Frame, here_at, IsInFrame}
-use Rattle.seam_moves.specs.Sights.{entity_flow}
-use Rattle.seam_moves.proofs.Classify.{frame_happens, event_moves}
+use Rattle.seam_ones.specs.Frames.{Frame, here_at, IsInFrame}
+use Rattle.seam_ones.specs.Sights.{entity_flow}
+use Rattle.seam_ones.proofs.Classify.{frame_happens, event_moves}
 use Rattle.seam_ones.specs.Ones.{IsSpared}
 use Rattle.seam_ones.proofs.OneReal.{spared_happens}
 use Rattle.seam_base_calls.specs.PartMoves.{HasNoProxy}

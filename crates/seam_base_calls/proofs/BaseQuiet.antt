@@ -17,11 +17,11 @@ use Rattle.seam_steps.specs.Bases.{BaseView, PartView, ProxyView}
 use Rattle.seam_steps.specs.BaseCases.{part_is_ready, ready_part, proxy_is_ready, client_is_ready, ready_proxy, base_has_work}
 use Rattle.seam_steps.specs.Nodes.{NodeView, World, node_has_work}
 use Rattle.seam_steps.specs.Nodes.NodeView.{Cell, Base}
-use Rattle.seam_moves.specs.Frames.{Frame, IsInFrame}
-use Rattle.seam_moves.specs.Sights.{Has, mine, has_of, has_none, orders_of, entity_flow}
+use Rattle.seam_ones.specs.Frames.{Frame, IsInFrame}
+use Rattle.seam_ones.specs.Sights.{Has, mine, has_of, has_none, orders_of, entity_flow}
 use Rattle.seam_ones.proofs.ExampleMet.{slots}
-use Rattle.seam_once.specs.CellTurns.{from_sender, numbered_from}
-use Rattle.seam_once.proofs.Quieting.{neither, none_left, none_some, got_fails, no_turn_by}
+use Rattle.seam_ones.specs.CellTurns.{from_sender, numbered_from}
+use Rattle.seam_ones.proofs.Quieting.{neither, none_left, none_some, got_fails, no_turn_by}
 use Rattle.seam_base_calls.specs.PartMoves.{base_call_in, base_call_of}
 use Rattle.seam_base_calls.specs.BaseTurns.{part_desk, base_mail, as_base_sender, BaseCallsInTurn, home_of}
 use Rattle.seam_base_calls.specs.Clients.{proxy_of, order_in, updates_at, shown_at, tells, HasClient}

@@ -36,15 +36,15 @@ use Rattle.seam_entity.specs.Calls.{order_is_ready, may_offer}
 use Rattle.seam_steps.specs.Bases.{PartView}
 use Rattle.seam_steps.specs.BaseCases.{fits_base_part, may_show}
 use Rattle.seam_steps.specs.Nodes.{NodeView, World, node_steps}
-use Rattle.seam_moves.specs.Frames.{Frame, here_at}
-use Rattle.seam_moves.specs.Sights.{Has, has_of, has_none, entity_flow}
-use Rattle.seam_moves.specs.Moves.{MovesTo}
-use Rattle.seam_moves.proofs.Classify.{event_moves, frame_happens}
+use Rattle.seam_ones.specs.Frames.{Frame, here_at}
+use Rattle.seam_ones.specs.Sights.{Has, has_of, has_none, entity_flow}
+use Rattle.seam_ones.specs.Moves.{MovesTo}
+use Rattle.seam_ones.proofs.Classify.{event_moves, frame_happens}
 use Rattle.seam_ones.specs.Ones.{reaped_by_order, IsSpared}
 use Rattle.seam_ones.proofs.Holds.{all_two, below_is}
 use Rattle.seam_ones.proofs.OneReal.{spared_happens}
-use Rattle.seam_once.specs.CellTurns.{numbered_from}
-use Rattle.seam_once.proofs.DeskLemmas.{from_same}
+use Rattle.seam_ones.specs.CellTurns.{numbered_from}
+use Rattle.seam_ones.proofs.DeskLemmas.{from_same}
 use Rattle.seam_base_calls.specs.PartMoves.{calls_ordered}
 use Rattle.seam_base_calls.specs.BaseTurns.{part_desk, base_post, base_mail, as_base_sender, IsBaseCallOf}
 use Rattle.seam_base_calls.specs.BaseTurns.{BaseCallsInTurn, part_burden, node_base_burden, mine_base_burden, base_burden, home_of}

@@ -9,9 +9,9 @@ use Rattle.seam_entity.specs.declared.message.Msg.TheVariants.{Call, BaseCall, T
 use Rattle.seam_entity.specs.Here.{Here}
 use Rattle.seam_steps.specs.BaseCases.{tick_to}
 use Rattle.seam_steps.specs.Looks.{numbered}
-use Rattle.seam_moves.specs.Sights.{AtBase}
-use Rattle.seam_moves.specs.BaseMoves as move
-use Rattle.seam_moves.specs.BaseMoves.{BaseMoves}
+use Rattle.seam_ones.specs.Sights.{AtBase}
+use Rattle.seam_ones.specs.BaseMoves as move
+use Rattle.seam_ones.specs.BaseMoves.{BaseMoves}
 use Rattle.seam_ones.specs.Ones.{real_of}
 use Rattle.seam_ones.proofs.Plain.{mapped_silent}
 use Rattle.seam_base_calls.specs.PartMoves.{update_in}

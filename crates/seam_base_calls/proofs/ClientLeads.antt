@@ -10,9 +10,9 @@ use Rattle.seam_entity.specs.declared.message.Msg.{Msg}
 use Rattle.seam_entity.specs.declared.message.Msg.TheVariants.{BaseCall}
 use Rattle.seam_steps.specs.BaseCases.{may_show}
 use Rattle.seam_steps.specs.Nodes.{World, node_steps, node_has_work}
-use Rattle.seam_moves.specs.Frames.{Frame, IsInFrame}
-use Rattle.seam_moves.specs.Sights.{entity_flow}
-use Rattle.seam_moves.proofs.Classify.{frame_happens}
+use Rattle.seam_ones.specs.Frames.{Frame, IsInFrame}
+use Rattle.seam_ones.specs.Sights.{entity_flow}
+use Rattle.seam_ones.proofs.Classify.{frame_happens}
 use Rattle.seam_ones.specs.Ones.{IsSpared}
 use Rattle.seam_ones.proofs.OneReal.{one_leads, spared_happens}
 use Rattle.seam_base_calls.specs.WitnessMoves.{sent_of, sent_by}

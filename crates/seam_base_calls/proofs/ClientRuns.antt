@@ -35,10 +35,10 @@ use Rattle.seam_entity.specs.Calls.{may_offer}
 use Rattle.seam_steps.specs.Bases.{PartView, ProxyView, line_if, base_text}
 use Rattle.seam_steps.specs.BaseCases.{may_show, stray_update, stray_proxy_update, offered_update, shows_next}
 use Rattle.seam_steps.specs.Nodes.{World, node_steps}
-use Rattle.seam_moves.specs.Frames.{Frame, here_at}
-use Rattle.seam_moves.specs.Sights.{Has, AtBase, entity_flow}
-use Rattle.seam_moves.specs.Moves.{MovesTo}
-use Rattle.seam_moves.proofs.Classify.{event_moves}
+use Rattle.seam_ones.specs.Frames.{Frame, here_at}
+use Rattle.seam_ones.specs.Sights.{Has, AtBase, entity_flow}
+use Rattle.seam_ones.specs.Moves.{MovesTo}
+use Rattle.seam_ones.proofs.Classify.{event_moves}
 use Rattle.seam_ones.specs.Ones.{real_in, real_of, IsSpared, IsOne}
 use Rattle.seam_ones.proofs.Holds.{all_two, below_is}
 use Rattle.seam_ones.proofs.OneReal.{one_happens, calm_of}

@@ -14,7 +14,7 @@ use Rattle.seam_entity.specs.Here.{Here, type_at}
 use Rattle.seam_entity.specs.Calls.{is_ready}
 use Rattle.seam_steps.specs.Bases.{PartView, ProxyView, line_if, base_text}
 use Rattle.seam_steps.specs.BaseCases.{with_deed, offered_update, shows_next}
-use Rattle.seam_moves.specs.Sights.{AtBase}
+use Rattle.seam_ones.specs.Sights.{AtBase}
 use Rattle.seam_base_calls.specs.PartMoves.{told, HasNoProxy, Missed, Offered, now, early, late}
 use Rattle.seam_base_calls.specs.PartMoves.{PartMoves, rests, refuses, offers, sends, serves, executes, misses, updates, shows, ends}
 

@@ -33,9 +33,9 @@ use Rattle.seam_entity.specs.Here.{Here, cell_count}
 use Rattle.seam_steps.specs.Bases.{PartView, ProxyView, line_if, base_text}
 use Rattle.seam_steps.specs.BaseCases.{offered_update, shows_next}
 use Rattle.seam_steps.specs.Looks.{numbered}
-use Rattle.seam_moves.specs.Frames.{Frame, here_at}
-use Rattle.seam_moves.specs.Sights.{Has}
-use Rattle.seam_moves.specs.Moves.{Moves, at_a_cell, at_a_base}
+use Rattle.seam_ones.specs.Frames.{Frame, here_at}
+use Rattle.seam_ones.specs.Sights.{Has}
+use Rattle.seam_ones.specs.Moves.{Moves, at_a_cell, at_a_base}
 use Rattle.seam_ones.specs.Ones.{real_in, real_of}
 use Rattle.seam_ones.proofs.Sparing.{items_all}
 use Rattle.seam_base_calls.specs.PartMoves.{update_in, told, Missed}

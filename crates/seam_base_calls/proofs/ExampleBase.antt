@@ -25,8 +25,8 @@ use Rattle.seam_steps.specs.BaseCases.{fits_base_part}
 use Rattle.seam_steps.specs.Nodes.{World, node_peers}
 use Rattle.seam_steps.specs.Rows.{idle}
 use Rattle.seam_steps.specs.EarlyCall.{two_cells, at_home, base_16}
-use Rattle.seam_moves.specs.Frames.{here_at, IsInFrame}
-use Rattle.seam_moves.specs.Sights.{Has, no_base, kept_if, mine, has_of, has_none, entity_flow}
+use Rattle.seam_ones.specs.Frames.{here_at, IsInFrame}
+use Rattle.seam_ones.specs.Sights.{Has, no_base, kept_if, mine, has_of, has_none, entity_flow}
 use Rattle.seam_ones.specs.Burdens.{burden}
 use Rattle.seam_ones.specs.Example.{frame}
 use Rattle.seam_ones.specs.Fits.{RealFits, IsFitHand}
@@ -34,8 +34,8 @@ use Rattle.seam_ones.specs.Ones.{real_in, real_of, reaped_by, reaped_by_order, H
 use Rattle.seam_ones.proofs.ExampleMet.{EachFrom, nodes_of, each_node, slots, no_row, no_link, none_there, one_is}
 use Rattle.seam_ones.proofs.ExampleMet.{one_there, number_is, route_low}
 use Rattle.seam_ones.proofs.ExampleMet.{peers_from, Q, idle_is}
-use Rattle.seam_once.specs.CellTurns.{from_sender, numbered_from}
-use Rattle.seam_once.specs.Example.{from_one}
+use Rattle.seam_ones.specs.CellTurns.{from_sender, numbered_from}
+use Rattle.seam_ones.specs.TurnsExample.{from_one}
 use Rattle.seam_base_calls.specs.PartMoves.{base_call_of, calls_ordered}
 use Rattle.seam_base_calls.specs.BaseTurns.{part_desk, base_mail, as_base_sender, IsBaseCallOf, AreBaseCallsOf, BaseCallsInTurn, HasPart}
 use Rattle.seam_base_calls.specs.BaseTurns.{base_burden, HasBaseCalls}

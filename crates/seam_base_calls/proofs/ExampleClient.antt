@@ -16,14 +16,14 @@ use Rattle.seam_steps.specs.Loads.{loaded, new_proxy}
 use Rattle.seam_steps.specs.Rows.{empty_world, here}
 use Rattle.seam_steps.specs.EarlyCall.{made}
 use Rattle.seam_steps.proofs.Tables.{computing}
-use Rattle.seam_moves.specs.Frames.{here_at}
-use Rattle.seam_moves.specs.Sights.{entity_flow}
+use Rattle.seam_ones.specs.Frames.{here_at}
+use Rattle.seam_ones.specs.Sights.{entity_flow}
 use Rattle.seam_ones.specs.Burdens.{burden}
 use Rattle.seam_ones.specs.Example.{frame}
 use Rattle.seam_ones.specs.Fits.{RealFits}
 use Rattle.seam_ones.specs.Ones.{HasOne}
 use Rattle.seam_ones.proofs.ExampleMet.{made_fits, frame_is}
-use Rattle.seam_once.specs.Example.{from_one}
+use Rattle.seam_ones.specs.TurnsExample.{from_one}
 use Rattle.seam_base_calls.specs.WitnessMoves.{sent_by}
 use Rattle.seam_base_calls.specs.BaseTurns.{base_burden, HasBaseCalls, HasNoClient}
 use Rattle.seam_base_calls.specs.Clients.{proxy_of, order_in, updates_at, shown_at, shown_in, lines_in, tells, EachReal, HasNoLooks}

@@ -21,3 +21,9 @@ pub mod ExampleBase
 pub mod ExampleClient
 pub mod NoLooks
 pub mod NodeStray
+pub mod Below
+pub mod Absent
+pub mod Looking
+pub mod LooksLeft
+pub mod Telling
+pub mod Silent

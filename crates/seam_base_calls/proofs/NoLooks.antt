@@ -19,14 +19,14 @@ use Rattle.seam_steps.specs.Slots.{SlotStep}
 use Rattle.seam_steps.specs.Settle.{haunts_at, ghost_messages}
 use Rattle.seam_steps.specs.CellCases.{current_to}
 use Rattle.seam_steps.specs.Nodes.{World, node_steps, node_has_work}
-use Rattle.seam_moves.specs.Frames.{Frame, here_at, IsInFrame}
-use Rattle.seam_moves.specs.Sights.{Has, AtCell, AtBase, entity_flow}
-use Rattle.seam_moves.specs.CellMoves as move
-use Rattle.seam_moves.specs.CellMoves.{unlisted_if, Does, Acts, surveys, calls, readies, CellMoves}
-use Rattle.seam_moves.specs.BaseMoves as base_move
-use Rattle.seam_moves.specs.BaseMoves.{BaseMoves}
-use Rattle.seam_moves.specs.Moves.{Moves, at_a_cell, at_a_base}
-use Rattle.seam_moves.proofs.Classify.{event_moves, frame_happens}
+use Rattle.seam_ones.specs.Frames.{Frame, here_at, IsInFrame}
+use Rattle.seam_ones.specs.Sights.{Has, AtCell, AtBase, entity_flow}
+use Rattle.seam_ones.specs.CellMoves as move
+use Rattle.seam_ones.specs.CellMoves.{unlisted_if, Does, Acts, surveys, calls, readies, CellMoves}
+use Rattle.seam_ones.specs.BaseMoves as base_move
+use Rattle.seam_ones.specs.BaseMoves.{BaseMoves}
+use Rattle.seam_ones.specs.Moves.{Moves, at_a_cell, at_a_base}
+use Rattle.seam_ones.proofs.Classify.{event_moves, frame_happens}
 use Rattle.seam_ones.proofs.Plain.{SeesNoGhost, ghosts_silent, drops_silent, mapped_silent}
 use Rattle.seam_ones.proofs.Sparing.{items_all}
 use Rattle.seam_base_calls.specs.WitnessMoves.{sent_of, sent_by}

@@ -20,9 +20,9 @@ use Rattle.seam_steps.specs.BaseCases.{may_show, may_execute, stray_base_call, s
 use Rattle.seam_steps.specs.BaseCases.{is_base_node_of}
 use Rattle.seam_steps.specs.Nodes.{NodeView, World, node_peers}
 use Rattle.seam_steps.specs.Nodes.NodeView.{Cell, Base}
-use Rattle.seam_moves.specs.Frames.{Frame, here_at, IsInFrame}
-use Rattle.seam_moves.specs.Sights.{Has, has_of, has_none, order_concerns, entity_flow}
-use Rattle.seam_moves.specs.BaseMoves.{strays_at, is_stuck}
+use Rattle.seam_ones.specs.Frames.{Frame, here_at, IsInFrame}
+use Rattle.seam_ones.specs.Sights.{Has, has_of, has_none, order_concerns, entity_flow}
+use Rattle.seam_ones.specs.BaseMoves.{strays_at, is_stuck}
 use Rattle.seam_ones.proofs.ExampleMet.{slots}
 use Rattle.seam_ones.proofs.Holds.{all_two, below_is}
 use Rattle.seam_base_calls.specs.PartMoves.{base_call_of, calls_ordered, HasNoProxy}

@@ -13,10 +13,10 @@ use Rattle.seam_steps.specs.Bases.{BaseView, PartView}
 use Rattle.seam_steps.specs.BaseCases.{may_execute, is_stray, stray_order, stray_base_call, stray_current, stray_update, is_base_node_of}
 use Rattle.seam_steps.specs.Nodes.{World}
 use Rattle.seam_steps.specs.Nodes.NodeView.{Base}
-use Rattle.seam_moves.specs.Frames.{Frame, here_at, IsInFrame}
-use Rattle.seam_moves.specs.Sights.{mine, order_about, orders_of, at_base, has_of, has_none, entity_flow}
-use Rattle.seam_moves.specs.BaseMoves.{strays_at, is_stuck}
-use Rattle.seam_moves.proofs.Lists.{concerned_own, mine_own, orders_own}
+use Rattle.seam_ones.specs.Frames.{Frame, here_at, IsInFrame}
+use Rattle.seam_ones.specs.Sights.{mine, order_about, orders_of, at_base, has_of, has_none, entity_flow}
+use Rattle.seam_ones.specs.BaseMoves.{strays_at, is_stuck}
+use Rattle.seam_ones.proofs.Lists.{concerned_own, mine_own, orders_own}
 use Rattle.seam_base_calls.specs.Strays.{NothingIsStray, NoneIsStray}
 
 entity_is : (x e : ℕ) → Some x ≡ Some e → e ≡ x

@@ -14,9 +14,9 @@ use Rattle.seam_entity.specs.declared.message.Msg.{Msg}
 use Rattle.seam_steps.specs.Bases.{PartView}
 use Rattle.seam_entity.specs.Here.{Here}
 use Rattle.seam_steps.specs.Nodes.{World, node_steps}
-use Rattle.seam_moves.specs.Frames.{Frame, here_at, IsInFrame}
-use Rattle.seam_moves.specs.Sights.{AtBase, mine, concerning, has_of}
-use Rattle.seam_moves.proofs.Classify.{node_moves}
+use Rattle.seam_ones.specs.Frames.{Frame, here_at, IsInFrame}
+use Rattle.seam_ones.specs.Sights.{AtBase, mine, concerning, has_of}
+use Rattle.seam_ones.proofs.Classify.{node_moves}
 use Rattle.seam_ones.proofs.Easing.{event_eases}
 use Rattle.seam_ones.proofs.HeldCounts.{turn_counts, early_counts, taken_counts}
 use Rattle.seam_base_calls.specs.PartMoves.{base_call_in, calls_ordered, called, Offered, now, early, late}

@@ -13,9 +13,9 @@ use Rattle.seam_entity.specs.declared.message.Msg.{Msg}
 use Rattle.seam_entity.specs.Here.{Here}
 use Rattle.seam_steps.specs.Bases.{PartView}
 use Rattle.seam_steps.specs.Nodes.{World}
-use Rattle.seam_moves.specs.Frames.{Frame, here_at, IsInFrame}
-use Rattle.seam_moves.specs.Sights.{AtBase, entity_flow}
-use Rattle.seam_moves.specs.Moves.{MovesTo}
+use Rattle.seam_ones.specs.Frames.{Frame, here_at, IsInFrame}
+use Rattle.seam_ones.specs.Sights.{AtBase, entity_flow}
+use Rattle.seam_ones.specs.Moves.{MovesTo}
 use Rattle.seam_base_calls.specs.PartMoves.{base_call_in, Offered, now, early, late}
 use Rattle.seam_base_calls.specs.PartMoves.{PartMoves, rests, refuses, offers, sends, serves, executes, misses, updates, shows, ends}
 use Rattle.seam_base_calls.specs.BaseTurns.{home_of, IsHomeward, HasPart}

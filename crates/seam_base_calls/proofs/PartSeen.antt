@@ -27,11 +27,11 @@ use Rattle.seam_entity.specs.Here.{Here, base_of}
 use Rattle.seam_entity.specs.Calls.{order_is_ready, ready_order}
 use Rattle.seam_steps.specs.Bases.{PartView}
 use Rattle.seam_steps.specs.BaseCases.{may_call, stray_base_call}
-use Rattle.seam_moves.specs.Frames.{Frame, here_at}
-use Rattle.seam_moves.specs.Sights.{Has, AtBase}
-use Rattle.seam_once.specs.CellTurns.{numbered_from, desk_for}
+use Rattle.seam_ones.specs.Frames.{Frame, here_at}
+use Rattle.seam_ones.specs.Sights.{Has, AtBase}
+use Rattle.seam_ones.specs.CellTurns.{numbered_from, desk_for}
 use Rattle.seam_ones.proofs.Holds.{not_both}
-use Rattle.seam_once.proofs.DeskLemmas.{from_same, from_other, desk_executes, desk_holds, desk_keeps, desk_stays, desk_takes}
+use Rattle.seam_ones.proofs.DeskLemmas.{from_same, from_other, desk_executes, desk_holds, desk_keeps, desk_stays, desk_takes}
 use Rattle.seam_base_calls.specs.PartMoves.{base_call_in, calls_ordered, called, Offered, now, early, late, Refused}
 use Rattle.seam_base_calls.specs.PartMoves.{PartMoves, rests, refuses, offers, sends, serves, executes, misses, updates, shows, ends}
 use Rattle.seam_base_calls.specs.BaseTurns.{part_desk, base_post, item_from, base_mail, FindsPart}

@@ -24,13 +24,13 @@ use Rattle.seam_steps.specs.Slots.{SlotStep}
 use Rattle.seam_steps.specs.Slots as slot_step
 use Rattle.seam_steps.specs.Settle.{haunts_at, ghost_messages}
 use Rattle.seam_steps.specs.CellCases.{current_to}
-use Rattle.seam_moves.specs.Frames.{Frame, here_at}
-use Rattle.seam_moves.specs.Sights.{Has, AtCell}
-use Rattle.seam_moves.specs.CellMoves as move
-use Rattle.seam_moves.specs.CellMoves.{Does, Acts, surveys, calls, readies, CellMoves}
-use Rattle.seam_moves.specs.BaseMoves as base_move
-use Rattle.seam_moves.specs.BaseMoves.{BaseMoves, strays_at, proxy_updated, updated, client_is_ready}
-use Rattle.seam_moves.specs.Moves.{Moves, at_a_cell, at_a_base}
+use Rattle.seam_ones.specs.Frames.{Frame, here_at}
+use Rattle.seam_ones.specs.Sights.{Has, AtCell}
+use Rattle.seam_ones.specs.CellMoves as move
+use Rattle.seam_ones.specs.CellMoves.{Does, Acts, surveys, calls, readies, CellMoves}
+use Rattle.seam_ones.specs.BaseMoves as base_move
+use Rattle.seam_ones.specs.BaseMoves.{BaseMoves, strays_at, proxy_updated, updated, client_is_ready}
+use Rattle.seam_ones.specs.Moves.{Moves, at_a_cell, at_a_base}
 use Rattle.seam_ones.proofs.Plain.{SeesNoGhost, ghosts_silent, drops_silent, mapped_silent, numbered_silent}
 use Rattle.seam_base_calls.specs.PartMoves.{base_call_in, update_in, base_call_of, calls_ordered, called, told, Offered, now, early, late}
 use Rattle.seam_base_calls.specs.PartMoves.{PartMoves, rests, refuses, offers, sends, serves, executes, misses, updates, shows, ends}

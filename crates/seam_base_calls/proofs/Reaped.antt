@@ -26,9 +26,9 @@ use Rattle.seam_steps.specs.Bases.{BaseView, RouteView}
 use Rattle.seam_steps.specs.BaseCases.{unless_stray, on_route, base_task, base_steps}
 use Rattle.seam_steps.specs.Nodes.{NodeView, World, node_steps, node_has_work}
 use Rattle.seam_steps.specs.Nodes.NodeView.{Cell, Base}
-use Rattle.seam_moves.specs.Frames.{Frame, here_at, IsInFrame}
-use Rattle.seam_moves.specs.Sights.{AtBase, order_concerns, at_base, has_of, has_none, entity_flow}
-use Rattle.seam_moves.proofs.Classify.{event_moves, frame_happens}
+use Rattle.seam_ones.specs.Frames.{Frame, here_at, IsInFrame}
+use Rattle.seam_ones.specs.Sights.{AtBase, order_concerns, at_base, has_of, has_none, entity_flow}
+use Rattle.seam_ones.proofs.Classify.{event_moves, frame_happens}
 use Rattle.seam_ones.proofs.Sparing.{items_all}
 use Rattle.seam_base_calls.specs.PartMoves.{base_call_in, base_call_of, calls_ordered}
 use Rattle.seam_base_calls.specs.PartMoves.{PartMoves, rests, refuses, offers, sends, serves, executes, misses, updates, shows, ends}

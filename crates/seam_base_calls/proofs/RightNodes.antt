@@ -25,13 +25,13 @@ use Rattle.seam_steps.specs.CellCases.{current_to, drop_if, drop_at, drops}
 use Rattle.seam_steps.specs.Looks.{numbered, shown_of}
 use Rattle.seam_steps.specs.Bases.{RouteView}
 use Rattle.seam_steps.specs.BaseCases.{tick_to}
-use Rattle.seam_moves.specs.Frames.{Frame, here_at}
-use Rattle.seam_moves.specs.Sights.{Has, AtCell}
-use Rattle.seam_moves.specs.CellMoves as move
-use Rattle.seam_moves.specs.CellMoves.{Does, CellMoves}
-use Rattle.seam_moves.specs.BaseMoves as base_move
-use Rattle.seam_moves.specs.BaseMoves.{BaseMoves}
-use Rattle.seam_moves.specs.Moves.{Moves, at_a_cell, at_a_base}
+use Rattle.seam_ones.specs.Frames.{Frame, here_at}
+use Rattle.seam_ones.specs.Sights.{Has, AtCell}
+use Rattle.seam_ones.specs.CellMoves as move
+use Rattle.seam_ones.specs.CellMoves.{Does, CellMoves}
+use Rattle.seam_ones.specs.BaseMoves as base_move
+use Rattle.seam_ones.specs.BaseMoves.{BaseMoves}
+use Rattle.seam_ones.specs.Moves.{Moves, at_a_cell, at_a_base}
 use Rattle.seam_base_calls.specs.Strays.{IsBaseNumber, is_for_cells, IsForNode}
 
 -- ---- lists over a range

@@ -14,11 +14,11 @@ use Rattle.seam_steps.specs.Bases.{RouteView}
 use Rattle.seam_steps.specs.Nodes.{NodeView, World, node_steps}
 use Rattle.seam_steps.specs.Nodes.NodeView.{Cell, Base}
 use Rattle.seam_steps.specs.Valid.{IsNode}
-use Rattle.seam_moves.specs.Frames.{Frame, here_at, IsAt, IsInFrame}
-use Rattle.seam_moves.specs.Sights.{Has, AtBase, mine, has_of, has_none, entity_flow}
-use Rattle.seam_moves.specs.BaseMoves as move
-use Rattle.seam_moves.specs.BaseMoves.{BaseMoves}
-use Rattle.seam_moves.specs.Moves.{Moves, at_a_cell, at_a_base}
+use Rattle.seam_ones.specs.Frames.{Frame, here_at, IsAt, IsInFrame}
+use Rattle.seam_ones.specs.Sights.{Has, AtBase, mine, has_of, has_none, entity_flow}
+use Rattle.seam_ones.specs.BaseMoves as move
+use Rattle.seam_ones.specs.BaseMoves.{BaseMoves}
+use Rattle.seam_ones.specs.Moves.{Moves, at_a_cell, at_a_base}
 use Rattle.seam_ones.specs.Ones.{IsFrame, HasOne}
 use Rattle.seam_ones.proofs.ExampleMet.{slots}
 use Rattle.seam_ones.proofs.OneReal.{goes}

@@ -6,7 +6,7 @@ use Rattle.seam_machine.proofs.Occurring.{occurs}
 use Rattle.seam_runs.proofs.Runs.{leads_keeps}
 use Rattle.seam_call.specs.declared.call.Call.{Call as CallData}
 use Rattle.seam_steps.specs.Nodes.{World, node_steps, node_has_work}
-use Rattle.seam_moves.specs.Frames.{Frame, IsInFrame}
+use Rattle.seam_ones.specs.Frames.{Frame, IsInFrame}
 use Rattle.seam_ones.specs.Ones.{IsFrame, IsSpared, HasOne}
 use Rattle.seam_ones.proofs.Easing.{falls_lead}
 use Rattle.seam_ones.proofs.OneReal.{one_happens, calm_of, spared_happens}

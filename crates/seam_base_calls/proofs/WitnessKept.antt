@@ -14,10 +14,10 @@ use Rattle.seam_entity.specs.Reals.{RealView, WitnessView}
 use Rattle.seam_entity.specs.declared.message.Msg.{Msg}
 use Rattle.seam_entity.specs.declared.message.Msg.TheVariants.{Hand}
 use Rattle.seam_steps.specs.Nodes.{World, node_steps, node_has_work}
-use Rattle.seam_moves.specs.Frames.{Frame, here_at, IsInFrame}
-use Rattle.seam_moves.specs.Sights.{Has, AtCell, entity_flow}
-use Rattle.seam_moves.specs.Moves.{Moves, at_a_cell, at_a_base}
-use Rattle.seam_moves.proofs.Classify.{event_moves, frame_happens}
+use Rattle.seam_ones.specs.Frames.{Frame, here_at, IsInFrame}
+use Rattle.seam_ones.specs.Sights.{Has, AtCell, entity_flow}
+use Rattle.seam_ones.specs.Moves.{Moves, at_a_cell, at_a_base}
+use Rattle.seam_ones.proofs.Classify.{event_moves, frame_happens}
 use Rattle.seam_ones.specs.Ones.{real_in, real_of}
 use Rattle.seam_ones.proofs.Sparing.{items_all}
 use Rattle.seam_base_calls.specs.WitnessMoves as witness

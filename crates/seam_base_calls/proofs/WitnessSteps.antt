@@ -11,10 +11,10 @@ use Rattle.seam_steps.specs.Slots.{SlotStep, slot_after}
 use Rattle.seam_steps.specs.Settle.{haunts_at, ghost_messages}
 use Rattle.seam_steps.specs.CellCases.{current_to}
 use Rattle.seam_steps.specs.Looks.{numbered, shown_of}
-use Rattle.seam_moves.specs.Frames.{Frame, here_at}
-use Rattle.seam_moves.specs.Sights.{Has, AtCell}
-use Rattle.seam_moves.specs.CellMoves as move
-use Rattle.seam_moves.specs.CellMoves.{Does, Acts, surveys, calls, readies, CellMoves}
+use Rattle.seam_ones.specs.Frames.{Frame, here_at}
+use Rattle.seam_ones.specs.Sights.{Has, AtCell}
+use Rattle.seam_ones.specs.CellMoves as move
+use Rattle.seam_ones.specs.CellMoves.{Does, Acts, surveys, calls, readies, CellMoves}
 use Rattle.seam_ones.specs.Ones.{real_of}
 use Rattle.seam_ones.proofs.Plain.{SeesNoGhost, ghosts_silent, drops_silent, mapped_silent}
 use Rattle.seam_base_calls.specs.PartMoves.{update_in}

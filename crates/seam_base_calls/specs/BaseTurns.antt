@@ -16,11 +16,11 @@ use Rattle.seam_entity.specs.Here.{base_of}
 use Rattle.seam_steps.specs.Bases.{PartView}
 use Rattle.seam_steps.specs.BaseCases.{fits_base_part, may_call}
 use Rattle.seam_steps.specs.Nodes.{NodeView, World}
-use Rattle.seam_moves.specs.Frames.{Frame, here_at, IsInFrame}
-use Rattle.seam_moves.specs.Sights.{Has, AtBase, kept_if, mine, has_of, entity_flow}
+use Rattle.seam_ones.specs.Frames.{Frame, here_at, IsInFrame}
+use Rattle.seam_ones.specs.Sights.{Has, AtBase, kept_if, mine, has_of, entity_flow}
 use Rattle.seam_ones.specs.Burdens.{held_in}
 use Rattle.seam_ones.specs.Ones.{IsSpared}
-use Rattle.seam_once.specs.CellTurns.{is_from, numbered_from, desk_for}
+use Rattle.seam_ones.specs.CellTurns.{is_from, numbered_from, desk_for}
 use Rattle.seam_base_calls.specs.PartMoves.{base_call_in, calls_ordered, HasNoProxy}
 
 -- ---- one sender, by its place in the order of senders

@@ -19,8 +19,8 @@ use Rattle.seam_entity.specs.Numbers.{limit}
 use Rattle.seam_steps.specs.Bases.{PartView, ProxyView}
 use Rattle.seam_steps.specs.BaseCases.{stray_update}
 use Rattle.seam_steps.specs.Nodes.{World}
-use Rattle.seam_moves.specs.Frames.{Frame}
-use Rattle.seam_moves.specs.Sights.{Has, AtBase, entity_flow}
+use Rattle.seam_ones.specs.Frames.{Frame}
+use Rattle.seam_ones.specs.Sights.{Has, AtBase, entity_flow}
 use Rattle.seam_ones.specs.Ones.{real_in, real_of, IsFrame, HasOne}
 use Rattle.seam_base_calls.specs.PartMoves.{update_in}
 use Rattle.seam_base_calls.specs.WitnessMoves.{sent_by}

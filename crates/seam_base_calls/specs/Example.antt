@@ -18,7 +18,7 @@ use Rattle.seam_steps.specs.Loads.{new_part, with_proxy, with_witness}
 use Rattle.seam_steps.specs.Rows.{no, one, here, idle}
 use Rattle.seam_steps.specs.EarlyCall as early
 use Rattle.seam_steps.specs.EarlyCall.{two_cells, made, at_home, base_16, with_cells}
-use Rattle.seam_once.specs.CellTurns.{from_sender}
+use Rattle.seam_ones.specs.CellTurns.{from_sender}
 
 -- base sender b's n-th call to the base part of entity 1
 abbrev pub base_call : ℕ → ℕ → Deed → CallData

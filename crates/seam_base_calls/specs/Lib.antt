@@ -5,3 +5,4 @@ pub mod Clients
 pub mod Strays
 pub mod Reaps
 pub mod Example
+pub mod Telling

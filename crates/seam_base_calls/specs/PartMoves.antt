@@ -18,7 +18,7 @@ use Rattle.seam_entity.specs.Calls.{is_ready, ready_order}
 use Rattle.seam_steps.specs.Bases.{PartView, ProxyView}
 use Rattle.seam_steps.specs.BaseCases.{may_call, with_order, with_offer, executed, offered_update, shows_next, is_base_node_of}
 use Rattle.seam_steps.specs.BaseCases.{stray_base_call, stray_update}
-use Rattle.seam_moves.specs.Sights.{AtBase}
+use Rattle.seam_ones.specs.Sights.{AtBase}
 
 -- the call that a message brings to a base part
 abbrev pub base_call_in : Msg → Option CallData

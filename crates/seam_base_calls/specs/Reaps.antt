@@ -2,7 +2,7 @@
 use Rattle.std.specs.Prelude.{◌≡◌, ℕ, [], None}
 use Rattle.std.specs.List.{AllByRecursion}
 use Rattle.seam_steps.specs.Nodes.{World}
-use Rattle.seam_moves.specs.Sights.{entity_flow}
+use Rattle.seam_ones.specs.Sights.{entity_flow}
 use Rattle.seam_base_calls.specs.PartMoves.{base_call_in, calls_ordered}
 
 -- no call to the entity's base part is ordered, and none is on its way

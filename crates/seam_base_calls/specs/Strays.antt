@@ -12,9 +12,9 @@ use Rattle.seam_steps.specs.CellCases.{about}
 use Rattle.seam_steps.specs.Bases.{BaseView, PartView, RouteView}
 use Rattle.seam_steps.specs.BaseCases.{may_execute, is_stray, stray_order}
 use Rattle.seam_steps.specs.Nodes.{World}
-use Rattle.seam_moves.specs.Frames.{Frame, here_at}
-use Rattle.seam_moves.specs.Sights.{order_about, entity_flow}
-use Rattle.seam_moves.specs.BaseMoves.{strays_at, is_stuck}
+use Rattle.seam_ones.specs.Frames.{Frame, here_at}
+use Rattle.seam_ones.specs.Sights.{order_about, entity_flow}
+use Rattle.seam_ones.specs.BaseMoves.{strays_at, is_stuck}
 use Rattle.seam_base_calls.specs.BaseTurns.{HasNoClient}
 use Rattle.seam_base_calls.specs.Clients.{HasClient, HasToldAtMost, HasRoomFor}
 

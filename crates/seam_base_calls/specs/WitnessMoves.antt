@@ -8,7 +8,7 @@ use Rattle.seam_entity.specs.declared.message.Msg.TheVariants.{Hand}
 use Rattle.seam_entity.specs.Numbers.{limit}
 use Rattle.seam_entity.specs.Here.{Here, base_of}
 use Rattle.seam_steps.specs.Looks.{numbered}
-use Rattle.seam_moves.specs.Sights.{AtCell}
+use Rattle.seam_ones.specs.Sights.{AtCell}
 use Rattle.seam_ones.specs.Ones.{real_of}
 use Rattle.seam_base_calls.specs.PartMoves.{update_in}
 

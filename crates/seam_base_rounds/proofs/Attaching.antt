@@ -12,17 +12,17 @@ use Rattle.seam_entity.specs.Executing.{real_begins}
 use Rattle.seam_steps.specs.Bases.{PartView, ProxyView, line_if, base_text}
 use Rattle.seam_steps.specs.Nodes.{NodeView, World}
 use Rattle.seam_steps.specs.Loads.{with_witness, with_proxy, new_proxy, proxy_begins, part_begins, loaded}
-use Rattle.seam_moves.specs.Frames.{Frame, here_at}
-use Rattle.seam_moves.specs.Sights.{Has, has_of, has_none, entity_flow}
+use Rattle.seam_ones.specs.Frames.{Frame, here_at}
+use Rattle.seam_ones.specs.Sights.{Has, has_of, has_none, entity_flow}
 use Rattle.seam_ones.specs.Ones.{real_in}
-use Rattle.seam_between.specs.Between.{IsBetweenRounds, MayBeMade, IsFitting}
-use Rattle.seam_between.specs.Loaded.{node_loaded}
-use Rattle.seam_between.proofs.Making.{Creation, nowhere, once, creation_of, middle}
-use Rattle.seam_between.proofs.Loaded.{slot_is}
+use Rattle.seam_rounds.specs.Between.{IsBetweenRounds, MayBeMade, IsFitting}
+use Rattle.seam_rounds.specs.Loaded.{node_loaded}
+use Rattle.seam_rounds.proofs.Making.{Creation, nowhere, once, creation_of, middle}
+use Rattle.seam_rounds.proofs.Loaded.{slot_is}
 use Rattle.seam_base_calls.specs.BaseTurns.{home_of}
 use Rattle.seam_base_calls.specs.Clients.{shown_by}
 use Rattle.seam_base_calls.specs.WitnessMoves.{sent_of, sent_by}
-use Rattle.seam_told.specs.Telling.{IsFewView, SeesFew}
+use Rattle.seam_base_calls.specs.Telling.{IsFewView, SeesFew}
 use Rattle.seam_base_rounds.specs.Parts.{AreInStep, AreFor, HasPartsBetweenRounds, lines_of, FitsParts}
 use Rattle.seam_base_rounds.proofs.PartLoads.{part_at}
 use Rattle.seam_base_rounds.proofs.Joining.{is_among, joined_if, peopled, real_at, real_joined, part_joined, real_peopled, part_peopled}

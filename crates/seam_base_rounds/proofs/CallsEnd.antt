@@ -18,17 +18,17 @@ use Rattle.seam_entity.specs.Reals.{RealView}
 use Rattle.seam_steps.specs.Bases.{PartView}
 use Rattle.seam_steps.specs.Nodes.{World, node_steps, node_has_work}
 use Rattle.seam_steps.specs.Loads.{loaded}
-use Rattle.seam_moves.specs.Frames.{Frame}
-use Rattle.seam_moves.specs.Sights.{entity_flow}
+use Rattle.seam_ones.specs.Frames.{Frame}
+use Rattle.seam_ones.specs.Sights.{entity_flow}
 use Rattle.seam_ones.specs.Ones.{real_in, real_of}
 use Rattle.seam_ones.proofs.Easing.{burden_leads}
 use Rattle.seam_ones.proofs.Gone.{gone_leads}
-use Rattle.seam_once.specs.CellTurns.{desk_for}
-use Rattle.seam_between.specs.Between.{framed, numbers_of}
-use Rattle.seam_between.proofs.Framing.{in_frame}
-use Rattle.seam_between.proofs.Loaded.{no_mail, real_loaded}
-use Rattle.seam_between.proofs.Room.{few_more as few_burden, real_room}
-use Rattle.seam_between.proofs.Going.{frame_loaded, Keeps, kept_after}
+use Rattle.seam_ones.specs.CellTurns.{desk_for}
+use Rattle.seam_rounds.specs.Between.{framed, numbers_of}
+use Rattle.seam_rounds.proofs.Framing.{in_frame}
+use Rattle.seam_rounds.proofs.Loaded.{no_mail, real_loaded}
+use Rattle.seam_rounds.proofs.Room.{few_more as few_burden, real_room}
+use Rattle.seam_rounds.proofs.Going.{frame_loaded, Keeps, kept_after}
 use Rattle.seam_rounds.proofs.Shape.{Somewhere, Nowhere, search_real}
 use Rattle.seam_base_calls.specs.BaseTurns.{part_desk, as_base_sender, home_of, HasBaseCalls}
 use Rattle.seam_base_calls.proofs.BaseRuns.{version_room}
@@ -36,8 +36,8 @@ use Rattle.seam_base_calls.proofs.StrayRuns.{base_burden_leads}
 use Rattle.seam_base_calls.proofs.BaseQuiet.{all_executed}
 use Rattle.seam_base_rounds.specs.Parts.{next_to, base_calls_of, HasSettledPart, HasPartsBetweenRounds, MayBeLoaded, AreFor, lines_of}
 use Rattle.seam_base_rounds.specs.Parts.{HasSmallNumbers}
-use Rattle.seam_told.specs.Telling.{SeesFew}
-use Rattle.seam_told.proofs.Absent.{few_leads}
+use Rattle.seam_base_calls.specs.Telling.{SeesFew}
+use Rattle.seam_base_calls.proofs.Absent.{few_leads}
 use Rattle.seam_base_rounds.proofs.Ticking.{few_loaded}
 use Rattle.seam_base_rounds.proofs.Loaded.{LoadedPart}
 use Rattle.seam_base_rounds.proofs.Serving.{ends}

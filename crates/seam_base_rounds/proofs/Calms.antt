@@ -23,12 +23,12 @@ use Rattle.seam_steps.specs.Holders.{holders}
 use Rattle.seam_steps.specs.Nodes.{NodeView, World, node_steps, node_has_work}
 use Rattle.seam_steps.specs.Nodes.NodeView.{Cell, Base}
 use Rattle.seam_steps.specs.Loads.{with_nodes, order_if, ordered_at, reap_ordered_at, reaps_loaded, look_loaded}
-use Rattle.seam_moves.specs.Frames.{Frame, here_at, IsAt, IsInFrame}
-use Rattle.seam_moves.specs.Sights.{mine, times, order_concerns, orders_of, has_of, entity_flow}
+use Rattle.seam_ones.specs.Frames.{Frame, here_at, IsAt, IsInFrame}
+use Rattle.seam_ones.specs.Sights.{mine, times, order_concerns, orders_of, has_of, entity_flow}
 use Rattle.seam_ones.specs.Ones.{real_in, real_of}
 use Rattle.seam_ones.proofs.Counting.{counted_none, none_counts}
-use Rattle.seam_between.specs.Between.{numbers_of, IsBetweenRounds}
-use Rattle.seam_between.specs.Loaded.{each}
+use Rattle.seam_rounds.specs.Between.{numbers_of, IsBetweenRounds}
+use Rattle.seam_rounds.specs.Loaded.{each}
 use Rattle.seam_rounds.specs.Rounds.{AreReapable}
 use Rattle.seam_rounds.proofs.Shape.{Somewhere, Nowhere, search_real, frame_leads}
 use Rattle.seam_rounds.proofs.Calm.{IsSame, IsCalm}
@@ -46,12 +46,12 @@ use Rattle.seam_base_calls.proofs.BaseRuns.{version_room}
 use Rattle.seam_base_calls.proofs.StrayRuns.{base_burden_leads}
 use Rattle.seam_base_calls.proofs.NoLooks.{NoTicks}
 use Rattle.seam_base_rounds.specs.Parts.{HasSettledPart, HasPartsBetweenRounds, AreFor, lines_of, HasSmallNumbers}
-use Rattle.seam_told.specs.Telling.{most_entities, IsBlank, SeesFew, HasFewEntities, looks_left, most_shown}
+use Rattle.seam_base_calls.specs.Telling.{most_entities, IsBlank, SeesFew, HasFewEntities, looks_left, most_shown}
 use Rattle.seam_base_calls.specs.PartMoves.{update_in}
-use Rattle.seam_told.specs.Telling.{IsToldNothing}
-use Rattle.seam_told.proofs.Silent.{tells_none}
+use Rattle.seam_base_calls.specs.Telling.{IsToldNothing}
+use Rattle.seam_base_calls.proofs.Silent.{tells_none}
 use Rattle.seam_base_rounds.proofs.Updates.{update_finds}
-use Rattle.seam_told.proofs.Absent.{few_leads}
+use Rattle.seam_base_calls.proofs.Absent.{few_leads}
 use Rattle.seam_base_rounds.proofs.Ticking.{most_told, tells_most, tells_few, sees_then, ticks_of, node_ticks, no_ticks, few_turned}
 use Rattle.seam_base_rounds.proofs.Ticking.{looks_turned}
 use Rattle.seam_base_rounds.proofs.PartLoads.{part_at, parts_ordered}

@@ -27,14 +27,14 @@ use Rattle.seam_steps.specs.ViewRounds.{base_line, line, own, enter_2}
 use Rattle.seam_steps.specs.ViewRounds.{second_look_0, second_look_4, second_steps, second_looks}
 use Rattle.seam_steps.proofs.Tables.{computing}
 use Rattle.seam_steps.proofs.Views as views
-use Rattle.seam_moves.specs.Frames.{here_at}
-use Rattle.seam_moves.specs.Sights.{Has, has_of, has_none, entity_flow}
+use Rattle.seam_ones.specs.Frames.{here_at}
+use Rattle.seam_ones.specs.Sights.{Has, has_of, has_none, entity_flow}
 use Rattle.seam_ones.specs.Example.{events_of}
 use Rattle.seam_ones.specs.Ones.{real_in}
 use Rattle.seam_ones.proofs.ExampleMet.{EachFrom, each_node, slots, none_there, row_leads}
-use Rattle.seam_between.specs.Between.{IsBetweenRounds, IsFitting, IsForReal, AreNumbered, numbers_of, calls_of, calls_at}
-use Rattle.seam_between.proofs.Loaded.{slot_is, real_was}
-use Rattle.seam_between.specs.Loaded.{node_loaded}
+use Rattle.seam_rounds.specs.Between.{IsBetweenRounds, IsFitting, IsForReal, AreNumbered, numbers_of, calls_of, calls_at}
+use Rattle.seam_rounds.proofs.Loaded.{slot_is, real_was}
+use Rattle.seam_rounds.specs.Loaded.{node_loaded}
 use Rattle.seam_rounds.proofs.CallsEnd.{calls_end_between}
 use Rattle.seam_rounds.proofs.Looking.{look_ends_between}
 use Rattle.seam_base_calls.specs.BaseTurns.{home_of}

@@ -23,13 +23,13 @@ use Rattle.seam_steps.specs.Holders.{holders}
 use Rattle.seam_steps.specs.Loads.{one_cell, loaded}
 use Rattle.seam_steps.specs.Rows.{empty_world}
 use Rattle.seam_steps.specs.EarlyCall.{made, at_home, base_16}
-use Rattle.seam_moves.specs.Sights.{Has, order_concerns, orders_of, has_of, has_none, entity_flow}
+use Rattle.seam_ones.specs.Sights.{Has, order_concerns, orders_of, has_of, has_none, entity_flow}
 use Rattle.seam_ones.specs.Ones.{real_in, IsFrame}
 use Rattle.seam_ones.proofs.Counting.{one_counts}
 use Rattle.seam_ones.proofs.ExampleMet.{frame_is, nodes_of, each_node, slots, none_there, one_is, number_is}
-use Rattle.seam_once.specs.CellTurns.{cell_order_from}
-use Rattle.seam_between.specs.Between.{order_in, cell_call_from, calls_of, calls_at, AreNumbered, IsForReal, IsBetweenRounds, IsFitting}
-use Rattle.seam_between.specs.Between.{next_from}
+use Rattle.seam_ones.specs.CellTurns.{cell_order_from}
+use Rattle.seam_rounds.specs.Between.{order_in, cell_call_from, calls_of, calls_at, AreNumbered, IsForReal, IsBetweenRounds, IsFitting}
+use Rattle.seam_rounds.specs.Between.{next_from}
 use Rattle.seam_rounds.proofs.Opened.{opened_is_new, opened_has_none, opened_between}
 use Rattle.seam_base_calls.specs.BaseTurns.{home_of}
 use Rattle.seam_base_calls.specs.Example.{pay, part_alone, base_with, world_alone}

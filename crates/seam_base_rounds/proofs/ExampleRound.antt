@@ -19,14 +19,14 @@ use Rattle.seam_steps.specs.Rows.{empty_world}
 use Rattle.seam_steps.specs.ViewRounds.{batch_1, first_0, first_2, first_look_0, first_look_5, first_steps, first_looks}
 use Rattle.seam_steps.proofs.Tables.{computing}
 use Rattle.seam_steps.proofs.Views as views
-use Rattle.seam_moves.specs.Frames.{here_at}
-use Rattle.seam_moves.specs.Sights.{has_of, has_none, entity_flow}
+use Rattle.seam_ones.specs.Frames.{here_at}
+use Rattle.seam_ones.specs.Sights.{has_of, has_none, entity_flow}
 use Rattle.seam_ones.specs.Example.{events_of}
 use Rattle.seam_ones.specs.Ones.{real_in}
 use Rattle.seam_ones.proofs.ExampleMet.{row_leads}
-use Rattle.seam_between.specs.Between.{IsBetweenRounds, IsFitting, IsForReal}
-use Rattle.seam_between.specs.Loaded.{node_loaded}
-use Rattle.seam_between.proofs.Loaded.{slot_is}
+use Rattle.seam_rounds.specs.Between.{IsBetweenRounds, IsFitting, IsForReal}
+use Rattle.seam_rounds.specs.Loaded.{node_loaded}
+use Rattle.seam_rounds.proofs.Loaded.{slot_is}
 use Rattle.seam_rounds.proofs.CallsEnd.{calls_end_between}
 use Rattle.seam_rounds.proofs.Looking.{look_ends_between}
 use Rattle.seam_base_calls.specs.BaseTurns.{home_of}

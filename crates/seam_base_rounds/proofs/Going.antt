@@ -12,14 +12,14 @@ use Rattle.seam_entity.specs.declared.message.Msg.TheVariants.{Update}
 use Rattle.seam_steps.specs.Bases.{PartView}
 use Rattle.seam_steps.specs.Nodes.{World, node_steps, node_has_work}
 use Rattle.seam_steps.specs.Loads.{loaded}
-use Rattle.seam_moves.specs.Frames.{Frame}
-use Rattle.seam_moves.specs.Sights.{entity_flow}
+use Rattle.seam_ones.specs.Frames.{Frame}
+use Rattle.seam_ones.specs.Sights.{entity_flow}
 use Rattle.seam_ones.specs.Ones.{real_in}
-use Rattle.seam_once.specs.CellTurns.{from_sender}
-use Rattle.seam_between.specs.Between.{framed}
-use Rattle.seam_between.proofs.Framing.{in_frame}
-use Rattle.seam_between.proofs.Loaded.{no_mail}
-use Rattle.seam_between.proofs.Going.{frame_loaded, settled_loaded, one_loaded, spared_loaded}
+use Rattle.seam_ones.specs.CellTurns.{from_sender}
+use Rattle.seam_rounds.specs.Between.{framed}
+use Rattle.seam_rounds.proofs.Framing.{in_frame}
+use Rattle.seam_rounds.proofs.Loaded.{no_mail}
+use Rattle.seam_rounds.proofs.Going.{frame_loaded, settled_loaded, one_loaded, spared_loaded}
 use Rattle.seam_base_calls.specs.WitnessMoves.{sent_by}
 use Rattle.seam_base_calls.specs.BaseTurns.{home_of, HasBaseCalls}
 use Rattle.seam_base_calls.specs.Clients.{FindsClient}
@@ -29,7 +29,7 @@ use Rattle.seam_base_calls.proofs.BaseQuiet.{all_executed}
 use Rattle.seam_base_calls.proofs.StrayRuns.{alone_without_stray, client_without_stray}
 use Rattle.seam_base_calls.proofs.ClientLeads.{both_leads}
 use Rattle.seam_base_rounds.specs.Parts.{next_to, base_calls_of, MayBeLoaded, lines_of}
-use Rattle.seam_told.specs.Telling.{SeesFew, looks_left}
+use Rattle.seam_base_calls.specs.Telling.{SeesFew, looks_left}
 use Rattle.seam_base_rounds.proofs.Ticking.{most_told, TellsFew, tells_few, sees_then, few_loaded, looks_loaded}
 use Rattle.seam_base_rounds.proofs.Attaching.{are_for_loaded, lines_loaded, sees_loaded}
 use Rattle.seam_base_rounds.proofs.Updates.{update_finds}

@@ -15,14 +15,14 @@ use Rattle.seam_call.specs.declared.order.Order.TheVariants as order
 use Rattle.seam_entity.specs.Reals.{RealView}
 use Rattle.seam_steps.specs.Nodes.{NodeView, World, node_has_work}
 use Rattle.seam_steps.specs.Loads.{with_nodes}
-use Rattle.seam_moves.specs.Frames.{Frame, IsInFrame}
-use Rattle.seam_moves.specs.Sights.{Has, mine, has_of, has_none, entity_flow}
+use Rattle.seam_ones.specs.Frames.{Frame, IsInFrame}
+use Rattle.seam_ones.specs.Sights.{Has, mine, has_of, has_none, entity_flow}
 use Rattle.seam_ones.specs.Burdens.{real_burden, order_burden, node_burden, mine_burden, burden}
 use Rattle.seam_ones.specs.Ones.{real_in, HasOne}
-use Rattle.seam_between.specs.Between.{IsSettled, IsBetweenRounds}
-use Rattle.seam_between.proofs.Loading.{node_there}
-use Rattle.seam_between.proofs.Ready.{has_one}
-use Rattle.seam_between.proofs.Room.{no_held, none_below, sum_most, most, rows_none}
+use Rattle.seam_rounds.specs.Between.{IsSettled, IsBetweenRounds}
+use Rattle.seam_rounds.proofs.Loading.{node_there}
+use Rattle.seam_rounds.proofs.Ready.{has_one}
+use Rattle.seam_rounds.proofs.Room.{no_held, none_below, sum_most, most, rows_none}
 use Rattle.seam_rounds.proofs.Calm.{IsCalmOrder, order_reaps, IsCalm}
 use Rattle.seam_rounds.proofs.Ending.{still_settled}
 use Rattle.seam_rounds.proofs.Starting.{Given}

@@ -19,15 +19,15 @@ use Rattle.seam_entity.specs.Executing.{created, real_begins}
 use Rattle.seam_steps.specs.Bases.{PartView, ProxyView}
 use Rattle.seam_steps.specs.Nodes.{NodeView, World}
 use Rattle.seam_steps.specs.Loads.{new_part, part_begins, loaded}
-use Rattle.seam_moves.specs.Frames.{Frame, here_at}
-use Rattle.seam_moves.specs.Sights.{Has, has_of, has_none, entity_flow}
+use Rattle.seam_ones.specs.Frames.{Frame, here_at}
+use Rattle.seam_ones.specs.Sights.{Has, has_of, has_none, entity_flow}
 use Rattle.seam_ones.specs.Ones.{real_in}
-use Rattle.seam_between.specs.Between.{IsBetweenRounds, MayBeMade, IsFitting, framed}
-use Rattle.seam_between.proofs.Framing.{in_frame}
-use Rattle.seam_between.specs.Loaded.{node_loaded}
-use Rattle.seam_between.proofs.Staying.{Kept}
-use Rattle.seam_between.proofs.Making.{AreOthers, Creation, nowhere, once, creation_of, middle, until, node_made, node_after}
-use Rattle.seam_between.proofs.Loaded.{slot_is, real_was}
+use Rattle.seam_rounds.specs.Between.{IsBetweenRounds, MayBeMade, IsFitting, framed}
+use Rattle.seam_rounds.proofs.Framing.{in_frame}
+use Rattle.seam_rounds.specs.Loaded.{node_loaded}
+use Rattle.seam_rounds.proofs.Staying.{Kept}
+use Rattle.seam_rounds.proofs.Making.{AreOthers, Creation, nowhere, once, creation_of, middle, until, node_made, node_after}
+use Rattle.seam_rounds.proofs.Loaded.{slot_is, real_was}
 use Rattle.seam_rounds.proofs.Giving.{some_base}
 use Rattle.seam_base_calls.specs.PartMoves.{HasNoProxy}
 use Rattle.seam_base_calls.specs.BaseTurns.{home_of, HasNoClient}

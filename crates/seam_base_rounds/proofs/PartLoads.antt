@@ -20,12 +20,12 @@ use Rattle.seam_steps.specs.Nodes.NodeView.{Cell, Base}
 use Rattle.seam_steps.specs.Loads.{part_if, with_route, new_part, created_at, with_proxy, attached, part_begins, cell_round, base_round}
 use Rattle.seam_steps.specs.Loads.{proxy_begins, order_if, ordered_at}
 use Rattle.seam_steps.proofs.Slots.{get-set_at}
-use Rattle.seam_moves.specs.Frames.{Frame, here_at, IsAt}
-use Rattle.seam_moves.specs.Sights.{has_of}
-use Rattle.seam_between.specs.Loaded.{each, node_loaded}
-use Rattle.seam_between.proofs.Loading.{each_keeps, Any, any, get-each_value}
-use Rattle.seam_between.proofs.Staying.{other_set}
-use Rattle.seam_between.proofs.Making.{AreOthers}
+use Rattle.seam_ones.specs.Frames.{Frame, here_at, IsAt}
+use Rattle.seam_ones.specs.Sights.{has_of}
+use Rattle.seam_rounds.specs.Loaded.{each, node_loaded}
+use Rattle.seam_rounds.proofs.Loading.{each_keeps, Any, any, get-each_value}
+use Rattle.seam_rounds.proofs.Staying.{other_set}
+use Rattle.seam_rounds.proofs.Making.{AreOthers}
 use Rattle.seam_base_calls.specs.PartMoves.{HasNoProxy}
 use Rattle.seam_base_calls.specs.BaseTurns.{home_of}
 

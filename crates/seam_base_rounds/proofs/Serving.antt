@@ -16,8 +16,8 @@ use Rattle.seam_entity.specs.Reals.{RealView, WitnessView}
 use Rattle.seam_entity.specs.declared.message.Msg.{Msg}
 use Rattle.seam_steps.specs.Bases.{PartView, ProxyView}
 use Rattle.seam_steps.specs.Nodes.{World, node_steps, node_has_work}
-use Rattle.seam_moves.specs.Frames.{Frame, IsInFrame}
-use Rattle.seam_moves.specs.Sights.{Has, entity_flow}
+use Rattle.seam_ones.specs.Frames.{Frame, IsInFrame}
+use Rattle.seam_ones.specs.Sights.{Has, entity_flow}
 use Rattle.seam_ones.specs.Ones.{real_in, real_of, IsSpared, IsFrame, HasOne}
 use Rattle.seam_base_calls.specs.WitnessMoves.{sent_of, sent_by}
 use Rattle.seam_base_calls.specs.BaseTurns.{home_of, HasNoClient}

@@ -23,12 +23,12 @@ use Rattle.seam_entity.specs.Here.{Here}
 use Rattle.seam_steps.specs.Bases.{PartView, ProxyView}
 use Rattle.seam_steps.specs.Nodes.{NodeView, World, node_steps, node_has_work}
 use Rattle.seam_steps.specs.Loads.{with_nodes}
-use Rattle.seam_moves.specs.Frames.{Frame, here_at, IsInFrame}
-use Rattle.seam_moves.specs.Sights.{Has, AtBase, mine, has_of, has_none, entity_flow}
-use Rattle.seam_moves.proofs.Classify.{event_moves, frame_happens}
+use Rattle.seam_ones.specs.Frames.{Frame, here_at, IsInFrame}
+use Rattle.seam_ones.specs.Sights.{Has, AtBase, mine, has_of, has_none, entity_flow}
+use Rattle.seam_ones.proofs.Classify.{event_moves, frame_happens}
 use Rattle.seam_ones.specs.Ones.{reaped_by, reaped_by_order, HasNoReaps, IsSpared}
 use Rattle.seam_ones.proofs.OneReal.{spared_happens}
-use Rattle.seam_between.specs.Between.{IsBetweenRounds}
+use Rattle.seam_rounds.specs.Between.{IsBetweenRounds}
 use Rattle.seam_rounds.proofs.Calm.{order_reaps, IsCalmOrder}
 use Rattle.seam_rounds.proofs.CalmMoves.{none_ready}
 use Rattle.seam_rounds.proofs.Starting.{Given}

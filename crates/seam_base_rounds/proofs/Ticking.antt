@@ -29,22 +29,22 @@ use Rattle.seam_steps.specs.Nodes.NodeView.{Cell, Base}
 use Rattle.seam_steps.specs.Loads.{real_if, part_if, with_route, created_at, attached, cell_round, base_round, order_if, ordered_at, loaded}
 use Rattle.seam_steps.specs.Loads.{with_nodes}
 use Rattle.seam_tree.specs.Division.{Division, leaf_at, cells_of}
-use Rattle.seam_moves.specs.Frames.{Frame, here_at}
-use Rattle.seam_moves.specs.Sights.{mine, times, order_concerns, orders_of, has_of, has_none}
+use Rattle.seam_ones.specs.Frames.{Frame, here_at}
+use Rattle.seam_ones.specs.Sights.{mine, times, order_concerns, orders_of, has_of, has_none}
 use Rattle.seam_ones.specs.Ones.{real_in}
-use Rattle.seam_once.proofs.Quieting.{neither, none_left}
-use Rattle.seam_between.specs.Between.{IsBetweenRounds, IsFitting}
-use Rattle.seam_between.specs.Loaded.{each, made, node_loaded}
-use Rattle.seam_between.proofs.Loading.{each_keeps, Any, any, loaded_is, node_there}
-use Rattle.seam_between.proofs.Loaded.{no_mail, slot_is}
-use Rattle.seam_between.proofs.Making.{AreOthers}
-use Rattle.seam_between.proofs.Room.{from_all, most, sum_most, rows_none}
-use Rattle.seam_between.proofs.Turns.{node_orders, node_none}
+use Rattle.seam_ones.proofs.Quieting.{neither, none_left}
+use Rattle.seam_rounds.specs.Between.{IsBetweenRounds, IsFitting}
+use Rattle.seam_rounds.specs.Loaded.{each, made, node_loaded}
+use Rattle.seam_rounds.proofs.Loading.{each_keeps, Any, any, loaded_is, node_there}
+use Rattle.seam_rounds.proofs.Loaded.{no_mail, slot_is}
+use Rattle.seam_rounds.proofs.Making.{AreOthers}
+use Rattle.seam_rounds.proofs.Room.{from_all, most, sum_most, rows_none}
+use Rattle.seam_rounds.proofs.Turns.{node_orders, node_none}
 use Rattle.seam_base_calls.specs.WitnessMoves.{sent_by}
 use Rattle.seam_base_calls.specs.Clients.{EachReal, HasToldAtMost}
-use Rattle.seam_told.specs.Telling.{most_entities, IsBlank, BringsNone, IsAbsent, HasFewEntities, SeesFew}
-use Rattle.seam_told.specs.Telling.{order_looks, node_looks, mine_looks, looks_left, most_shown}
-use Rattle.seam_told.proofs.Telling.{tells_at_most, sees_few_then}
+use Rattle.seam_base_calls.specs.Telling.{most_entities, IsBlank, BringsNone, IsAbsent, HasFewEntities, SeesFew}
+use Rattle.seam_base_calls.specs.Telling.{order_looks, node_looks, mine_looks, looks_left, most_shown}
+use Rattle.seam_base_calls.proofs.Telling.{tells_at_most, sees_few_then}
 use Rattle.seam_base_rounds.specs.Parts.{HasPartsBetweenRounds, FitsParts}
 use Rattle.seam_base_rounds.proofs.Joining.{is_among, peopled, real_at, real_joined, real_peopled}
 use Rattle.seam_base_rounds.proofs.Attaching.{real_from}

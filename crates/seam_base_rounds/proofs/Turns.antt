@@ -29,18 +29,18 @@ use Rattle.seam_steps.specs.Bases.{PartView}
 use Rattle.seam_steps.specs.BaseCases.{fits_base_part}
 use Rattle.seam_steps.specs.Nodes.{NodeView, World, node_has_work}
 use Rattle.seam_steps.specs.Loads.{loaded}
-use Rattle.seam_moves.specs.Frames.{Frame, here_at}
-use Rattle.seam_moves.specs.Sights.{Has, kept_if, has_of, has_none, order_concerns, orders_of, entity_flow}
+use Rattle.seam_ones.specs.Frames.{Frame, here_at}
+use Rattle.seam_ones.specs.Sights.{Has, kept_if, has_of, has_none, order_concerns, orders_of, entity_flow}
 use Rattle.seam_ones.specs.Ones.{real_in}
-use Rattle.seam_once.specs.CellTurns.{is_from, from_sender, numbered_from}
-use Rattle.seam_between.specs.Between.{order_in, framed}
-use Rattle.seam_between.proofs.Framing.{in_frame}
-use Rattle.seam_between.specs.Loaded.{node_loaded}
-use Rattle.seam_between.proofs.Loading.{loaded_is, node_there}
-use Rattle.seam_between.proofs.Loaded.{no_mail, slot_is}
-use Rattle.seam_between.proofs.Turns.{node_orders, node_none}
-use Rattle.seam_between.proofs.Room.{no_held, none_below, from_all, most, sum_most, rows_none}
-use Rattle.seam_between.proofs.Going.{settled_loaded, spared_loaded}
+use Rattle.seam_ones.specs.CellTurns.{is_from, from_sender, numbered_from}
+use Rattle.seam_rounds.specs.Between.{order_in, framed}
+use Rattle.seam_rounds.proofs.Framing.{in_frame}
+use Rattle.seam_rounds.specs.Loaded.{node_loaded}
+use Rattle.seam_rounds.proofs.Loading.{loaded_is, node_there}
+use Rattle.seam_rounds.proofs.Loaded.{no_mail, slot_is}
+use Rattle.seam_rounds.proofs.Turns.{node_orders, node_none}
+use Rattle.seam_rounds.proofs.Room.{no_held, none_below, from_all, most, sum_most, rows_none}
+use Rattle.seam_rounds.proofs.Going.{settled_loaded, spared_loaded}
 use Rattle.seam_base_calls.specs.PartMoves.{base_call_of}
 use Rattle.seam_base_calls.specs.BaseTurns.{part_desk, base_mail, as_base_sender, IsBaseCallOf, AreBaseCallsOf}
 use Rattle.seam_base_calls.specs.BaseTurns.{part_burden, node_base_burden, mine_base_burden, base_burden, home_of, IsHomeward, HasPart}

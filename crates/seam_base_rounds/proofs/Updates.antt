@@ -7,16 +7,16 @@ use Rattle.seam_call.specs.declared.shown.Update.{Update as UpdateData}
 use Rattle.seam_entity.specs.declared.message.Msg.{Msg}
 use Rattle.seam_entity.specs.declared.message.Msg.TheVariants.{Update}
 use Rattle.seam_steps.specs.Nodes.{World, node_steps, node_has_work}
-use Rattle.seam_moves.specs.Frames.{Frame, IsInFrame}
-use Rattle.seam_moves.specs.Sights.{entity_flow}
+use Rattle.seam_ones.specs.Frames.{Frame, IsInFrame}
+use Rattle.seam_ones.specs.Sights.{entity_flow}
 use Rattle.seam_ones.specs.Ones.{IsSpared}
 use Rattle.seam_base_calls.specs.PartMoves.{update_in}
 use Rattle.seam_base_calls.specs.Clients.{FindsClient}
 use Rattle.seam_base_calls.proofs.ClientLeads.{client_leads}
 use Rattle.seam_base_calls.proofs.ClientRuns.{finds_client}
 use Rattle.seam_base_calls.proofs.StrayRuns.{base_burden_leads}
-use Rattle.seam_told.specs.Telling.{IsToldNothing}
-use Rattle.seam_told.proofs.Silent.{unseen_told_none}
+use Rattle.seam_base_calls.specs.Telling.{IsToldNothing}
+use Rattle.seam_base_calls.proofs.Silent.{unseen_told_none}
 use Rattle.seam_base_rounds.specs.Parts.{IsServed, bare, served}
 use Rattle.seam_base_rounds.proofs.Serving.{HasNumbers}
 

@@ -3,7 +3,7 @@ use Rattle.std.specs.Prelude.{[]}
 use Rattle.seam_defs.specs.Builtin.{builtin}
 use Rattle.seam_defs.specs.Settings.{standard}
 use Rattle.seam_call.specs.declared.order.Batch.{Batch}
-use Rattle.seam_moves.specs.Frames.{Frame}
+use Rattle.seam_ones.specs.Frames.{Frame}
 use Rattle.seam_rounds.specs.Rounds.{first_frame}
 use Rattle.seam_base_calls.specs.Example.{batch_with}
 

@@ -17,16 +17,16 @@ use Rattle.seam_steps.specs.Bases.{PartView, ProxyView}
 use Rattle.seam_steps.specs.BaseCases.{fits_base_part}
 use Rattle.seam_steps.specs.Nodes.{World}
 use Rattle.seam_steps.specs.Loads.{loaded}
-use Rattle.seam_moves.specs.Frames.{Frame, here_at}
-use Rattle.seam_moves.specs.Sights.{orders_of, entity_flow}
+use Rattle.seam_ones.specs.Frames.{Frame, here_at}
+use Rattle.seam_ones.specs.Sights.{orders_of, entity_flow}
 use Rattle.seam_ones.specs.Ones.{real_in}
-use Rattle.seam_once.specs.CellTurns.{from_sender, numbered_from}
-use Rattle.seam_between.specs.Between.{order_in, numbers_of, IsBetweenRounds, IsFitting}
+use Rattle.seam_ones.specs.CellTurns.{from_sender, numbered_from}
+use Rattle.seam_rounds.specs.Between.{order_in, numbers_of, IsBetweenRounds, IsFitting}
 use Rattle.seam_base_calls.specs.PartMoves.{base_call_of}
 use Rattle.seam_base_calls.specs.BaseTurns.{home_of, HasNoClient}
 use Rattle.seam_base_calls.specs.WitnessMoves.{sent_by}
 use Rattle.seam_base_calls.specs.Clients.{shown_in, EachReal, HasClient}
-use Rattle.seam_told.specs.Telling.{most_entities, IsBlank, SeesFew}
+use Rattle.seam_base_calls.specs.Telling.{most_entities, IsBlank, SeesFew}
 
 -- ---- the record
 

@@ -2,11 +2,11 @@
 //! batch makes of one that keeps the record of base parts.
 //!
 //! `specs/Parts` has that record, a sentence for each of its fields, and what a batch brings to base parts. They stand beside the record
-//! between rounds and the fitting batch of `seam_between`; *MayBeLoaded* is both. These laws speak of each entity of the loaded world,
+//! between rounds and the fitting batch of `seam_rounds`; *MayBeLoaded* is both. These laws speak of each entity of the loaded world,
 //! whether it was there before or the batch creates it, and whether it has a client or not.
 //!
 //! Of a client the record says that it is in step with its entity's witness: all that the witness told was shown, and nothing is on its
-//! way. Its numbers have room by what `seam_told` says of what a witness tells: the record says that entities have numbers below a bound.
+//! way. Its numbers have room by what `seam_base_calls` says of what a witness tells: the record says that entities have numbers below a bound.
 //!
 //! Of `proofs/`, `PartLoads` (what a load makes of a base part at a node), `Joining` and `Attaching` (of a witness and of a client),
 //! `Loaded` (and in the world), `Turns` (its calls), `Serving` (a client over a list of events), `Ticking` (how much it is told), `Updates`
@@ -31,16 +31,16 @@ ghost use Rattle.seam_steps.specs.Rows.{empty_world, lines_of_client};
 ghost use Rattle.seam_steps.specs.ViewRounds as view;
 ghost use Rattle.seam_steps.specs.Nodes.{World, node_steps, node_has_work};
 ghost use Rattle.seam_steps.specs.Loads.{opened, loaded, reaps_loaded, look_loaded};
-ghost use Rattle.seam_moves.specs.Frames.{Frame};
-ghost use Rattle.seam_moves.specs.Sights.{entity_flow};
+ghost use Rattle.seam_ones.specs.Frames.{Frame};
+ghost use Rattle.seam_ones.specs.Sights.{entity_flow};
 ghost use Rattle.seam_ones.specs.Example.{events_of};
 ghost use Rattle.seam_ones.specs.Ones.{real_in, IsFrame};
-ghost use Rattle.seam_once.specs.CellTurns.{from_sender};
-ghost use Rattle.seam_between.specs.Between.{framed, IsBetweenRounds};
+ghost use Rattle.seam_ones.specs.CellTurns.{from_sender};
+ghost use Rattle.seam_rounds.specs.Between.{framed, IsBetweenRounds};
 ghost use Rattle.seam_rounds.specs.Rounds.{first_frame, AreReapable};
 ghost use Rattle.seam_base_calls.specs.BaseTurns.{home_of, HasBaseCalls, HasNoClient};
 ghost use Rattle.seam_base_calls.specs.Clients.{shown_at, HasClient, FindsClient};
-ghost use Rattle.seam_told.specs.Telling.{IsToldNothing};
+ghost use Rattle.seam_base_calls.specs.Telling.{IsToldNothing};
 ghost use Rattle.seam_base_calls.specs.Strays.{HasRoutes, NothingIsStray};
 ghost use Rattle.seam_base_rounds.specs.Parts.{next_to, base_calls_of, HasSettledPart, HasPartsBetweenRounds, MayBeLoaded, IsAlone};
 ghost use Rattle.seam_base_rounds.specs.Parts.{HasSmallNumbers, IsServed};

@@ -2,11 +2,11 @@
 #![tactic(auto)]
 
 #[cfg(test)]
+mod cells;
+#[cfg(test)]
 mod faults;
 #[cfg(test)]
 mod headers;
-#[cfg(test)]
-mod plain;
 #[cfg(test)]
 mod rows;
 #[cfg(test)]

@@ -61,7 +61,7 @@ pub static ROWS: [Row; 12] = [
     },
     Row {
         name: "the other causes",
-        script: "%%\ncreate 1 Avatar 0 0\ncall b1 1 write \"a\\c\"\n1 2 3 4 5 6 7 8 9 10 11 12 13 14 15 16 17\ntick\nsync 1\n\
+        script: "%%\ncreate 1 Avatar 0 0\ncall b1 1 write \"a\\c\"\n1 2 3 4 5 6 7 8 9 10 11 12 13 14 15 16 17\ntock\nsync 1\n\
             create 0 Avatar 0 0\ncreate 2 avatar 0 0\ncall b1 1 hits 1\ncall b1 1 hit 1 2\n",
         status: Status::Done,
         output: "line 3 words 3\nline 4 words 4\nline 5 command\nline 6 count\nline 7 number\nline 8 type\nline 9 unknown\n\

@@ -1,6 +1,6 @@
 //! A cell, and what it hears of ghosts.
 
-ghost use Rattle.std.specs.Prelude.{◌≡◌, ℕ, ◌<◌, ◌≤◌, OnOk, OnErr, IfErr, [], ◌++◌, Some, None, true, false, is_some};
+ghost use Rattle.std.specs.Prelude.{◌≡◌, ℕ, ◌<◌, ◌≤◌, OnOk, OnErr, IfErr, [], ◌++◌, Some, None, true, false, is_some, option_copied};
 ghost use Rattle.std.specs.FinMap as table;
 ghost use Rattle.std.specs.FinSet as set;
 ghost use Rattle.seam_ghosts.specs.Book.{ghost_after};
@@ -202,6 +202,13 @@ impl Cell {
         ensures { result ≡ is_some (table.get self.now.reals e) }
     {
         self.reals.items.get(e).is_some()
+    }
+
+    /// The entity's real, if it is here.
+    pub fn real(&self, e: u32) -> Option<&Parcel>
+        ensures { option_copied result ≡ table.get self.now.reals e }
+    {
+        self.reals.items.get(e)
     }
 
     /// Call: where the real is here and may be offered the call, it executes it in its turn and settles, or holds it where it is

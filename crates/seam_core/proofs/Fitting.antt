@@ -18,14 +18,14 @@ use Rattle.seam_steps.specs.Bases.{PartView, ProxyView}
 use Rattle.seam_steps.specs.Nodes.{NodeView, World}
 use Rattle.seam_steps.specs.Holders.{holders}
 use Rattle.seam_steps.specs.Loads.{loaded}
-use Rattle.seam_moves.specs.Frames.{Frame}
-use Rattle.seam_moves.specs.Sights.{has_of, has_none, entity_flow}
+use Rattle.seam_ones.specs.Frames.{Frame}
+use Rattle.seam_ones.specs.Sights.{has_of, has_none, entity_flow}
 use Rattle.seam_ones.specs.Ones.{real_in, real_of}
 use Rattle.seam_ones.proofs.Counting.{none_counts}
 use Rattle.seam_base_calls.specs.BaseTurns.{home_of}
-use Rattle.seam_between.specs.Between.{IsBetweenRounds, IsFitting, MayBeMade, HasNoWitness}
-use Rattle.seam_between.proofs.Loaded.{no_mail, real_was}
-use Rattle.seam_between.proofs.Making.{Creation, nowhere, once, creation_of, middle}
+use Rattle.seam_rounds.specs.Between.{IsBetweenRounds, IsFitting, MayBeMade, HasNoWitness}
+use Rattle.seam_rounds.proofs.Loaded.{no_mail, real_was}
+use Rattle.seam_rounds.proofs.Making.{Creation, nowhere, once, creation_of, middle}
 use Rattle.seam_rounds.proofs.Shape.{Somewhere, search_real}
 use Rattle.seam_base_rounds.specs.Parts.{HasPartsBetweenRounds, AreFor}
 use Rattle.seam_core.specs.Loads.{CanBegin, MayLoad}

@@ -21,11 +21,11 @@ use Rattle.seam_steps.specs.Nodes.NodeView.{Cell, Base}
 use Rattle.seam_steps.specs.Valid.{IsNode}
 use Rattle.seam_steps.specs.Loads.{with_nodes, order_if, ordered_at, reap_ordered_at, with_order, with_orders, with_reap, reaps_loaded}
 use Rattle.seam_steps.specs.Loads.{loaded, look_loaded}
-use Rattle.seam_moves.specs.Frames.{Frame, here_at, IsAt, IsInFrame}
-use Rattle.seam_between.specs.Between.{framed}
-use Rattle.seam_between.specs.Loaded.{each, node_loaded}
-use Rattle.seam_between.proofs.Loading.{nodes_after, loaded_is, node_there}
-use Rattle.seam_between.proofs.Framing.{node_begun, node_goes, frame_turns}
+use Rattle.seam_ones.specs.Frames.{Frame, here_at, IsAt, IsInFrame}
+use Rattle.seam_rounds.specs.Between.{framed}
+use Rattle.seam_rounds.specs.Loaded.{each, node_loaded}
+use Rattle.seam_rounds.proofs.Loading.{nodes_after, loaded_is, node_there}
+use Rattle.seam_rounds.proofs.Framing.{node_begun, node_goes, frame_turns}
 use Rattle.seam_rounds.proofs.Giving.{reaps_framed, look_framed}
 use Rattle.seam_core.specs.Nodes.{here_in}
 use Rattle.seam_core.specs.Loads.{MayLoad, IsNumbered, HasBases, HasSize}

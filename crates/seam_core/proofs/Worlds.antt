@@ -14,9 +14,9 @@ use Rattle.seam_entity.specs.Here.{cell_count}
 use Rattle.seam_steps.specs.Holders.{holders}
 use Rattle.seam_steps.specs.Nodes.{NodeView, World, node_steps, node_has_work}
 use Rattle.seam_steps.specs.Loads.{one_cell, opened}
-use Rattle.seam_moves.proofs.Classify.{frame_happens}
+use Rattle.seam_ones.proofs.Classify.{frame_happens}
 use Rattle.seam_ones.specs.Ones.{IsFrame}
-use Rattle.seam_between.specs.Between.{IsBetweenRounds}
+use Rattle.seam_rounds.specs.Between.{IsBetweenRounds}
 use Rattle.seam_rounds.specs.Rounds.{first_frame}
 use Rattle.seam_rounds.proofs.Opened.{opened_between}
 use Rattle.seam_core.specs.Worlds.{IsWorld, Leads, KeepsLaws, Lives, in_calls, in_reaps, in_looks}

@@ -4,7 +4,7 @@ use Rattle.seam_call.specs.declared.order.Batch.{Batch}
 use Rattle.seam_steps.specs.Nodes.{NodeView}
 use Rattle.seam_steps.specs.Nodes.NodeView.{Cell, Base}
 use Rattle.seam_steps.specs.Loads.{cell_round}
-use Rattle.seam_between.specs.Loaded.{made}
+use Rattle.seam_rounds.specs.Loaded.{made}
 use Rattle.seam_core.specs.Loads.{CanBegin, IsNumbered}
 
 -- a node that began the batch's round

@@ -11,15 +11,15 @@ use Rattle.seam_entity.specs.Reals.{RealView}
 use Rattle.seam_steps.specs.Holders.{holders}
 use Rattle.seam_steps.specs.Nodes.{World, node_steps, node_has_work}
 use Rattle.seam_steps.specs.Loads.{loaded, reaps_loaded, look_loaded}
-use Rattle.seam_moves.specs.Frames.{Frame, IsInFrame}
-use Rattle.seam_moves.specs.Sights.{entity_flow}
+use Rattle.seam_ones.specs.Frames.{Frame, IsInFrame}
+use Rattle.seam_ones.specs.Sights.{entity_flow}
 use Rattle.seam_ones.specs.Ones.{real_in}
-use Rattle.seam_between.specs.Between.{framed}
+use Rattle.seam_rounds.specs.Between.{framed}
 use Rattle.seam_rounds.specs.Rounds.{AreReapable, reap_comes}
-use Rattle.seam_truths.specs.Truths.{IsHushed}
-use Rattle.seam_newest.specs.Copies.{copy_at}
+use Rattle.seam_copies.specs.Truths.{IsHushed}
+use Rattle.seam_copies.specs.Copies.{copy_at}
 use Rattle.seam_replica.specs.Clients.{ClientReplica}
-use Rattle.seam_clients.specs.Clients.{clients_loaded, clients_shown}
+use Rattle.seam_shown.specs.Clients.{clients_loaded, clients_shown}
 use Rattle.seam_laws.specs.Records.{KeepsRecords, KeepsRecordsWithin, MayBeGiven}
 use Rattle.seam_laws.specs.Calls.{ObeysLaws, EndsRightly}
 use Rattle.seam_laws.specs.Reaps.{ObeysLawsOfReaps, AreGone}

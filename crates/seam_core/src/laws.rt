@@ -3,7 +3,7 @@
 ghost use Rattle.std.specs.Prelude.{ℕ};
 ghost use Rattle.seam_call.specs.declared.order.Batch.{Batch};
 ghost use Rattle.seam_steps.specs.Nodes.{World};
-ghost use Rattle.seam_moves.specs.Frames.{Frame};
+ghost use Rattle.seam_ones.specs.Frames.{Frame};
 ghost use Rattle.seam_replica.specs.Clients.{ClientReplica};
 ghost use Rattle.seam_laws.specs.Records.{KeepsRecords, MayBeGiven};
 ghost use Rattle.seam_core.specs.Worlds.{KeepsLaws};
@@ -16,7 +16,7 @@ pub fn every_world_obeys_the_laws()
     seam_laws::calls_obey_the_laws();
     seam_laws::reaps_obey_the_laws();
     seam_laws::looks_obey_the_laws();
-    seam_newest::ghosts_of_a_round_are_true();
+    seam_copies::ghosts_of_a_round_are_true();
     seam_rounds::reaps_end_reals();
 }
 

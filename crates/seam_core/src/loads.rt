@@ -11,10 +11,10 @@ ghost use Rattle.seam_base.specs.Marks.{passes};
 ghost use Rattle.seam_steps.specs.Loads.{with_nodes, created_at, attached, base_round, cell_round, ordered_at, with_order, with_orders, with_reap, real_if, order_if};
 ghost use Rattle.seam_steps.specs.Loads.{reaps_loaded};
 ghost use Rattle.seam_steps.specs.Nodes.{NodeView};
-ghost use Rattle.seam_moves.specs.Sights.{has_of};
+ghost use Rattle.seam_ones.specs.Sights.{has_of};
 ghost use Rattle.seam_ones.specs.Ones.{real_in};
-ghost use Rattle.seam_between.specs.Between.{created_entity};
-ghost use Rattle.seam_between.specs.Loaded.{each};
+ghost use Rattle.seam_rounds.specs.Between.{created_entity};
+ghost use Rattle.seam_rounds.specs.Loaded.{each};
 ghost use Rattle.seam_core.specs.Loads.{IsNumbered, HasBases};
 ghost use Rattle.seam_core.specs.Begun.{begun, HasSpace, MayBegin};
 

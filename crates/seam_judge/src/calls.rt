@@ -1,5 +1,5 @@
 // Whether the parts of entities executed what was accepted for them.
-ghost use Rattle.std.specs.Prelude.{◌≡◌, ◌↔◌, ◌++◌, ◌∷◌, [], ℕ, IsTrue, IfOk, OnOk, map, filter};
+ghost use Rattle.std.specs.Prelude.{◌≡◌, ◌↔◌, ◌++◌, ℕ, IsTrue, IfOk, filter};
 ghost use Rattle.std.specs.List.{All};
 ghost use Rattle.seam_call.specs.Calls.{is_for, is_from};
 ghost use Rattle.seam_call.specs.declared.sender.Sender.{Sender as Senders};

@@ -1,13 +1,15 @@
 // A round to be judged, and its clients.
-ghost use Rattle.std.specs.Prelude.{◌≡◌, ◌==◌, IfOk, find, filter, option_copied};
+ghost use Rattle.std.specs.Prelude.{◌≡◌, ◌==◌, IfOk, find, filter, map, option_copied};
 ghost use Rattle.seam_transcript.specs.Book.{created_as, is_shown};
 ghost use Rattle.seam_transcript.specs.Round.{Lists};
+ghost use Rattle.seam_rules.specs.Lines.{lines_to};
 ghost use Rattle.seam_round.specs.Standings.{standing_of};
 ghost use Rattle.seam_judge.specs.Clients.{client_as};
 
-use seam_call::Create;
+use seam_call::{ClientText, Create, Line};
 use seam_expected::{created_in, has_died, has_joined};
-use seam_round::{Round, Standing};
+use seam_round::{ClientLine, Round, Standing};
+use seam_same::Copied;
 use seam_transcript::Header;
 use std::alloc::{AllocError, Global};
 
@@ -75,4 +77,44 @@ fn shown_among(
         }
     }
     Ok(clients)
+}
+
+/// The lines of an entity's client.
+pub(crate) fn lines_to(
+    alloc: Global,
+    round: &Round,
+    entity: u32,
+) -> Result<Vec<&ClientLine>, AllocError>
+    ensures { IfOk result (λ lines. map (λ l. l.now) lines.items ≡ lines_to round.now entity) }
+{
+    round
+        .shown
+        .iter()
+        .filter(|line| line.entity == entity)
+        .collect(alloc)
+}
+
+/// What these lines tell.
+pub(crate) fn told_by<'a>(
+    alloc: Global,
+    lines: &[&'a ClientLine],
+) -> Result<Vec<&'a Line>, AllocError>
+    ensures { IfOk result (λ told. map (λ l. l.now) told.items ≡ map (λ l. l.line) (map (λ l. l.now) lines.now)) }
+{
+    let mut told = Vec::new(alloc);
+    for line in lines {
+        told.push(&line.line)?;
+    }
+    Ok(told)
+}
+
+/// Copies of their texts.
+pub(crate) fn texts_of(alloc: Global, lines: &[&Line]) -> Result<Vec<ClientText>, AllocError>
+    ensures { IfOk result (λ texts. texts.items ≡ map (λ l. l.text) (map (λ l. l.now) lines.now)) }
+{
+    let mut texts = Vec::new(alloc);
+    for line in lines {
+        texts.push(line.text.copied()?)?;
+    }
+    Ok(texts)
 }

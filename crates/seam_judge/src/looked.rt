@@ -1,18 +1,24 @@
-// What a further look would show.
-ghost use Rattle.std.specs.Prelude.{◌≡◌, ◌↔◌, [], ℕ, IsTrue, IfOk};
+// The point of a legal round about looks.
+ghost use Rattle.std.specs.Prelude.{◌≡◌, ◌↔◌, ◌||◌, ◌++◌, [], ℕ, IsTrue, IfOk, map};
 ghost use Rattle.std.specs.List.{All};
+ghost use Rattle.seam_call.specs.declared.shown.ClientText.TheVariants as text;
 ghost use Rattle.seam_replica.specs.Looks.{one_look};
 ghost use Rattle.seam_transcript.specs.Book.{is_shown};
 ghost use Rattle.seam_transcript.specs.Round.{Lists};
 ghost use Rattle.seam_rules.specs.FlatTable.{rows_of};
 ghost use Rattle.seam_rules.specs.Standing.{replica_of};
+ghost use Rattle.seam_rules.specs.Clients.{texts_to, base_texts, HasLooked};
 ghost use Rattle.seam_round.specs.Standings.{standing_of};
 ghost use Rattle.seam_judge.specs.Clients.{client_as};
 
-use crate::case::Case;
-use seam_call::{Create, Shown};
+use crate::calls::both;
+use crate::case::{Case, lines_to, texts_of, told_by};
+use crate::clients::base_among;
+use seam_call::{ClientText, Create, Shown};
+use seam_expected::has_tick;
 use seam_plain_looks::{Replica, Row, rows_of};
 use seam_round::Standing;
+use seam_same::{Copied, are_same};
 use seam_transcript::Header;
 use std::alloc::{AllocError, Global};
 
@@ -88,4 +94,99 @@ pub fn is_nothing_left(
 {
     let rows = rows_of(alloc, case.header, case.after, live)?;
     show_nothing(alloc, case.header, case.after, clients, &rows)
+}
+
+// The texts of what is shown.
+fn texts_shown(alloc: Global, shown: &[Shown]) -> Result<Vec<ClientText>, AllocError>
+    ensures { IfOk result (λ texts. texts.items ≡ map text.Shown shown.now) }
+{
+    let mut texts = Vec::new(alloc);
+    for x in shown {
+        texts.push(ClientText::Shown(x.copied()?))?;
+    }
+    Ok(texts)
+}
+
+// Whether the client of an entity was shown its base lines, and then one look at the rows.
+fn is_shown_one_look(
+    alloc: Global,
+    case: &Case<'_>,
+    entity: u32,
+    rows: &[Row],
+) -> Result<bool, AllocError>
+    ensures { IfOk result (λ r. IsTrue r
+        ↔ (texts_to case.now.round.now entity ≡ base_texts case.now.round.now entity
+        ++ map text.Shown (one_look (replica_of case.now.header.now (standing_of case.now.before.now) entity) entity rows.now))) }
+{
+    let lines = lines_to(alloc, case.round, entity)?;
+    let told = told_by(alloc, &lines)?;
+    let texts = texts_of(alloc, &told)?;
+    let mut expected = base_among(alloc, &texts)?;
+    let look = look_of(alloc, case.header, case.before, entity, rows)?;
+    let mut further = texts_shown(alloc, &look)?;
+    expected.append(&mut further)?;
+    Ok(are_same(&texts, &expected))
+}
+
+// Whether each of the clients was.
+fn are_shown_one_look(
+    alloc: Global,
+    case: &Case<'_>,
+    clients: &[Create],
+    rows: &[Row],
+) -> Result<bool, AllocError>
+    ensures { IfOk result (λ r. IsTrue r
+        ↔ All (λ c. texts_to case.now.round.now c.entity ≡ base_texts case.now.round.now c.entity
+        ++ map text.Shown (one_look (replica_of case.now.header.now (standing_of case.now.before.now) c.entity) c.entity rows.now)) clients.now) }
+{
+    for create in clients {
+        let shown = is_shown_one_look(alloc, case, create.entity, rows)?;
+        if !shown {
+            return Ok(false);
+        }
+    }
+    Ok(true)
+}
+
+// Whether each client of the round was shown its base lines, and then one look at what the round left: *one_each* of *HasLooked* without
+// a tick.
+fn is_one_look_each(
+    alloc: Global,
+    case: &Case<'_>,
+    clients: &[Create],
+    live: &[Create],
+) -> Result<bool, AllocError>
+    requires { Lists (client_as (standing_of case.now.before.now).book) clients.now }
+    ensures { IfOk result (λ r. IsTrue r ↔ ((e : ℕ) → IsTrue (is_shown (standing_of case.now.before.now).book e)
+        → texts_to case.now.round.now e ≡ base_texts case.now.round.now e
+        ++ map text.Shown (one_look (replica_of case.now.header.now (standing_of case.now.before.now) e) e
+        (rows_of case.now.header.now (standing_of case.now.after.now).orders live.now)))) }
+{
+    let rows = rows_of(alloc, case.header, case.after, live)?;
+    are_shown_one_look(alloc, case, clients, &rows)
+}
+
+fn either(a: bool, b: bool) -> bool
+    ensures { result ≡ a || b }
+{
+    a || b
+}
+
+/// Whether after the round a look shows no client of it anything, and whether without a tick each was shown its base lines and then one
+/// look: *HasLooked*. `clients` are those of the round, and `live` its live entities.
+pub fn has_looked(
+    alloc: Global,
+    case: &Case<'_>,
+    clients: &[Create],
+    live: &[Create],
+) -> Result<bool, AllocError>
+    requires { Lists (client_as (standing_of case.now.before.now).book) clients.now }
+    ensures { IfOk result (λ r. IsTrue r
+        ↔ HasLooked case.now.header.now (standing_of case.now.before.now) case.now.round.now (standing_of case.now.after.now) live.now) }
+{
+    let nothing = is_nothing_left(alloc, case, clients, live)?;
+    let one = is_one_look_each(alloc, case, clients, live)?;
+    let before = case.before;
+    let ticked = has_tick(&before.current);
+    Ok(both(nothing, either(ticked, one)))
 }

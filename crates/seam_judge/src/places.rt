@@ -1,6 +1,7 @@
 // Whether entities are held where they may be.
 ghost use Rattle.std.specs.Prelude.{◌≡◌, ◌↔◌, ◌⊎◌, ◌<◌, ◌≤◌, ◌+◌, ◌-◌, ◌∷◌, List, IsTrue, IfOk, length, map};
 ghost use Rattle.std.specs.List.{All, range_with_len};
+ghost use Rattle.seam_transcript.specs.Book.{tree_of};
 ghost use Rattle.seam_rules.specs.FlatTable.{position_at};
 ghost use Rattle.seam_geo.specs.declared.pos.Pos.{Pos as Positions};
 ghost use Rattle.seam_tree.specs.Division.{cells_of};
@@ -86,6 +87,26 @@ fn has_place(
     let was = place_before(before, create);
     let held = after.place_of(create.entity);
     Ok(is_place_after(&header.settings, &tree, was, &path, held))
+}
+
+// Whether an entity has its home in a cell of the open round's tree.
+fn has_home(before: &Standing, entity: u32) -> bool
+    ensures { IsTrue result ↔ (((standing_of before.now).places entity).home < cells_of (tree_of (standing_of before.now).book)) }
+{
+    let tree = tree_in(before);
+    before.place_of(entity).home < tree.cells()
+}
+
+/// Whether each entity has its home in a cell of the open round's tree, as it has after rounds that were legal.
+pub fn have_homes(before: &Standing) -> bool
+    ensures { IsTrue result ↔ HaveHomes (standing_of before.now) }
+{
+    for held in &before.places {
+        if !has_home(before, held.entity) {
+            return false;
+        }
+    }
+    true
 }
 
 /// Whether each live entity may have the place that it is left in.

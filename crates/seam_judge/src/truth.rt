@@ -1,7 +1,6 @@
 // What is true of entities in a round.
 ghost use Rattle.std.specs.Prelude.{◌≡◌, ◌↔◌, ◌≤◌, ℕ, IsTrue, IfOk, length, map};
 ghost use Rattle.std.specs.List.{All};
-ghost use Rattle.seam_defs.specs.declared.flags.Part.TheVariants as part;
 ghost use Rattle.seam_replica.specs.Lines.{ShowsTruth};
 ghost use Rattle.seam_rules.specs.FlatTable.{public_at, other_at};
 ghost use Rattle.seam_rules.specs.Clients.{IsOwn, IsOther, truth_of};

@@ -16,24 +16,24 @@ use Rattle.seam_steps.specs.Holders.{holders}
 use Rattle.seam_steps.specs.Loads.{loaded}
 use Rattle.seam_steps.specs.Nodes.{World}
 use Rattle.seam_steps.specs.Nodes.NodeView.{Cell}
-use Rattle.seam_moves.specs.Frames.{Frame}
-use Rattle.seam_moves.specs.Sights.{entity_flow}
+use Rattle.seam_ones.specs.Frames.{Frame}
+use Rattle.seam_ones.specs.Sights.{entity_flow}
 use Rattle.seam_ones.specs.Ones.{real_in, IsOne, OneFrom}
-use Rattle.seam_ways.specs.Ways.{AllLead}
-use Rattle.seam_once.specs.CellTurns.{from_sender, CellCallsInTurn}
+use Rattle.seam_ones.specs.Ways.{AllLead}
+use Rattle.seam_ones.specs.CellTurns.{from_sender, CellCallsInTurn}
 use Rattle.seam_base_calls.specs.BaseTurns.{home_of, HasBaseCalls}
 use Rattle.seam_base_calls.specs.Clients.{shown_at, FindsClient}
 use Rattle.seam_base_calls.specs.Strays.{NothingIsStray}
-use Rattle.seam_between.specs.Between.{calls_of, framed, next_from}
+use Rattle.seam_rounds.specs.Between.{calls_of, framed, next_from}
 use Rattle.seam_base_rounds.specs.Parts.{base_calls_of, next_to, IsServed}
-use Rattle.seam_strays.specs.Tasks.{HasNoStrayTask}
+use Rattle.seam_copies.specs.Tasks.{HasNoStrayTask}
 use Rattle.seam_rounds.specs.Routes.{IsKnownAt}
-use Rattle.seam_truths.specs.Truths.{IsTrue}
-use Rattle.seam_newest.specs.Copies.{present, AreTold, AreSettled}
+use Rattle.seam_copies.specs.Truths.{IsTrue}
+use Rattle.seam_copies.specs.Copies.{present, AreTold, AreSettled}
 use Rattle.seam_replica.specs.Clients.{ClientReplica}
 use Rattle.seam_replica.specs.Lines.{ShowsRightly}
 use Rattle.seam_shown.specs.Rounds.{true_between}
-use Rattle.seam_clients.specs.Clients.{clients_loaded}
+use Rattle.seam_shown.specs.Clients.{clients_loaded}
 
 -- ---- no node is given what it has no case for
 

@@ -5,17 +5,17 @@ use Rattle.seam_call.specs.declared.shown.Shown.{Shown}
 use Rattle.seam_entity.specs.Reals.{RealView, WitnessView}
 use Rattle.seam_steps.specs.Holders.{holders}
 use Rattle.seam_steps.specs.Nodes.{World}
-use Rattle.seam_moves.specs.Frames.{Frame}
-use Rattle.seam_moves.specs.Sights.{entity_flow}
+use Rattle.seam_ones.specs.Frames.{Frame}
+use Rattle.seam_ones.specs.Sights.{entity_flow}
 use Rattle.seam_ones.specs.Ones.{real_in}
 use Rattle.seam_base_calls.specs.BaseTurns.{home_of}
 use Rattle.seam_base_calls.specs.Clients.{shown_at}
 use Rattle.seam_rounds.specs.Rounds.{HasNoCalls}
 use Rattle.seam_base_rounds.specs.Parts.{IsServed}
-use Rattle.seam_newest.specs.Copies.{AreTold}
+use Rattle.seam_copies.specs.Copies.{AreTold}
 use Rattle.seam_replica.specs.Clients.{ClientReplica, after_all_shown}
 use Rattle.seam_replica.specs.Looks.{one_look}
-use Rattle.seam_looks.specs.Tables.{rows_of}
+use Rattle.seam_shown.specs.Tables.{rows_of}
 use Rattle.seam_laws.specs.Calls.{NoneIsStrayAtCells, UpdatesFindClients}
 
 -- what entity e's client was shown since the round began

@@ -7,13 +7,13 @@ use Rattle.seam_entity.specs.Reals.{RealView}
 use Rattle.seam_steps.specs.Bases.{PartView}
 use Rattle.seam_steps.specs.Holders.{holders}
 use Rattle.seam_steps.specs.Nodes.{World}
-use Rattle.seam_moves.specs.Frames.{Frame}
-use Rattle.seam_moves.specs.Sights.{entity_flow}
+use Rattle.seam_ones.specs.Frames.{Frame}
+use Rattle.seam_ones.specs.Sights.{entity_flow}
 use Rattle.seam_ones.specs.Ones.{real_in}
 use Rattle.seam_base_calls.specs.Reaps.{HasNoPart}
 use Rattle.seam_rounds.specs.Rounds.{HasNoCalls}
-use Rattle.seam_newest.specs.Copies.{copy_at, AreTold, IsForgotten}
-use Rattle.seam_told.specs.Telling.{IsToldNothing}
+use Rattle.seam_copies.specs.Copies.{copy_at, AreTold, IsForgotten}
+use Rattle.seam_base_calls.specs.Telling.{IsToldNothing}
 use Rattle.seam_laws.specs.Calls.{NoneIsStrayAtCells}
 
 -- The laws of reaps: of the world v to which a list of events led from u, where the entities `es` are to be reaped.

@@ -3,13 +3,13 @@ use Rattle.std.specs.Prelude.{ℕ}
 use Rattle.seam_defs.specs.Settings.{GhostsReach}
 use Rattle.seam_call.specs.declared.order.Batch.{Batch}
 use Rattle.seam_steps.specs.Nodes.{World}
-use Rattle.seam_moves.specs.Frames.{Frame}
-use Rattle.seam_between.specs.Between.{IsBetweenRounds, IsFitting}
+use Rattle.seam_ones.specs.Frames.{Frame}
+use Rattle.seam_rounds.specs.Between.{IsBetweenRounds, IsFitting}
 use Rattle.seam_base_rounds.specs.Parts.{HasPartsBetweenRounds, HasSmallNumbers, FitsParts}
-use Rattle.seam_places.specs.Places.{ArePlaced}
-use Rattle.seam_newest.specs.Copies.{AreCopiesBetweenRounds}
+use Rattle.seam_copies.specs.Places.{ArePlaced}
+use Rattle.seam_copies.specs.Copies.{AreCopiesBetweenRounds}
 use Rattle.seam_replica.specs.Clients.{ClientReplica}
-use Rattle.seam_looks.specs.Clients.{ClientsFit}
+use Rattle.seam_shown.specs.Witnesses.{ClientsFit}
 
 -- What a world keeps from the end of a round to the next load, by the definitions, the settings and the tree of the frame, where the
 -- client of each entity e shows `clients e`.

@@ -16,15 +16,15 @@ ghost use Rattle.seam_entity.specs.Reals.{RealView};
 ghost use Rattle.seam_steps.specs.Rows.{empty_world};
 ghost use Rattle.seam_steps.specs.Nodes.{World, node_steps, node_has_work};
 ghost use Rattle.seam_steps.specs.Loads.{opened, loaded, reaps_loaded, look_loaded};
-ghost use Rattle.seam_moves.specs.Frames.{Frame};
-ghost use Rattle.seam_moves.specs.Sights.{entity_flow};
+ghost use Rattle.seam_ones.specs.Frames.{Frame};
+ghost use Rattle.seam_ones.specs.Sights.{entity_flow};
 ghost use Rattle.seam_ones.specs.Ones.{real_in, IsFrame};
-ghost use Rattle.seam_between.specs.Between.{framed};
+ghost use Rattle.seam_rounds.specs.Between.{framed};
 ghost use Rattle.seam_rounds.specs.Rounds.{first_frame, AreReapable};
 ghost use Rattle.seam_replica.specs.Clients.{ClientReplica, new_client};
 ghost use Rattle.seam_base_rounds.specs.Example.{opening};
-ghost use Rattle.seam_clients.specs.Crossing as crossing;
-ghost use Rattle.seam_clients.specs.Clients.{clients_loaded, clients_shown};
+ghost use Rattle.seam_shown.specs.Crossing as crossing;
+ghost use Rattle.seam_shown.specs.Clients.{clients_loaded, clients_shown};
 ghost use Rattle.seam_laws.specs.Records.{KeepsRecords, KeepsRecordsWithin, MayBeGiven};
 ghost use Rattle.seam_laws.specs.Calls.{ObeysLaws, EndsRightly};
 ghost use Rattle.seam_laws.specs.Reaps.{ObeysLawsOfReaps, AreGone};
@@ -38,9 +38,9 @@ pub fn an_opened_world_keeps_the_records()
 {
     seam_rounds::a_round_goes_from_record_to_record();
     seam_base_rounds::base_parts_go_from_record_to_record();
-    seam_places::a_round_keeps_the_record_of_places();
-    seam_newest::copies_go_from_record_to_record();
-    seam_clients::clients_go_from_record_to_record();
+    seam_copies::a_round_keeps_the_record_of_places();
+    seam_copies::copies_go_from_record_to_record();
+    seam_shown::clients_go_from_record_to_record();
 }
 
 /// Where a world that keeps the records is given a batch that fits it, every list of events leads to a world that obeys the laws (`laws`).
@@ -59,27 +59,27 @@ pub fn calls_obey_the_laws()
 {
     seam_ones::a_reap_ends_the_one_real();
     seam_ones::holders_are_at_one_place();
-    seam_between::a_loaded_world_goes_by_its_tree();
-    seam_between::an_entity_of_a_loaded_world_is_ready();
-    seam_between::an_entity_keeps_one_real();
-    seam_between::calls_of_a_batch_are_executed_once();
+    seam_rounds::a_loaded_world_goes_by_its_tree();
+    seam_rounds::an_entity_of_a_loaded_world_is_ready();
+    seam_rounds::an_entity_keeps_one_real();
+    seam_rounds::calls_of_a_batch_are_executed_once();
     seam_rounds::a_round_goes_from_record_to_record();
     seam_base_rounds::base_calls_of_a_batch_are_executed_once();
     seam_base_rounds::nothing_about_a_loaded_entity_is_stray_at_a_base_node();
     seam_base_rounds::each_client_is_shown_its_updates_in_order();
     seam_base_rounds::base_parts_go_from_record_to_record();
-    seam_strays::no_message_to_a_cell_is_stray();
-    seam_strays::no_task_of_a_cell_is_stray();
-    seam_places::places_are_on_their_way();
-    seam_places::a_round_keeps_the_record_of_places();
-    seam_newest::ghosts_of_a_round_are_true();
-    seam_newest::each_cell_is_told_what_the_real_wants();
-    seam_newest::the_newest_route_leads_to_the_real();
-    seam_newest::quiet_means_settled();
-    seam_newest::copies_go_from_record_to_record();
+    seam_copies::no_message_to_a_cell_is_stray();
+    seam_copies::no_task_of_a_cell_is_stray();
+    seam_copies::places_are_on_their_way();
+    seam_copies::a_round_keeps_the_record_of_places();
+    seam_copies::ghosts_of_a_round_are_true();
+    seam_copies::each_cell_is_told_what_the_real_wants();
+    seam_copies::the_newest_route_leads_to_the_real();
+    seam_copies::quiet_means_settled();
+    seam_copies::copies_go_from_record_to_record();
     seam_shown::clients_of_a_round_are_shown_rightly();
-    seam_clients::clients_go_from_record_to_record();
-    seam_clients::an_update_without_a_client_never_comes();
+    seam_shown::clients_go_from_record_to_record();
+    seam_shown::an_update_without_a_client_never_comes();
 }
 
 /// Where a world within a round, which keeps the records, is told to reap entities that are there, every list of events leads to a world
@@ -100,14 +100,14 @@ pub fn reaps_obey_the_laws()
     seam_rounds::no_call_waits_for_the_reaped();
     seam_rounds::a_round_goes_from_record_to_record();
     seam_base_rounds::base_parts_go_from_record_to_record();
-    seam_places::a_round_keeps_the_record_of_places();
-    seam_newest::copies_go_from_record_to_record();
-    seam_newest::no_cell_keeps_a_copy_of_the_reaped();
-    seam_clients::clients_go_from_record_to_record();
-    seam_strays::no_message_to_a_cell_is_stray();
-    seam_strays::no_task_of_a_cell_is_stray();
-    seam_clients::a_reaped_client_is_shown_no_more();
-    seam_clients::an_update_without_a_client_never_comes();
+    seam_copies::a_round_keeps_the_record_of_places();
+    seam_copies::copies_go_from_record_to_record();
+    seam_copies::no_cell_keeps_a_copy_of_the_reaped();
+    seam_shown::clients_go_from_record_to_record();
+    seam_copies::no_message_to_a_cell_is_stray();
+    seam_copies::no_task_of_a_cell_is_stray();
+    seam_shown::a_reaped_client_is_shown_no_more();
+    seam_shown::an_update_without_a_client_never_comes();
 }
 
 /// Where the witnesses of a world within a round, which keeps the records, are to look, every list of events leads to a world that obeys
@@ -125,24 +125,24 @@ pub fn looks_obey_the_laws()
     seam_rounds::looks_keep_reals();
     seam_rounds::a_round_goes_from_record_to_record();
     seam_base_rounds::base_parts_go_from_record_to_record();
-    seam_places::a_round_keeps_the_record_of_places();
-    seam_clients::clients_go_from_record_to_record();
-    seam_newest::each_cell_is_told_what_the_real_wants();
-    seam_newest::copies_go_from_record_to_record();
-    seam_strays::no_message_to_a_cell_is_stray();
-    seam_strays::no_task_of_a_cell_is_stray();
+    seam_copies::a_round_keeps_the_record_of_places();
+    seam_shown::clients_go_from_record_to_record();
+    seam_copies::each_cell_is_told_what_the_real_wants();
+    seam_copies::copies_go_from_record_to_record();
+    seam_copies::no_message_to_a_cell_is_stray();
+    seam_copies::no_task_of_a_cell_is_stray();
     seam_base_rounds::each_client_is_shown_its_updates_in_order();
-    seam_looks::clients_fit_after_the_looks();
+    seam_shown::clients_fit_after_the_looks();
     seam_shown::each_client_is_shown_one_look();
-    seam_clients::an_update_without_a_client_never_comes();
+    seam_shown::an_update_without_a_client_never_comes();
 }
 
 /// What these laws ask is true of an opened world, whose clients show nothing, and a batch that creates two witnesses and an entity that
-/// crosses the boundary between them (`seam_clients`).
+/// crosses the boundary between them (`seam_shown`).
 pub fn a_worked_batch_may_be_given()
     ensures keeps { KeepsRecords opening (λ e. new_client standard) empty_world }
     ensures may { MayBeGiven opening empty_world crossing.batch }
 {
     an_opened_world_keeps_the_records();
-    seam_clients::an_entity_crosses_between_two_witnesses();
+    seam_shown::an_entity_crosses_between_two_witnesses();
 }

@@ -17,16 +17,16 @@ use Rattle.seam_entity.specs.Here.{Here}
 use Rattle.seam_steps.specs.Bases.{PartView}
 use Rattle.seam_steps.specs.BaseCases.{executed, with_order, with_offer}
 use Rattle.seam_steps.specs.Nodes.{World, node_steps, node_has_work}
-use Rattle.seam_moves.specs.Frames.{Frame, here_at, IsInFrame}
-use Rattle.seam_moves.specs.Sights.{AtBase, entity_flow}
-use Rattle.seam_moves.proofs.Classify.{event_moves, frame_happens}
+use Rattle.seam_ones.specs.Frames.{Frame, here_at, IsInFrame}
+use Rattle.seam_ones.specs.Sights.{AtBase, entity_flow}
+use Rattle.seam_ones.proofs.Classify.{event_moves, frame_happens}
 use Rattle.seam_ones.specs.Ones.{IsSpared}
 use Rattle.seam_ones.proofs.OneReal.{spared_happens}
 use Rattle.seam_base_calls.specs.PartMoves.{Offered, now, early, late}
 use Rattle.seam_base_calls.specs.PartMoves.{PartMoves, rests, refuses, offers, sends, serves, executes, misses, updates, shows, ends}
 use Rattle.seam_base_calls.proofs.PartSteps.{part_moves}
 use Rattle.seam_base_calls.proofs.BaseRuns.{unordered}
-use Rattle.seam_clients.specs.BaseLines.{state_with, state_after}
+use Rattle.seam_shown.specs.BaseLines.{state_with, state_after}
 
 -- the part that was p is o, which executed further calls
 pub record Became (h : Here) (p : PartView) (o : Option PartView) : Type 0 where

@@ -32,15 +32,15 @@ use Rattle.seam_entity.specs.Reals.{RealView}
 use Rattle.seam_steps.specs.Holders.{holders}
 use Rattle.seam_steps.specs.Nodes.{World, node_steps, node_has_work}
 use Rattle.seam_steps.specs.Loads.{loaded}
-use Rattle.seam_moves.specs.Sights.{mine, entity_flow}
+use Rattle.seam_ones.specs.Sights.{mine, entity_flow}
 use Rattle.seam_ones.specs.Ones.{real_in, real_of}
 use Rattle.seam_ones.proofs.Counting.{counted_none, none_counts}
 use Rattle.seam_ones.proofs.Holds.{both}
-use Rattle.seam_once.specs.CellTurns.{from_sender}
-use Rattle.seam_between.proofs.Framing.{in_frame}
-use Rattle.seam_between.proofs.Loaded.{no_mail}
-use Rattle.seam_between.proofs.Ready.{one_holder}
-use Rattle.seam_between.proofs.Going.{settled_loaded}
+use Rattle.seam_ones.specs.CellTurns.{from_sender}
+use Rattle.seam_rounds.proofs.Framing.{in_frame}
+use Rattle.seam_rounds.proofs.Loaded.{no_mail}
+use Rattle.seam_rounds.proofs.Ready.{one_holder}
+use Rattle.seam_rounds.proofs.Going.{settled_loaded}
 use Rattle.seam_rounds.proofs.Shape.{Somewhere, Nowhere, search_real}
 use Rattle.seam_replica.specs.Clients.{ClientReplica}
 use Rattle.seam_laws.specs.Calls.{ObeysLaws, EndsRightly}

@@ -28,19 +28,19 @@ use Rattle.seam_steps.specs.Bases.{PartView}
 use Rattle.seam_steps.specs.Holders.{holders}
 use Rattle.seam_steps.specs.Nodes.{World, node_has_work}
 use Rattle.seam_steps.specs.Loads.{loaded, reaps_loaded, look_loaded, reap_ordered_at}
-use Rattle.seam_moves.specs.Frames.{IsInFrame}
-use Rattle.seam_moves.specs.Sights.{order_about, entity_flow}
+use Rattle.seam_ones.specs.Frames.{IsInFrame}
+use Rattle.seam_ones.specs.Sights.{order_about, entity_flow}
 use Rattle.seam_ones.specs.Ones.{real_in}
 use Rattle.seam_ones.proofs.Counting.{counted_none}
-use Rattle.seam_between.specs.Between.{IsNew, next_from}
-use Rattle.seam_between.proofs.Loading.{nodes_after}
-use Rattle.seam_between.proofs.Framing.{in_frame}
-use Rattle.seam_between.proofs.Making.{AreOthers}
-use Rattle.seam_between.proofs.Ready.{Home}
+use Rattle.seam_rounds.specs.Between.{IsNew, next_from}
+use Rattle.seam_rounds.proofs.Loading.{nodes_after}
+use Rattle.seam_rounds.proofs.Framing.{in_frame}
+use Rattle.seam_rounds.proofs.Making.{AreOthers}
+use Rattle.seam_rounds.proofs.Ready.{Home}
 use Rattle.seam_rounds.proofs.Giving.{reaps_framed, look_framed}
 use Rattle.seam_rounds.proofs.Shape.{Somewhere, Nowhere, search_real}
 use Rattle.seam_base_rounds.specs.Parts.{HasSettledPart, next_to}
-use Rattle.seam_places.specs.Places.{GoesThroughRound}
+use Rattle.seam_copies.specs.Places.{GoesThroughRound}
 use Rattle.seam_replica.specs.Clients.{ClientReplica}
 use Rattle.seam_laws.specs.Records.{KeepsRecords, MayBeGiven}
 use Rattle.seam_legal.specs.Going.{frame_of, base_node, IsHeld, Lives, GoesWith, HasRoomForCalls}

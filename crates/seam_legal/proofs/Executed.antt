@@ -19,8 +19,8 @@ use Rattle.seam_transcript.proofs.BookEntries.{differ}
 use Rattle.seam_batches.specs.Books.{as_begun}
 use Rattle.seam_batches.specs.Bringing.{calls_from}
 use Rattle.seam_batches.proofs.Untouched.{IsFromSender, accepted_by_place, same_place}
-use Rattle.seam_moves.specs.Sights.{kept_if}
-use Rattle.seam_once.specs.CellTurns.{from_sender}
+use Rattle.seam_ones.specs.Sights.{kept_if}
+use Rattle.seam_ones.specs.CellTurns.{from_sender}
 
 -- ---- a list by its senders
 

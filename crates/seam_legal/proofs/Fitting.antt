@@ -31,10 +31,10 @@ use Rattle.seam_entity.specs.Reals.{RealView}
 use Rattle.seam_entity.specs.Fitting.{is_inside, stays_inside, can_do}
 use Rattle.seam_steps.specs.Bases.{PartView}
 use Rattle.seam_steps.specs.Nodes.{World}
-use Rattle.seam_moves.specs.Sights.{entity_flow}
+use Rattle.seam_ones.specs.Sights.{entity_flow}
 use Rattle.seam_ones.specs.Ones.{real_in}
-use Rattle.seam_between.specs.Between.{next_from, IsBetweenRounds, MayBeMade}
-use Rattle.seam_between.proofs.Making.{AreOthers, middle}
+use Rattle.seam_rounds.specs.Between.{next_from, IsBetweenRounds, MayBeMade}
+use Rattle.seam_rounds.proofs.Making.{AreOthers, middle}
 use Rattle.seam_base_rounds.specs.Parts.{next_to}
 use Rattle.seam_legal.specs.Going.{frame_of, base_node, IsHeld, GoesWith}
 use Rattle.seam_legal.proofs.Origins.{IsCreate, RealFrom, was, made, PartFrom, had, comes}

@@ -11,13 +11,13 @@ use Rattle.seam_transcript.specs.Book.{Book, entries, created_as, joins, was_dea
 use Rattle.seam_entity.specs.Reals.{RealView, WitnessView}
 use Rattle.seam_steps.specs.Nodes.{World, node_steps, node_has_work}
 use Rattle.seam_steps.specs.Loads.{look_loaded}
-use Rattle.seam_moves.specs.Frames.{Frame}
-use Rattle.seam_moves.specs.Sights.{entity_flow}
+use Rattle.seam_ones.specs.Frames.{Frame}
+use Rattle.seam_ones.specs.Sights.{entity_flow}
 use Rattle.seam_ones.specs.Ones.{real_in}
 use Rattle.seam_ones.proofs.Holds.{both}
-use Rattle.seam_between.specs.Between.{IsBetweenRounds}
+use Rattle.seam_rounds.specs.Between.{IsBetweenRounds}
 use Rattle.seam_base_rounds.specs.Parts.{HasPartsBetweenRounds}
-use Rattle.seam_places.specs.Places.{WasThere}
+use Rattle.seam_copies.specs.Places.{WasThere}
 use Rattle.seam_legal.specs.Going.{frame_of, GoesWith}
 use Rattle.seam_legal.proofs.Ended.{client_of, live_ended}
 use Rattle.seam_legal.proofs.Parts.{both_seen, looks_leave_part}

@@ -14,8 +14,8 @@ use Rattle.seam_entity.specs.Reals.{RealView}
 use Rattle.seam_steps.specs.Nodes.{World}
 use Rattle.seam_steps.specs.Settle.{copy_if}
 use Rattle.seam_ones.specs.Fits.{RealFits}
-use Rattle.seam_places.specs.Places.{place_of}
-use Rattle.seam_newest.specs.Copies.{present, copy_at, AreSettled}
+use Rattle.seam_copies.specs.Places.{place_of}
+use Rattle.seam_copies.specs.Copies.{present, copy_at, AreSettled}
 use Rattle.seam_rules.specs.FlatTable.{public_at}
 use Rattle.seam_rules.specs.Lines.{GhostLine}
 use Rattle.seam_rules.specs.Places.{ghost_cells}

@@ -33,13 +33,13 @@ use Rattle.seam_steps.specs.Bases.{PartView}
 use Rattle.seam_steps.specs.Holders.{holders}
 use Rattle.seam_steps.specs.Nodes.{World, node_has_work}
 use Rattle.seam_steps.specs.Loads.{loaded}
-use Rattle.seam_moves.specs.Sights.{mine, order_about, entity_flow}
+use Rattle.seam_ones.specs.Sights.{mine, order_about, entity_flow}
 use Rattle.seam_ones.specs.Ones.{real_in, reaped_by_order}
-use Rattle.seam_between.specs.Between.{next_from, IsBetweenRounds, MayBeMade, HasNoWitness, IsFitOrder, IsForReal, IsFitting}
-use Rattle.seam_between.proofs.Ready.{one_holder}
-use Rattle.seam_between.proofs.Loaded.{holds_kept, holds_made}
+use Rattle.seam_rounds.specs.Between.{next_from, IsBetweenRounds, MayBeMade, HasNoWitness, IsFitOrder, IsForReal, IsFitting}
+use Rattle.seam_rounds.proofs.Ready.{one_holder}
+use Rattle.seam_rounds.proofs.Loaded.{holds_kept, holds_made}
 use Rattle.seam_base_rounds.specs.Parts.{next_to, IsFitBaseOrder, IsForPart}
-use Rattle.seam_told.specs.Telling.{most_entities}
+use Rattle.seam_base_calls.specs.Telling.{most_entities}
 use Rattle.seam_laws.specs.Records.{MayBeGiven}
 use Rattle.seam_legal.specs.Going.{frame_of, base_node, GoesWith, HasRoomForCalls, HasRoomForRound}
 use Rattle.seam_legal.proofs.Holding.{same_holders}

@@ -17,8 +17,8 @@ use Rattle.seam_steps.specs.Nodes.{NodeView, World}
 use Rattle.seam_steps.specs.Nodes.NodeView.{Cell, Base}
 use Rattle.seam_steps.specs.Loads.{created_at, with_witness, attached, cell_round, base_round, ordered_at, loaded}
 use Rattle.seam_steps.proofs.Slots.{get-set_at}
-use Rattle.seam_between.specs.Loaded.{each, node_loaded}
-use Rattle.seam_between.proofs.Loading.{each_keeps, Any, any, loaded_is, get-each_value}
+use Rattle.seam_rounds.specs.Loaded.{each, node_loaded}
+use Rattle.seam_rounds.proofs.Loading.{each_keeps, Any, any, loaded_is, get-each_value}
 
 same_one : (g : RealView → RealView) (o : Option RealView) → one_if_real (option_map g o) ≡ one_if_real o
 same_one g None = refl

@@ -37,23 +37,23 @@ use Rattle.seam_steps.specs.Loads.{with_nodes, real_if, part_if, with_route, new
 use Rattle.seam_steps.specs.Loads.{cell_round, base_round, part_begins, order_if, ordered_at, reap_ordered_at, loaded, reaps_loaded}
 use Rattle.seam_steps.specs.Loads.{look_loaded}
 use Rattle.seam_steps.proofs.Slots.{get-set_at}
-use Rattle.seam_moves.specs.Frames.{Frame, here_at, IsInFrame}
-use Rattle.seam_moves.specs.Sights.{Has, AtCell, AtBase, order_about, order_concerns, orders_of, times, no_cell, no_base, has_of, has_none, mine}
-use Rattle.seam_moves.specs.Sights.{entity_flow}
-use Rattle.seam_moves.specs.CellMoves as move
-use Rattle.seam_moves.specs.CellMoves.{CellMoves}
-use Rattle.seam_moves.specs.BaseMoves as base_move
-use Rattle.seam_moves.specs.BaseMoves.{BaseMoves, updated}
-use Rattle.seam_moves.specs.Moves.{Moves, at_a_cell, at_a_base}
-use Rattle.seam_moves.proofs.Classify.{event_moves, frame_happens}
+use Rattle.seam_ones.specs.Frames.{Frame, here_at, IsInFrame}
+use Rattle.seam_ones.specs.Sights.{Has, AtCell, AtBase, order_about, order_concerns, orders_of, times, no_cell, no_base, has_of, has_none, mine}
+use Rattle.seam_ones.specs.Sights.{entity_flow}
+use Rattle.seam_ones.specs.CellMoves as move
+use Rattle.seam_ones.specs.CellMoves.{CellMoves}
+use Rattle.seam_ones.specs.BaseMoves as base_move
+use Rattle.seam_ones.specs.BaseMoves.{BaseMoves, updated}
+use Rattle.seam_ones.specs.Moves.{Moves, at_a_cell, at_a_base}
+use Rattle.seam_ones.proofs.Classify.{event_moves, frame_happens}
 use Rattle.seam_ones.proofs.ExampleMet.{slots}
 use Rattle.seam_ones.proofs.Sparing.{items_all}
-use Rattle.seam_between.specs.Between.{IsNew}
-use Rattle.seam_between.specs.Loaded.{each, node_loaded}
-use Rattle.seam_between.proofs.Loading.{each_keeps, Any, any, nodes_after, loaded_is, get-each_value}
-use Rattle.seam_once.proofs.Quieting.{neither, none_left}
-use Rattle.seam_between.proofs.Staying.{other_set}
-use Rattle.seam_between.proofs.Making.{AreOthers}
+use Rattle.seam_rounds.specs.Between.{IsNew}
+use Rattle.seam_rounds.specs.Loaded.{each, node_loaded}
+use Rattle.seam_rounds.proofs.Loading.{each_keeps, Any, any, nodes_after, loaded_is, get-each_value}
+use Rattle.seam_ones.proofs.Quieting.{neither, none_left}
+use Rattle.seam_rounds.proofs.Staying.{other_set}
+use Rattle.seam_rounds.proofs.Making.{AreOthers}
 
 -- ---- nothing but ticks
 

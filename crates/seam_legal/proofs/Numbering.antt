@@ -28,10 +28,10 @@ use Rattle.seam_batches.specs.Books.{as_begun}
 use Rattle.seam_batches.specs.Bringing.{IsKnownSender, IsFitCall, calls_from, last_number, AreNumberedFrom, Brings}
 use Rattle.seam_entity.specs.Here.{cell_count}
 use Rattle.seam_entity.specs.Numbers.{limit}
-use Rattle.seam_moves.specs.Sights.{kept_if, orders_of}
-use Rattle.seam_once.specs.CellTurns.{from_sender, numbered_from, cell_order_from}
-use Rattle.seam_between.specs.Between.{order_in, cell_call_from, AreNumbered}
-use Rattle.seam_between.specs.Between as core
+use Rattle.seam_ones.specs.Sights.{kept_if, orders_of}
+use Rattle.seam_ones.specs.CellTurns.{from_sender, numbered_from, cell_order_from}
+use Rattle.seam_rounds.specs.Between.{order_in, cell_call_from, AreNumbered}
+use Rattle.seam_rounds.specs.Between as core
 use Rattle.seam_base_calls.specs.PartMoves.{base_call_of}
 use Rattle.seam_base_rounds.specs.Parts.{base_calls_of, AreBaseNumbered}
 use Rattle.seam_legal.specs.Going.{frame_of, HasRoomForCalls}

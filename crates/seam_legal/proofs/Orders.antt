@@ -21,8 +21,8 @@ use Rattle.seam_transcript.specs.declared.verdict.Entry.TheVariants as entry
 use Rattle.seam_accept.specs.Batches.{node_of, passes_to, ordered}
 use Rattle.seam_accept.proofs.Books.{both}
 use Rattle.seam_batches.specs.Bringing.{calls_from}
-use Rattle.seam_moves.specs.Sights.{kept_if, order_concerns, orders_of}
-use Rattle.seam_between.specs.Between.{order_in}
+use Rattle.seam_ones.specs.Sights.{kept_if, order_concerns, orders_of}
+use Rattle.seam_rounds.specs.Between.{order_in}
 
 -- the call is one of the sender of that place to the part
 abbrev pub is_chosen : Part → ℕ → ℕ → CallData → Bool

@@ -12,14 +12,14 @@ use Rattle.seam_entity.specs.Executing.{created, real_begins}
 use Rattle.seam_steps.specs.Bases.{PartView, ProxyView}
 use Rattle.seam_steps.specs.Nodes.{NodeView, World}
 use Rattle.seam_steps.specs.Loads.{new_part, part_begins, loaded}
-use Rattle.seam_moves.specs.Frames.{Frame, here_at}
-use Rattle.seam_moves.specs.Sights.{has_of, has_none, entity_flow}
+use Rattle.seam_ones.specs.Frames.{Frame, here_at}
+use Rattle.seam_ones.specs.Sights.{has_of, has_none, entity_flow}
 use Rattle.seam_ones.specs.Ones.{real_in, reaped_by_order}
-use Rattle.seam_between.specs.Between.{created_entity, MayBeMade, IsBetweenRounds}
-use Rattle.seam_between.specs.Loaded.{node_loaded}
-use Rattle.seam_between.proofs.Staying.{Kept}
-use Rattle.seam_between.proofs.Making.{AreOthers, Creation, nowhere, once, creation_of, middle, until, node_made, node_after}
-use Rattle.seam_between.proofs.Loaded.{slot_is, real_was}
+use Rattle.seam_rounds.specs.Between.{created_entity, MayBeMade, IsBetweenRounds}
+use Rattle.seam_rounds.specs.Loaded.{node_loaded}
+use Rattle.seam_rounds.proofs.Staying.{Kept}
+use Rattle.seam_rounds.proofs.Making.{AreOthers, Creation, nowhere, once, creation_of, middle, until, node_made, node_after}
+use Rattle.seam_rounds.proofs.Loaded.{slot_is, real_was}
 use Rattle.seam_base_calls.specs.BaseTurns.{home_of}
 use Rattle.seam_base_rounds.proofs.PartLoads.{SamePart, part_stays, part_comes}
 

@@ -21,14 +21,14 @@ use Rattle.seam_steps.specs.Bases.{PartView, ProxyView}
 use Rattle.seam_steps.specs.Nodes.{NodeView, World, node_steps, node_has_work}
 use Rattle.seam_steps.specs.Loads.{with_nodes, proxy_begins, part_begins, with_proxy, ordered_at, reap_ordered_at, loaded}
 use Rattle.seam_steps.specs.Loads.{reaps_loaded, look_loaded}
-use Rattle.seam_moves.specs.Frames.{Frame, here_at, IsInFrame}
-use Rattle.seam_moves.specs.Sights.{has_of, has_none, entity_flow}
+use Rattle.seam_ones.specs.Frames.{Frame, here_at, IsInFrame}
+use Rattle.seam_ones.specs.Sights.{has_of, has_none, entity_flow}
 use Rattle.seam_ones.specs.Ones.{IsSpared}
-use Rattle.seam_between.specs.Between.{IsBetweenRounds}
-use Rattle.seam_between.specs.Loaded.{each, node_loaded}
-use Rattle.seam_between.proofs.Loading.{nodes_after}
-use Rattle.seam_between.proofs.Making.{AreOthers}
-use Rattle.seam_between.proofs.Loaded.{slot_is}
+use Rattle.seam_rounds.specs.Between.{IsBetweenRounds}
+use Rattle.seam_rounds.specs.Loaded.{each, node_loaded}
+use Rattle.seam_rounds.proofs.Loading.{nodes_after}
+use Rattle.seam_rounds.proofs.Making.{AreOthers}
+use Rattle.seam_rounds.proofs.Loaded.{slot_is}
 use Rattle.seam_rounds.proofs.Giving.{look_framed, look_given}
 use Rattle.seam_base_calls.specs.BaseTurns.{home_of}
 use Rattle.seam_base_calls.proofs.AloneRuns.{bare_leads}
@@ -38,8 +38,8 @@ use Rattle.seam_base_rounds.proofs.Loaded.{same_some}
 use Rattle.seam_base_rounds.proofs.Still.{is_still, still_leads}
 use Rattle.seam_base_rounds.proofs.Calms.{reaps_part}
 use Rattle.seam_base_rounds.proofs.Joining.{is_among, joined_if, peopled, part_joined, part_peopled, bare_peopled}
-use Rattle.seam_clients.specs.BaseLines.{ShowsItsPart}
-use Rattle.seam_clients.proofs.BaseLines.{shows_its_part}
+use Rattle.seam_shown.specs.BaseLines.{ShowsItsPart}
+use Rattle.seam_shown.proofs.BaseLines.{shows_its_part}
 
 abbrev pub tick : ℕ × Order
 tick = (cell_count, order.Tick)

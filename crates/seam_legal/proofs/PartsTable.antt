@@ -29,8 +29,8 @@ use Rattle.seam_steps.specs.Bases.{PartView}
 use Rattle.seam_steps.specs.Holders.{holders}
 use Rattle.seam_steps.specs.Loads.{loaded}
 use Rattle.seam_steps.specs.Nodes.{World}
-use Rattle.seam_moves.specs.Frames.{here_at}
-use Rattle.seam_moves.specs.Sights.{entity_flow}
+use Rattle.seam_ones.specs.Frames.{here_at}
+use Rattle.seam_ones.specs.Sights.{entity_flow}
 use Rattle.seam_rounds.proofs.Shape.{Somewhere, Nowhere}
 use Rattle.seam_replica.specs.Clients.{ClientReplica}
 use Rattle.seam_laws.specs.Records.{KeepsRecords, MayBeGiven}

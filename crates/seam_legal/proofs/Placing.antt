@@ -17,7 +17,7 @@ use Rattle.seam_transcript.specs.FlatTable.{first_state, flat}
 use Rattle.seam_transcript.specs.declared.verdict.Entry.{Entry}
 use Rattle.seam_transcript.specs.declared.verdict.Entry.TheVariants as entry
 use Rattle.seam_transcript.proofs.BookEntries.{differ}
-use Rattle.seam_between.proofs.Making.{AreOthers}
+use Rattle.seam_rounds.proofs.Making.{AreOthers}
 use Rattle.std.proofs.lemmas.Option.{none-some}
 use Rattle.seam_defs.specs.declared.flags.Part.{Part}
 use Rattle.seam_call.specs.declared.order.Batch.{Batch}
@@ -32,10 +32,10 @@ use Rattle.seam_entity.specs.Reals.{RealView}
 use Rattle.seam_steps.specs.Holders.{holders}
 use Rattle.seam_steps.specs.Nodes.{World}
 use Rattle.seam_steps.specs.Loads.{loaded}
-use Rattle.seam_moves.specs.Sights.{entity_flow}
+use Rattle.seam_ones.specs.Sights.{entity_flow}
 use Rattle.seam_ones.specs.Ones.{real_in}
-use Rattle.seam_between.proofs.Making.{middle}
-use Rattle.seam_places.specs.Places.{positions_after, path_of, place_of, first_place, made_real, IsRightPlace}
+use Rattle.seam_rounds.proofs.Making.{middle}
+use Rattle.seam_copies.specs.Places.{positions_after, path_of, place_of, first_place, made_real, IsRightPlace}
 use Rattle.seam_replica.specs.Clients.{ClientReplica}
 use Rattle.seam_laws.specs.Records.{KeepsRecords, MayBeGiven}
 use Rattle.seam_rules.specs.Standing.{Standing}

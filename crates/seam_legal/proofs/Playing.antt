@@ -15,21 +15,21 @@ use Rattle.seam_entity.specs.Reals.{RealView}
 use Rattle.seam_steps.specs.Holders.{holders}
 use Rattle.seam_steps.specs.Nodes.{World}
 use Rattle.seam_steps.specs.Loads.{loaded}
-use Rattle.seam_moves.specs.Frames.{Frame}
-use Rattle.seam_moves.specs.Sights.{entity_flow}
+use Rattle.seam_ones.specs.Frames.{Frame}
+use Rattle.seam_ones.specs.Sights.{entity_flow}
 use Rattle.seam_ones.specs.Ones.{real_in, real_of, IsOne}
 use Rattle.seam_ones.proofs.Counting.{counted_one}
-use Rattle.seam_once.specs.CellTurns.{desk_for, as_sender, real_desk}
-use Rattle.seam_between.specs.Between.{framed, calls_of, next_from}
-use Rattle.seam_between.proofs.Framing.{in_frame}
-use Rattle.seam_between.proofs.Going.{spared_loaded}
-use Rattle.seam_between.proofs.Loaded.{no_mail}
-use Rattle.seam_between.proofs.Ready.{Home, quiet_home}
+use Rattle.seam_ones.specs.CellTurns.{desk_for, as_sender, real_desk}
+use Rattle.seam_rounds.specs.Between.{framed, calls_of, next_from}
+use Rattle.seam_rounds.proofs.Framing.{in_frame}
+use Rattle.seam_rounds.proofs.Going.{spared_loaded}
+use Rattle.seam_rounds.proofs.Loaded.{no_mail}
+use Rattle.seam_rounds.proofs.Ready.{Home, quiet_home}
 use Rattle.seam_base_calls.specs.BaseTurns.{home_of, as_base_sender, part_desk}
 use Rattle.seam_base_rounds.specs.Parts.{next_to, base_calls_of}
 use Rattle.seam_base_rounds.specs.Parts.{HasSettledPart}
-use Rattle.seam_places.specs.Places.{WasThere, GoesThroughRound}
-use Rattle.seam_places.proofs.Ends.{looks_leave, reaps_leave}
+use Rattle.seam_copies.specs.Places.{WasThere, GoesThroughRound}
+use Rattle.seam_copies.proofs.Ends.{looks_leave, reaps_leave}
 use Rattle.seam_replica.specs.Clients.{ClientReplica}
 use Rattle.seam_legal.proofs.Parts.{IsButClient, looks_leave_part, client_stays, both_seen}
 use Rattle.seam_laws.specs.Calls.{ObeysLaws, EndsRightly}

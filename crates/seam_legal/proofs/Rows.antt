@@ -32,16 +32,16 @@ use Rattle.seam_transcript.proofs.InOrderLemmas.{found_entity}
 use Rattle.seam_transcript.proofs.Lists.{contains_first, contains_later, contains_cases}
 use Rattle.seam_entity.specs.Reals.{RealView}
 use Rattle.seam_steps.specs.Nodes.{World}
-use Rattle.seam_moves.specs.Frames.{here_at}
-use Rattle.seam_between.specs.Between.{IsBetweenRounds}
+use Rattle.seam_ones.specs.Frames.{here_at}
+use Rattle.seam_rounds.specs.Between.{IsBetweenRounds}
 use Rattle.seam_ones.proofs.Holds.{both as both_hold}
 use Rattle.seam_rounds.proofs.Shape.{Somewhere, Nowhere, search_real}
 use Rattle.seam_known.proofs.Sorted.{both, tied_same, find_entries}
 use Rattle.seam_replica.specs.Looks.{Row}
-use Rattle.seam_looks.specs.Tables.{rows_at, row_in, row_of_real}
-use Rattle.seam_looks.specs.Tables as world
-use Rattle.seam_looks.proofs.Rows.{found_in}
-use Rattle.seam_looks.proofs.OneLook.{row_there, row_nowhere}
+use Rattle.seam_shown.specs.Tables.{rows_at, row_in, row_of_real}
+use Rattle.seam_shown.specs.Tables as world
+use Rattle.seam_shown.proofs.Rows.{found_in}
+use Rattle.seam_shown.proofs.OneLook.{row_there, row_nowhere}
 use Rattle.seam_rules.specs.FlatTable.{properties, has_changed_at, public_at, row_after, rows_of}
 use Rattle.seam_rules.proofs.Public.{public_more}
 use Rattle.seam_legal.specs.Going.{frame_of, GoesWith}

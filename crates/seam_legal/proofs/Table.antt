@@ -31,14 +31,14 @@ use Rattle.seam_entity.specs.Reals.{RealView}
 use Rattle.seam_entity.specs.Executing.{real_begins}
 use Rattle.seam_steps.specs.Nodes.{World}
 use Rattle.seam_steps.specs.Loads.{loaded}
-use Rattle.seam_moves.specs.Sights.{entity_flow}
+use Rattle.seam_ones.specs.Sights.{entity_flow}
 use Rattle.seam_ones.specs.Ones.{real_in, real_of, OneFrom}
 use Rattle.seam_ones.specs.Replays.{Account, account_of, after_calls}
 use Rattle.seam_steps.specs.Holders.{holders}
-use Rattle.seam_between.proofs.Making.{middle}
-use Rattle.seam_between.proofs.Loaded.{real_loaded}
-use Rattle.seam_between.proofs.Going.{settled_loaded}
-use Rattle.seam_places.specs.Places.{made_real, BeginsAt}
+use Rattle.seam_rounds.proofs.Making.{middle}
+use Rattle.seam_rounds.proofs.Loaded.{real_loaded}
+use Rattle.seam_rounds.proofs.Going.{settled_loaded}
+use Rattle.seam_copies.specs.Places.{made_real, BeginsAt}
 use Rattle.seam_replica.specs.Clients.{ClientReplica}
 use Rattle.seam_laws.specs.Calls.{ObeysLaws}
 use Rattle.seam_laws.specs.Records.{KeepsRecords, MayBeGiven}

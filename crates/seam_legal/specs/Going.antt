@@ -11,10 +11,10 @@ use Rattle.seam_entity.specs.Here.{cell_count}
 use Rattle.seam_entity.specs.Reals.{RealView}
 use Rattle.seam_steps.specs.Bases.{PartView}
 use Rattle.seam_steps.specs.Nodes.{World}
-use Rattle.seam_moves.specs.Frames.{Frame}
-use Rattle.seam_moves.specs.Sights.{entity_flow}
+use Rattle.seam_ones.specs.Frames.{Frame}
+use Rattle.seam_ones.specs.Sights.{entity_flow}
 use Rattle.seam_ones.specs.Ones.{real_in}
-use Rattle.seam_between.specs.Between.{next_from, numbers_of, IsNew}
+use Rattle.seam_rounds.specs.Between.{next_from, numbers_of, IsNew}
 use Rattle.seam_base_rounds.specs.Parts.{next_to, lines_of}
 
 -- what the nodes of a world of the header go by, with this tree

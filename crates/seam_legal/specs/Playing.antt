@@ -14,9 +14,9 @@ use Rattle.seam_entity.specs.Reals.{RealView}
 use Rattle.seam_steps.specs.Bases.{PartView}
 use Rattle.seam_steps.specs.Loads.{loaded}
 use Rattle.seam_steps.specs.Nodes.{World, node_has_work}
-use Rattle.seam_moves.specs.Sights.{entity_flow}
+use Rattle.seam_ones.specs.Sights.{entity_flow}
 use Rattle.seam_ones.specs.Ones.{real_in}
-use Rattle.seam_places.specs.Places.{GoesThroughRound}
+use Rattle.seam_copies.specs.Places.{GoesThroughRound}
 use Rattle.seam_replica.specs.Clients.{ClientReplica}
 use Rattle.seam_laws.specs.Records.{KeepsRecords}
 use Rattle.seam_legal.specs.Going.{frame_of, base_node, GoesWith, HasRoomForCalls, HasRoomForRound}

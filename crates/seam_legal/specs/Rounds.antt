@@ -16,7 +16,7 @@ use Rattle.seam_entity.specs.Here.{cell_numbers}
 use Rattle.seam_entity.specs.Reals.{RealView}
 use Rattle.seam_steps.specs.Bases.{PartView}
 use Rattle.seam_steps.specs.Nodes.{World}
-use Rattle.seam_moves.specs.Sights.{entity_flow}
+use Rattle.seam_ones.specs.Sights.{entity_flow}
 use Rattle.seam_ones.specs.Ones.{real_in}
 use Rattle.seam_legal.specs.Going.{base_node}
 

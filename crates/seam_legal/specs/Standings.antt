@@ -8,18 +8,18 @@ use Rattle.seam_entity.specs.Here.{cell_numbers}
 use Rattle.seam_entity.specs.Reals.{RealView}
 use Rattle.seam_steps.specs.Bases.{PartView}
 use Rattle.seam_steps.specs.Nodes.{World}
-use Rattle.seam_moves.specs.Sights.{entity_flow}
+use Rattle.seam_ones.specs.Sights.{entity_flow}
 use Rattle.seam_ones.specs.Ones.{real_in}
-use Rattle.seam_places.specs.Places.{place_of, GoesThroughRound}
+use Rattle.seam_copies.specs.Places.{place_of, GoesThroughRound}
 use Rattle.seam_tree.specs.Division.{Division}
 use Rattle.seam_toml.specs.declared.header.Header.{Header}
 use Rattle.seam_transcript.specs.Book.{Book}
 use Rattle.seam_accept.specs.Batches.{batch_of}
-use Rattle.seam_between.specs.Between.{framed}
+use Rattle.seam_rounds.specs.Between.{framed}
 use Rattle.seam_replica.specs.Clients.{ClientReplica}
-use Rattle.seam_clients.specs.Clients.{clients_loaded, clients_shown}
+use Rattle.seam_shown.specs.Clients.{clients_loaded, clients_shown}
 use Rattle.seam_laws.specs.Looks.{clients_looked}
-use Rattle.seam_newest.specs.Copies.{copy_at}
+use Rattle.seam_copies.specs.Copies.{copy_at}
 use Rattle.seam_rules.specs.Lines.{GhostLine}
 use Rattle.seam_legal.specs.Going.{frame_of}
 

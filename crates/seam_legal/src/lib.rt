@@ -31,20 +31,20 @@ ghost use Rattle.seam_steps.specs.Loads.{opened, loaded};
 ghost use Rattle.seam_steps.specs.Bases.{PartView};
 ghost use Rattle.seam_steps.specs.Nodes.{World, node_steps, node_has_work};
 ghost use Rattle.seam_rounds.specs.Rounds.{AreReapable};
-ghost use Rattle.seam_places.specs.Places.{GoesThroughRound};
-ghost use Rattle.seam_newest.specs.Copies.{AreCopiesBetweenRounds};
+ghost use Rattle.seam_copies.specs.Places.{GoesThroughRound};
+ghost use Rattle.seam_copies.specs.Copies.{AreCopiesBetweenRounds};
 ghost use Rattle.seam_replica.specs.Clients.{ClientReplica};
 ghost use Rattle.seam_replica.specs.Looks.{one_look};
 ghost use Rattle.seam_laws.specs.Looks.{shown_to};
 ghost use Rattle.seam_laws.specs.Records.{KeepsRecords, MayBeGiven};
 ghost use Rattle.seam_entity.specs.Reals.{RealView};
-ghost use Rattle.seam_moves.specs.Sights.{entity_flow};
+ghost use Rattle.seam_ones.specs.Sights.{entity_flow};
 ghost use Rattle.seam_ones.specs.Ones.{real_in};
 ghost use Rattle.seam_rules.specs.Standing.{Standing};
 ghost use Rattle.seam_rules.specs.Places.{HasPlace};
 ghost use Rattle.seam_rules.specs.Round.{home_line, base_line, ghost_lines};
-ghost use Rattle.seam_between.specs.Between.{IsBetweenRounds};
-ghost use Rattle.seam_looks.specs.Tables as world;
+ghost use Rattle.seam_rounds.specs.Between.{IsBetweenRounds};
+ghost use Rattle.seam_shown.specs.Tables as world;
 ghost use Rattle.seam_rules.specs.FlatTable.{rows_of};
 ghost use Rattle.seam_legal.specs.Standings.{AreInPlace, home_read, base_read, ghosts_read, clients_called, clients_ended};
 ghost use Rattle.seam_legal.specs.Rounds.{done_in, with_done, IsDoneOn, AreInTable, ArePartsInTable, BeginsReal, BeginsPart};
@@ -139,8 +139,8 @@ pub fn reals_are_those_of_the_flat_table()
 {
     seam_batches::lines_bring_what_fits();
     seam_batches::uncreated_numbers_are_untouched();
-    seam_places::a_load_begins_at_former_places();
-    seam_places::the_last_phases_leave_places();
+    seam_copies::a_load_begins_at_former_places();
+    seam_copies::the_last_phases_leave_places();
     seam_laws::calls_obey_the_laws();
     seam_laws::reaps_obey_the_laws();
     what_lines_bring_fits();
@@ -164,7 +164,7 @@ pub fn base_parts_are_those_of_the_flat_table()
     seam_batches::lines_bring_what_fits();
     seam_batches::uncreated_numbers_are_untouched();
     seam_base_rounds::a_base_part_of_a_loaded_world_is_ready();
-    seam_places::the_last_phases_leave_places();
+    seam_copies::the_last_phases_leave_places();
     seam_laws::calls_obey_the_laws();
     seam_laws::reaps_obey_the_laws();
     what_lines_bring_fits();
@@ -182,8 +182,8 @@ pub fn places_are_those_that_the_rules_allow()
 {
     seam_batches::lines_bring_what_fits();
     seam_batches::uncreated_numbers_are_untouched();
-    seam_places::a_round_leaves_right_places();
-    seam_places::the_last_phases_leave_places();
+    seam_copies::a_round_leaves_right_places();
+    seam_copies::the_last_phases_leave_places();
     seam_laws::calls_obey_the_laws();
     seam_laws::reaps_obey_the_laws();
     what_lines_bring_fits();
@@ -231,10 +231,10 @@ pub fn the_table_of_a_world_is_that_of_the_rules()
         one_look (clients_ended h t clients w b v round e) e (rows_of h (with_done orders (done_in h round.called)) live) ≡ [] }
 {
     seam_defs::laws::others_see_the_ghost();
-    seam_looks::the_table_has_each_real();
-    seam_places::the_last_phases_leave_places();
+    seam_shown::the_table_has_each_real();
+    seam_copies::the_last_phases_leave_places();
     seam_shown::a_further_look_shows_nothing();
-    seam_clients::clients_go_from_record_to_record();
+    seam_shown::clients_go_from_record_to_record();
     seam_laws::calls_obey_the_laws();
     seam_laws::reaps_obey_the_laws();
     seam_laws::looks_obey_the_laws();

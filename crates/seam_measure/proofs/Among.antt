@@ -35,8 +35,8 @@ use Rattle.seam_steps.specs.Nodes.{NodeView, World, node_steps, node_has_work}
 use Rattle.seam_steps.specs.Nodes.NodeView.{Cell, Base}
 use Rattle.seam_steps.specs.Valid.{IsCell, IsNode}
 use Rattle.seam_steps.proofs.Slots.{slot_stepped}
-use Rattle.seam_moves.specs.Frames.{Frame, IsInFrame}
-use Rattle.seam_moves.proofs.Classify.{frame_happens}
+use Rattle.seam_ones.specs.Frames.{Frame, IsInFrame}
+use Rattle.seam_ones.proofs.Classify.{frame_happens}
 use Rattle.seam_measure.specs.Looking.{LooksAmong, Always}
 use Rattle.seam_measure.proofs.AmongSlots.{SlotOk, LetterOk, SentOk, StepOk, unless_ok, message_ok, survey_ok, ready_ok, look_ok}
 use Rattle.seam_measure.proofs.AmongSlots.{all_mapped}

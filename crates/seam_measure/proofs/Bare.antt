@@ -17,10 +17,10 @@ use Rattle.seam_entity.specs.declared.message.Msg.TheVariants.{Call, BaseCall, H
 use Rattle.seam_entity.specs.Here.{Here}
 use Rattle.seam_steps.specs.Bases.{PartView}
 use Rattle.seam_steps.specs.Nodes.{World, node_steps, node_has_work}
-use Rattle.seam_moves.specs.Frames.{Frame, here_at, IsInFrame}
-use Rattle.seam_moves.specs.Sights.{Has, AtBase, entity_flow}
-use Rattle.seam_moves.specs.Moves.{Moves, at_a_cell, at_a_base}
-use Rattle.seam_moves.proofs.Classify.{event_moves, frame_happens}
+use Rattle.seam_ones.specs.Frames.{Frame, here_at, IsInFrame}
+use Rattle.seam_ones.specs.Sights.{Has, AtBase, entity_flow}
+use Rattle.seam_ones.specs.Moves.{Moves, at_a_cell, at_a_base}
+use Rattle.seam_ones.proofs.Classify.{event_moves, frame_happens}
 use Rattle.seam_ones.specs.Burdens.{held_in}
 use Rattle.seam_ones.specs.Ones.{real_in}
 use Rattle.seam_ones.proofs.HeldCounts.{taken_counts}
@@ -30,7 +30,7 @@ use Rattle.seam_base_calls.specs.PartMoves as part
 use Rattle.seam_base_calls.specs.PartMoves.{PartMoves}
 use Rattle.seam_base_calls.specs.WitnessMoves as witness
 use Rattle.seam_base_calls.specs.WitnessMoves.{WitnessMoves}
-use Rattle.seam_strays.proofs.Unknown.{IsTickOrder, IsTick, IsUnknown, unknown_leads}
+use Rattle.seam_copies.proofs.Unknown.{IsTickOrder, IsTick, IsUnknown, unknown_leads}
 use Rattle.seam_base_calls.specs.Reaps.{HasNoBaseCalls}
 use Rattle.seam_base_calls.specs.Clients.{HasToldAtMost, HasNoLooks}
 use Rattle.seam_base_calls.proofs.BaseSilent.{sees_no_update, base_silent}

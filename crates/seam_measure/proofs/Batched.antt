@@ -22,18 +22,18 @@ use Rattle.seam_steps.specs.CellCases.{current_to}
 use Rattle.seam_steps.specs.BaseCases.{tick_to}
 use Rattle.seam_steps.specs.Nodes.{NodeView, World, node_steps, node_has_work}
 use Rattle.seam_steps.specs.Nodes.NodeView.{Cell, Base}
-use Rattle.seam_moves.specs.Frames.{Frame, here_at, IsInFrame}
-use Rattle.seam_moves.specs.Sights.{Has, mine, order_concerns, orders_of, has_of, has_none, entity_flow}
-use Rattle.seam_moves.specs.CellMoves as move
-use Rattle.seam_moves.specs.CellMoves.{CellMoves}
-use Rattle.seam_moves.specs.BaseMoves as base_move
-use Rattle.seam_moves.specs.BaseMoves.{BaseMoves}
-use Rattle.seam_moves.specs.Moves.{Moves, at_a_cell, at_a_base}
-use Rattle.seam_moves.proofs.Classify.{event_moves, frame_happens}
+use Rattle.seam_ones.specs.Frames.{Frame, here_at, IsInFrame}
+use Rattle.seam_ones.specs.Sights.{Has, mine, order_concerns, orders_of, has_of, has_none, entity_flow}
+use Rattle.seam_ones.specs.CellMoves as move
+use Rattle.seam_ones.specs.CellMoves.{CellMoves}
+use Rattle.seam_ones.specs.BaseMoves as base_move
+use Rattle.seam_ones.specs.BaseMoves.{BaseMoves}
+use Rattle.seam_ones.specs.Moves.{Moves, at_a_cell, at_a_base}
+use Rattle.seam_ones.proofs.Classify.{event_moves, frame_happens}
 use Rattle.seam_ones.proofs.Plain.{SeesNoGhost, ghosts_silent, drops_silent, mapped_silent, numbered_silent}
 use Rattle.seam_ones.proofs.Sparing.{items_all}
-use Rattle.seam_strays.proofs.Strays.{seen_first}
-use Rattle.seam_ways.proofs.WayMoves.{call_in}
+use Rattle.seam_copies.proofs.Strays.{seen_first}
+use Rattle.seam_ones.proofs.WayMoves.{call_in}
 use Rattle.seam_measure.proofs.Ordered.{OrdersAre, orders_lead}
 
 no_calls : SeesNoGhost call_in

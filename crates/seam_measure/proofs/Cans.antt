@@ -23,8 +23,8 @@ use Rattle.seam_steps.specs.BaseCases.{stray_order, proxy_is_ready, may_show}
 use Rattle.seam_steps.specs.BaseCases as base
 use Rattle.seam_steps.specs.Nodes.{NodeView, World}
 use Rattle.seam_steps.specs.Nodes.NodeView.{Cell, Base}
-use Rattle.seam_moves.specs.Frames.{Frame, IsInFrame}
-use Rattle.seam_moves.specs.Sights.{mine, times, has_of, has_none}
+use Rattle.seam_ones.specs.Frames.{Frame, IsInFrame}
+use Rattle.seam_ones.specs.Sights.{mine, times, has_of, has_none}
 use Rattle.seam_base_calls.specs.Clients.{tick_in, HasNoLooks}
 use Rattle.seam_measure.specs.Weights.{Sizes, part_weight}
 use Rattle.seam_measure.specs.Events.{BaseCan, NodeCan}

@@ -15,8 +15,8 @@ use Rattle.seam_steps.specs.Bases.{BaseView}
 use Rattle.seam_steps.specs.Nodes.{NodeView, World}
 use Rattle.seam_steps.specs.Nodes.NodeView.{Cell, Base}
 use Rattle.seam_steps.specs.Loads.{order_if, ordered_at, with_order, with_orders, with_nodes, reap_ordered_at, with_reap, reaps_loaded}
-use Rattle.seam_moves.specs.Frames.{Frame, here_at, IsAt, IsBaseAt}
-use Rattle.seam_between.proofs.Loading.{node_there}
+use Rattle.seam_ones.specs.Frames.{Frame, here_at, IsAt, IsBaseAt}
+use Rattle.seam_rounds.proofs.Loading.{node_there}
 use Rattle.seam_measure.specs.Weights.{Sizes, order_weight, node_weight, world_weight}
 
 -- where g is at most h at each node, but at most a more at the node `home`, so is the sum

@@ -33,20 +33,20 @@ use Rattle.seam_steps.specs.CellCases.{current_to}
 use Rattle.seam_steps.specs.Looks.{shown_of, looks_with}
 use Rattle.seam_steps.specs.BaseCases.{tick_to}
 use Rattle.seam_steps.specs.Nodes.{NodeView, World, node_steps, node_has_work}
-use Rattle.seam_moves.specs.Frames.{Frame, here_at, IsInFrame}
-use Rattle.seam_moves.specs.Sights.{Has, AtCell, AtBase, concerns, kept_if, mine, concerning, has_of, has_none, entity_flow}
-use Rattle.seam_moves.specs.CellMoves as move
-use Rattle.seam_moves.specs.CellMoves.{unlisted_if, Does, Acts, surveys, calls, readies, CellMoves}
-use Rattle.seam_moves.specs.BaseMoves as base_move
-use Rattle.seam_moves.specs.BaseMoves.{BaseMoves}
-use Rattle.seam_moves.specs.Moves.{Moves, at_a_cell, at_a_base}
-use Rattle.seam_moves.proofs.Classify.{node_laws, node_moves, frame_happens}
+use Rattle.seam_ones.specs.Frames.{Frame, here_at, IsInFrame}
+use Rattle.seam_ones.specs.Sights.{Has, AtCell, AtBase, concerns, kept_if, mine, concerning, has_of, has_none, entity_flow}
+use Rattle.seam_ones.specs.CellMoves as move
+use Rattle.seam_ones.specs.CellMoves.{unlisted_if, Does, Acts, surveys, calls, readies, CellMoves}
+use Rattle.seam_ones.specs.BaseMoves as base_move
+use Rattle.seam_ones.specs.BaseMoves.{BaseMoves}
+use Rattle.seam_ones.specs.Moves.{Moves, at_a_cell, at_a_base}
+use Rattle.seam_ones.proofs.Classify.{node_laws, node_moves, frame_happens}
 use Rattle.seam_ones.specs.Burdens.{held_in}
 use Rattle.seam_ones.specs.Ones.{real_in, IsSpared}
 use Rattle.seam_ones.proofs.Plain.{SeesNoGhost, ghosts_silent, mapped_silent, numbered_silent}
 use Rattle.seam_ones.proofs.HeldCounts.{turn_counts, early_counts, taken_counts}
 use Rattle.seam_ones.proofs.OneReal.{calm_of, spared_happens}
-use Rattle.seam_ranks.specs.Passes.{hands_over, hand_overs}
+use Rattle.seam_measure.specs.Passes.{hands_over, hand_overs}
 use Rattle.seam_measure.specs.Phases.{one_if_cell}
 
 -- eyes that see what may bring a settling

@@ -1,3 +1,11 @@
+pub mod Ranking
+pub mod Climbing
+mod CallSends
+mod Following
+mod Alone
+mod Passing
+pub mod HandedOver
+mod ExampleCounts
 mod Counts
 mod SlotWeights
 mod CellWeights

@@ -24,8 +24,8 @@ use Rattle.seam_steps.specs.Nodes.NodeView.{Cell, Base}
 use Rattle.seam_steps.specs.Loads.{real_if, part_if, with_route, new_part, created_at, with_proxy, attached, cell_round, base_round}
 use Rattle.seam_steps.specs.Loads.{new_proxy, proxy_begins, part_begins, order_if, ordered_at}
 use Rattle.seam_ones.specs.Burdens.{held_of}
-use Rattle.seam_between.specs.Loaded.{each, made, node_loaded}
-use Rattle.seam_between.proofs.Loading.{each_keeps, Any, any, set_keeps, get-each_value}
+use Rattle.seam_rounds.specs.Loaded.{each, made, node_loaded}
+use Rattle.seam_rounds.proofs.Loading.{each_keeps, Any, any, set_keeps, get-each_value}
 use Rattle.seam_measure.specs.Weights.{proxy_weight, part_weight}
 use Rattle.seam_measure.proofs.BaseWeights.{line_weighs}
 use Rattle.seam_measure.proofs.QuietWeights.{map_weighs_none, idle_looks, idle_base}

@@ -28,15 +28,15 @@ use Rattle.seam_steps.specs.BaseCases.{stray_order}
 use Rattle.seam_steps.specs.Nodes.{NodeView, World, node_steps, node_has_work}
 use Rattle.seam_steps.specs.Nodes.NodeView.{Cell, Base}
 use Rattle.seam_steps.specs.Loads.{ordered_at, look_loaded}
-use Rattle.seam_moves.specs.Frames.{Frame, IsInFrame}
-use Rattle.seam_moves.specs.Sights.{mine, order_concerns, orders_of, has_of, has_none, entity_flow}
-use Rattle.seam_between.specs.Between.{IsBetweenRounds}
-use Rattle.seam_between.proofs.Loading.{node_there}
+use Rattle.seam_ones.specs.Frames.{Frame, IsInFrame}
+use Rattle.seam_ones.specs.Sights.{mine, order_concerns, orders_of, has_of, has_none, entity_flow}
+use Rattle.seam_rounds.specs.Between.{IsBetweenRounds}
+use Rattle.seam_rounds.proofs.Loading.{node_there}
 use Rattle.seam_rounds.proofs.Giving.{look_framed}
 use Rattle.seam_rounds.proofs.Looking.{tick}
 use Rattle.seam_rounds.proofs.Shape.{frame_leads}
-use Rattle.seam_strays.proofs.NoStrays.{look_tasks}
-use Rattle.seam_strays.proofs.Unknown.{IsTickOrder}
+use Rattle.seam_copies.proofs.NoStrays.{look_tasks}
+use Rattle.seam_copies.proofs.Unknown.{IsTickOrder}
 use Rattle.seam_base_calls.specs.PartMoves.{base_call_in, base_call_of, calls_ordered}
 use Rattle.seam_base_calls.proofs.WitnessKept.{all_weaker}
 use Rattle.seam_measure.specs.Weights.{Sizes, look_weight, tick_weight, part_weight, world_weight}

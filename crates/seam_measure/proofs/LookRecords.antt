@@ -16,10 +16,10 @@ use Rattle.seam_steps.specs.BaseCases.{proxy_is_ready, may_show}
 use Rattle.seam_steps.specs.Nodes.{World, node_steps, node_has_work}
 use Rattle.seam_steps.specs.Nodes.NodeView.{Base}
 use Rattle.seam_steps.specs.Loads.{look_loaded}
-use Rattle.seam_moves.specs.Frames.{Frame}
-use Rattle.seam_moves.specs.Sights.{has_of, has_none, entity_flow}
+use Rattle.seam_ones.specs.Frames.{Frame}
+use Rattle.seam_ones.specs.Sights.{has_of, has_none, entity_flow}
 use Rattle.seam_ones.specs.Ones.{real_in}
-use Rattle.seam_between.specs.Between.{IsBetweenRounds}
+use Rattle.seam_rounds.specs.Between.{IsBetweenRounds}
 use Rattle.seam_rounds.proofs.Shape.{Somewhere, Nowhere, search_real}
 use Rattle.seam_base_calls.specs.BaseTurns.{home_of}
 use Rattle.seam_base_calls.specs.WitnessMoves.{sent_by}

@@ -19,13 +19,13 @@ use Rattle.seam_steps.specs.Cells.{CellView}
 use Rattle.seam_steps.specs.Nodes.{NodeView, World, node_steps, node_has_work}
 use Rattle.seam_steps.specs.Nodes.NodeView.{Cell, Base}
 use Rattle.seam_steps.specs.Loads.{order_if, ordered_at, loaded, look_loaded, reap_ordered_at, reaps_loaded}
-use Rattle.seam_moves.specs.Frames.{Frame, IsInFrame}
-use Rattle.seam_moves.specs.Sights.{mine, has_of, has_none, entity_flow}
-use Rattle.seam_moves.proofs.Classify.{frame_happens}
+use Rattle.seam_ones.specs.Frames.{Frame, IsInFrame}
+use Rattle.seam_ones.specs.Sights.{mine, has_of, has_none, entity_flow}
+use Rattle.seam_ones.proofs.Classify.{frame_happens}
 use Rattle.seam_ones.specs.Ones.{real_in, real_of}
-use Rattle.seam_between.specs.Between.{IsBetweenRounds}
-use Rattle.seam_between.specs.Loaded.{each}
-use Rattle.seam_between.proofs.Loading.{node_there}
+use Rattle.seam_rounds.specs.Between.{IsBetweenRounds}
+use Rattle.seam_rounds.specs.Loaded.{each}
+use Rattle.seam_rounds.proofs.Loading.{node_there}
 use Rattle.seam_rounds.specs.Rounds.{AreReapable}
 use Rattle.seam_measure.proofs.ReapPhase as reap
 use Rattle.seam_rounds.proofs.Shape.{Somewhere, Nowhere, search_real}

@@ -16,8 +16,8 @@ use Rattle.seam_entity.specs.declared.message.Msg.{Msg}
 use Rattle.seam_steps.specs.Nodes.{NodeView, World, node_steps, node_has_work}
 use Rattle.seam_steps.specs.Nodes.NodeView.{Cell, Base}
 use Rattle.seam_steps.specs.Valid.{IsNode}
-use Rattle.seam_moves.specs.Frames.{Frame, IsAt, IsInFrame}
-use Rattle.seam_moves.proofs.Classify.{node_laws}
+use Rattle.seam_ones.specs.Frames.{Frame, IsAt, IsInFrame}
+use Rattle.seam_ones.proofs.Classify.{node_laws}
 use Rattle.seam_rounds.proofs.Shape.{frame_leads}
 use Rattle.seam_measure.specs.Weights.{Sizes, node_weight, letter_weight, world_weight}
 use Rattle.seam_measure.specs.Events.{node_passes, passes_by, is_pass, NodeCan, AllCan, all_passes}

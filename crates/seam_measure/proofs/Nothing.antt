@@ -14,18 +14,18 @@ use Rattle.seam_steps.specs.Holders.{holders}
 use Rattle.seam_steps.specs.Bases.{PartView, ProxyView}
 use Rattle.seam_steps.specs.Nodes.{World, node_steps, node_has_work}
 use Rattle.seam_steps.specs.Loads.{loaded, look_loaded}
-use Rattle.seam_moves.specs.Frames.{Frame}
-use Rattle.seam_moves.specs.Sights.{mine, has_of, has_none, entity_flow}
+use Rattle.seam_ones.specs.Frames.{Frame}
+use Rattle.seam_ones.specs.Sights.{mine, has_of, has_none, entity_flow}
 use Rattle.seam_ones.specs.Ones.{real_in}
-use Rattle.seam_between.specs.Between.{framed, IsBetweenRounds}
-use Rattle.seam_between.proofs.Going.{one_after}
-use Rattle.seam_between.proofs.Ready.{one_holder, quiet_home}
-use Rattle.seam_between.proofs.Room.{no_held}
+use Rattle.seam_rounds.specs.Between.{framed, IsBetweenRounds}
+use Rattle.seam_rounds.proofs.Going.{one_after}
+use Rattle.seam_rounds.proofs.Ready.{one_holder, quiet_home}
+use Rattle.seam_rounds.proofs.Room.{no_held}
 use Rattle.seam_rounds.proofs.CallsEnd.{calls_end_between}
 use Rattle.seam_rounds.proofs.Looking.{look_keeps, look_ends_between}
 use Rattle.seam_rounds.proofs.Shape.{Somewhere, Nowhere, search_real}
-use Rattle.seam_strays.proofs.NoStrays.{unknown_look}
-use Rattle.seam_strays.proofs.Unknown.{IsTickOrder}
+use Rattle.seam_copies.proofs.NoStrays.{unknown_look}
+use Rattle.seam_copies.proofs.Unknown.{IsTickOrder}
 use Rattle.seam_base_calls.specs.BaseTurns.{home_of}
 use Rattle.seam_base_rounds.specs.Parts.{HasPartsBetweenRounds, HasSmallNumbers, MayBeLoaded, AreFor}
 use Rattle.seam_base_rounds.proofs.CallsEnd.{calls_end_with_parts}

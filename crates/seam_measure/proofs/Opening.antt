@@ -13,7 +13,7 @@ use Rattle.seam_steps.specs.Bases.{BaseView, PartView}
 use Rattle.seam_steps.specs.Nodes.{NodeView, World}
 use Rattle.seam_steps.specs.Nodes.NodeView.{Cell, Base}
 use Rattle.seam_steps.specs.Loads.{opened}
-use Rattle.seam_moves.specs.Sights.{Has, has_of, has_none}
+use Rattle.seam_ones.specs.Sights.{Has, has_of, has_none}
 use Rattle.seam_ones.specs.Ones.{real_in, IsFrame}
 use Rattle.seam_rounds.specs.Rounds.{first_frame}
 use Rattle.seam_rounds.proofs.Opened.{opened_is_new, opened_has_none}

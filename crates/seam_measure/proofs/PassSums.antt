@@ -20,9 +20,9 @@ use Rattle.seam_entity.specs.declared.message.Msg.TheVariants.{Call, BaseCall, H
 use Rattle.seam_steps.specs.Cells.{CellView, slot_of}
 use Rattle.seam_steps.specs.Nodes.{NodeView, World, node_steps, node_has_work}
 use Rattle.seam_steps.specs.Nodes.NodeView.{Cell, Base}
-use Rattle.seam_moves.specs.Sights.{has_of, has_none, entity_flow}
+use Rattle.seam_ones.specs.Sights.{has_of, has_none, entity_flow}
 use Rattle.seam_ones.proofs.Holds.{all_two}
-use Rattle.seam_ranks.specs.Passes.{brings_call, was_left, passes_on, passes}
+use Rattle.seam_measure.specs.Passes.{brings_call, was_left, passes_on, passes}
 use Rattle.seam_measure.specs.Events.{is_left, passes_by, is_pass, all_passes}
 use Rattle.seam_measure.specs.Phases.{one_if_cell}
 use Rattle.seam_measure.proofs.Cans.{fed_by}

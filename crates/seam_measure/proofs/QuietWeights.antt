@@ -16,12 +16,12 @@ use Rattle.seam_steps.specs.Cells.{CellView}
 use Rattle.seam_steps.specs.Bases.{BaseView}
 use Rattle.seam_steps.specs.Nodes.{NodeView, World, node_has_work}
 use Rattle.seam_steps.specs.Nodes.NodeView.{Cell, Base}
-use Rattle.seam_moves.specs.Frames.{Frame}
-use Rattle.seam_moves.specs.Sights.{has_of, has_none}
+use Rattle.seam_ones.specs.Frames.{Frame}
+use Rattle.seam_ones.specs.Sights.{has_of, has_none}
 use Rattle.seam_ones.specs.Burdens.{held_in}
 use Rattle.seam_ones.specs.Ones.{real_in}
-use Rattle.seam_between.specs.Between.{IsBetweenRounds}
-use Rattle.seam_between.proofs.Room.{no_held, rows_none}
+use Rattle.seam_rounds.specs.Between.{IsBetweenRounds}
+use Rattle.seam_rounds.proofs.Room.{no_held, rows_none}
 use Rattle.seam_rounds.proofs.Starting.{none_weighs}
 use Rattle.seam_measure.specs.Weights.{Sizes, settling, look_weight, real_weight, part_weight, order_weight, node_weight}
 use Rattle.seam_measure.specs.Weights.{letter_weight, world_weight}

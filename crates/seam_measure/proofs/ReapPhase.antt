@@ -29,19 +29,19 @@ use Rattle.seam_steps.specs.BaseCases.{stray_order}
 use Rattle.seam_steps.specs.Nodes.{NodeView, World, node_steps, node_has_work}
 use Rattle.seam_steps.specs.Nodes.NodeView.{Cell, Base}
 use Rattle.seam_steps.specs.Loads.{order_if, with_nodes, reap_ordered_at, reaps_loaded}
-use Rattle.seam_moves.specs.Frames.{Frame, IsInFrame}
-use Rattle.seam_moves.specs.Sights.{has_of, has_none, entity_flow}
-use Rattle.seam_between.specs.Between.{IsBetweenRounds}
-use Rattle.seam_between.specs.Loaded.{each}
-use Rattle.seam_between.proofs.Loading.{node_there}
-use Rattle.seam_between.proofs.Ready.{quiet_home}
+use Rattle.seam_ones.specs.Frames.{Frame, IsInFrame}
+use Rattle.seam_ones.specs.Sights.{has_of, has_none, entity_flow}
+use Rattle.seam_rounds.specs.Between.{IsBetweenRounds}
+use Rattle.seam_rounds.specs.Loaded.{each}
+use Rattle.seam_rounds.proofs.Loading.{node_there}
+use Rattle.seam_rounds.proofs.Ready.{quiet_home}
 use Rattle.seam_rounds.specs.Rounds.{AreReapable}
 use Rattle.seam_rounds.proofs.Shape.{frame_leads, many_leads}
 use Rattle.seam_rounds.proofs.Giving.{reaps_framed, reaps_cell, reals_stay}
 use Rattle.seam_rounds.proofs.Phases.{calm_leads}
 use Rattle.seam_rounds.proofs.Reaping as reaping
 use Rattle.seam_rounds.proofs.Reaping.{is_told}
-use Rattle.seam_strays.proofs.NoStrays.{reaps_tasks}
+use Rattle.seam_copies.proofs.NoStrays.{reaps_tasks}
 use Rattle.seam_base_calls.specs.PartMoves.{base_call_of}
 use Rattle.seam_base_calls.specs.Clients.{is_tick_order}
 use Rattle.seam_measure.specs.Weights.{Sizes, part_weight}

@@ -29,18 +29,18 @@ use Rattle.seam_steps.specs.BaseCases as base
 use Rattle.seam_steps.specs.Nodes.{NodeView, World, node_steps, node_has_work}
 use Rattle.seam_steps.specs.Nodes.NodeView.{Cell, Base}
 use Rattle.seam_steps.specs.Loads.{loaded}
-use Rattle.seam_moves.specs.Frames.{Frame, IsInFrame}
-use Rattle.seam_moves.specs.Sights.{order_about, has_of, has_none}
-use Rattle.seam_between.specs.Between.{framed}
-use Rattle.seam_between.proofs.Framing.{in_frame}
-use Rattle.seam_between.proofs.Going.{settled_loaded, spared_loaded}
-use Rattle.seam_between.specs.Loaded.{node_loaded}
-use Rattle.seam_between.proofs.Loading.{loaded_is, node_there}
+use Rattle.seam_ones.specs.Frames.{Frame, IsInFrame}
+use Rattle.seam_ones.specs.Sights.{order_about, has_of, has_none}
+use Rattle.seam_rounds.specs.Between.{framed}
+use Rattle.seam_rounds.proofs.Framing.{in_frame}
+use Rattle.seam_rounds.proofs.Going.{settled_loaded, spared_loaded}
+use Rattle.seam_rounds.specs.Loaded.{node_loaded}
+use Rattle.seam_rounds.proofs.Loading.{loaded_is, node_there}
 use Rattle.seam_rounds.proofs.Shape.{Somewhere, Nowhere, search_real, frame_leads}
-use Rattle.seam_strays.proofs.Beginning.{unknown_loaded}
-use Rattle.seam_strays.proofs.InRound.{nobody}
-use Rattle.seam_strays.proofs.NoStrays.{round_tasks}
-use Rattle.seam_ranks.proofs.HandedOver.{passed_few}
+use Rattle.seam_copies.proofs.Beginning.{unknown_loaded}
+use Rattle.seam_copies.proofs.InRound.{nobody}
+use Rattle.seam_copies.proofs.NoStrays.{round_tasks}
+use Rattle.seam_measure.proofs.HandedOver.{passed_few}
 use Rattle.seam_base_calls.specs.Strays.{NoneIsStray}
 use Rattle.seam_base_calls.proofs.WitnessKept.{all_weaker}
 use Rattle.seam_base_calls.proofs.NodeStray.{none_is_stray}

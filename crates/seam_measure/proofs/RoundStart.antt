@@ -25,16 +25,16 @@ use Rattle.seam_steps.specs.Bases.{BaseView}
 use Rattle.seam_steps.specs.Nodes.{NodeView, World, node_has_work}
 use Rattle.seam_steps.specs.Nodes.NodeView.{Cell, Base}
 use Rattle.seam_steps.specs.Loads.{with_nodes, with_order, with_orders, order_if, ordered_at, cell_begins, cell_round, loaded}
-use Rattle.seam_moves.specs.Frames.{Frame, IsAt}
-use Rattle.seam_moves.specs.Sights.{order_concerns, orders_of, has_of, has_none, entity_flow}
+use Rattle.seam_ones.specs.Frames.{Frame, IsAt}
+use Rattle.seam_ones.specs.Sights.{order_concerns, orders_of, has_of, has_none, entity_flow}
 use Rattle.seam_ones.specs.Burdens.{held_in}
 use Rattle.seam_ones.specs.Ones.{real_in, reaped_by_order}
-use Rattle.seam_between.specs.Between.{IsBetweenRounds, IsFitting, framed}
-use Rattle.seam_between.specs.Loaded.{each, made, node_loaded}
-use Rattle.seam_between.proofs.Loading.{loaded_is, node_there, nodes_after}
-use Rattle.seam_between.proofs.Framing.{node_begun}
-use Rattle.seam_between.proofs.Going.{settled_loaded}
-use Rattle.seam_between.proofs.Room.{one_if, Surveys, loaded_surveys, no_held, rows_none}
+use Rattle.seam_rounds.specs.Between.{IsBetweenRounds, IsFitting, framed}
+use Rattle.seam_rounds.specs.Loaded.{each, made, node_loaded}
+use Rattle.seam_rounds.proofs.Loading.{loaded_is, node_there, nodes_after}
+use Rattle.seam_rounds.proofs.Framing.{node_begun}
+use Rattle.seam_rounds.proofs.Going.{settled_loaded}
+use Rattle.seam_rounds.proofs.Room.{one_if, Surveys, loaded_surveys, no_held, rows_none}
 use Rattle.seam_rounds.proofs.Giving.{look_cell, reals_stay}
 use Rattle.seam_measure.specs.Weights.{Sizes, settle_weight, settling, look_weight, real_weight, part_weight, order_weight}
 use Rattle.seam_measure.specs.Weights.{node_weight, letter_weight, world_weight}

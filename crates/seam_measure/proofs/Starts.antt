@@ -15,8 +15,8 @@ use Rattle.seam_entity.specs.declared.message.Msg.{Msg}
 use Rattle.seam_steps.specs.Bases.{PartView}
 use Rattle.seam_steps.specs.Nodes.{NodeView, World}
 use Rattle.seam_steps.specs.Nodes.NodeView.{Cell, Base}
-use Rattle.seam_moves.specs.Frames.{Frame, IsInFrame}
-use Rattle.seam_moves.specs.Sights.{Has, mine, times, order_concerns, orders_of, has_of, has_none, entity_flow}
+use Rattle.seam_ones.specs.Frames.{Frame, IsInFrame}
+use Rattle.seam_ones.specs.Sights.{Has, mine, times, order_concerns, orders_of, has_of, has_none, entity_flow}
 use Rattle.seam_ones.specs.Ones.{real_in, real_of}
 use Rattle.seam_rounds.proofs.Shape.{Somewhere, Nowhere, search_real}
 use Rattle.seam_base_calls.specs.PartMoves.{base_call_in, update_in, base_call_of, calls_ordered}

@@ -32,20 +32,20 @@ use Rattle.seam_steps.specs.Nodes.{NodeView, World, node_steps, node_has_work}
 use Rattle.seam_steps.specs.Nodes.NodeView.{Cell, Base}
 use Rattle.seam_steps.specs.Loads.{real_if, created_at, with_witness, attached, cell_round, base_round, ordered_at, loaded}
 use Rattle.seam_steps.proofs.Slots.{get-set_at}
-use Rattle.seam_moves.specs.Frames.{Frame}
-use Rattle.seam_moves.specs.Sights.{has_of, has_none, entity_flow}
+use Rattle.seam_ones.specs.Frames.{Frame}
+use Rattle.seam_ones.specs.Sights.{has_of, has_none, entity_flow}
 use Rattle.seam_ones.specs.Ones.{real_in, real_of}
 use Rattle.seam_ones.proofs.Counting.{none_counts}
-use Rattle.seam_between.specs.Between.{framed}
-use Rattle.seam_between.proofs.Framing.{in_frame}
-use Rattle.seam_between.proofs.Going.{one_after}
-use Rattle.seam_between.specs.Loaded.{made, node_loaded}
-use Rattle.seam_between.proofs.Loading.{each_keeps, Any, any, loaded_is, get-each_value}
-use Rattle.seam_between.proofs.Loaded.{slot_is, no_mail, holds_kept}
+use Rattle.seam_rounds.specs.Between.{framed}
+use Rattle.seam_rounds.proofs.Framing.{in_frame}
+use Rattle.seam_rounds.proofs.Going.{one_after}
+use Rattle.seam_rounds.specs.Loaded.{made, node_loaded}
+use Rattle.seam_rounds.proofs.Loading.{each_keeps, Any, any, loaded_is, get-each_value}
+use Rattle.seam_rounds.proofs.Loaded.{slot_is, no_mail, holds_kept}
 use Rattle.seam_rounds.proofs.Shape.{Somewhere, Nowhere, search_real}
-use Rattle.seam_newest.specs.Copies.{AreCopiesBetweenRounds}
-use Rattle.seam_newest.proofs.Loading.{home_loaded}
-use Rattle.seam_newest.proofs.Rounding.{loaded_copied}
+use Rattle.seam_copies.specs.Copies.{AreCopiesBetweenRounds}
+use Rattle.seam_copies.proofs.Loading.{home_loaded}
+use Rattle.seam_copies.proofs.Rounding.{loaded_copied}
 use Rattle.seam_base_rounds.specs.Parts.{MayBeLoaded}
 use Rattle.seam_base_rounds.proofs.Attaching.{sees_loaded}
 use Rattle.seam_measure.specs.Looking.{is_among, AllAmong, LooksAmong, SeesWhatIsThere}

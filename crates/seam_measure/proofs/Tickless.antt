@@ -9,7 +9,7 @@ use Rattle.seam_call.specs.declared.order.Order.{Order}
 use Rattle.seam_call.specs.declared.order.Order.TheVariants as order
 use Rattle.seam_call.specs.declared.order.Batch.{Batch}
 use Rattle.seam_steps.specs.Nodes.{World, node_steps, node_has_work}
-use Rattle.seam_moves.specs.Frames.{Frame}
+use Rattle.seam_ones.specs.Frames.{Frame}
 use Rattle.seam_base_calls.specs.Clients.{is_tick_order, HasNoLooks}
 use Rattle.seam_base_calls.proofs.NoLooks.{looks_lead}
 use Rattle.seam_base_rounds.specs.Parts.{MayBeLoaded}

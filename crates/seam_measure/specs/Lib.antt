@@ -1,3 +1,5 @@
+pub mod Ranks
+pub mod Passes
 pub mod Weights
 pub mod Events
 pub mod Looking

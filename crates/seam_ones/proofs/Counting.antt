@@ -12,7 +12,7 @@ use Rattle.std.specs.FinMap as table
 use Rattle.seam_steps.specs.Nodes.{NodeView, World}
 use Rattle.seam_steps.specs.Nodes.NodeView.{Cell, Base}
 use Rattle.seam_steps.specs.Holders.{one_if_real, held_at, carried, holders}
-use Rattle.seam_moves.specs.Sights.{concerns, kept_if, mine, has_of, has_none, entity_flow}
+use Rattle.seam_ones.specs.Sights.{concerns, kept_if, mine, has_of, has_none, entity_flow}
 use Rattle.seam_ones.specs.Ones.{real_in, real_of, IsOne}
 
 one_is : (o : Option RealView) → one_if o ≡ one_if_real o

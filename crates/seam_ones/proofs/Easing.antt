@@ -18,9 +18,9 @@ use Rattle.seam_entity.specs.declared.message.Msg.{Msg}
 use Rattle.seam_entity.specs.declared.message.Msg.TheVariants.{Hand, Reap}
 use Rattle.seam_entity.specs.Numbers.{limit}
 use Rattle.seam_steps.specs.Nodes.{NodeView, World, node_steps, node_has_work}
-use Rattle.seam_moves.specs.Frames.{Frame, IsInFrame}
-use Rattle.seam_moves.specs.Sights.{Has, concerns, kept_if, mine, concerning, has_of}
-use Rattle.seam_moves.proofs.Classify.{node_laws, node_moves, frame_happens}
+use Rattle.seam_ones.specs.Frames.{Frame, IsInFrame}
+use Rattle.seam_ones.specs.Sights.{Has, concerns, kept_if, mine, concerning, has_of}
+use Rattle.seam_ones.proofs.Classify.{node_laws, node_moves, frame_happens}
 use Rattle.seam_ones.specs.Burdens.{real_burden, letter_burden, has_burden, node_burden, mine_burden, burden}
 use Rattle.seam_ones.proofs.Burdening.{eased}
 

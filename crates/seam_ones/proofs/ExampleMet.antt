@@ -32,8 +32,8 @@ use Rattle.seam_steps.specs.Bases.{RouteView}
 use Rattle.seam_steps.specs.Rows.{idle, one, IsRow}
 use Rattle.seam_steps.specs.EarlyCall.{two_cells, made, world_0, at_home, with_cells, base_16, base_17, the_move, hit_1, hit_2}
 use Rattle.seam_steps.proofs.Tables.{computing}
-use Rattle.seam_moves.specs.Frames.{here_at, IsAt, IsInFrame}
-use Rattle.seam_moves.specs.Sights.{Has, mine, has_of, has_none, entity_flow}
+use Rattle.seam_ones.specs.Frames.{here_at, IsAt, IsInFrame}
+use Rattle.seam_ones.specs.Sights.{Has, mine, has_of, has_none, entity_flow}
 use Rattle.seam_ones.specs.Fits.{RealFits, IsFitReal, IsFitHand}
 use Rattle.seam_ones.specs.Burdens.{burden}
 use Rattle.seam_ones.specs.Ones.{real_in, reaped_by, HasNoReaps, IsSpared, AllFits, IsFrame}

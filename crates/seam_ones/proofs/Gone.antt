@@ -19,12 +19,12 @@ use Rattle.seam_entity.specs.declared.message.Msg.TheVariants.{Hand, Reap}
 use Rattle.seam_entity.specs.Numbers.{limit, may_rise}
 use Rattle.seam_steps.specs.CellCases.{is_stray}
 use Rattle.seam_steps.specs.Nodes.{World, node_steps, node_has_work}
-use Rattle.seam_moves.specs.Frames.{Frame, here_at, IsInFrame}
-use Rattle.seam_moves.specs.Sights.{Has, AtCell, mine, has_of, entity_flow}
-use Rattle.seam_moves.specs.CellMoves as move
-use Rattle.seam_moves.specs.CellMoves.{Acts, surveys, calls, readies, CellMoves}
-use Rattle.seam_moves.specs.Moves.{Moves, at_a_cell, at_a_base, MovesTo}
-use Rattle.seam_moves.proofs.Classify.{frame_happens, event_moves, event_moves_with}
+use Rattle.seam_ones.specs.Frames.{Frame, here_at, IsInFrame}
+use Rattle.seam_ones.specs.Sights.{Has, AtCell, mine, has_of, entity_flow}
+use Rattle.seam_ones.specs.CellMoves as move
+use Rattle.seam_ones.specs.CellMoves.{Acts, surveys, calls, readies, CellMoves}
+use Rattle.seam_ones.specs.Moves.{Moves, at_a_cell, at_a_base, MovesTo}
+use Rattle.seam_ones.proofs.Classify.{frame_happens, event_moves, event_moves_with}
 use Rattle.seam_ones.specs.Replays.{Replays}
 use Rattle.seam_ones.specs.Ones.{real_in, real_of, IsFrame, HasOne}
 use Rattle.seam_ones.proofs.Holds.{below_is}

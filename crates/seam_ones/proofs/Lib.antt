@@ -1,3 +1,11 @@
+pub mod Lists
+pub mod Sent
+pub mod SlotSteps
+pub mod Ticking
+pub mod CellSteps
+pub mod BaseSteps
+pub mod BaseTasks
+pub mod Classify
 pub mod Holds
 pub mod RealsKept
 pub mod Plain
@@ -11,3 +19,13 @@ pub mod OneReal
 pub mod Counting
 pub mod ExampleMet
 pub mod Gone
+pub mod Following
+pub mod WayMoves
+pub mod Leading
+pub mod Finding
+pub mod ExampleWays
+pub mod DeskLemmas
+pub mod CellSeen
+pub mod CellRuns
+pub mod Quieting
+pub mod ExampleTurns

@@ -27,10 +27,10 @@ use Rattle.seam_entity.specs.Numbers.{limit}
 use Rattle.seam_entity.specs.Here.{cell_numbers, properties}
 use Rattle.seam_steps.specs.CellCases.{haunts_cell, is_cell_if, may_come}
 use Rattle.seam_steps.specs.Nodes.{World, node_steps, node_has_work}
-use Rattle.seam_moves.specs.Frames.{Frame, here_at, IsInFrame}
-use Rattle.seam_moves.specs.Sights.{Has, concerns, kept_if, mine, entity_flow}
-use Rattle.seam_moves.specs.Moves.{MovesTo}
-use Rattle.seam_moves.proofs.Classify.{frame_happens, event_moves_with}
+use Rattle.seam_ones.specs.Frames.{Frame, here_at, IsInFrame}
+use Rattle.seam_ones.specs.Sights.{Has, concerns, kept_if, mine, entity_flow}
+use Rattle.seam_ones.specs.Moves.{MovesTo}
+use Rattle.seam_ones.proofs.Classify.{frame_happens, event_moves_with}
 use Rattle.seam_ones.specs.Replays.{Replays}
 use Rattle.seam_ones.specs.Fits.{RealFits, IsFitReal, IsFitHand}
 use Rattle.seam_ones.specs.Burdens.{real_burden}

@@ -36,7 +36,7 @@ use Rattle.seam_entity.specs.Here.{Here, type_at}
 use Rattle.seam_entity.specs.Calls.{order_passes, order_is_ready, ready_order}
 use Rattle.seam_entity.specs.Executing.{fits_cell_part, may_call, with_offer, executed, executed_ready, settled_to}
 use Rattle.seam_steps.specs.Settle.{home_after, haunts_at}
-use Rattle.seam_moves.specs.Frames.{Frame, here_at}
+use Rattle.seam_ones.specs.Frames.{Frame, here_at}
 use Rattle.seam_ones.specs.Fits.{RealFits}
 use Rattle.seam_ones.proofs.Holds.{both, picked_passes, item_passes_too, held_offered, held_taken}
 

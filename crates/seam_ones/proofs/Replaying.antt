@@ -5,9 +5,9 @@ use Rattle.seam_defs.specs.Types.{type_of}
 use Rattle.seam_call.specs.declared.call.Call.{Call}
 use Rattle.seam_entity.specs.Reals.{RealView}
 use Rattle.seam_entity.specs.declared.message.Msg.{Msg}
-use Rattle.seam_moves.specs.Frames.{Frame, here_at}
-use Rattle.seam_moves.specs.Sights.{AtCell}
-use Rattle.seam_moves.specs.CellMoves.{Acts, surveys, calls, readies}
+use Rattle.seam_ones.specs.Frames.{Frame, here_at}
+use Rattle.seam_ones.specs.Sights.{AtCell}
+use Rattle.seam_ones.specs.CellMoves.{Acts, surveys, calls, readies}
 use Rattle.seam_ones.specs.Replays.{Account, account_of, after_call, after_calls, Replays}
 
 after_more : (t : TypeDef) (a : Account) (ks ls : List Call) → after_calls t a (ks ++ ls) ≡ after_calls t (after_calls t a ks) ls

@@ -13,13 +13,13 @@ use Rattle.seam_steps.specs.Slots.{SlotStep}
 use Rattle.seam_steps.specs.Settle.{haunts_at, ghost_messages}
 use Rattle.seam_steps.specs.CellCases.{current_to}
 use Rattle.seam_steps.specs.BaseCases.{tick_to}
-use Rattle.seam_moves.specs.Frames.{Frame, here_at}
-use Rattle.seam_moves.specs.Sights.{Has, AtCell, AtBase}
-use Rattle.seam_moves.specs.CellMoves as move
-use Rattle.seam_moves.specs.CellMoves.{Does, CellMoves}
-use Rattle.seam_moves.specs.BaseMoves as base_move
-use Rattle.seam_moves.specs.BaseMoves.{BaseMoves}
-use Rattle.seam_moves.specs.Moves.{Moves, at_a_cell, at_a_base}
+use Rattle.seam_ones.specs.Frames.{Frame, here_at}
+use Rattle.seam_ones.specs.Sights.{Has, AtCell, AtBase}
+use Rattle.seam_ones.specs.CellMoves as move
+use Rattle.seam_ones.specs.CellMoves.{Does, CellMoves}
+use Rattle.seam_ones.specs.BaseMoves as base_move
+use Rattle.seam_ones.specs.BaseMoves.{BaseMoves}
+use Rattle.seam_ones.specs.Moves.{Moves, at_a_cell, at_a_base}
 use Rattle.seam_ones.specs.Ones.{reaped_by, reaped_by_order, HasNoReaps}
 use Rattle.seam_ones.proofs.Plain.{SeesNoGhost, ghosts_silent, drops_silent, mapped_silent, numbered_silent}
 

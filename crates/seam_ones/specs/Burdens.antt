@@ -12,7 +12,7 @@ use Rattle.seam_entity.specs.Reals.{RealView}
 use Rattle.seam_entity.specs.declared.message.Msg.{Msg}
 use Rattle.seam_entity.specs.declared.message.Msg.TheVariants.{Call, BaseCall, Hand, Current, GhostSet, GhostDrop, Tick, Reap, Update}
 use Rattle.seam_steps.specs.Nodes.{NodeView, World}
-use Rattle.seam_moves.specs.Sights.{Has, mine, has_of}
+use Rattle.seam_ones.specs.Sights.{Has, mine, has_of}
 
 -- how many calls a real holds
 abbrev pub held_of : OrderView CallData → ℕ

@@ -5,7 +5,7 @@ use Rattle.seam_defs.specs.Builtin.{builtin}
 use Rattle.seam_defs.specs.Settings.{standard}
 use Rattle.seam_steps.specs.Nodes.{World}
 use Rattle.seam_steps.specs.EarlyCall.{two_cells}
-use Rattle.seam_moves.specs.Frames.{Frame}
+use Rattle.seam_ones.specs.Frames.{Frame}
 
 abbrev pub frame : Frame
 frame = record { defs = builtin; settings = standard; tree = two_cells }

@@ -11,7 +11,7 @@ use Rattle.seam_entity.specs.Fitting.{is_inside}
 use Rattle.seam_entity.specs.Here.{properties}
 use Rattle.seam_entity.specs.Calls.{all_held}
 use Rattle.seam_entity.specs.Executing.{fits_cell_part}
-use Rattle.seam_moves.specs.Frames.{Frame, here_at}
+use Rattle.seam_ones.specs.Frames.{Frame, here_at}
 
 -- the real is one of entity e and of type ty, has values of the group, is in the space, and each call that it holds fits; it is in cell
 -- k or on its way there, and that cell and its haunts are cells of the tree

@@ -1,5 +1,13 @@
+pub mod Frames
+pub mod Sights
+pub mod CellMoves
+pub mod BaseMoves
+pub mod Moves
 pub mod Replays
 pub mod Fits
 pub mod Burdens
 pub mod Ones
 pub mod Example
+pub mod Ways
+pub mod CellTurns
+pub mod TurnsExample

@@ -15,8 +15,8 @@ use Rattle.seam_machine.specs.declared.machines.Input.{Input}
 use Rattle.seam_machine.specs.declared.machines.Input.TheVariants.{Task, From}
 use Rattle.seam_machine.specs.declared.machines.Event.{Event}
 use Rattle.seam_steps.specs.Nodes.{World, node_steps}
-use Rattle.seam_moves.specs.Frames.{Frame, IsInFrame}
-use Rattle.seam_moves.specs.Sights.{Has, concerns, entity_flow}
+use Rattle.seam_ones.specs.Frames.{Frame, IsInFrame}
+use Rattle.seam_ones.specs.Sights.{Has, concerns, entity_flow}
 use Rattle.seam_ones.specs.Fits.{IsFitReal, IsFitHand}
 use Rattle.seam_ones.specs.Burdens.{burden}
 use Rattle.seam_ones.specs.Replays.{Replays}

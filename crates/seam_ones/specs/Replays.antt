@@ -8,7 +8,7 @@ use Rattle.seam_defs.specs.Types.{type_of}
 use Rattle.seam_call.specs.declared.call.Call.{Call}
 use Rattle.seam_entity.specs.Reals.{RealView}
 use Rattle.seam_entity.specs.Executing.{public_after}
-use Rattle.seam_moves.specs.Frames.{Frame}
+use Rattle.seam_ones.specs.Frames.{Frame}
 
 -- what calls change of a real: its state, its version, its public version, and the list of the calls that it executed
 pub record Account : Type 0 where

@@ -1,22 +1,24 @@
-//! Exactly one real, over every list of events; and what it is: its calls replayed.
+//! Each entity once, and each of its calls once, over every list of events.
 //!
-//! An entity that the world has once, and that no one reaps, is in one cell or in one hand-over after every event, whatever the order of
-//! the events; so two cells never execute calls of the same entity (BigWorld Server Overview: an entity has one real). Its state, version
-//! and public version are those that its further calls, one after the other, make of the real at the start.
-//!
-//! The invariants that carry this are definitions: what fits of an entity wherever it is (`specs/Fits`), and what is yet to do, a number
-//! that no step raises and that has versions, beats and generations in it, so that they stay small (`specs/Burdens`).
-//!
-//! Crates above cite these modules of `proofs`: `OneReal` (an event and a list of events), `Counting` (holders and the one place),
-//! `Gone` (a Reap, and an entity that no one has), `Easing` (what is yet to do after an event), `Handling` and `RealsKept` (what each
-//! move does with the real), `Replaying` (the calls that it executed), `Sparing` (an entity that no one reaps), `ExampleMet` (the
-//! example, node by node), `Plain` (sends that some eyes do not see), `HeldCounts` (held calls after an offer) and `Holds` (that they
-//! all pass a test, and what two tests pass).
+//! `moves` has what each step of a node does with one entity; the other modules are laws over those moves: `ones`, exactly one real, and
+//! what it is; `ways`, calls find their way to it; `once`, each call to a cell part is executed once and in order. Each law is a clause of
+//! a function that does nothing. The head of each module says which modules of `proofs` crates above cite.
 #![tactic(auto)]
 
-mod laws;
+mod moves;
+mod once;
+mod ones;
+mod ways;
 
-pub use laws::{
+pub use moves::{a_step_is_a_move, an_event_is_a_move};
+pub use once::{
+    a_cell_call_is_never_stray, a_loaded_world_has_its_calls_in_turn, all_cell_calls_are_executed,
+    each_cell_call_waits_once,
+};
+pub use ones::{
     a_loaded_world_has_what_the_laws_ask, a_reap_ends_the_one_real, exactly_one_real,
     holders_are_at_one_place, numbers_stay_small, reals_replay_their_calls,
+};
+pub use ways::{
+    a_call_that_comes_finds_a_place, a_round_begins_with_all_ways, calls_find_their_way,
 };

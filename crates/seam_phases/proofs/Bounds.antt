@@ -12,10 +12,10 @@ use Rattle.seam_steps.specs.Cells.{has_witness, witnesses}
 use Rattle.seam_steps.specs.Nodes.{NodeView, World}
 use Rattle.seam_steps.specs.Nodes.NodeView.{Cell, Base}
 use Rattle.seam_steps.specs.Loads.{loaded}
-use Rattle.seam_moves.specs.Frames.{Frame}
-use Rattle.seam_newest.specs.Copies.{AreCopiesBetweenRounds}
+use Rattle.seam_ones.specs.Frames.{Frame}
+use Rattle.seam_copies.specs.Copies.{AreCopiesBetweenRounds}
 use Rattle.seam_base_rounds.specs.Parts.{MayBeLoaded}
-use Rattle.seam_places.specs.Places.{GoesThroughRound}
+use Rattle.seam_copies.specs.Places.{GoesThroughRound}
 use Rattle.seam_measure.specs.Looking.{is_among, LooksAmong, SeesWhatIsThere}
 use Rattle.seam_measure.specs.Phases.{entities, reals_at, witnesses_at, all_witnesses, events_of_looks}
 use Rattle.seam_measure.proofs.There.{numbers_many, reals_of, reals_many, passing_has, us, ws, among_then}

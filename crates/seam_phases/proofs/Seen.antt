@@ -20,22 +20,22 @@ use Rattle.seam_steps.specs.Cells.{CellView, known_to, is_another}
 use Rattle.seam_steps.specs.Nodes.{World, node_steps, node_has_work}
 use Rattle.seam_steps.specs.Nodes.NodeView.{Cell}
 use Rattle.seam_steps.specs.Loads.{look_loaded}
-use Rattle.seam_moves.specs.Frames.{Frame}
-use Rattle.seam_moves.specs.Sights.{mine, entity_flow}
+use Rattle.seam_ones.specs.Frames.{Frame}
+use Rattle.seam_ones.specs.Sights.{mine, entity_flow}
 use Rattle.seam_ones.specs.Ones.{real_in}
-use Rattle.seam_between.specs.Between.{IsBetweenRounds}
-use Rattle.seam_between.proofs.Ready.{one_holder}
+use Rattle.seam_rounds.specs.Between.{IsBetweenRounds}
+use Rattle.seam_rounds.proofs.Ready.{one_holder}
 use Rattle.seam_rounds.proofs.Looking.{look_keeps}
 use Rattle.seam_rounds.proofs.Shape.{Somewhere, Nowhere, search_real}
 use Rattle.seam_base_rounds.specs.Parts.{HasPartsBetweenRounds}
-use Rattle.seam_places.specs.Places.{WasThere}
-use Rattle.seam_places.proofs.Ends.{looks_leave}
-use Rattle.seam_newest.specs.Copies.{AreCopiesBetweenRounds}
-use Rattle.seam_looks.specs.Phases.{witness_looked, looked_by, having_looked, HaveRoomToLook}
-use Rattle.seam_looks.proofs.Near.{as_seen, seen_found}
+use Rattle.seam_copies.specs.Places.{WasThere}
+use Rattle.seam_copies.proofs.Ends.{looks_leave}
+use Rattle.seam_copies.specs.Copies.{AreCopiesBetweenRounds}
+use Rattle.seam_shown.specs.Phases.{witness_looked, looked_by, having_looked, HaveRoomToLook}
+use Rattle.seam_shown.proofs.Near.{as_seen, seen_found}
 use Rattle.seam_known.proofs.Knowing.{known_at, known_to_is}
-use Rattle.seam_looks.proofs.OneLook.{known_nowhere}
-use Rattle.seam_looks.proofs.LookEnds.{looked}
+use Rattle.seam_shown.proofs.OneLook.{known_nowhere}
+use Rattle.seam_shown.proofs.LookEnds.{looked}
 use Rattle.seam_shown.proofs.ShownOnce.{cell_at}
 use Rattle.seam_measure.specs.Looking.{SeesWhatIsThere}
 use Rattle.seam_phases.proofs.Viewed.{EachKnown, viewed_known}

@@ -17,15 +17,15 @@ ghost use Rattle.seam_defs.specs.Settings.{GhostsReach};
 ghost use Rattle.seam_call.specs.declared.order.Batch.{Batch};
 ghost use Rattle.seam_steps.specs.Nodes.{World, node_steps, node_has_work};
 ghost use Rattle.seam_steps.specs.Loads.{opened, loaded, look_loaded};
-ghost use Rattle.seam_moves.specs.Frames.{Frame};
+ghost use Rattle.seam_ones.specs.Frames.{Frame};
 ghost use Rattle.seam_ones.specs.Ones.{IsFrame};
-ghost use Rattle.seam_between.specs.Between.{IsBetweenRounds, framed};
+ghost use Rattle.seam_rounds.specs.Between.{IsBetweenRounds, framed};
 ghost use Rattle.seam_rounds.specs.Rounds.{first_frame};
 ghost use Rattle.seam_base_rounds.specs.Parts.{MayBeLoaded, HasPartsBetweenRounds, HasSmallNumbers};
-ghost use Rattle.seam_newest.specs.Copies.{AreCopiesBetweenRounds};
-ghost use Rattle.seam_places.specs.Places.{GoesThroughRound};
+ghost use Rattle.seam_copies.specs.Copies.{AreCopiesBetweenRounds};
+ghost use Rattle.seam_copies.specs.Places.{GoesThroughRound};
 ghost use Rattle.seam_replica.specs.Clients.{ClientReplica};
-ghost use Rattle.seam_clients.specs.Clients.{clients_loaded, clients_shown};
+ghost use Rattle.seam_shown.specs.Clients.{clients_loaded, clients_shown};
 ghost use Rattle.seam_laws.specs.Records.{KeepsRecords, MayBeGiven};
 ghost use Rattle.seam_phases.specs.Records.{IsBounded};
 ghost use Rattle.seam_measure.specs.Looking.{SeesWhatIsThere};
@@ -84,9 +84,9 @@ pub fn a_round_keeps_the_records()
 {
     seam_rounds::a_round_goes_from_record_to_record();
     seam_base_rounds::base_parts_go_from_record_to_record();
-    seam_newest::copies_go_from_record_to_record();
-    seam_places::a_round_keeps_the_record_of_places();
-    seam_clients::clients_go_from_record_to_record();
+    seam_copies::copies_go_from_record_to_record();
+    seam_copies::a_round_keeps_the_record_of_places();
+    seam_shown::clients_go_from_record_to_record();
     seam_laws::an_opened_world_keeps_the_records();
     a_round_keeps_what_bounds_it();
 }

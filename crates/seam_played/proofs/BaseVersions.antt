@@ -25,8 +25,8 @@ use Rattle.seam_tree.specs.Division.{Division}
 use Rattle.seam_entity.specs.Here.{Here}
 use Rattle.seam_steps.specs.Maps.{has_any}
 use Rattle.seam_steps.specs.Bases.{PartView, base_text}
-use Rattle.seam_moves.specs.Frames.{here_at}
-use Rattle.seam_clients.specs.BaseLines.{first_lines, lines_after, line_where}
+use Rattle.seam_ones.specs.Frames.{here_at}
+use Rattle.seam_shown.specs.BaseLines.{first_lines, lines_after, line_where}
 use Rattle.seam_legal.specs.Going.{frame_of}
 use Rattle.seam_legal.specs.Rounds.{IsDoneOn, BeginsPart}
 use Rattle.seam_legal.proofs.Accounts.{done_deed, one_more}

@@ -1,16 +1,16 @@
 -- What is read of each entity, gathered over lists of them.
-use Rattle.std.proofs.Common.{◌≡◌, ℕ, ◌+◌, ◌<◌, List, [], ◌∷◌, ◌++◌, map, Some, refl, ap, ◌∙◌, arith, append-nil}
+use Rattle.std.proofs.Common.{◌≡◌, ℕ, ◌+◌, ◌<◌, List, [], ◌∷◌, ◌++◌, map, Some, refl, ap, ◌∙◌, arith}
 use Rattle.std.specs.Prelude.{Contains, slice_index_or}
 use Rattle.std.specs.List.{All, flat_map}
 use Rattle.std.proofs.lemmas.List.Elements.{All-nil, All-cons}
 use Rattle.seam_entity.specs.Here.{cell_count}
 use Rattle.seam_entity.specs.Reals.{RealView}
 use Rattle.seam_steps.specs.Nodes.{World}
-use Rattle.seam_moves.specs.Frames.{Frame}
-use Rattle.seam_moves.specs.Sights.{entity_flow}
+use Rattle.seam_ones.specs.Frames.{Frame}
+use Rattle.seam_ones.specs.Sights.{entity_flow}
 use Rattle.seam_ones.specs.Ones.{real_in}
-use Rattle.seam_between.specs.Between.{IsBetweenRounds}
-use Rattle.seam_places.specs.Places.{place_of}
+use Rattle.seam_rounds.specs.Between.{IsBetweenRounds}
+use Rattle.seam_copies.specs.Places.{place_of}
 use Rattle.seam_transcript.proofs.Lists.{contains_first, contains_later}
 use Rattle.seam_rules.specs.Standing.{in_first_cell}
 use Rattle.seam_legal.proofs.Executed.{one_in}

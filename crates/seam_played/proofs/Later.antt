@@ -1,5 +1,5 @@
 -- An entity along the calls of a round: it is spared, and what it executed so far comes first of all that it executes.
-use Rattle.std.proofs.Common.{◌≡◌, ℕ, ◌<◌, true, List, ◌++◌, length, Some, sym, ap, ◌∙◌}
+use Rattle.std.proofs.Common.{◌≡◌, ℕ, ◌<◌, true, List, ◌++◌, length, Some, ap, ◌∙◌}
 use Rattle.seam_machine.specs.Nets.{LeadsTo, enabled, happens}
 use Rattle.seam_machine.specs.declared.machines.Event.{Event}
 use Rattle.seam_machine.proofs.Occurring.{occurs}
@@ -9,9 +9,9 @@ use Rattle.seam_defs.specs.Types.{type_of}
 use Rattle.seam_call.specs.declared.call.Call.{Call as CallData}
 use Rattle.seam_entity.specs.Reals.{RealView}
 use Rattle.seam_steps.specs.Nodes.{World, node_steps, node_has_work}
-use Rattle.seam_moves.specs.Frames.{Frame, IsInFrame}
-use Rattle.seam_moves.specs.Sights.{entity_flow}
-use Rattle.seam_moves.proofs.Classify.{frame_happens}
+use Rattle.seam_ones.specs.Frames.{Frame, IsInFrame}
+use Rattle.seam_ones.specs.Sights.{entity_flow}
+use Rattle.seam_ones.proofs.Classify.{frame_happens}
 use Rattle.seam_ones.specs.Ones.{real_in, real_of, IsFrame, IsSpared, HasOne}
 use Rattle.seam_ones.specs.Replays.{account_of}
 use Rattle.seam_ones.proofs.OneReal.{one_leads, spared_happens}

@@ -11,3 +11,5 @@ mod OneLook
 mod Truths
 mod Later
 mod Rightly
+mod LookTruth
+mod Looked

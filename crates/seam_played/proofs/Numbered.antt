@@ -1,5 +1,5 @@
 -- The lines of a client are numbered one after another, from round to round.
-use Rattle.std.proofs.Common.{◌≡◌, ℕ, zero, suc, ◌+◌, Bool, true, false, List, [], ◌∷◌, ◌++◌, map, length, Option, None, Some}
+use Rattle.std.proofs.Common.{◌≡◌, ℕ, zero, suc, ◌+◌, Bool, true, false, [], ◌∷◌, ◌++◌, map, length, Option, None, Some}
 use Rattle.std.proofs.Common.{refl, sym, ap, ◌∙◌, subst, arith, length-append}
 use Rattle.std.specs.Prelude.{option_map, slice_get}
 use Rattle.std.specs.List.{AllByRecursion, range_with_len}
@@ -13,17 +13,17 @@ use Rattle.seam_steps.specs.Maps.{has_any}
 use Rattle.seam_steps.specs.Bases.{PartView, ProxyView, line_if, base_text}
 use Rattle.seam_steps.specs.Nodes.{World}
 use Rattle.seam_steps.specs.Loads.{new_proxy, proxy_begins, part_begins, loaded}
-use Rattle.seam_moves.specs.Frames.{Frame, here_at}
-use Rattle.seam_moves.specs.Sights.{has_of, has_none, entity_flow}
-use Rattle.seam_between.specs.Between.{MayBeMade}
-use Rattle.seam_between.proofs.Making.{Creation, nowhere, once, creation_of, middle}
+use Rattle.seam_ones.specs.Frames.{Frame, here_at}
+use Rattle.seam_ones.specs.Sights.{has_of, has_none, entity_flow}
+use Rattle.seam_rounds.specs.Between.{MayBeMade}
+use Rattle.seam_rounds.proofs.Making.{Creation, nowhere, once, creation_of, middle}
 use Rattle.seam_base_calls.specs.BaseTurns.{home_of}
 use Rattle.seam_base_calls.specs.Clients.{shown_in}
 use Rattle.seam_base_rounds.specs.Parts.{MayBeLoaded}
 use Rattle.seam_base_rounds.proofs.PartLoads.{part_at}
 use Rattle.seam_base_rounds.proofs.Joining.{is_among, part_peopled, bare_peopled}
 use Rattle.seam_base_rounds.proofs.Attaching.{part_if, PartFrom, part_there}
-use Rattle.seam_clients.specs.BaseLines.{number_of_line, ShowsItsPart}
+use Rattle.seam_shown.specs.BaseLines.{number_of_line, ShowsItsPart}
 
 -- a client that was told so many lines before has shown further ones under the next numbers
 pub record IsNumbered (told : ℕ) (x : ProxyView) : Type 0 where

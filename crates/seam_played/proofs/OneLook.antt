@@ -1,6 +1,6 @@
 -- Lines that show cell parts alone, or the base part alone; and rounds without a tick.
-use Rattle.std.proofs.Common.{◌≡◌, ℕ, Bool, true, false, List, [], ◌∷◌, ◌++◌, map, refl, sym, ap, ◌∙◌, append-nil}
-use Rattle.std.specs.Prelude.{filter, ◌||◌}
+use Rattle.std.proofs.Common.{◌≡◌, false, List, [], ◌∷◌, ◌++◌, map, refl, sym, ap, ◌∙◌, append-nil}
+use Rattle.std.specs.Prelude.{filter}
 use Rattle.std.specs.List.{AllByRecursion, list_any, filter_map}
 use Rattle.std.proofs.lemmas.List.{map-append}
 use Rattle.seam_flows.specs.Flows.{letters_of, more_letter}
@@ -18,7 +18,7 @@ use Rattle.seam_transcript.specs.declared.verdict.Entry.{Entry}
 use Rattle.seam_transcript.specs.declared.verdict.Entry.TheVariants as entry
 use Rattle.seam_accept.specs.Batches.{passes_to, ordered}
 use Rattle.seam_base_calls.specs.Clients.{shown_in, is_tick_order}
-use Rattle.seam_clients.specs.BaseLines.{base_in, base_lines}
+use Rattle.seam_shown.specs.BaseLines.{base_in, base_lines}
 use Rattle.seam_rules.specs.Clients.{is_base}
 use Rattle.seam_played.proofs.Told.{base_texts_are}
 use Rattle.seam_played.proofs.Tickless.{IsNoTick}

@@ -9,18 +9,18 @@ use Rattle.seam_call.specs.declared.create.Create.{Create}
 use Rattle.seam_call.specs.declared.shown.Line.{Line}
 use Rattle.seam_call.specs.declared.shown.ClientText.{ClientText}
 use Rattle.seam_call.specs.declared.shown.ClientText.TheVariants as text
-use Rattle.seam_transcript.specs.Book.{Book, entries, created_as, joins, destroys, was_dead, is_shown}
+use Rattle.seam_transcript.specs.Book.{Book, entries, created_as, joins, destroys, is_shown}
 use Rattle.seam_entity.specs.Reals.{RealView, WitnessView}
 use Rattle.seam_steps.specs.Nodes.{World}
-use Rattle.seam_moves.specs.Frames.{Frame}
-use Rattle.seam_moves.specs.Sights.{entity_flow}
+use Rattle.seam_ones.specs.Frames.{Frame}
+use Rattle.seam_ones.specs.Sights.{entity_flow}
 use Rattle.seam_ones.specs.Ones.{real_in}
 use Rattle.seam_base_calls.specs.Clients.{shown_in}
 use Rattle.seam_replica.specs.Clients.{ClientReplica, after_shown, after_all_shown, after_lines, shown_by, shown_by_lines}
-use Rattle.seam_looks.specs.Clients.{FitsWitness, ClientsFit}
+use Rattle.seam_shown.specs.Witnesses.{FitsWitness, ClientsFit}
 
 -- the two ways to read what lines show of cell parts
-shown_is : (ls : List Line) → shown_by_lines ls ≡ letters_of shown_in ls
+pub shown_is : (ls : List Line) → shown_by_lines ls ≡ letters_of shown_in ls
 shown_is [] = refl
 shown_is (l ∷ ls) = by l.text (shown_is ls)
   where

@@ -19,18 +19,18 @@ use Rattle.seam_steps.specs.Bases.{PartView, ProxyView}
 use Rattle.seam_steps.specs.Nodes.{NodeView, World, node_steps, node_has_work}
 use Rattle.seam_steps.specs.Nodes.NodeView.{Cell, Base}
 use Rattle.seam_steps.specs.Loads.{real_if, created_at, attached, base_round, cell_round, ordered_at, loaded}
-use Rattle.seam_moves.specs.Frames.{Frame}
-use Rattle.seam_moves.specs.Sights.{has_of, has_none, order_concerns, orders_of, entity_flow}
+use Rattle.seam_ones.specs.Frames.{Frame}
+use Rattle.seam_ones.specs.Sights.{has_of, has_none, order_concerns, orders_of, entity_flow}
 use Rattle.seam_ones.specs.Ones.{real_in, real_of}
-use Rattle.seam_between.specs.Between.{framed}
-use Rattle.seam_between.specs.Loaded.{each, made, node_loaded}
-use Rattle.seam_between.proofs.Going.{settled_loaded}
-use Rattle.seam_between.proofs.Loading.{each_keeps, Any, any}
-use Rattle.seam_between.proofs.Loaded.{no_mail, slot_is}
-use Rattle.seam_between.proofs.Turns.{node_orders, node_none}
+use Rattle.seam_rounds.specs.Between.{framed}
+use Rattle.seam_rounds.specs.Loaded.{each, made, node_loaded}
+use Rattle.seam_rounds.proofs.Going.{settled_loaded}
+use Rattle.seam_rounds.proofs.Loading.{each_keeps, Any, any}
+use Rattle.seam_rounds.proofs.Loaded.{no_mail, slot_is}
+use Rattle.seam_rounds.proofs.Turns.{node_orders, node_none}
 use Rattle.seam_base_calls.specs.BaseTurns.{home_of}
 use Rattle.seam_base_calls.specs.Clients.{proxy_of, order_in, lines_in, shown_in, shown_at, is_tick_order, tick_in}
-use Rattle.seam_base_calls.specs.Clients.{EachReal, HasToldAtMost, HasNoLooks, HasClient, HasRoomFor}
+use Rattle.seam_base_calls.specs.Clients.{HasToldAtMost, HasNoLooks, HasClient, HasRoomFor}
 use Rattle.seam_base_calls.specs.WitnessMoves.{sent_of, sent_by}
 use Rattle.seam_base_rounds.specs.Parts.{AreInStep, AreFor, MayBeLoaded, IsServed, bare, served}
 use Rattle.seam_base_rounds.proofs.Attaching.{are_for_loaded}

@@ -5,7 +5,7 @@ use Rattle.std.specs.Prelude.{filter, if◌then◌else◌}
 use Rattle.std.specs.List.{range_with_len}
 use Rattle.seam_machine.specs.Nets.{LeadsTo}
 use Rattle.seam_machine.specs.declared.machines.Event.{Event}
-use Rattle.seam_flows.specs.Flows.{letters_of, more_letter}
+use Rattle.seam_flows.specs.Flows.{more_letter}
 use Rattle.seam_flows.proofs.Bridge.{letters_of-append}
 use Rattle.seam_call.specs.declared.call.Call.{Call as CallData}
 use Rattle.seam_call.specs.declared.order.Batch.{Batch}
@@ -16,14 +16,14 @@ use Rattle.seam_entity.specs.Here.{Here}
 use Rattle.seam_steps.specs.Bases.{PartView, ProxyView}
 use Rattle.seam_steps.specs.Nodes.{World, node_steps, node_has_work}
 use Rattle.seam_steps.specs.Loads.{loaded, look_loaded}
-use Rattle.seam_moves.specs.Frames.{Frame, here_at}
-use Rattle.seam_moves.specs.Sights.{entity_flow}
-use Rattle.seam_between.specs.Between.{IsBetweenRounds, framed}
+use Rattle.seam_ones.specs.Frames.{Frame, here_at}
+use Rattle.seam_ones.specs.Sights.{entity_flow}
+use Rattle.seam_rounds.specs.Between.{IsBetweenRounds, framed}
 use Rattle.seam_base_calls.specs.BaseTurns.{home_of}
 use Rattle.seam_base_calls.specs.Clients.{proxy_of, lines_in}
 use Rattle.seam_base_rounds.specs.Parts.{MayBeLoaded, HasSettledPart}
 use Rattle.seam_base_rounds.proofs.Joining.{is_among}
-use Rattle.seam_clients.specs.BaseLines.{base_in, base_lines, lines_after, number_of_line, ShowsItsPart}
+use Rattle.seam_shown.specs.BaseLines.{base_in, base_lines, lines_after, number_of_line, ShowsItsPart}
 use Rattle.seam_rules.specs.Clients.{is_base}
 use Rattle.seam_legal.proofs.Parts.{looks_leave_part, looks_show_part}
 use Rattle.seam_played.proofs.Numbered.{IsNumbered, still_numbered, loaded_numbered}

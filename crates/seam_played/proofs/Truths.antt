@@ -17,10 +17,10 @@ use Rattle.seam_transcript.specs.FlatTable.{flat}
 use Rattle.seam_tree.specs.Division.{Division}
 use Rattle.seam_entity.specs.Looks.{other_of_copy}
 use Rattle.seam_entity.specs.Reals.{RealView}
-use Rattle.seam_moves.specs.Frames.{here_at}
+use Rattle.seam_ones.specs.Frames.{here_at}
 use Rattle.seam_ones.specs.Replays.{Account, account_of, after_calls}
-use Rattle.seam_truths.specs.Truths as copies
-use Rattle.seam_truths.specs.Truths.{IsTrueCopy}
+use Rattle.seam_copies.specs.Truths as copies
+use Rattle.seam_copies.specs.Truths.{IsTrueCopy}
 use Rattle.seam_rules.specs.FlatTable.{properties, public_at, other_at}
 use Rattle.seam_legal.specs.Going.{frame_of}
 use Rattle.seam_legal.specs.Rounds.{IsDoneOn, BeginsReal}

@@ -8,7 +8,7 @@ use Rattle.seam_transcript.specs.Book.{joins}
 use Rattle.seam_batches.specs.Books.{IsOfLines, as_begun}
 use Rattle.seam_steps.specs.Bases.{PartView, ProxyView}
 use Rattle.seam_steps.specs.Nodes.{World}
-use Rattle.seam_moves.specs.Sights.{entity_flow}
+use Rattle.seam_ones.specs.Sights.{entity_flow}
 use Rattle.seam_laws.specs.Records.{KeepsRecords}
 use Rattle.seam_rules.specs.Standing.{Standing, replica_of}
 use Rattle.seam_legal.specs.Going.{frame_of, base_node, GoesWith, HasRoomForCalls, HasRoomForRound}

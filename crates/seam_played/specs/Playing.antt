@@ -1,6 +1,7 @@
 -- A round of a standing's open lines, played from one world to another.
-use Rattle.std.specs.Prelude.{◌≡◌, ℕ, ◌+◌, false, List, map, filter, length, Option, Some}
+use Rattle.std.specs.Prelude.{◌≡◌, ℕ, ◌+◌, false, List, map, filter, length, Option, None, Some}
 use Rattle.std.specs.List.{All, flat_map, list_any, range_with_len}
+use Rattle.seam_geo.specs.declared.pos.Pos.{Pos}
 use Rattle.seam_tree.specs.Division.{Division}
 use Rattle.seam_defs.specs.declared.flags.Part.TheVariants as part
 use Rattle.seam_call.specs.declared.create.Create.{Create}
@@ -11,11 +12,11 @@ use Rattle.seam_transcript.specs.Round.{Lists, ExtendsOrders}
 use Rattle.seam_accept.specs.Batches.{batch_of}
 use Rattle.seam_steps.specs.Bases.{PartView, ProxyView}
 use Rattle.seam_steps.specs.Nodes.{World}
-use Rattle.seam_moves.specs.Sights.{entity_flow}
-use Rattle.seam_between.specs.Between.{framed}
-use Rattle.seam_places.specs.Places.{GoesThroughRound}
+use Rattle.seam_ones.specs.Sights.{entity_flow}
+use Rattle.seam_rounds.specs.Between.{framed}
+use Rattle.seam_copies.specs.Places.{GoesThroughRound}
 use Rattle.seam_replica.specs.Clients.{ClientReplica}
-use Rattle.seam_clients.specs.Clients.{clients_loaded, clients_shown}
+use Rattle.seam_shown.specs.Clients.{clients_loaded, clients_shown}
 use Rattle.seam_rules.specs.Lines.{RoundData}
 use Rattle.seam_rules.specs.Clients.{is_base, base_shown, base_versions}
 use Rattle.seam_rules.specs.Standing.{Standing, replica_of}
@@ -50,6 +51,10 @@ abbrev pub clients_ended_in : (h : Header) (s : Standing) (tree : Division) (w v
 clients_ended_in h s tree w v p =
     let b = batch_of h s.book in
     clients_shown (framed (frame_of h tree) b) (clients_loaded (frame_of h tree) b (replica_of h s)) v
+
+-- where the entities are that live at its end
+abbrev pub positions_of : (h : Header) (s : Standing) (tree : Division) (w v : World) → IsPlayed h s tree w v → List Pos
+positions_of h s tree w v p = map (λ l. l.state.pos) (data_of h s tree w v p None).homes
 
 -- The points of a legal round that speak of no client: each part executed what was accepted for it, and the live entities are held where,
 -- and as, the rules ask.

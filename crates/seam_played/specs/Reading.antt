@@ -13,10 +13,10 @@ use Rattle.seam_entity.specs.Here.{cell_numbers}
 use Rattle.seam_entity.specs.Reals.{RealView}
 use Rattle.seam_steps.specs.Bases.{PartView}
 use Rattle.seam_steps.specs.Nodes.{World}
-use Rattle.seam_moves.specs.Sights.{entity_flow}
+use Rattle.seam_ones.specs.Sights.{entity_flow}
 use Rattle.seam_ones.specs.Ones.{real_in}
 use Rattle.seam_base_calls.specs.Clients.{proxy_of, lines_in}
-use Rattle.seam_places.specs.Places.{place_of}
+use Rattle.seam_copies.specs.Places.{place_of}
 use Rattle.seam_rules.specs.Lines.{ClientLine, RoundData, told_in}
 use Rattle.seam_rules.specs.Standing.{Standing, in_first_cell}
 use Rattle.seam_legal.specs.Going.{base_node}

@@ -5,10 +5,11 @@
 //! leaves (*standing_of*). Each law here is about one point of a legal round (*IsRound* of `seam_rules`).
 #![tactic(auto)]
 
-ghost use Rattle.std.specs.Prelude.{◌≡◌, ◌++◌, ℕ, false, List, [], IsTrue, IsFalse, Option, Some, is_some, map};
+ghost use Rattle.std.specs.Prelude.{◌≡◌, ◌++◌, ℕ, false, List, [], IsTrue, IsFalse, Option, None, Some, is_some, map};
 ghost use Rattle.std.specs.List.{All};
 ghost use Rattle.std.specs.List.Sorted.{IsNonDecreasing};
-ghost use Rattle.seam_tree.specs.Division.{Division};
+ghost use Rattle.seam_tree.specs.Division.{Division, IsTree};
+ghost use Rattle.seam_balance.specs.Balance.{IsBalanced, HasSameCuts};
 ghost use Rattle.seam_defs.specs.Settings.{AreLegal};
 ghost use Rattle.seam_defs.specs.Types.{AreDefs};
 ghost use Rattle.seam_call.specs.declared.create.Create.{Create};
@@ -16,14 +17,14 @@ ghost use Rattle.seam_call.specs.declared.shown.ClientText.TheVariants.{Shown};
 ghost use Rattle.seam_entity.specs.Reals.{RealView};
 ghost use Rattle.seam_steps.specs.Loads.{opened};
 ghost use Rattle.seam_steps.specs.Nodes.{World};
-ghost use Rattle.seam_moves.specs.Sights.{entity_flow};
+ghost use Rattle.seam_ones.specs.Sights.{entity_flow};
 ghost use Rattle.seam_ones.specs.Ones.{real_in};
 ghost use Rattle.seam_replica.specs.Clients.{shown_by_lines};
 ghost use Rattle.seam_replica.specs.Lines.{ShowsRightly};
 ghost use Rattle.seam_replica.specs.Looks.{one_look};
 ghost use Rattle.seam_toml.specs.declared.header.Header.{Header};
-ghost use Rattle.seam_transcript.specs.Book.{Book, one_cell, created_as, live_as, is_shown, has_tick, tree_of, with_entry, with_round_ended};
-ghost use Rattle.seam_transcript.specs.Book.{with_tree};
+ghost use Rattle.seam_transcript.specs.Book.{Book, one_cell, created_as, live_as, is_shown, has_tick, tree_of, with_entry};
+ghost use Rattle.seam_transcript.specs.Book.{with_round_ended, with_tree, has_balance};
 ghost use Rattle.seam_transcript.specs.Round.{Lists};
 ghost use Rattle.seam_transcript.specs.declared.verdict.Entry.{Entry};
 ghost use Rattle.seam_batches.specs.Books.{MayReplace};
@@ -37,7 +38,8 @@ ghost use Rattle.seam_laws.specs.Looks.{shown_to};
 ghost use Rattle.seam_laws.specs.Records.{KeepsRecords};
 ghost use Rattle.seam_played.specs.Beside.{GoesBetween};
 ghost use Rattle.seam_played.specs.Reading.{lines_told};
-ghost use Rattle.seam_played.specs.Playing.{IsPlayed, IsLegalButClients, ContinuesLines, data_of, standing_of, clients_ended_in};
+ghost use Rattle.seam_played.specs.Playing.{IsPlayed, IsLegalButClients, ContinuesLines, data_of, standing_of, positions_of};
+ghost use Rattle.seam_played.specs.Playing.{clients_ended_in};
 
 /// The entities of a book, those that were created and those that live, can be listed in rising number.
 pub fn entities_can_be_listed()
@@ -90,8 +92,8 @@ pub fn clients_are_shown_base_parts()
 {
     seam_batches::lines_bring_what_fits();
     seam_batches::uncreated_numbers_are_untouched();
-    seam_places::the_last_phases_leave_places();
-    seam_clients::the_base_part_is_shown_at_each_change();
+    seam_copies::the_last_phases_leave_places();
+    seam_shown::the_base_part_is_shown_at_each_change();
     seam_laws::calls_obey_the_laws();
     seam_laws::reaps_obey_the_laws();
     seam_legal::what_lines_bring_fits();
@@ -111,7 +113,7 @@ pub fn clients_show_what_they_were_told()
 {
     seam_batches::lines_bring_what_fits();
     seam_batches::uncreated_numbers_are_untouched();
-    seam_clients::clients_go_from_record_to_record();
+    seam_shown::clients_go_from_record_to_record();
     seam_laws::calls_obey_the_laws();
     seam_laws::reaps_obey_the_laws();
     seam_laws::looks_obey_the_laws();
@@ -126,7 +128,7 @@ pub fn a_look_after_the_round_shows_nothing()
         (next : Book) (e : ℕ) → IsTrue (is_shown s.book e) →
         let t = standing_of h s tree w v p bounds next in one_look (replica_of h t e) e (rows_of h t.orders p.live) ≡ [] }
 {
-    seam_places::the_last_phases_leave_places();
+    seam_copies::the_last_phases_leave_places();
     seam_shown::a_further_look_shows_nothing();
     seam_laws::calls_obey_the_laws();
     seam_laws::reaps_obey_the_laws();
@@ -163,8 +165,8 @@ pub fn without_a_tick_each_client_is_shown_one_look()
 {
     seam_batches::lines_bring_what_fits();
     seam_batches::uncreated_numbers_are_untouched();
-    seam_places::the_last_phases_leave_places();
-    seam_clients::the_base_part_is_shown_at_each_change();
+    seam_copies::the_last_phases_leave_places();
+    seam_shown::the_base_part_is_shown_at_each_change();
     seam_laws::calls_obey_the_laws();
     seam_laws::reaps_obey_the_laws();
     seam_laws::looks_obey_the_laws();
@@ -193,20 +195,65 @@ pub fn what_calls_show_of_cell_parts_is_right()
     seam_legal::reals_are_those_of_the_flat_table();
 }
 
-/// So a played round is legal, where what its clients are shown of cell parts is right, and where the next round begins with the tree that
-/// the rules ask for.
-pub fn a_played_round_is_legal()
+/// And so is all that clients are shown of cell parts in the round: what the calls show, and then, where the entity lives on, one look at
+/// the table that the round leaves.
+pub fn what_clients_are_shown_is_right()
     ensures { (h : Header) (s : Standing) (tree : Division) (w v : World) (p : IsPlayed h s tree w v) (bounds : Option Division)
+        (next : Book) (c : Create) → created_as s.book c.entity ≡ Some c → IsTrue (is_shown s.book c.entity) →
+        ShowsRightly (truth_of h s (standing_of h s tree w v p bounds next) c) c.entity (replica_of h s c.entity)
+        (shown_by_lines (told_in (data_of h s tree w v p bounds) c.entity)) }
+{
+    seam_batches::lines_bring_what_fits();
+    seam_batches::uncreated_numbers_are_untouched();
+    seam_copies::the_last_phases_leave_places();
+    seam_shown::a_look_is_shown_rightly();
+    seam_shown::a_look_is_one_look_at_the_table();
+    seam_shown::a_further_look_shows_nothing();
+    seam_shown::clients_go_from_record_to_record();
+    seam_laws::calls_obey_the_laws();
+    seam_laws::reaps_obey_the_laws();
+    seam_laws::looks_obey_the_laws();
+    seam_legal::what_lines_bring_fits();
+    seam_legal::a_book_goes_with_the_world_after_its_round();
+    seam_legal::reals_are_those_of_the_flat_table();
+    seam_legal::the_table_of_a_world_is_that_of_the_rules();
+    client_lines_are_gathered();
+    what_calls_show_of_cell_parts_is_right();
+}
+
+/// The next round begins with the tree that the rules ask for: with the round's own where no `balance` was accepted (`kept`), and where one
+/// was, with the tree that has its boundaries where the homes of the round balance them (`balanced`), which may take the place of the
+/// round's tree (`replaces`).
+pub fn the_next_round_has_the_tree_of_the_rules()
+    ensures kept { (h : Header) (s : Standing) (tree : Division) (w v : World) (p : IsPlayed h s tree w v) →
+        IsFalse (has_balance s.book) →
+        HasBounds h s (data_of h s tree w v p None) (standing_of h s tree w v p None (with_round_ended s.book)) }
+    ensures balanced { (h : Header) (s : Standing) (tree : Division) (w v : World) (p : IsPlayed h s tree w v) (u : Division) →
+        IsTrue (has_balance s.book) → IsBalanced (positions_of h s tree w v p) h.settings.balance_shift (tree_of s.book) u →
+        HasBounds h s (data_of h s tree w v p (Some u)) (standing_of h s tree w v p (Some u) (with_tree (with_round_ended s.book) u)) }
+    ensures replaces { (t u : Division) → IsTree u → HasSameCuts t u → MayReplace t u }
+{}
+
+/// So a played round is legal where the next one begins with the tree that the rules ask for (`with_bounds`): one in which no `balance` was
+/// accepted (`kept`), and one with the tree that its homes balance (`balanced`).
+pub fn a_played_round_is_legal()
+    ensures with_bounds { (h : Header) (s : Standing) (tree : Division) (w v : World) (p : IsPlayed h s tree w v) (bounds : Option Division)
         (next : Book) → let r = data_of h s tree w v p bounds in let t = standing_of h s tree w v p bounds next in
-        ((c : Create) → created_as s.book c.entity ≡ Some c → IsTrue (is_shown s.book c.entity) →
-        ShowsRightly (truth_of h s t c) c.entity (replica_of h s c.entity) (shown_by_lines (told_in r c.entity))) → HasBounds h s r t →
-        IsRound h s r t }
+        HasBounds h s r t → IsRound h s r t }
+    ensures kept { (h : Header) (s : Standing) (tree : Division) (w v : World) (p : IsPlayed h s tree w v) →
+        IsFalse (has_balance s.book) →
+        IsRound h s (data_of h s tree w v p None) (standing_of h s tree w v p None (with_round_ended s.book)) }
+    ensures balanced { (h : Header) (s : Standing) (tree : Division) (w v : World) (p : IsPlayed h s tree w v) (u : Division) →
+        IsTrue (has_balance s.book) → IsBalanced (positions_of h s tree w v p) h.settings.balance_shift (tree_of s.book) u →
+        IsRound h s (data_of h s tree w v p (Some u)) (standing_of h s tree w v p (Some u) (with_tree (with_round_ended s.book) u)) }
 {
     a_played_round_is_legal_but_for_clients();
     client_lines_are_gathered();
     clients_are_shown_base_parts();
     a_look_after_the_round_shows_nothing();
     without_a_tick_each_client_is_shown_one_look();
+    what_clients_are_shown_is_right();
+    the_next_round_has_the_tree_of_the_rules();
 }
 
 /// The standing after a header goes with a world that was opened for it (`opened`), and still goes with it when a line was read (`line`) or

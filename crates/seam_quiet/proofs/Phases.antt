@@ -14,10 +14,10 @@ use Rattle.seam_steps.specs.Holders.{holders}
 use Rattle.seam_steps.specs.Nodes.{NodeView, World, node_steps, node_has_work}
 use Rattle.seam_steps.specs.Nodes.NodeView.{Cell, Base}
 use Rattle.seam_steps.specs.Loads.{loaded, reaps_loaded, look_loaded, ordered_at}
-use Rattle.seam_moves.specs.Frames.{Frame}
-use Rattle.seam_between.specs.Between.{numbers_of}
+use Rattle.seam_ones.specs.Frames.{Frame}
+use Rattle.seam_rounds.specs.Between.{numbers_of}
 use Rattle.seam_rounds.specs.Rounds.{AreReapable}
-use Rattle.seam_places.specs.Places.{GoesThroughRound}
+use Rattle.seam_copies.specs.Places.{GoesThroughRound}
 use Rattle.seam_base_rounds.specs.Parts.{MayBeLoaded}
 use Rattle.seam_replica.specs.Clients.{ClientReplica}
 use Rattle.seam_laws.specs.Records.{KeepsRecordsWithin}

@@ -1,5 +1,5 @@
 -- A round of a world on one thread.
-use Rattle.std.specs.Prelude.{◌≡◌, ℕ, ◌+◌, ◌-◌, ◌*◌, ◌≤◌, List, length}
+use Rattle.std.specs.Prelude.{◌≡◌, ℕ, ◌-◌, ◌*◌, ◌≤◌, List, length}
 use Rattle.seam_machine.specs.Nets.{IsQuiet}
 use Rattle.seam_machine.specs.declared.machines.Event.{Event}
 use Rattle.seam_finish.specs.Finishing.{TakesFirst}
@@ -7,8 +7,8 @@ use Rattle.seam_call.specs.declared.order.Batch.{Batch}
 use Rattle.seam_entity.specs.Here.{cell_count}
 use Rattle.seam_steps.specs.Nodes.{World, node_steps, node_has_work}
 use Rattle.seam_steps.specs.Loads.{loaded, reaps_loaded, look_loaded}
-use Rattle.seam_moves.specs.Frames.{Frame}
-use Rattle.seam_places.specs.Places.{GoesThroughRound}
+use Rattle.seam_ones.specs.Frames.{Frame}
+use Rattle.seam_copies.specs.Places.{GoesThroughRound}
 use Rattle.seam_replica.specs.Clients.{ClientReplica}
 use Rattle.seam_laws.specs.Records.{KeepsRecords, MayBeGiven}
 use Rattle.seam_phases.specs.Records.{IsBounded}

@@ -1,7 +1,7 @@
 //! What a round asks can be met.
 
 ghost use Rattle.seam_base_rounds.specs.Example.{opening};
-ghost use Rattle.seam_clients.specs.Crossing as crossing;
+ghost use Rattle.seam_shown.specs.Crossing as crossing;
 ghost use Rattle.seam_defs.specs.Settings.{standard};
 ghost use Rattle.seam_replica.specs.Clients.{new_client};
 ghost use Rattle.seam_steps.specs.Rows.{empty_world};

@@ -1,8 +1,9 @@
 //! Rounds of a world on one thread, each the same for the same world and batch.
 //!
 //! A round has three phases: the calls of its batch, the reaps of the entities that die in it, and the looks of the witnesses that are
-//! left. In each phase events happen until the world is quiet (`seam_finish`). Which events happened is the round's journal, for who
-//! watches (`seam_watch`).
+//! left. The first is one call and the others are another, so that what the calls did can be read where they ended (`run_calls`,
+//! `run_ends`); or all are one (`run_round`). In each phase events happen until the world is quiet (`seam_finish`). Which events happened
+//! is the round's journal, for who watches (`seam_watch`).
 #![tactic(auto)]
 
 mod laws;
@@ -11,4 +12,4 @@ mod round;
 mod tests;
 
 pub use laws::a_worked_round_may_run;
-pub use round::{run_phase, run_round};
+pub use round::{Called, Ended, run_calls, run_ends, run_phase, run_round};

@@ -1,9 +1,9 @@
-//! The worked round of two witnesses and an entity that crosses the boundary between them (`seam_clients`), run.
+//! The worked round of two witnesses and an entity that crosses the boundary between them (`seam_shown`), run.
 
 ghost use Rattle.std.specs.Prelude.{◌≡◌, IfOk};
 ghost use Rattle.seam_steps.specs.EarlyCall.{two_cells as halves};
 ghost use Rattle.seam_steps.specs.ViewRounds.{made_at};
-ghost use Rattle.seam_clients.specs.Crossing as crossing;
+ghost use Rattle.seam_shown.specs.Crossing as crossing;
 
 use crate::{a_worked_round_may_run, run_round};
 use seam_call::{BaseNode, Batch, Call, Create, Order, Sender};

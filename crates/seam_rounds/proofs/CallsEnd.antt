@@ -24,18 +24,18 @@ use Rattle.seam_entity.specs.declared.message.Msg.{Msg}
 use Rattle.seam_entity.specs.Here.{cell_count}
 use Rattle.seam_steps.specs.Nodes.{World, node_steps, node_has_work}
 use Rattle.seam_steps.specs.Loads.{loaded}
-use Rattle.seam_moves.specs.Frames.{Frame}
-use Rattle.seam_moves.specs.Sights.{Has, mine, entity_flow}
+use Rattle.seam_ones.specs.Frames.{Frame}
+use Rattle.seam_ones.specs.Sights.{Has, mine, entity_flow}
 use Rattle.seam_ones.specs.Fits.{RealFits}
 use Rattle.seam_ones.specs.Ones.{real_in, real_of, IsOne, OneFrom}
 use Rattle.seam_ones.proofs.Gone.{gone_leads}
 use Rattle.seam_ones.proofs.OneReal.{one_leads}
-use Rattle.seam_once.specs.CellTurns.{desk_for, real_desk, as_sender}
-use Rattle.seam_between.specs.Between.{calls_of, next_from, IsSettled, IsBetweenRounds, IsFitting, framed}
-use Rattle.seam_between.proofs.Framing.{in_frame, many_loaded}
-use Rattle.seam_between.proofs.Loaded.{no_mail}
-use Rattle.seam_between.proofs.Ready.{one_at_home}
-use Rattle.seam_between.proofs.Going.{frame_loaded, settled_loaded, one_loaded, spared_loaded, Keeps, kept_after, all_were_executed}
+use Rattle.seam_ones.specs.CellTurns.{desk_for, real_desk, as_sender}
+use Rattle.seam_rounds.specs.Between.{calls_of, next_from, IsSettled, IsBetweenRounds, IsFitting, framed}
+use Rattle.seam_rounds.proofs.Framing.{in_frame, many_loaded}
+use Rattle.seam_rounds.proofs.Loaded.{no_mail}
+use Rattle.seam_rounds.proofs.Ready.{one_at_home}
+use Rattle.seam_rounds.proofs.Going.{frame_loaded, settled_loaded, one_loaded, spared_loaded, Keeps, kept_after, all_were_executed}
 use Rattle.seam_rounds.proofs.Shape.{Somewhere, Nowhere, search_real, frame_leads, many_leads}
 use Rattle.seam_rounds.proofs.Publics.{public_low}
 use Rattle.seam_rounds.specs.Routes.{as_entry, route_entry, brings_route}

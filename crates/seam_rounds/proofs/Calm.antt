@@ -11,8 +11,8 @@ use Rattle.seam_entity.specs.declared.message.Msg.{Msg}
 use Rattle.seam_entity.specs.declared.message.Msg.TheVariants.{Call, BaseCall, Hand, Current, GhostSet, GhostDrop, Tick, Reap, Update}
 use Rattle.seam_entity.specs.Here.{cell_count}
 use Rattle.seam_steps.specs.Nodes.{NodeView, World}
-use Rattle.seam_moves.specs.Frames.{Frame, IsInFrame}
-use Rattle.seam_moves.specs.Sights.{Has, mine, has_of, entity_flow}
+use Rattle.seam_ones.specs.Frames.{Frame, IsInFrame}
+use Rattle.seam_ones.specs.Sights.{Has, mine, has_of, entity_flow}
 use Rattle.seam_ones.specs.Ones.{real_in}
 
 -- the real q is r but for its witness

@@ -24,14 +24,14 @@ use Rattle.seam_steps.specs.CellCases.{is_stray, drop_at}
 use Rattle.seam_steps.specs.BaseCases.{tick_to}
 use Rattle.seam_steps.specs.Bases.{RouteView}
 use Rattle.seam_steps.specs.Looks.{numbered, shown_of, looks_with}
-use Rattle.seam_moves.specs.Frames.{Frame, here_at}
+use Rattle.seam_ones.specs.Frames.{Frame, here_at}
 use Rattle.seam_steps.specs.Nodes.{World}
-use Rattle.seam_moves.specs.Sights.{Has, AtCell, AtBase, entity_flow}
-use Rattle.seam_moves.specs.CellMoves as move
-use Rattle.seam_moves.specs.CellMoves.{unlisted_if, Does, Acts, surveys, calls, readies, CellMoves}
-use Rattle.seam_moves.specs.BaseMoves as base_move
-use Rattle.seam_moves.specs.BaseMoves.{BaseMoves}
-use Rattle.seam_moves.specs.Moves.{Moves, at_a_cell, at_a_base}
+use Rattle.seam_ones.specs.Sights.{Has, AtCell, AtBase, entity_flow}
+use Rattle.seam_ones.specs.CellMoves as move
+use Rattle.seam_ones.specs.CellMoves.{unlisted_if, Does, Acts, surveys, calls, readies, CellMoves}
+use Rattle.seam_ones.specs.BaseMoves as base_move
+use Rattle.seam_ones.specs.BaseMoves.{BaseMoves}
+use Rattle.seam_ones.specs.Moves.{Moves, at_a_cell, at_a_base}
 use Rattle.seam_ones.specs.Ones.{real_in}
 use Rattle.seam_rounds.proofs.Calm.{IsSame, IsCalmOrder, IsCalmAt, IsCalmTo, order_reaps, letter_reaps, has_reaps, one_if}
 

@@ -24,10 +24,10 @@ use Rattle.seam_entity.specs.Numbers.{may_rise}
 use Rattle.seam_entity.specs.Here.{cell_count}
 use Rattle.seam_steps.specs.Bases.{RouteView}
 use Rattle.seam_steps.specs.Nodes.{World, node_steps}
-use Rattle.seam_moves.specs.Frames.{Frame}
-use Rattle.seam_moves.specs.Sights.{Has, concerns, kept_if, mine, concerning, has_of, has_none, entity_flow}
-use Rattle.seam_moves.specs.Moves.{MovesTo}
-use Rattle.seam_moves.proofs.Classify.{node_laws, node_moves, frame_happens, event_moves_with}
+use Rattle.seam_ones.specs.Frames.{Frame}
+use Rattle.seam_ones.specs.Sights.{Has, concerns, kept_if, mine, concerning, has_of, has_none, entity_flow}
+use Rattle.seam_ones.specs.Moves.{MovesTo}
+use Rattle.seam_ones.proofs.Classify.{node_laws, node_moves, frame_happens, event_moves_with}
 use Rattle.seam_ones.specs.Ones.{real_in}
 use Rattle.seam_rounds.proofs.Shape.{items_each}
 use Rattle.seam_rounds.proofs.Calm.{IsCalmAt, IsCalmTo, letter_reaps, node_reaps, mine_reaps, reaps_of, one_if, IsCalm}

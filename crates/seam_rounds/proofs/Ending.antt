@@ -15,11 +15,11 @@ use Rattle.seam_entity.specs.Reals.{RealView, WitnessView}
 use Rattle.seam_entity.specs.declared.message.Msg.{Msg}
 use Rattle.seam_entity.specs.declared.message.Msg.TheVariants.{Call, BaseCall, Hand, Current, GhostSet, GhostDrop, Tick, Reap, Update}
 use Rattle.seam_steps.specs.Nodes.{World}
-use Rattle.seam_moves.specs.Frames.{Frame}
-use Rattle.seam_moves.specs.Sights.{entity_flow}
+use Rattle.seam_ones.specs.Frames.{Frame}
+use Rattle.seam_ones.specs.Sights.{entity_flow}
 use Rattle.seam_ones.specs.Ones.{real_in, real_of, IsOne}
-use Rattle.seam_once.specs.CellTurns.{cell_order_from, real_desk, cell_mail}
-use Rattle.seam_between.specs.Between.{IsSettled}
+use Rattle.seam_ones.specs.CellTurns.{cell_order_from, real_desk, cell_mail}
+use Rattle.seam_rounds.specs.Between.{IsSettled}
 use Rattle.seam_rounds.specs.Rounds.{HasNoCalls}
 use Rattle.seam_rounds.proofs.Calm.{IsSame, IsCalmOrder, IsCalmTo, IsCalm}
 

@@ -4,7 +4,7 @@ use Rattle.std.specs.List.{IsDistinct}
 use Rattle.seam_entity.specs.Reals.{RealView}
 use Rattle.seam_entity.specs.Numbers.{may_rise}
 use Rattle.seam_steps.specs.EarlyCall.{world_12}
-use Rattle.seam_between.proofs.ExampleBetween.{holds_one, is_hit_twice}
+use Rattle.seam_rounds.proofs.ExampleBetween.{holds_one, is_hit_twice}
 use Rattle.seam_rounds.specs.Rounds.{AreReapable}
 
 pub reapable : AreReapable world_12 (1 ∷ [])

@@ -21,12 +21,12 @@ use Rattle.seam_steps.specs.Nodes.{NodeView, World, node_has_work}
 use Rattle.seam_steps.specs.Nodes.NodeView.{Cell, Base}
 use Rattle.seam_steps.specs.Loads.{with_nodes, order_if, ordered_at, reap_ordered_at}
 use Rattle.seam_steps.specs.Valid.{IsNode}
-use Rattle.seam_moves.specs.Frames.{Frame, here_at, IsBaseAt, IsAt, IsInFrame}
-use Rattle.seam_moves.specs.Sights.{order_concerns, orders_of, times, has_of, has_none, entity_flow}
+use Rattle.seam_ones.specs.Frames.{Frame, here_at, IsBaseAt, IsAt, IsInFrame}
+use Rattle.seam_ones.specs.Sights.{order_concerns, orders_of, times, has_of, has_none, entity_flow}
 use Rattle.seam_ones.specs.Ones.{real_in}
-use Rattle.seam_between.specs.Loaded.{each}
-use Rattle.seam_between.proofs.Loading.{each_keeps, Any, any}
-use Rattle.seam_between.proofs.Framing.{frame_turns}
+use Rattle.seam_rounds.specs.Loaded.{each}
+use Rattle.seam_rounds.proofs.Loading.{each_keeps, Any, any}
+use Rattle.seam_rounds.proofs.Framing.{frame_turns}
 use Rattle.seam_rounds.proofs.Calm.{IsCalmOrder, order_reaps}
 use Rattle.seam_rounds.proofs.Starting.{Given, idle_orders}
 

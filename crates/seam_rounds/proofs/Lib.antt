@@ -1,3 +1,14 @@
+pub mod Loading
+pub mod Framing
+pub mod Staying
+pub mod Making
+pub mod Ready
+pub mod Loaded
+pub mod Turns
+pub mod Room
+pub mod Going
+pub mod ExampleBetween
+pub mod ExampleFits
 pub mod Shape
 pub mod Publics
 pub mod Calm

@@ -13,13 +13,13 @@ use Rattle.seam_entity.specs.Here.{cell_count, base_of}
 use Rattle.seam_steps.specs.Holders.{holders}
 use Rattle.seam_steps.specs.Nodes.{World, node_steps, node_has_work}
 use Rattle.seam_steps.specs.Loads.{ordered_at, look_loaded}
-use Rattle.seam_moves.specs.Frames.{Frame, here_at}
-use Rattle.seam_moves.specs.Sights.{entity_flow}
+use Rattle.seam_ones.specs.Frames.{Frame, here_at}
+use Rattle.seam_ones.specs.Sights.{entity_flow}
 use Rattle.seam_ones.specs.Ones.{real_in, real_of}
 use Rattle.seam_ones.proofs.Counting.{counted_none, none_counts}
 use Rattle.seam_ones.proofs.Gone.{gone_leads}
-use Rattle.seam_between.specs.Between.{IsBetweenRounds}
-use Rattle.seam_between.proofs.Ready.{quiet_home}
+use Rattle.seam_rounds.specs.Between.{IsBetweenRounds}
+use Rattle.seam_rounds.proofs.Ready.{quiet_home}
 use Rattle.seam_rounds.specs.Rounds.{HasNoCalls}
 use Rattle.seam_rounds.proofs.Calm.{one_if, IsCalm}
 use Rattle.seam_rounds.proofs.Starting.{Given, starts_calm}

@@ -26,11 +26,11 @@ use Rattle.seam_steps.specs.Nodes.{NodeView, World, node_peers, node_has_work}
 use Rattle.seam_steps.specs.Valid.{IsNode}
 use Rattle.seam_steps.specs.Loads.{empty_cell, empty_base, opened}
 use Rattle.seam_steps.proofs.Tables.{entries_empty}
-use Rattle.seam_moves.specs.Frames.{Frame, IsAt}
-use Rattle.seam_moves.specs.Sights.{Has, no_cell, no_base, has_of, has_none, entity_flow}
+use Rattle.seam_ones.specs.Frames.{Frame, IsAt}
+use Rattle.seam_ones.specs.Sights.{Has, no_cell, no_base, has_of, has_none, entity_flow}
 use Rattle.seam_ones.specs.Ones.{real_in, IsFrame}
 use Rattle.seam_ones.proofs.ExampleMet.{no_link, slots}
-use Rattle.seam_between.specs.Between.{IsBetweenRounds}
+use Rattle.seam_rounds.specs.Between.{IsBetweenRounds}
 use Rattle.seam_rounds.specs.Rounds.{first_frame}
 
 -- what is true of each that is made for a range of numbers, and of what comes after

@@ -21,14 +21,14 @@ use Rattle.seam_entity.specs.Here.{cell_count}
 use Rattle.seam_steps.specs.Bases.{RouteView}
 use Rattle.seam_steps.specs.Holders.{holders}
 use Rattle.seam_steps.specs.Nodes.{World, node_steps, node_has_work}
-use Rattle.seam_moves.specs.Frames.{Frame, IsInFrame}
-use Rattle.seam_moves.specs.Sights.{concerns, kept_if, mine, entity_flow}
+use Rattle.seam_ones.specs.Frames.{Frame, IsInFrame}
+use Rattle.seam_ones.specs.Sights.{concerns, kept_if, mine, entity_flow}
 use Rattle.seam_ones.specs.Ones.{real_in, real_of, reaped_by, reaps, IsFrame}
 use Rattle.seam_ones.proofs.Counting.{one_counts, none_counts}
 use Rattle.seam_ones.proofs.Gone.{gone_leads}
-use Rattle.seam_between.specs.Between.{IsSettled, IsBetweenRounds}
-use Rattle.seam_between.proofs.Room.{rows_none}
-use Rattle.seam_between.proofs.Ready.{route_leads}
+use Rattle.seam_rounds.specs.Between.{IsSettled, IsBetweenRounds}
+use Rattle.seam_rounds.proofs.Room.{rows_none}
+use Rattle.seam_rounds.proofs.Ready.{route_leads}
 use Rattle.seam_rounds.specs.Rounds.{reap_comes}
 use Rattle.seam_rounds.proofs.Shape.{Somewhere, Nowhere, search_real, frame_leads, many_leads}
 use Rattle.seam_rounds.proofs.Calm.{order_reaps, node_reaps, mine_reaps, reaps_of, one_if, IsCalm}

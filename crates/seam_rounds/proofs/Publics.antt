@@ -5,7 +5,7 @@ use Rattle.seam_defs.specs.declared.types.TypeDef.{TypeDef}
 use Rattle.seam_call.specs.declared.call.Call.{Call as CallData}
 use Rattle.seam_entity.specs.Reals.{RealView}
 use Rattle.seam_entity.specs.Executing.{public_after}
-use Rattle.seam_moves.specs.Frames.{Frame}
+use Rattle.seam_ones.specs.Frames.{Frame}
 use Rattle.seam_ones.specs.Replays.{Account, account_of, after_call, after_calls, Replays}
 
 after_low : (b : Bool) (v p : ℕ) → p ≤ v → public_after b (v + 1) p ≤ v + 1

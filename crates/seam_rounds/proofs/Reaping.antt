@@ -15,15 +15,15 @@ use Rattle.seam_entity.specs.Here.{base_of}
 use Rattle.seam_steps.specs.Holders.{holders}
 use Rattle.seam_steps.specs.Nodes.{NodeView, World, node_steps, node_has_work}
 use Rattle.seam_steps.specs.Loads.{with_nodes, reap_ordered_at, reaps_loaded}
-use Rattle.seam_moves.specs.Frames.{Frame, here_at, IsInFrame}
-use Rattle.seam_moves.specs.Sights.{times, entity_flow}
+use Rattle.seam_ones.specs.Frames.{Frame, here_at, IsInFrame}
+use Rattle.seam_ones.specs.Sights.{times, entity_flow}
 use Rattle.seam_ones.specs.Ones.{real_in, real_of}
 use Rattle.seam_ones.proofs.Counting.{counted_none, none_counts}
 use Rattle.seam_ones.proofs.Gone.{gone_leads}
-use Rattle.seam_between.specs.Between.{IsBetweenRounds}
-use Rattle.seam_between.specs.Loaded.{each}
-use Rattle.seam_between.proofs.Loading.{nodes_after}
-use Rattle.seam_between.proofs.Ready.{quiet_home}
+use Rattle.seam_rounds.specs.Between.{IsBetweenRounds}
+use Rattle.seam_rounds.specs.Loaded.{each}
+use Rattle.seam_rounds.proofs.Loading.{nodes_after}
+use Rattle.seam_rounds.proofs.Ready.{quiet_home}
 use Rattle.seam_rounds.specs.Rounds.{AreReapable, reap_comes, HasNoCalls}
 use Rattle.seam_rounds.proofs.Calm.{one_if, IsCalm}
 use Rattle.seam_rounds.proofs.Starting.{Given, times_at_most_one, starts_calm}

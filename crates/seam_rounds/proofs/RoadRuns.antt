@@ -25,15 +25,15 @@ use Rattle.seam_entity.specs.Here.{cell_count, base_numbers}
 use Rattle.seam_steps.specs.CellCases.{current_to, currents}
 use Rattle.seam_steps.specs.Bases.{RouteView}
 use Rattle.seam_steps.specs.Nodes.{World, node_steps, node_has_work}
-use Rattle.seam_moves.specs.Frames.{Frame, here_at}
-use Rattle.seam_moves.specs.Sights.{Has as Had, entity_flow}
+use Rattle.seam_ones.specs.Frames.{Frame, here_at}
+use Rattle.seam_ones.specs.Sights.{Has as Had, entity_flow}
 use Rattle.seam_ones.specs.Burdens.{real_burden}
 use Rattle.seam_ones.specs.Ones.{real_in, real_of, IsOne, IsSpared, IsFrame, HasOne}
 use Rattle.seam_ones.proofs.Plain.{mapped_silent}
 use Rattle.seam_ones.proofs.Sparing.{items_all}
 use Rattle.seam_ones.proofs.OneReal.{goes, room, one_happens, calm_of, spared_happens}
 use Rattle.seam_ones.proofs.Handling.{FindsRoom}
-use Rattle.seam_moves.specs.Moves.{MovesTo}
+use Rattle.seam_ones.specs.Moves.{MovesTo}
 use Rattle.seam_rounds.specs.Routes.{as_entry, route_entry, brings_route, IsKnownAt}
 use Rattle.seam_rounds.proofs.RoadMoves.{road_of, generation_of, IsGoodRoute, Roads, plain, arrives, departs}
 use Rattle.seam_rounds.proofs.RoadMoves.{roads, Reroutes, reroutes}

@@ -13,9 +13,9 @@ use Rattle.std.proofs.lemmas.Bool.{eqb-true}
 use Rattle.seam_entity.specs.Reals.{RealView}
 use Rattle.seam_entity.specs.declared.message.Msg.{Msg}
 use Rattle.seam_steps.specs.Nodes.{NodeView, World, node_steps, node_has_work}
-use Rattle.seam_moves.specs.Frames.{Frame, IsInFrame}
-use Rattle.seam_moves.specs.Sights.{has_of, has_none, entity_flow}
-use Rattle.seam_moves.proofs.Classify.{frame_happens}
+use Rattle.seam_ones.specs.Frames.{Frame, IsInFrame}
+use Rattle.seam_ones.specs.Sights.{has_of, has_none, entity_flow}
+use Rattle.seam_ones.proofs.Classify.{frame_happens}
 use Rattle.seam_ones.specs.Ones.{real_in}
 
 pub frame_leads : (f : Frame) (w v : World) (es : List Event) → IsInFrame f w → LeadsTo node_has_work node_steps w es v → IsInFrame f v

@@ -15,14 +15,14 @@ use Rattle.seam_entity.specs.Here.{base_of}
 use Rattle.seam_steps.specs.Nodes.{NodeView, World, node_has_work}
 use Rattle.seam_steps.specs.Nodes.NodeView.{Cell, Base}
 use Rattle.seam_steps.specs.Loads.{with_nodes}
-use Rattle.seam_moves.specs.Frames.{Frame, here_at, IsInFrame}
-use Rattle.seam_moves.specs.Sights.{mine, orders_of, times, has_of, has_none, entity_flow}
+use Rattle.seam_ones.specs.Frames.{Frame, here_at, IsInFrame}
+use Rattle.seam_ones.specs.Sights.{mine, orders_of, times, has_of, has_none, entity_flow}
 use Rattle.seam_ones.specs.Ones.{real_in}
-use Rattle.seam_between.specs.Between.{IsSettled, IsBetweenRounds}
-use Rattle.seam_between.specs.Loaded.{each}
-use Rattle.seam_between.proofs.Loading.{node_there}
-use Rattle.seam_between.proofs.Loaded.{no_items}
-use Rattle.seam_between.proofs.Room.{rows_none}
+use Rattle.seam_rounds.specs.Between.{IsSettled, IsBetweenRounds}
+use Rattle.seam_rounds.specs.Loaded.{each}
+use Rattle.seam_rounds.proofs.Loading.{node_there}
+use Rattle.seam_rounds.proofs.Loaded.{no_items}
+use Rattle.seam_rounds.proofs.Room.{rows_none}
 use Rattle.seam_rounds.proofs.Calm.{IsCalmOrder, IsCalmAt, IsCalmTo, has_reaps, node_reaps, mine_reaps, one_if, IsCalm}
 
 -- ---- lists

@@ -1,2 +1,5 @@
+pub mod Between
+pub mod Loaded
+pub mod Example
 pub mod Rounds
 pub mod Routes

@@ -11,10 +11,10 @@ use Rattle.seam_entity.specs.Numbers.{may_rise}
 use Rattle.seam_steps.specs.Holders.{holders}
 use Rattle.seam_steps.specs.Nodes.{World, node_steps}
 use Rattle.seam_steps.specs.Loads.{one_cell}
-use Rattle.seam_moves.specs.Frames.{Frame}
-use Rattle.seam_moves.specs.Sights.{entity_flow}
+use Rattle.seam_ones.specs.Frames.{Frame}
+use Rattle.seam_ones.specs.Sights.{entity_flow}
 use Rattle.seam_ones.specs.Ones.{real_in, reaps}
-use Rattle.seam_once.specs.CellTurns.{as_sender}
+use Rattle.seam_ones.specs.CellTurns.{as_sender}
 
 -- what the nodes of a world go by as it is opened: the tree of one cell
 abbrev pub first_frame : List TypeDef → Settings → Frame

@@ -7,7 +7,7 @@ use Rattle.seam_entity.specs.Reals.{RealView}
 use Rattle.seam_entity.specs.declared.message.Msg.{Msg}
 use Rattle.seam_entity.specs.declared.message.Msg.TheVariants.{Call, BaseCall, Hand, Current, GhostSet, GhostDrop, Tick, Reap, Update}
 use Rattle.seam_steps.specs.Bases.{RouteView}
-use Rattle.seam_moves.specs.Sights.{Has}
+use Rattle.seam_ones.specs.Sights.{Has}
 
 -- the generation and the cell of a route, both 0 where there is none
 abbrev pub as_entry : Option RouteView → ℕ × ℕ

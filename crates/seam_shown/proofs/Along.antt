@@ -8,7 +8,7 @@ use Rattle.seam_entity.specs.Reals.{RealView, WitnessView}
 use Rattle.seam_steps.specs.Looks.{shown_of, looks_of, after_looking}
 use Rattle.seam_steps.specs.Cells.{known_to}
 use Rattle.seam_steps.specs.Nodes.{World, node_steps, node_has_work}
-use Rattle.seam_moves.specs.Frames.{Frame}
+use Rattle.seam_ones.specs.Frames.{Frame}
 use Rattle.seam_ones.specs.Ones.{IsSpared}
 use Rattle.seam_base_calls.specs.Clients.{HasClient, HasToldAtMost, HasRoomFor}
 use Rattle.seam_replica.specs.Clients.{ClientReplica, after_shown, after_all_shown}

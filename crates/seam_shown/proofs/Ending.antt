@@ -26,28 +26,28 @@ use Rattle.seam_entity.specs.declared.message.Msg.{Msg}
 use Rattle.seam_steps.specs.Bases.{RouteView}
 use Rattle.seam_steps.specs.Loads.{loaded}
 use Rattle.seam_steps.specs.Nodes.{World, node_steps, node_has_work}
-use Rattle.seam_moves.specs.Frames.{Frame, here_at, IsInFrame}
-use Rattle.seam_moves.specs.Sights.{Has, AtBase, entity_flow}
-use Rattle.seam_moves.specs.BaseMoves as move
-use Rattle.seam_moves.specs.BaseMoves.{BaseMoves}
-use Rattle.seam_moves.specs.Moves.{Moves, at_a_cell, at_a_base}
-use Rattle.seam_moves.proofs.Classify.{event_moves, frame_happens}
+use Rattle.seam_ones.specs.Frames.{Frame, here_at, IsInFrame}
+use Rattle.seam_ones.specs.Sights.{Has, AtBase, entity_flow}
+use Rattle.seam_ones.specs.BaseMoves as move
+use Rattle.seam_ones.specs.BaseMoves.{BaseMoves}
+use Rattle.seam_ones.specs.Moves.{Moves, at_a_cell, at_a_base}
+use Rattle.seam_ones.proofs.Classify.{event_moves, frame_happens}
 use Rattle.seam_ones.specs.Ones.{real_in, real_of, IsSpared, HasOne}
 use Rattle.seam_ones.specs.Replays.{Account, account_of, after_call, after_calls, Replays}
 use Rattle.seam_ones.proofs.OneReal.{one_leads, spared_happens}
-use Rattle.seam_between.specs.Between.{IsBetweenRounds, IsFitting, framed}
-use Rattle.seam_between.proofs.Going.{frame_loaded, settled_loaded, spared_loaded}
+use Rattle.seam_rounds.specs.Between.{IsBetweenRounds, IsFitting, framed}
+use Rattle.seam_rounds.proofs.Going.{frame_loaded, settled_loaded, spared_loaded}
 use Rattle.seam_rounds.proofs.Shape.{Somewhere, Nowhere, search_real}
-use Rattle.seam_truths.specs.Truths.{IsTrue}
+use Rattle.seam_copies.specs.Truths.{IsTrue}
 use Rattle.seam_base_calls.specs.Strays.{IsBaseNumber}
 use Rattle.seam_base_calls.specs.BaseTurns.{home_of}
 use Rattle.seam_base_calls.specs.Clients.{shown_at, HasClient}
-use Rattle.seam_newest.specs.Copies.{present}
+use Rattle.seam_copies.specs.Copies.{present}
 use Rattle.seam_replica.specs.Clients.{ClientReplica, after_shown, after_all_shown}
 use Rattle.seam_replica.specs.Lines.{Truth, ShowsTruth}
-use Rattle.seam_looks.specs.Clients.{FitsWitness}
+use Rattle.seam_shown.specs.Witnesses.{FitsWitness}
 use Rattle.seam_known.proofs.Sorted.{tied_same}
-use Rattle.seam_told.specs.Telling.{IsAbsent}
+use Rattle.seam_base_calls.specs.Telling.{IsAbsent}
 use Rattle.seam_shown.specs.Fits.{FitsWithin}
 use Rattle.seam_shown.specs.Telling.{TellsRightly}
 use Rattle.seam_shown.specs.Rounds.{WasOther, true_between}

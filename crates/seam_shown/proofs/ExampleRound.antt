@@ -17,19 +17,19 @@ use Rattle.seam_steps.specs.Loads.{loaded}
 use Rattle.seam_steps.specs.Nodes.{World}
 use Rattle.seam_steps.specs.Rows.{empty_world}
 use Rattle.seam_steps.specs.ViewRounds.{batch_1, first_0, watcher, blind}
-use Rattle.seam_moves.specs.Frames.{Frame, here_at}
-use Rattle.seam_moves.specs.Sights.{has_of, has_none, entity_flow}
+use Rattle.seam_ones.specs.Frames.{Frame, here_at}
+use Rattle.seam_ones.specs.Sights.{has_of, has_none, entity_flow}
 use Rattle.seam_ones.specs.Ones.{real_in}
-use Rattle.seam_between.specs.Between.{framed}
+use Rattle.seam_rounds.specs.Between.{framed}
 use Rattle.seam_base_rounds.specs.Example.{opening}
 use Rattle.seam_base_rounds.proofs.Joining.{is_among, unseen_peopled}
 use Rattle.seam_base_rounds.proofs.Attaching.{real_if, real_there}
 use Rattle.seam_base_rounds.proofs.ExampleFits.{is_new}
 use Rattle.seam_base_rounds.proofs.ExampleRound.{may_be_loaded}
-use Rattle.seam_newest.specs.Copies.{AreCopiesBetweenRounds}
-use Rattle.seam_newest.proofs.Ending.{opened_copied}
+use Rattle.seam_copies.specs.Copies.{AreCopiesBetweenRounds}
+use Rattle.seam_copies.proofs.Ending.{opened_copied}
 use Rattle.seam_replica.specs.Clients.{new_client}
-use Rattle.seam_looks.specs.Clients.{FitsWitness, ClientsFit}
+use Rattle.seam_shown.specs.Witnesses.{FitsWitness, ClientsFit}
 
 -- ---- a new client fits a new witness
 

@@ -8,7 +8,7 @@ use Rattle.seam_entity.specs.Reals.{WitnessView}
 use Rattle.seam_entity.specs.Looks.{new_witness}
 use Rattle.seam_steps.proofs.Tables.{computing}
 use Rattle.seam_steps.specs.Nodes.{World, node_steps, node_has_work}
-use Rattle.seam_moves.specs.Sights.{entity_flow}
+use Rattle.seam_ones.specs.Sights.{entity_flow}
 use Rattle.seam_ones.specs.Ones.{real_in}
 use Rattle.seam_ones.specs.Example.{frame}
 use Rattle.seam_base_calls.specs.Example.{real_told, world_shown}

@@ -17,8 +17,8 @@ use Rattle.seam_view.specs.Looks.{is_far, has_changed, in_view}
 use Rattle.seam_view.specs.Plain.{is_gone, is_new, plain_look}
 use Rattle.seam_view.proofs.Kept.{view_after_looks}
 use Rattle.seam_replica.proofs.EachOne.{all_of, turned}
-use Rattle.seam_looks.proofs.Near.{all_filtered}
-use Rattle.seam_looks.proofs.After.{same_distances}
+use Rattle.seam_shown.proofs.Near.{all_filtered}
+use Rattle.seam_shown.proofs.After.{same_distances}
 
 number_is : (a b : ℕ) → eqb a b ≡ true → a ≡ b
 number_is a b t = grind (arith, nat_tests)

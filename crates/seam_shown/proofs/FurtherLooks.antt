@@ -22,25 +22,25 @@ use Rattle.seam_steps.specs.Looks.{Known, seen_as, shown_for}
 use Rattle.seam_steps.specs.Cells.{CellView}
 use Rattle.seam_steps.specs.Loads.{look_loaded}
 use Rattle.seam_steps.specs.Nodes.{World, node_steps, node_has_work}
-use Rattle.seam_moves.specs.Frames.{Frame, here_at}
-use Rattle.seam_moves.specs.Sights.{entity_flow}
+use Rattle.seam_ones.specs.Frames.{Frame, here_at}
+use Rattle.seam_ones.specs.Sights.{entity_flow}
 use Rattle.seam_ones.specs.Ones.{real_in}
-use Rattle.seam_between.specs.Between.{IsBetweenRounds}
+use Rattle.seam_rounds.specs.Between.{IsBetweenRounds}
 use Rattle.seam_rounds.proofs.Shape.{Somewhere, Nowhere, search_real}
 use Rattle.seam_rounds.proofs.Looking.{look_ends_between}
-use Rattle.seam_places.specs.Places.{WasThere}
+use Rattle.seam_copies.specs.Places.{WasThere}
 use Rattle.seam_replica.specs.Clients.{ClientReplica, after_shown, after_all_shown}
 use Rattle.seam_replica.specs.Looks as replica
 use Rattle.seam_replica.specs.Looks.{Row, row_of, rows_but, seen, is_newer, own_shown, look_at, look_by, one_look}
 use Rattle.seam_replica.proofs.EachOne.{turned}
-use Rattle.seam_looks.specs.Tables.{row_of_real, rows_at, row_in, rows_of}
-use Rattle.seam_looks.specs.Phases.{looked_by, having_looked, HaveRoomToLook}
+use Rattle.seam_shown.specs.Tables.{row_of_real, rows_at, row_in, rows_of}
+use Rattle.seam_shown.specs.Phases.{looked_by, having_looked, HaveRoomToLook}
 use Rattle.seam_known.proofs.Sorted.{each_found, find_entries}
-use Rattle.seam_looks.proofs.Near.{as_seen, seen_found}
-use Rattle.seam_looks.proofs.Rows.{found_in, others, others_rise, seen_others, lines_of_others}
-use Rattle.seam_looks.proofs.OneLook.{row_there, row_nowhere}
-use Rattle.seam_looks.proofs.After.{follows}
-use Rattle.seam_looks.proofs.LookEnds.{looked}
+use Rattle.seam_shown.proofs.Near.{as_seen, seen_found}
+use Rattle.seam_shown.proofs.Rows.{found_in, others, others_rise, seen_others, lines_of_others}
+use Rattle.seam_shown.proofs.OneLook.{row_there, row_nowhere}
+use Rattle.seam_shown.proofs.After.{follows}
+use Rattle.seam_shown.proofs.LookEnds.{looked}
 use Rattle.seam_shown.proofs.ShownOnce.{cell_at}
 use Rattle.seam_shown.proofs.Further.{none_further}
 

@@ -18,15 +18,15 @@ use Rattle.seam_steps.specs.Maps.{has_any}
 use Rattle.seam_steps.specs.Bases.{PartView, ProxyView, line_if, base_text}
 use Rattle.seam_steps.specs.Loads.{new_proxy, proxy_begins, part_begins, loaded}
 use Rattle.seam_steps.specs.Nodes.{World, node_steps, node_has_work}
-use Rattle.seam_moves.specs.Frames.{Frame, here_at}
-use Rattle.seam_moves.specs.Sights.{has_of, has_none, entity_flow}
+use Rattle.seam_ones.specs.Frames.{Frame, here_at}
+use Rattle.seam_ones.specs.Sights.{has_of, has_none, entity_flow}
 use Rattle.seam_ones.specs.Ones.{real_in, real_of}
 use Rattle.seam_ones.proofs.Gone.{gone_leads}
-use Rattle.seam_between.specs.Between.{MayBeMade, framed}
-use Rattle.seam_between.proofs.Framing.{in_frame}
-use Rattle.seam_between.proofs.Going.{frame_loaded, spared_loaded}
-use Rattle.seam_between.proofs.Loaded.{no_mail}
-use Rattle.seam_between.proofs.Making.{Creation, nowhere, once, creation_of, middle}
+use Rattle.seam_rounds.specs.Between.{MayBeMade, framed}
+use Rattle.seam_rounds.proofs.Framing.{in_frame}
+use Rattle.seam_rounds.proofs.Going.{frame_loaded, spared_loaded}
+use Rattle.seam_rounds.proofs.Loaded.{no_mail}
+use Rattle.seam_rounds.proofs.Making.{Creation, nowhere, once, creation_of, middle}
 use Rattle.seam_rounds.proofs.Shape.{Somewhere, Nowhere, search_real}
 use Rattle.seam_base_calls.specs.PartMoves.{HasNoProxy}
 use Rattle.seam_base_calls.specs.WitnessMoves.{sent_by}
@@ -44,7 +44,7 @@ use Rattle.seam_base_rounds.proofs.Turns.{few_more}
 use Rattle.seam_base_rounds.proofs.Going.{its_part, few_lines, told, serves_after}
 use Rattle.seam_replica.specs.Clients.{ClientReplica, after_all_shown}
 use Rattle.seam_replica.specs.Lines.{ShowsRightly}
-use Rattle.seam_looks.specs.Clients.{FitsWitness, ClientsFit}
+use Rattle.seam_shown.specs.Witnesses.{FitsWitness, ClientsFit}
 use Rattle.seam_shown.specs.Fits.{FitsWithin}
 use Rattle.seam_shown.specs.Telling.{IsTrueBetween, TellsRightly}
 use Rattle.seam_shown.specs.Rounds.{true_between}

@@ -25,7 +25,7 @@ use Rattle.seam_steps.specs.Looks.{Known, seen_as, shown_for}
 use Rattle.seam_replica.specs.Clients.{ClientReplica}
 use Rattle.seam_replica.specs.Lines.{IsNear, MayShow, MayShowAll, Truth, ShowsTruth}
 use Rattle.seam_known.proofs.Sorted.{each_found}
-use Rattle.seam_looks.proofs.Near.{as_seen, seen_found, known_found}
+use Rattle.seam_shown.proofs.Near.{as_seen, seen_found, known_found}
 use Rattle.seam_shown.proofs.Apart.{MayLook, AreApart, AreApartBy, may_show_looks, all_turn, picked_all, picked_apart, apart_append}
 
 first_of : (a b : Bool) → (a && b) ≡ true → a ≡ true

@@ -16,15 +16,15 @@ use Rattle.seam_call.specs.declared.shown.Shown.TheVariants.{Own}
 use Rattle.seam_entity.specs.Reals.{RealView, WitnessView}
 use Rattle.seam_steps.specs.Looks.{Known, seen_as, shown_for, own_due, after_looking, looks_of, shown_of}
 use Rattle.seam_steps.specs.Cells.{CellView, known_to}
-use Rattle.seam_moves.specs.Frames.{Frame, here_at}
+use Rattle.seam_ones.specs.Frames.{Frame, here_at}
 use Rattle.seam_replica.specs.Clients.{ClientReplica, after_shown, after_all_shown}
 use Rattle.seam_replica.specs.Looks.{is_newer}
 use Rattle.seam_replica.specs.Lines.{Truth, ShowsRightly}
-use Rattle.seam_looks.specs.Clients.{version_in, own_now}
-use Rattle.seam_looks.proofs.Near.{known_found}
+use Rattle.seam_shown.specs.Witnesses.{version_in, own_now}
+use Rattle.seam_shown.proofs.Near.{known_found}
 use Rattle.seam_known.proofs.Knowing.{known_at, known_rises, known_to_is}
-use Rattle.seam_looks.proofs.OneLook.{own_by}
-use Rattle.seam_looks.proofs.After.{same_distances, follows}
+use Rattle.seam_shown.proofs.OneLook.{own_by}
+use Rattle.seam_shown.proofs.After.{same_distances, follows}
 use Rattle.seam_shown.specs.Fits.{FitsWithin, KnowsTruth}
 use Rattle.seam_shown.proofs.Lines.{looks_may_be_shown, looks_are_true}
 

@@ -13,15 +13,15 @@ use Rattle.seam_call.specs.declared.call.Call.{Call}
 use Rattle.seam_entity.specs.Reals.{RealView, WitnessView}
 use Rattle.seam_entity.specs.declared.message.Msg.{Msg}
 use Rattle.seam_steps.specs.Nodes.{World}
-use Rattle.seam_moves.specs.Frames.{Frame}
-use Rattle.seam_moves.specs.Sights.{entity_flow}
+use Rattle.seam_ones.specs.Frames.{Frame}
+use Rattle.seam_ones.specs.Sights.{entity_flow}
 use Rattle.seam_ones.specs.Ones.{real_in, real_of, IsOne}
 use Rattle.seam_ones.specs.Replays.{Replays, account_of, after_calls}
-use Rattle.seam_truths.proofs.Present.{replay_version}
+use Rattle.seam_copies.proofs.Present.{replay_version}
 use Rattle.seam_base_calls.specs.Clients.{EachReal}
 use Rattle.seam_base_calls.proofs.WitnessKept.{OfReal}
 use Rattle.seam_replica.specs.Clients.{ClientReplica}
-use Rattle.seam_looks.specs.Clients.{version_in, own_now}
+use Rattle.seam_shown.specs.Witnesses.{version_in, own_now}
 use Rattle.seam_shown.specs.Fits.{FitsWithin}
 
 module _ (P : RealView → Type 0) where

@@ -27,22 +27,22 @@ use Rattle.seam_steps.specs.Holders.{holders}
 use Rattle.seam_steps.specs.Loads.{loaded}
 use Rattle.seam_steps.specs.Nodes.{NodeView, World, node_steps, node_has_work}
 use Rattle.seam_steps.specs.Nodes.NodeView.{Cell, Base}
-use Rattle.seam_moves.specs.Frames.{Frame, here_at, IsInFrame}
-use Rattle.seam_moves.specs.Sights.{has_of, has_none, entity_flow}
-use Rattle.seam_moves.proofs.Classify.{frame_happens}
+use Rattle.seam_ones.specs.Frames.{Frame, here_at, IsInFrame}
+use Rattle.seam_ones.specs.Sights.{has_of, has_none, entity_flow}
+use Rattle.seam_ones.proofs.Classify.{frame_happens}
 use Rattle.seam_ones.specs.Ones.{real_in, real_of}
 use Rattle.seam_ones.proofs.Counting.{none_counts}
-use Rattle.seam_between.specs.Between.{IsBetweenRounds, IsFitting, framed}
-use Rattle.seam_between.proofs.Loaded.{no_mail}
-use Rattle.seam_between.proofs.Going.{settled_loaded}
+use Rattle.seam_rounds.specs.Between.{IsBetweenRounds, IsFitting, framed}
+use Rattle.seam_rounds.proofs.Loaded.{no_mail}
+use Rattle.seam_rounds.proofs.Going.{settled_loaded}
 use Rattle.seam_rounds.proofs.Shape.{Somewhere, Nowhere, search_real, frame_leads}
-use Rattle.seam_truths.specs.Entries.{book_entry}
-use Rattle.seam_truths.specs.Truths.{IsTrueCopy, IsTrue}
-use Rattle.seam_truths.proofs.Present.{true_more, present_first}
-use Rattle.seam_told.specs.Telling.{IsAbsent, BringsNone}
-use Rattle.seam_told.proofs.Absent.{absent_happens}
-use Rattle.seam_newest.specs.Copies.{present, copy_at, AreCopiesBetweenRounds}
-use Rattle.seam_looks.proofs.Near.{known_found}
+use Rattle.seam_copies.specs.Entries.{book_entry}
+use Rattle.seam_copies.specs.Truths.{IsTrueCopy, IsTrue}
+use Rattle.seam_copies.proofs.Present.{true_more, present_first}
+use Rattle.seam_base_calls.specs.Telling.{IsAbsent, BringsNone}
+use Rattle.seam_base_calls.proofs.Absent.{absent_happens}
+use Rattle.seam_copies.specs.Copies.{present, copy_at, AreCopiesBetweenRounds}
+use Rattle.seam_shown.proofs.Near.{known_found}
 use Rattle.seam_known.proofs.Knowing.{known_by, known_at, known_to_is}
 use Rattle.seam_shown.specs.Telling.{ComesBetween, IsTrueBetween}
 use Rattle.seam_shown.specs.Rounds.{WasOther, true_between}

@@ -22,11 +22,11 @@ use Rattle.seam_steps.specs.Cells.{CellView, known_to, cell_has_work, ready_enti
 use Rattle.seam_steps.specs.Loads.{ordered_at, look_loaded}
 use Rattle.seam_steps.specs.Nodes.{NodeView, World, node_steps, node_has_work}
 use Rattle.seam_steps.specs.Nodes.NodeView.{Cell, Base}
-use Rattle.seam_moves.specs.Frames.{Frame}
-use Rattle.seam_moves.specs.Sights.{Has, one_more_if, times, has_of, has_none, entity_flow}
+use Rattle.seam_ones.specs.Frames.{Frame}
+use Rattle.seam_ones.specs.Sights.{Has, one_more_if, times, has_of, has_none, entity_flow}
 use Rattle.seam_ones.specs.Ones.{real_in, real_of}
-use Rattle.seam_once.proofs.Quieting.{neither, none_left}
-use Rattle.seam_between.specs.Between.{IsBetweenRounds}
+use Rattle.seam_ones.proofs.Quieting.{neither, none_left}
+use Rattle.seam_rounds.specs.Between.{IsBetweenRounds}
 use Rattle.seam_rounds.proofs.Giving.{look_framed, look_given}
 use Rattle.seam_rounds.proofs.Looking as looking
 use Rattle.seam_rounds.proofs.Looking.{tick}
@@ -41,11 +41,11 @@ use Rattle.seam_base_rounds.proofs.Ticking.{most_told}
 use Rattle.seam_base_rounds.proofs.Serving.{HasItStill, HasNumbers, each_real}
 use Rattle.seam_base_rounds.proofs.Idling.{still_then}
 use Rattle.seam_base_rounds.proofs.Calms.{look_serves, look_numbers}
-use Rattle.seam_looks.specs.Phases.{witness_looked, looked_by, having_looked, HaveRoomToLook}
-use Rattle.seam_looks.proofs.OneLook.{same_real}
-use Rattle.seam_looks.proofs.LookCells.{is_in, IsMidway, known_to_same}
-use Rattle.seam_looks.proofs.LookRuns.{unready, CellAt, ordered, told, midway, IsLooking}
-use Rattle.seam_looks.proofs.LookEnds as ends
+use Rattle.seam_shown.specs.Phases.{witness_looked, looked_by, having_looked, HaveRoomToLook}
+use Rattle.seam_shown.proofs.OneLook.{same_real}
+use Rattle.seam_shown.proofs.LookCells.{is_in, IsMidway, known_to_same}
+use Rattle.seam_shown.proofs.LookRuns.{unready, CellAt, ordered, told, midway, IsLooking}
+use Rattle.seam_shown.proofs.LookEnds as ends
 use Rattle.seam_shown.specs.Telling.{ComesBetween}
 use Rattle.seam_shown.proofs.Starts.{none_of, all_told}
 use Rattle.seam_shown.proofs.Tells.{Tells, AsksOfLook, tells_lead}

@@ -21,18 +21,18 @@ use Rattle.seam_steps.specs.Slots.{SlotStep, slot_after}
 use Rattle.seam_steps.specs.Settle.{haunts_at, ghost_messages}
 use Rattle.seam_steps.specs.CellCases.{current_to}
 use Rattle.seam_steps.specs.Looks.{numbered}
-use Rattle.seam_moves.specs.Frames.{Frame, here_at}
-use Rattle.seam_moves.specs.Sights.{Has, AtCell}
-use Rattle.seam_moves.specs.CellMoves as move
-use Rattle.seam_moves.specs.CellMoves.{Does, Acts, surveys, calls, readies, CellMoves}
-use Rattle.seam_moves.specs.Moves.{Moves, at_a_cell, at_a_base}
+use Rattle.seam_ones.specs.Frames.{Frame, here_at}
+use Rattle.seam_ones.specs.Sights.{Has, AtCell}
+use Rattle.seam_ones.specs.CellMoves as move
+use Rattle.seam_ones.specs.CellMoves.{Does, Acts, surveys, calls, readies, CellMoves}
+use Rattle.seam_ones.specs.Moves.{Moves, at_a_cell, at_a_base}
 use Rattle.seam_ones.specs.Ones.{real_in, real_of}
 use Rattle.seam_ones.proofs.Plain.{SeesNoGhost, ghosts_silent, drops_silent, mapped_silent}
 use Rattle.seam_base_calls.specs.PartMoves.{update_in}
 use Rattle.seam_base_calls.specs.Clients.{with_number, tells}
 use Rattle.seam_base_calls.proofs.BaseSilent.{sees_no_update, sees_no_real, base_silent}
 use Rattle.seam_base_calls.proofs.WitnessKept.{OfReal, none_carried}
-use Rattle.seam_told.proofs.Looking.{NotTaken, as_often, gone, ticked}
+use Rattle.seam_base_calls.proofs.Looking.{NotTaken, as_often, gone, ticked}
 
 no_update : SeesNoGhost update_in
 no_update = record { sets = λ e n c. refl; drops = λ e n. refl }

@@ -29,9 +29,9 @@ use Rattle.seam_steps.specs.Cells.{CellView, known_to}
 use Rattle.seam_steps.specs.Nodes.{NodeView, World, node_steps, node_has_work}
 use Rattle.seam_steps.specs.Nodes.NodeView.{Cell, Base}
 use Rattle.seam_steps.specs.Valid.{IsNode}
-use Rattle.seam_moves.specs.Frames.{Frame, here_at}
-use Rattle.seam_moves.specs.Sights.{Has, mine, concerning, has_of, entity_flow}
-use Rattle.seam_moves.specs.Moves.{MovesTo}
+use Rattle.seam_ones.specs.Frames.{Frame, here_at}
+use Rattle.seam_ones.specs.Sights.{Has, mine, concerning, has_of, entity_flow}
+use Rattle.seam_ones.specs.Moves.{MovesTo}
 use Rattle.seam_ones.specs.Ones.{real_in, real_of, IsSpared, OneFrom}
 use Rattle.seam_ones.proofs.Sparing.{items_all}
 use Rattle.seam_ones.proofs.OneReal.{one_happens, calm_of, spared_happens}
@@ -44,15 +44,15 @@ use Rattle.seam_base_calls.proofs.WitnessKept.{OfReal}
 use Rattle.seam_base_calls.proofs.BaseRuns.{unordered}
 use Rattle.seam_base_calls.proofs.ClientTold.{Told, told_by}
 use Rattle.seam_base_calls.proofs.ClientRuns.{one_of, finds_client, never_missed, client_happens}
-use Rattle.seam_told.proofs.Looking.{NotTaken, as_often, LooksAt, Look, still, elsewhere, looks, cell_looks}
-use Rattle.seam_told.proofs.Telling.{event_fact}
+use Rattle.seam_base_calls.proofs.Looking.{NotTaken, as_often, LooksAt, Look, still, elsewhere, looks, cell_looks}
+use Rattle.seam_base_calls.proofs.Telling.{event_fact}
 use Rattle.seam_shown.proofs.Silent.{moves_hold, untold, numbered_here, same_items, issued_is}
 use Rattle.seam_ones.specs.Ones.{HasOne}
 use Rattle.seam_ones.specs.Replays.{Replays}
 use Rattle.seam_shown.specs.Telling.{ComesBetween}
 use Rattle.seam_shown.proofs.Reals.{each_of}
 use Rattle.seam_flows.specs.Flows.{slot_at}
-use Rattle.seam_moves.specs.Sights.{has_none}
+use Rattle.seam_ones.specs.Sights.{has_none}
 
 -- what the witness of an entity told, in updates that are numbered from `first` on, so that P is true of it, of the real and of the witness
 pub record Tells (f : Frame) (e ty first : ℕ) (P : List Shown → RealView → WitnessView → Type 0) (w : World) : Type 0 where

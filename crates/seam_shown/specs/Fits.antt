@@ -6,10 +6,10 @@ use Rattle.seam_call.specs.declared.shown.GhostCopy.{GhostCopy}
 use Rattle.seam_entity.specs.Reals.{RealView, WitnessView}
 use Rattle.seam_steps.specs.Looks.{known_of}
 use Rattle.seam_steps.specs.Cells.{CellView, known_to}
-use Rattle.seam_moves.specs.Frames.{Frame}
+use Rattle.seam_ones.specs.Frames.{Frame}
 use Rattle.seam_replica.specs.Clients.{ClientReplica}
 use Rattle.seam_replica.specs.Lines.{Truth}
-use Rattle.seam_looks.specs.Clients.{version_in, own_now}
+use Rattle.seam_shown.specs.Witnesses.{version_in, own_now}
 
 -- A client that shows c fits the witness v of its entity's real r, by what the two of them remember: nothing is said of other entities,
 -- which within a round may be anywhere.

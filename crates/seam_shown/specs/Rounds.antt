@@ -8,13 +8,13 @@ use Rattle.seam_steps.specs.Looks.{known_of, other_of_copy}
 use Rattle.seam_steps.specs.Cells.{CellView, known_to}
 use Rattle.seam_steps.specs.Nodes.{World}
 use Rattle.seam_steps.specs.Nodes.NodeView.{Cell}
-use Rattle.seam_moves.specs.Frames.{Frame, here_at}
-use Rattle.seam_moves.specs.Sights.{entity_flow}
+use Rattle.seam_ones.specs.Frames.{Frame, here_at}
+use Rattle.seam_ones.specs.Sights.{entity_flow}
 use Rattle.seam_ones.specs.Ones.{real_in, IsOne}
 use Rattle.seam_ones.specs.Replays.{Replays}
-use Rattle.seam_truths.specs.Truths.{IsTrueCopy}
+use Rattle.seam_copies.specs.Truths.{IsTrueCopy}
 use Rattle.seam_replica.specs.Lines.{Truth}
-use Rattle.seam_looks.specs.Clients.{own_now}
+use Rattle.seam_shown.specs.Witnesses.{own_now}
 use Rattle.seam_shown.specs.Telling.{ComesBetween}
 
 -- in some world between two the entity's real is at this version, and its own client is to be shown this state of it

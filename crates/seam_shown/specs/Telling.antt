@@ -8,14 +8,14 @@ use Rattle.seam_entity.specs.Reals.{RealView, WitnessView}
 use Rattle.seam_steps.specs.Cells.{CellView}
 use Rattle.seam_steps.specs.Nodes.{World, node_steps, node_has_work}
 use Rattle.seam_steps.specs.Nodes.NodeView.{Cell}
-use Rattle.seam_moves.specs.Frames.{Frame}
-use Rattle.seam_moves.specs.Sights.{entity_flow}
+use Rattle.seam_ones.specs.Frames.{Frame}
+use Rattle.seam_ones.specs.Sights.{entity_flow}
 use Rattle.seam_ones.specs.Ones.{real_in, HasOne}
 use Rattle.seam_base_calls.specs.BaseTurns.{home_of}
 use Rattle.seam_base_calls.specs.Clients.{updates_at, shown_at, tells}
 use Rattle.seam_replica.specs.Clients.{ClientReplica, after_all_shown}
 use Rattle.seam_replica.specs.Lines.{Truth, ShowsRightly}
-use Rattle.seam_looks.specs.Clients.{own_now}
+use Rattle.seam_shown.specs.Witnesses.{own_now}
 use Rattle.seam_shown.specs.Fits.{FitsWithin, KnowsTruth}
 
 -- the world u comes between w and v: events lead from w to it, and from it to v

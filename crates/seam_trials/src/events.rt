@@ -1,5 +1,7 @@
 // Rows that go event by event: after each the entity is in so many places.
-use crate::{Orders, Stopped, Trial, method_named};
+use crate::seen::{begin, copy_version, has_real, route, step, walk};
+use crate::{Trial, hit, pass_on};
+use seam_call::BaseNode;
 use seam_geo::Pos;
 use seam_machine::Event;
 use seam_tree::{Axis, Tree};
@@ -47,47 +49,46 @@ const LATE_GHOST: [Turn; 14] = [
 // It is reaped at its base node, in its cell, and where its copy is.
 const REAP: [Turn; 3] = [(17, None, 1), (1, Some(17), 0), (0, Some(1), 0)];
 
-fn play(rt: &impl Abort, alloc: Global, trial: &mut Trial, turns: &[Turn]) -> Result<(), Stopped> {
+fn play(rt: &impl Abort, alloc: Global, trial: &mut Trial, turns: &[Turn]) -> Result<(), Fail> {
     for (node, from, places) in turns {
         let node = *node;
         let from = *from;
-        trial.step(alloc, Event { node, from })?;
-        assert_eq!(rt; trial.holders(1), *places, "after {node}");
+        step(trial, alloc, Event { node, from })?;
+        assert_eq!(rt; trial.world.holders(1), *places, "after {node}");
     }
-    assert!(rt; trial.is_quiet());
+    assert!(rt; trial.world.net().is_quiet());
     Ok(())
 }
 
-fn early_call(alloc: Global) -> Result<Trial, Stopped> {
+fn early_call(alloc: Global) -> Result<Trial, Fail> {
     let mut tree = Tree::one(10_000);
     let _ = tree.cut(0, Axis::X, 5000);
-    let hit = method_named(alloc, b"hit")?;
-    let mut orders = Orders::new(alloc);
-    orders.pass_move(1, 1, 1, Pos { x: 6000, z: 100 })?;
-    orders.pass_call(2, 1, 1, hit)?;
-    orders.pass_call(2, 1, 2, hit)?;
-    let place = Pos { x: 4000, z: 100 };
-    Trial::begin(alloc, tree, &[place], None, orders.into_vec())
+    let orders = vec![in alloc;
+        walk(1, 1, Pos { x: 6000, z: 100 }),
+        pass_on(BaseNode::of(2), 1, 1, hit(alloc)?),
+        pass_on(BaseNode::of(2), 1, 2, hit(alloc)?),
+    ]?;
+    begin(alloc, tree, &[Pos { x: 4000, z: 100 }], None, orders)
 }
 
-fn late_ghost(alloc: Global) -> Result<Trial, Stopped> {
+fn late_ghost(alloc: Global) -> Result<Trial, Fail> {
     let mut tree = Tree::one(10_000);
     let _ = tree.cut(0, Axis::X, 5000);
     let _ = tree.cut(1, Axis::Z, 5000);
-    let mut orders = Orders::new(alloc);
-    orders.pass_move(1, 1, 1, Pos { x: 5100, z: 4900 })?;
-    orders.pass_move(1, 1, 2, Pos { x: 5100, z: 4000 })?;
-    let place = Pos { x: 4900, z: 4900 };
-    Trial::begin(alloc, tree, &[place], None, orders.into_vec())
+    let orders = vec![in alloc;
+        walk(1, 1, Pos { x: 5100, z: 4900 }),
+        walk(1, 2, Pos { x: 5100, z: 4000 }),
+    ]?;
+    begin(alloc, tree, &[Pos { x: 4900, z: 4900 }], None, orders)
 }
 
 #[test]
 fn an_early_call_is_held(rt: HostRuntime) -> Result<(), Fail> {
     let mut trial = early_call(rt.alloc())?;
     play(&rt, rt.alloc(), &mut trial, &EARLY_CALL)?;
-    assert!(rt; trial.has_real(1, 1));
-    assert_eq!(rt; trial.route(0, 1), Some((1, 1)));
-    assert_eq!(rt; trial.route(1, 1), Some((1, 1)));
+    assert!(rt; has_real(&trial, 1, 1));
+    assert_eq!(rt; route(&trial, 0, 1), Some((1, 1)));
+    assert_eq!(rt; route(&trial, 1, 1), Some((1, 1)));
     Ok(())
 }
 
@@ -95,9 +96,9 @@ fn an_early_call_is_held(rt: HostRuntime) -> Result<(), Fail> {
 fn a_late_ghost_message_is_ignored(rt: HostRuntime) -> Result<(), Fail> {
     let mut trial = late_ghost(rt.alloc())?;
     play(&rt, rt.alloc(), &mut trial, &LATE_GHOST)?;
-    assert!(rt; trial.has_real(1, 1));
-    assert_eq!(rt; trial.copy_version(0, 1), Some(2));
-    assert_eq!(rt; trial.copy_version(2, 1), None);
+    assert!(rt; has_real(&trial, 1, 1));
+    assert_eq!(rt; copy_version(&trial, 0, 1), Some(2));
+    assert_eq!(rt; copy_version(&trial, 2, 1), None);
     Ok(())
 }
 
@@ -107,6 +108,6 @@ fn a_reaped_entity_is_gone(rt: HostRuntime) -> Result<(), Fail> {
     play(&rt, rt.alloc(), &mut trial, &LATE_GHOST)?;
     let mut trial = trial.reap(&[1])?;
     play(&rt, rt.alloc(), &mut trial, &REAP)?;
-    assert_eq!(rt; trial.copy_version(0, 1), None);
+    assert_eq!(rt; copy_version(&trial, 0, 1), None);
     Ok(())
 }

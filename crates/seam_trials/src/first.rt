@@ -1,12 +1,14 @@
-//! A world as it is opened, and what it is loaded with first.
+//! A world as it is opened, and the batches that it is loaded with.
 
-ghost use Rattle.std.specs.Prelude.{◌≡◌, IfOk, length, eqb, []};
-ghost use Rattle.std.specs.List.{IsDistinct};
+ghost use Rattle.std.specs.Prelude.{◌≡◌, ◌≤◌, ◌↔◌, IfOk, IsTrue, length};
+ghost use Rattle.std.specs.List.{All};
+ghost use Rattle.seam_tree.specs.Division.{IsInSpace};
 ghost use Rattle.seam_call.specs.declared.order.Batch.{Batch as AnyBatch};
+ghost use Rattle.seam_steps.specs.Rows.{empty_world};
 ghost use Rattle.seam_core.specs.Loads.{MayLoad};
-ghost use Rattle.seam_trials.specs.Trials.{IsStandard, IsSized, AreNew, MayBeFirst};
+ghost use Rattle.seam_trials.specs.Trials.{IsStandard, MayBegin, MayBeFirst, client_list, avatars_from};
+ghost use Rattle.seam_trials.specs.Trials.{batch_of as the_batch, first_batch as the_first};
 
-use crate::Stopped;
 use seam_call::{Batch, Create, Order};
 use seam_core::World;
 use seam_defs::{Defs, Listed, Settings};
@@ -17,50 +19,65 @@ use std::alloc::{AllocError, Global};
 // The size of the standard settings' space, and the type of avatars.
 const SIZE: u32 = 10_000;
 
-pub(crate) const AVATAR: u16 = 0;
+const AVATAR: u16 = 0;
 
 const MOST_PLACES: usize = 65_536;
 
-// A call of its own, without a clause: what the built-in types are is not computed again for each call on them.
-pub(crate) fn builtin(alloc: Global) -> Result<Defs, AllocError> {
-    Defs::builtin(alloc)
-}
-
 /// A world of the standard settings, without entities.
-pub fn open_world(alloc: Global) -> Result<World, AllocError>
+pub(crate) fn open_world(alloc: Global) -> Result<World, AllocError>
+    ensures opened { IfOk result (λ w. w ≡ empty_world) }
     ensures standard { IfOk result IsStandard }
     ensures may { IfOk result (λ w. (b : AnyBatch) → MayBeFirst b → MayLoad w b) }
 {
-    let defs = builtin(alloc)?;
+    let defs = Defs::builtin(alloc)?;
     let world = World::open(alloc, &defs, Settings::standard())?;
     Ok(world)
 }
 
+// Whether all places lie in the tree's space.
+fn are_inside(tree: &Tree, places: &[Pos]) -> bool
+    ensures { IsTrue result ↔ All (IsInSpace tree.now) places.now }
+{
+    for place in places {
+        if !tree.holds(*place) {
+            return false;
+        }
+    }
+    true
+}
+
+/// Whether a trial may begin with avatars at these places: the tree is one of the standard settings' space, they lie in it, and
+/// there are at most 65,536.
+pub fn may_begin(tree: &Tree, places: &[Pos]) -> bool
+    ensures { IsTrue result ↔ MayBegin tree.now places.now }
+{
+    if tree.size() != SIZE {
+        return false;
+    }
+    if places.len() > MOST_PLACES {
+        return false;
+    }
+    are_inside(tree, places)
+}
+
 // Avatars 1, 2 and so on, at these places.
-fn avatars(alloc: Global, tree: &Tree, places: &[Pos]) -> Result<Vec<Create>, Stopped>
-    ensures { IfOk result (λ v. AreNew tree.now (length v.items) v.items) }
+fn avatars(alloc: Global, places: &[Pos]) -> Result<Vec<Create>, AllocError>
+    requires { length places.now ≤ 65536 }
+    ensures { IfOk result (λ v. v.items ≡ avatars_from 1 places.now) }
 {
     let mut made = Vec::new(alloc);
     for pos in places {
-        if made.len() >= MOST_PLACES {
-            return Err(Stopped::TooMany);
-        }
-        if !tree.holds(*pos) {
-            return Err(Stopped::Outside);
-        }
         let entity = made.len() as u32 + 1;
         let ty = AVATAR;
         let pos = *pos;
-        let Ok(()) = made.push(Create { entity, ty, pos }) else {
-            return Err(Stopped::NoMemory);
-        };
+        made.push(Create { entity, ty, pos })?;
     }
     Ok(made)
 }
 
 // The entity that gets a client, if one does.
 fn with_client(alloc: Global, client: Option<u32>) -> Result<Vec<u32>, AllocError>
-    ensures { IfOk result (λ v. IsDistinct eqb v.items) }
+    ensures { IfOk result (λ v. v.items ≡ client_list client) }
 {
     match client {
         Some(e) => Ok(vec![in alloc; e]?),
@@ -68,54 +85,40 @@ fn with_client(alloc: Global, client: Option<u32>) -> Result<Vec<u32>, AllocErro
     }
 }
 
-// A batch of the standard settings' space.
-fn batch_of(
+/// A batch in which nobody dies.
+pub(crate) fn batch_of(
     alloc: Global,
     tree: Tree,
     creates: Vec<Create>,
     clients: Vec<u32>,
     orders: Vec<(u8, Order)>,
-) -> Result<Batch, Stopped>
-    ensures tree { IfOk result (λ b. b.tree ≡ tree) }
-    ensures sized { IfOk result IsSized }
-    ensures creates { IfOk result (λ b. b.creates ≡ creates.items) }
-    ensures clients { IfOk result (λ b. b.clients ≡ clients.items) }
+) -> Batch
+    ensures { result ≡ the_batch tree creates.items clients.items orders.items }
 {
-    if tree.size() != SIZE {
-        return Err(Stopped::Outside);
-    }
-    Ok(Batch {
+    Batch {
         tree,
         creates: Listed::of(creates),
         clients: Listed::of(clients),
         orders: Listed::of(orders),
         destroys: Listed::of(Vec::new(alloc)),
         balance: false,
-    })
+    }
 }
 
 /// The batch that a world is loaded with first: avatars 1, 2 and so on at these places, of which one may get a client, and orders.
-pub fn first_batch(
+pub(crate) fn first_batch(
     alloc: Global,
     tree: Tree,
     places: &[Pos],
     client: Option<u32>,
     orders: Vec<(u8, Order)>,
-) -> Result<Batch, Stopped>
-    ensures sized { IfOk result IsSized }
+) -> Result<Batch, AllocError>
+    requires { MayBegin tree places.now }
+    ensures batch { IfOk result (λ b. b ≡ the_first tree places.now client orders.items) }
     ensures may { IfOk result MayBeFirst }
 {
-    let creates = avatars(alloc, &tree, places)?;
+    let creates = avatars(alloc, places)?;
     let clients = with_client(alloc, client)?;
-    let batch = batch_of(alloc, tree, creates, clients, orders)?;
+    let batch = batch_of(alloc, tree, creates, clients, orders);
     Ok(batch)
-}
-
-/// A batch of orders alone.
-pub fn orders_alone(alloc: Global, tree: Tree, orders: Vec<(u8, Order)>) -> Result<Batch, Stopped>
-    ensures sized { IfOk result IsSized }
-    ensures creates { IfOk result (λ b. b.creates ≡ []) }
-    ensures clients { IfOk result (λ b. b.clients ≡ []) }
-{
-    batch_of(alloc, tree, Vec::new(alloc), Vec::new(alloc), orders)
 }

@@ -1,5 +1,6 @@
 // Rows of where an entity ends, and where its copies are.
-use crate::{Orders, Stopped, Trial};
+use crate::Trial;
+use crate::seen::{begin, copy_version, has_real, settle, walk};
 use seam_geo::Pos;
 use seam_tree::{Axis, Tree};
 use std::alloc::Global;
@@ -24,26 +25,26 @@ const QUARTERS: [(u32, Axis, u32); 3] = [
     (1, Axis::Z, 5000),
 ];
 
-fn trial_of(alloc: Global, row: &Row) -> Result<Trial, Stopped> {
+fn trial_of(alloc: Global, row: &Row) -> Result<Trial, Fail> {
     let mut tree = Tree::one(10_000);
     for (cell, axis, place) in row.cuts {
         let _ = tree.cut(*cell, *axis, *place);
     }
-    let mut orders = Orders::new(alloc);
-    if let Some(to) = row.to {
-        orders.pass_move(1, 1, 1, to)?;
-    }
-    Trial::begin(alloc, tree, &[row.pos], None, orders.into_vec())
+    let orders = match row.to {
+        Some(to) => vec![in alloc; walk(1, 1, to)]?,
+        None => Vec::new(alloc),
+    };
+    begin(alloc, tree, &[row.pos], None, orders)
 }
 
 fn check(rt: &impl Abort, alloc: Global, row: &Row) -> Result<(), Fail> {
     let mut trial = trial_of(alloc, row)?;
-    let _ = trial.settle(alloc, 100)?;
-    assert!(rt; trial.has_real(row.home, 1));
-    assert_eq!(rt; trial.holders(1), 1);
+    settle(&mut trial, alloc)?;
+    assert!(rt; has_real(&trial, row.home, 1));
+    assert_eq!(rt; trial.world.holders(1), 1);
     for k in 0..4 {
         let want = row.copies[k as usize];
-        assert_eq!(rt; trial.copy_version(k, 1), want, "cell {k}");
+        assert_eq!(rt; copy_version(&trial, k, 1), want, "cell {k}");
     }
     Ok(())
 }

@@ -1,5 +1,6 @@
 // A row of what a client is shown.
-use crate::{Orders, Stopped, Trial};
+use crate::Trial;
+use crate::seen::{begin, lines, settle, walk};
 use seam_call::{ClientText, Line, Shown};
 use seam_geo::Pos;
 use seam_tree::Tree;
@@ -47,24 +48,23 @@ fn at(x: u32) -> Pos {
 }
 
 // Entity 1, which has a client, and entity 2.
-fn two(alloc: Global) -> Result<Trial, Stopped> {
+fn two(alloc: Global) -> Result<Trial, Fail> {
     let places = [at(1000), at(1300)];
-    Trial::begin(alloc, Tree::one(10_000), &places, Some(1), Vec::new(alloc))
+    begin(alloc, Tree::one(10_000), &places, Some(1), Vec::new(alloc))
 }
 
 // The calls are made, and then the witness looks.
-fn looked(alloc: Global, mut trial: Trial) -> Result<Trial, Stopped> {
-    let _ = trial.settle(alloc, 100)?;
+fn looked(alloc: Global, mut trial: Trial) -> Result<Trial, Fail> {
+    settle(&mut trial, alloc)?;
     let mut trial = trial.look()?;
-    let _ = trial.settle(alloc, 100)?;
+    settle(&mut trial, alloc)?;
     Ok(trial)
 }
 
 // A round in which entity 2 moves.
-fn moved(alloc: Global, trial: Trial, number: u64, to: Pos) -> Result<Trial, Stopped> {
-    let mut orders = Orders::new(alloc);
-    orders.pass_move(1, 2, number, to)?;
-    looked(alloc, trial.give(alloc, orders.into_vec())?)
+fn moved(alloc: Global, trial: Trial, number: u64, to: Pos) -> Result<Trial, Fail> {
+    let orders = vec![in alloc; walk(2, number, to)]?;
+    looked(alloc, trial.give(alloc, orders)?)
 }
 
 #[test]
@@ -76,10 +76,10 @@ fn a_view_has_a_hysteresis(rt: HostRuntime) -> Result<(), Fail> {
         Told::Own(0, at(1000)),
         Told::Enter(2, 0, at(1300)),
     ];
-    assert!(rt; tell(trial.lines(1), 1, &first));
+    assert!(rt; tell(lines(&trial, 1), 1, &first));
     let trial = moved(alloc, trial, 1, at(1310))?;
-    assert!(rt; tell(trial.lines(1), 4, &[Told::Set(2, 1, at(1310))]));
+    assert!(rt; tell(lines(&trial, 1), 4, &[Told::Set(2, 1, at(1310))]));
     let trial = moved(alloc, trial, 2, at(1311))?;
-    assert!(rt; tell(trial.lines(1), 5, &[Told::Leave(2)]));
+    assert!(rt; tell(lines(&trial, 1), 5, &[Told::Leave(2)]));
     Ok(())
 }

@@ -1,33 +1,39 @@
 //! A world that is tried.
 
+ghost use Rattle.std.specs.Prelude.{◌≡◌, ℕ, ◌+◌, [], true, IfOk, OnOk, OnErr};
+ghost use Rattle.seam_machine.specs.Nets.{enabled};
+ghost use Rattle.seam_steps.specs.Nodes.{World as AnyWorld, node_has_work};
+ghost use Rattle.seam_steps.specs.Loads.{loaded, reaps_loaded, look_loaded};
+ghost use Rattle.seam_steps.specs.Rows.{empty_world};
 ghost use Rattle.seam_core.specs.Loads.{MayLoad};
-ghost use Rattle.seam_trials.specs.Trials.{IsStandard, IsSized};
+ghost use Rattle.seam_trials.specs.Trials.{IsStandard, IsSized, MayBegin, Makes, Settles};
+ghost use Rattle.seam_trials.specs.Trials.{batch_of as the_batch, first_batch as the_first};
 
-use crate::Stopped;
-use crate::first::{first_batch, open_world, orders_alone};
-use seam_base::Base;
-use seam_call::{Batch, Line, Order};
-use seam_cell::Cell;
+use crate::first::{batch_of, first_batch, open_world};
+use seam_call::{Batch, Order};
 use seam_core::World;
 use seam_geo::Pos;
 use seam_machine::Event;
-use seam_tree::{MOST_CELLS, Tree};
+use seam_tree::Tree;
 use std::alloc::{AllocError, Global};
 
 /// A world of the standard settings, and the tree of its round.
 #[derive(Drop)]
 pub struct Trial {
-    world: World,
-    tree: Tree,
+    pub world: World,
+    pub tree: Tree,
     ghost standard: { IsStandard world },
+    ghost sized: { IsSized tree },
 }
 
 impl Trial {
-    /// Loads a batch.
-    pub fn load(alloc: Global, world: World, batch: Batch) -> Result<Trial, AllocError>
+    // Loads a batch.
+    fn load(alloc: Global, world: World, batch: Batch) -> Result<Trial, AllocError>
         requires standard { IsStandard world }
-        requires sized { IsSized batch }
+        requires sized { IsSized batch.tree }
         requires may { MayLoad world batch }
+        ensures after { IfOk result (λ t. t.world ≡ loaded world batch) }
+        ensures tree { IfOk result (λ t. t.tree ≡ batch.tree) }
     {
         world.known();
         let tree = batch.tree;
@@ -42,115 +48,74 @@ impl Trial {
         places: &[Pos],
         client: Option<u32>,
         orders: Vec<(u8, Order)>,
-    ) -> Result<Trial, Stopped> {
+    ) -> Result<Trial, AllocError>
+        requires { MayBegin tree places.now }
+        ensures after { IfOk result (λ t. t.world ≡ loaded empty_world (the_first tree places.now client orders.items)) }
+        ensures tree { IfOk result (λ t. t.tree ≡ tree) }
+    {
         let batch = first_batch(alloc, tree, places, client, orders)?;
         let world = open_world(alloc)?;
-        Ok(Trial::load(alloc, world, batch)?)
+        let trial = Trial::load(alloc, world, batch)?;
+        Ok(trial)
     }
 
     /// Loads orders alone.
-    pub fn give(self, alloc: Global, orders: Vec<(u8, Order)>) -> Result<Trial, Stopped> {
+    pub fn give(self, alloc: Global, orders: Vec<(u8, Order)>) -> Result<Trial, AllocError>
+        ensures after { IfOk result (λ t. t.world ≡ loaded self.world (the_batch self.tree [] [] orders.items)) }
+        ensures tree { IfOk result (λ t. t.tree ≡ self.tree) }
+    {
         let Trial { world, tree } = self;
-        let batch = orders_alone(alloc, tree, orders)?;
-        Ok(Trial::load(alloc, world, batch)?)
+        let batch = batch_of(alloc, tree, Vec::new(alloc), Vec::new(alloc), orders);
+        let trial = Trial::load(alloc, world, batch)?;
+        Ok(trial)
     }
 
     /// Gives the base nodes of these entities the orders to reap them.
-    pub fn reap(self, destroys: &[u32]) -> Result<Trial, AllocError> {
+    pub fn reap(self, destroys: &[u32]) -> Result<Trial, AllocError>
+        ensures after { IfOk result (λ t. t.world ≡ reaps_loaded self.world destroys.now) }
+        ensures tree { IfOk result (λ t. t.tree ≡ self.tree) }
+    {
         let Trial { world, tree } = self;
         let world = world.load_reaps(destroys)?;
         Ok(Trial { world, tree })
     }
 
     /// Lets the witnesses look.
-    pub fn look(self) -> Result<Trial, AllocError> {
+    pub fn look(self) -> Result<Trial, AllocError>
+        ensures after { IfOk result (λ t. t.world ≡ look_loaded self.world) }
+        ensures tree { IfOk result (λ t. t.tree ≡ self.tree) }
+    {
         let Trial { world, tree } = self;
         world.known();
         let world = world.load_look()?;
         Ok(Trial { world, tree })
     }
 
-    /// Makes an event, if it is enabled.
-    pub fn step(&mut self, alloc: Global, event: Event) -> Result<(), Stopped> {
-        if !self.world.net().enabled(event) {
-            return Err(Stopped::NotEnabled);
-        }
+    /// Makes an event, which is enabled.
+    pub fn step(&mut self, alloc: Global, event: Event) -> Result<(), AllocError>
+        requires { enabled node_has_work self.old.world event ≡ true }
+        ensures makes { OnOk result ((start : AnyWorld) (n : ℕ) → Makes n start self.old.world → Makes (n + 1) start self.new.world) }
+        ensures err { OnErr result (self.new.world ≡ self.old.world) }
+        ensures tree { self.new.tree ≡ self.old.tree }
+    {
         self.world.known();
-        Ok(self.world.step(alloc, event)?)
+        self.world.step(alloc, event)
     }
 
-    /// Makes enabled events, the first each time, until none is left, and tells how many, which may be so many at most.
-    pub fn settle(&mut self, alloc: Global, most: u32) -> Result<u32, Stopped> {
+    /// Makes enabled events until none is left, and tells how many: None where there are more than so many.
+    ///
+    /// If allocation fails, some events have happened.
+    pub fn settle(&mut self, alloc: Global, most: u32) -> Result<Option<u32>, AllocError>
+        ensures settles { IfOk result (Settles most self.old.world self.new.world) }
+        ensures err { OnErr result ((n : ℕ) × Makes n self.old.world self.new.world) }
+        ensures tree { self.new.tree ≡ self.old.tree }
+    {
         for made in 0..most {
             let Some(event) = self.world.net().next_event() else {
-                return Ok(made);
+                return Ok(Some(made));
             };
             self.step(alloc, event)?;
         }
-        Err(Stopped::NotQuiet)
-    }
-
-    /// Whether no event is enabled.
-    pub fn is_quiet(&self) -> bool {
-        self.world.net().is_quiet()
-    }
-
-    /// In how many places the entity's real is.
-    pub fn holders(&self, e: u32) -> u32 {
-        self.world.holders(e)
-    }
-
-    // The cell of that number.
-    fn cell(&self, k: u8) -> Option<&Cell> {
-        match self.world.net().node(k) {
-            Some(node) => node.as_cell(),
-            None => None,
-        }
-    }
-
-    // The base node of that number, from 0 on.
-    fn base(&self, k: u8) -> Option<&Base> {
-        match self.world.net().node(MOST_CELLS as u8 + k % 2) {
-            Some(node) => node.as_base(),
-            None => None,
-        }
-    }
-
-    /// Whether the cell has the entity's real.
-    pub fn has_real(&self, cell: u8, e: u32) -> bool {
-        match self.cell(cell) {
-            Some(cell) => cell.has_real(e),
-            None => false,
-        }
-    }
-
-    /// The version of the entity's copy in a cell.
-    pub fn copy_version(&self, cell: u8, e: u32) -> Option<u64> {
-        match self.cell(cell) {
-            Some(cell) => match cell.copies().get(e) {
-                Some(copy) => Some(copy.version),
-                None => None,
-            },
-            None => None,
-        }
-    }
-
-    /// The cell to which a base node's route of the entity leads, and how often it changed.
-    pub fn route(&self, base: u8, e: u32) -> Option<(u8, u64)> {
-        match self.base(base) {
-            Some(base) => base.route(e),
-            None => None,
-        }
-    }
-
-    /// What the entity's client was shown in this round.
-    pub fn lines(&self, e: u32) -> &[Line] {
-        match self.base((e % 2) as u8) {
-            Some(base) => match base.part(e) {
-                Some(part) => part.lines(),
-                None => &[],
-            },
-            None => &[],
-        }
+        Ok(None)
     }
 }

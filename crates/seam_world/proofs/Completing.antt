@@ -17,7 +17,7 @@ use Rattle.seam_toml.specs.declared.faults.Fault.{Fault}
 use Rattle.seam_toml.specs.Header.{Reads, Refuses, HasFirstFault, number_of}
 use Rattle.seam_toml.specs.Faults.{HeaderHas}
 use Rattle.seam_transcript.specs.Header.{AreHeaderLines, BeginWithHeader, AwaitHeader, RefusesHeader, separator, text_of_contents}
-use Rattle.seam_transcript.specs.Transcript.{IsOpen, IsEnded}
+use Rattle.seam_world.specs.Transcripts.{IsOpen, IsEnded}
 use Rattle.seam_transcript.proofs.HeaderLemmas.{text_is_one, end_for_header}
 use Rattle.seam_world.specs.Ends.{AreFirst, IsHeaderFault, RunEnds, MayComplete}
 use Rattle.seam_world.specs.declared.status.Status.{Status}

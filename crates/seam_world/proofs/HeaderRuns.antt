@@ -16,7 +16,7 @@ use Rattle.seam_toml.specs.declared.header.HeaderError.{HeaderError}
 use Rattle.seam_toml.specs.declared.header.HeaderError.TheVariants as error
 use Rattle.seam_toml.specs.Header.{number_of}
 use Rattle.seam_transcript.specs.Header.{AreHeaderLines, BeginWithHeader, AwaitHeader, RefusesHeader, separator}
-use Rattle.seam_transcript.specs.Transcript.{IsOpen, IsEnded}
+use Rattle.seam_world.specs.Transcripts.{IsOpen, IsEnded}
 use Rattle.seam_transcript.proofs.HeaderLemmas.{await_at_first, long_line_for_header}
 use Rattle.seam_world.specs.Status.{IsHeaderCause, IsHeaderEnd, IsRunEnd, refused_with, refusal_of}
 use Rattle.seam_world.specs.Ends.{Tells, most_bytes}

@@ -1,6 +1,8 @@
+mod Following
+mod Rounds
+mod Playing
 mod ScriptLemmas
 mod Results
-mod TextLemmas
 mod Prefixes
 mod PrintLemmas
 mod RunLemmas

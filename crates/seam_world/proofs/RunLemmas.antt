@@ -11,11 +11,12 @@ use Rattle.seam_io.specs.Lines.{Line, whole_lines_of}
 use Rattle.seam_io.specs.Reading.{Reader, Reading, IsExact}
 use Rattle.seam_io.specs.declared.lines.Next.TheVariants as next
 use Rattle.seam_toml.specs.declared.header.Header.{Header}
-use Rattle.seam_transcript.specs.Standing.{after_header}
-use Rattle.seam_transcript.specs.Transcript.{Piece, text_of, piece_text, Step, PrintLines, IsOpen, IsEnded}
+use Rattle.seam_rules.specs.Standing.{after_header}
+use Rattle.seam_rules.specs.Transcript.{Piece, text_of, piece_text}
 use Rattle.seam_transcript.proofs.RunLemmas.{run_with_line}
 use Rattle.seam_transcript.proofs.HeaderLemmas.{header_of_append}
-use Rattle.seam_transcript.specs.Following.{LineRead, InputEnded}
+use Rattle.seam_world.specs.Transcripts.{Step, PrintLines, IsOpen, IsEnded}
+use Rattle.seam_world.specs.Following.{LineRead, InputEnded}
 use Rattle.seam_world.specs.Script.{ScriptRefines}
 use Rattle.seam_world.specs.Status.{IsRunEnd}
 use Rattle.seam_world.specs.Ends.{AreAll, IsSoFar, Tells, HasFaultLine, RunEnds, most_bytes}

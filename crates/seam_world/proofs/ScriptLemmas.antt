@@ -1,155 +1,236 @@
 -- What a script does to its standing.
-use Rattle.std.proofs.Common.{◌≡◌, ◌≢◌, ℕ, ◌+◌, List, [], refl, sym, ap, ◌∙◌}
-use Rattle.std.proofs.Common.{subst, arith}
+use Rattle.std.proofs.Common.{◌≡◌, ◌≢◌, ℕ, ◌+◌, ◌≤◌, List, [], ◌∷◌, Some, sym, ap, ◌∙◌, subst, arith, length-append}
+use Rattle.std.proofs.lemmas.Option.{same_Some}
 use Rattle.seam_io.specs.Lines.{Line}
-use Rattle.seam_defs.specs.declared.types.TypeDef.{TypeDef}
+use Rattle.seam_tree.specs.Division.{Division}
+use Rattle.seam_call.specs.declared.order.Batch.{Batch}
+use Rattle.seam_steps.specs.Nodes.{World}
+use Rattle.seam_steps.specs.Loads.{opened}
 use Rattle.seam_toml.specs.declared.header.Header.{Header}
-use Rattle.seam_transcript.specs.Book.{open_lines, with_entry, with_round_ended, empty_book}
+use Rattle.seam_transcript.specs.Book.{open_lines, one_cell, with_entry, empty_book}
 use Rattle.seam_transcript.specs.Judging.{Judges}
-use Rattle.seam_transcript.specs.Standing.{Standing, after_header, with_line, with_book}
-use Rattle.seam_transcript.specs.Texts.{refusal, round_text}
-use Rattle.seam_transcript.specs.Following.{RoundEnds, LineRead}
-use Rattle.seam_transcript.proofs.OneCell.{begins_in_one_cell, stays_with_entry, stays_after_round, accepted_is_of_one_cell}
-use Rattle.seam_transcript.proofs.Following.{count_of_lines, refused}
-use Rattle.seam_transcript.specs.declared.commands.Commands.TheVariants.{OneCell}
+use Rattle.seam_transcript.specs.Texts.{refusal}
+use Rattle.seam_transcript.specs.declared.commands.Commands.TheVariants.{All}
 use Rattle.seam_transcript.specs.declared.verdict.Cause.{Cause}
+use Rattle.seam_transcript.specs.declared.verdict.Entry.{Entry}
 use Rattle.seam_transcript.specs.declared.verdict.Verdict.TheVariants as verdict
 use Rattle.seam_transcript.specs.declared.limits.TheConstants.{MOST_LINES}
 use Rattle.seam_accept.specs.Refines.{Refines as HoldsBook, LineAccepted}
 use Rattle.seam_accept.specs.declared.answers.Accepted.{Accepted}
 use Rattle.seam_accept.specs.declared.answers.Accepted.TheVariants as answer
-use Rattle.seam_flat.specs.Tables.{Refines as HoldsRounds}
-use Rattle.seam_flat.specs.Rounds.{round_of}
-use Rattle.seam_flat.specs.declared.table.FlatTable.{FlatTable}
-use Rattle.seam_flat.proofs.TableRounds.{table_round}
-use Rattle.seam_world.specs.Script.{IsReady, ScriptRefines, HasAccepted}
+use Rattle.seam_accept.specs.Batches.{batch_of}
+use Rattle.seam_batches.specs.Books.{IsAccepted, as_begun}
+use Rattle.seam_laws.specs.Records.{MayBeGiven}
+use Rattle.seam_rules.specs.Standing.{Standing, after_header, with_line, with_book, replica_of}
+use Rattle.seam_legal.specs.Going.{frame_of}
+use Rattle.seam_played.specs.Beside.{StandsBeside}
+use Rattle.seam_quiet.specs.Rounds.{MayRun}
+use Rattle.seam_course.specs.Counts.{MayEnd, most_lines}
+use Rattle.seam_course.specs.Course.{GoesOn}
+use Rattle.seam_print.specs.Residents.{AreResidents}
+use Rattle.seam_print.specs.declared.residents.Resident.{Resident}
+use Rattle.seam_world.specs.Transcripts.IsWorldOf.{opens, reads, accepts}
+use Rattle.seam_world.specs.Rounds.{HasPlayed}
+use Rattle.seam_world.specs.declared.round.Played.{Played}
+use Rattle.seam_world.specs.Script.{HasWorld, ScriptRefines, IsReady, HasAccepted}
+use Rattle.seam_world.specs.Following.{LineRead}
 use Rattle.seam_world.specs.declared.script.Script.{Script}
+use Rattle.seam_world.proofs.Following.{refused}
 
--- ---- where a script begins
-
-pub script_begins : (h : Header) (count : ℕ) (s : Script) → s.line ≡ count → s.round ≡ 0 →
-    HoldsBook OneCell h (empty_book h.settings.size) s.book →
-    HoldsRounds h (empty_book h.settings.size) s.table → ScriptRefines h (after_header h count) s
-script_begins h count s line round book table = record {
-  ready = record {
-    book = book;
-    in_one_cell = begins_in_one_cell h.settings.size;
-    table = table;
-    orders = refl;
-    line = line;
+-- where a script begins
+pub script_begins : (h : Header) (count : ℕ) (s : Script) → count ≤ most_lines → s.header ≡ h → s.line ≡ count → s.round ≡ 0 →
+    HoldsBook All h (empty_book h.settings.size) s.book → (w : World) → s.world ≡ Some w → w ≡ opened h.defs h.settings →
+    GoesOn h (after_header h count) (one_cell h.settings.size) (opened h.defs h.settings) →
+    AreResidents (empty_book h.settings.size) s.residents → ScriptRefines h (after_header h count) s
+script_begins h count s few header line round book w is made goes_on residents = record {
+  has = record {
+    header = header;
+    world = opened h.defs h.settings;
+    is = is ∙ ap (λ u. Some u) made;
+    of_standing = opens count;
+    tree = one_cell h.settings.size;
+    goes_on = goes_on;
+    residents = residents;
     round = round;
   };
+  book = book;
+  line = line;
+  most = few;
   below_most = omega arith;
 }
 
--- ---- rounds
+-- whatever changed in the script, its world did not
+pub same_world : (h : Header) (t : Standing) (old new : Script) → HasWorld h t old → new.header ≡ old.header → new.world ≡ old.world →
+    new.residents ≡ old.residents → new.round ≡ old.round → HasWorld h t new
+same_world h t old new was header world residents round = record {
+  header = header ∙ was.header;
+  world = was.world;
+  is = world ∙ was.is;
+  of_standing = was.of_standing;
+  tree = was.tree;
+  goes_on = was.goes_on;
+  residents = subst (AreResidents (as_begun t.book)) (sym residents) was.residents;
+  round = round ∙ was.round;
+}
 
--- a round of the table ended
-pub round_ended : (h : Header) (t : Standing) (old new : Script) (ran : FlatTable) → IsReady h t old → HoldsRounds h t.book ran
-    → new.round ≡ old.round + 1 → new.line ≡ old.line → HoldsBook OneCell h (with_round_ended t.book) new.book →
-    HoldsRounds h (with_round_ended t.book) new.table
-    → RoundEnds h t (λ s. ScriptRefines h s new) (round_text ran.header.defs (round_of new.round ran))
-round_ended h t old new ran ready holds round line book table =
-    let number : new.round ≡ t.rounds + 1 = round ∙ ap (λ (n : ℕ). n + 1) ready.round in
-    record {
-      round = round_of (t.rounds + 1) ran;
-      legal = table_round h t ran holds ready.in_one_cell ready.orders;
-      whole =
-          ap (λ (ds : List TypeDef). round_text ds (round_of new.round ran)) (ap (λ
-          (k : Header). k.defs) holds.holds.header)
-          ∙ ap (λ (n : ℕ). round_text h.defs (round_of n ran)) number;
-      after = record {
-        ready = record {
-          book = book;
-          in_one_cell = stays_after_round h.settings.size t.book ready.in_one_cell;
-          table = table;
-          orders = refl;
-          line = line ∙ ready.line;
-          round = number;
-        };
-        below_most = omega arith;
-      };
-    }
+module _ (h : Header) (t : Standing) where
+  -- the course of a standing goes on with each line
+  abbrev GoesOnWithLine : Type 0
+  GoesOnWithLine = (tree : Division) (w : World) → GoesOn h t tree w → GoesOn h (with_line t) tree w
 
--- ---- lines
+  abbrev GoesOnWithEntry : Type 0
+  GoesOnWithEntry = (tree : Division) (w : World) (x : Entry) → GoesOn h t tree w → IsAccepted h t.book x →
+      GoesOn h (with_book (with_line t) (with_entry t.book x)) tree w
 
--- after a line that is skipped
-pub skipped_ready : (h : Header) (t : Standing) (line : Line) (s : Script) → HasAccepted h t line answer.Skipped s → ScriptRefines h t s
-skipped_ready h t line s was = record {
-  ready = record {
-    book = was.answered.1;
-    in_one_cell = was.in_one_cell;
-    table = was.table;
-    orders = was.orders;
-    line = was.line_;
+  -- a line that adds nothing
+  with_line_read : GoesOnWithLine → (s : Script) → HasWorld h t s → HasWorld h (with_line t) s
+  with_line_read goes s was = record {
+    header = was.header;
+    world = was.world;
+    is = was.is;
+    of_standing = reads t was.world was.of_standing;
+    tree = was.tree;
+    goes_on = goes was.tree was.world was.goes_on;
+    residents = was.residents;
     round = was.round;
-  };
-  below_most = was.below_most;
-}
+  }
 
--- where a line ends the round
-pub sync_ready : (h : Header) (t : Standing) (line : Line) (s : Script) → HasAccepted h t line answer.Synced s → IsReady h t s
-sync_ready h t line s was =
-    record {
-      book = was.answered.1;
-      in_one_cell = was.in_one_cell;
-      table = was.table;
-      orders = was.orders;
-      line = was.line_;
-      round = was.round;
-    }
-
--- after a line that is kept: the round is full, or has room
-pub kept_ready : (h : Header) (t : Standing) (line : Line) (s : Script) (was : HasAccepted h t line answer.Kept s)
-    → IsReady h (with_book t (with_entry t.book was.answered.0)) s
-kept_ready h t line s was =
-    record {
-      book = was.answered.2;
-      in_one_cell =
-          stays_with_entry h.settings.size t.book was.in_one_cell was.answered.0
-          (accepted_is_of_one_cell h t.book line was.answered.0 was.answered.1);
-      table = was.table;
-      orders = was.orders;
-      line = was.line_;
-      round = was.round;
-    }
-
-pub kept_refines : (h : Header) (t : Standing) (line : Line) (s : Script) (was : HasAccepted h t line answer.Kept s)
-    → open_lines (with_entry t.book was.answered.0) ≢ MOST_LINES → ScriptRefines h (with_book t (with_entry t.book was.answered.0)) s
-kept_refines h t line s was open_ =
-    let below = was.below_most in
-    let lines = count_of_lines t.book was.answered.0 in
-    record { ready = kept_ready h t line s was; below_most = omega (arith, open_, below, lines) }
-
--- the book answered a line that the script has counted
-pub has_accepted : (h : Header) (t : Standing) (line : Line) (a : Accepted) (old new : Script) → ScriptRefines h t old →
-    new.line ≡ old.line + 1 → new.table ≡ old.table → new.round ≡ old.round → LineAccepted OneCell h t.book line a new.book
-    → HasAccepted h (with_line t) line a new
-has_accepted h t line a old new was counted table round answered = record {
-  answered = answered;
-  in_one_cell = was.ready.in_one_cell;
-  table = subst (HoldsRounds h (record t.book { current = [] })) (sym table) was.ready.table;
-  orders = was.ready.orders;
-  line_ = counted ∙ ap (λ (n : ℕ). n + 1) was.ready.line;
-  round = round ∙ was.ready.round;
-  below_most = was.below_most;
-}
-
--- a line was refused
-pub refused_line : (h : Header) (t : Standing) (line : Line) (c : Cause) (old new : Script) → ScriptRefines h t old →
-    new.line ≡ old.line + 1 → new.table ≡ old.table → new.round ≡ old.round → new.book ≡ old.book
-    → Judges OneCell h t.book line (verdict.Refused c) → LineRead h t line (λ s. ScriptRefines h s new) (refusal new.line c)
-refused_line h t line c old new was counted table round book judges =
-    let number : new.line ≡ t.lines + 1 = counted ∙ ap (λ (n : ℕ). n + 1) was.ready.line in
-    subst (λ (n : ℕ). LineRead h t line (λ s. ScriptRefines h s new) (refusal n c)) (sym number)
-    (refused h t line c (λ s. ScriptRefines h s new) judges (record {
-      ready = record {
-        book = subst (HoldsBook OneCell h t.book) (sym book) was.ready.book;
-        in_one_cell = was.ready.in_one_cell;
-        table = subst (HoldsRounds h (record t.book { current = [] })) (sym table) was.ready.table;
-        orders = was.ready.orders;
+  -- a line was refused
+  pub refused_line : GoesOnWithLine → (line : Line) (c : Cause) (old new : Script) → ScriptRefines h t old → new.header ≡ old.header →
+      new.world ≡ old.world → new.residents ≡ old.residents → new.round ≡ old.round → new.line ≡ old.line + 1 → new.line ≤ most_lines →
+      new.book ≡ old.book → Judges All h t.book line (verdict.Refused c) →
+      LineRead h t line (λ s. ScriptRefines h s new) (refusal new.line c)
+  refused_line goes line c old new was header world residents round counted most book judges =
+      let number : new.line ≡ t.lines + 1 = counted ∙ ap (λ (n : ℕ). n + 1) was.line in
+      subst (λ (n : ℕ). LineRead h t line (λ s. ScriptRefines h s new) (refusal n c)) (sym number)
+      (refused h t line c (λ s. ScriptRefines h s new) judges (record {
+        has = with_line_read goes new (same_world h t old new was.has header world residents round);
+        book = subst (HoldsBook All h t.book) (sym book) was.book;
         line = number;
-        round = round ∙ was.ready.round;
-      };
-      below_most = was.below_most;
-    }))
+        most = omega (arith, number, most);
+        below_most = was.below_most;
+      }))
+
+  -- the book answered a line that the script has counted
+  pub has_accepted : (line : Line) (a : Accepted) (old new : Script) → ScriptRefines h t old → new.header ≡ old.header →
+      new.world ≡ old.world → new.residents ≡ old.residents → new.round ≡ old.round → new.line ≡ old.line + 1 → new.line ≤ most_lines →
+      LineAccepted All h t.book line a new.book → HasAccepted h t line a new
+  has_accepted line a old new was header world residents round counted most answered =
+      let number : new.line ≡ t.lines + 1 = counted ∙ ap (λ (n : ℕ). n + 1) was.line in
+      record {
+        has = same_world h t old new was.has header world residents round;
+        answered = answered;
+        line_ = number;
+        most = omega (arith, number, most);
+        below_most = was.below_most;
+      }
+
+  -- after a line that is skipped
+  pub skipped_refines : GoesOnWithLine → (line : Line) (s : Script) → HasAccepted h t line answer.Skipped s →
+      ScriptRefines h (with_line t) s
+  skipped_refines goes line s was = record {
+    has = with_line_read goes s was.has;
+    book = was.answered.1;
+    line = was.line_;
+    most = was.most;
+    below_most = was.below_most;
+  }
+
+  -- where a line ends the round
+  pub sync_ready : GoesOnWithLine → (line : Line) (s : Script) → HasAccepted h t line answer.Synced s → MayEnd (with_line t) →
+      IsReady h (with_line t) s
+  sync_ready goes line s was may = record {
+    has = with_line_read goes s was.has;
+    book = was.answered.1;
+    line = was.line_;
+    may = may;
+  }
+
+  -- it may end
+  pub sync_may_end : (line : Line) (s : Script) → HasAccepted h t line answer.Synced s →
+      ((tree : Division) (w : World) → GoesOn h t tree w → open_lines t.book ≤ MOST_LINES → t.lines + 1 ≤ most_lines →
+      MayEnd (with_line t)) → MayEnd (with_line t)
+  sync_may_end line s was synced =
+      let below = was.below_most in synced was.has.tree was.has.world was.has.goes_on (omega (arith, below)) was.most
+
+  -- at the end of the input a round with a line may end
+  pub open_ready : (s : Script) → ScriptRefines h t s →
+      ((tree : Division) (w : World) → GoesOn h t tree w → 1 ≤ open_lines t.book → open_lines t.book ≤ MOST_LINES →
+      t.lines ≤ most_lines → MayEnd t) → open_lines t.book ≢ 0 → IsReady h t s
+  open_ready s was may some =
+      let below = was.below_most in record {
+        has = was.has;
+        book = was.book;
+        line = was.line;
+        may = may was.has.tree was.has.world was.has.goes_on (omega (arith, some)) (omega (arith, below)) was.most;
+      }
+
+  -- after a line that is kept: the round is full, or has room
+  module _ (goes : GoesOnWithEntry) (line : Line) (s : Script) (was : HasAccepted h t line answer.Kept s) where
+    abbrev x : Entry
+    x = was.answered.0
+
+    abbrev next : Standing
+    next = with_book (with_line t) (with_entry t.book x)
+
+    pub one_more : open_lines (with_entry t.book x) ≡ open_lines t.book + 1
+    one_more = length-append t.book.current (x ∷ [])
+
+    pub kept_world : HasWorld h next s
+    kept_world = record {
+      header = was.has.header;
+      world = was.has.world;
+      is = was.has.is;
+      of_standing = accepts (with_line t) was.has.world x (reads t was.has.world was.has.of_standing);
+      tree = was.has.tree;
+      goes_on = goes was.has.tree was.has.world x was.has.goes_on (line, was.answered.1);
+      residents = was.has.residents;
+      round = was.has.round;
+    }
+
+    -- a full round may end
+    pub full_may_end : ((s : Standing) (tree : Division) (w : World) → GoesOn h s tree w → 1 ≤ open_lines s.book →
+        open_lines s.book ≤ MOST_LINES → s.lines ≤ most_lines → MayEnd s) → open_lines (with_entry t.book x) ≡ MOST_LINES → MayEnd next
+    unfolding kept_world
+    full_may_end some full =
+        some next was.has.tree was.has.world kept_world.goes_on (omega (arith, full)) (omega (arith, full)) was.most
+
+    pub kept_ready : MayEnd next → IsReady h next s
+    kept_ready may = record { has = kept_world; book = was.answered.2; line = was.line_; may = may }
+
+    pub kept_refines : open_lines (with_entry t.book x) ≢ MOST_LINES → ScriptRefines h next s
+    kept_refines open_ =
+        let below = was.below_most in
+        let lines = one_more in
+        record {
+          has = kept_world;
+          book = was.answered.2;
+          line = was.line_;
+          most = was.most;
+          below_most = omega (arith, open_, below, lines);
+        }
+
+-- ---- where the open round is to end
+
+module _ (h : Header) (t : Standing) (s : Script) (ready : IsReady h t s) (world : World) (is : s.world ≡ Some world) (batch : Batch)
+    (brings : batch ≡ batch_of h t.book) where
+  pub same : ready.has.world ≡ world
+  same = same_Some ready.has.world world (sym ready.has.is ∙ is)
+
+  -- its batch may be run in the script's world
+  pub may_run : MayBeGiven (frame_of h ready.has.tree) ready.has.world (batch_of h t.book) →
+      MayRun (frame_of h ready.has.tree) (replica_of h t) world batch
+  may_run given =
+      subst (λ w. MayRun (frame_of h ready.has.tree) (replica_of h t) w batch) same
+      (subst (MayRun (frame_of h ready.has.tree) (replica_of h t) ready.has.world) (sym brings)
+      (record { keeps = ready.has.goes_on.between.keeps; bounded = ready.has.goes_on.bounded; given = given }))
+
+  -- what was played in that world was played in the standing's
+  pub played_in : (left : Played) (residents : List Resident) (before text : List ℕ) →
+      HasPlayed h t ready.has.tree world left residents before text →
+      HasPlayed h t ready.has.tree ready.has.world left residents before text
+  played_in left residents before text has =
+      subst (λ w. HasPlayed h t ready.has.tree w left residents before text) (sym same) has
+
+  pub beside_in : StandsBeside h t ready.has.tree ready.has.world → StandsBeside h t ready.has.tree world
+  beside_in stands = subst (StandsBeside h t ready.has.tree) same stands

@@ -7,8 +7,10 @@ use Rattle.seam_io.specs.Lines.{Line}
 use Rattle.seam_io.specs.Reading.{Reader, Reading}
 use Rattle.seam_toml.specs.declared.header.Header.{Header}
 use Rattle.seam_transcript.specs.Header.{AreHeaderLines, BeginWithHeader}
-use Rattle.seam_transcript.specs.Standing.{Standing, after_header}
-use Rattle.seam_transcript.specs.Transcript.{Piece, text_of, Step, Run, IsOpen, IsEnded}
+use Rattle.seam_transcript.specs.Transcript.{Run}
+use Rattle.seam_rules.specs.Standing.{Standing, after_header}
+use Rattle.seam_rules.specs.Transcript.{Piece, text_of}
+use Rattle.seam_world.specs.Transcripts.{Step, IsOpen, IsEnded}
 use Rattle.seam_world.specs.Script.{ScriptRefines}
 use Rattle.seam_world.specs.Status.{IsRunEnd}
 use Rattle.seam_world.specs.Ends.{Tells, most_bytes}

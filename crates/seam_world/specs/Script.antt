@@ -1,39 +1,52 @@
 -- How far a script was read, beside the standing of a transcript.
-use Rattle.std.specs.Prelude.{◌≡◌, ◌<◌}
+use Rattle.std.specs.Prelude.{◌≡◌, ◌<◌, ◌≤◌, ◌+◌, Some}
 use Rattle.seam_io.specs.Lines.{Line}
+use Rattle.seam_tree.specs.Division.{Division}
+use Rattle.seam_steps.specs.Nodes.{World}
 use Rattle.seam_toml.specs.declared.header.Header.{Header}
 use Rattle.seam_transcript.specs.Book.{open_lines}
-use Rattle.seam_transcript.specs.OneCell.{IsInOneCell}
-use Rattle.seam_transcript.specs.declared.commands.Commands.TheVariants.{OneCell}
-use Rattle.seam_transcript.specs.Standing.{Standing}
-use Rattle.seam_transcript.specs.InOrder.{in_order}
+use Rattle.seam_transcript.specs.declared.commands.Commands.TheVariants.{All}
+use Rattle.seam_transcript.specs.declared.limits.TheConstants.{MOST_LINES}
 use Rattle.seam_accept.specs.Refines.{Refines as HoldsBook, LineAccepted}
 use Rattle.seam_accept.specs.declared.answers.Accepted.{Accepted}
-use Rattle.seam_flat.specs.Tables.{Refines as HoldsRounds}
-use Rattle.seam_flat.specs.Batches.{before_round}
+use Rattle.seam_batches.specs.Books.{as_begun}
+use Rattle.seam_rules.specs.Standing.{Standing}
+use Rattle.seam_course.specs.Counts.{MayEnd, most_lines}
+use Rattle.seam_course.specs.Course.{GoesOn}
+use Rattle.seam_print.specs.Residents.{AreResidents}
+use Rattle.seam_world.specs.Transcripts.{IsWorldOf}
 use Rattle.seam_world.specs.declared.script.Script.{Script}
-use Rattle.seam_transcript.specs.declared.limits.TheConstants.{MOST_LINES}
 
--- the script is between two lines, or the open round is to end: its book, its table and its counts are those of the standing
-pub record IsReady (h : Header) (t : Standing) (s : Script) : Type 0 where
-  pub book : HoldsBook OneCell h t.book s.book
-  pub in_one_cell : IsInOneCell h.settings.size t.book
-  pub table : HoldsRounds h (before_round t.book) s.table
-  pub orders : t.orders ≡ in_order t.book.past
-  pub line : s.line ≡ t.lines
+-- the script has the world of the standing, which goes on with it, and the entities that live in it; and the standing's count of rounds
+pub record HasWorld (h : Header) (t : Standing) (s : Script) : Type 0 where
+  pub header : s.header ≡ h
+  pub world : World
+  pub is : s.world ≡ Some world
+  pub of_standing : IsWorldOf h t world
+  pub tree : Division
+  pub goes_on : GoesOn h t tree world
+  pub residents : AreResidents (as_begun t.book) s.residents
   pub round : s.round ≡ t.rounds
 
 -- the script refines the standing
 pub record ScriptRefines (h : Header) (t : Standing) (s : Script) : Type 0 where
-  pub ready : IsReady h t s
+  pub has : HasWorld h t s
+  pub book : HoldsBook All h t.book s.book
+  pub line : s.line ≡ t.lines
+  pub most : t.lines ≤ most_lines
   pub below_most : open_lines t.book < MOST_LINES
 
--- the book has answered a line that the standing has counted, and nothing has followed
+-- it refines a standing whose open round is to end
+pub record IsReady (h : Header) (t : Standing) (s : Script) : Type 0 where
+  pub has : HasWorld h t s
+  pub book : HoldsBook All h t.book s.book
+  pub line : s.line ≡ t.lines
+  pub may : MayEnd t
+
+-- the script has counted a line and the book has answered it, and nothing has followed
 pub record HasAccepted (h : Header) (t : Standing) (line : Line) (answer : Accepted) (s : Script) : Type 0 where
-  pub answered : LineAccepted OneCell h t.book line answer s.book
-  pub in_one_cell : IsInOneCell h.settings.size t.book
-  pub table : HoldsRounds h (before_round t.book) s.table
-  pub orders : t.orders ≡ in_order t.book.past
-  pub line_ : s.line ≡ t.lines
-  pub round : s.round ≡ t.rounds
+  pub has : HasWorld h t s
+  pub answered : LineAccepted All h t.book line answer s.book
+  pub line_ : s.line ≡ t.lines + 1
+  pub most : t.lines + 1 ≤ most_lines
   pub below_most : open_lines t.book < MOST_LINES

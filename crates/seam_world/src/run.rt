@@ -7,19 +7,21 @@ ghost use Rattle.seam_io.specs.States.{SourceState, SinkState};
 ghost use Rattle.seam_io.specs.Lines.{Line, Content, Long, HasNoFeed};
 ghost use Rattle.seam_io.specs.Reading.{Reading, budget};
 ghost use Rattle.seam_toml.specs.declared.header.Header.{Header as Headers};
-ghost use Rattle.seam_transcript.specs.Standing.{Standing};
-ghost use Rattle.seam_transcript.specs.Transcript.{IsOpen, IsEnded};
+ghost use Rattle.seam_rules.specs.Standing.{Standing};
+ghost use Rattle.seam_course.specs.Counts.{most_lines};
+ghost use Rattle.seam_world.specs.Transcripts.{IsOpen, IsEnded};
 ghost use Rattle.seam_world.specs.Status.{IsRunEnd, IsHeaderCause, refusal_of};
-ghost use Rattle.seam_transcript.specs.Following.{LineRead, InputEnded};
+ghost use Rattle.seam_world.specs.Following.{LineRead, InputEnded};
 ghost use Rattle.seam_world.specs.Script.{ScriptRefines};
 ghost use Rattle.seam_world.specs.Ends.{RunEnds, MayComplete, HasFaultLine, IsPrefix, most_bytes, fault_line as fault_line_of};
 ghost use Rattle.seam_world.specs.Histories.{HasHeader, InHeader, HeaderLineRead, Going, Stopped};
 ghost use Rattle.seam_world.specs.Printing.{Printed, FailedWithin, StopsBy, Prints};
 
 use crate::Status;
+use crate::count::next_count;
 use crate::pending::Pending;
 use crate::script::Script;
-use seam_accept::{HeaderLines, next_count};
+use seam_accept::HeaderLines;
 use seam_io::{Failed, Lines, Next, Sink, Source, write_whole};
 use seam_toml::HeaderError;
 use seam_transcript::Header;
@@ -101,6 +103,7 @@ fn read_header<S: Source>(
         MatchResult result
         (λ h. HasHeader began (S.state input.new) lines.new h.0 h.1)
         (λ s. Stopped s began (S.state input.new) sink sink) }
+    ensures few { IfOk result (λ h. h.1 ≤ most_lines) }
     ensures later { (S.state input.old).faults ≤ (S.state input.new).faults }
 {
     let mut header = HeaderLines::new(alloc);
@@ -165,6 +168,7 @@ struct Runner {
 impl Runner {
     // Reads line by line, until the run ends.
     fn run<S: Source, K: Sink>(&mut self, input: &mut S, out: &mut K) -> Status
+        requires { (h : Headers) × (t : Standing) × ScriptRefines h t self.old.script }
         ensures history { (began : SourceState) (sink : SinkState) →
             Going began (S.state input.old) self.old.lines sink (K.state out.old) self.old.pending self.old.script →
             Stopped result began (S.state input.new) sink (K.state out.new) }
@@ -181,6 +185,7 @@ impl Runner {
     // One line, before which all that was printed is written where the line may have to be waited for. Answers the status where
     // the run ends.
     fn turn<S: Source, K: Sink>(&mut self, input: &mut S, out: &mut K) -> Option<Status>
+        requires { (h : Headers) × (t : Standing) × ScriptRefines h t self.old.script }
         ensures history { (began : SourceState) (sink : SinkState) →
             Going began (S.state input.old) self.old.lines sink (K.state out.old) self.old.pending self.old.script →
             MatchOption result
@@ -188,6 +193,7 @@ impl Runner {
             (λ s. Stopped s began (S.state input.new) sink (K.state out.new)) }
         ensures later { (S.state input.old).faults ≤ (S.state input.new).faults }
         ensures falls { IfNone result (budget self.new.lines < budget self.old.lines) }
+        ensures ready { IfNone result ((h : Headers) × (t : Standing) × ScriptRefines h t self.new.script) }
     {
         match write_before_wait(&self.lines, &mut self.pending, out) {
             Ok(()) => self.follow(input, out),
@@ -197,6 +203,7 @@ impl Runner {
 
     // The next line: it is read, the script follows it, and what the script prints is pending.
     fn follow<S: Source, K: Sink>(&mut self, input: &mut S, out: &mut K) -> Option<Status>
+        requires { (h : Headers) × (t : Standing) × ScriptRefines h t self.old.script }
         ensures history { (began : SourceState) (sink : SinkState) →
             Going began (S.state input.old) self.old.lines sink (K.state out.old) self.old.pending self.old.script →
             MatchOption result
@@ -204,6 +211,7 @@ impl Runner {
             (λ s. Stopped s began (S.state input.new) sink (K.state out.new)) }
         ensures later { (S.state input.old).faults ≤ (S.state input.new).faults }
         ensures falls { IfNone result (budget self.new.lines < budget self.old.lines) }
+        ensures ready { IfNone result ((h : Headers) × (t : Standing) × ScriptRefines h t self.new.script) }
     {
         match self.lines.next(input) {
             Next::Line => self.print_line(out),
@@ -219,11 +227,13 @@ impl Runner {
 
     // Prints for the line that was read.
     fn print_line<K: Sink>(&mut self, out: &mut K) -> Option<Status>
+        requires { (h : Headers) × (t : Standing) × ScriptRefines h t self.old.script }
         ensures prints { (h : Headers) (t : Standing) (sink : SinkState) (text : List ℕ) → ScriptRefines h t self.old.script →
             Printed sink (K.state out.old) self.old.pending text →
             Prints (LineRead h t (Content self.old.lines.line) (λ s. ScriptRefines h s self.new.script)) sink (K.state out.new)
             self.new.pending text result }
         ensures lines { self.new.lines ≡ self.old.lines }
+        ensures ready { IfNone result ((h : Headers) × (t : Standing) × ScriptRefines h t self.new.script) }
     {
         self.text.clear();
         match self.script.read_line(self.lines.line(), &mut self.text) {
@@ -234,10 +244,12 @@ impl Runner {
 
     // Prints for a line that is too long.
     fn print_long<K: Sink>(&mut self, out: &mut K) -> Option<Status>
+        requires { (h : Headers) × (t : Standing) × ScriptRefines h t self.old.script }
         ensures prints { (h : Headers) (t : Standing) (sink : SinkState) (text : List ℕ) → ScriptRefines h t self.old.script →
             Printed sink (K.state out.old) self.old.pending text →
             Prints (LineRead h t Long (λ s. ScriptRefines h s self.new.script)) sink (K.state out.new) self.new.pending text result }
         ensures lines { self.new.lines ≡ self.old.lines }
+        ensures ready { IfNone result ((h : Headers) × (t : Standing) × ScriptRefines h t self.new.script) }
     {
         self.text.clear();
         match self.script.read_long(&mut self.text) {
@@ -248,6 +260,7 @@ impl Runner {
 
     // Prints for the end of the input, and writes all that was printed.
     fn print_last<K: Sink>(&mut self, out: &mut K) -> Option<Status>
+        requires { (h : Headers) × (t : Standing) × ScriptRefines h t self.old.script }
         ensures { (h : Headers) (t : Standing) (sink : SinkState) (text : List ℕ) → ScriptRefines h t self.old.script →
             Printed sink (K.state out.old) self.old.pending text →
             Prints (InputEnded h t) sink (K.state out.new) [] text result }

@@ -1,26 +1,39 @@
 // A script, line by line.
 ghost use Rattle.std.specs.Prelude.{◌≡◌, ◌≤◌, ◌++◌, List, ℕ, length, OnOk, IfOk};
 ghost use Rattle.seam_io.specs.Lines.{Line as Lines, Content, Long};
-ghost use Rattle.seam_defs.specs.Settings.{AreInRange};
+ghost use Rattle.seam_defs.specs.Settings.{AreLegal};
+ghost use Rattle.seam_defs.specs.Types.{AreDefs};
 ghost use Rattle.seam_toml.specs.declared.header.Header.{Header as Headers};
-ghost use Rattle.seam_transcript.specs.Standing.{Standing, after_header};
-ghost use Rattle.seam_transcript.specs.Following.{RoundEnds, LineFollowed, LineRead, InputEnded};
+ghost use Rattle.seam_transcript.specs.Book.{Book as Books};
+ghost use Rattle.seam_transcript.specs.declared.commands.Commands.TheVariants.{All};
+ghost use Rattle.seam_accept.specs.Refines.{Refines as HoldsBook};
+ghost use Rattle.seam_rules.specs.Standing.{Standing, after_header, with_line};
+ghost use Rattle.seam_course.specs.Counts.{most_lines};
+ghost use Rattle.seam_world.specs.Following.{RoundEnds, LineFollowed, LineRead, InputEnded};
+ghost use Rattle.seam_world.specs.Rounds.{with_bounds};
 ghost use Rattle.seam_world.specs.Script.{IsReady, ScriptRefines, HasAccepted};
 
-use crate::text::push_round;
-use seam_accept::{Accepted, Book, Refusal, next_count};
-use seam_flat::FlatTable;
+use crate::count::next_count;
+use crate::round::play;
+use seam_accept::{Accepted, Book, Refusal};
+use seam_core::World;
 use seam_io::LONGEST_LINE;
+use seam_print::Residents;
 use seam_report::push_refusal;
 use seam_transcript::{Cause, Commands, Header, MOST_LINES};
+use seam_tree::Tree;
 use std::alloc::{AllocError, Global};
 
-/// How far a script was read: the book of what was accepted, the world as the last round left it, and the counts of lines and
-/// rounds.
+/// How far a script was read: the book of what was accepted, the world of cells as the last round left it with the entities that live
+/// in it, and the counts of lines and rounds.
 #[derive(Drop)]
 pub struct Script {
+    alloc: Global,
+    header: Header,
     book: Book,
-    table: FlatTable,
+    // nothing where memory was wanting in a round
+    world: Option<World>,
+    residents: Residents,
     // the number of the last line
     line: u64,
     // the number of the last round that ended
@@ -30,12 +43,18 @@ pub struct Script {
 impl Script {
     /// A script after a header of so many lines.
     pub fn new(alloc: Global, header: Header, lines: u64) -> Result<Self, AllocError>
-        requires { AreInRange header.settings }
+        requires legal { AreLegal header.settings }
+        requires sound { AreDefs header.defs }
+        requires few { lines ≤ most_lines }
         ensures { IfOk result (ScriptRefines header (after_header header lines)) }
     {
+        seam_course::a_course_begins_and_goes_on();
         Ok(Script {
-            book: Book::new(alloc, &header, Commands::OneCell)?,
-            table: FlatTable::new(alloc, header),
+            alloc,
+            book: Book::new(alloc, &header, Commands::All)?,
+            world: Some(World::open(alloc, &header.defs, header.settings)?),
+            residents: Residents::new(alloc),
+            header,
             line: lines,
             round: 0,
         })
@@ -43,11 +62,13 @@ impl Script {
 
     /// Reads the next line, and appends what is printed for it.
     pub fn read_line(&mut self, line: &[u8], out: &mut Vec<u8>) -> Result<(), AllocError>
-        requires { length line.now ≤ LONGEST_LINE }
+        requires length { length line.now ≤ LONGEST_LINE }
+        requires ready { (h : Headers) × (t : Standing) × ScriptRefines h t self.old }
         ensures { OnOk result ((h : Headers) (t : Standing) → ScriptRefines h t self.old
             → (text : List ℕ) × LineRead h t (Content line.now) (λ s. ScriptRefines h s self.new) text
             × (out.new.items ≡ out.old.items ++ text)) }
     {
+        seam_course::a_course_begins_and_goes_on();
         self.line = next_count(self.line)?;
         match self.book.accept(line) {
             Ok(accepted) => self.follow(accepted, out),
@@ -61,15 +82,19 @@ impl Script {
         ensures { OnOk result ((h : Headers) (t : Standing) → ScriptRefines h t self.old
             → (text : List ℕ) × LineRead h t Long (λ s. ScriptRefines h s self.new) text × (out.new.items ≡ out.old.items ++ text)) }
     {
+        seam_course::a_course_begins_and_goes_on();
         self.line = next_count(self.line)?;
         push_refusal(out, self.line, Cause::TooLong)
     }
 
     // Does what a line asks for that the book accepted or skipped, and appends what is printed.
     fn follow(&mut self, accepted: Accepted, out: &mut Vec<u8>) -> Result<(), AllocError>
+        requires { (h : Headers) × (t : Standing) × (line : Lines) × HasAccepted h t line accepted self.old }
         ensures { OnOk result ((h : Headers) (t : Standing) (line : Lines) → HasAccepted h t line accepted self.old
-            → (text : List ℕ) × LineFollowed h t line (λ s. ScriptRefines h s self.new) text × (out.new.items ≡ out.old.items ++ text)) }
+            → (text : List ℕ) × LineFollowed h (with_line t) line (λ s. ScriptRefines h s self.new) text × (out.new.items ≡ out.old.items ++ text)) }
     {
+        seam_course::a_course_begins_and_goes_on();
+        seam_course::a_round_may_be_run();
         match accepted {
             Accepted::Skipped => Ok(()),
             Accepted::Kept => {
@@ -84,24 +109,52 @@ impl Script {
 
     // Ends the open round, whose text is appended.
     fn end_round(&mut self, out: &mut Vec<u8>) -> Result<(), AllocError>
+        requires { (h : Headers) × (t : Standing) × IsReady h t self.old }
         ensures { OnOk result ((h : Headers) (t : Standing) → IsReady h t self.old
             → (text : List ℕ) × RoundEnds h t (λ s. ScriptRefines h s self.new) text × (out.new.items ≡ out.old.items ++ text)) }
     {
+        seam_course::a_round_may_be_run();
+        seam_course::a_run_round_is_legal();
         self.round = next_count(self.round)?;
-        self.table.run(self.book.take_batch())?;
-        push_round(out, self.round, &self.table)?;
-        self.table.start_round();
+        let Some(world) = self.world.take() else {
+            return Err(AllocError);
+        };
+        let batch = self.book.take_batch();
+        self.residents.begin(&batch)?;
+        let played = play(
+            self.alloc,
+            &self.header,
+            self.round,
+            &mut self.residents,
+            world,
+            batch,
+            out,
+        )?;
+        begin_next(&mut self.book, played.bounds);
+        self.world = Some(played.world);
         Ok(())
     }
 
     /// Ends the input, and appends the text of a last round, if there is one.
     pub fn finish(&mut self, out: &mut Vec<u8>) -> Result<(), AllocError>
+        requires { (h : Headers) × (t : Standing) × ScriptRefines h t self.old }
         ensures { OnOk result ((h : Headers) (t : Standing) → ScriptRefines h t self.old
             → (text : List ℕ) × InputEnded h t text × (out.new.items ≡ out.old.items ++ text)) }
     {
+        seam_course::a_round_may_be_run();
         if self.book.count() == 0 {
             return Ok(());
         }
         self.end_round(out)
+    }
+}
+
+// Begins the next round, with another tree where the boundaries were balanced.
+fn begin_next(book: &mut Book, bounds: Option<Tree>)
+    requires { book.old.count ≡ 0 }
+    ensures { (h : Headers) (b : Books) → HoldsBook All h b book.old → HoldsBook All h (with_bounds b bounds) book.new }
+{
+    if let Some(tree) = bounds {
+        book.set_tree(tree);
     }
 }

@@ -1,11 +1,11 @@
 use Rattle.std.proofs.Common.{ℕ}
 use Rattle.seam_call.specs.declared.order.Batch.{Batch}
 use Rattle.seam_steps.specs.Nodes.{World}
-use Rattle.seam_moves.specs.Frames.{Frame}
+use Rattle.seam_ones.specs.Frames.{Frame}
 use Rattle.seam_replica.specs.Clients.{ClientReplica}
-use Rattle.seam_between.specs.Between.{framed}
+use Rattle.seam_rounds.specs.Between.{framed}
 use Rattle.seam_base_rounds.specs.Parts.{MayBeLoaded}
-use Rattle.seam_clients.specs.Clients.{clients_loaded}
+use Rattle.seam_shown.specs.Clients.{clients_loaded}
 use Rattle.seam_laws.specs.Records.{KeepsRecords, MayBeGiven}
 use Rattle.seam_laws.proofs.calls_obey_the_laws.Goals as goal
 

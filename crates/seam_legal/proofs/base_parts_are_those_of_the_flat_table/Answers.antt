@@ -7,12 +7,12 @@ use Rattle.seam_batches.specs.Bringing.{IsUntouched}
 use Rattle.seam_batches.proofs.Present.{live_is_present}
 use Rattle.seam_batches.proofs.Untouched.{orderly}
 use Rattle.seam_steps.specs.Loads.{loaded}
-use Rattle.seam_between.specs.Between.{framed}
-use Rattle.seam_between.proofs.Framing.{in_frame}
-use Rattle.seam_between.proofs.Going.{spared_loaded}
+use Rattle.seam_rounds.specs.Between.{framed}
+use Rattle.seam_rounds.proofs.Framing.{in_frame}
+use Rattle.seam_rounds.proofs.Going.{spared_loaded}
 use Rattle.seam_rounds.proofs.Shape.{search_real}
 use Rattle.seam_base_rounds.specs.Parts.{MayBeLoaded}
-use Rattle.seam_clients.specs.Clients.{clients_loaded, clients_shown}
+use Rattle.seam_shown.specs.Clients.{clients_loaded, clients_shown}
 use Rattle.seam_legal.specs.Going.{frame_of, base_node}
 use Rattle.seam_legal.specs.Rounds.{done_by_part, IsPartInTable}
 use Rattle.seam_legal.proofs.Given.{present_one}

@@ -3,8 +3,8 @@ use Rattle.seam_transcript.specs.Book.{created_as}
 use Rattle.seam_accept.specs.Batches.{batch_of}
 use Rattle.seam_batches.specs.Books.{as_begun}
 use Rattle.seam_batches.specs.Bringing.{IsUntouched}
-use Rattle.seam_between.specs.Between.{framed}
-use Rattle.seam_clients.specs.Clients.{clients_loaded, clients_shown}
+use Rattle.seam_rounds.specs.Between.{framed}
+use Rattle.seam_shown.specs.Clients.{clients_loaded, clients_shown}
 use Rattle.seam_legal.specs.Going.{frame_of}
 use Rattle.seam_legal.specs.Rounds.{done_in}
 use Rattle.seam_legal.proofs.Given.{present_one}

@@ -2,7 +2,7 @@ use Rattle.std.proofs.Common.{◌≡◌, sym, ap, ◌∙◌, inl, inr}
 use Rattle.std.proofs.lemmas.Bool.{cases_eq}
 use Rattle.seam_haunt.specs.Places.{Place}
 use Rattle.seam_entity.specs.Reals.{RealView}
-use Rattle.seam_moves.specs.Sights.{entity_flow}
+use Rattle.seam_ones.specs.Sights.{entity_flow}
 use Rattle.seam_ones.specs.Ones.{real_in}
 use Rattle.seam_legal.proofs.home_lines_are_those_of_the_rules.Goals as goal
 

@@ -7,10 +7,10 @@ use Rattle.seam_batches.specs.Bringing.{IsUntouched}
 use Rattle.seam_batches.proofs.Untouched.{orderly}
 use Rattle.seam_batches.proofs.Present.{live_is_present}
 use Rattle.seam_entity.specs.Reals.{RealView}
-use Rattle.seam_between.specs.Between.{framed}
+use Rattle.seam_rounds.specs.Between.{framed}
 use Rattle.seam_rounds.proofs.Shape.{search_real}
 use Rattle.seam_steps.specs.Loads.{loaded}
-use Rattle.seam_clients.specs.Clients.{clients_loaded, clients_shown}
+use Rattle.seam_shown.specs.Clients.{clients_loaded, clients_shown}
 use Rattle.seam_legal.specs.Going.{frame_of}
 use Rattle.seam_legal.specs.Rounds.{done_in}
 use Rattle.seam_legal.proofs.Given.{present_one}

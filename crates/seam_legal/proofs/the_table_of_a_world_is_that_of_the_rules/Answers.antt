@@ -3,17 +3,17 @@ use Rattle.seam_view.specs.Replica.{IsView}
 use Rattle.seam_transcript.specs.Book.{Book, live_as, tree_of, with_round_ended}
 use Rattle.seam_transcript.specs.Round.{Lists}
 use Rattle.seam_accept.specs.Batches.{batch_of}
-use Rattle.seam_between.specs.Between.{framed}
+use Rattle.seam_rounds.specs.Between.{framed}
 use Rattle.seam_rounds.proofs.Shape.{Somewhere, Nowhere, search_real}
-use Rattle.seam_clients.specs.Clients.{clients_loaded, clients_shown}
+use Rattle.seam_shown.specs.Clients.{clients_loaded, clients_shown}
 use Rattle.seam_laws.specs.Looks.{clients_looked, shown_to}
 use Rattle.seam_flows.specs.Flows.{letters_of}
 use Rattle.seam_base_calls.specs.Clients.{shown_in, lines_in, proxy_of}
 use Rattle.seam_call.specs.declared.create.Create.{Create}
 use Rattle.seam_replica.specs.Looks.{rows_but, look_by, one_look}
-use Rattle.seam_looks.specs.Tables as world
-use Rattle.seam_looks.proofs.Rows.{row_found}
-use Rattle.seam_looks.proofs.OneLook.{row_nowhere}
+use Rattle.seam_shown.specs.Tables as world
+use Rattle.seam_shown.proofs.Rows.{row_found}
+use Rattle.seam_shown.proofs.OneLook.{row_nowhere}
 use Rattle.seam_rules.specs.FlatTable.{properties}
 use Rattle.seam_legal.specs.Going.{frame_of, base_node}
 use Rattle.seam_legal.specs.Rounds.{done_in, with_done}

@@ -8,7 +8,7 @@ use Rattle.seam_batches.proofs.Adding.{all_turn}
 use Rattle.seam_entity.specs.Numbers.{limit, may_rise}
 use Rattle.seam_steps.specs.Holders.{holders}
 use Rattle.seam_steps.specs.Loads.{loaded}
-use Rattle.seam_between.specs.Between.{numbers_of}
+use Rattle.seam_rounds.specs.Between.{numbers_of}
 use Rattle.seam_rounds.proofs.Shape.{Somewhere, Nowhere, search_real}
 use Rattle.seam_base_rounds.specs.Parts.{MayBeLoaded}
 use Rattle.seam_entity.specs.Reals.{RealView}

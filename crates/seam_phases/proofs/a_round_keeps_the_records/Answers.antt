@@ -1,6 +1,6 @@
-use Rattle.seam_between.specs.Between.{framed}
+use Rattle.seam_rounds.specs.Between.{framed}
 use Rattle.seam_base_rounds.specs.Parts.{MayBeLoaded}
-use Rattle.seam_clients.proofs.Round.{reaped_between, reaped_parts, reaped_small, reaped_copies}
+use Rattle.seam_shown.proofs.Round.{reaped_between, reaped_parts, reaped_small, reaped_copies}
 use Rattle.seam_phases.proofs.a_round_keeps_the_records.Goals as goal
 
 pub returns-clause-opened : goal.returns-clause-opened

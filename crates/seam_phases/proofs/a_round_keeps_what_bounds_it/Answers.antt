@@ -1,6 +1,6 @@
-use Rattle.seam_between.specs.Between.{framed}
-use Rattle.seam_clients.proofs.Room.{have_room}
-use Rattle.seam_clients.proofs.Round.{called_between, reaped_between, reaped_parts, reaped_small, reaped_copies, reaped_room}
+use Rattle.seam_rounds.specs.Between.{framed}
+use Rattle.seam_shown.proofs.Room.{have_room}
+use Rattle.seam_shown.proofs.Round.{called_between, reaped_between, reaped_parts, reaped_small, reaped_copies, reaped_room}
 use Rattle.seam_phases.proofs.Seen.{looks_see}
 use Rattle.seam_phases.proofs.a_round_keeps_what_bounds_it.Goals as goal
 

@@ -1,6 +1,6 @@
 use Rattle.std.proofs.Common.{length}
-use Rattle.seam_between.specs.Between.{framed}
-use Rattle.seam_clients.proofs.Round.{called_between, reaped_between, reaped_parts, reaped_small}
+use Rattle.seam_rounds.specs.Between.{framed}
+use Rattle.seam_shown.proofs.Round.{called_between, reaped_between, reaped_parts, reaped_small}
 use Rattle.seam_phases.proofs.Bounds.{seers, among_each, names, watchers, called_among, looks_bounded}
 use Rattle.seam_phases.proofs.each_phase_of_a_round_ends.Goals as goal
 

@@ -1,18 +1,18 @@
-use Rattle.std.proofs.Common.{◌≡◌, [], ◌++◌, sym, ap, ◌∙◌, subst, inl, inr, ◌⊎◌}
+use Rattle.std.proofs.Common.{◌≡◌, [], sym, ap, ◌∙◌, subst, inl, inr, ◌⊎◌}
 use Rattle.std.proofs.lemmas.List.Sums.{fold-append}
 use Rattle.seam_view.specs.Replica.{IsView}
 use Rattle.seam_transcript.specs.Book.{live_as, tree_of, with_round_ended}
 use Rattle.seam_transcript.specs.Round.{Lists}
 use Rattle.seam_accept.specs.Batches.{batch_of}
-use Rattle.seam_between.specs.Between.{framed}
+use Rattle.seam_rounds.specs.Between.{framed}
 use Rattle.seam_rounds.proofs.Shape.{Somewhere, Nowhere, search_real}
-use Rattle.seam_clients.specs.Clients.{clients_loaded, clients_shown}
+use Rattle.seam_shown.specs.Clients.{clients_loaded, clients_shown}
 use Rattle.seam_laws.specs.Looks.{shown_to}
 use Rattle.seam_replica.specs.Clients.{after_shown, after_all_shown}
 use Rattle.seam_replica.specs.Looks.{rows_but, look_by, one_look}
-use Rattle.seam_looks.specs.Tables as world
-use Rattle.seam_looks.proofs.Rows.{row_found}
-use Rattle.seam_looks.proofs.OneLook.{row_nowhere}
+use Rattle.seam_shown.specs.Tables as world
+use Rattle.seam_shown.proofs.Rows.{row_found}
+use Rattle.seam_shown.proofs.OneLook.{row_nowhere}
 use Rattle.seam_rules.specs.FlatTable.{rows_of}
 use Rattle.seam_rules.specs.Standing.{replica_of}
 use Rattle.seam_legal.specs.Going.{frame_of}

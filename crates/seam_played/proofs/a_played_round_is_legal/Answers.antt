@@ -1,11 +1,10 @@
-use Rattle.std.proofs.Common.{refl, sym, ap, ◌∙◌, subst}
-use Rattle.std.specs.Prelude.{map, length}
-use Rattle.seam_rules.specs.Clients.{base_shown, base_versions}
-use Rattle.seam_played.specs.Playing.{ContinuesLines, data_of, standing_of}
+use Rattle.std.proofs.Common.{None, Some, refl, sym, subst}
+use Rattle.seam_transcript.specs.Book.{with_round_ended, with_tree}
+use Rattle.seam_played.specs.Playing.{ContinuesLines, standing_of}
 use Rattle.seam_played.proofs.a_played_round_is_legal.Goals as goal
 
-pub returns : goal.returns
-returns c h s tree w v p bounds next right bound =
+pub returns-clause-with_bounds : goal.returns-clause-with_bounds
+returns-clause-with_bounds c h s tree w v p bounds next bound =
     let its = c.a_played_round_is_legal_but_for_clients.ensures h s tree w v p bounds next in
     let t = standing_of h s tree w v p bounds next in
     record {
@@ -27,7 +26,7 @@ returns c h s tree w v p bounds next right bound =
             record {
               types = c.client_lines_are_gathered.ensures.types h s tree w v p bounds x is shown;
               numbers = so.numbers;
-              right = right x is shown;
+              right = c.what_clients_are_shown_is_right.ensures h s tree w v p bounds next x is shown;
               bases = so.bases;
             };
         told = λ e. refl;
@@ -40,3 +39,13 @@ returns c h s tree w v p bounds next right bound =
       lines = refl;
       rounds = refl;
     }
+
+pub returns-clause-kept : goal.returns-clause-kept
+returns-clause-kept c h s tree w v p none =
+    returns-clause-with_bounds c h s tree w v p None (with_round_ended s.book)
+    (c.the_next_round_has_the_tree_of_the_rules.ensures.kept h s tree w v p none)
+
+pub returns-clause-balanced : goal.returns-clause-balanced
+returns-clause-balanced c h s tree w v p u some balanced =
+    returns-clause-with_bounds c h s tree w v p (Some u) (with_tree (with_round_ended s.book) u)
+    (c.the_next_round_has_the_tree_of_the_rules.ensures.balanced h s tree w v p u some balanced)

@@ -4,8 +4,8 @@ use Rattle.seam_defs.specs.declared.flags.Part.TheVariants as part
 use Rattle.seam_call.specs.declared.create.Create.{Create}
 use Rattle.seam_transcript.specs.Book.{live_as, tree_of, with_round_ended}
 use Rattle.seam_accept.specs.Batches.{batch_of}
-use Rattle.seam_between.specs.Between.{framed}
-use Rattle.seam_clients.specs.Clients.{clients_loaded, clients_shown}
+use Rattle.seam_rounds.specs.Between.{framed}
+use Rattle.seam_shown.specs.Clients.{clients_loaded, clients_shown}
 use Rattle.seam_rules.specs.Standing.{replica_of}
 use Rattle.seam_rules.specs.Places.{HasPlace}
 use Rattle.seam_rules.specs.Round.{home_line, base_line, ghost_lines}

@@ -1,8 +1,8 @@
-use Rattle.std.proofs.Common.{◌≡◌, ℕ, None, refl, sym, ap, ◌∙◌}
+use Rattle.std.proofs.Common.{◌≡◌, ℕ, refl, sym, ap, ◌∙◌}
 use Rattle.std.proofs.lemmas.Option.{none-some}
 use Rattle.seam_batches.proofs.Untouched.{one_cell_tree}
 use Rattle.seam_steps.specs.Loads.{opened}
-use Rattle.seam_moves.specs.Sights.{has_none, entity_flow}
+use Rattle.seam_ones.specs.Sights.{has_none, entity_flow}
 use Rattle.seam_ones.specs.Ones.{real_in, IsFrame}
 use Rattle.seam_rounds.specs.Rounds.{first_frame}
 use Rattle.seam_rounds.proofs.Opened.{opened_is_new}

@@ -1,4 +1,4 @@
-use Rattle.std.proofs.Common.{◌≡◌, ℕ, ◌+◌, Bool, true, false, [], ◌++◌, length, Option, None, Some, refl, sym, ap, ◌∙◌, subst}
+use Rattle.std.proofs.Common.{◌≡◌, ◌+◌, Bool, true, false, ◌++◌, length, Option, None, Some, refl, sym, ap, ◌∙◌, subst}
 use Rattle.std.proofs.Common.{length-append, append-nil}
 use Rattle.std.specs.Prelude.{is_some, not, filter, ◌&&◌}
 use Rattle.std.specs.List.{list_any}
@@ -11,9 +11,9 @@ use Rattle.seam_accept.specs.Batches.{batch_of}
 use Rattle.seam_batches.proofs.Present.{any_split, alive, neither, undestroyed}
 use Rattle.seam_call.specs.Calls.{is_from}
 use Rattle.seam_steps.specs.Bases.{PartView, ProxyView}
-use Rattle.seam_moves.specs.Sights.{entity_flow}
-use Rattle.seam_between.specs.Between.{framed}
-use Rattle.seam_clients.specs.Clients.{clients_loaded, clients_shown}
+use Rattle.seam_ones.specs.Sights.{entity_flow}
+use Rattle.seam_rounds.specs.Between.{framed}
+use Rattle.seam_shown.specs.Clients.{clients_loaded, clients_shown}
 use Rattle.seam_rules.specs.Lines.{told_in}
 use Rattle.seam_rules.specs.Standing.{replica_of}
 use Rattle.seam_legal.specs.Going.{frame_of, base_node}

@@ -1,25 +1,24 @@
-use Rattle.std.proofs.Common.{◌≡◌, ℕ, ◌+◌, true, false, List, [], ◌++◌, map, length, Option, None, Some, refl, sym, ap, ◌∙◌}
-use Rattle.std.specs.Prelude.{is_some, if◌then◌else◌}
+use Rattle.std.proofs.Common.{◌≡◌, ℕ, ◌+◌, true, false, [], ◌++◌, map, length, None, Some, sym, ap, ◌∙◌}
+use Rattle.std.specs.Prelude.{if◌then◌else◌}
 use Rattle.std.specs.List.{list_any}
 use Rattle.seam_defs.specs.declared.flags.Part.TheVariants as part
-use Rattle.seam_call.specs.declared.shown.ClientText.{ClientText}
 use Rattle.seam_transcript.specs.Book.{created_as, destroys, is_new_client}
 use Rattle.seam_accept.specs.Batches.{batch_of}
 use Rattle.seam_batches.specs.Books.{as_begun}
 use Rattle.seam_batches.specs.Bringing.{IsUntouched}
 use Rattle.seam_steps.specs.Bases.{PartView, ProxyView}
 use Rattle.seam_steps.specs.Loads.{loaded}
-use Rattle.seam_moves.specs.Frames.{here_at}
-use Rattle.seam_moves.specs.Sights.{entity_flow}
-use Rattle.seam_between.specs.Between.{framed}
-use Rattle.seam_between.proofs.Going.{settled_loaded}
-use Rattle.seam_between.proofs.Loaded.{no_mail}
-use Rattle.seam_between.proofs.Ready.{one_holder, quiet_home}
+use Rattle.seam_ones.specs.Frames.{here_at}
+use Rattle.seam_ones.specs.Sights.{entity_flow}
+use Rattle.seam_rounds.specs.Between.{framed}
+use Rattle.seam_rounds.proofs.Going.{settled_loaded}
+use Rattle.seam_rounds.proofs.Loaded.{no_mail}
+use Rattle.seam_rounds.proofs.Ready.{one_holder, quiet_home}
 use Rattle.seam_base_rounds.specs.Parts.{MayBeLoaded}
 use Rattle.seam_base_rounds.proofs.Joining.{is_among}
-use Rattle.seam_clients.specs.BaseLines.{base_lines, first_lines, lines_after}
-use Rattle.seam_clients.specs.Clients.{clients_loaded, clients_shown}
-use Rattle.seam_clients.proofs.Loading.{among_is}
+use Rattle.seam_shown.specs.BaseLines.{base_lines, first_lines, lines_after}
+use Rattle.seam_shown.specs.Clients.{clients_loaded, clients_shown}
+use Rattle.seam_shown.proofs.Loading.{among_is}
 use Rattle.seam_rules.specs.Clients.{base_shown, base_versions}
 use Rattle.seam_rules.specs.Standing.{replica_of}
 use Rattle.seam_legal.specs.Going.{frame_of, base_node}

@@ -1,10 +1,10 @@
-use Rattle.std.proofs.Common.{◌≡◌, ℕ, Bool, true, false, eqb, ◌++◌, Some, None, refl, sym, ap, ◌∙◌, subst, inl, inr}
+use Rattle.std.proofs.Common.{◌≡◌, ℕ, true, eqb, ◌++◌, Some, None, sym, ap, ◌∙◌, subst, inl, inr}
 use Rattle.std.specs.Prelude.{is_some, if◌then◌else◌}
 use Rattle.std.specs.List.{list_any}
 use Rattle.std.proofs.lemmas.Bool.{cases_eq}
 use Rattle.seam_flows.specs.Flows.{letters_of}
 use Rattle.seam_call.specs.declared.create.Create.{Create}
-use Rattle.seam_transcript.specs.Book.{entries, creates_of, created_as, live_as, joins, destroys, with_round_ended}
+use Rattle.seam_transcript.specs.Book.{entries, creates_of, created_as, live_as, joins, destroys}
 use Rattle.seam_transcript.proofs.BookEntries.{live_is_created}
 use Rattle.seam_transcript.proofs.InOrderLemmas.{found_entity}
 use Rattle.seam_accept.specs.Batches.{batch_of}
@@ -12,13 +12,13 @@ use Rattle.seam_batches.specs.Books.{as_begun}
 use Rattle.seam_batches.specs.Bringing.{IsUntouched}
 use Rattle.seam_batches.proofs.Present.{any_split, alive, neither, undestroyed}
 use Rattle.seam_entity.specs.Reals.{RealView}
-use Rattle.seam_moves.specs.Sights.{entity_flow}
+use Rattle.seam_ones.specs.Sights.{entity_flow}
 use Rattle.seam_ones.specs.Ones.{real_in}
-use Rattle.seam_between.specs.Between.{framed}
+use Rattle.seam_rounds.specs.Between.{framed}
 use Rattle.seam_base_calls.specs.Clients.{shown_in}
 use Rattle.seam_base_rounds.specs.Parts.{MayBeLoaded}
-use Rattle.seam_clients.specs.Clients.{clients_loaded, clients_shown}
-use Rattle.seam_clients.proofs.Loading.{among_is}
+use Rattle.seam_shown.specs.Clients.{clients_loaded, clients_shown}
+use Rattle.seam_shown.proofs.Loading.{among_is}
 use Rattle.seam_replica.specs.Clients.{new_client, after_all_shown, after_lines}
 use Rattle.seam_rules.specs.Lines.{told_in}
 use Rattle.seam_rules.specs.Standing.{replica_of}

@@ -1,4 +1,4 @@
-use Rattle.std.proofs.Common.{◌≡◌, ℕ, ◌≤◌, true, eqb, List, [], ◌++◌, length, Option, None, Some, refl, sym, ap, ◌∙◌, subst, arith}
+use Rattle.std.proofs.Common.{◌≡◌, ℕ, ◌≤◌, true, eqb, List, ◌++◌, length, Option, None, Some, refl, sym, ap, ◌∙◌, subst, arith}
 use Rattle.std.specs.Prelude.{is_some}
 use Rattle.std.specs.List.{AllByRecursion, list_any}
 use Rattle.seam_flows.proofs.TokenLemmas.{sole_here}
@@ -22,17 +22,17 @@ use Rattle.seam_entity.specs.Here.{cell_count}
 use Rattle.seam_entity.specs.Reals.{RealView, WitnessView}
 use Rattle.seam_steps.specs.Loads.{loaded}
 use Rattle.seam_steps.specs.Nodes.{World, node_steps, node_has_work}
-use Rattle.seam_moves.specs.Sights.{entity_flow}
+use Rattle.seam_ones.specs.Sights.{entity_flow}
 use Rattle.seam_ones.specs.Ones.{real_in, real_of, HasOne}
-use Rattle.seam_ones.specs.Replays.{account_of, after_calls}
-use Rattle.seam_between.specs.Between.{framed}
-use Rattle.seam_between.proofs.Framing.{in_frame}
-use Rattle.seam_between.proofs.Going.{settled_loaded, spared_loaded}
-use Rattle.seam_between.proofs.Loaded.{no_mail}
-use Rattle.seam_between.proofs.Ready.{one_holder, quiet_home}
+use Rattle.seam_ones.specs.Replays.{account_of}
+use Rattle.seam_rounds.specs.Between.{framed}
+use Rattle.seam_rounds.proofs.Framing.{in_frame}
+use Rattle.seam_rounds.proofs.Going.{settled_loaded, spared_loaded}
+use Rattle.seam_rounds.proofs.Loaded.{no_mail}
+use Rattle.seam_rounds.proofs.Ready.{one_holder, quiet_home}
 use Rattle.seam_base_rounds.proofs.Attaching.{are_for_loaded}
-use Rattle.seam_clients.specs.Clients.{clients_loaded, clients_shown}
-use Rattle.seam_clients.proofs.Loading.{among_is}
+use Rattle.seam_shown.specs.Clients.{clients_loaded}
+use Rattle.seam_shown.proofs.Loading.{among_is}
 use Rattle.seam_replica.specs.Clients.{new_client, after_lines}
 use Rattle.seam_replica.specs.Lines.{ShowsRightly}
 use Rattle.seam_shown.specs.Rounds.{WasOwn, WasOther, true_between}

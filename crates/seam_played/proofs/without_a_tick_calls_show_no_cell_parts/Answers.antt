@@ -1,4 +1,4 @@
-use Rattle.std.proofs.Common.{◌≡◌, ℕ, true, [], length, Option, None, Some, refl, sym, ap, ◌∙◌}
+use Rattle.std.proofs.Common.{◌≡◌, ℕ, true, [], length, Option, None, Some, refl, ap, ◌∙◌}
 use Rattle.std.specs.Prelude.{is_some}
 use Rattle.seam_transcript.specs.Book.{created_as}
 use Rattle.seam_accept.specs.Batches.{batch_of}
@@ -6,16 +6,15 @@ use Rattle.seam_batches.specs.Books.{as_begun}
 use Rattle.seam_batches.specs.Bringing.{IsUntouched}
 use Rattle.seam_entity.specs.Reals.{WitnessView}
 use Rattle.seam_steps.specs.Loads.{loaded}
-use Rattle.seam_between.specs.Between.{framed}
-use Rattle.seam_between.proofs.Framing.{in_frame}
-use Rattle.seam_between.proofs.Going.{settled_loaded}
-use Rattle.seam_between.proofs.Loaded.{no_mail}
-use Rattle.seam_between.proofs.Ready.{one_holder, quiet_home}
+use Rattle.seam_rounds.specs.Between.{framed}
+use Rattle.seam_rounds.proofs.Framing.{in_frame}
+use Rattle.seam_rounds.proofs.Going.{settled_loaded}
+use Rattle.seam_rounds.proofs.Loaded.{no_mail}
+use Rattle.seam_rounds.proofs.Ready.{one_holder, quiet_home}
 use Rattle.seam_base_calls.specs.WitnessMoves.{sent_by}
 use Rattle.seam_base_rounds.specs.Parts.{MayBeLoaded, next_to, base_calls_of}
 use Rattle.seam_base_rounds.proofs.Attaching.{are_for_loaded}
 use Rattle.seam_base_rounds.proofs.Joining.{is_among}
-use Rattle.seam_clients.specs.Clients.{clients_loaded, clients_shown}
 use Rattle.seam_rules.specs.Standing.{replica_of}
 use Rattle.seam_legal.specs.Going.{frame_of}
 use Rattle.seam_legal.proofs.Parts.{both_seen}

@@ -12,18 +12,18 @@ use Rattle.seam_accept.specs.Batches.{batch_of}
 use Rattle.seam_batches.specs.Books.{as_begun}
 use Rattle.seam_batches.specs.Bringing.{IsUntouched}
 use Rattle.seam_batches.proofs.Present.{undestroyed}
-use Rattle.seam_between.specs.Between.{framed}
+use Rattle.seam_rounds.specs.Between.{framed}
 use Rattle.seam_rounds.proofs.Shape.{Somewhere, Nowhere, search_real}
 use Rattle.seam_base_calls.specs.Clients.{shown_in}
 use Rattle.seam_base_rounds.specs.Parts.{MayBeLoaded}
 use Rattle.seam_base_rounds.proofs.Joining.{is_among}
-use Rattle.seam_clients.specs.Clients.{clients_loaded, clients_shown}
-use Rattle.seam_clients.proofs.Loading.{among_is}
+use Rattle.seam_shown.specs.Clients.{clients_loaded, clients_shown}
+use Rattle.seam_shown.proofs.Loading.{among_is}
 use Rattle.seam_replica.specs.Clients.{new_client, after_all_shown, after_lines}
 use Rattle.seam_replica.specs.Looks.{rows_but, look_by, one_look}
-use Rattle.seam_looks.specs.Tables as world
-use Rattle.seam_looks.proofs.Rows.{row_found}
-use Rattle.seam_looks.proofs.OneLook.{row_nowhere}
+use Rattle.seam_shown.specs.Tables as world
+use Rattle.seam_shown.proofs.Rows.{row_found}
+use Rattle.seam_shown.proofs.OneLook.{row_nowhere}
 use Rattle.seam_rules.specs.Clients.{is_base, base_texts, texts_to}
 use Rattle.seam_rules.specs.FlatTable.{rows_of}
 use Rattle.seam_rules.specs.Standing.{replica_of}

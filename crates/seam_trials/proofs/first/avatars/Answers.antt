@@ -1,11 +1,22 @@
-use Rattle.std.proofs.Common.{rules, arith}
-use Rattle.seam_trials.proofs.Trials.{new_at_first, one_pushed}
+use Rattle.std.proofs.Common.{refl, arith}
+use Rattle.seam_trials.proofs.Trials.{one_pushed, as_many}
 use Rattle.seam_trials.proofs.first.avatars.Goals as goal
 
-pub loop-pos-init : goal.loop-pos-init
-loop-pos-init c = new_at_first c.args.tree.now c.new-made.result.items c.new-made.ensures.items
+pub overflow_cast-entity : goal.overflow_cast-entity
+overflow_cast-entity c =
+    let many = as_many c.args.places.now c.loop-pos.pos-index c.loop-pos.made.items c.loop-pos.invariant in
+    let few = c.requires in
+    let test = c.loop-pos-test.true in
+    omega (arith, c.len.ensures, many, few, test)
+
+pub overflow_add-entity : goal.overflow_add-entity
+overflow_add-entity c =
+    let many = as_many c.args.places.now c.loop-pos.pos-index c.loop-pos.made.items c.loop-pos.invariant in
+    let few = c.requires in
+    let test = c.loop-pos-test.true in
+    omega (arith, c.len.ensures, many, few, test)
 
 pub loop-pos-preserved : goal.loop-pos-preserved
 loop-pos-preserved c =
-    one_pushed c.args.tree.now c.loop-pos.made.items c.push.new.self.items _ c.in-Ok.ensures.items c.loop-pos.invariant
-    (omega (arith, c.len-in-loop-pos.ensures)) (search rules)
+    one_pushed c.args.places.now c.loop-pos.pos-index _ c.loop-pos.made.items c.push.new.self.items _ c.loop-pos-test.true
+    c.loop-pos.invariant (omega (arith, c.len.ensures)) refl refl c.in_ok-push.ensures.items

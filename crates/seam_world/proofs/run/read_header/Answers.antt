@@ -27,7 +27,7 @@ loop-count-preserved g c =
           subst (λ (h : Option Header). HeaderLineRead began (g.S.Source.state c.read_header_line.new.input) c.read_header_line.new.lines
           c.read_header_line.new.header no_sink was.0 (Ok h))
           c.in-Ok-None.field-0-is (c.in-Ok-None.ensures.header began no_sink was.0 was.1) in
-          (was.0 ++ line.0 ∷ [], line.1, counted_line _ _ was.0 line.0 c.in-Ok.ensures was.2);
+          (was.0 ++ line.0 ∷ [], line.1, counted_line _ _ was.0 line.0 c.in-Ok.ensures.next was.2);
     }
 
 pub returns-in-Ok-Some-clause-header : goal.returns-in-Ok-Some-clause-header
@@ -38,9 +38,12 @@ returns-in-Ok-Some-clause-header g c = λ began sink reading limit.
     c.read_header_line.new.header no_sink was.0 (Ok h))
     c.in-Ok-Some.field-0-is (c.in-Ok-Some.ensures.header began no_sink was.0 was.1) in
     subst (HasHeader began (g.S.Source.state c.read_header_line.new.input) c.read_header_line.new.lines c.in-Ok-Some.read) (sym
-    (c.in-Ok.ensures ∙ ap (λ (n : _). n + 1) was.2)) ended
+    (c.in-Ok.ensures.next ∙ ap (λ (n : _). n + 1) was.2)) ended
 
 pub returns-in-Err-read_header_line-clause-header : goal.returns-in-Err-read_header_line-clause-header
 returns-in-Err-read_header_line-clause-header g c = λ began sink reading limit.
     let was = c.loop-count.invariant.history began reading limit in
     c.in-Err-read_header_line.ensures.header began sink was.0 was.1
+
+pub returns-in-Ok-Some-clause-few : goal.returns-in-Ok-Some-clause-few
+returns-in-Ok-Some-clause-few g c = c.in-Ok.ensures.most

@@ -1,6 +1,6 @@
 use Rattle.std.proofs.Common.{[], refl, arith}
 use Rattle.std.proofs.KnownBytes.{Consumes-nil}
-use Rattle.seam_toml.proofs.HeaderLaws.{reads_in_range}
+use Rattle.seam_toml.proofs.HeaderLaws.{reads_legal, reads_defs}
 use Rattle.seam_world.proofs.RunLemmas.{after_a_header}
 use Rattle.seam_world.proofs.HeaderRuns.{nothing_judged, header_alone}
 use Rattle.seam_world.proofs.run.run_body.Goals as goal
@@ -13,7 +13,11 @@ new-requires-3 g c =
     let has =
     c.in-Ok-read_header.ensures.header (g.S.Source.state c.args.input.now) (g.K.Sink.state c.args.out.now)
     (c.in-Ok-new.ensures.reads (g.S.Source.state c.args.input.now)) (rw c.in-Ok-new.ensures.fresh refl) in
-    reads_in_range has.begins.text _ has.begins.reads
+    record {
+      legal = reads_legal has.begins.text _ has.begins.reads;
+      sound = reads_defs has.begins.text _ has.begins.reads;
+      few = c.in-Ok-read_header.ensures.few;
+    }
 
 pub returns-in-Err-new-2-clause-stopped : goal.returns-in-Err-new-2-clause-stopped
 returns-in-Err-new-2-clause-stopped g c =

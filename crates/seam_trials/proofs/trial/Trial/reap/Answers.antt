@@ -1,10 +1,8 @@
-use Rattle.std.proofs.Common.{sym, subst}
-use Rattle.seam_trials.specs.Trials.{IsStandard}
 use Rattle.seam_trials.proofs.Trials.{standard_reaps}
 use Rattle.seam_trials.proofs.trial.Trial.reap.Goals as goal
 
 pub invariant_of-result : goal.invariant_of-result
 invariant_of-result c = record {
-  standard = subst IsStandard (sym c.in_ok-world.ensures.loaded)
-      (standard_reaps c.args.self.world c.args.destroys.now c.args.self.standard);
+  standard = standard_reaps c.args.self.world c.in_ok-world.world c.args.destroys.now c.in_ok-world.ensures.loaded c.args.self.standard;
+  sized = c.args.self.sized;
 }

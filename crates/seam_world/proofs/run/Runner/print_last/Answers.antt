@@ -1,5 +1,5 @@
 use Rattle.std.proofs.Common.{[], ◌≡◌, subst, sym}
-use Rattle.seam_transcript.specs.Following.{InputEnded}
+use Rattle.seam_world.specs.Following.{InputEnded}
 use Rattle.seam_world.proofs.PrintLemmas.{cleared_first, gathered_prints, nothing_prints}
 use Rattle.seam_world.proofs.run.Runner.print_last.Goals as goal
 

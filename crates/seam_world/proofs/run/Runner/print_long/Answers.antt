@@ -1,7 +1,8 @@
 use Rattle.std.proofs.Common.{◌≡◌, subst, sym}
 use Rattle.seam_io.specs.Lines.{Long}
-use Rattle.seam_transcript.specs.Following.{LineRead}
+use Rattle.seam_world.specs.Following.{LineRead}
 use Rattle.seam_world.specs.Script.{ScriptRefines}
+use Rattle.seam_world.proofs.Results.{if_none}
 use Rattle.seam_world.proofs.PrintLemmas.{cleared_first, gathered_prints, nothing_prints}
 use Rattle.seam_world.proofs.run.Runner.print_long.Goals as goal
 
@@ -15,3 +16,8 @@ returns-in-Ok-clause-prints g c = λ h t sink text refines printed.
 pub returns-in-Err-clause-prints : goal.returns-in-Err-clause-prints
 returns-in-Err-clause-prints g c = λ h t sink text refines printed.
     nothing_prints _ sink _ c.stop.new.pending text c.stop.result (c.stop.ensures sink text printed)
+
+pub returns-in-Ok-clause-ready : goal.returns-in-Ok-clause-ready
+returns-in-Ok-clause-ready g c =
+    let read = c.in-Ok.ensures c.requires.0 c.requires.1 c.requires.2 in
+    if_none c.print.result _ (c.requires.0, read.1.next, read.1.after)

@@ -1,12 +1,16 @@
 use Rattle.std.proofs.Common.{◌≤◌}
 use Rattle.seam_io.specs.States.{SourceState, SinkState}
 use Rattle.seam_io.specs.Reading.{budget}
+use Rattle.seam_toml.specs.declared.header.Header.{Header}
+use Rattle.seam_rules.specs.Standing.{Standing}
 use Rattle.seam_world.specs.Histories.{Going}
+use Rattle.seam_world.specs.Script.{ScriptRefines}
 use Rattle.seam_world.proofs.run.Runner.run.Given as goal
 
 abbrev pub invariant-loop-status : goal.invariant-loop-status
 invariant-loop-status g l = record {
   later : (g.S.Source.state l.initial.input).faults ≤ (g.S.Source.state l.input).faults;
+  ready : (h : Header) × (t : Standing) × ScriptRefines h t l.self.script;
   history : (began : SourceState) (sink : SinkState) →
       Going began (g.S.Source.state l.initial.input) l.initial.self.lines sink (g.K.Sink.state l.initial.out) l.initial.self.pending
       l.initial.self.script →

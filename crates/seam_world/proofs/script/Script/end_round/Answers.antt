@@ -1,21 +1,53 @@
-use Rattle.std.proofs.Common.{sym, refl, subst}
-use Rattle.seam_call.specs.declared.order.Batch.{Batch}
-use Rattle.seam_transcript.specs.Texts.{round_text}
-use Rattle.seam_flat.specs.Batches.{Brings}
-use Rattle.seam_flat.specs.Rounds.{round_of}
-use Rattle.seam_flat.proofs.BookBatches.{batch_brings, book_calls_the_made}
-use Rattle.seam_world.proofs.ScriptLemmas.{round_ended}
-use Rattle.seam_transcript.specs.declared.commands.Commands.TheVariants.{OneCell}
+use Rattle.std.proofs.Common.{ℕ, ◌+◌, refl, sym, ap, ◌∙◌}
+use Rattle.seam_rules.specs.Standing.{replica_of}
+use Rattle.seam_legal.specs.Going.{frame_of}
+use Rattle.seam_world.proofs.ScriptLemmas.{may_run, played_in, beside_in}
+use Rattle.seam_world.proofs.Rounds.{round_ended}
 use Rattle.seam_world.proofs.script.Script.end_round.Goals as goal
+
+pub play-requires : goal.play-requires
+play-requires c =
+    let h = c.requires.0 in
+    let t = c.requires.1 in
+    let ready = c.requires.2 in (
+      refl,
+      (
+        refl,
+        (
+          frame_of h ready.has.tree,
+          replica_of h t,
+          may_run h t c.args.self.now ready c.in-Some.world (sym c.in-Some.ensures.value) c.take_batch-batch.result
+              (c.take_batch-batch.ensures.batch _ h t.book ready.book)
+              (c.a_round_may_be_run.ensures.given h t ready.has.tree ready.has.world ready.has.goes_on ready.may),
+        ),
+      ),
+    )
 
 pub returns : goal.returns
 returns c = λ h t ready.
-    let ran = c.run.new.self in
-    let brings : Brings t.book c.take_batch.result =
-    subst (λ (b : Batch). Brings t.book b) (sym (c.take_batch.ensures.batch OneCell h t.book ready.book)) (batch_brings h t.book) in
-    let holds = c.in_ok-run.ensures h t.book ready.table brings (book_calls_the_made OneCell h t.book c.args.self.now.book ready.book) in (
-      round_text ran.header.defs (round_of c.in_ok-self.field-0 ran),
-      round_ended h t c.args.self.now _ ran ready holds c.in_ok-self.ensures refl (c.take_batch.ensures.ended OneCell h t.book ready.book)
-          (c.start_round.ensures h t.book holds),
-      c.in_ok-push_round.ensures,
+    let old = c.args.self.now in
+    let batch = c.take_batch-batch.result in
+    let brings = c.take_batch-batch.ensures.batch _ h t.book ready.book in
+    let is = sym c.in-Some.ensures.value in
+    let legal = ready.has.goes_on.legal in
+    let of_lines = ready.has.goes_on.of_lines in
+    let present = c.in_ok-begin.ensures h t.book legal of_lines brings ready.has.residents in
+    let stands = c.a_round_may_be_run.ensures.stands h t ready.has.tree ready.has.world ready.has.goes_on ready.may in
+    let number = c.in_ok-self.ensures.next ∙ ap (λ (n : ℕ). n + 1) ready.has.round in
+    let left = c.in_ok-played.played in
+    let has =
+    played_in h t old ready c.in-Some.world is batch brings left c.play.new.residents c.args.out.now.items c.play.new.out.items
+    (c.in_ok-played.ensures h t ready.has.tree (beside_in h t old ready c.in-Some.world is batch brings stands) brings ready.has.header
+    number present) in
+    let p = has.played in
+    let law = c.a_run_round_is_legal.ensures in (
+      _,
+      round_ended h t old _ ready left c.play.new.residents c.args.out.now.items c.play.new.out.items has
+          (λ none. law.kept h t ready.has.tree ready.has.world ready.has.goes_on ready.may left.world p.round p.ended p.made p.live
+          p.made_listed p.live_listed none)
+          (λ some u is_tree same balanced. law.balanced h t ready.has.tree ready.has.world ready.has.goes_on ready.may left.world p.round
+          p.ended p.made p.live p.made_listed p.live_listed some u is_tree same balanced)
+          refl refl refl refl c.in_ok-self.ensures.next
+          (c.begin_next.ensures h _ (c.take_batch-batch.ensures.ended _ h t.book ready.book)),
+      has.whole,
     )

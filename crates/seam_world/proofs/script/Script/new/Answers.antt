@@ -3,4 +3,8 @@ use Rattle.seam_world.proofs.ScriptLemmas.{script_begins}
 use Rattle.seam_world.proofs.script.Script.new.Goals as goal
 
 pub returns : goal.returns
-returns c = script_begins c.args.header c.args.lines _ refl refl c.in_ok-new.ensures c.new-2.ensures
+returns c =
+    let h = c.args.header in
+    script_begins h c.args.lines _ c.requires.few refl refl refl c.in_ok-new.ensures c.in_ok-open.field-0 refl c.in_ok-open.ensures.opened
+    (c.a_course_begins_and_goes_on.ensures.opened h c.args.lines c.requires.legal c.requires.sound)
+    (c.new-2.ensures h.settings.size)

@@ -1,0 +1,4 @@
+mod Fewer
+mod Created
+mod Present
+mod Ends

@@ -1,5 +1,0 @@
-pub mod Frames
-pub mod Sights
-pub mod CellMoves
-pub mod BaseMoves
-pub mod Moves

@@ -1,2 +1,0 @@
-pub mod CellTurns
-pub mod Example

@@ -1,9 +1,0 @@
-pub mod Ways
-pub mod Paths
-pub mod Placing
-pub mod Along
-pub mod Begun
-pub mod Ends
-pub mod Known
-pub mod Rounds
-pub mod ExamplePlaced

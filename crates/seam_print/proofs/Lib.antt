@@ -1,0 +1,10 @@
+mod Numbers
+mod Listing
+mod Keeping
+mod Entries
+mod Gathering
+mod Routes
+mod Idle
+mod Played
+mod Pieces
+mod Kept

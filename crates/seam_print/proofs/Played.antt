@@ -1,0 +1,191 @@
+-- What is found of those who are there in a played round is what the round prints.
+use Rattle.std.proofs.Common.{◌≡◌, ℕ, ◌≤◌, Bool, true, false, cond, List, [], map, Option, None, Some, refl, sym, ap, ◌∙◌}
+use Rattle.std.specs.Prelude.{Contains, filter, not, ◌||◌, ◌&&◌, is_some}
+use Rattle.std.specs.List.{flat_map, list_any}
+use Rattle.std.specs.FinMap as table
+use Rattle.std.proofs.lemmas.List.Folds.{flat_map-map, list_any-append}
+use Rattle.seam_tree.specs.Division.{Division}
+use Rattle.seam_defs.specs.declared.flags.Part.{Part}
+use Rattle.seam_call.specs.declared.create.Create.{Create}
+use Rattle.seam_call.specs.declared.shown.Line.{Line}
+use Rattle.seam_toml.specs.declared.header.Header.{Header}
+use Rattle.seam_transcript.specs.Book.{Book, entries, created_as, live_as, destroys, joins, is_shown, was_dead, with_round_ended}
+use Rattle.seam_transcript.specs.Round.{Lists, DoneLine, done_lines}
+use Rattle.seam_transcript.proofs.Lists.{listed_is_one}
+use Rattle.seam_expected.proofs.ListedLemmas.{lists_living}
+use Rattle.seam_rules.specs.Texts.{client_text}
+use Rattle.seam_entity.specs.Reals.{RealView}
+use Rattle.seam_steps.specs.Bases.{PartView}
+use Rattle.seam_steps.specs.Maps.{Map}
+use Rattle.seam_steps.specs.Nodes.{World}
+use Rattle.seam_ones.specs.Sights.{entity_flow}
+use Rattle.seam_ones.specs.Ones.{real_in}
+use Rattle.seam_rounds.specs.Between.{IsBetweenRounds}
+use Rattle.seam_rounds.proofs.Shape.{Nowhere}
+use Rattle.seam_batches.proofs.Present.{undestroyed}
+use Rattle.seam_legal.specs.Going.{frame_of, GoesWith, Lives}
+use Rattle.seam_legal.specs.Rounds.{done_in}
+use Rattle.seam_legal.proofs.Ended.{live_ended}
+use Rattle.seam_played.specs.Reading.{client_lines, lines_shown, lines_told}
+use Rattle.seam_print.specs.Residents.{ArePresent, present_as}
+use Rattle.seam_print.specs.Farewells.{AreFarewells}
+use Rattle.seam_print.specs.Finding.{node_for, done_found, part_found}
+use Rattle.seam_print.specs.Finding.{lines_found}
+use Rattle.seam_print.specs.Texts.{done_of_type, lines_text, shown_so_far, kept_or, shown_of}
+use Rattle.seam_print.specs.declared.residents.Resident.{Resident}
+use Rattle.seam_print.proofs.Gathering.{same_of_each, kept_give_all, kept_or_none, kept_once, gathered_twice}
+use Rattle.seam_print.proofs.Listing.{mapped}
+use Rattle.seam_print.proofs.Routes.{done_is_found, lines_are_found}
+
+abbrev made_of : Resident → Create
+made_of r = r.made
+
+-- ---- who is there
+
+same_lists : (f g : ℕ → Option Create) (cs : List Create) → ((e : ℕ) → f e ≡ g e) → Lists f cs → Lists g cs
+same_lists f g cs same l = record {
+  rising = l.rising;
+  exact = λ c. ((λ has. sym (same c.entity) ∙ (l.exact c).0 has), (λ is. (l.exact c).1 (same c.entity ∙ is)));
+}
+
+module _ (b : Book) (rs : List Resident) (present : ArePresent b rs) where
+  abbrev there : List Create
+  there = map made_of rs
+
+  -- among all that were created, those who were not dead before
+  pub there_of : (made : List Create) → Lists (created_as b) made → there ≡ filter (λ c. not (was_dead b c.entity)) made
+  there_of made listed =
+      listed_is_one (present_as b) there (filter (λ c. not (was_dead b c.entity)) made) present.listed
+      (lists_living (created_as b) (was_dead b) made listed)
+
+  abbrev dies : Create → Bool
+  dies c = list_any (destroys c.entity) b.current
+
+  spared_by : (dead now : Bool) (o : Option Create) → cond now None (cond dead None o) ≡ cond (dead || now) None o
+  spared_by true true o = refl
+  spared_by true false o = refl
+  spared_by false now o = refl
+
+  live_is : (e : ℕ) → cond (list_any (destroys e) b.current) None (present_as b e) ≡ live_as b e
+  live_is e =
+      spared_by (was_dead b e) (list_any (destroys e) b.current) (created_as b e)
+      ∙ ap (λ x. cond x None (created_as b e)) (sym (list_any-append (destroys e) b.past b.current))
+
+  -- and of them those live who do not die in the round
+  pub live_of : (live : List Create) → Lists (live_as b) live → live ≡ filter (λ c. not (dies c)) there
+  live_of live listed =
+      listed_is_one (live_as b) live (filter (λ c. not (dies c)) there) listed
+      (same_lists (λ e. cond (list_any (destroys e) b.current) None (present_as b e)) (live_as b) (filter (λ c. not (dies c)) there) live_is
+      (lists_living (present_as b) (λ e. list_any (destroys e) b.current) there present.listed))
+
+not_false : (x : Bool) → not x ≡ false → x ≡ true
+not_false true is = refl
+not_false false is = absurd (let z = is in cc)
+
+module _ (b : Book) (rs : List Resident) (present : ArePresent b rs) where
+  -- ---- the calls
+
+  module _ (h : Header) (tree : Division) (some : 1 ≤ h.settings.bases) (u : World) (between : IsBetweenRounds (frame_of h tree) u) (q : Part)
+      (made : List Create) (listed : Lists (created_as b) made)
+      (idle : (c : Create) → was_dead b c.entity ≡ true → done_in h u q c.entity ≡ []) where
+    abbrev its_found : Create → List DoneLine
+    its_found c = done_of_type c.ty (done_found q u c.entity)
+
+    abbrev its_read : Create → List DoneLine
+    its_read c = done_of_type c.ty (done_in h u q c.entity)
+
+    abbrev was_alive : Create → Bool
+    was_alive c = not (was_dead b c.entity)
+
+    pub done_is_printed : flat_map (λ r. done_of_type r.made.ty (done_found q u r.made.entity)) rs ≡ done_lines (done_in h u q) made
+    done_is_printed =
+        sym (flat_map-map its_found made_of rs) ∙ ap (flat_map its_found) (there_of b rs present made listed)
+        ∙ same_of_each its_found its_read (filter was_alive made)
+        (λ c has. ap (done_of_type c.ty) (sym (done_is_found h tree some u between q c.entity)))
+        ∙ kept_give_all was_alive its_read made (λ c has dead. ap (done_of_type c.ty) (idle c (not_false (was_dead b c.entity) dead)))
+
+  -- ---- what the round leaves
+
+  module _ {X : Type 0} (found : ℕ → List X) (read : ℕ → List X) (live : List Create) (listed : Lists (live_as b) live)
+      (gone : (c : Create) → list_any (destroys c.entity) b.current ≡ true → found c.entity ≡ [])
+      (same : (c : Create) → Contains live c → read c.entity ≡ found c.entity) where
+    abbrev of_made : Create → List X
+    of_made c = found c.entity
+
+    abbrev spared : Create → Bool
+    spared c = not (list_any (destroys c.entity) b.current)
+
+    pub left_is_printed : flat_map (λ r. found r.made.entity) rs ≡ flat_map (λ c. read c.entity) live
+    left_is_printed =
+        sym (flat_map-map of_made made_of rs)
+        ∙ sym (kept_give_all spared of_made (there b rs present)
+        (λ c has dying. gone c (not_false (list_any (destroys c.entity) b.current) dying)))
+        ∙ ap (flat_map of_made) (sym (live_of b rs present live listed))
+        ∙ same_of_each of_made (λ c. read c.entity) live (λ c has. sym (same c has))
+
+  -- ---- what clients were shown
+
+  module _ (h : Header) (tree : Division) (some : 1 ≤ h.settings.bases) (called v : World)
+      (between_called : IsBetweenRounds (frame_of h tree) called) (between : IsBetweenRounds (frame_of h tree) v) (made : List Create)
+      (listed : Lists (created_as b) made) (kept : Map (List ℕ)) (farewells : AreFarewells h.defs b called kept) where
+    abbrev shows : Create → Bool
+    shows c = is_shown b c.entity
+
+    abbrev text_of : Create → List ℕ
+    text_of c = lines_text h.defs c (lines_told h b called v c.entity)
+
+    told_by : (c : Create) (x : Bool) (first last first_found last_found : List Line) → first ≡ first_found → last ≡ last_found →
+        kept_or (cond x (Some (lines_text h.defs c first_found)) None) (lines_text h.defs c last_found)
+        ≡ lines_text h.defs c (cond x first last)
+    told_by c true first last first_found last_found same other = ap (lines_text h.defs c) (sym same)
+    told_by c false first last first_found last_found same other = ap (lines_text h.defs c) (sym other)
+
+    shown_by : (c : Create) → present_as b c.entity ≡ Some c → (x : Bool) → is_shown b c.entity ≡ x →
+        cond x (kept_or (table.get kept c.entity) (shown_so_far h.defs v c)) [] ≡ cond x (text_of c) []
+    shown_by c here true is =
+        ap (λ o. kept_or o (shown_so_far h.defs v c)) (farewells c here is)
+        ∙ told_by c (list_any (destroys c.entity) b.current) (lines_shown h called c.entity) (lines_shown h v c.entity)
+        (lines_found called c.entity) (lines_found v c.entity) (lines_are_found h tree some called between_called c.entity)
+        (lines_are_found h tree some v between c.entity)
+    shown_by c here false is = refl
+
+    shown_is : (r : Resident) → Contains rs r → shown_of h.defs kept v r ≡ cond (shows r.made) (text_of r.made) []
+    shown_is r has =
+        ap (λ x. cond x (kept_or (table.get kept r.made.entity) (shown_so_far h.defs v r.made)) []) (present.clients r has)
+        ∙ shown_by r.made ((present.listed.exact r.made).0 (mapped made_of rs r has)) (shows r.made) refl
+
+    second : (x y : Bool) → (x && y) ≡ true → y ≡ true
+    second true y is = is
+    second false y is = absurd (let z = is in cc)
+
+    pub shown_is_printed : flat_map (shown_of h.defs kept v) rs
+        ≡ flat_map (client_text h.defs) (flat_map (λ c. client_lines c (lines_told h b called v c.entity)) (filter shows made))
+    shown_is_printed =
+        same_of_each (shown_of h.defs kept v) (λ r. cond (shows r.made) (text_of r.made) []) rs shown_is
+        ∙ sym (flat_map-map (λ c. cond (shows c) (text_of c) []) made_of rs)
+        ∙ sym (kept_or_none shows text_of (there b rs present))
+        ∙ ap (λ cs. flat_map text_of (filter shows cs)) (there_of b rs present made listed)
+        ∙ ap (flat_map text_of) (kept_once shows (λ c. not (was_dead b c.entity)) made
+        (λ c is. second (is_some (created_as b c.entity) && list_any (joins c.entity) (entries b)) (not (was_dead b c.entity)) is))
+        ∙ sym (gathered_twice (client_text h.defs) (λ c. client_lines c (lines_told h b called v c.entity)) (filter shows made))
+
+-- ---- who dies in the round is nowhere at its end
+
+module _ (h : Header) (b : Book) (t : Division) (v : World) (goes : GoesWith h (with_round_ended b) t v) (e : ℕ)
+    (dies : list_any (destroys e) b.current ≡ true) where
+  not_alive : Lives (with_round_ended b) e → ⊥
+  not_alive l = let z = sym dies ∙ undestroyed b e l.0 (sym (live_ended b e) ∙ l.1) in cc
+
+  pub is_nowhere : Nowhere e v
+  is_nowhere k = by (real_in ((entity_flow e v).slot k)) refl
+    where
+      by : (o : Option RealView) → real_in ((entity_flow e v).slot k) ≡ o → o ≡ None
+      by None is = refl
+      by (Some r) is = absurd (not_alive (goes.reals e k r is))
+
+  pub has_no_part : part_found v e ≡ None
+  has_no_part = by (part_found v e) refl
+    where
+      by : (o : Option PartView) → part_found v e ≡ o → o ≡ None
+      by None is = refl
+      by (Some q) is = absurd (not_alive (goes.parts e (node_for v e) q is))

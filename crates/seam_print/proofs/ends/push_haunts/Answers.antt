@@ -1,0 +1,22 @@
+use Rattle.std.proofs.Common.{◌++◌, ℕ, ◌+◌, List, sym, ap, ◌∙◌, append_assoc, add-one, arith, ◌≡◌}
+use Rattle.std.specs.List.{flat_map, range_with_len}
+use Rattle.std.proofs.lemmas.List.Concat.{flat_map-append}
+use Rattle.seam_rules.specs.Lines.{GhostLine}
+use Rattle.seam_rules.specs.Texts.{ghost_text}
+use Rattle.seam_print.specs.Finding.{haunt_line}
+use Rattle.seam_print.proofs.Gathering.{next_in_range}
+use Rattle.seam_print.proofs.ends.push_haunts.Goals as goal
+
+pub loop-cell-preserved : goal.loop-cell-preserved
+loop-cell-preserved c =
+    let n = c.loop-cell.cell in
+    let line : ℕ → List GhostLine = haunt_line c.args.entity c.args.real.now.core in
+    let first = c.args.out.now.items in
+    let before = flat_map line (range_with_len 0 n) in
+    let number : 0 + n ≡ n = omega arith in
+    c.in_ok-push_haunt.ensures
+    ∙ ap (λ l. l ++ flat_map ghost_text (line n)) c.loop-cell.invariant
+    ∙ append_assoc first (flat_map ghost_text before) (flat_map ghost_text (line n))
+    ∙ ap (λ l. first ++ l)
+    (sym (ap (flat_map ghost_text) (ap (λ k. flat_map line (range_with_len 0 k)) (add-one n) ∙ next_in_range line 0 n ∙ ap (λ k. before ++ line k) number)
+    ∙ flat_map-append ghost_text before (line n)))

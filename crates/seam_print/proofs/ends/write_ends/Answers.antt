@@ -1,0 +1,31 @@
+use Rattle.std.proofs.Common.{◌≡◌, ◌++◌, List, sym, ap, ◌∙◌, subst}
+use Rattle.std.specs.List.{flat_map}
+use Rattle.std.proofs.lemmas.Result.{on_ok_weaker}
+use Rattle.seam_defs.specs.declared.types.TypeDef.{TypeDef}
+use Rattle.seam_rules.specs.Texts.{client_text}
+use Rattle.seam_played.specs.Playing.{data_of}
+use Rattle.seam_print.specs.Texts.{ends_text, shown_of}
+use Rattle.seam_print.proofs.Pieces.{ends_written}
+use Rattle.seam_print.proofs.ends.write_ends.Goals as goal
+
+pub returns : goal.returns
+returns c =
+    let round = c.args.round.now in
+    let rs = round.present.now in
+    let v = c.args.ended.now in
+    let kept = c.args.kept.now in
+    let first = c.args.out.now.items in
+    on_ok_weaker c.push_number_line.result
+    (λ last h s tree w p is farewells.
+    let d = data_of h s tree w v p c.args.bounds.now in
+    let law = c.what_is_found_is_printed.ensures in
+    let shown = subst (λ (ds : List TypeDef). flat_map (shown_of ds kept v) rs ≡ flat_map (client_text ds) d.shown) (sym is.defs)
+    (law.shown h s tree w v p c.args.bounds.now rs is.present kept farewells) in
+    ends_written c.by_number-residents.result.now rs c.by_number-residents.ensures.list round.defs.now d first v kept round.number
+    is.number (law.homes h s tree w v p c.args.bounds.now rs is.present) (law.bases h s tree w v p c.args.bounds.now rs is.present)
+    (law.ghosts h s tree w v p c.args.bounds.now rs is.present) shown c.push_homes.new.out.items c.push_bases.new.out.items
+    c.push_ghosts.new.out.items c.push_clients.new.out.items c.push_tree.new.out.items c.push_number_line.new.out.items
+    c.in_ok-push_homes.ensures c.in_ok-push_bases.ensures c.in_ok-push_ghosts.ensures c.in_ok-push_clients.ensures
+    c.in_ok-push_tree.ensures last
+    ∙ ap (λ (ds : List TypeDef). first ++ ends_text ds d) is.defs)
+    c.push_number_line.ensures

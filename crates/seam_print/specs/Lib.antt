@@ -1,0 +1,6 @@
+pub mod Residents
+pub mod Finding
+pub mod Texts
+pub mod Farewells
+pub mod Printing
+pub mod Worlds

@@ -1,0 +1,252 @@
+//! What a round leaves, and what clients were shown in it.
+
+ghost use Rattle.std.specs.Prelude.{◌≡◌, ◌++◌, map, OnOk, IfOk, Option};
+ghost use Rattle.std.specs.List.{flat_map};
+ghost use Rattle.seam_tree.specs.Division.{Division};
+ghost use Rattle.seam_entity.specs.Reals.{RealView};
+ghost use Rattle.seam_steps.specs.Nodes.{World as AnyWorld};
+ghost use Rattle.seam_toml.specs.declared.header.Header.{Header};
+ghost use Rattle.seam_rules.specs.Standing.{Standing};
+ghost use Rattle.seam_rules.specs.Texts.{ghost_text, bounds_text};
+ghost use Rattle.seam_entity.specs.Here.{cell_numbers};
+ghost use Rattle.seam_played.specs.Playing.{IsPlayed, data_of};
+ghost use Rattle.seam_print.specs.Residents.{ArePresent};
+ghost use Rattle.seam_print.specs.Finding.{haunt_line, positions_found};
+ghost use Rattle.seam_print.specs.Farewells.{AreFarewells};
+ghost use Rattle.seam_print.specs.Printing.{IsOpenRound};
+ghost use Rattle.seam_print.specs.Texts.{ends_text, home_of, base_of, ghosts_of, shown_of};
+
+use crate::farewells::{Farewells, push_lines};
+use crate::finding::{home, part};
+use crate::laws::what_is_found_is_printed;
+use crate::residents::{Resident, Residents};
+use crate::round::PrintedRound;
+use seam_core::World;
+use seam_defs::Defs;
+use seam_entity::Real;
+use seam_geo::Pos;
+use seam_report::{
+    BaseLine, HomeLine, push_base, push_bounds, push_ghost, push_home, push_number_line,
+};
+use seam_tree::{MOST_CELLS, Tree};
+use std::alloc::{AllocError, Global};
+use std::collections::BTreeMap;
+
+/// Appends the second part of a round's text, where the round has ended: the homes, the base parts, the ghosts, and what clients were
+/// shown, each kind in rising number of the entities; the boundaries, if they were balanced; and the round's number again. What was kept
+/// of clients where the calls had ended is the lines of those whose entities died.
+///
+/// If allocation fails, the text has no use.
+pub fn write_ends(
+    out: &mut Vec<u8>,
+    round: &PrintedRound,
+    kept: &Farewells,
+    ended: &World,
+    bounds: &Option<Tree>,
+) -> Result<(), AllocError>
+    ensures { OnOk result ((h : Header) (s : Standing) (tree : Division) (w : AnyWorld) (p : IsPlayed h s tree w ended.now) →
+        IsOpenRound h s round.now → AreFarewells h.defs s.book p.round.called kept.now →
+        out.new.items ≡ out.old.items ++ ends_text h.defs (data_of h s tree w ended.now p bounds.now)) }
+{
+    what_is_found_is_printed();
+    let residents = round.present.by_number();
+    push_homes(out, round.defs, residents, ended)?;
+    push_bases(out, round.defs, residents, ended)?;
+    push_ghosts(out, residents, ended)?;
+    push_clients(out, round.defs, residents, kept, ended)?;
+    push_tree(out, bounds)?;
+    push_number_line(out, b"end ", round.number)
+}
+
+/// Where the homes are that a round left, in the order of their lines.
+pub fn positions(alloc: Global, present: &Residents, ended: &World) -> Result<Vec<Pos>, AllocError>
+    ensures { IfOk result (λ ps. (h : Header) (s : Standing) (tree : Division) (w : AnyWorld) (p : IsPlayed h s tree w ended.now)
+        (bounds : Option Division) → ArePresent s.book present.now →
+        ps.items ≡ map (λ l. l.state.pos) (data_of h s tree w ended.now p bounds).homes) }
+{
+    what_is_found_is_printed();
+    find_positions(alloc, present.by_number(), ended)
+}
+
+fn find_positions(
+    alloc: Global,
+    residents: &BTreeMap<u32, Resident>,
+    ended: &World,
+) -> Result<Vec<Pos>, AllocError>
+    ensures { IfOk result (λ ps. ps.items ≡ flat_map (λ e. positions_found ended.now e.1.made.entity) residents.now.entries) }
+{
+    let mut positions = Vec::new(alloc);
+    for (_, resident) in residents {
+        if let Some((_, parcel)) = home(ended, resident.made.entity) {
+            positions.push(parcel.real.state().pos)?;
+        }
+    }
+    Ok(positions)
+}
+
+// ---- homes
+
+fn push_home_of(
+    out: &mut Vec<u8>,
+    defs: &Defs,
+    resident: &Resident,
+    world: &World,
+) -> Result<(), AllocError>
+    ensures { OnOk result (out.new.items ≡ out.old.items ++ home_of defs.now world.now resident.now) }
+{
+    let entity = resident.made.entity;
+    let Some((cell, parcel)) = home(world, entity) else {
+        return Ok(());
+    };
+    let real = &parcel.real;
+    let line = HomeLine {
+        entity,
+        ty: real.ty(),
+        cell,
+        version: real.version(),
+        state: real.state(),
+    };
+    push_home(out, defs, &line)
+}
+
+fn push_homes(
+    out: &mut Vec<u8>,
+    defs: &Defs,
+    residents: &BTreeMap<u32, Resident>,
+    world: &World,
+) -> Result<(), AllocError>
+    ensures { OnOk result (out.new.items ≡ out.old.items ++ flat_map (λ e. home_of defs.now world.now e.1) residents.now.entries) }
+{
+    for (_, resident) in residents {
+        push_home_of(out, defs, resident, world)?;
+    }
+    Ok(())
+}
+
+// ---- base parts
+
+fn push_base_of(
+    out: &mut Vec<u8>,
+    defs: &Defs,
+    resident: &Resident,
+    world: &World,
+) -> Result<(), AllocError>
+    ensures { OnOk result (out.new.items ≡ out.old.items ++ base_of defs.now world.now resident.now) }
+{
+    let entity = resident.made.entity;
+    let Some(part) = part(world, entity) else {
+        return Ok(());
+    };
+    let line = BaseLine {
+        entity,
+        ty: part.ty(),
+        version: part.version(),
+        props: part.props(),
+    };
+    push_base(out, defs, &line)
+}
+
+fn push_bases(
+    out: &mut Vec<u8>,
+    defs: &Defs,
+    residents: &BTreeMap<u32, Resident>,
+    world: &World,
+) -> Result<(), AllocError>
+    ensures { OnOk result (out.new.items ≡ out.old.items ++ flat_map (λ e. base_of defs.now world.now e.1) residents.now.entries) }
+{
+    for (_, resident) in residents {
+        push_base_of(out, defs, resident, world)?;
+    }
+    Ok(())
+}
+
+// ---- ghosts
+
+// A line for a cell, where the entity's real has it as a haunt.
+fn push_haunt(out: &mut Vec<u8>, entity: u32, real: &Real, cell: u8) -> Result<(), AllocError>
+    ensures { OnOk result (out.new.items ≡ out.old.items ++ flat_map ghost_text (haunt_line entity real.now.core cell)) }
+{
+    if !real.haunts().holds(cell) {
+        return Ok(());
+    }
+    push_ghost(out, entity, cell, real.public_version())
+}
+
+fn push_haunts(out: &mut Vec<u8>, entity: u32, real: &Real) -> Result<(), AllocError>
+    ensures { OnOk result (out.new.items ≡ out.old.items ++ flat_map ghost_text (flat_map (haunt_line entity real.now.core) cell_numbers)) }
+{
+    for cell in 0..MOST_CELLS as u8 {
+        push_haunt(out, entity, real, cell)?;
+    }
+    Ok(())
+}
+
+fn push_ghosts_of(out: &mut Vec<u8>, resident: &Resident, world: &World) -> Result<(), AllocError>
+    ensures { OnOk result (out.new.items ≡ out.old.items ++ ghosts_of world.now resident.now) }
+{
+    let entity = resident.made.entity;
+    match home(world, entity) {
+        Some((_, parcel)) => push_haunts(out, entity, &parcel.real),
+        None => Ok(()),
+    }
+}
+
+fn push_ghosts(
+    out: &mut Vec<u8>,
+    residents: &BTreeMap<u32, Resident>,
+    world: &World,
+) -> Result<(), AllocError>
+    ensures { OnOk result (out.new.items ≡ out.old.items ++ flat_map (λ e. ghosts_of world.now e.1) residents.now.entries) }
+{
+    for (_, resident) in residents {
+        push_ghosts_of(out, resident, world)?;
+    }
+    Ok(())
+}
+
+// ---- clients
+
+fn push_client_of(
+    out: &mut Vec<u8>,
+    defs: &Defs,
+    resident: &Resident,
+    kept: &Farewells,
+    world: &World,
+) -> Result<(), AllocError>
+    ensures { OnOk result (out.new.items ≡ out.old.items ++ shown_of defs.now kept.now world.now resident.now) }
+{
+    if !resident.client {
+        return Ok(());
+    }
+    match kept.text(resident.made.entity) {
+        Some(text) => out.extend_from_slice(text.as_slice()),
+        None => push_lines(out, defs, &resident.made, world),
+    }
+}
+
+fn push_clients(
+    out: &mut Vec<u8>,
+    defs: &Defs,
+    residents: &BTreeMap<u32, Resident>,
+    kept: &Farewells,
+    world: &World,
+) -> Result<(), AllocError>
+    ensures { OnOk result (out.new.items
+        ≡ out.old.items ++ flat_map (λ e. shown_of defs.now kept.now world.now e.1) residents.now.entries) }
+{
+    for (_, resident) in residents {
+        push_client_of(out, defs, resident, kept, world)?;
+    }
+    Ok(())
+}
+
+// ---- boundaries
+
+fn push_tree(out: &mut Vec<u8>, tree: &Option<Tree>) -> Result<(), AllocError>
+    ensures { OnOk result (out.new.items ≡ out.old.items ++ bounds_text tree.now) }
+{
+    match tree {
+        Some(tree) => push_bounds(out, tree),
+        None => Ok(()),
+    }
+}

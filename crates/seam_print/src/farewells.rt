@@ -1,0 +1,126 @@
+//! The lines of clients whose entities die in a round.
+
+ghost use Rattle.std.specs.Prelude.{◌≡◌, ◌++◌, IfOk, OnOk, option_copied};
+ghost use Rattle.std.specs.FinMap as table;
+ghost use Rattle.std.specs.Ordering.{nat_cmp};
+ghost use Rattle.std.specs.BTreeMap.{get};
+ghost use Rattle.std.specs.List.{filter_map};
+ghost use Rattle.seam_transcript.specs.Book.{Book};
+ghost use Rattle.seam_accept.specs.Batches.{destroyed};
+ghost use Rattle.seam_print.specs.Residents.{ArePresent};
+ghost use Rattle.seam_print.specs.Farewells.{AreFarewells, farewell_of};
+ghost use Rattle.seam_print.specs.Texts.{shown_so_far, lines_text};
+
+use crate::finding::part;
+use crate::residents::Resident;
+use crate::round::PrintedRound;
+use seam_call::{Create, Line};
+use seam_core::World;
+use seam_defs::{Defs, Listed};
+use seam_report::push_client;
+use seam_table::Table;
+use std::alloc::{AllocError, Global};
+use std::collections::BTreeMap;
+use std::marker::Model;
+
+/// What was kept of clients: the texts of their lines, each by the number of its entity.
+#[derive(Drop)]
+pub struct Farewells {
+    texts: Table<Listed<u8>>,
+}
+
+impl Model for Farewells {
+    ghost use Rattle.std.specs.Prelude.{ℕ, List};
+    ghost use Rattle.std.specs.Coded.{codes};
+    ghost use Rattle.std.specs.FinMap as table;
+    ghost use Rattle.seam_steps.specs.Maps.{Map};
+
+    ghost Value = { Map (List ℕ) };
+
+    ghost coded = { Prim.hlevel (codes, table.code) };
+
+    ghost view = { λ f. f.texts.items };
+}
+
+impl Farewells {
+    // What was kept of the entity's client.
+    pub(crate) fn text(&self, e: u32) -> Option<&Listed<u8>>
+        ensures { option_copied result ≡ table.get self.now e }
+    {
+        self.texts.get(e)
+    }
+}
+
+/// The lines of clients whose entities die in the round, written where its calls have ended, for `write_ends`.
+pub fn write_farewells(
+    alloc: Global,
+    round: &PrintedRound,
+    destroys: &[u32],
+    called: &World,
+) -> Result<Farewells, AllocError>
+    ensures { IfOk result (λ f. (b : Book) → destroys.now ≡ filter_map destroyed b.current → ArePresent b round.now.present.now →
+        AreFarewells round.now.defs.now b called.now f) }
+{
+    let mut texts = Table::new(alloc);
+    let residents = round.present.by_number();
+    for e in destroys {
+        if let Some(text) = farewell(alloc, round.defs, residents, *e, called)? {
+            keep(&mut texts, *e, text)?;
+        }
+    }
+    Ok(Farewells { texts })
+}
+
+// The text of the lines of a resident's client, if it has one.
+fn farewell(
+    alloc: Global,
+    defs: &Defs,
+    residents: &BTreeMap<u32, Resident>,
+    e: u32,
+    called: &World,
+) -> Result<Option<Listed<u8>>, AllocError>
+    ensures { IfOk result (λ t. t ≡ farewell_of defs.now called.now (get nat_cmp residents.now e)) }
+{
+    let Some(resident) = residents.get(&e) else {
+        return Ok(None);
+    };
+    if !resident.client {
+        return Ok(None);
+    }
+    let mut text = Vec::new(alloc);
+    push_lines(&mut text, defs, &resident.made, called)?;
+    Ok(Some(Listed::of(text)))
+}
+
+fn keep(texts: &mut Table<Listed<u8>>, e: u32, text: Listed<u8>) -> Result<(), AllocError>
+    ensures { OnOk result (texts.new.items ≡ table.insert texts.old.items e text) }
+{
+    match texts.put(e, text) {
+        Ok(_) => Ok(()),
+        Err(_) => Err(AllocError),
+    }
+}
+
+/// Appends the lines that an entity's client was shown in the round so far.
+pub(crate) fn push_lines(
+    out: &mut Vec<u8>,
+    defs: &Defs,
+    made: &Create,
+    world: &World,
+) -> Result<(), AllocError>
+    ensures { OnOk result (out.new.items ≡ out.old.items ++ shown_so_far defs.now world.now made.now) }
+{
+    match part(world, made.entity) {
+        Some(part) => push_all(out, defs, made, part.lines()),
+        None => Ok(()),
+    }
+}
+
+fn push_all(out: &mut Vec<u8>, defs: &Defs, made: &Create, lines: &[Line]) -> Result<(), AllocError>
+    ensures { OnOk result (out.new.items ≡ out.old.items ++ lines_text defs.now made.now lines.now) }
+{
+    for line in lines {
+        push_client(out, defs, made.entity, made.ty, line)?;
+    }
+    Ok(())
+}

@@ -1,0 +1,81 @@
+//! What is written of residents is what a round prints; and who lives stays as lines come.
+
+ghost use Rattle.std.specs.Prelude.{◌≡◌, ◌++◌, ℕ, List, map, Option};
+ghost use Rattle.std.specs.List.{flat_map};
+ghost use Rattle.seam_tree.specs.Division.{Division};
+ghost use Rattle.seam_defs.specs.declared.flags.Part.TheVariants as part;
+ghost use Rattle.seam_defs.specs.declared.types.TypeDef.{TypeDef};
+ghost use Rattle.seam_steps.specs.Maps.{Map};
+ghost use Rattle.seam_steps.specs.Nodes.{World};
+ghost use Rattle.seam_toml.specs.declared.header.Header.{Header};
+ghost use Rattle.seam_transcript.specs.Book.{Book, with_entry, with_round_ended, with_tree};
+ghost use Rattle.seam_transcript.specs.declared.verdict.Entry.{Entry};
+ghost use Rattle.seam_batches.specs.Books.{as_begun};
+ghost use Rattle.seam_rules.specs.Lines.{RoundData};
+ghost use Rattle.seam_rules.specs.Standing.{Standing};
+ghost use Rattle.seam_rules.specs.Texts.{client_text, round_text};
+ghost use Rattle.seam_played.specs.Playing.{IsPlayed, data_of};
+ghost use Rattle.seam_print.specs.Residents.{AreResidents, ArePresent};
+ghost use Rattle.seam_print.specs.Worlds.{AreAtRest};
+ghost use Rattle.seam_print.specs.Finding.{done_found, homes_found, bases_found, ghosts_found};
+ghost use Rattle.seam_print.specs.Farewells.{AreFarewells};
+ghost use Rattle.seam_print.specs.Texts.{calls_text, ends_text, done_of_type, shown_of};
+ghost use Rattle.seam_print.specs.declared.residents.Resident.{Resident as AnyResident};
+
+/// The text of a round is what `write_calls` appends, and then what `write_ends` appends.
+pub fn a_rounds_text_has_two_parts()
+    ensures { (defs : List TypeDef) (r : RoundData) → round_text defs r ≡ calls_text defs r ++ ends_text defs r }
+{}
+
+/// Who lived as the open round began stays so when a line is accepted (`entry`); and who lives where a round has ended lives as the next one
+/// begins, with the tree of that round (`next`) or with another one (`balanced`).
+pub fn residents_stay_as_lines_come()
+    ensures entry { (b : Book) (x : Entry) (rs : List AnyResident) → AreResidents (as_begun b) rs →
+        AreResidents (as_begun (with_entry b x)) rs }
+    ensures next { (b : Book) (rs : List AnyResident) → AreResidents (with_round_ended b) rs →
+        AreResidents (as_begun (with_round_ended b)) rs }
+    ensures balanced { (b : Book) (t : Division) (rs : List AnyResident) → AreResidents (with_round_ended b) rs →
+        AreResidents (as_begun (with_tree (with_round_ended b) t)) rs }
+{}
+
+// The two worlds off which a played round is read are at rest.
+fn a_round_is_read_at_rest()
+    ensures { (h : Header) (s : Standing) (tree : Division) (w v : World) (p : IsPlayed h s tree w v) → AreAtRest h s tree w v p }
+{
+    seam_batches::lines_bring_what_fits();
+    seam_batches::uncreated_numbers_are_untouched();
+    seam_laws::calls_obey_the_laws();
+    seam_laws::reaps_obey_the_laws();
+    seam_laws::looks_obey_the_laws();
+    seam_legal::what_lines_bring_fits();
+    seam_legal::a_book_goes_with_the_world_after_its_round();
+    seam_legal::each_part_executed_what_was_accepted();
+}
+
+/// What is found of those who are there in a played round is what the round prints: where its calls have ended, the calls (`done`), and
+/// where it has ended, the homes (`homes`), the base parts (`bases`) and the ghosts (`ghosts`), and the lines of clients, with what was kept
+/// of those whose entities died (`shown`).
+pub fn what_is_found_is_printed()
+    ensures did { (h : Header) (s : Standing) (tree : Division) (w v : World) (p : IsPlayed h s tree w v) (bounds : Option Division)
+        (rs : List AnyResident) → ArePresent s.book rs →
+        flat_map (λ r. done_of_type r.made.ty (done_found part.Cell p.round.called r.made.entity)) rs
+        ≡ (data_of h s tree w v p bounds).did }
+    ensures dob { (h : Header) (s : Standing) (tree : Division) (w v : World) (p : IsPlayed h s tree w v) (bounds : Option Division)
+        (rs : List AnyResident) → ArePresent s.book rs →
+        flat_map (λ r. done_of_type r.made.ty (done_found part.Base p.round.called r.made.entity)) rs
+        ≡ (data_of h s tree w v p bounds).dob }
+    ensures homes { (h : Header) (s : Standing) (tree : Division) (w v : World) (p : IsPlayed h s tree w v) (bounds : Option Division)
+        (rs : List AnyResident) → ArePresent s.book rs →
+        flat_map (λ r. homes_found v r.made.entity) rs ≡ (data_of h s tree w v p bounds).homes }
+    ensures bases { (h : Header) (s : Standing) (tree : Division) (w v : World) (p : IsPlayed h s tree w v) (bounds : Option Division)
+        (rs : List AnyResident) → ArePresent s.book rs →
+        flat_map (λ r. bases_found v r.made.entity) rs ≡ (data_of h s tree w v p bounds).bases }
+    ensures ghosts { (h : Header) (s : Standing) (tree : Division) (w v : World) (p : IsPlayed h s tree w v) (bounds : Option Division)
+        (rs : List AnyResident) → ArePresent s.book rs →
+        flat_map (λ r. ghosts_found v r.made.entity) rs ≡ (data_of h s tree w v p bounds).ghosts }
+    ensures shown { (h : Header) (s : Standing) (tree : Division) (w v : World) (p : IsPlayed h s tree w v) (bounds : Option Division)
+        (rs : List AnyResident) → ArePresent s.book rs → (kept : Map (List ℕ)) → AreFarewells h.defs s.book p.round.called kept →
+        flat_map (shown_of h.defs kept v) rs ≡ flat_map (client_text h.defs) (data_of h s tree w v p bounds).shown }
+{
+    a_round_is_read_at_rest();
+}

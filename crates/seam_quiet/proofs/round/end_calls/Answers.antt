@@ -1,0 +1,33 @@
+use Rattle.std.proofs.Common.{refl, sym, subst}
+use Rattle.seam_steps.specs.Nodes.{node_steps, node_has_work}
+use Rattle.seam_finish.specs.Finishing.{EndsWithin, TakesFirst}
+use Rattle.seam_core.specs.Worlds.{Leads}
+use Rattle.seam_quiet.proofs.round.end_calls.Goals as goal
+
+-- what a node can begin does not depend on what is destroyed
+pub load-requires : goal.load-requires
+load-requires g c = λ k s at.
+    let can = c.requires.0 k s at in record {
+      space = can.space;
+      inside = can.inside;
+      new = can.new;
+      once = can.once;
+      unseen = can.unseen;
+      one_each = can.one_each;
+    }
+
+pub run_phase-requires : goal.run_phase-requires
+run_phase-requires g c =
+    subst (λ w. EndsWithin node_has_work node_steps w g.most) (sym c.in_ok-load.ensures.loaded) c.requires.1
+
+pub returns : goal.returns
+returns g c =
+    let called = c.in_ok-world.world in
+    let es = c.in_ok-world.events in
+    let begun = c.in_ok-load.ensures.loaded in
+    record {
+      leads = subst (λ w. Leads w es called) begun c.in_ok-world.ensures.run;
+      first = subst (λ w. TakesFirst node_has_work node_steps w es) begun c.in_ok-world.ensures.first;
+      quiet = c.in_ok-world.ensures.quiet;
+      destroys = refl;
+    }

@@ -1,4 +1,0 @@
-use Rattle.seam_quiet.proofs.round.run_phases.Given as goal
-
-abbrev pub ghost-run_phase : goal.ghost-run_phase
-ghost-run_phase g a = g.most a.world

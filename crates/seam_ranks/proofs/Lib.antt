@@ -1,8 +1,0 @@
-pub mod Ranking
-pub mod Climbing
-mod CallSends
-mod Following
-mod Alone
-mod Passing
-pub mod HandedOver
-mod ExampleCounts

@@ -1,9 +1,0 @@
-pub mod Sending
-pub mod Listing
-pub mod Lasting
-pub mod Unknown
-pub mod Beginning
-pub mod Strays
-pub mod InRound
-pub mod InPhases
-pub mod NoStrays

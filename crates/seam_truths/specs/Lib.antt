@@ -1,3 +1,0 @@
-pub mod Entries
-pub mod GhostMoves
-pub mod Truths

@@ -1,5 +1,0 @@
-pub mod Following
-pub mod WayMoves
-pub mod Leading
-pub mod Finding
-pub mod ExampleWays

@@ -1,0 +1,33 @@
+-- A round that is being played: what it leaves, once its phases have ended.
+use Rattle.std.proofs.Common.{◌≡◌, List, subst}
+use Rattle.seam_call.specs.declared.create.Create.{Create}
+use Rattle.seam_call.specs.declared.order.Batch.{Batch}
+use Rattle.seam_tree.specs.Division.{Division}
+use Rattle.seam_steps.specs.Nodes.{World}
+use Rattle.seam_watch.specs.declared.journal.Journal.{Journal}
+use Rattle.seam_toml.specs.declared.header.Header.{Header}
+use Rattle.seam_transcript.specs.Book.{created_as, live_as}
+use Rattle.seam_transcript.specs.Round.{Lists}
+use Rattle.seam_accept.specs.Batches.{batch_of}
+use Rattle.seam_rules.specs.Standing.{Standing}
+use Rattle.seam_played.specs.Beside.{StandsBeside}
+use Rattle.seam_played.specs.Playing.{IsPlayed}
+use Rattle.seam_quiet.specs.Rounds.{StandsFor}
+
+-- the phases of the round of the batch that a standing's open lines bring make a played round, whose calls ended in the world u
+pub played_so : (h : Header) (s : Standing) (tree : Division) (w v u : World) (given : Batch) (j : Journal) → StandsBeside h s tree w →
+    given ≡ batch_of h s.book → (x : StandsFor w given j v) × (x.round.called ≡ u) → (made live : List Create) →
+    Lists (created_as s.book) made → Lists (live_as s.book) live → (p : IsPlayed h s tree w v) × (p.round.called ≡ u)
+played_so h s tree w v u given j beside is stood made live made_listed live_listed =
+    let x = subst (λ b. (x : StandsFor w b j v) × (x.round.called ≡ u)) is stood in (
+      record {
+        beside = beside;
+        round = x.0.round;
+        ended = record { gone = x.0.gone; quiet = x.0.quiet };
+        made = made;
+        made_listed = made_listed;
+        live = live;
+        live_listed = live_listed;
+      },
+      x.1,
+    )

@@ -1,0 +1,70 @@
+use Rattle.std.proofs.Common.{◌≡◌, ◌++◌, map, ap, sym, subst, ◌∙◌, append_assoc}
+use Rattle.seam_call.specs.declared.order.Batch.{Batch}
+use Rattle.seam_toml.specs.declared.header.Header.{Header as Headers}
+use Rattle.seam_accept.specs.Batches.{batch_of}
+use Rattle.seam_transcript.specs.Book.{tree_of}
+use Rattle.seam_played.specs.Playing.{data_of}
+use Rattle.seam_print.specs.Texts.{calls_text, ends_text}
+use Rattle.seam_print.specs.Farewells.{AreFarewells}
+use Rattle.seam_world.specs.Rounds.{IsBalancedBy}
+use Rattle.seam_quiet.specs.Rounds.{MayRun}
+use Rattle.seam_quiet.specs.Calls.{HasCalled}
+use Rattle.seam_world.proofs.Playing.{played_so}
+use Rattle.seam_world.proofs.round.play.Goals as goal
+
+pub run_calls-requires : goal.run_calls-requires
+run_calls-requires g c = (
+  c.requires.1.1.0,
+  c.requires.1.1.1,
+  subst (λ w. MayRun c.requires.1.1.0 c.requires.1.1.1 w c.args.batch) (sym c.requires.0)
+      (subst (MayRun c.requires.1.1.0 c.requires.1.1.1 g.from.world) (sym c.requires.1.0) c.requires.1.1.2),
+)
+
+pub run_ends-requires : goal.run_ends-requires
+run_ends-requires g c = (
+  c.requires.1.1,
+  subst (λ w. HasCalled w g.from.batch c.in_ok-called.called) c.requires.0
+      (subst (λ b. HasCalled c.args.world b c.in_ok-called.called) c.requires.1.0 c.in_ok-called.ensures),
+)
+
+pub returns : goal.returns
+returns g c = λ h s tree beside brings header number present.
+    let b = g.from.batch in
+    let v = c.in_ok-ended.ended.world in
+    let run = c.in_ok-ended.ensures.run in
+    let made = c.entities_can_be_listed.ensures.made s.book in
+    let live = c.entities_can_be_listed.ensures.live s.book in
+    let p =
+    played_so h s tree g.from.world v c.in_ok-called.called.world b c.in_ok-ended.ended.journal beside brings (run.0, run.1) made.0 live.0
+    made.1 live.1 in
+    let bounds = c.in_ok-bounds.bounds in
+    let same_defs = ap (λ (k : Headers). k.defs) header in
+    let is = c.requires.1.0 ∙ brings in
+    let destroys : c.in_ok-called.called.destroys ≡ (batch_of h s.book).destroys =
+    c.in_ok-called.ensures.destroys ∙ ap (λ (x : Batch). x.destroys) is in
+    let kept =
+    subst (λ u. AreFarewells h.defs s.book u c.in_ok-kept.kept) (sym p.1)
+    (subst (λ ds. AreFarewells ds s.book c.in_ok-called.called.world c.in_ok-kept.kept) same_defs
+    (c.in_ok-kept.ensures s.book (c.as_slice.ensures ∙ destroys) present)) in
+    let printed = data_of h s tree g.from.world v p.0 bounds in
+    let begun =
+    c.in_ok-write_calls.ensures h s tree g.from.world v p.0 bounds p.1
+    (record { number = number; defs = same_defs; present = present }) in
+    let ended =
+    c.in_ok-write_ends.ensures h s tree g.from.world p.0 (record { number = number; defs = same_defs; present = present }) kept in
+    record {
+      played = p.0;
+      whole =
+          ended ∙ ap (λ xs. xs ++ ends_text h.defs printed) begun
+          ∙ append_assoc c.args.out.now.items (calls_text h.defs printed) (ends_text h.defs printed)
+          ∙ ap (λ xs. c.args.out.now.items ++ xs) (sym (c.a_rounds_text_has_two_parts.ensures h.defs printed));
+      bounds =
+          subst (λ asked. IsBalancedBy asked (tree_of s.book) (map (λ l. l.state.pos) printed.homes) h.settings.balance_shift bounds)
+          (ap (λ (x : Batch). x.balance) is)
+          (subst (λ t. IsBalancedBy c.args.batch.balance t (map (λ l. l.state.pos) printed.homes) h.settings.balance_shift bounds)
+          (ap (λ (x : Batch). x.tree) is)
+          (subst (λ n. IsBalancedBy c.args.batch.balance c.args.batch.tree (map (λ l. l.state.pos) printed.homes) n bounds)
+          (ap (λ (k : Headers). k.settings.balance_shift) header)
+          (c.in_ok-bounds.ensures h s tree g.from.world p.0 present)));
+      residents_ = c.end.ensures h s.book (c.as_slice-2.ensures ∙ c.in_ok-ended.ensures.destroys ∙ ap (λ (x : Batch). x.destroys) brings) present;
+    }
