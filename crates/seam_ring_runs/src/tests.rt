@@ -14,10 +14,11 @@ use std::marker::Brand;
 use std::sync::Wait;
 use std::sync::atomic::{AtomicU64, Ordering};
 use std::test::Fail;
+use std::thread;
 use std::thread::Threads;
 
-// How often a node that is held looks for the other one before it gives up.
-const MOST_LOOKS: u32 = 100_000_000;
+// How often a node that is held looks for the other one before it gives up: seconds, on a machine with nothing else to do.
+const MOST_LOOKS: u32 = 20_000_000;
 
 // Holds each of the nodes 0 and 1 until both were inside.
 #[derive(Drop)]
@@ -34,6 +35,7 @@ impl Gate for BothInside {
             if self.inside.load(Ordering::SeqCst) == 3 {
                 return;
             }
+            thread::yield_now();
         }
         self.given_up.store(1, Ordering::SeqCst);
     }
