@@ -1,2 +1,4 @@
 pub mod Counts
 pub mod Course
+pub mod OneReal
+pub mod Radius

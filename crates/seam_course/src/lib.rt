@@ -5,6 +5,9 @@
 //! lines alone (`specs/Counts`), its batch may be run, what it prints is a legal round, and the standing after it goes on with the world
 //! that it leaves. So an input of no more lines than there may be (*most_lines*) never runs out of numbers, however many rounds it has.
 //!
+//! While such a round is played each live entity has one real, whatever events happen (`specs/OneReal`), and after it clients show all that is
+//! within their radius (`specs/Radius`).
+//!
 //! With `given`, and the fields `between.keeps` and `bounded`, there is all that `seam_quiet::run_round` asks; the round that it runs, and
 //! that this has ended, are fields of what it answers (*StandsFor*), and so they are where a caller runs the phases one by one.
 #![tactic(auto)]
@@ -28,6 +31,7 @@ ghost use Rattle.seam_steps.specs.Nodes.{World};
 ghost use Rattle.seam_copies.specs.Places.{GoesThroughRound};
 ghost use Rattle.seam_laws.specs.Records.{MayBeGiven};
 ghost use Rattle.seam_phases.specs.Records.{IsBounded};
+ghost use Rattle.seam_rules.specs.Lines.{RoundData};
 ghost use Rattle.seam_rules.specs.Round.{IsRound};
 ghost use Rattle.seam_rules.specs.Standing.{Standing, after_header, with_line, with_book};
 ghost use Rattle.seam_legal.specs.Going.{frame_of};
@@ -36,6 +40,8 @@ ghost use Rattle.seam_played.specs.Beside.{StandsBeside};
 ghost use Rattle.seam_played.specs.Reading.{round_read, standing_read};
 ghost use Rattle.seam_course.specs.Counts.{HasFewNumbers, MayEnd, most_lines};
 ghost use Rattle.seam_course.specs.Course.{GoesOn};
+ghost use Rattle.seam_course.specs.OneReal.{HasOneReal};
+ghost use Rattle.seam_course.specs.Radius.{ClientsSeeAll};
 
 /// A standing goes on with the world that was opened for its header (`opened`), and still does when a line was read that adds nothing
 /// (`line`), and one that was accepted (`entry`).
@@ -103,4 +109,24 @@ pub fn a_run_round_is_legal()
     seam_played::a_standing_goes_with_the_world_after_its_round();
     a_round_may_be_run();
     a_round_leaves_few_numbers();
+}
+
+/// Whatever events happen while such a round is played, each live entity has one real.
+pub fn each_entity_has_one_real_through_a_round()
+    ensures { (h : Header) (s : Standing) (tree : Division) (w : World) → GoesOn h s tree w → MayEnd s → (v : World)
+        (round : GoesThroughRound w (batch_of h s.book) v) → HasEnded h s.book w v round → HasOneReal h s w v round }
+{
+    seam_ones::holders_are_at_one_place();
+    seam_laws::calls_obey_the_laws();
+    seam_laws::reaps_obey_the_laws();
+    seam_laws::looks_obey_the_laws();
+    seam_legal::what_lines_bring_fits();
+    a_round_may_be_run();
+}
+
+/// After a legal round each client shows all that is within its radius, and nothing that is not there.
+pub fn clients_see_all_within_their_radius()
+    ensures { (h : Header) (s : Standing) (r : RoundData) (t : Standing) → ClientsSeeAll h s r t }
+{
+    seam_replica::look_shows_the_table();
 }

@@ -17,6 +17,8 @@ use Rattle.seam_rules.specs.Standing.{Standing}
 use Rattle.seam_rules.specs.Texts.{round_text}
 use Rattle.seam_played.specs.Playing.{IsPlayed, data_of, standing_of}
 use Rattle.seam_course.specs.Course.{GoesOn}
+use Rattle.seam_course.specs.OneReal.{HasOneReal}
+use Rattle.seam_course.specs.Radius.{ClientsSeeAll}
 use Rattle.seam_print.specs.Residents.{AreResidents}
 use Rattle.seam_print.specs.declared.residents.Resident.{Resident}
 use Rattle.seam_world.specs.Transcripts.{Plays}
@@ -82,10 +84,11 @@ module _ (h : Header) (t : Standing) (old new : Script) (ready : IsReady h t old
       (IsTrue (has_balance t.book) → (u : Division) → IsTree u → HasSameCuts (tree_of t.book) u →
       IsBalanced (places h t ready.has.tree ready.has.world left.world p) h.settings.balance_shift (tree_of t.book) u →
       IsRight h t ready.has.tree ready.has.world left.world p (Some u)) →
+      HasOneReal h t ready.has.world left.world p.round → ((r : RoundData) (u : Standing) → ClientsSeeAll h t r u) →
       new.header ≡ old.header → new.world ≡ Some left.world → new.residents ≡ residents → new.line ≡ old.line →
       new.round ≡ old.round + 1 → HoldsBook All h after.book new.book →
       RoundEnds h t (λ s. ScriptRefines h s new) (round_text h.defs (printed h t ready.has.tree ready.has.world left.world p left.bounds))
-  round_ended kept balanced header world live line round book =
+  round_ended kept balanced one_real sees_all header world live line round book =
       let right =
       right_by h t ready.has.tree ready.has.world left.world p (has_balance t.book) refl kept balanced left.bounds has.bounds in
       let so = plays_so h t ready.has.tree ready.has.world left.world p left.bounds in
@@ -93,7 +96,14 @@ module _ (h : Header) (t : Standing) (old new : Script) (ready : IsReady h t old
         round = printed h t ready.has.tree ready.has.world left.world p left.bounds;
         next = after;
         legal = right.0;
-        played = (ready.has.world, left.world, ready.has.of_standing, so);
+        played = record {
+          before = ready.has.world;
+          after = left.world;
+          of_standing = ready.has.of_standing;
+          plays_ = so;
+          one_real = one_real;
+          sees_all = sees_all _ after;
+        };
         whole = refl;
         after = record {
           has = record {

@@ -1,4 +1,5 @@
--- What a transcript of the server is: each of its rounds is legal, and is what a world of cells printed that played it.
+-- What a transcript of the server is: each of its rounds is legal, and is what a world of cells printed that played it with one real for
+-- each live entity at every step.
 use Rattle.std.specs.Prelude.{◌≡◌, ℕ, List}
 use Rattle.seam_io.specs.Lines.{Line}
 use Rattle.seam_call.specs.declared.create.Create.{Create}
@@ -17,6 +18,8 @@ use Rattle.seam_rules.specs.Transcript as rules
 use Rattle.seam_rules.specs.Transcript.{Piece}
 use Rattle.seam_legal.specs.Playing.{HasEnded}
 use Rattle.seam_played.specs.Reading.{round_read, standing_read}
+use Rattle.seam_course.specs.OneReal.{HasOneReal}
+use Rattle.seam_course.specs.Radius.{ClientsSeeAll}
 
 -- The world w played the round of the standing s, and is v after it: the batch of the round's lines was loaded, and events led on, until
 -- the calls had ended, the dead were reaped and the witnesses had looked. What it printed, r, and the standing that it left, t, are read
@@ -38,9 +41,15 @@ pub data IsWorldOf (h : Header) : Standing → World → Type 0 where
   accepts : (s : Standing) (w : World) (x : Entry) → IsWorldOf h s w → IsWorldOf h (with_book s (with_entry s.book x)) w
   plays : (s t : Standing) (w v : World) (r : RoundData) → IsWorldOf h s w → Plays h s w v r t → IsWorldOf h t v
 
--- the round was played by the world of its standing
-abbrev pub WasPlayed : Header → Standing → RoundData → Standing → Type 0
-WasPlayed h s r t = (w v : World) × IsWorldOf h s w × Plays h s w v r t
+-- The round was played by the world of its standing; at each of its steps each live entity had one real; and after it each client shows
+-- all that is within its radius.
+pub record WasPlayed (h : Header) (s : Standing) (r : RoundData) (t : Standing) : Type 0 where
+  pub before : World
+  pub after : World
+  pub of_standing : IsWorldOf h s before
+  pub plays_ : Plays h s before after r t
+  pub one_real : HasOneReal h s before after plays_.round
+  pub sees_all : ClientsSeeAll h s r t
 
 -- ---- transcripts whose rounds were played
 

@@ -115,6 +115,8 @@ impl Script {
     {
         seam_course::a_round_may_be_run();
         seam_course::a_run_round_is_legal();
+        seam_course::each_entity_has_one_real_through_a_round();
+        seam_course::clients_see_all_within_their_radius();
         self.round = next_count(self.round)?;
         let Some(world) = self.world.take() else {
             return Err(AllocError);

@@ -47,6 +47,9 @@ returns c = λ h t ready.
           p.made_listed p.live_listed none)
           (λ some u is_tree same balanced. law.balanced h t ready.has.tree ready.has.world ready.has.goes_on ready.may left.world p.round
           p.ended p.made p.live p.made_listed p.live_listed some u is_tree same balanced)
+          (c.each_entity_has_one_real_through_a_round.ensures h t ready.has.tree ready.has.world ready.has.goes_on ready.may left.world
+          p.round p.ended)
+          (λ r u. c.clients_see_all_within_their_radius.ensures h t r u)
           refl refl refl refl c.in_ok-self.ensures.next
           (c.begin_next.ensures h _ (c.take_batch-batch.ensures.ended _ h t.book ready.book)),
       has.whole,
