@@ -1,11 +1,11 @@
-use Rattle.std.proofs.Common.{◌≡◌, ℕ, List, [], Option, None, Some, ap, sym, ◌∙◌}
-use Rattle.seam_replica.specs.Looks.{Row, rows_but, look_by}
+use Rattle.std.proofs.Common.{ap, sym, ◌∙◌}
+use Rattle.seam_replica.specs.Looks.{rows_but, look_by}
 use Rattle.seam_rules.specs.FlatTable.{rows_of}
 use Rattle.seam_rules.specs.Standing.{replica_of}
 use Rattle.seam_course.proofs.clients_see_all_within_their_radius.Goals as goal
 
-pub returns-clause : goal.returns-clause
-returns-clause c h s r t legal e own shown is =
+pub returns : goal.returns
+returns c h s r t legal e own shown is =
     let others = rows_but e (rows_of h t.orders legal.live) in
     c.look_shows_the_table.ensures (replica_of h t e) own others
     (sym (ap (λ o. look_by (replica_of h t e) o others) is) ∙ legal.looked.nothing_left e shown)

@@ -1,4 +1,4 @@
-use Rattle.std.proofs.Common.{◌≡◌, ℕ, [], eqb, false, refl, sym, subst, ◌∙◌}
+use Rattle.std.proofs.Common.{◌≡◌, ℕ, [], Some, eqb, false, refl, sym, subst, ◌∙◌}
 use Rattle.std.specs.List.{AllByRecursion, filter_map}
 use Rattle.std.proofs.lemmas.Bool.{eq-eqb}
 use Rattle.seam_call.specs.declared.create.Create.{Create}
@@ -16,8 +16,8 @@ use Rattle.seam_legal.specs.Going.{frame_of}
 use Rattle.seam_played.specs.Beside.{may_play}
 use Rattle.seam_course.proofs.each_entity_has_one_real_through_a_round.Goals as goal
 
-pub returns-clause : goal.returns-clause
-returns-clause c h s tree w g end v round ended =
+pub returns : goal.returns
+returns c h s tree w g end v round ended =
     let f = frame_of h tree in
     let clients = replica_of h s in
     let b = batch_of h s.book in
