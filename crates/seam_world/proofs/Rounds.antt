@@ -88,6 +88,7 @@ module _ (h : Header) (t : Standing) (old new : Script) (ready : IsReady h t old
       new.header ≡ old.header → new.world ≡ Some left.world → new.residents ≡ residents → new.line ≡ old.line →
       new.round ≡ old.round + 1 → HoldsBook All h after.book new.book →
       RoundEnds h t (λ s. ScriptRefines h s new) (round_text h.defs (printed h t ready.has.tree ready.has.world left.world p left.bounds))
+  unfolding plays_so
   round_ended kept balanced one_real sees_all header world live line round book =
       let right =
       right_by h t ready.has.tree ready.has.world left.world p (has_balance t.book) refl kept balanced left.bounds has.bounds in
