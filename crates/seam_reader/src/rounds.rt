@@ -6,7 +6,7 @@ use crate::known::Known;
 use crate::lines::{base_line, client_line, done_line, ghost_line, home_line};
 use crate::words::Words;
 use seam_defs::Part;
-use seam_expected::tree_in;
+use seam_expected::{has_balance, tree_in};
 use seam_report::write_round;
 use seam_round::{Round, Standing};
 use seam_transcript::Header;
@@ -46,7 +46,7 @@ pub fn read_lines(
         header,
         standing,
     };
-    let mut round = no_round(alloc);
+    let mut round = no_round(alloc, standing);
     for line in text.split(|byte| *byte == b'\n') {
         let words = Words::of(alloc, line)?;
         add_line(&known, &mut round, &words)?;
@@ -54,7 +54,9 @@ pub fn read_lines(
     Ok(round)
 }
 
-fn no_round(alloc: Global) -> Round {
+// A round of no lines. Where the boundaries are balanced it has a tree, also if that is one of one cell, which prints no boundary.
+fn no_round(alloc: Global, standing: &Standing) -> Round {
+    let whole = Tree::one(tree_in(standing).size());
     Round {
         number: 0,
         did: Vec::new(alloc),
@@ -63,7 +65,7 @@ fn no_round(alloc: Global) -> Round {
         bases: Vec::new(alloc),
         ghosts: Vec::new(alloc),
         shown: Vec::new(alloc),
-        bounds: None,
+        bounds: has_balance(&standing.current).then_some(whole),
     }
 }
 
