@@ -1,5 +1,6 @@
 -- Lists that are made item by item.
-use Rattle.std.proofs.Common.{◌≡◌, ◌+◌, ◌<◌, ℕ, suc, Bool, true, false, cond, List, [], ◌∷◌, ◌++◌, map, length, take, get_or, Some, refl, sym, ap, ◌∙◌, arith}
+use Rattle.std.proofs.Common.{◌≡◌, ◌+◌, ◌<◌, ℕ, suc, Bool, true, false, cond, List, [], ◌∷◌, ◌++◌, map, length, take, get_or}
+use Rattle.std.proofs.Common.{Some, refl, sym, ap, ◌∙◌, arith}
 use Rattle.std.specs.Prelude.{find, ◌==◌, unwrap_or}
 use Rattle.std.specs.Option.{option_map}
 use Rattle.std.proofs.lemmas.List.{append_assoc, take_more, length-take-le}
@@ -45,8 +46,8 @@ lines_more c n (y ∷ ys) x =
     (lines_more c (n + 1) ys x ∙ ap (λ (k : ℕ). lines_from c (n + 1) ys ++ line_at c k x ∷ []) later)
 
 pub line_added : (c : Create) (n : ℕ) (xs : List ClientText) (i : ℕ) (d : ClientText) (start lines new : List ClientLine) (x : ClientText)
-    (number next : ℕ) → i < length xs → lines ≡ start ++ lines_from c n (take i xs) → number ≡ n + i → next ≡ number + 1 → x ≡ get_or xs i d →
-    new ≡ lines ++ line_at c next x ∷ [] → new ≡ start ++ lines_from c n (take (i + 1) xs)
+    (number next : ℕ) → i < length xs → lines ≡ start ++ lines_from c n (take i xs) → number ≡ n + i → next ≡ number + 1 →
+    x ≡ get_or xs i d → new ≡ lines ++ line_at c next x ∷ [] → new ≡ start ++ lines_from c n (take (i + 1) xs)
 line_added c n xs i d start lines new x number next within before counted is_next item step =
     let short : List ClientText = take i xs in
     let long : length short ≡ i = length-take-le i xs (omega (arith, within)) in

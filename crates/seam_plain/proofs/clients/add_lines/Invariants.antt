@@ -4,4 +4,5 @@ use Rattle.seam_plain.proofs.clients.add_lines.Given as goal
 
 abbrev pub invariant-loop-text : goal.invariant-loop-text
 invariant-loop-text l =
-    (l.lines.items ≡ l.initial.lines.items ++ lines_from l.create l.former (take l.text-index l.texts)) × (l.number ≡ l.former + l.text-index)
+    (l.lines.items ≡ l.initial.lines.items ++ lines_from l.create l.former (take l.text-index l.texts))
+    × (l.number ≡ l.former + l.text-index)

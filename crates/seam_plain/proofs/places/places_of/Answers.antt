@@ -12,5 +12,6 @@ returns c = λ e.
     let s = standing_of c.args.before.now in
     let orders = (standing_of c.args.after.now).orders in
     let live : List Create = c.args.live.now in
-    let all : take c.loop-create.create-index live ≡ live = take_all c.loop-create.create-index live (omega (arith, c.loop-create-test.false)) in
+    let all : take c.loop-create.create-index live ≡ live =
+    take_all c.loop-create.create-index live (omega (arith, c.loop-create-test.false)) in
     ap (λ (hs : List Held). place_among hs e) (c.loop-create.invariant ∙ ap (map (held_of h s orders)) all) ∙ held_is h s orders e live
