@@ -1,202 +1,127 @@
 // How rows are played.
-ghost use Rattle.std.specs.Prelude.{IfOk};
-ghost use Rattle.seam_defs.specs.Settings.{AreInRange};
-
-use crate::commands::accept;
-use crate::rounds::read;
-use seam_defs::{Defs, Settings};
-use seam_judge::{Point, have_homes, is_numbered, judge, standing_after};
-use seam_report::write_round;
-use seam_round::{Round, Standing};
-use seam_transcript::Header;
-use seam_tree::Tree;
+use crate::verdict::verdict_on;
+use seam_reader::{BadScript, Read, ScriptReader, read_lines, read_round};
 use std::alloc::{AllocError, Global};
 
-// The standard settings and the built-in types.
-pub(crate) fn standard_header(alloc: Global) -> Result<Header, AllocError>
-    ensures { IfOk result (λ h. AreInRange h.settings) }
-{
-    Ok(Header {
-        settings: Settings::standard(),
-        defs: Defs::builtin(alloc)?,
-    })
-}
-
-fn nothing_yet(alloc: Global) -> Standing {
-    Standing {
-        lines: 1,
-        rounds: 0,
-        past: Vec::new(alloc),
-        tree: Tree::one(10_000),
-        current: Vec::new(alloc),
-        calls: Vec::new(alloc),
-        places: Vec::new(alloc),
-        told: Vec::new(alloc),
-    }
-}
-
-// The lines of a text, with those of `by` in place of one of them.
-fn lines_with<'a>(
-    alloc: Global,
-    text: &'a str,
-    line: &str,
-    by: &'a str,
-) -> Result<Vec<&'a str>, AllocError> {
-    let mut lines = Vec::new(alloc);
+// The text with other lines in place of one of its lines.
+fn text_with(alloc: Global, text: &str, line: &str, by: &str) -> Result<String, AllocError> {
+    let mut changed = String::new(alloc);
     for own in text.split('\n') {
-        if own == line {
-            add_lines(&mut lines, by)?;
-        } else {
-            lines.push(own)?;
-        }
+        let put = if own == line { by } else { own };
+        changed.push_str(put)?;
+        changed.push('\n')?;
     }
-    Ok(lines)
+    Ok(changed)
 }
 
-fn add_lines<'a>(lines: &mut Vec<&'a str>, text: &'a str) -> Result<(), AllocError> {
-    for line in text.split('\n') {
-        lines.push(line)?;
-    }
-    Ok(())
-}
-
-// Whether a round has this text, which lacks its last line feed.
-fn is_written(
-    alloc: Global,
-    header: &Header,
-    round: &Round,
-    text: &str,
-) -> Result<bool, AllocError> {
-    let mut out = Vec::new(alloc);
-    write_round(&mut out, &header.defs, round)?;
-    out.pop();
-    Ok(out.as_slice() == text.as_bytes())
-}
-
-fn verdict_on(
-    alloc: Global,
-    header: &Header,
-    before: &Standing,
-    round: &Round,
-) -> Result<&'static str, AllocError>
-    requires { AreInRange header.now.settings }
-{
-    if !have_homes(before) {
-        return Ok("no homes");
-    }
-    let broken = judge(alloc, header, before, round)?;
-    Ok(match broken {
-        None => "legal",
-        Some(point) => name_of(point),
-    })
-}
-
-fn name_of(point: Point) -> &'static str {
-    match point {
-        Point::Number => "Number",
-        Point::Did => "Did",
-        Point::Dob => "Dob",
-        Point::Places => "Places",
-        Point::Homes => "Homes",
-        Point::Bases => "Bases",
-        Point::Ghosts => "Ghosts",
-        Point::Shown => "Shown",
-        Point::Looked => "Looked",
-        Point::Bounds => "Bounds",
-    }
-}
-
-// What was accepted and what the rounds so far left, and the text of the last round.
+/// The script of a row, and the text of its last round.
 #[derive(Drop)]
 pub(crate) struct Player {
-    standing: Standing,
+    alloc: Global,
+    script: ScriptReader,
     round: String,
 }
 
 impl Player {
     pub(crate) fn new(alloc: Global) -> Player {
         Player {
-            standing: nothing_yet(alloc),
+            alloc,
+            script: ScriptReader::new(alloc),
             round: String::new(alloc),
         }
     }
 
-    // What comes of the round with other lines in place of one.
-    fn judged_with(
-        &self,
-        alloc: Global,
-        header: &Header,
-        line: &str,
-        by: &str,
-    ) -> Result<&'static str, AllocError>
-        requires { AreInRange header.now.settings }
-    {
-        let lines = lines_with(alloc, self.round.as_str(), line, by)?;
-        let round = read(alloc, &self.standing, &lines)?;
-        verdict_on(alloc, header, &self.standing, &round)
-    }
-
-    // What comes of a round.
-    fn judged(&self, alloc: Global, header: &Header, text: &str) -> Result<&'static str, AllocError>
-        requires { AreInRange header.now.settings }
-    {
-        let lines = lines_with(alloc, text, "", "")?;
-        let round = read(alloc, &self.standing, &lines)?;
-        let written = is_written(alloc, header, &round, text)?;
-        if !written {
-            return Ok("another text");
+    // Whether a line of the script was kept.
+    fn keeps(&mut self, line: &str) -> Result<bool, AllocError> {
+        match self.script.read_line(line.as_bytes()) {
+            Ok(read) => Ok(read == Read::Kept),
+            Err(BadScript::NoMemory) => Err(AllocError),
+            Err(BadScript::Header(_)) => Ok(false),
         }
-        verdict_on(alloc, header, &self.standing, &round)
     }
 
-    // The standing that the last round leaves.
-    fn after(&self, alloc: Global) -> Result<Option<Standing>, AllocError> {
-        let lines = lines_with(alloc, self.round.as_str(), "", "")?;
-        let round = read(alloc, &self.standing, &lines)?;
-        if !is_numbered(&self.standing, &round) {
-            return Ok(None);
+    // The first of these lines that is not kept, or nothing.
+    fn accept<'a>(&mut self, lines: &'a str) -> Result<&'a str, AllocError> {
+        for line in lines.split('\n') {
+            if !self.keeps(line)? {
+                return Ok(line);
+            }
         }
-        let after = standing_after(alloc, &self.standing, &round)?;
-        Ok(Some(after))
+        Ok("")
     }
 
-    fn end(&mut self, alloc: Global) -> Result<(), AllocError> {
-        if let Some(after) = self.after(alloc)? {
-            self.standing = after;
+    // Begins a script with a header that sets nothing.
+    fn begin(&mut self) -> Result<(), AllocError> {
+        self.script = ScriptReader::new(self.alloc);
+        self.keeps("%%")?;
+        Ok(())
+    }
+
+    // What comes of the last round with other lines in place of one.
+    fn judged_with(&self, line: &str, by: &str) -> Result<&'static str, AllocError> {
+        let Some(header) = self.script.header() else {
+            return Ok("no header");
+        };
+        let Some(standing) = self.script.standing() else {
+            return Ok("no header");
+        };
+        let text = text_with(self.alloc, self.round.as_str(), line, by)?;
+        let round = read_lines(self.alloc, header, standing, text.as_bytes())?;
+        verdict_on(self.alloc, header, standing, &round)
+    }
+
+    // What comes of the last round.
+    fn judged(&self) -> Result<&'static str, AllocError> {
+        let Some(header) = self.script.header() else {
+            return Ok("no header");
+        };
+        let Some(standing) = self.script.standing() else {
+            return Ok("no header");
+        };
+        let read = read_round(self.alloc, header, standing, self.round.as_bytes())?;
+        match read {
+            Some(round) => verdict_on(self.alloc, header, standing, &round),
+            None => Ok("another text"),
+        }
+    }
+
+    // Ends the last round.
+    fn end(&mut self) -> Result<(), AllocError> {
+        let Some(header) = self.script.header() else {
+            return Ok(());
+        };
+        let Some(standing) = self.script.standing() else {
+            return Ok(());
+        };
+        let read = read_round(self.alloc, header, standing, self.round.as_bytes())?;
+        if let Some(round) = read {
+            self.script.end_round(&round)?;
         }
         Ok(())
     }
 
-    // One more block: what is to be printed for it.
-    pub(crate) fn play(
-        &mut self,
-        alloc: Global,
-        header: &Header,
-        block: &str,
-    ) -> Result<String, AllocError>
-        requires { AreInRange header.now.settings }
-    {
+    /// One more block: what is to be printed for it.
+    pub(crate) fn play(&mut self, block: &str) -> Result<String, AllocError> {
         let (first, rest) = halves(block);
         if first == "accepted" {
-            accept(alloc, &mut self.standing, rest)?;
-            return Ok(String::new(alloc));
+            return String::from_str(self.alloc, self.accept(rest)?);
         }
         if first == "then" {
-            self.end(alloc)?;
-            return Ok(String::new(alloc));
+            self.end()?;
+            return Ok(String::new(self.alloc));
         }
         if first == "change" {
             let (line, by) = halves(rest);
-            let verdict = self.judged_with(alloc, header, line, by)?;
-            return format!(in alloc; "change: {verdict}");
+            let verdict = self.judged_with(line, by)?;
+            return format!(in self.alloc; "change: {verdict}");
         }
         if first.starts_with("round ") {
-            self.round = String::from_str(alloc, block)?;
-            let verdict = self.judged(alloc, header, block)?;
-            return format!(in alloc; "{first}: {verdict}");
+            self.round = format!(in self.alloc; "{block}\n")?;
+            let verdict = self.judged()?;
+            return format!(in self.alloc; "{first}: {verdict}");
         }
-        self.standing = nothing_yet(alloc);
-        String::from_str(alloc, first)
+        self.begin()?;
+        String::from_str(self.alloc, first)
     }
 }
 
