@@ -1,0 +1,287 @@
+// The cases of a cell's step.
+ghost use Rattle.std.specs.Prelude.{◌≡◌};
+
+use crate::feeding::{Fed, builtin, feed};
+use crate::told::{Told, are_sent};
+use seam_cell::Cell;
+use seam_defs::{Defs, Settings};
+use seam_machine::Machine;
+use seam_tree::{Axis, Tree};
+use std::alloc::{AllocError, Global};
+use std::process::Abort;
+use std::test::Fail;
+
+// What a cell has then: whether the real of entity 1, the version of a copy of it, and whether a task.
+#[derive(Clone, Copy, PartialEq, Eq)]
+struct Seen {
+    real: bool,
+    copy: Option<u64>,
+    task: bool,
+}
+
+const HERE: Seen = Seen {
+    real: true,
+    copy: None,
+    task: false,
+};
+
+const BUSY: Seen = Seen {
+    real: true,
+    copy: None,
+    task: true,
+};
+
+const NONE: Seen = Seen {
+    real: false,
+    copy: None,
+    task: false,
+};
+
+const COPIED: Seen = Seen {
+    real: false,
+    copy: Some(2),
+    task: false,
+};
+
+// What a cell is fed, what it sends, and what it has then.
+#[derive(Clone, Copy)]
+struct Row<'a>(Fed, &'a [(u8, Told)], Seen);
+
+// Cell 0, without entities, in a space that it has alone.
+fn empty(alloc: Global, defs: Defs) -> Cell
+    ensures { result.here.settings.size ≡ 10000 }
+{
+    Cell::new(alloc, 0, defs, Settings::standard())
+}
+
+// A round begins in it, in a space of two cells, whose boundary is at x = 5000.
+fn begin(cell: &mut Cell, alloc: Global) -> Result<(), AllocError>
+    requires { cell.old.here.settings.size ≡ 10000 }
+{
+    let mut tree = Tree::one(10_000);
+    let _cut = tree.cut(0, Axis::X, 5_000);
+    cell.start_round(alloc, tree)
+}
+
+// Cell 0 of two, without entities.
+fn opened(alloc: Global) -> Result<Cell, AllocError> {
+    let mut cell = empty(alloc, builtin(alloc)?);
+    begin(&mut cell, alloc)?;
+    Ok(cell)
+}
+
+fn seen_in(cell: &Cell) -> Seen {
+    let copy = match cell.copies().get(1) {
+        Some(copy) => Some(copy.version),
+        None => None,
+    };
+    Seen {
+        real: cell.has_real(1),
+        copy,
+        task: cell.has_task(),
+    }
+}
+
+fn play(rt: &impl Abort, alloc: Global, cell: &mut Cell, rows: &[Row]) -> Result<(), Fail> {
+    let mut number = 0u32;
+    for row in rows {
+        let Row(fed, sent, then) = *row;
+        number = number.saturating_add(1);
+        let mut out = feed(cell, alloc, fed)?;
+        assert!(rt; are_sent(&mut out, sent), "sent in row {number}");
+        assert!(rt; seen_in(cell) == then, "after row {number}");
+    }
+    Ok(())
+}
+
+// Hand-over comes: the base nodes are told.
+const COMES: Row = Row(
+    Fed::Hand(1, 1, 1),
+    &[(16, Told::Current(1, 0, 1)), (17, Told::Current(1, 0, 1))],
+    HERE,
+);
+
+// Call, real here: held, executed, and late.
+const CALLS: [Row; 4] = [
+    COMES,
+    Row(Fed::Walk(1, 2, 5_100), &[], HERE),
+    Row(Fed::Walk(1, 1, 4_950), &[(1, Told::Set(2, 1, 1))], BUSY),
+    Row(Fed::Walk(1, 1, 4_960), &[], BUSY),
+];
+
+fn call(rt: &impl Abort, alloc: Global, cell: &mut Cell) -> Result<(), Fail> {
+    play(rt, alloc, cell, &CALLS)
+}
+
+// Ready-call task, after which the real goes, and call, next place. When the real comes back, the copy goes.
+const LEAVES: [Row; 3] = [
+    Row(Fed::Task, &[(1, Told::Hand(1, 3, 2))], COPIED),
+    Row(Fed::Walk(1, 3, 5_200), &[(1, Told::Call(1, 3))], COPIED),
+    Row(
+        Fed::Hand(1, 4, 3),
+        &[(16, Told::Current(1, 0, 3)), (17, Told::Current(1, 0, 3))],
+        HERE,
+    ),
+];
+
+fn leave(rt: &impl Abort, alloc: Global, cell: &mut Cell) -> Result<(), Fail> {
+    play(rt, alloc, cell, &LEAVES)
+}
+
+// Reap, after which there is no next place any more; its beat is kept.
+const REAPS: [Row; 4] = [
+    Row(Fed::Reap(1), &[], NONE),
+    Row(Fed::Walk(1, 4, 4_900), &[], NONE),
+    Row(Fed::Set(5, 1, 2), &[], NONE),
+    Row(Fed::Set(6, 1, 2), &[], COPIED),
+];
+
+fn reap(rt: &impl Abort, alloc: Global, cell: &mut Cell) -> Result<(), Fail> {
+    play(rt, alloc, cell, &REAPS)
+}
+
+fn live(rt: &impl Abort, alloc: Global, cell: &mut Cell) -> Result<(), Fail> {
+    call(rt, alloc, cell)?;
+    leave(rt, alloc, cell)?;
+    reap(rt, alloc, cell)
+}
+
+#[test]
+fn calls_are_executed_in_turn_where_the_real_is(rt: HostRuntime) -> Result<(), Fail> {
+    let mut cell = opened(rt.alloc())?;
+    live(&rt, rt.alloc(), &mut cell)
+}
+
+// Ghost set and ghost drop, each of a greater beat and the same one, and a set of a lesser one.
+const GHOSTS: [Row; 5] = [
+    Row(Fed::Set(2, 1, 2), &[], COPIED),
+    Row(Fed::Set(2, 1, 5), &[], COPIED),
+    Row(Fed::Drop(2, 1), &[], COPIED),
+    Row(Fed::Drop(4, 1), &[], NONE),
+    Row(Fed::Set(3, 1, 2), &[], NONE),
+];
+
+#[test]
+fn the_greatest_beat_tells_of_a_ghost(rt: HostRuntime) -> Result<(), Fail> {
+    let mut cell = opened(rt.alloc())?;
+    play(&rt, rt.alloc(), &mut cell, &GHOSTS)
+}
+
+// Ghost set, where the real is: nothing is kept of it, as is seen when the real is gone.
+const IGNORED: [Row; 4] = [
+    COMES,
+    Row(Fed::Set(8, 1, 5), &[], HERE),
+    Row(Fed::Reap(1), &[], NONE),
+    Row(Fed::Set(3, 1, 2), &[], COPIED),
+];
+
+#[test]
+fn a_ghost_of_a_real_is_ignored(rt: HostRuntime) -> Result<(), Fail> {
+    let mut cell = opened(rt.alloc())?;
+    play(&rt, rt.alloc(), &mut cell, &IGNORED)
+}
+
+const WATCHER_COMES: Row = Row(
+    Fed::Watcher(1, 1, 1),
+    &[(16, Told::Current(1, 0, 1)), (17, Told::Current(1, 0, 1))],
+    HERE,
+);
+
+const OTHER_COMES: Row = Row(
+    Fed::Hand(2, 0, 0),
+    &[(16, Told::Current(2, 0, 0)), (17, Told::Current(2, 0, 0))],
+    HERE,
+);
+
+// Tick and look task: the client is told its own state and who is there.
+const LOOKS: [Row; 4] = [
+    WATCHER_COMES,
+    OTHER_COMES,
+    Row(Fed::Tick, &[], BUSY),
+    Row(
+        Fed::Task,
+        &[(17, Told::Own(1, 0)), (17, Told::Enter(2, 2, 0))],
+        HERE,
+    ),
+];
+
+fn look(rt: &impl Abort, alloc: Global, cell: &mut Cell) -> Result<(), Fail> {
+    play(rt, alloc, cell, &LOOKS)
+}
+
+// Tick and look task: the client is told its own change, and who was reaped.
+const CHANGES: [Row; 5] = [
+    Row(Fed::Walk(1, 1, 4_950), &[(1, Told::Set(2, 1, 1))], HERE),
+    Row(Fed::Reap(2), &[], HERE),
+    Row(Fed::Tick, &[], BUSY),
+    Row(
+        Fed::Task,
+        &[(17, Told::Own(3, 1)), (17, Told::Leave(4, 2))],
+        HERE,
+    ),
+    Row(Fed::Tick, &[], BUSY),
+];
+
+fn look_again(rt: &impl Abort, alloc: Global, cell: &mut Cell) -> Result<(), Fail> {
+    play(rt, alloc, cell, &CHANGES)
+}
+
+// Look task of a client that knows all; and reap, from the look list too: the cell with a copy is told.
+const LAST_LOOKS: [Row; 3] = [
+    Row(Fed::Task, &[], HERE),
+    Row(Fed::Tick, &[], BUSY),
+    Row(Fed::Reap(1), &[(1, Told::Drop(3, 1))], NONE),
+];
+
+fn look_last(rt: &impl Abort, alloc: Global, cell: &mut Cell) -> Result<(), Fail> {
+    play(rt, alloc, cell, &LAST_LOOKS)
+}
+
+fn watch(rt: &impl Abort, alloc: Global, cell: &mut Cell) -> Result<(), Fail> {
+    look(rt, alloc, cell)?;
+    look_again(rt, alloc, cell)?;
+    look_last(rt, alloc, cell)
+}
+
+#[test]
+fn a_witness_looks(rt: HostRuntime) -> Result<(), Fail> {
+    let mut cell = opened(rt.alloc())?;
+    watch(&rt, rt.alloc(), &mut cell)
+}
+
+// Stray input at a cell: calls of number 0 and to a place outside the space, a real that is here, and a reap of one that is not.
+const STRAYS: [Row; 5] = [
+    COMES,
+    Row(Fed::Walk(1, 0, 4_960), &[], HERE),
+    Row(Fed::Walk(1, 1, 10_000), &[], HERE),
+    Row(Fed::Hand(1, 9, 9), &[], HERE),
+    Row(Fed::Reap(3), &[], HERE),
+];
+
+fn stray(rt: &impl Abort, alloc: Global, cell: &mut Cell) -> Result<(), Fail> {
+    play(rt, alloc, cell, &STRAYS)
+}
+
+// A call for an entity of which the cell knows nothing, and what is for base nodes. Then the first call is executed, at the next beat.
+const OTHERS: [Row; 5] = [
+    Row(Fed::Walk(3, 1, 4_960), &[], HERE),
+    Row(Fed::BaseCall(1, 1), &[], HERE),
+    Row(Fed::Current(1, 1, 9), &[], HERE),
+    Row(Fed::Update(1, 1), &[], HERE),
+    Row(Fed::Walk(1, 1, 4_940), &[(1, Told::Set(2, 1, 1))], HERE),
+];
+
+fn other(rt: &impl Abort, alloc: Global, cell: &mut Cell) -> Result<(), Fail> {
+    play(rt, alloc, cell, &OTHERS)
+}
+
+fn stray_all(rt: &impl Abort, alloc: Global, cell: &mut Cell) -> Result<(), Fail> {
+    stray(rt, alloc, cell)?;
+    other(rt, alloc, cell)
+}
+
+#[test]
+fn stray_input_changes_nothing(rt: HostRuntime) -> Result<(), Fail> {
+    let mut cell = opened(rt.alloc())?;
+    stray_all(&rt, rt.alloc(), &mut cell)
+}
