@@ -4,8 +4,11 @@
 //! round that is open; a block that begins with `round` is the text of a round after them; the lines after `change` are a line of that text,
 //! and those that are to stand in its place; and after `then` the round has ended. The worked rows are in the file `stdin`, with what is
 //! to come of them in `stdout`. What is read of a round has to be its text; the lines of a changed one are read by themselves.
+//!
+//! After each round comes what the plain round is beside it: `the same`, where the row leaves no choice, `another` legal one, or `none`.
 #![tactic(auto)]
 
+mod plain;
 mod playing;
 mod verdict;
 

@@ -1,4 +1,5 @@
 // How rows are played.
+use crate::plain::compared;
 use crate::verdict::verdict_on;
 use seam_reader::{BadScript, Read, ScriptReader, read_lines, read_round};
 use std::alloc::{AllocError, Global};
@@ -85,6 +86,14 @@ impl Player {
         }
     }
 
+    // What the plain round is beside it.
+    fn compared(&self) -> Result<&'static str, AllocError> {
+        let (Some(header), Some(standing)) = (self.script.header(), self.script.standing()) else {
+            return Ok("no header");
+        };
+        compared(self.alloc, header, standing, self.round.as_str())
+    }
+
     // Ends the last round.
     fn end(&mut self) -> Result<(), AllocError> {
         let Some(header) = self.script.header() else {
@@ -118,7 +127,8 @@ impl Player {
         if first.starts_with("round ") {
             self.round = format!(in self.alloc; "{block}\n")?;
             let verdict = self.judged()?;
-            return format!(in self.alloc; "{first}: {verdict}");
+            let plain = self.compared()?;
+            return format!(in self.alloc; "{first}: {verdict}\nplain: {plain}");
         }
         self.begin()?;
         String::from_str(self.alloc, first)

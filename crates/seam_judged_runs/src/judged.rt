@@ -1,5 +1,6 @@
 // What a server printed of a script, judged line by line.
 use seam_judge::{Point, have_homes, judge};
+use seam_plain::plain_round;
 use seam_reader::{BadScript, Read, ScriptReader, first_piece, read_round};
 use seam_report::push_refusal;
 use seam_transcript::Cause;
@@ -16,6 +17,8 @@ pub(crate) enum Wrong {
     NoRound(u64),
     /// The round after so many is not legal, at this point.
     Round(u64, Point),
+    /// There is no plain round after so many.
+    NoPlainRound(u64),
     /// There is more text.
     More,
 }
@@ -98,6 +101,9 @@ impl<'a> Follower<'a> {
         }
         if let Some(point) = judge(self.alloc, header, standing, &round)? {
             return Ok(Some(Wrong::Round(rounds, point)));
+        }
+        if plain_round(self.alloc, header, standing)?.is_none() {
+            return Ok(Some(Wrong::NoPlainRound(rounds)));
         }
         self.reader.end_round(&round)?;
         Ok(None)

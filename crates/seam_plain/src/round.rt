@@ -124,7 +124,7 @@ fn round_of(
 /// and then one look at the flat table.
 ///
 /// `None` where an entity has its home in no cell of the open round's tree, where the rounds cannot be counted further, or where this one
-/// round is not legal. That this does not happen after legal rounds is not proved.
+/// round is not legal. After legal rounds that does not happen, which is tested, and not proved.
 pub fn plain_round(
     alloc: Global,
     header: &Header,
