@@ -13,7 +13,7 @@ use std::test::Fail;
 pub const AVATAR: u16 = 0;
 
 // Where reals are made.
-const PLACE: Pos = Pos { x: 4_900, z: 100 };
+pub const PLACE: Pos = Pos { x: 4_900, z: 100 };
 
 // What a node is fed: its task, or a message about the entity of that number.
 #[derive(Clone, Copy)]
