@@ -1,9 +1,10 @@
 // The cases of a cell's step.
 ghost use Rattle.std.specs.Prelude.{◌≡◌};
+ghost use Rattle.seam_steps.specs.Loads.{one_cell};
 
-use crate::feeding::{Fed, builtin, feed};
+use crate::feeding::{AVATAR, Fed, PLACE, builtin, feed};
 use crate::told::{Told, are_sent};
-use seam_cell::Cell;
+use seam_cell::{Cell, Making};
 use seam_defs::{Defs, Settings};
 use seam_machine::Machine;
 use seam_tree::{Axis, Tree};
@@ -49,7 +50,8 @@ struct Row<'a>(Fed, &'a [(u8, Told)], Seen);
 
 // Cell 0, without entities, in a space that it has alone.
 fn empty(alloc: Global, defs: Defs) -> Cell
-    ensures { result.here.settings.size ≡ 10000 }
+    ensures tree { result.tree ≡ one_cell 10000 }
+    ensures size { result.here.settings.size ≡ 10000 }
 {
     Cell::new(alloc, 0, defs, Settings::standard())
 }
@@ -67,6 +69,47 @@ fn begin(cell: &mut Cell, alloc: Global) -> Result<(), AllocError>
 fn opened(alloc: Global) -> Result<Cell, AllocError> {
     let mut cell = empty(alloc, builtin(alloc)?);
     begin(&mut cell, alloc)?;
+    Ok(cell)
+}
+
+fn avatar(entity: u32) -> Making {
+    Making {
+        entity,
+        ty: AVATAR,
+        pos: PLACE,
+    }
+}
+
+// A real is made in it, where it has none of the entity yet and the place lies in its space.
+fn make(cell: &mut Cell, alloc: Global, making: Making, space: &Tree) -> Result<(), AllocError>
+    requires { cell.old.tree ≡ space.now }
+    ensures tree { cell.new.tree ≡ cell.old.tree }
+    ensures here { cell.new.here ≡ cell.old.here }
+{
+    if cell.has_real(making.entity) {
+        return Ok(());
+    }
+    if !space.holds(making.pos) {
+        return Ok(());
+    }
+    cell.add_entity(alloc, making)
+}
+
+// Entities 1 and 2 are made in it, and a round begins.
+fn load(cell: &mut Cell, alloc: Global, space: &Tree) -> Result<(), AllocError>
+    requires tree { cell.old.tree ≡ space.now }
+    requires size { cell.old.here.settings.size ≡ 10000 }
+{
+    make(cell, alloc, avatar(1), space)?;
+    make(cell, alloc, avatar(2), space)?;
+    begin(cell, alloc)
+}
+
+// Cell 0 of two, with entities 1 and 2, which are to settle; entity 1 has a client.
+fn loaded(alloc: Global) -> Result<Cell, AllocError> {
+    let mut cell = empty(alloc, builtin(alloc)?);
+    load(&mut cell, alloc, &Tree::one(10_000))?;
+    cell.attach(alloc, 1)?;
     Ok(cell)
 }
 
@@ -92,6 +135,44 @@ fn play(rt: &impl Abort, alloc: Global, cell: &mut Cell, rows: &[Row]) -> Result
         assert!(rt; seen_in(cell) == then, "after row {number}");
     }
     Ok(())
+}
+
+// Survey task, of each real in rising number: cell 1, which is near, gets copies. Then the client is told of itself and of entity 2.
+const SURVEYS: [Row; 4] = [
+    Row(Fed::Task, &[(1, Told::Set(1, 1, 0))], BUSY),
+    Row(Fed::Task, &[(1, Told::Set(1, 2, 0))], HERE),
+    Row(Fed::Tick, &[], BUSY),
+    Row(
+        Fed::Task,
+        &[(17, Told::Own(1, 0)), (17, Told::Enter(2, 2, 0))],
+        HERE,
+    ),
+];
+
+#[test]
+fn reals_settle_in_rising_number(rt: HostRuntime) -> Result<(), Fail> {
+    let mut cell = loaded(rt.alloc())?;
+    play(&rt, rt.alloc(), &mut cell, &SURVEYS)
+}
+
+// Reap, of the first entity of the survey list: the other one is still to settle, and then nothing is to be done.
+const DUE_REAPS: [Row; 2] = [
+    Row(
+        Fed::Reap(1),
+        &[],
+        Seen {
+            real: false,
+            copy: None,
+            task: true,
+        },
+    ),
+    Row(Fed::Task, &[(1, Told::Set(1, 2, 0))], NONE),
+];
+
+#[test]
+fn a_reaped_entity_does_not_settle(rt: HostRuntime) -> Result<(), Fail> {
+    let mut cell = loaded(rt.alloc())?;
+    play(&rt, rt.alloc(), &mut cell, &DUE_REAPS)
 }
 
 // Hand-over comes: the base nodes are told.

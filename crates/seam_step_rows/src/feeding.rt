@@ -1,7 +1,7 @@
 // What nodes are fed, as plain data.
 ghost use Rattle.std.specs.Prelude.{◌≡◌, true};
 
-use seam_call::{Call, GhostCopy, Sender, Shown, Update};
+use seam_call::{Call, GhostCopy, Order, Sender, Shown, Update};
 use seam_defs::{Args, Deed, Defs, Part, Settings};
 use seam_entity::{Msg, Parcel, Real, Witness};
 use seam_geo::Pos;
@@ -110,7 +110,7 @@ fn leave(e: u32, number: u64) -> Msg {
 }
 
 // The message, or none for the task.
-pub fn message(alloc: Global, fed: Fed) -> Result<Option<Msg>, Fail> {
+fn message(alloc: Global, fed: Fed) -> Result<Option<Msg>, Fail> {
     match fed {
         Fed::Task => Ok(None),
         Fed::Walk(e, number, x) => Ok(Some(walk(e, number, x))),
@@ -126,6 +126,17 @@ pub fn message(alloc: Global, fed: Fed) -> Result<Option<Msg>, Fail> {
         Fed::BaseCall(e, number) => Ok(Some(promote(alloc, e, number)?)),
         Fed::Current(e, cell, generation) => Ok(Some(Msg::Current(e, cell, generation))),
         Fed::Update(e, number) => Ok(Some(leave(e, number))),
+    }
+}
+
+// The order from which that message comes.
+pub fn order(alloc: Global, fed: Fed) -> Result<Order, Fail> {
+    match message(alloc, fed)? {
+        Some(Msg::Call(call)) => Ok(Order::Cell(call)),
+        Some(Msg::BaseCall(call)) => Ok(Order::Base(call)),
+        Some(Msg::Tick) => Ok(Order::Tick),
+        Some(Msg::Reap(e)) => Ok(Order::Reap(e)),
+        _ => Err("no order")?,
     }
 }
 

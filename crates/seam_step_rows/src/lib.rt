@@ -1,6 +1,8 @@
-//! The cases of a cell's step as tests: what it sends and has after each input, with ample memory.
+//! The cases of the steps of cells and base nodes as tests: what a node sends and has after each input, with ample memory.
 #![tactic(auto)]
 
+#[cfg(test)]
+mod bases;
 #[cfg(test)]
 mod cells;
 #[cfg(test)]
