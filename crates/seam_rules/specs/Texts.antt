@@ -2,6 +2,8 @@
 use Rattle.std.specs.Prelude.{ℕ, List, [], ◌∷◌, ◌++◌, length, codes, Option, Some, None}
 use Rattle.std.specs.List.{flat_map, zip, range_with_len}
 use Rattle.seam_value.specs.Values.{decimal_of}
+use Rattle.seam_machine.specs.declared.machines.Event.{Event}
+use Rattle.seam_watch.specs.declared.journal.Journal.{Journal}
 use Rattle.seam_tree.specs.declared.cut.Cut.{Cut}
 use Rattle.seam_tree.specs.Division.{Division}
 use Rattle.seam_defs.specs.Types.{type_of}
@@ -53,11 +55,32 @@ abbrev pub bounds_text : Option Division → List ℕ
 bounds_text None = []
 bounds_text (Some tree) = flat_map bound_text (zip (range_with_len 1 (length tree.cuts)) tree.cuts)
 
--- the text of a round: its lines, in their order
-abbrev pub round_text : List TypeDef → RoundData → List ℕ
-round_text defs r =
-    number_text (codes "round ") r.number
+-- what a node did: its task, or a message that came from another node
+abbrev pub work_text : Option ℕ → List ℕ
+work_text None = codes " task"
+work_text (Some from) = codes " from " ++ decimal_of from
+
+-- a step of a node
+abbrev pub step_text : Event → List ℕ
+step_text e = codes "step " ++ decimal_of e.node ++ work_text e.from ++ 10 ∷ []
+
+-- the steps of a phase, after its number
+abbrev pub phase_text : ℕ → List Event → List ℕ
+phase_text number steps = number_text (codes "phase ") number ++ flat_map step_text steps
+
+-- the steps of a round
+abbrev pub journal_text : Journal → List ℕ
+journal_text j = phase_text 1 j.calls ++ phase_text 2 j.reaps ++ phase_text 3 j.looks
+
+-- the text of a round with that of its steps, which stands after the round's number
+abbrev pub traced_text : (steps : List ℕ) → List TypeDef → RoundData → List ℕ
+traced_text steps defs r =
+    number_text (codes "round ") r.number ++ steps
     ++ flat_map (done_text (codes "did ") defs) r.did ++ flat_map (done_text (codes "dob ") defs) r.dob
     ++ flat_map (home_text defs) r.homes ++ flat_map (base_text defs) r.bases
     ++ flat_map ghost_text r.ghosts ++ flat_map (client_text defs) r.shown ++ bounds_text r.bounds
     ++ number_text (codes "end ") r.number
+
+-- the text of a round: its lines, in their order
+abbrev pub round_text : List TypeDef → RoundData → List ℕ
+round_text defs r = traced_text [] defs r

@@ -1,7 +1,8 @@
 -- What is printed for the lines of an input.
-use Rattle.std.specs.Prelude.{◌≡◌, ◌⊎◌, ℕ, List, [], ◌∷◌, ◌++◌, ◌==◌, MatchBool}
+use Rattle.std.specs.Prelude.{◌≡◌, ◌⊎◌, ℕ, Bool, true, false, Option, None, Some, List, [], ◌∷◌, ◌++◌, ◌==◌, filter_map, MatchBool}
 use Rattle.std.specs.List.{flat_map}
 use Rattle.seam_io.specs.Lines.{Line}
+use Rattle.seam_watch.specs.declared.journal.Journal.{Journal}
 use Rattle.seam_defs.specs.declared.types.TypeDef.{TypeDef}
 use Rattle.seam_toml.specs.declared.header.Header.{Header}
 use Rattle.seam_transcript.specs.Header.{BeginWithHeader, AwaitHeader}
@@ -17,29 +18,42 @@ use Rattle.seam_transcript.specs.declared.limits.TheConstants.{MOST_LINES}
 use Rattle.seam_rules.specs.Standing.{Standing, after_header, with_line, with_book}
 use Rattle.seam_rules.specs.Lines.{RoundData}
 use Rattle.seam_rules.specs.Round.{IsRound}
-use Rattle.seam_rules.specs.Texts.{round_text}
+use Rattle.seam_rules.specs.Texts.{round_text, traced_text, journal_text}
 
--- what is printed at once: the refusal of a line, or a round that ended at a standing
+-- what is printed at once: the refusal of a line, or a round that ended at a standing, with the steps by which it was played
 pub data Piece : Type 0 where
   Refusal : (line : ℕ) → Cause → Piece
-  Ended : Standing → RoundData → Piece
+  Ended : Standing → RoundData → Journal → Piece
 
-abbrev pub piece_text : List TypeDef → Piece → List ℕ
-piece_text defs (Refusal line c) = refusal line c
-piece_text defs (Ended s r) = round_text defs r
+-- the text of a round, with its steps where a trace is asked for
+abbrev pub played_text : (traced : Bool) → List TypeDef → RoundData → Journal → List ℕ
+played_text true defs r j = traced_text (journal_text j) defs r
+played_text false defs r j = round_text defs r
+
+abbrev pub piece_text : (traced : Bool) → List TypeDef → Piece → List ℕ
+piece_text traced defs (Refusal line c) = refusal line c
+piece_text traced defs (Ended s r j) = played_text traced defs r j
 
 -- the text of pieces
-abbrev pub text_of : List TypeDef → List Piece → List ℕ
-text_of defs pieces = flat_map (piece_text defs) pieces
+abbrev pub text_of : (traced : Bool) → List TypeDef → List Piece → List ℕ
+text_of traced defs pieces = flat_map (piece_text traced defs) pieces
 
--- how a round is played: what is asked of it between two standings beside that it is legal, as that steps of nodes lead to it
+abbrev pub journal_of : Piece → Option Journal
+journal_of (Refusal line c) = None
+journal_of (Ended s r j) = Some j
+
+-- the steps of the rounds that ended
+abbrev pub journals_of : List Piece → List Journal
+journals_of pieces = filter_map journal_of pieces
+
+-- how a round is played: what is asked of it and of its steps between two standings beside that it is legal, as that they lead to it
 abbrev pub Play : Type 1
-Play = Header → Standing → RoundData → Standing → Type 0
+Play = Header → Standing → RoundData → Journal → Standing → Type 0
 
 module _ (IsPlayed : Play) where
   -- the open round ends at the standing `s` with a round that is legal and was played; `t` is the standing after it
   abbrev pub EndsRound : Header → Standing → List Piece → Standing → Type 0
-  EndsRound h s pieces t = (r : RoundData) × (pieces ≡ Ended s r ∷ []) × IsRound h s r t × IsPlayed h s r t
+  EndsRound h s pieces t = (r : RoundData) × (j : Journal) × (pieces ≡ Ended s r j ∷ []) × IsRound h s r t × IsPlayed h s r j t
 
   -- a line was accepted, with which the standing is `s`: where the round is full, it ends
   abbrev pub Keeps : Header → Standing → List Piece → Standing → Type 0
@@ -63,12 +77,13 @@ module _ (IsPlayed : Play) where
     pub header : BeginWithHeader lines h count rest
     pub run : Run (Step h) (after_header h count) rest pieces t
 
-  -- an open transcript of the lines read: nothing where they may yet begin a header, and what the lines after it print where they
-  -- have one
-  abbrev pub IsOpen : List Line → List ℕ → Type 0
-  IsOpen lines text =
-      ((text ≡ []) × AwaitHeader lines)
-      ⊎ ((h : Header) × (pieces : List Piece) × (t : Standing) × PrintLines lines h pieces t × (text ≡ text_of h.defs pieces))
+  -- an open transcript of the lines read, with the steps of its rounds: nothing where they may yet begin a header, and what the lines
+  -- after it print where they have one
+  abbrev pub IsOpen : (traced : Bool) → List Line → List ℕ → List Journal → Type 0
+  IsOpen traced lines text steps =
+      ((text ≡ []) × (steps ≡ []) × AwaitHeader lines)
+      ⊎ ((h : Header) × (pieces : List Piece) × (t : Standing) × PrintLines lines h pieces t
+         × (text ≡ text_of traced h.defs pieces) × (steps ≡ journals_of pieces))
 
   -- what is printed at the end of the input: a last round, where a line was accepted since the last one ended
   abbrev pub EndsInput : Header → Standing → List Piece → Type 0
@@ -76,7 +91,7 @@ module _ (IsPlayed : Play) where
       MatchBool (open_lines s.book == 0) (pieces ≡ []) ((t : Standing) × EndsRound h s pieces t)
 
   -- an ended transcript of all lines: what the lines after the header print, and then what is printed at the end
-  abbrev pub IsEnded : List Line → List ℕ → Type 0
-  IsEnded lines text =
+  abbrev pub IsEnded : (traced : Bool) → List Line → List ℕ → List Journal → Type 0
+  IsEnded traced lines text steps =
       (h : Header) × (pieces last : List Piece) × (t : Standing) × PrintLines lines h pieces t × EndsInput h t last
-      × (text ≡ text_of h.defs (pieces ++ last))
+      × (text ≡ text_of traced h.defs (pieces ++ last)) × (steps ≡ journals_of (pieces ++ last))
