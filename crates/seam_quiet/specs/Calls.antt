@@ -1,9 +1,8 @@
 -- The first phase of a round, and where it begins.
 use Rattle.std.specs.Prelude.{◌≡◌}
 use Rattle.seam_machine.specs.Nets.{IsQuiet}
-use Rattle.seam_finish.specs.Finishing.{TakesFirst}
 use Rattle.seam_call.specs.declared.order.Batch.{Batch}
-use Rattle.seam_steps.specs.Nodes.{World, node_steps, node_has_work}
+use Rattle.seam_steps.specs.Nodes.{World, node_has_work}
 use Rattle.seam_steps.specs.Loads.{loaded}
 use Rattle.seam_core.specs.Worlds.{Leads}
 use Rattle.seam_quiet.specs.declared.round.Called.{Called}
@@ -13,10 +12,8 @@ pub record Beginning : Type 0 where
   pub world : World
   pub batch : Batch
 
--- The calls of the batch b ended, from the world w on: its events, each the first that was enabled at its place, left it quiet; and the
--- batch's destroys are yet to die.
+-- The calls of the batch b ended, from the world w on: its events left it quiet, and the batch's destroys are yet to die.
 pub record HasCalled (w : World) (b : Batch) (c : Called) : Type 0 where
   pub leads : Leads (loaded w b) c.events c.world
-  pub first : TakesFirst node_has_work node_steps (loaded w b) c.events
   pub quiet : IsQuiet node_has_work c.world
   pub destroys : c.destroys ≡ b.destroys

@@ -1,11 +1,10 @@
--- A round of a world on one thread.
+-- A round of a world.
 use Rattle.std.specs.Prelude.{◌≡◌, ℕ, ◌-◌, ◌*◌, ◌≤◌, List, length}
 use Rattle.seam_machine.specs.Nets.{IsQuiet}
 use Rattle.seam_machine.specs.declared.machines.Event.{Event}
-use Rattle.seam_finish.specs.Finishing.{TakesFirst}
 use Rattle.seam_call.specs.declared.order.Batch.{Batch}
 use Rattle.seam_entity.specs.Here.{cell_count}
-use Rattle.seam_steps.specs.Nodes.{World, node_steps, node_has_work}
+use Rattle.seam_steps.specs.Nodes.{World, node_has_work}
 use Rattle.seam_steps.specs.Loads.{loaded, reaps_loaded, look_loaded}
 use Rattle.seam_ones.specs.Frames.{Frame}
 use Rattle.seam_copies.specs.Places.{GoesThroughRound}
@@ -23,7 +22,7 @@ pub record MayRun (f : Frame) (clients : ℕ → ClientReplica) (w : World) (b :
   pub given : MayBeGiven f w b
 
 -- The journal stands for the round from w, with the batch b, to v: its events, each enabled at its place, make the three phases, each of
--- which ends quiet; the batch's destroys are reaped, and no others; and each event is the first at its place.
+-- which ends quiet; and the batch's destroys are reaped, and no others.
 pub record StandsFor (w : World) (b : Batch) (j : Journal) (v : World) : Type 0 where
   pub round : GoesThroughRound w b v
   pub quiet : IsQuiet node_has_work v
@@ -31,9 +30,6 @@ pub record StandsFor (w : World) (b : Batch) (j : Journal) (v : World) : Type 0 
   pub calls : round.call_events ≡ j.calls
   pub reaps : round.reap_events ≡ j.reaps
   pub looks : round.look_events ≡ j.looks
-  pub first_calls : TakesFirst node_has_work node_steps (loaded w b) j.calls
-  pub first_reaps : TakesFirst node_has_work node_steps (reaps_loaded round.called b.destroys) j.reaps
-  pub first_looks : TakesFirst node_has_work node_steps (look_loaded round.reaped) j.looks
 
 -- how many base nodes a world has, beside its cells
 abbrev pub bases_of : World → ℕ

@@ -1,10 +1,10 @@
 //! A round, phase by phase.
 
 ghost use Rattle.std.specs.Prelude.{◌≡◌, ℕ, [], IfOk, OnErr};
-ghost use Rattle.seam_machine.specs.Nets.{IsQuiet};
+ghost use Rattle.seam_machine.specs.Nets.{IsQuiet, ArePeers, LeadsTo};
 ghost use Rattle.seam_machine.specs.declared.machines.Event.{Event as AnyEvent};
-ghost use Rattle.seam_finish.specs.Finishing.{EndsWithin, TakesFirst};
-ghost use Rattle.seam_steps.specs.Nodes.{World as AnyWorld, node_steps, node_has_work};
+ghost use Rattle.seam_finish.specs.Finishing.{EndsWithin};
+ghost use Rattle.seam_steps.specs.Nodes.{World as AnyWorld, node_steps, node_has_work, node_peers};
 ghost use Rattle.seam_steps.specs.Loads.{loaded};
 ghost use Rattle.seam_ones.specs.Frames.{Frame};
 ghost use Rattle.seam_rounds.specs.Between.{framed};
@@ -18,34 +18,81 @@ ghost use Rattle.seam_core.specs.Loads.{MayLoad};
 ghost use Rattle.seam_quiet.specs.Rounds.{MayRun, StandsFor, BeginsPhase, IsWithinTable};
 ghost use Rattle.seam_quiet.specs.Calls.{Beginning, HasCalled};
 
+use crate::workers::Workers;
 use seam_call::Batch;
-use seam_core::World;
+use seam_core::{Node, World};
 use seam_defs::Listed;
-use seam_machine::Event;
+use seam_finish::{begin, finish};
+use seam_machine::{Event, Net};
 use seam_watch::Journal;
+use seam_workers::Gate;
 use std::alloc::{AllocError, Global};
+use std::sync::Wait;
+use std::thread::Threads;
 
-/// Lets events of the world happen until it is quiet, each time the first that is enabled, and gives them back in their order.
-///
-/// If allocation fails, nothing is given back.
-pub fn run_phase(alloc: Global, world: World) -> Result<(World, Listed<Event>), AllocError>
+// How many events of a phase happen before workers are called: so many take less time than threads take to start.
+const MOST_ALONE: u32 = 1024;
+
+// Lets events of a net happen: the first of them here, and where more are left by the workers, if they are more than one.
+fn take_events<G: Gate + Sync, R: Threads + Wait + Sync>(
+    rt: &R,
+    alloc: Global,
+    net: Net<Node>,
+    workers: &Workers<G>,
+) -> Result<(Net<Node>, Vec<Event>), AllocError>
+    requires { ArePeers node_peers net }
+    ensures run { IfOk result (λ r. LeadsTo node_has_work node_steps net r.1.items r.0) }
+    ensures peers { IfOk result (λ r. ArePeers node_peers r.0) }
+{
+    let (net, mut events) = begin(alloc, net, MOST_ALONE)?;
+    if net.is_quiet() || workers.are_one() {
+        return Ok((net, events));
+    }
+    let (net, mut theirs) = workers.run(rt, alloc, net)?;
+    events.append(&mut theirs)?;
+    Ok((net, events))
+}
+
+// Lets events of a world that is not quiet happen until it is.
+fn bring_to_rest<G: Gate + Sync, R: Threads + Wait + Sync>(
+    rt: &R,
+    alloc: Global,
+    world: World,
+    workers: &Workers<G>,
+) -> Result<(World, Listed<Event>), AllocError>
     ghost most: { ℕ }
     requires { EndsWithin node_has_work node_steps world most }
     ensures run { IfOk result (λ r. Leads world r.1 r.0) }
-    ensures first { IfOk result (λ r. TakesFirst node_has_work node_steps world r.1) }
+    ensures quiet { IfOk result (λ r. IsQuiet node_has_work r.0) }
+{
+    let (net, mut events) = take_events(rt, alloc, world.apart(), workers)?;
+    let (net, mut last) = finish(alloc, net)?;
+    events.append(&mut last)?;
+    Ok((World::over(net), Listed::of(events)))
+}
+
+/// Lets events of the world happen until it is quiet, and gives them back in their order. Workers take part where there are many.
+///
+/// If allocation fails, nothing is given back.
+pub fn run_phase<G: Gate + Sync, R: Threads + Wait + Sync>(
+    rt: &R,
+    alloc: Global,
+    world: World,
+    workers: &Workers<G>,
+) -> Result<(World, Listed<Event>), AllocError>
+    ghost most: { ℕ }
+    requires { EndsWithin node_has_work node_steps world most }
+    ensures run { IfOk result (λ r. Leads world r.1 r.0) }
     ensures quiet { IfOk result (λ r. IsQuiet node_has_work r.0) }
 
     // A world that is quiet stays as it is, and needs no memory.
     ensures idle { IfOk result (λ r. IsQuiet node_has_work world → (r.0 ≡ world) × (r.1 ≡ [])) }
     ensures still { OnErr result (IsQuiet node_has_work world → ⊥) }
 {
-    let mut net = world.apart();
-    let mut events = Vec::new(alloc);
-    while let Some(event) = net.next_event() {
-        net.step(alloc, event)?;
-        events.push(event)?;
+    if world.net().is_quiet() {
+        return Ok((world, Listed::of(Vec::new(alloc))));
     }
-    Ok((World::over(net), Listed::of(events)))
+    bring_to_rest(rt, alloc, world, workers)
 }
 
 /// A round whose calls have ended.
@@ -71,7 +118,13 @@ pub struct Ended {
 }
 
 // Loads the batch and lets its calls end, by so many events at most.
-fn end_calls(alloc: Global, world: World, batch: Batch) -> Result<Called, AllocError>
+fn end_calls<G: Gate + Sync, R: Threads + Wait + Sync>(
+    rt: &R,
+    alloc: Global,
+    world: World,
+    batch: Batch,
+    workers: &Workers<G>,
+) -> Result<Called, AllocError>
     ghost most: { ℕ }
     requires may { MayLoad world batch }
     requires ends { EndsWithin node_has_work node_steps (loaded world batch) most }
@@ -82,7 +135,7 @@ fn end_calls(alloc: Global, world: World, batch: Batch) -> Result<Called, AllocE
         destroys: Listed::of(Vec::new(alloc)),
         ..batch
     };
-    let (world, events) = run_phase(alloc, world.load(alloc, batch)?)?;
+    let (world, events) = run_phase(rt, alloc, world.load(alloc, batch)?, workers)?;
     Ok(Called {
         world,
         events,
@@ -93,17 +146,28 @@ fn end_calls(alloc: Global, world: World, batch: Batch) -> Result<Called, AllocE
 /// Begins a round of the world: loads the batch, and lets its calls end.
 ///
 /// If allocation fails, nothing is given back.
-pub fn run_calls(alloc: Global, world: World, batch: Batch) -> Result<Called, AllocError>
+pub fn run_calls<G: Gate + Sync, R: Threads + Wait + Sync>(
+    rt: &R,
+    alloc: Global,
+    world: World,
+    batch: Batch,
+    workers: &Workers<G>,
+) -> Result<Called, AllocError>
     requires { (f : Frame) × (clients : ℕ → ClientReplica) × MayRun f clients world batch }
     ensures { IfOk result (HasCalled world batch) }
 {
     seam_core::a_fitting_batch_may_be_loaded();
     seam_phases::each_phase_of_a_round_ends();
-    end_calls(alloc, world, batch)
+    end_calls(rt, alloc, world, batch, workers)
 }
 
 // Reaps the entities that die in the round and lets the witnesses look. A phase that begins in world u has at most `from.1 u` events.
-fn end_phases(alloc: Global, called: Called) -> Result<Ended, AllocError>
+fn end_phases<G: Gate + Sync, R: Threads + Wait + Sync>(
+    rt: &R,
+    alloc: Global,
+    called: Called,
+    workers: &Workers<G>,
+) -> Result<Ended, AllocError>
     ghost from: { Beginning × (AnyWorld → ℕ) }
     requires called { HasCalled from.0.world from.0.batch called }
     requires reapable { AreReapable called.world from.0.batch.destroys }
@@ -116,8 +180,8 @@ fn end_phases(alloc: Global, called: Called) -> Result<Ended, AllocError>
         events,
         destroys,
     } = called;
-    let (world, reaps) = run_phase(alloc, world.load_reaps(destroys.as_slice())?)?;
-    let (world, looks) = run_phase(alloc, world.load_look()?)?;
+    let (world, reaps) = run_phase(rt, alloc, world.load_reaps(destroys.as_slice())?, workers)?;
+    let (world, looks) = run_phase(rt, alloc, world.load_look()?, workers)?;
     let journal = Journal {
         calls: events,
         reaps,
@@ -133,7 +197,12 @@ fn end_phases(alloc: Global, called: Called) -> Result<Ended, AllocError>
 /// Ends a round whose calls have ended: reaps the entities that die in it, and lets the witnesses that are left look.
 ///
 /// The world keeps what it kept between rounds, for the next. If allocation fails, nothing is given back.
-pub fn run_ends(alloc: Global, called: Called) -> Result<Ended, AllocError>
+pub fn run_ends<G: Gate + Sync, R: Threads + Wait + Sync>(
+    rt: &R,
+    alloc: Global,
+    called: Called,
+    workers: &Workers<G>,
+) -> Result<Ended, AllocError>
     ghost from: { Beginning }
     requires may { (f : Frame) × (clients : ℕ → ClientReplica) × MayRun f clients from.world from.batch }
     requires called { HasCalled from.world from.batch called }
@@ -149,11 +218,17 @@ pub fn run_ends(alloc: Global, called: Called) -> Result<Ended, AllocError>
     seam_measure::reaps_end();
     seam_phases::each_phase_of_a_round_ends();
     seam_phases::a_round_keeps_the_records();
-    end_phases(alloc, called)
+    end_phases(rt, alloc, called, workers)
 }
 
 // A whole round, from this world with this batch.
-fn run_both(alloc: Global, world: World, batch: Batch) -> Result<(World, Journal), AllocError>
+fn run_both<G: Gate + Sync, R: Threads + Wait + Sync>(
+    rt: &R,
+    alloc: Global,
+    world: World,
+    batch: Batch,
+    workers: &Workers<G>,
+) -> Result<(World, Journal), AllocError>
     ghost from: { Beginning }
     requires world { world ≡ from.world }
     requires batch { batch ≡ from.batch }
@@ -162,20 +237,25 @@ fn run_both(alloc: Global, world: World, batch: Batch) -> Result<(World, Journal
     ensures records { IfOk result (λ r. (f : Frame) (clients : ℕ → ClientReplica) → MayRun f clients from.world from.batch →
         KeepsRecords (framed f from.batch) (clients_shown (framed f from.batch) (clients_loaded f from.batch clients) r.0) r.0 × IsBounded r.0) }
 {
-    let called = run_calls(alloc, world, batch)?;
-    let Ended { world, journal, .. } = run_ends(alloc, called)?;
+    let called = run_calls(rt, alloc, world, batch, workers)?;
+    let Ended { world, journal, .. } = run_ends(rt, alloc, called, workers)?;
     Ok((world, journal))
 }
 
-/// Runs a round of the world: its calls (`run_calls`), and then its reaps and its looks (`run_ends`). Each phase takes enabled events until
-/// the world is quiet, the lowest node first, its links in rising number before its task; so the same world and batch give the same round.
+/// Runs a round of the world: its calls (`run_calls`), and then its reaps and its looks (`run_ends`).
 ///
 /// The world keeps what it kept between rounds, for the next. If allocation fails, nothing is given back.
-pub fn run_round(alloc: Global, world: World, batch: Batch) -> Result<(World, Journal), AllocError>
+pub fn run_round<G: Gate + Sync, R: Threads + Wait + Sync>(
+    rt: &R,
+    alloc: Global,
+    world: World,
+    batch: Batch,
+    workers: &Workers<G>,
+) -> Result<(World, Journal), AllocError>
     requires { (f : Frame) × (clients : ℕ → ClientReplica) × MayRun f clients world batch }
     ensures run { IfOk result (λ r. (s : StandsFor world batch r.1 r.0) × IsWithinTable world batch r.1 s.round.reaped) }
     ensures records { IfOk result (λ r. (f : Frame) (clients : ℕ → ClientReplica) → MayRun f clients world batch →
         KeepsRecords (framed f batch) (clients_shown (framed f batch) (clients_loaded f batch clients) r.0) r.0 × IsBounded r.0) }
 {
-    run_both(alloc, world, batch)
+    run_both(rt, alloc, world, batch, workers)
 }

@@ -1,5 +1,5 @@
 -- When a run is complete.
-use Rattle.std.proofs.Common.{◌≡◌, ◌≢◌, ◌≤◌, inl, inr, ℕ, List, [], ◌∷◌, ◌++◌, Option, Some, None, map, length, refl, sym, ap, ◌∙◌}
+use Rattle.std.proofs.Common.{◌≡◌, ◌≢◌, ◌≤◌, inl, inr, ℕ, Bool, List, [], ◌∷◌, ◌++◌, Option, Some, None, map, length, refl, sym, ap, ◌∙◌}
 use Rattle.std.proofs.Common.{subst, arith, append_assoc, append-nil, length-append}
 use Rattle.std.specs.Prelude.{All, ◌⊎◌}
 use Rattle.std.specs.Io.KnownBytes.{Consumes, IsAtEnd}
@@ -17,6 +17,7 @@ use Rattle.seam_toml.specs.declared.faults.Fault.{Fault}
 use Rattle.seam_toml.specs.Header.{Reads, Refuses, HasFirstFault, number_of}
 use Rattle.seam_toml.specs.Faults.{HeaderHas}
 use Rattle.seam_transcript.specs.Header.{AreHeaderLines, BeginWithHeader, AwaitHeader, RefusesHeader, separator, text_of_contents}
+use Rattle.seam_watch.specs.Watching.{Told}
 use Rattle.seam_world.specs.Transcripts.{IsOpen, IsEnded}
 use Rattle.seam_transcript.proofs.HeaderLemmas.{text_is_one, end_for_header}
 use Rattle.seam_world.specs.Ends.{AreFirst, IsHeaderFault, RunEnds, MayComplete}
@@ -208,18 +209,18 @@ within_bytes old new bytes given is took =
     let parts = length-append given rest.0 in
     omega (arith, size, parts)
 
-pub is_complete : (st : Status) (old new : SourceState) (sink sink' : SinkState) → RunEnds IsOpen IsEnded st old new sink sink' →
-    MayComplete old new sink sink' → (st ≡ status.Usage → ⊥) → (st ≡ status.WriteFault → Rose sink.faults sink'.faults) →
-    (st ≡ status.Done) ⊎ (st ≡ status.NoMemory)
-is_complete status.Done old new sink sink' ends may usage failed = inl refl
-is_complete status.NoMemory old new sink sink' ends may usage failed = inr refl
-is_complete status.Usage old new sink sink' ends may usage failed = absurd (usage refl)
-is_complete status.ReadFault old new sink sink' ends may usage failed = absurd (may.reads ends.tells.0)
-is_complete status.WriteFault old new sink sink' ends may usage failed = absurd (may.writes (failed refl))
-is_complete status.Limit old new sink sink' ends may usage failed =
+pub is_complete : (traced : Bool) (st : Status) (old new : SourceState) (sink sink' : SinkState) (told told' : Told) →
+    RunEnds (IsOpen traced) (IsEnded traced) st old new sink sink' told told' → MayComplete old new sink sink' →
+    (st ≡ status.Usage → ⊥) → (st ≡ status.WriteFault → Rose sink.faults sink'.faults) → (st ≡ status.Done) ⊎ (st ≡ status.NoMemory)
+is_complete traced status.Done old new sink sink' told told' ends may usage failed = inl refl
+is_complete traced status.NoMemory old new sink sink' told told' ends may usage failed = inr refl
+is_complete traced status.Usage old new sink sink' told told' ends may usage failed = absurd (usage refl)
+is_complete traced status.ReadFault old new sink sink' told told' ends may usage failed = absurd (may.reads ends.tells.0)
+is_complete traced status.WriteFault old new sink sink' told told' ends may usage failed = absurd (may.writes (failed refl))
+is_complete traced status.Limit old new sink sink' told told' ends may usage failed =
     let all = ends.tells.0 in
     let few = may.few in
     let within = within_bytes old new may.bytes ends.given may.left ends.took in
     absurd (omega (arith, all, few, within))
-is_complete (status.BadHeader k) old new sink sink' ends may usage failed =
-    absurd (no_header_fault old new sink sink' ends.given k may ends.took ends.tells.1)
+is_complete traced (status.BadHeader k) old new sink sink' told told' ends may usage failed =
+    absurd (no_header_fault old new sink sink' ends.given k may ends.took ends.tells.2)

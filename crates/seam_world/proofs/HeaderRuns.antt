@@ -1,5 +1,5 @@
 -- How a run reads its header.
-use Rattle.std.proofs.Common.{◌≡◌, ◌≢◌, ◌≤◌, ◌+◌, inl, inr, ℕ, List, [], ◌∷◌, ◌++◌, Option, Some, None, Ok, length, refl, sym, ◌∙◌}
+use Rattle.std.proofs.Common.{◌≡◌, ◌≢◌, ◌≤◌, ◌+◌, inl, inr, ℕ, Bool, List, [], ◌∷◌, ◌++◌, Option, Some, None, Ok, length, refl, sym, ◌∙◌}
 use Rattle.std.proofs.Common.{subst, arith}
 use Rattle.std.proofs.Common.{append-nil, length-append}
 use Rattle.std.proofs.KnownBytes.{Appends-nil}
@@ -7,7 +7,7 @@ use Rattle.std.proofs.lemmas.Option.{same_Some, none-some}
 use Rattle.std.specs.Prelude.{MatchOption}
 use Rattle.std.specs.Io.KnownBytes.{Consumes}
 use Rattle.seam_io.specs.Causes.{Rose}
-use Rattle.seam_io.specs.States.{SourceState, SinkState}
+use Rattle.seam_io.specs.States.{SourceState}
 use Rattle.seam_io.specs.Lines.{Line, Long, whole_lines_of}
 use Rattle.seam_io.specs.Reading.{Reader, Reading, IsExact}
 use Rattle.seam_io.specs.declared.lines.Next.TheVariants as next
@@ -19,10 +19,11 @@ use Rattle.seam_transcript.specs.Header.{AreHeaderLines, BeginWithHeader, AwaitH
 use Rattle.seam_world.specs.Transcripts.{IsOpen, IsEnded}
 use Rattle.seam_transcript.proofs.HeaderLemmas.{await_at_first, long_line_for_header}
 use Rattle.seam_world.specs.Status.{IsHeaderCause, IsHeaderEnd, IsRunEnd, refused_with, refusal_of}
-use Rattle.seam_world.specs.Ends.{Tells, most_bytes}
-use Rattle.seam_world.specs.Histories.{InHeader, HasHeader, HeaderLineRead, Stopped}
+use Rattle.seam_world.specs.Ends.{Tells, most_bytes, the_space}
+use Rattle.seam_world.specs.Histories.{InHeader, HasHeader, HeaderLineRead, StoppedFirst}
 use Rattle.seam_world.specs.declared.status.Status.{Status}
 use Rattle.seam_world.specs.declared.status.Status.TheVariants as status
+use Rattle.seam_watch.proofs.Told.{told_nothing}
 use Rattle.seam_world.proofs.Prefixes.{are_first, within_limit}
 
 header_fails_no_write : (st : Status) → IsHeaderEnd st → st ≡ status.WriteFault → ⊥
@@ -44,31 +45,34 @@ header_may_end status.Limit h = tt
 header_may_end status.NoMemory h = tt
 
 -- the run ended within the header
-header_stopped : (began now : SourceState) (sink : SinkState) (st : Status) (given : List ℕ) → Consumes began.left now.left given →
+header_stopped : (began now : SourceState) (st : Status) (given : List ℕ) → Consumes began.left now.left given →
     length given ≤ most_bytes
-    → Tells IsOpen IsEnded st began now given [] → IsHeaderEnd st → Stopped st began now sink sink
-header_stopped began now sink st given took most tells end = record {
+    → ((traced : Bool) → Tells (IsOpen traced) (IsEnded traced) st began now given [] []) → IsHeaderEnd st → StoppedFirst st began now
+header_stopped began now st given took most tells end = λ traced sink told. record {
   given = given;
   text = [];
+  steps = [];
   took = took;
   most = most;
   writing = Appends-nil sink.written;
   later = omega arith;
   failed = λ e. absurd (header_fails_no_write st end e);
   allowed = header_may_end st end;
-  tells = tells;
+  tells = tells traced;
+  watched = told_nothing the_space told;
 }
 
 -- an allocation failed before a line was judged
-pub nothing_judged : (began now : SourceState) (sink : SinkState) (given : List ℕ) → Consumes began.left now.left given →
-    length given ≤ most_bytes → Stopped status.NoMemory began now sink sink
-nothing_judged began now sink given took most =
-    header_stopped began now sink status.NoMemory given took most ([], inl (whole_lines_of given, refl), inl (refl, await_at_first))
-    tt
+pub nothing_judged : (began now : SourceState) (given : List ℕ) → Consumes began.left now.left given → length given ≤ most_bytes →
+    StoppedFirst status.NoMemory began now
+nothing_judged began now given took most =
+    header_stopped began now status.NoMemory given took most
+    (λ traced. ([], inl (whole_lines_of given, refl), inl (refl, refl, await_at_first))) tt
 
 -- nothing was printed for the lines of a header
-nothing_open : (given : List ℕ) (read : List Line) → whole_lines_of given ≡ read → AwaitHeader read → IsOpen (whole_lines_of given) []
-nothing_open given read whole awaits = inl (refl, subst AwaitHeader (sym whole) awaits)
+nothing_open : (given : List ℕ) (read : List Line) → whole_lines_of given ≡ read → AwaitHeader read → (traced : Bool) →
+    IsOpen traced (whole_lines_of given) [] []
+nothing_open given read whole awaits traced = inl (refl, refl, subst AwaitHeader (sym whole) awaits)
 
 numbered : (n k : ℕ) → IsHeaderCause n → Some n ≡ Some k → IsHeaderCause k
 numbered n k is same = subst IsHeaderCause (same_Some n k same) is
@@ -95,22 +99,22 @@ pub header_begins : (began now : SourceState) (reader : Reader) → Reading bega
 header_begins began now reader reading limit are = record { given = []; are = are; reading = reading; limit = limit }
 
 -- an allocation failed within the header
-pub header_unread : (began now : SourceState) (sink : SinkState) (reader : Reader) (text : List ℕ) (read : List Line) →
-    InHeader began now reader text read → Stopped status.NoMemory began now sink sink
-header_unread began now sink reader text read was =
-    nothing_judged began now sink was.given was.reading.took (within_limit was.reading was.limit)
+pub header_unread : (began now : SourceState) (reader : Reader) (text : List ℕ) (read : List Line) →
+    InHeader began now reader text read → StoppedFirst status.NoMemory began now
+header_unread began now reader text read was =
+    nothing_judged began now was.given was.reading.took (within_limit was.reading was.limit)
 
 -- an allocation failed after the header
-pub header_alone : (began now : SourceState) (sink : SinkState) (reader : Reader) (h : Header) (count : ℕ) →
-    HasHeader began now reader h count → Stopped status.NoMemory began now sink sink
-header_alone began now sink reader h count has =
-    nothing_judged began now sink has.given has.reading.took (within_limit has.reading has.limit)
+pub header_alone : (began now : SourceState) (reader : Reader) (h : Header) (count : ℕ) → HasHeader began now reader h count →
+    StoppedFirst status.NoMemory began now
+header_alone began now reader h count has =
+    nothing_judged began now has.given has.reading.took (within_limit has.reading has.limit)
 
 -- one more line was counted
 pub counted_line : (m n : ℕ) (read : List Line) (line : Line) → n ≡ m + 1 → m ≡ length read → n ≡ length (read ++ line ∷ [])
 counted_line m n read line more count = let all = length-append read (line ∷ []) in omega (arith, more, count, all)
 
-module _ (began now later : SourceState) (sink : SinkState) (reader after : Reader) (text : List ℕ) (read : List Line)
+module _ (began now later : SourceState) (reader after : Reader) (text : List ℕ) (read : List Line)
     (was : InHeader began now reader text read) (got : List ℕ) (limit : after.limit ≡ most_bytes) where
   -- the header goes on
   pub header_goes_on : (line : Line) (next : List ℕ) → Reading began later after (was.given ++ got) (read ++ line ∷ []) →
@@ -125,58 +129,58 @@ module _ (began now later : SourceState) (sink : SinkState) (reader after : Read
 
   -- it was refused at the line
   pub header_refused : (line : Line) (k : ℕ) → Reading began later after (was.given ++ got) (read ++ line ∷ []) → IsHeaderCause k →
-      RefusesHeader read line k → Stopped (status.BadHeader k) began later sink sink
+      RefusesHeader read line k → StoppedFirst (status.BadHeader k) began later
   header_refused line k r cause refusal =
       let first = are_first began later after (was.given ++ got) (read ++ line ∷ []) []
       (subst (Reading began later after (was.given ++ got)) (sym (append-nil (read ++ line ∷ []))) r) in
-      header_stopped began later sink (status.BadHeader k) (was.given ++ got) r.took (within_limit r limit)
-      (refl, inr (read, line, first, refusal)) cause
+      header_stopped began later (status.BadHeader k) (was.given ++ got) r.took (within_limit r limit)
+      (λ traced. (refl, refl, inr (read, line, first, refusal))) cause
 
   -- by a line that is too long
-  pub long_header : Reading began later after (was.given ++ got) (read ++ Long ∷ []) → Stopped (status.BadHeader 9) began later sink sink
+  pub long_header : Reading began later after (was.given ++ got) (read ++ Long ∷ []) → StoppedFirst (status.BadHeader 9) began later
   long_header r =
       header_refused Long 9 r (omega arith, omega arith) (inl (refl, long_is_no_end, (text, was.are), long_line_for_header read))
 
   -- the input ended before it did
   pub header_without_end : Reading began later after (was.given ++ got) (read ++ []) → IsExact next.End after (was.given ++ got) read →
-      Stopped (status.BadHeader 10) began later sink sink
+      StoppedFirst (status.BadHeader 10) began later
   header_without_end r exact =
       let end = exact.ended.0 refl in
       let at = r.ended end.0 in
-      header_stopped began later sink (status.BadHeader 10) (was.given ++ got) r.took (within_limit r limit)
-      (refl, inl (refl, read, (at.1, at.0, end.1), (text, was.are))) (omega arith, omega arith)
+      header_stopped began later (status.BadHeader 10) (was.given ++ got) r.took (within_limit r limit)
+      (λ traced. (refl, refl, inl (refl, read, (at.1, at.0, end.1), (text, was.are)))) (omega arith, omega arith)
 
   pub header_read_fault : Reading began later after (was.given ++ got) (read ++ []) → IsExact next.ReadFault after (was.given ++ got) read →
-      Rose now.faults later.faults → Stopped status.ReadFault began later sink sink
+      Rose now.faults later.faults → StoppedFirst status.ReadFault began later
   header_read_fault r exact rose =
       let here = exact.fault refl in
       let low = here.1 in
       let count = r.count in
-      header_stopped began later sink status.ReadFault (was.given ++ got) r.took (within_limit r limit)
-      ((let l = was.reading.faults in omega arith), omega arith, nothing_open (was.given ++ got) read here.2 (text, was.are)) tt
+      header_stopped began later status.ReadFault (was.given ++ got) r.took (within_limit r limit)
+      (λ traced. ((let l = was.reading.faults in omega arith), omega arith, nothing_open (was.given ++ got) read here.2 (text, was.are) traced)) tt
 
   pub header_limit : Reading began later after (was.given ++ got) (read ++ []) → IsExact next.Limit after (was.given ++ got) read →
-      Stopped status.Limit began later sink sink
+      StoppedFirst status.Limit began later
   header_limit r exact =
       let here = exact.full.0 refl in
-      header_stopped began later sink status.Limit (was.given ++ got) r.took (within_limit r limit)
-      (sym r.count ∙ here.0 ∙ limit, nothing_open (was.given ++ got) read here.1 (text, was.are)) tt
+      header_stopped began later status.Limit (was.given ++ got) r.took (within_limit r limit)
+      (λ traced. (sym r.count ∙ here.0 ∙ limit, nothing_open (was.given ++ got) read here.1 (text, was.are) traced)) tt
 
   pub header_no_memory : (line : Line) → Reading began later after (was.given ++ got) (read ++ line ∷ []) →
-      Stopped status.NoMemory began later sink sink
-  header_no_memory line r = nothing_judged began later sink (was.given ++ got) r.took (within_limit r limit)
+      StoppedFirst status.NoMemory began later
+  header_no_memory line r = nothing_judged began later (was.given ++ got) r.took (within_limit r limit)
 
   -- what came of a line
   pub header_line_read : (line : Line) → Reading began later after (was.given ++ got) (read ++ line ∷ []) → (next : List ℕ)
       (found : Option Header) → MatchOption found (AreHeaderLines (read ++ line ∷ []) next)
-      (λ h. BeginWithHeader (read ++ line ∷ []) h (length read + 1) []) → HeaderLineRead began later after next sink read (Ok found)
+      (λ h. BeginWithHeader (read ++ line ∷ []) h (length read + 1) []) → HeaderLineRead began later after next read (Ok found)
   header_line_read line r next None are = (line, header_goes_on line next r are)
   header_line_read line r next (Some h) begins = header_ends line h r begins
 
   pub header_line_refused : (line : Line) → Reading began later after (was.given ++ got) (read ++ line ∷ []) → (e : HeaderError) →
-      ((k : ℕ) → number_of e ≡ Some k → RefusesHeader read line k) → Stopped (refusal_of e) began later sink sink
+      ((k : ℕ) → number_of e ≡ Some k → RefusesHeader read line k) → StoppedFirst (refusal_of e) began later
   header_line_refused line r e refuses = cases (number_of e) refl
     where
-      cases : (o : Option ℕ) → number_of e ≡ o → Stopped (refused_with o) began later sink sink
+      cases : (o : Option ℕ) → number_of e ≡ o → StoppedFirst (refused_with o) began later
       cases None is = header_no_memory line r
       cases (Some k) is = header_refused line k r (number_is_cause e k is) (refuses k is)

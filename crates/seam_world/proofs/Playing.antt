@@ -1,5 +1,5 @@
 -- A round that is being played: what it leaves, once its phases have ended.
-use Rattle.std.proofs.Common.{◌≡◌, List, subst}
+use Rattle.std.proofs.Common.{◌≡◌, List, sym, subst}
 use Rattle.seam_call.specs.declared.create.Create.{Create}
 use Rattle.seam_call.specs.declared.order.Batch.{Batch}
 use Rattle.seam_tree.specs.Division.{Division}
@@ -13,11 +13,14 @@ use Rattle.seam_rules.specs.Standing.{Standing}
 use Rattle.seam_played.specs.Beside.{StandsBeside}
 use Rattle.seam_played.specs.Playing.{IsPlayed}
 use Rattle.seam_quiet.specs.Rounds.{StandsFor}
+use Rattle.seam_world.specs.Transcripts.{HasSteps}
 
--- the phases of the round of the batch that a standing's open lines bring make a played round, whose calls ended in the world u
+-- the phases of the round of the batch that a standing's open lines bring make a played round, whose calls ended in the world u, and whose
+-- steps the journal has
 pub played_so : (h : Header) (s : Standing) (tree : Division) (w v u : World) (given : Batch) (j : Journal) → StandsBeside h s tree w →
     given ≡ batch_of h s.book → (x : StandsFor w given j v) × (x.round.called ≡ u) → (made live : List Create) →
-    Lists (created_as s.book) made → Lists (live_as s.book) live → (p : IsPlayed h s tree w v) × (p.round.called ≡ u)
+    Lists (created_as s.book) made → Lists (live_as s.book) live →
+    (p : IsPlayed h s tree w v) × (p.round.called ≡ u) × HasSteps p.round j
 played_so h s tree w v u given j beside is stood made live made_listed live_listed =
     let x = subst (λ b. (x : StandsFor w b j v) × (x.round.called ≡ u)) is stood in (
       record {
@@ -30,4 +33,5 @@ played_so h s tree w v u given j beside is stood made live made_listed live_list
         live_listed = live_listed;
       },
       x.1,
+      record { calls = sym x.0.calls; reaps = sym x.0.reaps; looks = sym x.0.looks },
     )

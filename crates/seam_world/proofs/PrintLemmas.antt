@@ -1,5 +1,5 @@
 -- What was printed, as pieces are gathered and written.
-use Rattle.std.proofs.Common.{◌≡◌, ℕ, ◌<◌, ◌≤◌, inl, inr, List, [], ◌∷◌, ◌++◌, Option, None, Some, length, take, sym, ap, ◌∙◌, subst}
+use Rattle.std.proofs.Common.{◌≡◌, ℕ, ◌<◌, ◌≤◌, inl, inr, List, [], ◌∷◌, ◌++◌, Option, None, Some, length, take, refl, sym, ap, ◌∙◌, subst}
 use Rattle.std.proofs.Common.{arith, append_assoc, append-nil}
 use Rattle.std.specs.Prelude.{Result, Ok, Err, OnOk, MatchResult}
 use Rattle.std.proofs.KnownBytes.{Appends-trans, Appends-nil}
@@ -7,7 +7,10 @@ use Rattle.std.specs.Io.KnownBytes.{Appends}
 use Rattle.seam_io.specs.Causes.{Rose}
 use Rattle.seam_io.specs.States.{SinkState}
 use Rattle.seam_io.specs.declared.source.Failed.{Failed}
-use Rattle.seam_world.specs.Printing.{Printed, FailedWithin, StopsBy, Prints}
+use Rattle.seam_watch.specs.Watching.{Told, after_all}
+use Rattle.seam_watch.specs.declared.journal.Journal.{Journal}
+use Rattle.seam_world.specs.Ends.{the_space}
+use Rattle.seam_world.specs.Printing.{Printed, FailedWithin, StopsBy, Prints, IsPrinted}
 use Rattle.seam_world.specs.declared.status.Status.{Status}
 use Rattle.seam_world.specs.declared.status.Status.TheVariants as status
 use Rattle.seam_world.proofs.Prefixes.{taken_is_proper}
@@ -79,24 +82,36 @@ failed_before_piece sink now text piece f = record {
 pub cleared_first : (items grown cleared text : List ℕ) → items ≡ grown → grown ≡ cleared ++ text → cleared ≡ [] → items ≡ text
 cleared_first items grown cleared text same appended none = same ∙ appended ∙ ap (λ (xs : List ℕ). xs ++ text) none
 
--- a piece with the property was printed
-pub gathered_prints : (P : List ℕ → Type 0) (piece : List ℕ) (sink now : SinkState) (pending text : List ℕ) (result : Option Status) →
-    P piece → Prints (λ printed. printed ≡ piece) sink now pending text result → Prints P sink now pending text result
-gathered_prints P piece sink now pending text None p printed = (printed.0, subst P (sym printed.1) p, printed.2)
-gathered_prints P piece sink now pending text (Some status.NoMemory) p printed = printed
-gathered_prints P piece sink now pending text (Some status.WriteFault) p (inl failed) = inl failed
-gathered_prints P piece sink now pending text (Some status.WriteFault) p (inr printed) =
-    inr (printed.0, subst P (sym printed.1) p, printed.2)
-gathered_prints P piece sink now pending text (Some status.Done) p printed = absurd printed
-gathered_prints P piece sink now pending text (Some status.Usage) p printed = absurd printed
-gathered_prints P piece sink now pending text (Some (status.BadHeader k)) p printed = absurd printed
-gathered_prints P piece sink now pending text (Some status.ReadFault) p printed = absurd printed
-gathered_prints P piece sink now pending text (Some status.Limit) p printed = absurd printed
+-- a piece and steps with the property were printed and told
+pub gathered_prints : (P : List ℕ → List Journal → Type 0) (piece : List ℕ) (steps : List Journal) (sink now : SinkState)
+    (pending text : List ℕ) (told told' : Told) (result : Option Status) → P piece steps →
+    Prints (λ printed given. (printed ≡ piece) × (given ≡ steps)) sink now pending text told told' result →
+    Prints P sink now pending text told told' result
+gathered_prints P piece steps sink now pending text told told' None p (printed, given, is, rest) =
+    (printed, given, subst (λ xs. P xs given) (sym is.0) (subst (P piece) (sym is.1) p), rest)
+gathered_prints P piece steps sink now pending text told told' (Some status.NoMemory) p printed = printed
+gathered_prints P piece steps sink now pending text told told' (Some status.WriteFault) p (inl failed) = inl failed
+gathered_prints P piece steps sink now pending text told told' (Some status.WriteFault) p (inr (printed, given, is, rest)) =
+    inr (printed, given, subst (λ xs. P xs given) (sym is.0) (subst (P piece) (sym is.1) p), rest)
+gathered_prints P piece steps sink now pending text told told' (Some status.Done) p printed = absurd printed
+gathered_prints P piece steps sink now pending text told told' (Some status.Usage) p printed = absurd printed
+gathered_prints P piece steps sink now pending text told told' (Some (status.BadHeader k)) p printed = absurd printed
+gathered_prints P piece steps sink now pending text told told' (Some status.ReadFault) p printed = absurd printed
+gathered_prints P piece steps sink now pending text told told' (Some status.Limit) p printed = absurd printed
+
+-- a piece was printed after the watch was told steps
+pub told_prints : (piece : List ℕ) (steps : List Journal) (sink now : SinkState) (pending text : List ℕ) (told told' : Told)
+    (result : Option Status) → told' ≡ after_all the_space steps told → IsPrinted piece sink now pending text result →
+    Prints (λ printed given. (printed ≡ piece) × (given ≡ steps)) sink now pending text told told' result
+told_prints piece steps sink now pending text told told' None is printed = (piece, steps, (refl, refl), printed, is)
+told_prints piece steps sink now pending text told told' (Some st) is (failed, within) =
+    subst (λ (s : Status). Prints (λ printed given. (printed ≡ piece) × (given ≡ steps)) sink now pending text told told' (Some s))
+    (sym failed) (inr (piece, steps, (refl, refl), within, is))
 
 -- nothing was printed, since an allocation failed
-pub nothing_prints : (P : List ℕ → Type 0) (sink now : SinkState) (pending text : List ℕ) (result : Status) →
-    StopsBy status.NoMemory sink now text result → Prints P sink now pending text (Some result)
-nothing_prints P sink now pending text result (inl s) =
-    subst (λ (st : Status). Prints P sink now pending text (Some st)) (sym s.0) s.1
-nothing_prints P sink now pending text result (inr s) =
-    subst (λ (st : Status). Prints P sink now pending text (Some st)) (sym s.0) (inl s.1)
+pub nothing_prints : (P : List ℕ → List Journal → Type 0) (sink now : SinkState) (pending text : List ℕ) (told told' : Told)
+    (result : Status) → told' ≡ told → StopsBy status.NoMemory sink now text result → Prints P sink now pending text told told' (Some result)
+nothing_prints P sink now pending text told told' result same (inl s) =
+    subst (λ (st : Status). Prints P sink now pending text told told' (Some st)) (sym s.0) (s.1, same)
+nothing_prints P sink now pending text told told' result same (inr s) =
+    subst (λ (st : Status). Prints P sink now pending text told told' (Some st)) (sym s.0) (inl (s.1, same))

@@ -3,6 +3,7 @@ use Rattle.std.proofs.Common.{◌≡◌, ℕ, ◌+◌, ◌<◌, Bool, true, fals
 use Rattle.std.specs.Prelude.{IsTrue, IsFalse}
 use Rattle.seam_geo.specs.declared.pos.Pos.{Pos}
 use Rattle.seam_tree.specs.Division.{Division, IsTree}
+use Rattle.seam_watch.specs.declared.journal.Journal.{Journal}
 use Rattle.seam_balance.specs.Balance.{IsBalanced, HasSameCuts}
 use Rattle.seam_steps.specs.Nodes.{World}
 use Rattle.seam_toml.specs.declared.header.Header.{Header}
@@ -14,16 +15,16 @@ use Rattle.seam_batches.specs.Books.{as_begun}
 use Rattle.seam_rules.specs.Lines.{RoundData}
 use Rattle.seam_rules.specs.Round.{IsRound}
 use Rattle.seam_rules.specs.Standing.{Standing}
-use Rattle.seam_rules.specs.Texts.{round_text}
+use Rattle.seam_rules.specs.Transcript.{played_text}
 use Rattle.seam_played.specs.Playing.{IsPlayed, data_of, standing_of}
 use Rattle.seam_course.specs.Course.{GoesOn}
 use Rattle.seam_course.specs.OneReal.{HasOneReal}
 use Rattle.seam_course.specs.Radius.{ClientsSeeAll}
 use Rattle.seam_print.specs.Residents.{AreResidents}
 use Rattle.seam_print.specs.declared.residents.Resident.{Resident}
-use Rattle.seam_world.specs.Transcripts.{Plays}
+use Rattle.seam_world.specs.Transcripts.{Plays, HasSteps}
 use Rattle.seam_world.specs.Transcripts.IsWorldOf.{plays}
-use Rattle.seam_world.specs.Rounds.{IsBalancedBy, HasPlayed, with_bounds}
+use Rattle.seam_world.specs.Rounds.{IsBalancedBy, HasPlayed}
 use Rattle.seam_world.specs.Script.{IsReady, ScriptRefines}
 use Rattle.seam_world.specs.Following.{RoundEnds}
 use Rattle.seam_world.specs.declared.round.Played.{Played}
@@ -57,10 +58,11 @@ module _ (h : Header) (t : Standing) (tree : Division) (w v : World) (p : IsPlay
   right_by true is kept balanced bounds by = subst IsRight (sym by.1) (balanced is by.0 by.3 by.4 by.2)
   right_by false is kept balanced bounds by = subst IsRight (sym by) (kept is)
 
-  pub plays_so : (bounds : Option Division) → Plays h t w v (printed bounds) (next bounds)
-  plays_so bounds = record {
+  pub plays_so : (j : Journal) → HasSteps p.round j → (bounds : Option Division) → Plays h t w v (printed bounds) j (next bounds)
+  plays_so j steps bounds = record {
     round = p.round;
     ended = p.ended;
+    steps = steps;
     made = p.made;
     made_listed = p.made_listed;
     live = p.live;
@@ -71,8 +73,8 @@ module _ (h : Header) (t : Standing) (tree : Division) (w v : World) (p : IsPlay
 
 -- ---- the script after it
 
-module _ (h : Header) (t : Standing) (old new : Script) (ready : IsReady h t old) (left : Played) (residents : List Resident)
-    (before text : List ℕ) (has : HasPlayed h t ready.has.tree ready.has.world left residents before text) where
+module _ (traced : Bool) (h : Header) (t : Standing) (old new : Script) (ready : IsReady h t old) (left : Played)
+    (residents : List Resident) (before text : List ℕ) (has : HasPlayed traced h t ready.has.tree ready.has.world left residents before text) where
   abbrev p : IsPlayed h t ready.has.tree ready.has.world left.world
   p = has.played
 
@@ -87,12 +89,13 @@ module _ (h : Header) (t : Standing) (old new : Script) (ready : IsReady h t old
       HasOneReal h t ready.has.world left.world p.round → ((r : RoundData) (u : Standing) → ClientsSeeAll h t r u) →
       new.header ≡ old.header → new.world ≡ Some left.world → new.residents ≡ residents → new.line ≡ old.line →
       new.round ≡ old.round + 1 → HoldsBook All h after.book new.book →
-      RoundEnds h t (λ s. ScriptRefines h s new) (round_text h.defs (printed h t ready.has.tree ready.has.world left.world p left.bounds))
+      RoundEnds traced h t (λ s. ScriptRefines h s new)
+      (played_text traced h.defs (printed h t ready.has.tree ready.has.world left.world p left.bounds) left.journal) left.journal
   unfolding plays_so
   round_ended kept balanced one_real sees_all header world live line round book =
       let right =
       right_by h t ready.has.tree ready.has.world left.world p (has_balance t.book) refl kept balanced left.bounds has.bounds in
-      let so = plays_so h t ready.has.tree ready.has.world left.world p left.bounds in
+      let so = plays_so h t ready.has.tree ready.has.world left.world p left.journal has.steps left.bounds in
       record {
         round = printed h t ready.has.tree ready.has.world left.world p left.bounds;
         next = after;
@@ -111,7 +114,7 @@ module _ (h : Header) (t : Standing) (old new : Script) (ready : IsReady h t old
             header = header ∙ ready.has.header;
             world = left.world;
             is = world;
-            of_standing = plays t after ready.has.world left.world _ ready.has.of_standing so;
+            of_standing = plays t after ready.has.world left.world _ left.journal ready.has.of_standing so;
             tree = tree_of t.book;
             goes_on = right.1;
             residents =

@@ -1,9 +1,10 @@
 -- How a run goes on, and how it stops.
-use Rattle.std.proofs.Common.{◌≡◌, inl, inr, ℕ, ◌≤◌, List, [], ◌∷◌, ◌++◌, Option, None, Some, refl, sym}
+use Rattle.std.proofs.Common.{◌≡◌, inl, inr, ℕ, ◌≤◌, Bool, List, [], ◌∷◌, ◌++◌, Option, None, Some, refl, sym}
 use Rattle.std.proofs.Common.{ap, ◌∙◌, subst, arith, append-nil}
-use Rattle.std.proofs.KnownBytes.{Appends-trans}
+use Rattle.std.proofs.KnownBytes.{Appends-trans, Consumes-nil}
 use Rattle.std.proofs.lemmas.List.Concat.{flat_map-append}
-use Rattle.std.specs.Prelude.{MatchOption}
+use Rattle.std.proofs.lemmas.List.Elements.{filter_map-append}
+use Rattle.std.specs.Prelude.{MatchOption, ◌⊎◌}
 use Rattle.std.specs.Io.KnownBytes.{Appends}
 use Rattle.seam_io.specs.Causes.{Rose}
 use Rattle.seam_io.specs.States.{SourceState, SinkState}
@@ -12,14 +13,17 @@ use Rattle.seam_io.specs.Reading.{Reader, Reading, IsExact}
 use Rattle.seam_io.specs.declared.lines.Next.TheVariants as next
 use Rattle.seam_toml.specs.declared.header.Header.{Header}
 use Rattle.seam_rules.specs.Standing.{after_header}
-use Rattle.seam_rules.specs.Transcript.{Piece, text_of, piece_text}
+use Rattle.seam_rules.specs.Transcript.{Piece, text_of, piece_text, journals_of, journal_of}
 use Rattle.seam_transcript.proofs.RunLemmas.{run_with_line}
 use Rattle.seam_transcript.proofs.HeaderLemmas.{header_of_append}
 use Rattle.seam_world.specs.Transcripts.{Step, PrintLines, IsOpen, IsEnded}
 use Rattle.seam_world.specs.Following.{LineRead, InputEnded}
 use Rattle.seam_world.specs.Script.{ScriptRefines}
 use Rattle.seam_world.specs.Status.{IsRunEnd}
-use Rattle.seam_world.specs.Ends.{AreAll, IsSoFar, Tells, HasFaultLine, RunEnds, most_bytes}
+use Rattle.seam_watch.specs.Watching.{Told, after_all}
+use Rattle.seam_watch.specs.declared.journal.Journal.{Journal}
+use Rattle.seam_watch.proofs.Told.{told_nothing, told_more}
+use Rattle.seam_world.specs.Ends.{AreAll, IsSoFar, Tells, HasFaultLine, RunEnds, most_bytes, the_space}
 use Rattle.seam_world.specs.Histories.{HasHeader, Going, Stopped}
 use Rattle.seam_world.specs.Printing.{Printed, FailedWithin, StopsBy, Prints}
 use Rattle.seam_world.specs.declared.script.Script.{Script}
@@ -27,14 +31,18 @@ use Rattle.seam_world.specs.declared.status.Status.{Status}
 use Rattle.seam_world.specs.declared.status.Status.TheVariants as status
 use Rattle.seam_world.proofs.Prefixes.{are_first, within_limit}
 use Rattle.seam_world.proofs.PrintLemmas.{nothing_printed}
+use Rattle.seam_world.proofs.HeaderRuns.{nothing_judged}
 
 -- all of a text was written
-all_written : (began later : SourceState) (after : Reader) (sink is : SinkState) (st : Status) (given : List ℕ) (read : List Line)
-    (text : List ℕ) → Reading began later after given read → after.limit ≡ most_bytes → Printed sink is [] text
-    → (st ≡ status.WriteFault → ⊥) → IsRunEnd st → Tells IsOpen IsEnded st began later given text → Stopped st began later sink is
-all_written began later after sink is st given read text r most p other allowed tells = record {
+all_written : (traced : Bool) (began later : SourceState) (after : Reader) (sink is : SinkState) (told told' : Told) (st : Status)
+    (given : List ℕ) (read : List Line) (text : List ℕ) (steps : List Journal) → Reading began later after given read →
+    after.limit ≡ most_bytes → Printed sink is [] text → told' ≡ after_all the_space steps told → (st ≡ status.WriteFault → ⊥) →
+    IsRunEnd st → Tells (IsOpen traced) (IsEnded traced) st began later given text steps →
+    Stopped traced st began later sink is told told'
+all_written traced began later after sink is told told' st given read text steps r most p watched other allowed tells = record {
   given = given;
   text = text;
+  steps = steps;
   took = r.took;
   most = within_limit r most;
   writing = subst (Appends sink.written is.written) (sym (p.whole ∙ append-nil p.wrote)) p.writing;
@@ -42,15 +50,18 @@ all_written began later after sink is st given read text r most p other allowed 
   failed = λ e. absurd (other e);
   allowed = allowed;
   tells = tells;
+  watched = watched;
 }
 
 -- the sink failed within a text
-sink_failed : (began later : SourceState) (after : Reader) (sink is : SinkState) (given : List ℕ) (read : List Line) (text : List ℕ) →
-    Reading began later after given read → after.limit ≡ most_bytes → FailedWithin sink is text
-    → IsSoFar IsOpen IsEnded began later given text → Stopped status.WriteFault began later sink is
-sink_failed began later after sink is given read text r most f transcript = record {
+sink_failed : (traced : Bool) (began later : SourceState) (after : Reader) (sink is : SinkState) (told told' : Told) (given : List ℕ)
+    (read : List Line) (text : List ℕ) (steps : List Journal) → Reading began later after given read → after.limit ≡ most_bytes →
+    FailedWithin sink is text → told' ≡ after_all the_space steps told →
+    IsSoFar (IsOpen traced) (IsEnded traced) began later given text steps → Stopped traced status.WriteFault began later sink is told told'
+sink_failed traced began later after sink is told told' given read text steps r most f watched transcript = record {
   given = given;
   text = f.prefix;
+  steps = steps;
   took = r.took;
   most = within_limit r most;
   writing = f.writing;
@@ -58,16 +69,20 @@ sink_failed began later after sink is given read text r most f transcript = reco
   failed = λ e. f.rose;
   allowed = tt;
   tells = (text, f.proper, transcript);
+  watched = watched;
 }
 
 -- the source and the sink after a call, and what is pending then
-module _ (began : SourceState) (sink : SinkState) (now : SourceState) (reader : Reader) (was is : SinkState) (pending : List ℕ)
-    (script : Script) (g : Going began now reader sink was pending script) where
+module _ (traced : Bool) (began : SourceState) (sink : SinkState) (told : Told) (now : SourceState) (reader : Reader) (was is : SinkState)
+    (had : Told) (pending : List ℕ) (script : Script) (g : Going traced began now reader sink was told had pending script) where
   abbrev text : List ℕ
-  text = text_of g.header.defs g.pieces
+  text = text_of traced g.header.defs g.pieces
+
+  abbrev steps : List Journal
+  steps = journals_of g.pieces
 
   -- what was printed until then was written as far as may be
-  pub with_printed : (pending' : List ℕ) → Printed sink is pending' text → Going began now reader sink is pending' script
+  pub with_printed : (pending' : List ℕ) → Printed sink is pending' text → Going traced began now reader sink is told had pending' script
   with_printed pending' p = record {
     header = g.header;
     count = g.count;
@@ -80,6 +95,7 @@ module _ (began : SourceState) (sink : SinkState) (now : SourceState) (reader : 
     reading = g.reading;
     limit = g.limit;
     printed = p;
+    watched = g.watched;
     run = g.run;
     refines = g.refines;
   }
@@ -87,12 +103,13 @@ module _ (began : SourceState) (sink : SinkState) (now : SourceState) (reader : 
   so_far : PrintLines g.read g.header g.pieces g.standing
   so_far = record { count = g.count; rest = g.rest; header = g.begins; run = g.run }
 
-  open_so_far : IsOpen g.read text
-  open_so_far = inr (g.header, g.pieces, g.standing, so_far, refl)
+  open_so_far : IsOpen traced g.read text steps
+  open_so_far = inr (g.header, g.pieces, g.standing, so_far, refl, refl)
 
   -- the sink failed before the next line was read
-  pub failed_before : FailedWithin sink is (text_of g.header.defs g.pieces) → Stopped status.WriteFault began now sink is
-  failed_before f = sink_failed began now reader sink is g.given g.read text g.reading g.limit f (
+  pub failed_before : FailedWithin sink is (text_of traced g.header.defs g.pieces) →
+      Stopped traced status.WriteFault began now sink is told had
+  failed_before f = sink_failed traced began now reader sink is told had g.given g.read text steps g.reading g.limit f g.watched (
     g.read,
     inl (
       are_first began now reader g.given g.read []
@@ -101,18 +118,28 @@ module _ (began : SourceState) (sink : SinkState) (now : SourceState) (reader : 
     ),
   )
 
-  module _ (later : SourceState) (after : Reader) (limit : after.limit ≡ reader.limit) where
+  module _ (later : SourceState) (after : Reader) (limit : after.limit ≡ reader.limit) (has : Told) where
     most : after.limit ≡ most_bytes
     most = limit ∙ g.limit
 
-    text_with : (pieces : List Piece) → text_of g.header.defs (g.pieces ++ pieces) ≡ text ++ text_of g.header.defs pieces
-    text_with pieces = flat_map-append (piece_text g.header.defs) g.pieces pieces
+    text_with : (pieces : List Piece) → text_of traced g.header.defs (g.pieces ++ pieces) ≡ text ++ text_of traced g.header.defs pieces
+    text_with pieces = flat_map-append (piece_text traced g.header.defs) g.pieces pieces
 
-    going_on : (line : Line) (got piece pending' : List ℕ) (new : Script) →
+    steps_with : (pieces : List Piece) → journals_of (g.pieces ++ pieces) ≡ steps ++ journals_of pieces
+    steps_with pieces = filter_map-append journal_of g.pieces pieces
+
+    -- the watch was told the steps of further pieces
+    told_so_far : (more : List Journal) → has ≡ after_all the_space more had → has ≡ after_all the_space (steps ++ more) told
+    told_so_far more given = given ∙ ap (after_all the_space more) g.watched ∙ told_more the_space steps more told
+
+    told_no_more : has ≡ had → has ≡ after_all the_space steps told
+    told_no_more same = same ∙ g.watched
+
+    going_on : (line : Line) (got piece pending' : List ℕ) (more : List Journal) (new : Script) →
         Reading began later after (g.given ++ got) (g.read ++ line ∷ []) →
-        LineRead g.header g.standing line (λ s. ScriptRefines g.header s new) piece → Printed sink is pending' (text ++ piece)
-        → Going began later after sink is pending' new
-    going_on line got piece pending' new r taken p = record {
+        LineRead traced g.header g.standing line (λ s. ScriptRefines g.header s new) piece more → Printed sink is pending' (text ++ piece)
+        → has ≡ after_all the_space more had → Going traced began later after sink is told has pending' new
+    going_on line got piece pending' more new r taken p given = record {
       header = g.header;
       count = g.count;
       given = g.given ++ got;
@@ -125,14 +152,18 @@ module _ (began : SourceState) (sink : SinkState) (now : SourceState) (reader : 
       limit = most;
       printed = subst (Printed sink is pending')
           (ap (λ (x : List ℕ). text ++ x) taken.whole ∙ sym (text_with taken.pieces)) p;
+      watched = told_so_far more given
+          ∙ ap (λ (js : List Journal). after_all the_space js told)
+          (ap (λ (js : List Journal). steps ++ js) taken.stepped ∙ sym (steps_with taken.pieces));
       run = run_with_line (Step g.header) (after_header g.header g.count) g.rest g.pieces g.standing line taken.pieces taken.next g.run
           taken.step;
       refines = taken.after;
     }
 
-    open_more : (line : Line) (piece : List ℕ) (new : Script) →
-        LineRead g.header g.standing line (λ s. ScriptRefines g.header s new) piece → IsOpen (g.read ++ line ∷ []) (text ++ piece)
-    open_more line piece new taken = inr (
+    open_more : (line : Line) (piece : List ℕ) (more : List Journal) (new : Script) →
+        LineRead traced g.header g.standing line (λ s. ScriptRefines g.header s new) piece more →
+        IsOpen traced (g.read ++ line ∷ []) (text ++ piece) (steps ++ more)
+    open_more line piece more new taken = inr (
       g.header,
       g.pieces ++ taken.pieces,
       taken.next,
@@ -144,10 +175,12 @@ module _ (began : SourceState) (sink : SinkState) (now : SourceState) (reader : 
             taken.step;
       },
       ap (λ (x : List ℕ). text ++ x) taken.whole ∙ sym (text_with taken.pieces),
+      ap (λ (js : List Journal). steps ++ js) taken.stepped ∙ sym (steps_with taken.pieces),
     )
 
-    ended : (piece : List ℕ) → InputEnded g.header g.standing piece → IsEnded g.read (text ++ piece)
-    ended piece l = (
+    ended : (piece : List ℕ) (more : List Journal) → InputEnded traced g.header g.standing piece more →
+        IsEnded traced g.read (text ++ piece) (steps ++ more)
+    ended piece more l = (
       g.header,
       g.pieces,
       l.pieces,
@@ -155,36 +188,39 @@ module _ (began : SourceState) (sink : SinkState) (now : SourceState) (reader : 
       so_far,
       l.ends,
       ap (λ (x : List ℕ). text ++ x) l.whole ∙ sym (text_with l.pieces),
+      ap (λ (js : List Journal). steps ++ js) l.stepped ∙ sym (steps_with l.pieces),
     )
 
     first_so_far : (got : List ℕ) (more : List Line) → Reading began later after (g.given ++ got) (g.read ++ more) →
-        IsSoFar IsOpen IsEnded began later (g.given ++ got) text
+        IsSoFar (IsOpen traced) (IsEnded traced) began later (g.given ++ got) text steps
     first_so_far got more r = (g.read, inl (are_first began later after _ g.read more r, open_so_far))
 
     -- an allocation failed: nothing of this line was printed
     no_memory : (got : List ℕ) (more : List Line) → Reading began later after (g.given ++ got) (g.read ++ more) → Printed sink is [] text
-        → Stopped status.NoMemory began later sink is
-    no_memory got more r p =
-        all_written began later after sink is status.NoMemory (g.given ++ got) (g.read ++ more) text r most p (λ e. cc) tt
-        (g.read, are_first began later after _ g.read more r, open_so_far)
+        → has ≡ had → Stopped traced status.NoMemory began later sink is told has
+    no_memory got more r p same =
+        all_written traced began later after sink is told has status.NoMemory (g.given ++ got) (g.read ++ more) text steps r most p
+        (told_no_more same) (λ e. cc) tt (g.read, are_first began later after _ g.read more r, open_so_far)
 
     -- one more line, whatever the call that printed it answered
     pub line_printed : (line : Line) (got pending' : List ℕ) (new : Script) (result : Option Status) →
         Reading began later after (g.given ++ got) (g.read ++ line ∷ [])
-        → Prints (LineRead g.header g.standing line (λ s. ScriptRefines g.header s new)) sink is pending'
-        (text_of g.header.defs g.pieces) result
-        → MatchOption result (Going began later after sink is pending' new) (λ st. Stopped st began later sink is)
-    line_printed line got pending' new None r p = going_on line got p.0 pending' new r p.1 p.2
-    line_printed line got pending' new (Some status.NoMemory) r p = no_memory got (line ∷ []) r p
+        → Prints (LineRead traced g.header g.standing line (λ s. ScriptRefines g.header s new)) sink is pending'
+        (text_of traced g.header.defs g.pieces) had has result
+        → MatchOption result (Going traced began later after sink is told has pending' new) (λ st. Stopped traced st began later sink is told has)
+    line_printed line got pending' new None r (piece, more, read, p, given) = going_on line got piece pending' more new r read p given
+    line_printed line got pending' new (Some status.NoMemory) r p = no_memory got (line ∷ []) r p.0 p.1
     line_printed line got pending' new (Some status.WriteFault) r (inl f) =
-        sink_failed began later after sink is (g.given ++ got) _ text r most f (first_so_far got (line ∷ []) r)
-    line_printed line got pending' new (Some status.WriteFault) r (inr p) =
-        sink_failed began later after sink is (g.given ++ got) _ (text ++ p.0) r most p.2 (
+        sink_failed traced began later after sink is told has (g.given ++ got) _ text steps r most f.0 (told_no_more f.1)
+        (first_so_far got (line ∷ []) r)
+    line_printed line got pending' new (Some status.WriteFault) r (inr (piece, more, read, f, given)) =
+        sink_failed traced began later after sink is told has (g.given ++ got) _ (text ++ piece) (steps ++ more) r most f
+        (told_so_far more given) (
           g.read ++ line ∷ [],
           inl (
             are_first began later after _ (g.read ++ line ∷ []) []
                 (subst (λ (x : List Line). Reading began later after (g.given ++ got) x) (sym (append-nil (g.read ++ line ∷ []))) r),
-            open_more line p.0 new p.1,
+            open_more line piece more new read,
           ),
         )
     line_printed line got pending' new (Some status.Done) r p = absurd p
@@ -202,70 +238,75 @@ module _ (began : SourceState) (sink : SinkState) (now : SourceState) (reader : 
         (at.1, at.0, end.1)
 
     pub done : (got : List ℕ) → Reading began later after (g.given ++ got) (g.read ++ []) → IsExact next.End after (g.given ++ got) g.read
-        → Prints (InputEnded g.header g.standing) sink is [] (text_of g.header.defs g.pieces) None → Stopped status.Done began later sink is
-    done got r exact p =
+        → Prints (InputEnded traced g.header g.standing) sink is [] (text_of traced g.header.defs g.pieces) had has None →
+        Stopped traced status.Done began later sink is told has
+    done got r exact (piece, more, ends, p, given) =
         let at = r.ended (exact.ended.0 refl).0 in
         let count = r.count in
         let low = at.2 in
         let bound = most in
-        all_written began later after sink is status.Done (g.given ++ got) _ (text ++ p.0) r most p.2 (λ e. cc) tt
-        (omega arith, g.read, all_of got r exact, ended p.0 p.1)
+        all_written traced began later after sink is told has status.Done (g.given ++ got) _ (text ++ piece) (steps ++ more) r most p
+        (told_so_far more given) (λ e. cc) tt (omega arith, g.read, all_of got r exact, ended piece more ends)
 
     pub last_printed : (got : List ℕ) (st : Status) → Reading began later after (g.given ++ got) (g.read ++ []) →
         IsExact next.End after (g.given ++ got) g.read
-        → Prints (InputEnded g.header g.standing) sink is [] (text_of g.header.defs g.pieces) (Some st) → Stopped st began later sink is
-    last_printed got status.NoMemory r exact p = no_memory got [] r p
+        → Prints (InputEnded traced g.header g.standing) sink is [] (text_of traced g.header.defs g.pieces) had has (Some st) →
+        Stopped traced st began later sink is told has
+    last_printed got status.NoMemory r exact p = no_memory got [] r p.0 p.1
     last_printed got status.WriteFault r exact (inl f) =
-        sink_failed began later after sink is (g.given ++ got) _ text r most f (first_so_far got [] r)
-    last_printed got status.WriteFault r exact (inr p) =
-        sink_failed began later after sink is (g.given ++ got) _ (text ++ p.0) r most p.2
-        (g.read, inr (all_of got r exact, ended p.0 p.1))
+        sink_failed traced began later after sink is told has (g.given ++ got) _ text steps r most f.0 (told_no_more f.1)
+        (first_so_far got [] r)
+    last_printed got status.WriteFault r exact (inr (piece, more, ends, f, given)) =
+        sink_failed traced began later after sink is told has (g.given ++ got) _ (text ++ piece) (steps ++ more) r most f
+        (told_so_far more given) (g.read, inr (all_of got r exact, ended piece more ends))
     last_printed got status.Done r exact p = absurd p
     last_printed got status.Usage r exact p = absurd p
     last_printed got (status.BadHeader k) r exact p = absurd p
     last_printed got status.ReadFault r exact p = absurd p
     last_printed got status.Limit r exact p = absurd p
 
-    whole_open : (got : List ℕ) → whole_lines_of (g.given ++ got) ≡ g.read → IsOpen (whole_lines_of (g.given ++ got)) text
-    whole_open got e = subst (λ (x : List Line). IsOpen x text) (sym e) open_so_far
+    whole_open : (got : List ℕ) → whole_lines_of (g.given ++ got) ≡ g.read → IsOpen traced (whole_lines_of (g.given ++ got)) text steps
+    whole_open got e = subst (λ (x : List Line). IsOpen traced x text steps) (sym e) open_so_far
 
-    stopped_by : (wanted result : Status) (got : List ℕ) → Reading began later after (g.given ++ got) (g.read ++ []) →
-        (Printed sink is [] text → Stopped wanted began later sink is) → StopsBy wanted sink is text result
-        → Stopped result began later sink is
-    stopped_by wanted result got r stopped (inl s) = subst (λ (st : Status). Stopped st began later sink is) (sym s.0) (stopped s.1)
-    stopped_by wanted result got r stopped (inr s) =
-        subst (λ (st : Status). Stopped st began later sink is) (sym s.0)
-        (sink_failed began later after sink is (g.given ++ got) _ text r most s.1 (first_so_far got [] r))
+    stopped_by : (wanted result : Status) (got : List ℕ) → has ≡ had → Reading began later after (g.given ++ got) (g.read ++ []) →
+        (Printed sink is [] text → Stopped traced wanted began later sink is told has) → StopsBy wanted sink is text result
+        → Stopped traced result began later sink is told has
+    stopped_by wanted result got same r stopped (inl s) =
+        subst (λ (st : Status). Stopped traced st began later sink is told has) (sym s.0) (stopped s.1)
+    stopped_by wanted result got same r stopped (inr s) =
+        subst (λ (st : Status). Stopped traced st began later sink is told has) (sym s.0)
+        (sink_failed traced began later after sink is told has (g.given ++ got) _ text steps r most s.1 (told_no_more same)
+        (first_so_far got [] r))
 
     -- a fault of the source, or the limit
-    pub read_fault : (got : List ℕ) (result : Status) → Reading began later after (g.given ++ got) (g.read ++ []) →
+    pub read_fault : (got : List ℕ) (result : Status) → has ≡ had → Reading began later after (g.given ++ got) (g.read ++ []) →
         IsExact next.ReadFault after (g.given ++ got) g.read
-        → Rose now.faults later.faults → StopsBy status.ReadFault sink is (text_of g.header.defs g.pieces) result
-        → Stopped result began later sink is
-    read_fault got result r exact rose s =
+        → Rose now.faults later.faults → StopsBy status.ReadFault sink is (text_of traced g.header.defs g.pieces) result
+        → Stopped traced result began later sink is told has
+    read_fault got result same r exact rose s =
         let here = exact.fault refl in
         let count = r.count in
         let bound = most in
         let low = here.1 in
         let earlier = g.reading.faults in
-        stopped_by status.ReadFault result got r (λ p.
-        all_written began later after sink is status.ReadFault (g.given ++ got) _ text r most p (λ e. cc) tt
-        (omega arith, omega arith, whole_open got here.2)) s
+        stopped_by status.ReadFault result got same r (λ p.
+        all_written traced began later after sink is told has status.ReadFault (g.given ++ got) _ text steps r most p (told_no_more same)
+        (λ e. cc) tt (omega arith, omega arith, whole_open got here.2)) s
 
-    pub limit_reached : (got : List ℕ) (result : Status) → Reading began later after (g.given ++ got) (g.read ++ []) →
+    pub limit_reached : (got : List ℕ) (result : Status) → has ≡ had → Reading began later after (g.given ++ got) (g.read ++ []) →
         IsExact next.Limit after (g.given ++ got) g.read
-        → StopsBy status.Limit sink is (text_of g.header.defs g.pieces) result → Stopped result began later sink is
-    limit_reached got result r exact s =
+        → StopsBy status.Limit sink is (text_of traced g.header.defs g.pieces) result → Stopped traced result began later sink is told has
+    limit_reached got result same r exact s =
         let here = exact.full.0 refl in
-        stopped_by status.Limit result got r (λ p.
-        all_written began later after sink is status.Limit (g.given ++ got) _ text r most p (λ e. cc) tt
-        (sym r.count ∙ here.0 ∙ most, whole_open got here.1)) s
+        stopped_by status.Limit result got same r (λ p.
+        all_written traced began later after sink is told has status.Limit (g.given ++ got) _ text steps r most p (told_no_more same)
+        (λ e. cc) tt (sym r.count ∙ here.0 ∙ most, whole_open got here.1)) s
 
 -- the run goes on after the header
-pub after_a_header : (began now : SourceState) (reader : Reader) (sink : SinkState) (h : Header) (count : ℕ) (pending : List ℕ)
-    (script : Script) → HasHeader began now reader h count → pending ≡ []
-    → ScriptRefines h (after_header h count) script → Going began now reader sink sink pending script
-after_a_header began now reader sink h count pending script has none refines = record {
+pub after_a_header : (traced : Bool) (began now : SourceState) (reader : Reader) (sink : SinkState) (told : Told) (h : Header) (count : ℕ)
+    (pending : List ℕ) (script : Script) → HasHeader began now reader h count → pending ≡ [] →
+    ScriptRefines h (after_header h count) script → Going traced began now reader sink sink told told pending script
+after_a_header traced began now reader sink told h count pending script has none refines = record {
   header = h;
   count = count;
   given = has.given;
@@ -277,25 +318,53 @@ after_a_header began now reader sink h count pending script has none refines = r
   reading = has.reading;
   limit = has.limit;
   printed = nothing_printed sink pending none;
+  watched = told_nothing the_space told;
   run = (refl, refl);
   refines = refines;
 }
 
 -- the fault line after what was written
-pub with_tail : (st : Status) (began now : SourceState) (old mid new : SinkState) → Stopped st began now old mid → (tail : List ℕ) →
-    Appends mid.written new.written tail
-    → mid.faults ≤ new.faults → HasFaultLine st mid new tail → RunEnds IsOpen IsEnded st began now old new
-with_tail st began now old mid new s tail a higher f = record {
+pub with_tail : (traced : Bool) (st : Status) (began now : SourceState) (old mid new : SinkState) (told told' : Told) →
+    Stopped traced st began now old mid told told' → (tail : List ℕ) → Appends mid.written new.written tail → mid.faults ≤ new.faults →
+    HasFaultLine st mid new tail → RunEnds (IsOpen traced) (IsEnded traced) st began now old new told told'
+with_tail traced st began now old mid new told told' s tail a higher f = record {
   given = s.given;
   text = s.text;
   tail = tail;
+  steps = s.steps;
   took = s.took;
   most = s.most;
   wrote = Appends-trans old.written mid.written new.written s.text tail s.writing a;
   tells = s.tells;
   last = from_start f;
+  watched = s.watched;
 }
   where
     from_start : HasFaultLine st mid new tail → HasFaultLine st old new tail
     from_start (inl e) = inl e
     from_start (inr e) = inr (e.0, let l = s.later in let r = e.1 in omega arith)
+
+-- nothing was run for the words
+pub not_run : (traced : Bool) (st : Status) (source : SourceState) (old new : SinkState) (told : Told) →
+    (st ≡ status.NoMemory) ⊎ (st ≡ status.Usage) → (tail : List ℕ) → Appends old.written new.written tail → old.faults ≤ new.faults →
+    HasFaultLine st old new tail → RunEnds (IsOpen traced) (IsEnded traced) st source source old new told told
+not_run traced st source old new told why tail a higher f = by_status st why f
+  where
+    by_status : (s : Status) → (s ≡ status.NoMemory) ⊎ (s ≡ status.Usage) → HasFaultLine s old new tail →
+        RunEnds (IsOpen traced) (IsEnded traced) s source source old new told told
+    by_status s (inl is) line =
+        with_tail traced s source source old old new told told
+        (subst (λ (x : Status). Stopped traced x source source old old told told) (sym is)
+        (nothing_judged source source [] (Consumes-nil source.left) (omega arith) traced old told)) tail a higher line
+    by_status s (inr is) line = record {
+      given = [];
+      text = [];
+      tail = tail;
+      steps = [];
+      took = Consumes-nil source.left;
+      most = omega arith;
+      wrote = a;
+      tells = subst (λ (x : Status). Tells (IsOpen traced) (IsEnded traced) x source source [] [] []) (sym is) (refl, refl, refl);
+      last = line;
+      watched = told_nothing the_space told;
+    }

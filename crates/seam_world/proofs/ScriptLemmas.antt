@@ -99,11 +99,11 @@ module _ (h : Header) (t : Standing) where
   pub refused_line : GoesOnWithLine → (line : Line) (c : Cause) (old new : Script) → ScriptRefines h t old → new.header ≡ old.header →
       new.world ≡ old.world → new.residents ≡ old.residents → new.round ≡ old.round → new.line ≡ old.line + 1 → new.line ≤ most_lines →
       new.book ≡ old.book → Judges All h t.book line (verdict.Refused c) →
-      LineRead h t line (λ s. ScriptRefines h s new) (refusal new.line c)
-  refused_line goes line c old new was header world residents round counted most book judges =
+      (traced : Bool) → LineRead traced h t line (λ s. ScriptRefines h s new) (refusal new.line c) []
+  refused_line goes line c old new was header world residents round counted most book judges traced =
       let number : new.line ≡ t.lines + 1 = counted ∙ ap (λ (n : ℕ). n + 1) was.line in
-      subst (λ (n : ℕ). LineRead h t line (λ s. ScriptRefines h s new) (refusal n c)) (sym number)
-      (refused h t line c (λ s. ScriptRefines h s new) judges (record {
+      subst (λ (n : ℕ). LineRead traced h t line (λ s. ScriptRefines h s new) (refusal n c) []) (sym number)
+      (refused traced h t line c (λ s. ScriptRefines h s new) judges (record {
         has = with_line_read goes new (same_world h t old new was.has header world residents round);
         book = subst (HoldsBook All h t.book) (sym book) was.book;
         line = number;
@@ -226,11 +226,11 @@ module _ (h : Header) (t : Standing) (s : Script) (ready : IsReady h t s) (world
       (record { keeps = ready.has.goes_on.between.keeps; bounded = ready.has.goes_on.bounded; given = given }))
 
   -- what was played in that world was played in the standing's
-  pub played_in : (left : Played) (residents : List Resident) (before text : List ℕ) →
-      HasPlayed h t ready.has.tree world left residents before text →
-      HasPlayed h t ready.has.tree ready.has.world left residents before text
-  played_in left residents before text has =
-      subst (λ w. HasPlayed h t ready.has.tree w left residents before text) (sym same) has
+  pub played_in : (traced : Bool) (left : Played) (residents : List Resident) (before text : List ℕ) →
+      HasPlayed traced h t ready.has.tree world left residents before text →
+      HasPlayed traced h t ready.has.tree ready.has.world left residents before text
+  played_in traced left residents before text has =
+      subst (λ w. HasPlayed traced h t ready.has.tree w left residents before text) (sym same) has
 
   pub beside_in : StandsBeside h t ready.has.tree ready.has.world → StandsBeside h t ready.has.tree world
   beside_in stands = subst (StandsBeside h t ready.has.tree) same stands

@@ -1,5 +1,5 @@
 -- What has happened since a run began: the private functions of the top call speak of it.
-use Rattle.std.specs.Prelude.{◌≡◌, ℕ, ◌+◌, ◌≤◌, List, [], ◌∷◌, ◌++◌, length, Option, None, Some, Result, Ok, Err}
+use Rattle.std.specs.Prelude.{◌≡◌, ℕ, ◌+◌, ◌≤◌, List, [], ◌∷◌, ◌++◌, length, Bool, Option, None, Some, Result, Ok, Err}
 use Rattle.std.specs.Io.KnownBytes.{Consumes, Appends}
 use Rattle.seam_io.specs.Causes.{Rose}
 use Rattle.seam_io.specs.States.{SourceState, SinkState}
@@ -9,11 +9,13 @@ use Rattle.seam_toml.specs.declared.header.Header.{Header}
 use Rattle.seam_transcript.specs.Header.{AreHeaderLines, BeginWithHeader}
 use Rattle.seam_transcript.specs.Transcript.{Run}
 use Rattle.seam_rules.specs.Standing.{Standing, after_header}
-use Rattle.seam_rules.specs.Transcript.{Piece, text_of}
+use Rattle.seam_rules.specs.Transcript.{Piece, text_of, journals_of}
+use Rattle.seam_watch.specs.Watching.{Told, after_all}
+use Rattle.seam_watch.specs.declared.journal.Journal.{Journal}
 use Rattle.seam_world.specs.Transcripts.{Step, IsOpen, IsEnded}
 use Rattle.seam_world.specs.Script.{ScriptRefines}
 use Rattle.seam_world.specs.Status.{IsRunEnd}
-use Rattle.seam_world.specs.Ends.{Tells, most_bytes}
+use Rattle.seam_world.specs.Ends.{Tells, most_bytes, the_space}
 use Rattle.seam_world.specs.Printing.{Printed}
 use Rattle.seam_world.specs.declared.script.Script.{Script}
 use Rattle.seam_world.specs.declared.status.Status.{Status}
@@ -35,9 +37,11 @@ pub record HasHeader (began now : SourceState) (reader : Reader) (h : Header) (c
   pub reading : Reading began now reader given read
   pub limit : reader.limit ≡ most_bytes
 
--- The run goes on: since the source was at `began` and the sink at `sink`, the reader gave a header and the lines `rest`, whose
--- text was printed and is written but for its end `pending`, and the script refines the standing after them.
-pub record Going (began now : SourceState) (reader : Reader) (sink now' : SinkState) (pending : List ℕ) (script : Script) : Type 0 where
+-- The run goes on: since the source was at `began`, the sink at `sink` and the watch at `told`, the reader gave a header and the lines
+-- `rest`, whose text was printed and is written but for its end `pending`, the watch was told the steps of their rounds, and the script
+-- refines the standing after them.
+pub record Going (traced : Bool) (began now : SourceState) (reader : Reader) (sink now' : SinkState) (told told' : Told)
+    (pending : List ℕ) (script : Script) : Type 0 where
   pub header : Header
   pub count : ℕ
   pub given : List ℕ
@@ -48,24 +52,31 @@ pub record Going (began now : SourceState) (reader : Reader) (sink now' : SinkSt
   pub begins : BeginWithHeader read header count rest
   pub reading : Reading began now reader given read
   pub limit : reader.limit ≡ most_bytes
-  pub printed : Printed sink now' pending (text_of header.defs pieces)
+  pub printed : Printed sink now' pending (text_of traced header.defs pieces)
+  pub watched : told' ≡ after_all the_space (journals_of pieces) told
   pub run : Run (Step header) (after_header header count) rest pieces standing
   pub refines : ScriptRefines header standing script
 
 -- The run has ended with this status, but for the fault line.
-pub record Stopped (ended : Status) (began now : SourceState) (sink now' : SinkState) : Type 0 where
+pub record Stopped (traced : Bool) (ended : Status) (began now : SourceState) (sink now' : SinkState) (told told' : Told) : Type 0 where
   pub given : List ℕ
   pub text : List ℕ
+  pub steps : List Journal
   pub took : Consumes began.left now.left given
   pub most : length given ≤ most_bytes
   pub writing : Appends sink.written now'.written text
   pub later : sink.faults ≤ now'.faults
   pub failed : ended ≡ status.WriteFault → Rose sink.faults now'.faults
   pub allowed : IsRunEnd ended
-  pub tells : Tells IsOpen IsEnded ended began now given text
+  pub tells : Tells (IsOpen traced) (IsEnded traced) ended began now given text steps
+  pub watched : told' ≡ after_all the_space steps told
+
+-- The run has ended with this status before anything was printed.
+abbrev pub StoppedFirst : Status → SourceState → SourceState → Type 0
+StoppedFirst s began now = (traced : Bool) (sink : SinkState) (told : Told) → Stopped traced s began now sink sink told told
 
 -- What came of the next line of a header, after these: it goes on, or the line ended it, or the run stopped.
-abbrev pub HeaderLineRead : SourceState → SourceState → Reader → List ℕ → SinkState → List Line → Result (Option Header) Status → Type 0
-HeaderLineRead began now reader text sink read (Ok None) = (line : Line) × InHeader began now reader text (read ++ line ∷ [])
-HeaderLineRead began now reader text sink read (Ok (Some h)) = HasHeader began now reader h (length read + 1)
-HeaderLineRead began now reader text sink read (Err s) = Stopped s began now sink sink
+abbrev pub HeaderLineRead : SourceState → SourceState → Reader → List ℕ → List Line → Result (Option Header) Status → Type 0
+HeaderLineRead began now reader text read (Ok None) = (line : Line) × InHeader began now reader text (read ++ line ∷ [])
+HeaderLineRead began now reader text read (Ok (Some h)) = HasHeader began now reader h (length read + 1)
+HeaderLineRead began now reader text read (Err s) = StoppedFirst s began now

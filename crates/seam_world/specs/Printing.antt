@@ -1,9 +1,11 @@
--- What was printed since a sink was at `began`: it is written, or pending.
+-- What was printed since a sink was at `began`: it is written, or pending; and what a watch was told.
 use Rattle.std.specs.Prelude.{◌≡◌, ℕ, ◌≤◌, ◌⊎◌, List, [], ◌++◌, Option, Some, None}
 use Rattle.std.specs.Io.KnownBytes.{Appends}
 use Rattle.seam_io.specs.Causes.{Rose}
 use Rattle.seam_io.specs.States.{SinkState}
-use Rattle.seam_world.specs.Ends.{IsProperPrefix}
+use Rattle.seam_watch.specs.Watching.{Told, after_all}
+use Rattle.seam_watch.specs.declared.journal.Journal.{Journal}
+use Rattle.seam_world.specs.Ends.{IsProperPrefix, the_space}
 use Rattle.seam_world.specs.declared.status.Status.{Status}
 use Rattle.seam_world.specs.declared.status.Status.TheVariants as status
 
@@ -27,14 +29,24 @@ abbrev pub StopsBy : Status → SinkState → SinkState → List ℕ → Status 
 StopsBy wanted began now text result = ((result ≡ wanted) × Printed began now [] text)
     ⊎ ((result ≡ status.WriteFault) × FailedWithin began now text)
 
--- What a call printed after a text: a piece with this property; or nothing where an allocation failed; or the sink failed.
-abbrev pub Prints : (List ℕ → Type 0) → SinkState → SinkState → List ℕ → List ℕ → Option Status → Type 0
-Prints P began now pending text None = (piece : List ℕ) × P piece × Printed began now pending (text ++ piece)
-Prints P began now pending text (Some status.NoMemory) = Printed began now [] text
-Prints P began now pending text (Some status.WriteFault) =
-    FailedWithin began now text ⊎ ((piece : List ℕ) × P piece × FailedWithin began now (text ++ piece))
-Prints P began now pending text (Some status.Done) = ⊥
-Prints P began now pending text (Some status.Usage) = ⊥
-Prints P began now pending text (Some (status.BadHeader k)) = ⊥
-Prints P began now pending text (Some status.ReadFault) = ⊥
-Prints P began now pending text (Some status.Limit) = ⊥
+-- a piece was printed after a text, or the sink failed
+abbrev pub IsPrinted : (piece : List ℕ) → SinkState → SinkState → List ℕ → List ℕ → Option Status → Type 0
+IsPrinted piece began now pending text None = Printed began now pending (text ++ piece)
+IsPrinted piece began now pending text (Some s) = (s ≡ status.WriteFault) × FailedWithin began now (text ++ piece)
+
+-- What a call printed after a text, and which steps it told the watch: a piece and steps with this property; or nothing where an
+-- allocation failed; or the sink failed. The watch was at `told` before the call, and is at `told'` after it.
+abbrev pub Prints : (List ℕ → List Journal → Type 0) → SinkState → SinkState → List ℕ → List ℕ → Told → Told → Option Status → Type 0
+Prints P began now pending text told told' None =
+    (piece : List ℕ) × (steps : List Journal) × P piece steps × Printed began now pending (text ++ piece)
+    × (told' ≡ after_all the_space steps told)
+Prints P began now pending text told told' (Some status.NoMemory) = Printed began now [] text × (told' ≡ told)
+Prints P began now pending text told told' (Some status.WriteFault) =
+    (FailedWithin began now text × (told' ≡ told))
+    ⊎ ((piece : List ℕ) × (steps : List Journal) × P piece steps × FailedWithin began now (text ++ piece)
+       × (told' ≡ after_all the_space steps told))
+Prints P began now pending text told told' (Some status.Done) = ⊥
+Prints P began now pending text told told' (Some status.Usage) = ⊥
+Prints P began now pending text told told' (Some (status.BadHeader k)) = ⊥
+Prints P began now pending text told told' (Some status.ReadFault) = ⊥
+Prints P began now pending text told told' (Some status.Limit) = ⊥

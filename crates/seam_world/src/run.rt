@@ -1,6 +1,6 @@
 // The run of a script, from the bytes of a source to what is written to a sink.
-ghost use Rattle.std.specs.Prelude.{◌≡◌, ◌≢◌, ◌↔◌, ◌∷◌, ◌<◌, ◌≤◌, ◌^◌, ◌⊎◌, ◌++◌, ◌+◌, [], List, ℕ, Option, MatchOption, MatchResult};
-ghost use Rattle.std.specs.Prelude.{IfNone, IfOk, OnOk, length, codes};
+ghost use Rattle.std.specs.Prelude.{◌≡◌, ◌∷◌, ◌<◌, ◌≤◌, ◌^◌, ◌⊎◌, ◌++◌, ◌+◌, [], List, ℕ, Bool, Option, MatchOption, MatchResult};
+ghost use Rattle.std.specs.Prelude.{IfNone, IfOk, IfErr, OnOk, OnErr, length, codes, map};
 ghost use Rattle.std.specs.Io.KnownBytes.{Appends};
 ghost use Rattle.seam_io.specs.Causes.{Rose};
 ghost use Rattle.seam_io.specs.States.{SourceState, SinkState};
@@ -13,58 +13,130 @@ ghost use Rattle.seam_world.specs.Transcripts.{IsOpen, IsEnded};
 ghost use Rattle.seam_world.specs.Status.{IsRunEnd, IsHeaderCause, refusal_of};
 ghost use Rattle.seam_world.specs.Following.{LineRead, InputEnded};
 ghost use Rattle.seam_world.specs.Script.{ScriptRefines};
-ghost use Rattle.seam_world.specs.Ends.{RunEnds, MayComplete, HasFaultLine, IsPrefix, most_bytes, fault_line as fault_line_of};
-ghost use Rattle.seam_world.specs.Histories.{HasHeader, InHeader, HeaderLineRead, Going, Stopped};
-ghost use Rattle.seam_world.specs.Printing.{Printed, FailedWithin, StopsBy, Prints};
+ghost use Rattle.seam_world.specs.Ends.{RunEnds, MayComplete, HasFaultLine, IsPrefix, most_bytes, the_space, fault_line as fault_line_of};
+ghost use Rattle.seam_world.specs.Histories.{HasHeader, InHeader, HeaderLineRead, Going, Stopped, StoppedFirst};
+ghost use Rattle.seam_world.specs.Printing.{Printed, FailedWithin, StopsBy, Prints, IsPrinted};
+ghost use Rattle.seam_world.specs.Words.{asks_for_trace, AreNotRun};
+ghost use Rattle.seam_args.specs.Words.{AreInRange};
+ghost use Rattle.seam_watch.specs.Watching.{Told, after_all};
+ghost use Rattle.std.specs.Option.{option_to_list};
+ghost use Rattle.std.specs.String.{string_bytes};
 
 use crate::Status;
 use crate::count::next_count;
 use crate::pending::Pending;
+use crate::round::Playing;
 use crate::script::Script;
 use seam_accept::HeaderLines;
+use seam_args::{ArgsError, Options, read_words};
 use seam_io::{Failed, Lines, Next, Sink, Source, write_whole};
+use seam_quiet::Workers;
 use seam_toml::HeaderError;
 use seam_transcript::Header;
-use std::alloc::Global;
+use seam_watch::{Journal, Watch};
+use seam_workers::{Crew, Gate};
+use std::alloc::{AllocError, Global};
+use std::sync::Wait;
+use std::thread::Threads;
 
 // The most bytes of input.
 const LIMIT: u64 = 1 << 40;
+
+// The number of the one space.
+const SPACE: u8 = 0;
 
 // The causes of a refused header that no text tells: it is too long, or its end is missing.
 const TOO_LONG: u8 = 9;
 
 const NO_END: u8 = 10;
 
-/// Runs a script: reads a header and commands, and writes for each round what happened in it. With any words it only
-/// answers `Usage`. Every end but `Done` and `WriteFault` writes a fault line last; if that fails, the status stays.
-pub fn run_seamless<S: Source, K: Sink>(
+/// Runs a script: reads a header and commands, and writes for each round what happened in it. The words are those of the command line,
+/// without the program's name (`seam_args`); words that it refuses, and those that ask for a generated input, are answered by `Usage`.
+/// The rounds are played by as many workers as the words say, who call the gate before each step; the watch is given the journal of each
+/// round as it ends, with space 0. Every end but `Done` and `WriteFault` writes a fault line last; if that fails, the status stays.
+pub fn run_seamless<
+    S: Source,
+    K: Sink,
+    G: Gate + Sync,
+    W: Watch,
+    R: Threads + Wait + Sync,
+>(
+    rt: &R,
     alloc: Global,
     words: &[String],
     input: &mut S,
     out: &mut K,
+    gate: &G,
+    watch: &mut W,
 ) -> Status
-    // What was written is the text that the status tells of, and then its fault line.
-    ensures ends { RunEnds IsOpen IsEnded result (S.state input.old) (S.state input.new) (K.state out.old) (K.state out.new) }
-    ensures usage { (result ≡ Status.Usage) ↔ (words.now ≢ []) }
+    // What was written is the text that the status tells of, and then its fault line; the watch was given the steps of its rounds.
+    ensures ends { let traced = asks_for_trace (map string_bytes words.now) in
+        RunEnds (IsOpen traced) (IsEnded traced) result (S.state input.old) (S.state input.new) (K.state out.old) (K.state out.new)
+        (W.told watch.old) (W.told watch.new) }
+    ensures usage { result ≡ Status.Usage → AreNotRun (map string_bytes words.now) }
+    ensures refused { AreNotRun (map string_bytes words.now) → (result ≡ Status.Usage) ⊎ (result ≡ Status.NoMemory) }
     ensures read { result ≡ Status.ReadFault → Rose (S.state input.old).faults (S.state input.new).faults }
     ensures write { result ≡ Status.WriteFault → Rose (K.state out.old).faults (K.state out.new).faults }
     ensures later { ((S.state input.old).faults ≤ (S.state input.new).faults) × ((K.state out.old).faults ≤ (K.state out.new).faults) }
     // A run that may be complete is, unless an allocation fails.
-    ensures complete { words.now ≡ [] → MayComplete (S.state input.old) (S.state input.new) (K.state out.old) (K.state out.new)
+    ensures complete { ¬ (AreNotRun (map string_bytes words.now)) →
+        MayComplete (S.state input.old) (S.state input.new) (K.state out.old) (K.state out.new)
         → (result ≡ Status.Done) ⊎ (result ≡ Status.NoMemory) }
 {
-    if !words.is_empty() {
-        put_fault(out, Status::Usage);
-        return Status::Usage;
-    }
-    let status = run_body(alloc, input, out);
+    let options = match asked(alloc, words) {
+        Ok(options) => options,
+        Err(status) => {
+            put_fault(out, status);
+            return status;
+        }
+    };
+    let crew = Crew {
+        workers: options.workers,
+        turns: options.turns,
+    };
+    let playing = Playing {
+        workers: Workers::new(crew, gate),
+        traced: options.trace,
+    };
+    let status = run_body(rt, alloc, &playing, input, out, watch);
     put_fault(out, status);
     status
 }
 
+// What the words ask for, or the status where nothing is run for them.
+fn asked(alloc: Global, words: &[String]) -> Result<Options, Status>
+    ensures trace { IfOk result (λ o. o.trace ≡ asks_for_trace (map string_bytes words.now)) }
+    ensures range { IfOk result AreInRange }
+    ensures run { OnOk result (AreNotRun (map string_bytes words.now) → ⊥) }
+    ensures err { IfErr result (λ s. (s ≡ Status.NoMemory) ⊎ ((s ≡ Status.Usage) × AreNotRun (map string_bytes words.now))) }
+{
+    match read_words(alloc, words) {
+        Ok(options) => match options.storm {
+            None => Ok(options),
+            Some(_) => Err(Status::Usage),
+        },
+        Err(ArgsError::Usage) => Err(Status::Usage),
+        Err(ArgsError::NoMemory) => Err(Status::NoMemory),
+    }
+}
+
 // The whole run but for the fault line.
-fn run_body<S: Source, K: Sink>(alloc: Global, input: &mut S, out: &mut K) -> Status
-    ensures stopped { Stopped result (S.state input.old) (S.state input.new) (K.state out.old) (K.state out.new) }
+fn run_body<
+    S: Source,
+    K: Sink,
+    G: Gate + Sync,
+    W: Watch,
+    R: Threads + Wait + Sync,
+>(
+    rt: &R,
+    alloc: Global,
+    playing: &Playing<G>,
+    input: &mut S,
+    out: &mut K,
+    watch: &mut W,
+) -> Status
+    ensures stopped { Stopped playing.now.traced result (S.state input.old) (S.state input.new) (K.state out.old) (K.state out.new)
+        (W.told watch.old) (W.told watch.new) }
     ensures later { (S.state input.old).faults ≤ (S.state input.new).faults }
 {
     let pending = match Pending::new(alloc) {
@@ -84,12 +156,13 @@ fn run_body<S: Source, K: Sink>(alloc: Global, input: &mut S, out: &mut K) -> St
         Err(_) => return Status::NoMemory,
     };
     let mut runner = Runner {
+        alloc,
         lines,
         script,
         text: Vec::new(alloc),
         pending,
     };
-    runner.run(input, out)
+    runner.run(rt, playing, input, out, watch)
 }
 
 // Reads the header line by line. Answers what it sets, and of how many lines it is; or the status where the run ends there.
@@ -98,11 +171,10 @@ fn read_header<S: Source>(
     lines: &mut Lines,
     input: &mut S,
 ) -> Result<(Header, u64), Status>
-    ensures header { (began : SourceState) (sink : SinkState) → Reading began (S.state input.old) lines.old [] [] →
-        lines.old.limit ≡ most_bytes →
+    ensures header { (began : SourceState) → Reading began (S.state input.old) lines.old [] [] → lines.old.limit ≡ most_bytes →
         MatchResult result
         (λ h. HasHeader began (S.state input.new) lines.new h.0 h.1)
-        (λ s. Stopped s began (S.state input.new) sink sink) }
+        (λ s. StoppedFirst s began (S.state input.new)) }
     ensures few { IfOk result (λ h. h.1 ≤ most_lines) }
     ensures later { (S.state input.old).faults ≤ (S.state input.new).faults }
 {
@@ -127,9 +199,8 @@ fn read_header_line<S: Source>(
     lines: &mut Lines,
     input: &mut S,
 ) -> Result<Option<Header>, Status>
-    ensures header { (began : SourceState) (sink : SinkState) (read : List Line) →
-        InHeader began (S.state input.old) lines.old header.old read →
-        HeaderLineRead began (S.state input.new) lines.new header.new sink read result }
+    ensures header { (began : SourceState) (read : List Line) → InHeader began (S.state input.old) lines.old header.old read →
+        HeaderLineRead began (S.state input.new) lines.new header.new read result }
     ensures later { (S.state input.old).faults ≤ (S.state input.new).faults }
     ensures falls { IfOk result (λ h. IfNone h (budget lines.new < budget lines.old)) }
 {
@@ -158,6 +229,7 @@ fn refusal(error: HeaderError) -> Status
 // A run after its header.
 #[derive(Drop)]
 struct Runner {
+    alloc: Global,
     lines: Lines,
     script: Script,
     // what is printed for one line
@@ -167,15 +239,29 @@ struct Runner {
 
 impl Runner {
     // Reads line by line, until the run ends.
-    fn run<S: Source, K: Sink>(&mut self, input: &mut S, out: &mut K) -> Status
+    fn run<
+        S: Source,
+        K: Sink,
+        G: Gate + Sync,
+        W: Watch,
+        R: Threads + Wait + Sync,
+    >(
+        &mut self,
+        rt: &R,
+        playing: &Playing<G>,
+        input: &mut S,
+        out: &mut K,
+        watch: &mut W,
+    ) -> Status
         requires { (h : Headers) × (t : Standing) × ScriptRefines h t self.old.script }
-        ensures history { (began : SourceState) (sink : SinkState) →
-            Going began (S.state input.old) self.old.lines sink (K.state out.old) self.old.pending self.old.script →
-            Stopped result began (S.state input.new) sink (K.state out.new) }
+        ensures history { (began : SourceState) (sink : SinkState) (told : Told) →
+            Going playing.now.traced began (S.state input.old) self.old.lines sink (K.state out.old) told (W.told watch.old)
+            self.old.pending self.old.script →
+            Stopped playing.now.traced result began (S.state input.new) sink (K.state out.new) told (W.told watch.new) }
         ensures later { (S.state input.old).faults ≤ (S.state input.new).faults }
     {
         loop {
-            match self.turn(input, out) {
+            match self.turn(rt, playing, input, out, watch) {
                 None => {}
                 Some(status) => return status,
             }
@@ -184,39 +270,69 @@ impl Runner {
 
     // One line, before which all that was printed is written where the line may have to be waited for. Answers the status where
     // the run ends.
-    fn turn<S: Source, K: Sink>(&mut self, input: &mut S, out: &mut K) -> Option<Status>
+    fn turn<
+        S: Source,
+        K: Sink,
+        G: Gate + Sync,
+        W: Watch,
+        R: Threads + Wait + Sync,
+    >(
+        &mut self,
+        rt: &R,
+        playing: &Playing<G>,
+        input: &mut S,
+        out: &mut K,
+        watch: &mut W,
+    ) -> Option<Status>
         requires { (h : Headers) × (t : Standing) × ScriptRefines h t self.old.script }
-        ensures history { (began : SourceState) (sink : SinkState) →
-            Going began (S.state input.old) self.old.lines sink (K.state out.old) self.old.pending self.old.script →
+        ensures history { (began : SourceState) (sink : SinkState) (told : Told) →
+            Going playing.now.traced began (S.state input.old) self.old.lines sink (K.state out.old) told (W.told watch.old)
+            self.old.pending self.old.script →
             MatchOption result
-            (Going began (S.state input.new) self.new.lines sink (K.state out.new) self.new.pending self.new.script)
-            (λ s. Stopped s began (S.state input.new) sink (K.state out.new)) }
+            (Going playing.now.traced began (S.state input.new) self.new.lines sink (K.state out.new) told (W.told watch.new)
+            self.new.pending self.new.script)
+            (λ s. Stopped playing.now.traced s began (S.state input.new) sink (K.state out.new) told (W.told watch.new)) }
         ensures later { (S.state input.old).faults ≤ (S.state input.new).faults }
         ensures falls { IfNone result (budget self.new.lines < budget self.old.lines) }
         ensures ready { IfNone result ((h : Headers) × (t : Standing) × ScriptRefines h t self.new.script) }
     {
         match write_before_wait(&self.lines, &mut self.pending, out) {
-            Ok(()) => self.follow(input, out),
+            Ok(()) => self.follow(rt, playing, input, out, watch),
             Err(Failed) => Some(Status::WriteFault),
         }
     }
 
     // The next line: it is read, the script follows it, and what the script prints is pending.
-    fn follow<S: Source, K: Sink>(&mut self, input: &mut S, out: &mut K) -> Option<Status>
+    fn follow<
+        S: Source,
+        K: Sink,
+        G: Gate + Sync,
+        W: Watch,
+        R: Threads + Wait + Sync,
+    >(
+        &mut self,
+        rt: &R,
+        playing: &Playing<G>,
+        input: &mut S,
+        out: &mut K,
+        watch: &mut W,
+    ) -> Option<Status>
         requires { (h : Headers) × (t : Standing) × ScriptRefines h t self.old.script }
-        ensures history { (began : SourceState) (sink : SinkState) →
-            Going began (S.state input.old) self.old.lines sink (K.state out.old) self.old.pending self.old.script →
+        ensures history { (began : SourceState) (sink : SinkState) (told : Told) →
+            Going playing.now.traced began (S.state input.old) self.old.lines sink (K.state out.old) told (W.told watch.old)
+            self.old.pending self.old.script →
             MatchOption result
-            (Going began (S.state input.new) self.new.lines sink (K.state out.new) self.new.pending self.new.script)
-            (λ s. Stopped s began (S.state input.new) sink (K.state out.new)) }
+            (Going playing.now.traced began (S.state input.new) self.new.lines sink (K.state out.new) told (W.told watch.new)
+            self.new.pending self.new.script)
+            (λ s. Stopped playing.now.traced s began (S.state input.new) sink (K.state out.new) told (W.told watch.new)) }
         ensures later { (S.state input.old).faults ≤ (S.state input.new).faults }
         ensures falls { IfNone result (budget self.new.lines < budget self.old.lines) }
         ensures ready { IfNone result ((h : Headers) × (t : Standing) × ScriptRefines h t self.new.script) }
     {
         match self.lines.next(input) {
-            Next::Line => self.print_line(out),
+            Next::Line => self.print_line(rt, playing, out, watch),
             Next::Long => self.print_long(out),
-            Next::End => match self.print_last(out) {
+            Next::End => match self.print_last(rt, playing, out, watch) {
                 None => Some(Status::Done),
                 Some(status) => Some(status),
             },
@@ -226,18 +342,24 @@ impl Runner {
     }
 
     // Prints for the line that was read.
-    fn print_line<K: Sink>(&mut self, out: &mut K) -> Option<Status>
+    fn print_line<K: Sink, G: Gate + Sync, W: Watch, R: Threads + Wait + Sync>(
+        &mut self,
+        rt: &R,
+        playing: &Playing<G>,
+        out: &mut K,
+        watch: &mut W,
+    ) -> Option<Status>
         requires { (h : Headers) × (t : Standing) × ScriptRefines h t self.old.script }
         ensures prints { (h : Headers) (t : Standing) (sink : SinkState) (text : List ℕ) → ScriptRefines h t self.old.script →
             Printed sink (K.state out.old) self.old.pending text →
-            Prints (LineRead h t (Content self.old.lines.line) (λ s. ScriptRefines h s self.new.script)) sink (K.state out.new)
-            self.new.pending text result }
+            Prints (LineRead playing.now.traced h t (Content self.old.lines.line) (λ s. ScriptRefines h s self.new.script)) sink
+            (K.state out.new) self.new.pending text (W.told watch.old) (W.told watch.new) result }
         ensures lines { self.new.lines ≡ self.old.lines }
         ensures ready { IfNone result ((h : Headers) × (t : Standing) × ScriptRefines h t self.new.script) }
     {
         self.text.clear();
-        match self.script.read_line(self.lines.line(), &mut self.text) {
-            Ok(()) => print(&self.text, &mut self.pending, out),
+        match self.script.read_line(rt, playing, self.lines.line(), &mut self.text) {
+            Ok(ended) => self.show(&ended, out, watch),
             Err(_) => Some(stop(Status::NoMemory, &mut self.pending, out)),
         }
     }
@@ -245,9 +367,10 @@ impl Runner {
     // Prints for a line that is too long.
     fn print_long<K: Sink>(&mut self, out: &mut K) -> Option<Status>
         requires { (h : Headers) × (t : Standing) × ScriptRefines h t self.old.script }
-        ensures prints { (h : Headers) (t : Standing) (sink : SinkState) (text : List ℕ) → ScriptRefines h t self.old.script →
-            Printed sink (K.state out.old) self.old.pending text →
-            Prints (LineRead h t Long (λ s. ScriptRefines h s self.new.script)) sink (K.state out.new) self.new.pending text result }
+        ensures prints { (traced : Bool) (h : Headers) (t : Standing) (sink : SinkState) (text : List ℕ) (told : Told) →
+            ScriptRefines h t self.old.script → Printed sink (K.state out.old) self.old.pending text →
+            Prints (LineRead traced h t Long (λ s. ScriptRefines h s self.new.script)) sink (K.state out.new) self.new.pending text told
+            told result }
         ensures lines { self.new.lines ≡ self.old.lines }
         ensures ready { IfNone result ((h : Headers) × (t : Standing) × ScriptRefines h t self.new.script) }
     {
@@ -259,17 +382,74 @@ impl Runner {
     }
 
     // Prints for the end of the input, and writes all that was printed.
-    fn print_last<K: Sink>(&mut self, out: &mut K) -> Option<Status>
+    fn print_last<K: Sink, G: Gate + Sync, W: Watch, R: Threads + Wait + Sync>(
+        &mut self,
+        rt: &R,
+        playing: &Playing<G>,
+        out: &mut K,
+        watch: &mut W,
+    ) -> Option<Status>
         requires { (h : Headers) × (t : Standing) × ScriptRefines h t self.old.script }
         ensures { (h : Headers) (t : Standing) (sink : SinkState) (text : List ℕ) → ScriptRefines h t self.old.script →
             Printed sink (K.state out.old) self.old.pending text →
-            Prints (InputEnded h t) sink (K.state out.new) [] text result }
+            Prints (InputEnded playing.now.traced h t) sink (K.state out.new) [] text (W.told watch.old) (W.told watch.new) result }
     {
         self.text.clear();
-        match self.script.finish(&mut self.text) {
+        match self.script.finish(rt, playing, &mut self.text) {
+            Ok(ended) => self.show_last(&ended, out, watch),
+            Err(_) => Some(stop(Status::NoMemory, &mut self.pending, out)),
+        }
+    }
+
+    // Gives the watch the steps of a round that ended, and prints the text.
+    fn show<K: Sink, W: Watch>(
+        &mut self,
+        ended: &Option<Journal>,
+        out: &mut K,
+        watch: &mut W,
+    ) -> Option<Status>
+        ensures prints { (sink : SinkState) (before : List ℕ) → Printed sink (K.state out.old) self.old.pending before →
+            Prints (λ piece steps. (piece ≡ self.old.text.items) × (steps ≡ option_to_list ended.now)) sink (K.state out.new)
+            self.new.pending before (W.told watch.old) (W.told watch.new) result }
+        ensures lines { self.new.lines ≡ self.old.lines }
+        ensures script { self.new.script ≡ self.old.script }
+    {
+        match give(self.alloc, ended, watch) {
+            Ok(()) => print(&self.text, &mut self.pending, out),
+            Err(_) => Some(stop(Status::NoMemory, &mut self.pending, out)),
+        }
+    }
+
+    // The same at the end of the input, when all is written.
+    fn show_last<K: Sink, W: Watch>(
+        &mut self,
+        ended: &Option<Journal>,
+        out: &mut K,
+        watch: &mut W,
+    ) -> Option<Status>
+        ensures { (sink : SinkState) (before : List ℕ) → Printed sink (K.state out.old) self.old.pending before →
+            Prints (λ piece steps. (piece ≡ self.old.text.items) × (steps ≡ option_to_list ended.now)) sink (K.state out.new) []
+            before (W.told watch.old) (W.told watch.new) result }
+    {
+        match give(self.alloc, ended, watch) {
             Ok(()) => print_and_write(&self.text, &mut self.pending, out),
             Err(_) => Some(stop(Status::NoMemory, &mut self.pending, out)),
         }
+    }
+}
+
+// Gives the watch the steps of a round that ended, if one did.
+fn give<W: Watch>(
+    alloc: Global,
+    ended: &Option<Journal>,
+    watch: &mut W,
+) -> Result<(), AllocError>
+    ensures given { OnOk result (W.told watch.new ≡ after_all the_space (option_to_list ended.now) (W.told watch.old)) }
+    ensures err { OnErr result (W.told watch.new ≡ W.told watch.old) }
+{
+    match ended {
+        Some(journal) => watch.journal(alloc, SPACE, journal),
+        None => Ok(()),
     }
 }
 
@@ -294,7 +474,7 @@ fn write_before_wait<K: Sink>(
 // Prints a text.
 fn print<K: Sink>(text: &[u8], pending: &mut Pending, out: &mut K) -> Option<Status>
     ensures { (sink : SinkState) (before : List ℕ) → Printed sink (K.state out.old) pending.old before →
-        Prints (λ piece. piece ≡ text.now) sink (K.state out.new) pending.new before result }
+        IsPrinted text.now sink (K.state out.new) pending.new before result }
 {
     match pending.push(text, out) {
         Ok(()) => None,
@@ -305,7 +485,7 @@ fn print<K: Sink>(text: &[u8], pending: &mut Pending, out: &mut K) -> Option<Sta
 // Prints a text, and writes all that was printed.
 fn print_and_write<K: Sink>(text: &[u8], pending: &mut Pending, out: &mut K) -> Option<Status>
     ensures { (sink : SinkState) (before : List ℕ) → Printed sink (K.state out.old) pending.old before →
-        Prints (λ piece. piece ≡ text.now) sink (K.state out.new) [] before result }
+        IsPrinted text.now sink (K.state out.new) [] before result }
 {
     match pending.push(text, out) {
         Ok(()) => match pending.write(out) {

@@ -1,5 +1,6 @@
 // A script, line by line.
-ghost use Rattle.std.specs.Prelude.{◌≡◌, ◌≤◌, ◌++◌, List, ℕ, length, OnOk, IfOk};
+ghost use Rattle.std.specs.Prelude.{◌≡◌, ◌≤◌, ◌++◌, List, [], ℕ, Bool, length, OnOk, IfOk};
+ghost use Rattle.std.specs.Option.{option_to_list};
 ghost use Rattle.seam_io.specs.Lines.{Line as Lines, Content, Long};
 ghost use Rattle.seam_defs.specs.Settings.{AreLegal};
 ghost use Rattle.seam_defs.specs.Types.{AreDefs};
@@ -10,11 +11,11 @@ ghost use Rattle.seam_accept.specs.Refines.{Refines as HoldsBook};
 ghost use Rattle.seam_rules.specs.Standing.{Standing, after_header, with_line};
 ghost use Rattle.seam_course.specs.Counts.{most_lines};
 ghost use Rattle.seam_world.specs.Following.{RoundEnds, LineFollowed, LineRead, InputEnded};
-ghost use Rattle.seam_world.specs.Rounds.{with_bounds};
+ghost use Rattle.seam_rules.specs.Round.{with_bounds};
 ghost use Rattle.seam_world.specs.Script.{IsReady, ScriptRefines, HasAccepted};
 
 use crate::count::next_count;
-use crate::round::play;
+use crate::round::{Playing, play};
 use seam_accept::{Accepted, Book, Refusal};
 use seam_core::World;
 use seam_io::LONGEST_LINE;
@@ -22,7 +23,11 @@ use seam_print::Residents;
 use seam_report::push_refusal;
 use seam_transcript::{Cause, Commands, Header, MOST_LINES};
 use seam_tree::Tree;
+use seam_watch::Journal;
+use seam_workers::Gate;
 use std::alloc::{AllocError, Global};
+use std::sync::Wait;
+use std::thread::Threads;
 
 /// How far a script was read: the book of what was accepted, the world of cells as the last round left it with the entities that live
 /// in it, and the counts of lines and rounds.
@@ -60,58 +65,81 @@ impl Script {
         })
     }
 
-    /// Reads the next line, and appends what is printed for it.
-    pub fn read_line(&mut self, line: &[u8], out: &mut Vec<u8>) -> Result<(), AllocError>
+    /// Reads the next line, and appends what is printed for it. Answers the steps of a round that it ended.
+    pub fn read_line<G: Gate + Sync, R: Threads + Wait + Sync>(
+        &mut self,
+        rt: &R,
+        playing: &Playing<G>,
+        line: &[u8],
+        out: &mut Vec<u8>,
+    ) -> Result<Option<Journal>, AllocError>
         requires length { length line.now ≤ LONGEST_LINE }
         requires ready { (h : Headers) × (t : Standing) × ScriptRefines h t self.old }
-        ensures { OnOk result ((h : Headers) (t : Standing) → ScriptRefines h t self.old
-            → (text : List ℕ) × LineRead h t (Content line.now) (λ s. ScriptRefines h s self.new) text
+        ensures { IfOk result (λ ended. (h : Headers) (t : Standing) → ScriptRefines h t self.old
+            → (text : List ℕ) × LineRead playing.now.traced h t (Content line.now) (λ s. ScriptRefines h s self.new) text (option_to_list ended)
             × (out.new.items ≡ out.old.items ++ text)) }
     {
         seam_course::a_course_begins_and_goes_on();
         self.line = next_count(self.line)?;
         match self.book.accept(line) {
-            Ok(accepted) => self.follow(accepted, out),
-            Err(Refusal::Cause(cause)) => push_refusal(out, self.line, cause),
+            Ok(accepted) => self.follow(rt, playing, accepted, out),
+            Err(Refusal::Cause(cause)) => {
+                push_refusal(out, self.line, cause)?;
+                Ok(None)
+            }
             Err(Refusal::NoMemory) => Err(AllocError),
         }
     }
 
     /// Reads a line that is too long.
     pub fn read_long(&mut self, out: &mut Vec<u8>) -> Result<(), AllocError>
-        ensures { OnOk result ((h : Headers) (t : Standing) → ScriptRefines h t self.old
-            → (text : List ℕ) × LineRead h t Long (λ s. ScriptRefines h s self.new) text × (out.new.items ≡ out.old.items ++ text)) }
+        ensures { OnOk result ((traced : Bool) (h : Headers) (t : Standing) → ScriptRefines h t self.old
+            → (text : List ℕ) × LineRead traced h t Long (λ s. ScriptRefines h s self.new) text [] × (out.new.items ≡ out.old.items ++ text)) }
     {
         seam_course::a_course_begins_and_goes_on();
         self.line = next_count(self.line)?;
         push_refusal(out, self.line, Cause::TooLong)
     }
 
-    // Does what a line asks for that the book accepted or skipped, and appends what is printed.
-    fn follow(&mut self, accepted: Accepted, out: &mut Vec<u8>) -> Result<(), AllocError>
+    // Does what a line asks for that the book accepted or skipped, and appends what is printed. Answers the steps of a round that ended.
+    fn follow<G: Gate + Sync, R: Threads + Wait + Sync>(
+        &mut self,
+        rt: &R,
+        playing: &Playing<G>,
+        accepted: Accepted,
+        out: &mut Vec<u8>,
+    ) -> Result<Option<Journal>, AllocError>
         requires { (h : Headers) × (t : Standing) × (line : Lines) × HasAccepted h t line accepted self.old }
-        ensures { OnOk result ((h : Headers) (t : Standing) (line : Lines) → HasAccepted h t line accepted self.old
-            → (text : List ℕ) × LineFollowed h (with_line t) line (λ s. ScriptRefines h s self.new) text × (out.new.items ≡ out.old.items ++ text)) }
+        ensures { IfOk result (λ ended. (h : Headers) (t : Standing) (line : Lines) → HasAccepted h t line accepted self.old
+            → (text : List ℕ)
+            × LineFollowed playing.now.traced h (with_line t) line (λ s. ScriptRefines h s self.new) text (option_to_list ended)
+            × (out.new.items ≡ out.old.items ++ text)) }
     {
         seam_course::a_course_begins_and_goes_on();
         seam_course::a_round_may_be_run();
         match accepted {
-            Accepted::Skipped => Ok(()),
+            Accepted::Skipped => Ok(None),
             Accepted::Kept => {
                 if self.book.count() == MOST_LINES {
-                    return self.end_round(out);
+                    return Ok(Some(self.end_round(rt, playing, out)?));
                 }
-                Ok(())
+                Ok(None)
             }
-            Accepted::Synced => self.end_round(out),
+            Accepted::Synced => Ok(Some(self.end_round(rt, playing, out)?)),
         }
     }
 
-    // Ends the open round, whose text is appended.
-    fn end_round(&mut self, out: &mut Vec<u8>) -> Result<(), AllocError>
+    // Ends the open round, whose text is appended, and answers its steps.
+    fn end_round<G: Gate + Sync, R: Threads + Wait + Sync>(
+        &mut self,
+        rt: &R,
+        playing: &Playing<G>,
+        out: &mut Vec<u8>,
+    ) -> Result<Journal, AllocError>
         requires { (h : Headers) × (t : Standing) × IsReady h t self.old }
-        ensures { OnOk result ((h : Headers) (t : Standing) → IsReady h t self.old
-            → (text : List ℕ) × RoundEnds h t (λ s. ScriptRefines h s self.new) text × (out.new.items ≡ out.old.items ++ text)) }
+        ensures { IfOk result (λ steps. (h : Headers) (t : Standing) → IsReady h t self.old
+            → (text : List ℕ) × RoundEnds playing.now.traced h t (λ s. ScriptRefines h s self.new) text steps
+            × (out.new.items ≡ out.old.items ++ text)) }
     {
         seam_course::a_round_may_be_run();
         seam_course::a_run_round_is_legal();
@@ -124,7 +152,9 @@ impl Script {
         let batch = self.book.take_batch();
         self.residents.begin(&batch)?;
         let played = play(
+            rt,
             self.alloc,
+            playing,
             &self.header,
             self.round,
             &mut self.residents,
@@ -134,20 +164,25 @@ impl Script {
         )?;
         begin_next(&mut self.book, played.bounds);
         self.world = Some(played.world);
-        Ok(())
+        Ok(played.journal)
     }
 
-    /// Ends the input, and appends the text of a last round, if there is one.
-    pub fn finish(&mut self, out: &mut Vec<u8>) -> Result<(), AllocError>
+    /// Ends the input, and appends the text of a last round, whose steps it answers, if there is one.
+    pub fn finish<G: Gate + Sync, R: Threads + Wait + Sync>(
+        &mut self,
+        rt: &R,
+        playing: &Playing<G>,
+        out: &mut Vec<u8>,
+    ) -> Result<Option<Journal>, AllocError>
         requires { (h : Headers) × (t : Standing) × ScriptRefines h t self.old }
-        ensures { OnOk result ((h : Headers) (t : Standing) → ScriptRefines h t self.old
-            → (text : List ℕ) × InputEnded h t text × (out.new.items ≡ out.old.items ++ text)) }
+        ensures { IfOk result (λ ended. (h : Headers) (t : Standing) → ScriptRefines h t self.old
+            → (text : List ℕ) × InputEnded playing.now.traced h t text (option_to_list ended) × (out.new.items ≡ out.old.items ++ text)) }
     {
         seam_course::a_round_may_be_run();
         if self.book.count() == 0 {
-            return Ok(());
+            return Ok(None);
         }
-        self.end_round(out)
+        Ok(Some(self.end_round(rt, playing, out)?))
     }
 }
 

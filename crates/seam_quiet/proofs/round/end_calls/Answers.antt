@@ -1,6 +1,6 @@
 use Rattle.std.proofs.Common.{refl, sym, subst}
 use Rattle.seam_steps.specs.Nodes.{node_steps, node_has_work}
-use Rattle.seam_finish.specs.Finishing.{EndsWithin, TakesFirst}
+use Rattle.seam_finish.specs.Finishing.{EndsWithin}
 use Rattle.seam_core.specs.Worlds.{Leads}
 use Rattle.seam_quiet.proofs.round.end_calls.Goals as goal
 
@@ -27,7 +27,6 @@ returns g c =
     let begun = c.in_ok-load.ensures.loaded in
     record {
       leads = subst (λ w. Leads w es called) begun c.in_ok-world.ensures.run;
-      first = subst (λ w. TakesFirst node_has_work node_steps w es) begun c.in_ok-world.ensures.first;
       quiet = c.in_ok-world.ensures.quiet;
       destroys = refl;
     }

@@ -1,7 +1,5 @@
 use Rattle.std.proofs.Common.{[], refl, subst, ap, ◌∙◌}
-use Rattle.seam_steps.specs.Nodes.{node_steps, node_has_work}
 use Rattle.seam_steps.specs.Loads.{reaps_loaded}
-use Rattle.seam_finish.specs.Finishing.{TakesFirst}
 use Rattle.seam_core.specs.Worlds.{Leads}
 use Rattle.seam_quiet.specs.Rounds.BeginsPhase.{reaps_begin, looks_begin}
 use Rattle.seam_quiet.proofs.Phases.{goes_through}
@@ -48,9 +46,6 @@ returns-clause-stands g c =
         calls = refl;
         reaps = refl;
         looks = refl;
-        first_calls = called.first;
-        first_reaps = subst (λ w. TakesFirst node_has_work node_steps w ds) told c.in_ok-world.ensures.first;
-        first_looks = subst (λ w. TakesFirst node_has_work node_steps w ls) looking c.in_ok-world-2.ensures.first;
       },
       refl,
     )

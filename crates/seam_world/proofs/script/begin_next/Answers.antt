@@ -1,7 +1,7 @@
 use Rattle.std.proofs.Common.{sym, subst}
 use Rattle.seam_transcript.specs.declared.commands.Commands.TheVariants.{All}
 use Rattle.seam_accept.specs.Refines.{Refines as HoldsBook}
-use Rattle.seam_world.specs.Rounds.{with_bounds}
+use Rattle.seam_rules.specs.Round.{with_bounds}
 use Rattle.seam_world.proofs.script.begin_next.Goals as goal
 
 pub returns-in-Some : goal.returns-in-Some

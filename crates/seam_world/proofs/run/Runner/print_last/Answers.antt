@@ -1,4 +1,5 @@
-use Rattle.std.proofs.Common.{[], ◌≡◌, subst, sym}
+use Rattle.std.proofs.Common.{[], ◌≡◌, refl, subst, sym}
+use Rattle.std.specs.Option.{option_to_list}
 use Rattle.seam_world.specs.Following.{InputEnded}
 use Rattle.seam_world.proofs.PrintLemmas.{cleared_first, gathered_prints, nothing_prints}
 use Rattle.seam_world.proofs.run.Runner.print_last.Goals as goal
@@ -6,9 +7,11 @@ use Rattle.seam_world.proofs.run.Runner.print_last.Goals as goal
 pub returns-in-Ok : goal.returns-in-Ok
 returns-in-Ok g c = λ h t sink text refines printed.
     let ended = c.in-Ok.ensures h t refines in
-    let piece : c.deref.result.now ≡ ended.0 = cleared_first _ _ _ ended.0 c.deref.ensures.value ended.2 c.clear.ensures.items in
-    gathered_prints _ c.deref.result.now sink _ _ text c.print_and_write.result (subst (InputEnded h t) (sym piece) ended.1)
-    (c.print_and_write.ensures sink text printed)
+    let steps = option_to_list c.in-Ok.ended in
+    let piece : c.finish.new.text.items ≡ ended.0 = cleared_first _ _ _ ended.0 refl ended.2 c.clear.ensures.items in
+    gathered_prints _ c.finish.new.text.items steps sink _ _ text _ _ c.show_last.result
+    (subst (λ xs. InputEnded c.args.playing.now.traced h t xs steps) (sym piece) ended.1) (c.show_last.ensures sink text printed)
 
 pub returns-in-Err : goal.returns-in-Err
-returns-in-Err g c = λ h t sink text refines printed. nothing_prints _ sink _ [] text c.stop.result (c.stop.ensures sink text printed)
+returns-in-Err g c = λ h t sink text refines printed.
+    nothing_prints _ sink _ [] text _ _ c.stop.result refl (c.stop.ensures sink text printed)

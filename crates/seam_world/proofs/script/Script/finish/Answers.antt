@@ -1,5 +1,4 @@
 use Rattle.std.proofs.Common.{◌≢◌, [], sym, ◌∙◌, append-nil}
-use Rattle.std.proofs.lemmas.Result.{on_ok_weaker}
 use Rattle.seam_transcript.specs.Book.{open_lines}
 use Rattle.seam_transcript.specs.declared.commands.Commands.TheVariants.{All}
 use Rattle.seam_world.specs.Script.{ScriptRefines}
@@ -11,7 +10,7 @@ pub returns-then-count-eq0 : goal.returns-then-count-eq0
 returns-then-count-eq0 c =
     λ h t was. (
       [],
-      nothing_open h t (sym (c.count.ensures All h t.book was.book) ∙ c.if-count-eq0.true),
+      nothing_open c.args.playing.now.traced h t (sym (c.count.ensures All h t.book was.book) ∙ c.if-count-eq0.true),
       sym (append-nil c.args.out.now.items),
     )
 
@@ -27,9 +26,7 @@ end_round-requires c =
     )
 
 pub returns : goal.returns
-returns c = on_ok_weaker c.end_round.result
-    (λ ended h t was.
+returns c = λ h t was.
     let some : open_lines t.book ≢ 0 = λ none. c.if-count-eq0.false (c.count.ensures All h t.book was.book ∙ none) in
-    let e = ended h t (open_ready h t c.args.self.now was (c.a_round_may_be_run.ensures.some h t) some) in
-    (e.0, last_round h t (λ s. ScriptRefines h s c.end_round.new.self) e.0 some e.1, e.2))
-    c.end_round.ensures
+    let e = c.in_ok-end_round.ensures h t (open_ready h t c.args.self.now was (c.a_round_may_be_run.ensures.some h t) some) in
+    (e.0, last_round c.args.playing.now.traced h t (λ s. ScriptRefines h s c.end_round.new.self) e.0 _ some e.1, e.2)

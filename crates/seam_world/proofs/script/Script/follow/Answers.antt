@@ -1,5 +1,4 @@
 use Rattle.std.proofs.Common.{◌≢◌, [], sym, ◌∙◌, subst, append-nil}
-use Rattle.std.proofs.lemmas.Result.{on_ok_weaker}
 use Rattle.seam_transcript.specs.Book.{open_lines, with_entry}
 use Rattle.seam_transcript.specs.declared.commands.Commands.TheVariants.{All}
 use Rattle.seam_transcript.specs.declared.limits.TheConstants.{MOST_LINES}
@@ -37,18 +36,17 @@ end_round-requires-in-Synced c =
     )
 
 pub returns-then-count-eq-MOST_LINES : goal.returns-then-count-eq-MOST_LINES
-returns-then-count-eq-MOST_LINES c = on_ok_weaker c.end_round.result
-    (λ ended h t line accepted.
+returns-then-count-eq-MOST_LINES c = λ h t line accepted.
     let was = subst (λ (a : Accepted). HasAccepted h t line a c.args.self.now) c.in-Kept.is accepted in
     let goes = c.a_course_begins_and_goes_on.ensures.entry h t in
     let full = sym (c.count.ensures All h (with_entry t.book was.answered.0) was.answered.2) ∙ c.if-count-eq-MOST_LINES.true in
-    let e = ended h (with_book (with_line t) (with_entry t.book was.answered.0)) (kept_ready h t goes line c.args.self.now was
+    let e = c.in_ok-end_round.ensures h (with_book (with_line t) (with_entry t.book was.answered.0)) (kept_ready h t goes line c.args.self.now was
     (full_may_end h t goes line c.args.self.now was (c.a_round_may_be_run.ensures.some h) full)) in (
       e.0,
-      kept_last h (with_line t) line was.answered.0 (λ s. ScriptRefines h s c.end_round.new.self) e.0 was.answered.1 full e.1,
+      kept_last c.args.playing.now.traced h (with_line t) line was.answered.0 (λ s. ScriptRefines h s c.end_round.new.self) e.0 _
+          was.answered.1 full e.1,
       e.2,
-    ))
-    c.end_round.ensures
+    )
 
 pub returns-else-count-eq-MOST_LINES : goal.returns-else-count-eq-MOST_LINES
 returns-else-count-eq-MOST_LINES c = λ h t line accepted.
@@ -56,25 +54,27 @@ returns-else-count-eq-MOST_LINES c = λ h t line accepted.
     let open_ : open_lines (with_entry t.book was.answered.0) ≢ MOST_LINES =
     λ full. c.if-count-eq-MOST_LINES.false (c.count.ensures All h (with_entry t.book was.answered.0) was.answered.2 ∙ full) in (
       [],
-      kept_open h (with_line t) line was.answered.0 (λ s. ScriptRefines h s c.args.self.now) was.answered.1 open_
+      kept_open c.args.playing.now.traced h (with_line t) line was.answered.0 (λ s. ScriptRefines h s c.args.self.now) was.answered.1 open_
           (kept_refines h t (c.a_course_begins_and_goes_on.ensures.entry h t) line c.args.self.now was open_),
       sym (append-nil c.args.out.now.items),
     )
 
 pub returns-in-Synced : goal.returns-in-Synced
-returns-in-Synced c = on_ok_weaker c.end_round-in-Synced.result
-    (λ ended h t line accepted.
+returns-in-Synced c = λ h t line accepted.
     let was = subst (λ (a : Accepted). HasAccepted h t line a c.args.self.now) c.in-Synced.is accepted in
-    let e = ended h (with_line t) (sync_ready h t (c.a_course_begins_and_goes_on.ensures.line h t) line c.args.self.now was
+    let e = c.in_ok-end_round-in-Synced.ensures h (with_line t) (sync_ready h t (c.a_course_begins_and_goes_on.ensures.line h t) line c.args.self.now was
     (sync_may_end h t line c.args.self.now was (c.a_round_may_be_run.ensures.synced h t))) in
-    (e.0, synced h (with_line t) line (λ s. ScriptRefines h s c.end_round-in-Synced.new.self) e.0 was.answered.0 e.1, e.2))
-    c.end_round-in-Synced.ensures
+    (
+      e.0,
+      synced c.args.playing.now.traced h (with_line t) line (λ s. ScriptRefines h s c.end_round-in-Synced.new.self) e.0 _ was.answered.0 e.1,
+      e.2,
+    )
 
 pub returns-in-Skipped : goal.returns-in-Skipped
 returns-in-Skipped c = λ h t line accepted.
     let was = subst (λ (a : Accepted). HasAccepted h t line a c.args.self.now) c.in-Skipped.is accepted in (
       [],
-      skipped h (with_line t) line (λ s. ScriptRefines h s c.args.self.now) was.answered.0
+      skipped c.args.playing.now.traced h (with_line t) line (λ s. ScriptRefines h s c.args.self.now) was.answered.0
           (skipped_refines h t (c.a_course_begins_and_goes_on.ensures.line h t) line c.args.self.now was),
       sym (append-nil c.args.out.now.items),
     )

@@ -10,7 +10,7 @@ use Rattle.seam_world.proofs.script.Script.read_long.Goals as goal
 
 pub returns : goal.returns
 returns c = on_ok_weaker c.push_refusal.result
-    (λ text h t was. (
+    (λ text traced h t was. (
       refusal c.in_ok-self.field-0 TooLong,
       refused_line h t (c.a_course_begins_and_goes_on.ensures.line h t) Long TooLong c.args.self.now _ was refl refl refl refl
           c.in_ok-self.ensures.next c.in_ok-self.ensures.most refl (long_is_refused All h t.book),

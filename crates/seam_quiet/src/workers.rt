@@ -1,0 +1,62 @@
+//! Who lets the events of a round happen.
+
+ghost use Rattle.std.specs.Prelude.{◌≡◌, ◌≤◌, IfOk};
+ghost use Rattle.seam_machine.specs.Nets.{ArePeers, LeadsTo};
+ghost use Rattle.seam_steps.specs.Nodes.{node_steps, node_has_work, node_peers};
+
+use seam_core::Node;
+use seam_machine::{Event, Net};
+use seam_workers::{Crew, Gate, run_workers};
+use std::alloc::{AllocError, Global};
+use std::marker::Model;
+use std::sync::Wait;
+use std::thread::Threads;
+
+/// The workers of a run: how many there are, how many turns each has in a phase of a round, and the gate that is called before each turn.
+pub struct Workers<'a, G> {
+    crew: Crew,
+    gate: &'a G,
+}
+
+impl<G> Model for Workers<'_, G> {
+    ghost use Rattle.std.specs.Prelude.{◌≤◌};
+    ghost use Rattle.seam_workers.specs.declared.Crew.{Crew};
+
+    ghost Value = { Crew };
+
+    ghost view = { λ w. w.crew };
+
+    ghost invariant = { λ w. (1 ≤ w.crew.workers) × (w.crew.workers ≤ 16) × (1 ≤ w.crew.turns) };
+}
+
+impl<'a, G> Workers<'a, G> {
+    /// A crew of 1 to 16 workers, each of whom has a turn or more in a phase.
+    pub fn new(crew: Crew, gate: &'a G) -> Workers<'a, G>
+        requires workers { (1 ≤ crew.workers) × (crew.workers ≤ 16) }
+        requires turns { 1 ≤ crew.turns }
+        ensures { result ≡ crew }
+    {
+        Workers { crew, gate }
+    }
+
+    // Whether there is one alone: it would do what the caller does as well.
+    pub(crate) fn are_one(&self) -> bool {
+        self.crew.workers == 1
+    }
+}
+
+impl<G: Gate + Sync> Workers<'_, G> {
+    // Lets events of the net happen in threads.
+    pub(crate) fn run<R: Threads + Wait + Sync>(
+        &self,
+        rt: &R,
+        alloc: Global,
+        net: Net<Node>,
+    ) -> Result<(Net<Node>, Vec<Event>), AllocError>
+        requires { ArePeers node_peers net }
+        ensures run { IfOk result (λ r. LeadsTo node_has_work node_steps net r.1.items r.0) }
+        ensures peers { IfOk result (λ r. ArePeers node_peers r.0) }
+    {
+        run_workers(rt, alloc, net, self.crew, self.gate)
+    }
+}
