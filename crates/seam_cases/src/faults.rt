@@ -1,20 +1,17 @@
 // Scripts with streams that fail.
 use crate::runs::{GOOD, Streams, run_with};
 use seam_world::Status;
-use std::alloc::Global;
-use std::process::Abort;
 use std::test::Fail;
 
 const SCRIPT: &str = "%%\ncreate 1 Avatar 100 100\ncall b1 9 heal 1\nsync\n";
 
 fn check(
-    rt: &impl Abort,
-    alloc: Global,
+    rt: &HostRuntime,
     streams: Streams,
     status: Status,
     output: &[u8],
 ) -> Result<(), Fail> {
-    let (ended, out) = run_with(alloc, SCRIPT, streams)?;
+    let (ended, out) = run_with(rt, SCRIPT, streams)?;
     assert_eq!(rt; ended, status);
     assert_eq!(rt; out.bytes(), output);
     Ok(())
@@ -26,7 +23,7 @@ fn a_first_read_that_fails_ends_the_run(rt: HostRuntime) -> Result<(), Fail> {
         bad_reads: &[1],
         ..GOOD
     };
-    check(&rt, rt.alloc(), streams, Status::ReadFault, b"fault read\n")
+    check(&rt, streams, Status::ReadFault, b"fault read\n")
 }
 
 #[test]
@@ -38,7 +35,6 @@ fn a_later_read_that_fails_comes_after_the_round(rt: HostRuntime) -> Result<(), 
     };
     check(
         &rt,
-        rt.alloc(),
         streams,
         Status::ReadFault,
         b"line 3 dead\nround 1\nhome 1 0 0 100 100 hp=100 mana=50 mood=0 note=\"\" scent=0 xp=0\nbase 1 0 gold=0 rank=1\nend 1\n\
@@ -52,7 +48,7 @@ fn a_first_write_that_fails_writes_nothing(rt: HostRuntime) -> Result<(), Fail> 
         bad_writes: &[1],
         ..GOOD
     };
-    check(&rt, rt.alloc(), streams, Status::WriteFault, b"")
+    check(&rt, streams, Status::WriteFault, b"")
 }
 
 #[test]
@@ -60,7 +56,6 @@ fn a_full_sink_ends_the_run(rt: HostRuntime) -> Result<(), Fail> {
     let streams = Streams { limit: 20, ..GOOD };
     check(
         &rt,
-        rt.alloc(),
         streams,
         Status::WriteFault,
         b"line 3 dead\nround 1\n",

@@ -123,7 +123,7 @@ static LONG_LINE: Row = Row {
 #[test]
 fn headers_are_read(rt: HostRuntime) -> Result<(), Fail> {
     for row in &HEADERS {
-        let (status, out) = run_with(rt.alloc(), row.script, GOOD)?;
+        let (status, out) = run_with(&rt, row.script, GOOD)?;
         check_row(&rt, row, status, &out);
     }
     Ok(())
@@ -131,13 +131,12 @@ fn headers_are_read(rt: HostRuntime) -> Result<(), Fail> {
 
 // Checks a row whose script comes after so many lines, each a comment of so many bytes.
 fn check_after_comments(
-    rt: &impl Abort,
-    alloc: Global,
+    rt: &HostRuntime,
     lines: u32,
     bytes: u32,
     row: &Row,
 ) -> Result<(), Fail> {
-    let mut script = String::new(alloc);
+    let mut script = String::new(rt.alloc());
     for _ in 0..lines {
         for _ in 0..bytes {
             script.push('#')?;
@@ -145,14 +144,14 @@ fn check_after_comments(
         script.push('\n')?;
     }
     script.push_str(row.script)?;
-    let (status, out) = run_with(alloc, &script, GOOD)?;
+    let (status, out) = run_with(rt, &script, GOOD)?;
     check_row(rt, row, status, &out);
     Ok(())
 }
 
 #[test]
 fn a_header_may_be_too_long(rt: HostRuntime) -> Result<(), Fail> {
-    check_after_comments(&rt, rt.alloc(), 16, 4095, &LONGEST)?;
-    check_after_comments(&rt, rt.alloc(), 16, 4095, &TOO_LONG)?;
-    check_after_comments(&rt, rt.alloc(), 1, 4097, &LONG_LINE)
+    check_after_comments(&rt, 16, 4095, &LONGEST)?;
+    check_after_comments(&rt, 16, 4095, &TOO_LONG)?;
+    check_after_comments(&rt, 1, 4097, &LONG_LINE)
 }

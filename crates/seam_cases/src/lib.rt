@@ -13,3 +13,5 @@ mod rows;
 mod runs;
 #[cfg(test)]
 mod seen;
+#[cfg(test)]
+mod workers;

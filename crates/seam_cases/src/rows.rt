@@ -1,7 +1,8 @@
 // Scripts with good streams, and what they print.
-use crate::runs::{GOOD, Streams, run_with};
-use seam_io::{MemSink, MemSource};
-use seam_world::{Status, run_seamless};
+use crate::runs::{GOOD, Streams, run_watched, run_with};
+use seam_io::MemSink;
+use seam_watch::NoWatch;
+use seam_world::Status;
 use std::process::Abort;
 use std::test::Fail;
 
@@ -121,9 +122,11 @@ pub fn check_row(rt: &impl Abort, row: &Row, status: Status, out: &MemSink) {
 
 #[test]
 fn rows_print_what_they_say(rt: HostRuntime) -> Result<(), Fail> {
-    for row in &ROWS {
-        let (status, out) = run_with(rt.alloc(), row.script, GOOD)?;
-        check_row(&rt, row, status, &out);
+    for words in &[["--workers=1"], ["--workers=4"]] {
+        for row in &ROWS {
+            let (status, out) = run_watched(&rt, words, row.script, GOOD, &mut NoWatch)?;
+            check_row(&rt, row, status, &out);
+        }
     }
     Ok(())
 }
@@ -135,25 +138,18 @@ fn bytes_may_come_one_at_a_time(rt: HostRuntime) -> Result<(), Fail> {
         cuts: &cuts,
         ..GOOD
     };
-    let (status, out) = run_with(rt.alloc(), FIRST_PATH, streams)?;
+    let (status, out) = run_with(&rt, FIRST_PATH, streams)?;
     check_row(&rt, &ROWS[1], status, &out);
     Ok(())
 }
 
 #[test]
 fn words_are_refused(rt: HostRuntime) -> Result<(), Fail> {
-    let alloc = rt.alloc();
-    let mut input = MemSource::new(Vec::new(alloc), Vec::new(alloc), Vec::new(alloc));
-    let mut out = MemSink::new(alloc, 100, Vec::new(alloc))?;
-    let words = vec![in alloc;
-        String::from_str(alloc, "--workers")?,
-        String::from_str(alloc, "17")?,
-    ]?;
-    assert_eq!(rt;
-        run_seamless(alloc, &words, &mut input, &mut out),
-        Status::Usage
-    );
-    assert_eq!(rt; out.bytes(), b"fault usage\n".as_slice());
+    for words in &[["--workers", "17"], ["--storm", "1"], ["--turns", "0"]] {
+        let (status, out) = run_watched(&rt, words, FIRST_PATH, GOOD, &mut NoWatch)?;
+        assert_eq!(rt; status, Status::Usage);
+        assert_eq!(rt; out.bytes(), b"fault usage\n".as_slice());
+    }
     Ok(())
 }
 
@@ -164,7 +160,7 @@ fn a_long_line_is_named(rt: HostRuntime) -> Result<(), Fail> {
         script.push('#')?;
     }
     script.push_str("\ncreate 1 Avatar 100 100")?;
-    let (status, out) = run_with(rt.alloc(), &script, GOOD)?;
+    let (status, out) = run_with(&rt, &script, GOOD)?;
     assert_eq!(rt; status, Status::Done);
     assert_eq!(rt;
         out.bytes(),

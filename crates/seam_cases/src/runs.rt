@@ -1,5 +1,7 @@
 // Runs over memory.
 use seam_io::{MemSink, MemSource};
+use seam_watch::{NoWatch, Watch};
+use seam_workers::OpenGate;
 use seam_world::{Status, run_seamless};
 use std::alloc::{AllocError, Global};
 
@@ -26,17 +28,38 @@ pub const GOOD: Streams<'static> = Streams {
 
 /// Runs a script, and gives its status and what was written.
 pub fn run_with(
-    alloc: Global,
+    rt: &HostRuntime,
     script: &str,
     streams: Streams,
 ) -> Result<(Status, MemSink), AllocError> {
+    run_watched(rt, &[], script, streams, &mut NoWatch)
+}
+
+/// Runs a script for these words, beside a watch.
+pub fn run_watched<W: Watch>(
+    rt: &HostRuntime,
+    words: &[&str],
+    script: &str,
+    streams: Streams,
+    watch: &mut W,
+) -> Result<(Status, MemSink), AllocError> {
+    let alloc = rt.alloc();
     let mut input = MemSource::new(
         script.as_bytes().to_vec(alloc)?,
         streams.cuts.to_vec(alloc)?,
         streams.bad_reads.to_vec(alloc)?,
     );
     let mut out = MemSink::new(alloc, streams.limit, streams.bad_writes.to_vec(alloc)?)?;
-    let words = Vec::new(alloc);
-    let status = run_seamless(alloc, &words, &mut input, &mut out);
+    let words = words_of(alloc, words)?;
+    let status = run_seamless(rt, alloc, &words, &mut input, &mut out, &OpenGate, watch);
     Ok((status, out))
+}
+
+/// The words as text of their own.
+pub fn words_of(alloc: Global, texts: &[&str]) -> Result<Vec<String>, AllocError> {
+    let mut words = Vec::new(alloc);
+    for text in texts.iter() {
+        words.push(String::from_str(alloc, text)?)?;
+    }
+    Ok(words)
 }

@@ -1,6 +1,8 @@
 // When the answers to lines are written.
 use crate::runs::{GOOD, Streams, run_with};
 use seam_io::{RealSink, RealSource};
+use seam_watch::NoWatch;
+use seam_workers::OpenGate;
 use seam_world::{Status, run_seamless};
 use std::cell::Cell;
 use std::io;
@@ -60,10 +62,16 @@ fn an_answer_is_written_before_the_next_read(rt: HostRuntime) -> Result<(), Fail
     });
     let mut out = RealSink::new(Screen { shown: &shown });
     let words = Vec::new(rt.alloc());
-    assert_eq!(rt;
-        run_seamless(rt.alloc(), &words, &mut input, &mut out),
-        Status::Done
+    let status = run_seamless(
+        &rt,
+        rt.alloc(),
+        &words,
+        &mut input,
+        &mut out,
+        &OpenGate,
+        &mut NoWatch,
     );
+    assert_eq!(rt; status, Status::Done);
     assert_eq!(rt; shown.get(), 3);
     Ok(())
 }
@@ -79,7 +87,7 @@ fn the_answers_to_the_lines_of_one_read_are_one_write(rt: HostRuntime) -> Result
         bad_writes: &[2],
         ..GOOD
     };
-    let (status, out) = run_with(rt.alloc(), &script, streams)?;
+    let (status, out) = run_with(&rt, &script, streams)?;
     assert_eq!(rt; status, Status::Done);
     assert!(rt; out.bytes().starts_with(b"line 2 command\nline 3 command\n"));
     assert_eq!(rt; out.bytes().len(), 8 * 15 + 90 * 16 + 102 * 17);

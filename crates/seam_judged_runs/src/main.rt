@@ -15,7 +15,7 @@ use crate::kinds::{EXACT, KINDS};
 use crate::planted::{PLANTS, Plant};
 use crate::runs::printed_of;
 use crate::scripts::script_of;
-use std::alloc::{AllocError, Global};
+use std::alloc::AllocError;
 use std::io;
 
 // How many scripts are made for each kind of world, and in how many of them errors are planted.
@@ -28,13 +28,13 @@ fn main(rt: HostRuntime) -> io::Result<()> {
     let text = io::read_to_string(alloc, rt.reader())?;
     for block in text.trim_end().split("\n\n") {
         let (name, script) = halves(block);
-        let verdict = verdict_on(alloc, script)?;
+        let verdict = verdict_on(&rt, script)?;
         println!(rt; "{name}: {verdict}")?;
     }
-    let verdict = verdict_on_made(alloc)?;
+    let verdict = verdict_on_made(&rt)?;
     println!(rt; "made from seeds: {verdict}")?;
     for plant in &PLANTS {
-        let verdict = verdict_on_plant(alloc, plant)?;
+        let verdict = verdict_on_plant(&rt, plant)?;
         println!(rt; "{}: {verdict}", plant.name)?;
     }
     Ok(())
@@ -49,8 +49,9 @@ fn halves(text: &str) -> (&str, &str) {
 }
 
 // What comes of a script.
-fn verdict_on(alloc: Global, script: &str) -> Result<String, AllocError> {
-    let printed = printed_of(alloc, script)?;
+fn verdict_on(rt: &HostRuntime, script: &str) -> Result<String, AllocError> {
+    let alloc = rt.alloc();
+    let printed = printed_of(rt, script)?;
     match wrong_in(alloc, script, printed.as_bytes())? {
         None => String::from_str(alloc, "legal"),
         Some(wrong) => format!(in alloc; "{wrong:?}"),
@@ -58,10 +59,11 @@ fn verdict_on(alloc: Global, script: &str) -> Result<String, AllocError> {
 }
 
 // What comes of the scripts that are made: the first that is not legal.
-fn verdict_on_made(alloc: Global) -> Result<String, AllocError> {
+fn verdict_on_made(rt: &HostRuntime) -> Result<String, AllocError> {
+    let alloc = rt.alloc();
     for (place, kind) in KINDS.iter().enumerate() {
         for seed in 0..SEEDS {
-            let verdict = verdict_on(alloc, script_of(alloc, kind, seed)?.as_str())?;
+            let verdict = verdict_on(rt, script_of(alloc, kind, seed)?.as_str())?;
             if verdict.as_str() != "legal" {
                 return format!(in alloc; "kind {place}, seed {seed}: {verdict}");
             }
@@ -71,11 +73,12 @@ fn verdict_on_made(alloc: Global) -> Result<String, AllocError> {
 }
 
 // What comes of scripts with an error planted in what was printed of them.
-fn verdict_on_plant(alloc: Global, plant: &Plant) -> Result<String, AllocError> {
+fn verdict_on_plant(rt: &HostRuntime, plant: &Plant) -> Result<String, AllocError> {
+    let alloc = rt.alloc();
     let mut refused = false;
     for seed in 0..PLANTED {
         let script = script_of(alloc, &KINDS[EXACT], seed)?;
-        let printed = printed_of(alloc, script.as_str())?;
+        let printed = printed_of(rt, script.as_str())?;
         if let Some(changed) = plant.put_in(alloc, printed.as_str())? {
             if wrong_in(alloc, script.as_str(), changed.as_bytes())?.is_none() {
                 return format!(in alloc; "legal with seed {seed}");

@@ -3,6 +3,8 @@
 
 use seam_args::usage_text;
 use seam_io::{RealSink, RealSource};
+use seam_watch::NoWatch;
+use seam_workers::OpenGate;
 use seam_world::{Status, run_seamless};
 use std::alloc::{AllocError, Global};
 use std::env;
@@ -15,7 +17,15 @@ fn main(rt: HostRuntime) -> ExitCode {
         Ok(words) => {
             let mut input = RealSource::new(rt.reader());
             let mut out = RealSink::new(std::io::writer(&rt));
-            run_seamless(alloc, &words, &mut input, &mut out)
+            run_seamless(
+                &rt,
+                alloc,
+                &words,
+                &mut input,
+                &mut out,
+                &OpenGate,
+                &mut NoWatch,
+            )
         }
         Err(AllocError) => Status::NoMemory,
     };

@@ -13,7 +13,7 @@ returns c = on_ok_weaker c.push_refusal.result
     (λ text traced h t was. (
       refusal c.in_ok-self.field-0 TooLong,
       refused_line h t (c.a_course_begins_and_goes_on.ensures.line h t) Long TooLong c.args.self.now _ was refl refl refl refl
-          c.in_ok-self.ensures.next c.in_ok-self.ensures.most refl (long_is_refused All h t.book),
+          c.in_ok-self.ensures.next c.in_ok-self.ensures.most refl (long_is_refused All h t.book) traced,
       text,
     ))
     c.push_refusal.ensures
