@@ -2,8 +2,6 @@
 use crate::rows::{Row, check_row};
 use crate::runs::{GOOD, run_with};
 use seam_world::Status;
-use std::alloc::Global;
-use std::process::Abort;
 use std::test::Fail;
 
 pub static HEADERS: [Row; 12] = [

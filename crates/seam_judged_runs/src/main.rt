@@ -1,6 +1,7 @@
 //! Runs scripts, and judges what is printed of them by the plain judge: the scripts that it reads from standard input, and scripts that it
-//! makes from seeds. It prints a line for each script that is read, with the name before it, then what is wrong of a made one, and
-//! then a line for each error that it plants in what was printed, which the judge has to refuse wherever it is planted.
+//! makes from seeds, some with rounds so large that threads play them. It prints a line for each script that is read, with the name before
+//! it, then what is wrong of a made one, and then a line for each error that it plants in what was printed, which the judge has to refuse
+//! wherever it is planted.
 #![tactic(auto)]
 
 mod draws;
@@ -14,7 +15,7 @@ use crate::judged::wrong_in;
 use crate::kinds::{EXACT, KINDS};
 use crate::planted::{PLANTS, Plant};
 use crate::runs::printed_of;
-use crate::scripts::script_of;
+use crate::scripts::{large_script_of, script_of};
 use std::alloc::AllocError;
 use std::io;
 
@@ -22,6 +23,9 @@ use std::io;
 const SEEDS: u64 = 10;
 
 const PLANTED: u64 = 3;
+
+// How many scripts with a large round are made for each kind of world.
+const LARGE: u64 = 3;
 
 fn main(rt: HostRuntime) -> io::Result<()> {
     let alloc = rt.alloc();
@@ -33,6 +37,8 @@ fn main(rt: HostRuntime) -> io::Result<()> {
     }
     let verdict = verdict_on_made(&rt)?;
     println!(rt; "made from seeds: {verdict}")?;
+    let verdict = verdict_on_large(&rt)?;
+    println!(rt; "made from seeds, with large rounds: {verdict}")?;
     for plant in &PLANTS {
         let verdict = verdict_on_plant(&rt, plant)?;
         println!(rt; "{}: {verdict}", plant.name)?;
@@ -64,6 +70,20 @@ fn verdict_on_made(rt: &HostRuntime) -> Result<String, AllocError> {
     for (place, kind) in KINDS.iter().enumerate() {
         for seed in 0..SEEDS {
             let verdict = verdict_on(rt, script_of(alloc, kind, seed)?.as_str())?;
+            if verdict.as_str() != "legal" {
+                return format!(in alloc; "kind {place}, seed {seed}: {verdict}");
+            }
+        }
+    }
+    String::from_str(alloc, "legal")
+}
+
+// What comes of scripts with large rounds: the first that is not legal.
+fn verdict_on_large(rt: &HostRuntime) -> Result<String, AllocError> {
+    let alloc = rt.alloc();
+    for (place, kind) in KINDS.iter().enumerate() {
+        for seed in 0..LARGE {
+            let verdict = verdict_on(rt, large_script_of(alloc, kind, seed)?.as_str())?;
             if verdict.as_str() != "legal" {
                 return format!(in alloc; "kind {place}, seed {seed}: {verdict}");
             }

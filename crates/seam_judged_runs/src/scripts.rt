@@ -10,6 +10,9 @@ const ENTITIES: u32 = 12;
 
 const LINES: u32 = 60;
 
+// How many calls and moves a large round has.
+const CALLS: u32 = 1_000;
+
 // Commands name cells and boundaries below this number.
 const CELLS: u32 = 5;
 
@@ -24,6 +27,26 @@ pub(crate) fn script_of(alloc: Global, kind: &Kind, seed: u64) -> Result<String,
     writer.begin()?;
     for _ in 0..LINES {
         writer.add_any()?;
+    }
+    Ok(writer.text)
+}
+
+/// The script of a seed with one large round, which threads play: some entities, clients and cells, and then calls and moves.
+pub(crate) fn large_script_of(
+    alloc: Global,
+    kind: &Kind,
+    seed: u64,
+) -> Result<String, AllocError> {
+    let mut writer = Writer {
+        alloc,
+        kind,
+        draws: Draws::new(seed),
+        text: String::from_str(alloc, kind.header)?,
+    };
+    writer.begin()?;
+    for _ in 0..CALLS / 2 {
+        writer.add_call()?;
+        writer.add_move()?;
     }
     Ok(writer.text)
 }

@@ -22,7 +22,7 @@ use crate::workers::Workers;
 use seam_call::Batch;
 use seam_core::{Node, World};
 use seam_defs::Listed;
-use seam_finish::{begin, finish};
+use seam_finish::begin;
 use seam_machine::{Event, Net};
 use seam_watch::Journal;
 use seam_workers::Gate;
@@ -40,7 +40,7 @@ fn take_events<G: Gate + Sync, R: Threads + Wait + Sync>(
     net: Net<Node>,
     workers: &Workers<G>,
 ) -> Result<(Net<Node>, Vec<Event>), AllocError>
-    requires { ArePeers node_peers net }
+    requires peers { ArePeers node_peers net }
     ensures run { IfOk result (λ r. LeadsTo node_has_work node_steps net r.1.items r.0) }
     ensures peers { IfOk result (λ r. ArePeers node_peers r.0) }
 {
@@ -53,6 +53,23 @@ fn take_events<G: Gate + Sync, R: Threads + Wait + Sync>(
     Ok((net, events))
 }
 
+// Lets events of a net happen until it is quiet.
+fn come_to_rest(alloc: Global, net: Net<Node>) -> Result<(Net<Node>, Vec<Event>), AllocError>
+    ghost most: { ℕ }
+    requires peers { ArePeers node_peers net }
+    requires ends { EndsWithin node_has_work node_steps net most }
+    ensures run { IfOk result (λ r. LeadsTo node_has_work node_steps net r.1.items r.0) }
+    ensures quiet { IfOk result (λ r. IsQuiet node_has_work r.0) }
+{
+    let mut net = net;
+    let mut events = Vec::new(alloc);
+    while let Some(event) = net.next_event() {
+        net.step(alloc, event)?;
+        events.push(event)?;
+    }
+    Ok((net, events))
+}
+
 // Lets events of a world that is not quiet happen until it is.
 fn bring_to_rest<G: Gate + Sync, R: Threads + Wait + Sync>(
     rt: &R,
@@ -61,12 +78,12 @@ fn bring_to_rest<G: Gate + Sync, R: Threads + Wait + Sync>(
     workers: &Workers<G>,
 ) -> Result<(World, Listed<Event>), AllocError>
     ghost most: { ℕ }
-    requires { EndsWithin node_has_work node_steps world most }
+    requires ends { EndsWithin node_has_work node_steps world most }
     ensures run { IfOk result (λ r. Leads world r.1 r.0) }
     ensures quiet { IfOk result (λ r. IsQuiet node_has_work r.0) }
 {
     let (net, mut events) = take_events(rt, alloc, world.apart(), workers)?;
-    let (net, mut last) = finish(alloc, net)?;
+    let (net, mut last) = come_to_rest(alloc, net)?;
     events.append(&mut last)?;
     Ok((World::over(net), Listed::of(events)))
 }
@@ -81,7 +98,7 @@ pub fn run_phase<G: Gate + Sync, R: Threads + Wait + Sync>(
     workers: &Workers<G>,
 ) -> Result<(World, Listed<Event>), AllocError>
     ghost most: { ℕ }
-    requires { EndsWithin node_has_work node_steps world most }
+    requires ends { EndsWithin node_has_work node_steps world most }
     ensures run { IfOk result (λ r. Leads world r.1 r.0) }
     ensures quiet { IfOk result (λ r. IsQuiet node_has_work r.0) }
 
@@ -153,7 +170,7 @@ pub fn run_calls<G: Gate + Sync, R: Threads + Wait + Sync>(
     batch: Batch,
     workers: &Workers<G>,
 ) -> Result<Called, AllocError>
-    requires { (f : Frame) × (clients : ℕ → ClientReplica) × MayRun f clients world batch }
+    requires may { (f : Frame) × (clients : ℕ → ClientReplica) × MayRun f clients world batch }
     ensures { IfOk result (HasCalled world batch) }
 {
     seam_core::a_fitting_batch_may_be_loaded();
@@ -252,7 +269,7 @@ pub fn run_round<G: Gate + Sync, R: Threads + Wait + Sync>(
     batch: Batch,
     workers: &Workers<G>,
 ) -> Result<(World, Journal), AllocError>
-    requires { (f : Frame) × (clients : ℕ → ClientReplica) × MayRun f clients world batch }
+    requires may { (f : Frame) × (clients : ℕ → ClientReplica) × MayRun f clients world batch }
     ensures run { IfOk result (λ r. (s : StandsFor world batch r.1 r.0) × IsWithinTable world batch r.1 s.round.reaped) }
     ensures records { IfOk result (λ r. (f : Frame) (clients : ℕ → ClientReplica) → MayRun f clients world batch →
         KeepsRecords (framed f batch) (clients_shown (framed f batch) (clients_loaded f batch clients) r.0) r.0 × IsBounded r.0) }

@@ -5,13 +5,14 @@ ghost use Rattle.seam_steps.specs.EarlyCall.{two_cells as halves};
 ghost use Rattle.seam_steps.specs.ViewRounds.{made_at};
 ghost use Rattle.seam_shown.specs.Crossing as crossing;
 
-use crate::{a_worked_round_may_run, run_round};
+use crate::{Workers, a_worked_round_may_run, run_round};
 use seam_call::{BaseNode, Batch, Call, Create, Order, Sender};
 use seam_core::World;
 use seam_defs::{Deed, Defs, Listed, Part, Settings};
 use seam_geo::Pos;
 use seam_tree::{Axis, Tree};
 use seam_watch::Journal;
+use seam_workers::{Crew, OpenGate};
 use std::alloc::Global;
 use std::test::Fail;
 
@@ -59,11 +60,17 @@ fn batch(alloc: Global) -> Result<Batch, Fail>
 }
 
 // The round, of a world as it is opened.
-fn run(alloc: Global) -> Result<(World, Journal), Fail> {
+fn run(rt: &HostRuntime) -> Result<(World, Journal), Fail> {
     a_worked_round_may_run();
+    let alloc = rt.alloc();
     let defs = Defs::builtin(alloc)?;
     let world = World::open(alloc, &defs, Settings::standard())?;
-    Ok(run_round(alloc, world, batch(alloc)?)?)
+    let crew = Crew {
+        workers: 2,
+        turns: 100,
+    };
+    let workers = Workers::new(crew, &OpenGate);
+    Ok(run_round(rt, alloc, world, batch(alloc)?, &workers)?)
 }
 
 // Whether the entity is in the cell.
@@ -82,7 +89,7 @@ fn lines_shown(world: &World, base: u8, e: u32) -> Option<usize> {
 
 #[test]
 fn an_entity_crosses_between_two_witnesses(rt: HostRuntime) -> Result<(), Fail> {
-    let (world, journal) = run(rt.alloc())?;
+    let (world, journal) = run(&rt)?;
     assert!(rt; is_in(&world, 1, 3));
     assert!(rt; !is_in(&world, 0, 3));
     assert_eq!(rt; lines_shown(&world, 17, 1), Some(4));

@@ -18,7 +18,7 @@ pub struct Workers<'a, G> {
     gate: &'a G,
 }
 
-impl<G> Model for Workers<'_, G> {
+impl<'a, G> Model for Workers<'a, G> {
     ghost use Rattle.std.specs.Prelude.{◌≤◌};
     ghost use Rattle.seam_workers.specs.declared.Crew.{Crew};
 
@@ -53,7 +53,7 @@ impl<G: Gate + Sync> Workers<'_, G> {
         alloc: Global,
         net: Net<Node>,
     ) -> Result<(Net<Node>, Vec<Event>), AllocError>
-        requires { ArePeers node_peers net }
+        requires peers { ArePeers node_peers net }
         ensures run { IfOk result (λ r. LeadsTo node_has_work node_steps net r.1.items r.0) }
         ensures peers { IfOk result (λ r. ArePeers node_peers r.0) }
     {

@@ -1,19 +1,26 @@
 -- A round that is being played: what it leaves, once its phases have ended.
-use Rattle.std.proofs.Common.{◌≡◌, List, sym, subst}
+use Rattle.std.proofs.Common.{◌≡◌, ℕ, Bool, true, false, List, [], ◌++◌, sym, ap, subst, ◌∙◌, append_assoc}
+use Rattle.std.specs.Prelude.{codes}
 use Rattle.seam_call.specs.declared.create.Create.{Create}
 use Rattle.seam_call.specs.declared.order.Batch.{Batch}
 use Rattle.seam_tree.specs.Division.{Division}
 use Rattle.seam_steps.specs.Nodes.{World}
 use Rattle.seam_watch.specs.declared.journal.Journal.{Journal}
+use Rattle.seam_defs.specs.declared.types.TypeDef.{TypeDef}
 use Rattle.seam_toml.specs.declared.header.Header.{Header}
 use Rattle.seam_transcript.specs.Book.{created_as, live_as}
 use Rattle.seam_transcript.specs.Round.{Lists}
 use Rattle.seam_accept.specs.Batches.{batch_of}
+use Rattle.seam_transcript.specs.Texts.{number_text}
 use Rattle.seam_rules.specs.Standing.{Standing}
+use Rattle.seam_rules.specs.Lines.{RoundData}
+use Rattle.seam_rules.specs.Texts.{traced_text, journal_text}
+use Rattle.seam_rules.specs.Transcript.{played_text}
 use Rattle.seam_played.specs.Beside.{StandsBeside}
 use Rattle.seam_played.specs.Playing.{IsPlayed}
 use Rattle.seam_quiet.specs.Rounds.{StandsFor}
 use Rattle.seam_world.specs.Transcripts.{HasSteps}
+use Rattle.seam_world.specs.Rounds.{start_text}
 
 -- the phases of the round of the batch that a standing's open lines bring make a played round, whose calls ended in the world u, and whose
 -- steps the journal has
@@ -35,3 +42,22 @@ played_so h s tree w v u given j beside is stood made live made_listed live_list
       x.1,
       record { calls = sym x.0.calls; reaps = sym x.0.reaps; looks = sym x.0.looks },
     )
+
+-- ---- the text of a round, appended part by part
+
+after_start : (out number steps calls ends : List ℕ) →
+    ((out ++ number ++ steps) ++ calls) ++ ends ≡ out ++ number ++ steps ++ calls ++ ends
+after_start out number steps calls ends =
+    append_assoc (out ++ number ++ steps) calls ends ∙ append_assoc out (number ++ steps) (calls ++ ends)
+    ∙ ap (λ (xs : List ℕ). out ++ xs) (append_assoc number steps (calls ++ ends))
+
+pub text_in_order : (traced : Bool) (defs : List TypeDef) (r : RoundData) (n : ℕ) (j : Journal) (out calls ends : List ℕ) → n ≡ r.number →
+    ((steps : List ℕ) → traced_text steps defs r ≡ number_text (codes "round ") r.number ++ steps ++ calls ++ ends) →
+    ((out ++ start_text traced n j) ++ calls) ++ ends ≡ out ++ played_text traced defs r j
+text_in_order true defs r n j out calls ends is parts =
+    after_start out (number_text (codes "round ") n) (journal_text j) calls ends
+    ∙ ap (λ (xs : List ℕ). out ++ xs)
+    (ap (λ k. number_text (codes "round ") k ++ journal_text j ++ calls ++ ends) is ∙ sym (parts (journal_text j)))
+text_in_order false defs r n j out calls ends is parts =
+    append_assoc (out ++ number_text (codes "round ") n) calls ends ∙ append_assoc out (number_text (codes "round ") n) (calls ++ ends)
+    ∙ ap (λ (xs : List ℕ). out ++ xs) (ap (λ k. number_text (codes "round ") k ++ calls ++ ends) is ∙ sym (parts []))

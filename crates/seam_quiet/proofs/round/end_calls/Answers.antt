@@ -7,7 +7,7 @@ use Rattle.seam_quiet.proofs.round.end_calls.Goals as goal
 -- what a node can begin does not depend on what is destroyed
 pub load-requires : goal.load-requires
 load-requires g c = λ k s at.
-    let can = c.requires.0 k s at in record {
+    let can = c.requires.1.1.1.1.0 k s at in record {
       space = can.space;
       inside = can.inside;
       new = can.new;
@@ -17,8 +17,19 @@ load-requires g c = λ k s at.
     }
 
 pub run_phase-requires : goal.run_phase-requires
-run_phase-requires g c =
-    subst (λ w. EndsWithin node_has_work node_steps w g.most) (sym c.in_ok-load.ensures.loaded) c.requires.1
+run_phase-requires g c κs within = (
+  within.0,
+  (
+    within.1,
+    (
+      c.requires.1.1.0,
+      (
+        c.requires.1.1.1.0,
+        subst (λ w. EndsWithin node_has_work node_steps w g.most) (sym c.in_ok-load.ensures.loaded) c.requires.1.1.1.1.1,
+      ),
+    ),
+  ),
+)
 
 pub returns : goal.returns
 returns g c =

@@ -6,15 +6,17 @@ use Rattle.seam_quiet.proofs.Phases.{goes_through}
 use Rattle.seam_quiet.proofs.round.end_phases.Goals as goal
 
 pub run_phase-requires : goal.run_phase-requires
-run_phase-requires g c =
-    let called = c.requires.0 in
-    c.requires.1.1 c.in_ok-load_reaps.field-0
-    (reaps_begin c.args.called.world c.args.called.events called.leads called.quiet
-    (c.in_ok-load_reaps.ensures.loaded ∙ ap (reaps_loaded c.args.called.world) (c.as_slice.ensures ∙ called.destroys)))
+run_phase-requires g c κs within =
+    let called = c.requires.1.1.1.1.0 in
+    let begins =
+    reaps_begin c.args.called.world c.args.called.events called.leads called.quiet
+    (c.in_ok-load_reaps.ensures.loaded ∙ ap (reaps_loaded c.args.called.world) (c.as_slice.ensures ∙ called.destroys)) in
+    let ends = c.requires.1.1.1.1.1.1 c.in_ok-load_reaps.field-0 begins in
+    (within.0, (within.1, (c.requires.1.1.0, (c.requires.1.1.1.0, ends))))
 
 pub run_phase-requires-2 : goal.run_phase-requires-2
-run_phase-requires-2 g c =
-    let called = c.requires.0 in
+run_phase-requires-2 g c κs within =
+    let called = c.requires.1.1.1.1.0 in
     let u = c.args.called.world in
     let reaped = c.in_ok-world.world in
     let ds = c.in_ok-world.reaps in
@@ -22,12 +24,13 @@ run_phase-requires-2 g c =
     let reaps = subst (λ w. Leads w ds reaped) told c.in_ok-world.ensures.run in
     let round =
     goes_through g.from.0.world g.from.0.batch u reaped c.in_ok-load_look.field-0 c.args.called.events ds [] called.leads called.quiet
-    c.requires.1.0 reaps c.in_ok-world.ensures.quiet c.in_ok-load_look.ensures.starts in
-    c.requires.1.1 c.in_ok-load_look.field-0 (looks_begin round refl c.in_ok-load_look.ensures.loaded)
+    c.requires.1.1.1.1.1.0 reaps c.in_ok-world.ensures.quiet c.in_ok-load_look.ensures.starts in
+    let ends = c.requires.1.1.1.1.1.1 c.in_ok-load_look.field-0 (looks_begin round refl c.in_ok-load_look.ensures.loaded) in
+    (within.0, (within.1, (c.requires.1.1.0, (c.requires.1.1.1.0, ends))))
 
 pub returns-clause-stands : goal.returns-clause-stands
 returns-clause-stands g c =
-    let called = c.requires.0 in
+    let called = c.requires.1.1.1.1.0 in
     let u = c.args.called.world in
     let reaped = c.in_ok-world.world in
     let ds = c.in_ok-world.reaps in
@@ -39,8 +42,8 @@ returns-clause-stands g c =
     let looks = subst (λ w. Leads w ls seen) looking c.in_ok-world-2.ensures.run in (
       record {
         round =
-            goes_through g.from.0.world g.from.0.batch u reaped seen c.args.called.events ds ls called.leads called.quiet c.requires.1.0 reaps
-            c.in_ok-world.ensures.quiet looks;
+            goes_through g.from.0.world g.from.0.batch u reaped seen c.args.called.events ds ls called.leads called.quiet
+            c.requires.1.1.1.1.1.0 reaps c.in_ok-world.ensures.quiet looks;
         quiet = c.in_ok-world-2.ensures.quiet;
         gone = refl;
         calls = refl;
@@ -51,4 +54,4 @@ returns-clause-stands g c =
     )
 
 pub returns-clause-destroys : goal.returns-clause-destroys
-returns-clause-destroys g c = c.requires.0.destroys
+returns-clause-destroys g c = c.requires.1.1.1.1.0.destroys

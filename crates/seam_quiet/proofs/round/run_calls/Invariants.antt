@@ -2,4 +2,4 @@ use Rattle.seam_quiet.specs.Rounds.{most_of_calls}
 use Rattle.seam_quiet.proofs.round.run_calls.Given as goal
 
 abbrev pub ghost-end_calls : goal.ghost-end_calls
-ghost-end_calls a = most_of_calls a.world a.batch
+ghost-end_calls g a = most_of_calls a.world a.batch
