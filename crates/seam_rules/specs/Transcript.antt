@@ -9,7 +9,7 @@ use Rattle.seam_transcript.specs.Header.{BeginWithHeader, AwaitHeader}
 use Rattle.seam_transcript.specs.Book.{open_lines, with_entry}
 use Rattle.seam_transcript.specs.Judging.{Judges}
 use Rattle.seam_transcript.specs.Texts.{refusal}
-use Rattle.seam_transcript.specs.Transcript.{Run}
+use Rattle.seam_transcript.specs.Run.{Run}
 use Rattle.seam_transcript.specs.declared.commands.Commands.TheVariants.{All}
 use Rattle.seam_transcript.specs.declared.verdict.Cause.{Cause}
 use Rattle.seam_transcript.specs.declared.verdict.Verdict.{Verdict}
@@ -83,7 +83,7 @@ module _ (IsPlayed : Play) where
   IsOpen traced lines text steps =
       ((text ≡ []) × (steps ≡ []) × AwaitHeader lines)
       ⊎ ((h : Header) × (pieces : List Piece) × (t : Standing) × PrintLines lines h pieces t
-         × (text ≡ text_of traced h.defs pieces) × (steps ≡ journals_of pieces))
+      × (text ≡ text_of traced h.defs pieces) × (steps ≡ journals_of pieces))
 
   -- what is printed at the end of the input: a last round, where a line was accepted since the last one ended
   abbrev pub EndsInput : Header → Standing → List Piece → Type 0
