@@ -21,7 +21,6 @@ use Rattle.seam_transcript.specs.Book.{Book, entries, called, calls_of, accepted
 use Rattle.seam_transcript.specs.Judging.{Adds, NamesDeed, NamesMove, NamesCall, Spells, Judges}
 use Rattle.seam_transcript.specs.Orders.{of_sender, IsFull}
 use Rattle.seam_transcript.specs.Senders.{IsFrom, AreFrom, AcceptedAreFrom, CallIsFrom}
-use Rattle.seam_transcript.specs.declared.commands.Commands.{Commands}
 use Rattle.seam_transcript.specs.declared.verdict.Entry.{Entry}
 use Rattle.seam_transcript.specs.declared.verdict.Entry.TheVariants as entry
 use Rattle.seam_transcript.specs.declared.verdict.Verdict.TheVariants as verdict
@@ -137,6 +136,6 @@ entry_is_own h one b line (language.Move s e px pz) x names spells (c, call, is)
     call_is_own h one b s e (λ t. NamesMove h px pz) c x (λ k. names (language.Move s e px pz) s e k spells (refl, refl)) call is own
 
 -- an accepted line that names its entity's one sender keeps all calls so
-pub accepted_is_own : (one : ℕ → Sender) (taken : Commands) (h : Header) (b : Book) (line : Line) (x : Entry) → CallIsFrom one line →
-    Judges taken h b line (verdict.Accepted x) → AcceptedAreFrom one b → AcceptedAreFrom one (with_entry b x)
-accepted_is_own one taken h b line x names (_, _, c, spells, adds) own = entry_is_own h one b line c x names spells adds own
+pub accepted_is_own : (one : ℕ → Sender) (h : Header) (b : Book) (line : Line) (x : Entry) → CallIsFrom one line →
+    Judges h b line (verdict.Accepted x) → AcceptedAreFrom one b → AcceptedAreFrom one (with_entry b x)
+accepted_is_own one h b line x names (_, _, c, spells, adds) own = entry_is_own h one b line c x names spells adds own

@@ -14,7 +14,6 @@ ghost use Rattle.seam_transcript.specs.Book.{Book, accepted, with_entry};
 ghost use Rattle.seam_transcript.specs.Judging.{Judges};
 ghost use Rattle.seam_transcript.specs.Orders.{IsLegal, IsFull};
 ghost use Rattle.seam_transcript.specs.Senders.{AcceptedAreFrom, CallIsFrom};
-ghost use Rattle.seam_transcript.specs.declared.commands.Commands.{Commands};
 ghost use Rattle.seam_transcript.specs.declared.verdict.Entry.{Entry};
 ghost use Rattle.seam_transcript.specs.declared.verdict.Verdict.{Verdict};
 ghost use Rattle.seam_transcript.specs.declared.verdict.Verdict.TheVariants.{Accepted, Refused};
@@ -27,19 +26,19 @@ pub fn command_is_one()
 
 /// The book is a function of the lines: a line has one verdict at most. (That it has one, the calls show that judge it.)
 pub fn verdict_is_one()
-    ensures { (taken : Commands) (h : Header) (b : Book) (line : Line) (v w : Verdict) → AreDefs h.defs → Judges taken h b line v →
-        Judges taken h b line w → v ≡ w }
+    ensures { (h : Header) (b : Book) (line : Line) (v w : Verdict) → AreDefs h.defs → Judges h b line v →
+        Judges h b line w → v ≡ w }
 {}
 
 /// A line that is too long is refused for that and nothing else.
 pub fn long_line_is_refused()
-    ensures { (taken : Commands) (h : Header) (b : Book) (v : Verdict) → Judges taken h b Long v ↔ (v ≡ Refused TooLong) }
+    ensures { (h : Header) (b : Book) (v : Verdict) → Judges h b Long v ↔ (v ≡ Refused TooLong) }
 {}
 
 /// A line whose first word is not that of a command is refused for that and nothing else.
 pub fn unknown_command_is_refused()
-    ensures { (taken : Commands) (h : Header) (b : Book) (line : List ℕ) (words : List (List ℕ)) (v : Verdict) → ¬ (IsSkipped line)
-        → HasWords line words → ¬ (NamesCommand taken words) → Judges taken h b (Content line) v ↔ (v ≡ Refused NoCommand) }
+    ensures { (h : Header) (b : Book) (line : List ℕ) (words : List (List ℕ)) (v : Verdict) → ¬ (IsSkipped line)
+        → HasWords line words → ¬ (NamesCommand words) → Judges h b (Content line) v ↔ (v ≡ Refused NoCommand) }
 {}
 
 /// Lines begin with one header at most, and still with it when lines are appended.
@@ -61,6 +60,6 @@ pub fn full_order_is_legal()
 pub fn one_sender_one_order()
     ensures one { (one : ℕ → Sender) (b : Book) (p : Part) (e : ℕ) (x y : List Call) → AcceptedAreFrom one b
         → IsFull (accepted b p e) x → IsFull (accepted b p e) y → x ≡ y }
-    ensures kept { (one : ℕ → Sender) (taken : Commands) (h : Header) (b : Book) (line : Line) (x : Entry) → CallIsFrom one line
-        → AcceptedAreFrom one b → Judges taken h b line (Accepted x) → AcceptedAreFrom one (with_entry b x) }
+    ensures kept { (one : ℕ → Sender) (h : Header) (b : Book) (line : Line) (x : Entry) → CallIsFrom one line
+        → AcceptedAreFrom one b → Judges h b line (Accepted x) → AcceptedAreFrom one (with_entry b x) }
 {}

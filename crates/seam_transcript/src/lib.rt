@@ -9,12 +9,10 @@
 //! (runs through lines), and `OneSender` (where a part has one order).
 #![tactic(auto)]
 
-mod commands;
 mod laws;
 mod limits;
 mod verdict;
 
-pub use commands::Commands;
 pub use laws::{
     command_is_one, full_order_is_legal, header_is_one, long_line_is_refused, one_sender_one_order,
     unknown_command_is_refused, verdict_is_one,
