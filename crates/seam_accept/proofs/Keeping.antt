@@ -1,5 +1,5 @@
 -- What a book in code holds after it kept a line.
-use Rattle.std.proofs.Common.{◌≡◌, ◌≢◌, ◌+◌, ◌-◌, ℕ, Bool, true, false, List, [], ◌∷◌, ◌++◌, length, map, refl, sym}
+use Rattle.std.proofs.Common.{◌≡◌, ◌≢◌, ◌+◌, ℕ, Bool, true, false, List, [], ◌∷◌, ◌++◌, length, map, refl, sym}
 use Rattle.std.proofs.Common.{◌∙◌, ap, subst, arith, inl, inr, Option, Some, None, append-nil, length-append}
 use Rattle.std.specs.Prelude.{MatchOption, IfSome, IsSome, ◌==◌, ◌&&◌, ◌||◌, not, find, filter, cond, eqb, is_some, fold}
 use Rattle.std.specs.List.{AllByRecursion, IsDistinct, list_any, filter_map, cons_option, count_by}
@@ -19,7 +19,7 @@ use Rattle.seam_call.specs.declared.create.Create.{Create}
 use Rattle.seam_toml.specs.declared.header.Header.{Header}
 use Rattle.seam_transcript.specs.Book.{Book, entries, created, creates_of, calls_of, created_as, live_as, destroys, joins, has_client}
 use Rattle.seam_transcript.specs.Book.{empty_book, one_cell, count_of_clients, accepted, with_entry, with_round_ended, with_tree, divided}
-use Rattle.seam_transcript.specs.Book.{is_balance, tree_of}
+use Rattle.seam_transcript.specs.Book.{is_balance}
 use Rattle.seam_transcript.specs.declared.verdict.Entry.{Entry}
 use Rattle.seam_transcript.specs.declared.verdict.Entry.TheVariants as entry
 use Rattle.seam_transcript.proofs.BookEntries.{same, differ, created_here, created_with_call, creates_with_entry}

@@ -1,11 +1,5 @@
-use Rattle.std.proofs.Common.{◌∙◌, ap, subst}
 use Rattle.std.proofs.lemmas.Option.{MatchOption-at_some}
 use Rattle.std.proofs.lemmas.Result.{IfOk-weaker, IfErr-weaker}
-use Rattle.seam_io.specs.Lines.{Content}
-use Rattle.seam_transcript.specs.Language.{NamesCommand, words_of}
-use Rattle.seam_transcript.specs.Judging.{Judges}
-use Rattle.seam_transcript.specs.declared.verdict.Verdict.TheVariants.{Refused}
-use Rattle.seam_accept.specs.BookView.{BookView}
 use Rattle.seam_accept.proofs.Lines.{line_accepted, line_refused}
 use Rattle.seam_accept.proofs.book.Book.accept.Goals as goal
 

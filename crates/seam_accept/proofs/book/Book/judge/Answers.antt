@@ -5,7 +5,6 @@ use Rattle.seam_transcript.specs.Book.{Book}
 use Rattle.seam_transcript.specs.Judging.{HoldsAgainst, IsFirst}
 use Rattle.seam_transcript.specs.declared.verdict.Cause.{Cause}
 use Rattle.seam_transcript.specs.declared.verdict.Entry.{Entry}
-use Rattle.seam_transcript.specs.declared.verdict.Entry.TheVariants as entry
 use Rattle.seam_accept.specs.Commands.{command_of}
 use Rattle.seam_accept.specs.Judging.{Judged}
 use Rattle.seam_accept.specs.Refines.{Refines}
