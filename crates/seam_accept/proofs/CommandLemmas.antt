@@ -9,7 +9,6 @@ use Rattle.seam_transcript.specs.Language.{IsSkipped}
 use Rattle.seam_transcript.specs.Book.{Book}
 use Rattle.seam_transcript.specs.Judging.{Judges}
 use Rattle.seam_toml.specs.declared.header.Header.{Header}
-use Rattle.seam_transcript.specs.declared.commands.Commands.{Commands}
 use Rattle.seam_transcript.specs.declared.verdict.Cause.{Cause}
 use Rattle.seam_transcript.specs.declared.verdict.Cause.TheVariants as cause
 use Rattle.seam_transcript.specs.declared.verdict.Verdict.TheVariants.{Refused}
@@ -17,13 +16,13 @@ use Rattle.seam_transcript.proofs.Refusals.{no_command_is_refused, wrong_count_i
 use Rattle.seam_accept.specs.Commands.{IsFaultOfWords}
 
 -- each book refuses them for their fault
-pub words_are_refused : (taken : Commands) (line : List ℕ) (words : List (List ℕ)) → ¬ (IsSkipped line) → HasWords line words →
-    (k : Cause) → IsFaultOfWords taken words k
-    → (h : Header) (b : Book) → Judges taken h b (Content line) (Refused k)
-words_are_refused taken line words not has cause.NoCommand none h b = no_command_is_refused taken h b line words not has none
-words_are_refused taken line words not has cause.WrongCount (named, none) h b =
-    wrong_count_is_refused taken h b line words not has named none
-words_are_refused taken line words not has k fault h b = absurd fault
+pub words_are_refused : (line : List ℕ) (words : List (List ℕ)) → ¬ (IsSkipped line) → HasWords line words →
+    (k : Cause) → IsFaultOfWords words k
+    → (h : Header) (b : Book) → Judges h b (Content line) (Refused k)
+words_are_refused line words not has cause.NoCommand none h b = no_command_is_refused h b line words not has none
+words_are_refused line words not has cause.WrongCount (named, none) h b =
+    wrong_count_is_refused h b line words not has named none
+words_are_refused line words not has k fault h b = absurd fault
 
 -- a word that is none of the first ones is one of all exactly where it is one of the others
 pub one_of_others : {X : Type 0} (xs ys : List X) (x : X) (first other : Bool) → first ≡ false → (IsTrue first ↔ Contains xs x) →

@@ -1,5 +1,5 @@
 -- What a book in code holds after it kept a line.
-use Rattle.std.proofs.Common.{◌≡◌, ◌≢◌, ◌+◌, ◌-◌, ℕ, Bool, true, false, List, [], ◌∷◌, ◌++◌, length, map, refl, sym}
+use Rattle.std.proofs.Common.{◌≡◌, ◌≢◌, ◌+◌, ℕ, Bool, true, false, List, [], ◌∷◌, ◌++◌, length, map, refl, sym}
 use Rattle.std.proofs.Common.{◌∙◌, ap, subst, arith, inl, inr, Option, Some, None, append-nil, length-append}
 use Rattle.std.specs.Prelude.{MatchOption, IfSome, IsSome, ◌==◌, ◌&&◌, ◌||◌, not, find, filter, cond, eqb, is_some, fold}
 use Rattle.std.specs.List.{AllByRecursion, IsDistinct, list_any, filter_map, cons_option, count_by}
@@ -19,8 +19,7 @@ use Rattle.seam_call.specs.declared.create.Create.{Create}
 use Rattle.seam_toml.specs.declared.header.Header.{Header}
 use Rattle.seam_transcript.specs.Book.{Book, entries, created, creates_of, calls_of, created_as, live_as, destroys, joins, has_client}
 use Rattle.seam_transcript.specs.Book.{empty_book, one_cell, count_of_clients, accepted, with_entry, with_round_ended, with_tree, divided}
-use Rattle.seam_transcript.specs.Book.{is_balance, tree_of}
-use Rattle.seam_transcript.specs.declared.commands.Commands.{Commands}
+use Rattle.seam_transcript.specs.Book.{is_balance}
 use Rattle.seam_transcript.specs.declared.verdict.Entry.{Entry}
 use Rattle.seam_transcript.specs.declared.verdict.Entry.TheVariants as entry
 use Rattle.seam_transcript.proofs.BookEntries.{same, differ, created_here, created_with_call, creates_with_entry}
@@ -252,14 +251,14 @@ entity_destroyed b e v w is was = subst (EntityRefines (with_entry b (entry.Dest
 -- ---- books
 
 -- the book in code has counted one more line
-pub line_counted : (t : Commands) (h : Header) (b : Book) (x : Entry) (old new : BookView) (count : ℕ) → Refines t h b old →
-    count ≡ old.count + 1 → Refines t h (with_entry b x) (counted new) → Refines t h (with_entry b x) (record new { count = count })
-line_counted t h b x old new count was is after =
+pub line_counted : (h : Header) (b : Book) (x : Entry) (old new : BookView) (count : ℕ) → Refines h b old →
+    count ≡ old.count + 1 → Refines h (with_entry b x) (counted new) → Refines h (with_entry b x) (record new { count = count })
+line_counted h b x old new count was is after =
     let lines : length (b.current ++ x ∷ []) ≡ length b.current + 1 = length-append b.current (x ∷ []) in
     let before = was.count in
     let now = after.count in
     let same : new.count + 1 ≡ count = omega (arith, lines, before, now, is) in
-    subst (λ (n : ℕ). Refines t h (with_entry b x) (record new { count = n })) same after
+    subst (λ (n : ℕ). Refines h (with_entry b x) (record new { count = n })) same after
 
 -- a list with one more item, where there is one
 abbrev pub with_one : {X : Type 0} → List X → Option X → List X
@@ -274,7 +273,6 @@ or_balanced was x = was
 -- the book in code holds one more entry, in all its parts
 pub record HoldsMore (h : Header) (x : Entry) (old new : BookView) : Type 0 where
   pub header : new.header ≡ old.header
-  pub commands : new.commands ≡ old.commands
   pub tree : new.tree ≡ divided old.tree x
   pub count : new.count ≡ old.count + 1
   pub creates : new.creates ≡ with_one old.creates (created x)
@@ -297,11 +295,10 @@ balance_with true entry.Balanced = refl
 balance_with false entry.Balanced = refl
 balance_with was x = sym (or_false was)
 
-pub entry_kept : (t : Commands) (h : Header) (b : Book) (x : Entry) (old new : BookView) → Refines t h b old → HoldsMore h x old new →
-    EntitiesRefine (with_entry b x) new.entities → ClientsRefine (with_entry b x) new.clients → Refines t h (with_entry b x) new
-entry_kept t h b x old new was more entities clients = record {
+pub entry_kept : (h : Header) (b : Book) (x : Entry) (old new : BookView) → Refines h b old → HoldsMore h x old new →
+    EntitiesRefine (with_entry b x) new.entities → ClientsRefine (with_entry b x) new.clients → Refines h (with_entry b x) new
+entry_kept h b x old new was more entities clients = record {
   header = more.header ∙ was.header;
-  commands = more.commands ∙ was.commands;
   tree = more.tree ∙ ap (λ (u : Division). divided u x) was.tree ∙ sym (tree_with b x);
   entities = entities;
   clients = clients;
@@ -325,12 +322,12 @@ absent_where_new b entities e was new = cases (entity_at entities e) refl (was.e
     cases (Some v) found here = absurd (none-some here.made (sym new ∙ here.is))
 
 -- after an entity was made
-pub create_kept : (t : Commands) (h : Header) (b : Book) (old new : BookView) (c : Create) (v : Entity) → Refines t h b old →
+pub create_kept : (h : Header) (b : Book) (old new : BookView) (c : Create) (v : Entity) → Refines h b old →
     IsWhole c.entity → entity_at old.entities c.entity ≡ None → IsFresh c v → IsPut old.entities new.entities c.entity v →
-    new.clients ≡ old.clients → HoldsMore h (entry.Created c) old new → Refines t h (with_entry b (entry.Created c)) new
-create_kept t h b old new c v was whole absent fresh put clients more =
+    new.clients ≡ old.clients → HoldsMore h (entry.Created c) old new → Refines h (with_entry b (entry.Created c)) new
+create_kept h b old new c v was whole absent fresh put clients more =
     let unknown = entity_unknown b old.entities c.entity was.entities absent in
-    entry_kept t h b (entry.Created c) old new was more
+    entry_kept h b (entry.Created c) old new was more
     (entities_with_create b c whole unknown old.entities new.entities v was.entities fresh put)
     (subst (ClientsRefine (with_entry b (entry.Created c))) (sym clients) (clients_with_new b c old.clients was.clients unknown))
 
@@ -345,35 +342,34 @@ next_is_there b entities call was is = cases (entity_at entities call.entity) re
     cases (Some v) found here = (v, found)
 
 -- after a call
-pub call_kept : (t : Commands) (h : Header) (b : Book) (old new : BookView) (call : Call) → Refines t h b old → IsNextCall b call →
+pub call_kept : (h : Header) (b : Book) (old new : BookView) (call : Call) → Refines h b old → IsNextCall b call →
     KeepsLast old.entities new.entities call → new.clients ≡ old.clients → HoldsMore h (entry.Called call) old new →
-    Refines t h (with_entry b (entry.Called call)) new
-call_kept t h b old new call was is kept clients more =
+    Refines h (with_entry b (entry.Called call)) new
+call_kept h b old new call was is kept clients more =
     let there = next_is_there b old.entities call was.entities is in
-    entry_kept t h b (entry.Called call) old new was more
+    entry_kept h b (entry.Called call) old new was more
     (entities_with_call b old.entities new.entities call there.0 was.entities is there.1 kept)
     (subst (ClientsRefine (with_entry b (entry.Called call))) (sym clients)
     (clients_stay b (entry.Called call) old.clients was.clients refl (λ e. refl) (λ e. refl)))
 
 -- after an entry that is about no entity
-pub other_kept : (t : Commands) (h : Header) (b : Book) (x : Entry) (old new : BookView) → Refines t h b old → creates_of (x ∷ []) ≡ [] →
+pub other_kept : (h : Header) (b : Book) (x : Entry) (old new : BookView) → Refines h b old → creates_of (x ∷ []) ≡ [] →
     ((e : ℕ) → Spares x e) → new.entities ≡ old.entities → new.clients ≡ old.clients → HoldsMore h x old new →
-    Refines t h (with_entry b x) new
-other_kept t h b x old new was none spares entities clients more =
-    entry_kept t h b x old new was more
+    Refines h (with_entry b x) new
+other_kept h b x old new was none spares entities clients more =
+    entry_kept h b x old new was more
     (subst (EntitiesRefine (with_entry b x)) (sym entities) (entities_stay b x old.entities was.entities none spares))
     (subst (ClientsRefine (with_entry b x)) (sym clients)
     (clients_stay b x old.clients was.clients none (λ e. (spares e).destroys) (λ e. (spares e).joins)))
 
 -- after the space was divided, and after a balance was asked for
-module _ (t : Commands) (h : Header) (b : Book) (old : BookView) (was : Refines t h b old) where
-  pub division_kept : (tree : Division) → Refines t h (with_entry b (entry.Divided tree)) (counted (record old { tree = tree }))
+module _ (h : Header) (b : Book) (old : BookView) (was : Refines h b old) where
+  pub division_kept : (tree : Division) → Refines h (with_entry b (entry.Divided tree)) (counted (record old { tree = tree }))
   division_kept tree =
-      other_kept t h b (entry.Divided tree) old _ was refl
+      other_kept h b (entry.Divided tree) old _ was refl
       (λ e. record { makes = refl; destroys = refl; joins = refl; calls = λ p s. refl }) refl refl
       (record {
         header = refl;
-        commands = refl;
         tree = refl;
         count = refl;
         creates = refl;
@@ -383,13 +379,12 @@ module _ (t : Commands) (h : Header) (b : Book) (old : BookView) (was : Refines 
         balance = refl;
       })
 
-  pub balance_kept : Refines t h (with_entry b entry.Balanced) (counted (record old { balance = true }))
+  pub balance_kept : Refines h (with_entry b entry.Balanced) (counted (record old { balance = true }))
   balance_kept =
-      other_kept t h b entry.Balanced old _ was refl
+      other_kept h b entry.Balanced old _ was refl
       (λ e. record { makes = refl; destroys = refl; joins = refl; calls = λ p s. refl }) refl refl
       (record {
         header = refl;
-        commands = refl;
         tree = refl;
         count = refl;
         creates = refl;
@@ -400,13 +395,13 @@ module _ (t : Commands) (h : Header) (b : Book) (old : BookView) (was : Refines 
       })
 
 -- after an entity was given a client
-pub client_kept : (t : Commands) (h : Header) (b : Book) (old new : BookView) (e : ℕ) → Refines t h b old → LivesAlone b e →
+pub client_kept : (h : Header) (b : Book) (old new : BookView) (e : ℕ) → Refines h b old → LivesAlone b e →
     new.entities ≡ old.entities → SetsClient old.clients new.clients e true → length new.clients ≡ length old.clients + 1 →
-    HoldsMore h (entry.Joined e) old new → Refines t h (with_entry b (entry.Joined e)) new
-client_kept t h b old new e was alone entities sets count more =
+    HoldsMore h (entry.Joined e) old new → Refines h (with_entry b (entry.Joined e)) new
+client_kept h b old new e was alone entities sets count more =
     let there = live_is_there b old.entities e was.entities alone.lives in
     let here = entity_found b old.entities e there.0 was.entities there.1 in
-    entry_kept t h b (entry.Joined e) old new was more
+    entry_kept h b (entry.Joined e) old new was more
     (subst (EntitiesRefine (with_entry b (entry.Joined e))) (sym entities)
     (entities_with b (entry.Joined e) old.entities old.entities e was.entities
     (was.entities.count ∙ sym (count_without_create b (entry.Joined e) refl))
@@ -416,16 +411,16 @@ client_kept t h b old new e was alone entities sets count more =
     (client_now b e there.0 here alone))
 
 -- after one was destroyed
-pub destroy_kept : (t : Commands) (h : Header) (b : Book) (old new : BookView) (e : ℕ) → Refines t h b old → IsSome (live_as b e) →
+pub destroy_kept : (h : Header) (b : Book) (old new : BookView) (e : ℕ) → Refines h b old → IsSome (live_as b e) →
     ChangesOne old.entities new.entities e Dies → SetsClient old.clients new.clients e false →
     length new.clients + cond (is_client old.clients e) 1 0 ≡ length old.clients → HoldsMore h (entry.Destroyed e) old new →
-    Refines t h (with_entry b (entry.Destroyed e)) new
-destroy_kept t h b old new e was lives changes sets count more =
+    Refines h (with_entry b (entry.Destroyed e)) new
+destroy_kept h b old new e was lives changes sets count more =
     let there = live_is_there b old.entities e was.entities lives in
     let here = entity_found b old.entities e there.0 was.entities there.1 in
     let entities = entities_changed b (entry.Destroyed e) old.entities new.entities e Dies there.0 was.entities changes refl
     (λ other ne. spares_destroyed e other ne) there.1 (λ w dies before. entity_destroyed b e there.0 w dies before) in
-    entry_kept t h b (entry.Destroyed e) old new was more entities
+    entry_kept h b (entry.Destroyed e) old new was more entities
     (clients_without_one b e here.made old.clients new.clients was.clients sets count was.entities.once here.is (none_now b e))
 
 -- ---- the next round
@@ -486,12 +481,11 @@ pub record IsEmptyRound (new : BookView) : Type 0 where
   pub balance : new.balance ≡ false
 
 -- the book in code after the round ended
-pub round_kept : (t : Commands) (h : Header) (b : Book) (old new : BookView) → Refines t h b old → new.header ≡ old.header →
-    new.commands ≡ old.commands → new.tree ≡ old.tree → new.entities ≡ old.entities → new.clients ≡ old.clients → IsEmptyRound new →
-    Refines t h (with_round_ended b) new
-round_kept t h b old new was header commands tree entities clients none = record {
+pub round_kept : (h : Header) (b : Book) (old new : BookView) → Refines h b old → new.header ≡ old.header →
+    new.tree ≡ old.tree → new.entities ≡ old.entities → new.clients ≡ old.clients → IsEmptyRound new →
+    Refines h (with_round_ended b) new
+round_kept h b old new was header tree entities clients none = record {
   header = header ∙ was.header;
-  commands = commands ∙ was.commands;
   tree = tree ∙ was.tree;
   entities = same_entities b (with_round_ended b) (sym (entries_after_round b)) new.entities
       (subst (EntitiesRefine b) (sym entities) was.entities);
@@ -513,11 +507,10 @@ tree_of_none t [] none = refl
 tree_of_none t (x ∷ xs) none = let never : ⊥ = omega (arith, none) in absurd never
 
 -- the book in code whose open round, which has no line, begins with another tree
-pub tree_kept : (t : Commands) (h : Header) (b : Book) (old : BookView) (tree : Division) → Refines t h b old → old.count ≡ 0 →
-    Refines t h (with_tree b tree) (record old { tree = tree })
-tree_kept t h b old tree was none = record {
+pub tree_kept : (h : Header) (b : Book) (old : BookView) (tree : Division) → Refines h b old → old.count ≡ 0 →
+    Refines h (with_tree b tree) (record old { tree = tree })
+tree_kept h b old tree was none = record {
   header = was.header;
-  commands = was.commands;
   tree = sym (tree_of_none tree b.current (sym was.count ∙ none));
   entities = same_entities b (with_tree b tree) refl old.entities was.entities;
   clients = same_clients b (with_tree b tree) refl old.clients was.clients;
@@ -538,11 +531,10 @@ nothing_kept size = record {
   once = tt;
 }
 
-pub begins : (t : Commands) (h : Header) (new : BookView) → new.header ≡ h → new.commands ≡ t → new.tree ≡ one_cell h.settings.size →
-    new.entities ≡ [] → new.clients ≡ [] → IsEmptyRound new → Refines t h (empty_book h.settings.size) new
-begins t h new header commands tree entities clients none = record {
+pub begins : (h : Header) (new : BookView) → new.header ≡ h → new.tree ≡ one_cell h.settings.size →
+    new.entities ≡ [] → new.clients ≡ [] → IsEmptyRound new → Refines h (empty_book h.settings.size) new
+begins h new header tree entities clients none = record {
   header = header;
-  commands = commands;
   tree = tree;
   entities = subst (EntitiesRefine (empty_book h.settings.size)) (sym entities) (nothing_kept h.settings.size);
   clients = subst (ClientsRefine (empty_book h.settings.size)) (sym clients) (record { count = refl; each = λ e. refl });

@@ -10,7 +10,6 @@ use Rattle.seam_transcript.specs.Book.{Book, created_as}
 use Rattle.seam_transcript.specs.Judging.{NamesCall}
 use Rattle.seam_transcript.specs.declared.verdict.Entry.{Entry}
 use Rattle.seam_transcript.specs.declared.verdict.Entry.TheVariants as entry
-use Rattle.seam_transcript.specs.declared.commands.Commands.{Commands}
 use Rattle.seam_transcript.proofs.BookEntries.{live_is_created}
 use Rattle.seam_transcript.proofs.Verdicts.{command_is_refused, command_is_accepted}
 use Rattle.seam_accept.specs.Commands.{call_of, asked_of}
@@ -27,21 +26,21 @@ use Rattle.seam_accept.specs.declared.command.DeedWords.{DeedWords}
 use Rattle.seam_accept.specs.declared.command.DeedWords.TheVariants as words
 
 -- a line that spells an accepted command
-pub line_accepted : (t : Commands) (h : Header) (b : Book) (line : List ℕ) (c : language.Command) (a : Accepted) (after : BookView) →
-    ¬ (language.IsSkipped line) → language.SpellsCommand line c → language.NamesCommand t (language.words_of c) →
-    CommandAccepted t h b c a after → LineAccepted t h b (Content line) a after
-line_accepted t h b line c answer.Kept after not spells taken (x, accepts, refines) =
-    (x, command_is_accepted t h b line c taken spells x not accepts.none accepts.adds, refines)
-line_accepted t h b line c answer.Synced after not spells taken (is, refines) =
+pub line_accepted : (h : Header) (b : Book) (line : List ℕ) (c : language.Command) (a : Accepted) (after : BookView) →
+    ¬ (language.IsSkipped line) → language.SpellsCommand line c →
+    CommandAccepted h b c a after → LineAccepted h b (Content line) a after
+line_accepted h b line c answer.Kept after not spells (x, accepts, refines) =
+    (x, command_is_accepted h b line c spells x not accepts.none accepts.adds, refines)
+line_accepted h b line c answer.Synced after not spells (is, refines) =
     ((not, subst (language.SpellsCommand line) is spells), refines)
-line_accepted t h b line c answer.Skipped after not spells taken accepted = absurd accepted
+line_accepted h b line c answer.Skipped after not spells accepted = absurd accepted
 
 -- and one that spells a refused one
-pub line_refused : (t : Commands) (h : Header) (b : Book) (line : List ℕ) (c : language.Command) (r : Refusal) →
-    ¬ (language.IsSkipped line) → language.SpellsCommand line c → language.NamesCommand t (language.words_of c) → Refuses h b c r →
-    LineRefused t h b (Content line) r
-line_refused t h b line c (refusal.Cause k) not spells taken first = command_is_refused t h b line c taken spells k not first
-line_refused t h b line c refusal.NoMemory not spells taken first = tt
+pub line_refused : (h : Header) (b : Book) (line : List ℕ) (c : language.Command) (r : Refusal) →
+    ¬ (language.IsSkipped line) → language.SpellsCommand line c → Refuses h b c r →
+    LineRefused h b (Content line) r
+line_refused h b line c (refusal.Cause k) not spells first = command_is_refused h b line c spells k not first
+line_refused h b line c refusal.NoMemory not spells first = tt
 
 call_in : Call → Entry → Call
 call_in other (entry.Called c) = c

@@ -4,15 +4,12 @@ use Rattle.seam_tree.specs.Division.{Division}
 use Rattle.seam_call.specs.declared.create.Create.{Create}
 use Rattle.seam_call.specs.declared.order.Order.{Order}
 use Rattle.seam_toml.specs.declared.header.Header.{Header}
-use Rattle.seam_transcript.specs.declared.commands.Commands.{Commands}
 use Rattle.seam_accept.specs.declared.entity.Entity.{Entity}
 
--- The header, the commands that are taken, the tree of the cells, what is kept of each entity, and which live ones have a client; of
--- the open round how many lines were kept, and what it brings: creates, entities that get a client, orders, entities that die, and
+-- The header, the tree of the cells, what is kept of each entity, and which live ones have a client; of the open round how many lines were kept, and what it brings: creates, entities that get a client, orders, entities that die, and
 -- whether the boundaries are balanced.
 pub record BookView : Type 0 where
   pub header : Header
-  pub commands : Commands
   pub tree : Division
   pub entities : List (ℕ × Entity)
   pub clients : List ℕ

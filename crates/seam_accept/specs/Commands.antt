@@ -3,7 +3,6 @@ use Rattle.std.specs.Prelude.{◌≡◌, ℕ, List, map}
 use Rattle.std.specs.Borrow.{Bor}
 use Rattle.seam_transcript.specs.Language.{Word, Command, Create, Call, Move, Sync, Client, Tick, Cut, Shift, Balance, Destroy, words_of}
 use Rattle.seam_transcript.specs.Language.{NamesCommand}
-use Rattle.seam_transcript.specs.declared.commands.Commands.{Commands}
 use Rattle.seam_transcript.specs.declared.verdict.Cause.{Cause}
 use Rattle.seam_transcript.specs.declared.verdict.Cause.TheVariants as cause
 use Rattle.seam_accept.specs.declared.command.CallWords.{CallWords}
@@ -50,8 +49,8 @@ command_of (form.Shift words) = shift_of words
 command_of form.Balance = Balance
 command_of (form.Destroy entity) = Destroy entity.now
 
--- why words spell no command that is taken
-abbrev pub IsFaultOfWords : Commands → List Word → Cause → Type 0
-IsFaultOfWords taken words cause.NoCommand = ¬ (NamesCommand taken words)
-IsFaultOfWords taken words cause.WrongCount = NamesCommand taken words × ((c : Command) → ¬ (words ≡ words_of c))
-IsFaultOfWords taken words k = ⊥
+-- why words spell no command
+abbrev pub IsFaultOfWords : List Word → Cause → Type 0
+IsFaultOfWords words cause.NoCommand = ¬ (NamesCommand words)
+IsFaultOfWords words cause.WrongCount = NamesCommand words × ((c : Command) → ¬ (words ≡ words_of c))
+IsFaultOfWords words k = ⊥

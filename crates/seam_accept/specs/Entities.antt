@@ -1,5 +1,5 @@
 -- What is kept of entities, beside the book of a transcript.
-use Rattle.std.specs.Prelude.{◌≡◌, ◌≢◌, ⊤, ℕ, ◌+◌, Bool, true, false, not, cond, ◌&&◌, eqb, map, List, [], length}
+use Rattle.std.specs.Prelude.{◌≡◌, ◌≢◌, ⊤, ℕ, ◌+◌, Bool, false, not, cond, ◌&&◌, eqb, map, List, [], length}
 use Rattle.std.specs.Prelude.{Option, None, Some, MatchOption, IfSome, IsSome}
 use Rattle.std.specs.Borrow.{Bor}
 use Rattle.std.specs.Map.{lookup}

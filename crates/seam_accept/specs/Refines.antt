@@ -6,7 +6,6 @@ use Rattle.seam_toml.specs.declared.header.Header.{Header}
 use Rattle.seam_transcript.specs.Language.{Command, Sync}
 use Rattle.seam_transcript.specs.Book.{Book, creates_of, with_entry, tree_of, has_balance}
 use Rattle.seam_transcript.specs.Judging.{Judges}
-use Rattle.seam_transcript.specs.declared.commands.Commands.{Commands}
 use Rattle.seam_transcript.specs.declared.verdict.Entry.{Entry}
 use Rattle.seam_transcript.specs.declared.verdict.Verdict.TheVariants as verdict
 use Rattle.seam_accept.specs.declared.answers.Accepted.{Accepted}
@@ -18,10 +17,9 @@ use Rattle.seam_accept.specs.Judging.{Accepts}
 use Rattle.seam_accept.specs.Batches.{ordered, joined, destroyed}
 use Rattle.seam_accept.specs.BookView.{BookView}
 
--- the book in code takes these commands, and holds what the book of a transcript holds, after this header
-pub record Refines (taken : Commands) (h : Header) (b : Book) (book : BookView) : Type 0 where
+-- the book in code holds what the book of a transcript holds, after this header
+pub record Refines (h : Header) (b : Book) (book : BookView) : Type 0 where
   pub header : book.header ≡ h
-  pub commands : book.commands ≡ taken
   pub tree : book.tree ≡ tree_of b
   pub entities : EntitiesRefine b book.entities
   pub clients : ClientsRefine b book.clients
@@ -33,19 +31,19 @@ pub record Refines (taken : Commands) (h : Header) (b : Book) (book : BookView) 
   pub balance : book.balance ≡ has_balance b
 
 -- A line was not refused: the verdict on it, and the book after it.
-abbrev pub LineAccepted : Commands → Header → Book → Line → Accepted → BookView → Type 0
-LineAccepted taken h b line answer.Kept after =
-    (x : Entry) × Judges taken h b line (verdict.Accepted x) × Refines taken h (with_entry b x) after
-LineAccepted taken h b line answer.Synced after = Judges taken h b line verdict.Synced × Refines taken h b after
-LineAccepted taken h b line answer.Skipped after = Judges taken h b line verdict.Skipped × Refines taken h b after
+abbrev pub LineAccepted : Header → Book → Line → Accepted → BookView → Type 0
+LineAccepted h b line answer.Kept after =
+    (x : Entry) × Judges h b line (verdict.Accepted x) × Refines h (with_entry b x) after
+LineAccepted h b line answer.Synced after = Judges h b line verdict.Synced × Refines h b after
+LineAccepted h b line answer.Skipped after = Judges h b line verdict.Skipped × Refines h b after
 
 -- a line was refused for its first cause; want of memory tells nothing of it
-abbrev pub LineRefused : Commands → Header → Book → Line → Refusal → Type 0
-LineRefused taken h b line (refusal.Cause c) = Judges taken h b line (verdict.Refused c)
-LineRefused taken h b line refusal.NoMemory = ⊤
+abbrev pub LineRefused : Header → Book → Line → Refusal → Type 0
+LineRefused h b line (refusal.Cause c) = Judges h b line (verdict.Refused c)
+LineRefused h b line refusal.NoMemory = ⊤
 
 -- the same of a line that spells a command, by the command
-abbrev pub CommandAccepted : Commands → Header → Book → Command → Accepted → BookView → Type 0
-CommandAccepted taken h b c answer.Kept after = (x : Entry) × Accepts h b c x × Refines taken h (with_entry b x) after
-CommandAccepted taken h b c answer.Synced after = (c ≡ Sync) × Refines taken h b after
-CommandAccepted taken h b c answer.Skipped after = ⊥
+abbrev pub CommandAccepted : Header → Book → Command → Accepted → BookView → Type 0
+CommandAccepted h b c answer.Kept after = (x : Entry) × Accepts h b c x × Refines h (with_entry b x) after
+CommandAccepted h b c answer.Synced after = (c ≡ Sync) × Refines h b after
+CommandAccepted h b c answer.Skipped after = ⊥

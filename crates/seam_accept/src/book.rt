@@ -3,7 +3,6 @@ ghost use Rattle.std.specs.Prelude.{◌≡◌, ◌≤◌, IsSome, None, length, 
 ghost use Rattle.seam_io.specs.Lines.{Content};
 ghost use Rattle.seam_defs.specs.Settings.{AreInRange};
 ghost use Rattle.seam_toml.specs.declared.header.Header.{Header as Headers};
-ghost use Rattle.seam_transcript.specs.declared.commands.Commands.{Commands as Takens};
 ghost use Rattle.seam_transcript.specs.Book.{Book as Books, empty_book, open_lines, with_entry, with_round_ended, with_tree};
 ghost use Rattle.seam_transcript.specs.Book.{created_as, live_as};
 ghost use Rattle.seam_defs.specs.declared.limits.TheConstants.{MOST_BASE_NODES};
@@ -25,7 +24,7 @@ use indexmap::IndexMap;
 use seam_call::{Batch, Call, Create, Order, Sender};
 use seam_defs::{Listed, Part};
 use seam_io::LONGEST_LINE;
-use seam_transcript::{Commands, Entry, Header};
+use seam_transcript::{Entry, Header};
 use seam_tree::{MOST_CELLS, Tree};
 use seam_words::MOST_WORDS;
 use std::alloc::{AllocError, Global};
@@ -39,7 +38,6 @@ use std::marker::Model;
 pub struct Book {
     alloc: Global,
     header: Header,
-    commands: Commands,
     tree: Tree,
     entities: IndexMap<u32, Entity>,
     // the live entities that have a client
@@ -63,7 +61,6 @@ impl Model for Book {
 
     ghost view = { λ b. record {
       header = b.header;
-      commands = b.commands;
       tree = b.tree;
       entities = b.entities.entries;
       clients = b.clients.keys;
@@ -77,17 +74,16 @@ impl Model for Book {
 }
 
 impl Book {
-    /// A book in which nothing was accepted, after this header. It takes these commands.
-    pub fn new(alloc: Global, header: &Header, commands: Commands) -> Result<Book, AllocError>
+    /// A book in which nothing was accepted, after this header.
+    pub fn new(alloc: Global, header: &Header) -> Result<Book, AllocError>
         requires { AreInRange header.now.settings }
-        ensures { IfOk result (Refines commands header.now (empty_book header.now.settings.size)) }
+        ensures { IfOk result (Refines header.now (empty_book header.now.settings.size)) }
     {
         let settings = header.settings;
         let defs = header.defs.copy()?;
         Ok(Book {
             alloc,
             header: Header { settings, defs },
-            commands,
             tree: Tree::one(settings.size),
             entities: IndexMap::new(alloc),
             clients: BTreeSet::new(alloc),
@@ -105,14 +101,14 @@ impl Book {
     /// Where it is refused, and if allocation fails, nothing has changed.
     pub fn accept(&mut self, line: &[u8]) -> Result<Accepted, Refusal>
         requires { length line.now ≤ LONGEST_LINE }
-        ensures accepted { IfOk result (λ a. (t : Takens) (h : Headers) (b : Books) → Refines t h b self.old
-            → LineAccepted t h b (Content line.now) a self.new) }
-        ensures refused { IfErr result (λ r. (t : Takens) (h : Headers) (b : Books) → Refines t h b self.old
-            → LineRefused t h b (Content line.now) r) }
+        ensures accepted { IfOk result (λ a. (h : Headers) (b : Books) → Refines h b self.old
+            → LineAccepted h b (Content line.now) a self.new) }
+        ensures refused { IfErr result (λ r. (h : Headers) (b : Books) → Refines h b self.old
+            → LineRefused h b (Content line.now) r) }
         ensures unchanged { OnErr result (self.new ≡ self.old) }
     {
         let mut table: [&[u8]; MOST_WORDS] = [b""; MOST_WORDS];
-        match read_line(self.commands, line, &mut table) {
+        match read_line(line, &mut table) {
             Ok(read) => match read {
                 Some(command) => self.accept_command(&command),
                 None => Ok(Accepted::Skipped),
@@ -123,9 +119,9 @@ impl Book {
 
     // Takes a command.
     fn accept_command(&mut self, command: &Command) -> Result<Accepted, Refusal>
-        ensures accepted { IfOk result (λ a. (t : Takens) (h : Headers) (b : Books) → Refines t h b self.old
-            → CommandAccepted t h b command.now a self.new) }
-        ensures refused { IfErr result (λ r. (t : Takens) (h : Headers) (b : Books) → Refines t h b self.old
+        ensures accepted { IfOk result (λ a. (h : Headers) (b : Books) → Refines h b self.old
+            → CommandAccepted h b command.now a self.new) }
+        ensures refused { IfErr result (λ r. (h : Headers) (b : Books) → Refines h b self.old
             → Refuses h b command.now r) }
         ensures unchanged { OnErr result (self.new ≡ self.old) }
     {
@@ -140,9 +136,9 @@ impl Book {
 
     // What a command adds; nothing where it ends the round.
     fn judge(&self, form: &Form) -> Result<Option<Entry>, Refusal>
-        ensures judged { IfOk result (λ x. (t : Takens) (h : Headers) (b : Books) → Refines t h b self.now
+        ensures judged { IfOk result (λ x. (h : Headers) (b : Books) → Refines h b self.now
             → Judged h b (command_of form.now) x) }
-        ensures refused { IfErr result (λ r. (t : Takens) (h : Headers) (b : Books) → Refines t h b self.now
+        ensures refused { IfErr result (λ r. (h : Headers) (b : Books) → Refines h b self.now
             → Refuses h b (command_of form.now) r) }
     {
         let (entities, clients) = (&self.entities, &self.clients);
@@ -168,8 +164,8 @@ impl Book {
 
     // Keeps an entry that may come next.
     fn keep(&mut self, entry: Entry) -> Result<(), AllocError>
-        ensures kept { OnOk result ((t : Takens) (h : Headers) (b : Books) → Refines t h b self.old → IsNext b entry
-            → Refines t h (with_entry b entry) self.new) }
+        ensures kept { OnOk result ((h : Headers) (b : Books) → Refines h b self.old → IsNext b entry
+            → Refines h (with_entry b entry) self.new) }
         ensures unchanged { OnErr result (self.new ≡ self.old) }
     {
         let count = next_len(self.count)?;
@@ -180,8 +176,8 @@ impl Book {
 
     // Keeps an entry, in all but the count.
     fn add(&mut self, entry: Entry) -> Result<(), AllocError>
-        ensures kept { OnOk result ((t : Takens) (h : Headers) (b : Books) → Refines t h b self.old → IsNext b entry
-            → Refines t h (with_entry b entry) (counted self.new)) }
+        ensures kept { OnOk result ((h : Headers) (b : Books) → Refines h b self.old → IsNext b entry
+            → Refines h (with_entry b entry) (counted self.new)) }
         ensures unchanged { OnErr result (self.new ≡ self.old) }
     {
         match entry {
@@ -203,8 +199,8 @@ impl Book {
 
     // Keeps a new entity.
     fn add_create(&mut self, create: Create) -> Result<(), AllocError>
-        ensures kept { OnOk result ((t : Takens) (h : Headers) (b : Books) → Refines t h b self.old → created_as b create.entity ≡ None
-            → Refines t h (with_entry b (Entry.Created create)) (counted self.new)) }
+        ensures kept { OnOk result ((h : Headers) (b : Books) → Refines h b self.old → created_as b create.entity ≡ None
+            → Refines h (with_entry b (Entry.Created create)) (counted self.new)) }
         ensures unchanged { OnErr result (self.new ≡ self.old) }
     {
         self.creates.reserve(1)?;
@@ -217,8 +213,8 @@ impl Book {
 
     // Keeps a call.
     fn add_call(&mut self, call: Call) -> Result<(), AllocError>
-        ensures kept { OnOk result ((t : Takens) (h : Headers) (b : Books) → Refines t h b self.old → IsNextCall b call
-            → Refines t h (with_entry b (Entry.Called call)) (counted self.new)) }
+        ensures kept { OnOk result ((h : Headers) (b : Books) → Refines h b self.old → IsNextCall b call
+            → Refines h (with_entry b (Entry.Called call)) (counted self.new)) }
         ensures unchanged { OnErr result (self.new ≡ self.old) }
     {
         self.orders.reserve(1)?;
@@ -230,8 +226,8 @@ impl Book {
 
     // Keeps that a live entity has a client.
     fn add_client(&mut self, entity: u32) -> Result<(), AllocError>
-        ensures kept { OnOk result ((t : Takens) (h : Headers) (b : Books) → Refines t h b self.old → LivesAlone b entity
-            → Refines t h (with_entry b (Entry.Joined entity)) (counted self.new)) }
+        ensures kept { OnOk result ((h : Headers) (b : Books) → Refines h b self.old → LivesAlone b entity
+            → Refines h (with_entry b (Entry.Joined entity)) (counted self.new)) }
         ensures unchanged { OnErr result (self.new ≡ self.old) }
     {
         self.joined.reserve(1)?;
@@ -242,8 +238,8 @@ impl Book {
 
     // Keeps that the witnesses look, which the first base node tells the cells.
     fn add_tick(&mut self) -> Result<(), AllocError>
-        ensures kept { OnOk result ((t : Takens) (h : Headers) (b : Books) → Refines t h b self.old
-            → Refines t h (with_entry b Entry.Ticked) (counted self.new)) }
+        ensures kept { OnOk result ((h : Headers) (b : Books) → Refines h b self.old
+            → Refines h (with_entry b Entry.Ticked) (counted self.new)) }
         ensures unchanged { OnErr result (self.new ≡ self.old) }
     {
         self.orders.push((MOST_CELLS as u8, Order::Tick))?;
@@ -252,8 +248,8 @@ impl Book {
 
     // Keeps that a live entity is destroyed, and its client with it.
     fn add_death(&mut self, entity: u32) -> Result<(), AllocError>
-        ensures kept { OnOk result ((t : Takens) (h : Headers) (b : Books) → Refines t h b self.old → IsSome (live_as b entity)
-            → Refines t h (with_entry b (Entry.Destroyed entity)) (counted self.new)) }
+        ensures kept { OnOk result ((h : Headers) (b : Books) → Refines h b self.old → IsSome (live_as b entity)
+            → Refines h (with_entry b (Entry.Destroyed entity)) (counted self.new)) }
         ensures unchanged { OnErr result (self.new ≡ self.old) }
     {
         self.destroyed.push(entity)?;
@@ -264,15 +260,15 @@ impl Book {
 
     /// How many lines of the open round were kept.
     pub fn count(&self) -> usize
-        ensures { (t : Takens) (h : Headers) (b : Books) → Refines t h b self.now → result ≡ open_lines b }
+        ensures { (h : Headers) (b : Books) → Refines h b self.now → result ≡ open_lines b }
     {
         self.count
     }
 
     /// What the open round brings; the next one begins.
     pub fn take_batch(&mut self) -> Batch
-        ensures batch { (t : Takens) (h : Headers) (b : Books) → Refines t h b self.old → result ≡ batch_of h b }
-        ensures ended { (t : Takens) (h : Headers) (b : Books) → Refines t h b self.old → Refines t h (with_round_ended b) self.new }
+        ensures batch { (h : Headers) (b : Books) → Refines h b self.old → result ≡ batch_of h b }
+        ensures ended { (h : Headers) (b : Books) → Refines h b self.old → Refines h (with_round_ended b) self.new }
         ensures none { self.new.count ≡ 0 }
     {
         let creates = std::mem::replace(&mut self.creates, Vec::new(self.alloc));
@@ -294,7 +290,7 @@ impl Book {
     /// Begins the open round, of which no line was kept so far, with this tree: the one that a balance made when the last round ended.
     pub fn set_tree(&mut self, tree: Tree)
         requires { self.old.count ≡ 0 }
-        ensures { (t : Takens) (h : Headers) (b : Books) → Refines t h b self.old → Refines t h (with_tree b tree) self.new }
+        ensures { (h : Headers) (b : Books) → Refines h b self.old → Refines h (with_tree b tree) self.new }
     {
         self.tree = tree;
     }

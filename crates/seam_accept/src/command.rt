@@ -1,7 +1,7 @@
 // The command that a line spells.
 ghost use Rattle.std.specs.Prelude.{◌≡◌, ◌≢◌, ◌≤◌, ◌↔◌, ◌∷◌, [], IsTrue, IfErr, IfOk, length, codes, Contains, MatchOption};
 ghost use Rattle.seam_io.specs.Lines.{Content};
-ghost use Rattle.seam_transcript.specs.Language.{IsSkipped, words_of, names_in_one_cell, further_names, command_names, NamesCommand};
+ghost use Rattle.seam_transcript.specs.Language.{IsSkipped, words_of, command_names, NamesCommand};
 ghost use Rattle.seam_transcript.specs.Language.{SpellsCommand, Command as Commands};
 ghost use Rattle.seam_transcript.specs.Book.{Book};
 ghost use Rattle.seam_transcript.specs.Judging.{Judges};
@@ -10,7 +10,7 @@ ghost use Rattle.seam_transcript.specs.declared.verdict.Verdict.TheVariants.{Ref
 ghost use Rattle.seam_accept.specs.Commands.{texts_of, command_of, IsFaultOfWords};
 
 use seam_io::LONGEST_LINE;
-use seam_transcript::{Cause, Commands as Taken};
+use seam_transcript::Cause;
 use seam_words::{MOST_WORDS, words_of_line};
 use std::marker::Model;
 
@@ -115,33 +115,31 @@ impl<'a, 'b> Command<'a, 'b> {
     }
 }
 
-/// Reads a line, with a table for its words, where these commands are taken: None where it has none, and else its command, or why each book
-/// refuses it.
+/// Reads a line, with a table for its words: None where it has none, and else its command, or why each book refuses it.
 pub fn read_line<'a, 'b>(
-    taken: Taken,
     line: &'a [u8],
     table: &'b mut [&'a [u8]; MOST_WORDS],
 ) -> Result<Option<Command<'a, 'b>>, Cause>
     requires { length line.now ≤ LONGEST_LINE }
     ensures command { IfOk result (λ read. MatchOption read (IsSkipped line.now) (λ c. ¬ (IsSkipped line.now)
-        × SpellsCommand line.now c × NamesCommand taken (words_of c))) }
-    ensures cause { IfErr result (λ cause. (h : Header) (b : Book) → Judges taken h b (Content line.now) (Refused cause)) }
+        × SpellsCommand line.now c)) }
+    ensures cause { IfErr result (λ cause. (h : Header) (b : Book) → Judges h b (Content line.now) (Refused cause)) }
 {
     if is_skipped(line) {
         return Ok(None);
     }
     match words_of_line(line, table) {
-        Ok(words) => Ok(Some(read_taken(taken, words)?)),
+        Ok(words) => Ok(Some(command_of_words(words)?)),
         Err(error) => Err(Cause::BadWords(error)),
     }
 }
 
-// The command that words spell, where it is taken.
-fn read_taken<'a, 'b>(taken: Taken, words: &'b [&'a [u8]]) -> Result<Command<'a, 'b>, Cause>
-    ensures command { IfOk result (λ c. (texts_of words.now ≡ words_of c) × NamesCommand taken (words_of c)) }
-    ensures cause { IfErr result (IsFaultOfWords taken (texts_of words.now)) }
+// The command that words spell.
+fn command_of_words<'a, 'b>(words: &'b [&'a [u8]]) -> Result<Command<'a, 'b>, Cause>
+    ensures command { IfOk result (λ c. texts_of words.now ≡ words_of c) }
+    ensures cause { IfErr result (IsFaultOfWords (texts_of words.now)) }
 {
-    if !begin_with_name(taken, words) {
+    if !begin_with_name(words) {
         return Err(Cause::NoCommand);
     }
     match read_words(words) {
@@ -150,33 +148,31 @@ fn read_taken<'a, 'b>(taken: Taken, words: &'b [&'a [u8]]) -> Result<Command<'a,
     }
 }
 
-// Whether the first of the words is that of a command that is taken.
-fn begin_with_name(taken: Taken, words: &[&[u8]]) -> bool
-    ensures { IsTrue result ↔ NamesCommand taken (texts_of words.now) }
+// Whether the first of the words is that of a command.
+fn begin_with_name(words: &[&[u8]]) -> bool
+    ensures { IsTrue result ↔ NamesCommand (texts_of words.now) }
 {
     match words {
-        [first, ..] => is_command_name(taken, first),
+        [first, ..] => is_command_name(first),
         [] => false,
     }
 }
 
-fn is_command_name(taken: Taken, word: &[u8]) -> bool
-    ensures { IsTrue result ↔ Contains (command_names taken) word.now }
+fn is_command_name(word: &[u8]) -> bool
+    ensures { IsTrue result ↔ Contains command_names word.now }
 {
-    match taken {
-        Taken::OneCell => is_name_in_one_cell(word),
-        Taken::All => is_name_in_one_cell(word) || is_further_name(word),
-    }
+    is_create_call_move_or_sync(word) || is_other_name(word)
 }
 
-fn is_name_in_one_cell(word: &[u8]) -> bool
-    ensures { IsTrue result ↔ Contains names_in_one_cell word.now }
+fn is_create_call_move_or_sync(word: &[u8]) -> bool
+    ensures { IsTrue result ↔ Contains (codes "create" ∷ codes "call" ∷ codes "move" ∷ codes "sync" ∷ []) word.now }
 {
     matches!(word, b"create" | b"call" | b"move" | b"sync")
 }
 
-fn is_further_name(word: &[u8]) -> bool
-    ensures { IsTrue result ↔ Contains further_names word.now }
+fn is_other_name(word: &[u8]) -> bool
+    ensures { IsTrue result ↔ Contains (codes "client" ∷ codes "tick" ∷ codes "cut" ∷ codes "shift" ∷ codes "balance" ∷ codes "destroy" ∷ [])
+        word.now }
 {
     is_client_tick_or_cut(word) || is_shift_balance_or_destroy(word)
 }

@@ -30,7 +30,6 @@ use Rattle.seam_transcript.specs.Language as language
 use Rattle.seam_transcript.specs.Book.{Book, created_as, live_as, accepted, has_client, tree_of}
 use Rattle.seam_transcript.specs.Judging.{IsThere, NamesCreate, NamesCall, NamesDeed, NamesMove, Adds, HoldsAgainst, Holds, RefusesCut, RefusesShift}
 use Rattle.seam_transcript.specs.Judging.{Spells}
-use Rattle.seam_transcript.specs.declared.commands.Commands.TheVariants.{All}
 use Rattle.seam_transcript.specs.declared.verdict.Entry.{Entry}
 use Rattle.seam_transcript.specs.declared.verdict.Entry.TheVariants as entry
 use Rattle.seam_transcript.specs.declared.verdict.Cause.{Cause}
@@ -208,7 +207,7 @@ module _ (h : Header) (b : Book) where
   -- ---- a line
 
   line_proper : (line : Line) (c : language.Command) (x : Entry) → Spells line c → Adds h b c x →
-      ((k : Cause) → ¬ (Holds All h b line k)) → IsProper h b x
+      ((k : Cause) → ¬ (Holds h b line k)) → IsProper h b x
   line_proper Long c x spells adds none = absurd spells
   line_proper (Content content) c x spells adds none =
       let words = language.words_of c in

@@ -5,13 +5,12 @@ use Rattle.seam_tree.specs.Division.{Division, cells_of, IsTree}
 use Rattle.seam_toml.specs.declared.header.Header.{Header}
 use Rattle.seam_transcript.specs.Book.{Book, empty_book, with_entry, with_round_ended, with_tree, tree_of}
 use Rattle.seam_transcript.specs.Judging.{Judges}
-use Rattle.seam_transcript.specs.declared.commands.Commands.TheVariants.{All}
 use Rattle.seam_transcript.specs.declared.verdict.Entry.{Entry}
 use Rattle.seam_transcript.specs.declared.verdict.Verdict.TheVariants as verdict
 
 -- a line is accepted, and adds the entry
 abbrev pub IsAccepted : Header → Book → Entry → Type 0
-IsAccepted h b x = (line : Line) × Judges All h b line (verdict.Accepted x)
+IsAccepted h b x = (line : Line) × Judges h b line (verdict.Accepted x)
 
 -- the next round may begin with the tree u in place of t: it is one of the same space and has as many cells
 pub record MayReplace (t u : Division) : Type 0 where

@@ -3,7 +3,6 @@ use crate::header::standard_header;
 use seam_accept::{Book, Refusal};
 use seam_io::LONGEST_LINE;
 use seam_report::push_refusal;
-use seam_transcript::Commands;
 use std::alloc::{AllocError, Global};
 use std::process::Abort;
 use std::test::Fail;
@@ -60,7 +59,7 @@ static SCRIPTS: [Script; 4] = [
 // What is written of the refused lines, numbered from 1.
 fn refusals_of(rt: &impl Abort, alloc: Global, lines: &str) -> Result<Vec<u8>, AllocError> {
     let header = standard_header(alloc)?;
-    let mut book = Book::new(alloc, &header, Commands::All)?;
+    let mut book = Book::new(alloc, &header)?;
     let mut out = Vec::new(alloc);
     let mut number = 0;
     for line in lines.as_bytes().split(|byte| *byte == b'\n') {

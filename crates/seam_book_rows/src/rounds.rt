@@ -3,7 +3,7 @@ use seam_accept::{Accepted, Book, HeaderLines, Refusal, next_count};
 use seam_call::{Batch, Order};
 use seam_defs::Part;
 use seam_io::LONGEST_LINE;
-use seam_transcript::{Cause, Commands};
+use seam_transcript::Cause;
 use seam_tree::{Axis, Boundary, CutError};
 use std::alloc::{AllocError, Global};
 use std::process::Abort;
@@ -38,14 +38,14 @@ const PARTS_OF_A_ROUND: &[&str] = &[
 #[test]
 fn a_line_is_kept_or_skipped_or_ends_the_round(rt: HostRuntime) -> Result<(), Fail> {
     let header = standard_header(rt.alloc())?;
-    let mut book = Book::new(rt.alloc(), &header, Commands::OneCell)?;
+    let mut book = Book::new(rt.alloc(), &header)?;
     keep(
         &rt,
         &mut book,
         &["create 1 Avatar 100 100", "call b1 1 hit 1"],
     );
     assert_eq!(rt; book.accept(b"\t# a note"), Ok(Accepted::Skipped));
-    assert_eq!(rt; book.accept(b"tick"), Err(Refusal::Cause(Cause::NoCommand)));
+    assert_eq!(rt; book.accept(b"tock"), Err(Refusal::Cause(Cause::NoCommand)));
     assert_eq!(rt; book.accept(b"sync"), Ok(Accepted::Synced));
     assert_eq!(rt; book.count(), 2);
     Ok(())
@@ -54,7 +54,7 @@ fn a_line_is_kept_or_skipped_or_ends_the_round(rt: HostRuntime) -> Result<(), Fa
 #[test]
 fn a_round_brings_all_its_parts(rt: HostRuntime) -> Result<(), Fail> {
     let header = standard_header(rt.alloc())?;
-    let mut book = Book::new(rt.alloc(), &header, Commands::All)?;
+    let mut book = Book::new(rt.alloc(), &header)?;
     keep(&rt, &mut book, PARTS_OF_A_ROUND);
     let batch = book.take_batch();
     assert_eq!(rt; batch.creates.as_slice().len(), 2);
@@ -81,7 +81,7 @@ fn nodes_of(alloc: Global, batch: &Batch) -> Result<Vec<u8>, AllocError> {
 #[test]
 fn a_balanced_tree_goes_on(rt: HostRuntime) -> Result<(), Fail> {
     let header = standard_header(rt.alloc())?;
-    let mut book = Book::new(rt.alloc(), &header, Commands::All)?;
+    let mut book = Book::new(rt.alloc(), &header)?;
     keep(&rt, &mut book, &["cut 0 x 5000", "balance"]);
     let mut tree = book.take_batch().tree;
     assert_eq!(rt; tree.shift(1, 3000), Ok(()));
@@ -101,7 +101,7 @@ fn a_balanced_tree_goes_on(rt: HostRuntime) -> Result<(), Fail> {
 #[test]
 fn there_are_sixteen_cells(rt: HostRuntime) -> Result<(), Fail> {
     let header = standard_header(rt.alloc())?;
-    let mut book = Book::new(rt.alloc(), &header, Commands::All)?;
+    let mut book = Book::new(rt.alloc(), &header)?;
     for cell in 0..15 {
         let line = format!(in rt.alloc(); "cut {cell} x {}", cell + 1)?;
         keep(&rt, &mut book, &[line.as_str()]);
@@ -123,7 +123,7 @@ fn join_all(rt: &impl Abort, alloc: Global, book: &mut Book, count: u32) -> Resu
 #[test]
 fn there_are_256_clients(rt: HostRuntime) -> Result<(), Fail> {
     let header = standard_header(rt.alloc())?;
-    let mut book = Book::new(rt.alloc(), &header, Commands::All)?;
+    let mut book = Book::new(rt.alloc(), &header)?;
     create_all(&rt, rt.alloc(), &mut book, 1, 257)?;
     join_all(&rt, rt.alloc(), &mut book, 256)?;
     assert_eq!(rt; book.accept(b"client 257"), FULL);
@@ -157,7 +157,7 @@ fn is_call(batch: &Batch, at: usize, node: u8, part: Part, number: u64) -> bool 
 #[test]
 fn a_round_is_a_batch(rt: HostRuntime) -> Result<(), Fail> {
     let header = standard_header(rt.alloc())?;
-    let mut book = Book::new(rt.alloc(), &header, Commands::OneCell)?;
+    let mut book = Book::new(rt.alloc(), &header)?;
     keep(
         &rt,
         &mut book,
@@ -205,7 +205,7 @@ fn create_all(
 #[test]
 fn a_full_book_creates_no_more(rt: HostRuntime) -> Result<(), Fail> {
     let header = standard_header(rt.alloc())?;
-    let mut book = Book::new(rt.alloc(), &header, Commands::OneCell)?;
+    let mut book = Book::new(rt.alloc(), &header)?;
     create_all(&rt, rt.alloc(), &mut book, 1, 40_000)?;
     let first = book.take_batch();
     assert_eq!(rt; first.creates.as_slice().len(), 40_000);

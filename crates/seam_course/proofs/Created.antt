@@ -9,7 +9,6 @@ use Rattle.seam_toml.specs.declared.header.Header.{Header}
 use Rattle.seam_transcript.specs.Language as language
 use Rattle.seam_transcript.specs.Book.{Book, entries, created, creates_of}
 use Rattle.seam_transcript.specs.Judging.{Adds, HoldsAgainst, Holds, Spells}
-use Rattle.seam_transcript.specs.declared.commands.Commands.TheVariants.{All}
 use Rattle.seam_transcript.specs.declared.limits.TheConstants.{MOST_ENTITIES}
 use Rattle.seam_transcript.specs.declared.verdict.Entry.{Entry}
 use Rattle.seam_transcript.specs.declared.verdict.Entry.TheVariants as entry
@@ -38,7 +37,7 @@ module _ (h : Header) (b : Book) where
   not_full c (language.Destroy w) (e, spells, is) none = absurd (let z = is in cc)
 
   line_not_full : (line : Line) (k : language.Command) (c : Create) → Spells line k → Adds h b k (entry.Created c) →
-      ((k : Cause) → ¬ (Holds All h b line k)) → many < MOST_ENTITIES
+      ((k : Cause) → ¬ (Holds h b line k)) → many < MOST_ENTITIES
   line_not_full Long k c spells adds none = absurd spells
   line_not_full (Content content) k c spells adds none =
       not_full c k adds (λ full. none cause.Full (content, language.words_of k, refl, spells, (k, refl, full)))

@@ -19,11 +19,11 @@ use Rattle.seam_rules.specs.Standing.{Standing}
 use Rattle.seam_rules.specs.Places.{HasPlace}
 use Rattle.seam_rules.specs.Lines.{RoundData}
 use Rattle.seam_rules.specs.Clients.{HasLooked}
-use Rattle.seam_rules.specs.Round.{home_line, base_line, ghost_lines, HasBounds, IsRound}
+use Rattle.seam_rules.specs.Round.{home_line, base_line, ghost_lines, with_bounds, HasBounds, IsRound}
 use Rattle.seam_judge.specs.Bounds.{PrintsBounds}
 use Rattle.seam_round.specs.Standings.{standing_of}
 use Rattle.seam_round.specs.declared.standing.Standing as plain
-use Rattle.seam_judge.specs.After.{AreForMade, with_bounds, after_round}
+use Rattle.seam_judge.specs.After.{AreForMade, after_round}
 use Rattle.seam_judge.specs.Points.{OfLive, Holds}
 use Rattle.seam_judge.specs.declared.verdict.Point.{Point}
 use Rattle.seam_judge.specs.declared.verdict.Point.TheVariants as point
@@ -64,12 +64,12 @@ match_map : {A B C D : Type 0} (b : Bool) → (A → C) → (B → D) → MatchB
 match_map true f g x = f x
 match_map false f g x = g x
 
-module _ (h : Header) (s : Standing) (r : RoundData) (t : Standing) (book : t.book ≡ with_bounds r.bounds (with_round_ended s.book)) where
+module _ (h : Header) (s : Standing) (r : RoundData) (t : Standing) (book : t.book ≡ with_bounds (with_round_ended s.book) r.bounds) where
   pub bounds_decided : (b : Bool) → (IsTrue b ↔ PrintsBounds h s r.homes r.bounds) → (IsTrue b ↔ HasBounds h s r t)
   bounds_decided b decides = (
     (λ so. match_map (has_balance s.book)
-        (λ (next, balanced, is). (next, balanced, is, book ∙ ap (λ (o : Option Division). with_bounds o (with_round_ended s.book)) is))
-        (λ is. (is, book ∙ ap (λ (o : Option Division). with_bounds o (with_round_ended s.book)) is)) (decides.0 so)),
+        (λ (next, balanced, is). (next, balanced, is, book ∙ ap (λ (o : Option Division). with_bounds (with_round_ended s.book) o) is))
+        (λ is. (is, book ∙ ap (λ (o : Option Division). with_bounds (with_round_ended s.book) o) is)) (decides.0 so)),
     (λ has. decides.1 (match_map (has_balance s.book) (λ (next, balanced, is, left). (next, balanced, is)) (λ (is, left). is) has)),
   )
 

@@ -23,8 +23,8 @@ use Rattle.seam_rules.specs.Standing.{Standing}
 use Rattle.seam_rules.specs.Places.{distances, place_before, HasPlace}
 use Rattle.seam_rules.specs.Lines.{RoundData}
 use Rattle.seam_rules.specs.Clients.{IsOther, truth_of, ShowsClient, HasShown, HasLooked}
-use Rattle.seam_rules.specs.Round.{home_line, ghost_lines, IsRound}
-use Rattle.seam_judge.specs.After.{AreForMade, place_in, with_bounds, after_round}
+use Rattle.seam_rules.specs.Round.{home_line, ghost_lines, with_bounds, IsRound}
+use Rattle.seam_judge.specs.After.{AreForMade, place_in, after_round}
 use Rattle.seam_judge.proofs.Executed.{cells_executed, bases_executed}
 use Rattle.seam_judge.proofs.Held.{place_shown}
 
@@ -125,19 +125,19 @@ module _ (h : Header) (s : Standing) (r : RoundData) (t : Standing) (made : AreF
       rounds = x.rounds;
     }
 
-    book_left : t.book ≡ with_bounds r.bounds (with_round_ended s.book)
+    book_left : t.book ≡ with_bounds (with_round_ended s.book) r.bounds
     book_left = by (has_balance s.book) x.bounds
       where
-        bounded : (o : Option Division) → r.bounds ≡ o → t.book ≡ with_bounds o (with_round_ended s.book) →
-            t.book ≡ with_bounds r.bounds (with_round_ended s.book)
-        bounded o is left = left ∙ ap (λ (b : Option Division). with_bounds b (with_round_ended s.book)) (sym is)
+        bounded : (o : Option Division) → r.bounds ≡ o → t.book ≡ with_bounds (with_round_ended s.book) o →
+            t.book ≡ with_bounds (with_round_ended s.book) r.bounds
+        bounded o is left = left ∙ ap (λ (b : Option Division). with_bounds (with_round_ended s.book) b) (sym is)
 
         by : (b : Bool) →
             MatchBool b
             ((next : Division) × IsBalanced (map (λ l. l.state.pos) r.homes) h.settings.balance_shift (tree_of s.book) next
             × (r.bounds ≡ Some next) × (t.book ≡ with_tree (with_round_ended s.book) next))
             ((r.bounds ≡ None) × (t.book ≡ with_round_ended s.book)) →
-            t.book ≡ with_bounds r.bounds (with_round_ended s.book)
+            t.book ≡ with_bounds (with_round_ended s.book) r.bounds
         by true (next, balanced, is, left) = bounded (Some next) is left
         by false (is, left) = bounded None is left
 

@@ -18,11 +18,12 @@ use Rattle.seam_transcript.specs.Book.{tree_of, with_round_ended}
 use Rattle.seam_transcript.specs.Round.{DoneLine, HomeLine}
 use Rattle.seam_rules.specs.Standing.{Standing, in_first_cell}
 use Rattle.seam_rules.specs.Lines.{GhostLine, ClientLine, RoundData}
+use Rattle.seam_rules.specs.Round.{with_bounds}
 use Rattle.seam_round.specs.Codes.{AreSmall}
 use Rattle.seam_round.specs.Standings.{place_among, standing_of}
 use Rattle.seam_round.specs.declared.standing.Held.{Held}
 use Rattle.seam_round.specs.declared.standing.Standing as plain
-use Rattle.seam_judge.specs.After.{is_ghost_of, ghosts_among, place_at, place_in, with_bounds, after_round}
+use Rattle.seam_judge.specs.After.{is_ghost_of, ghosts_among, place_at, place_in, after_round}
 
 -- ---- places
 
@@ -85,7 +86,7 @@ ghosts_are_small lines e c held =
 module _ (s : plain.Standing) (r : RoundData) (t : plain.Standing) where
   book_by : (o : Option Division) → r.bounds ≡ o → t.past.items ≡ s.past.items ++ s.current.items → t.current.items ≡ [] →
       (r.bounds ≡ None → t.tree ≡ tree_of (standing_of s).book) → ((next : Division) → r.bounds ≡ Some next → t.tree ≡ next) →
-      (standing_of t).book ≡ with_bounds o (with_round_ended (standing_of s).book)
+      (standing_of t).book ≡ with_bounds (with_round_ended (standing_of s).book) o
   book_by None is past current none some = λ i. record { past = past i; tree = none is i; current = current i }
   book_by (Some next) is past current none some = λ i. record { past = past i; tree = some next is i; current = current i }
 

@@ -1,17 +1,17 @@
 -- The standing that a round leaves, by what it prints.
-use Rattle.std.specs.Prelude.{ℕ, Bool, List, ◌++◌, ◌+◌, ◌==◌, ◌&&◌, nat_lt, map, filter, find, unwrap_or, Option, None, Some, is_some, IsTrue}
+use Rattle.std.specs.Prelude.{ℕ, Bool, List, ◌++◌, ◌+◌, ◌==◌, ◌&&◌, nat_lt, map, filter, find, unwrap_or, is_some, IsTrue}
 use Rattle.std.specs.List.{All}
 use Rattle.std.specs.Option.{option_map}
 use Rattle.std.specs.FinSet as set
 use Rattle.seam_tree.specs.declared.area_table.TheConstants.{MOST_CELLS}
 use Rattle.seam_tree.specs.Cells.{Cells}
-use Rattle.seam_tree.specs.Division.{Division}
 use Rattle.seam_haunt.specs.Places.{Place}
 use Rattle.seam_call.specs.Calls.{is_for}
 use Rattle.seam_transcript.specs.Round.{HomeLine}
-use Rattle.seam_transcript.specs.Book.{Book, entries, calls_of, created_as, with_round_ended, with_tree}
+use Rattle.seam_transcript.specs.Book.{Book, entries, calls_of, created_as, with_round_ended}
 use Rattle.seam_rules.specs.Standing.{Standing, in_first_cell}
 use Rattle.seam_rules.specs.Lines.{GhostLine, RoundData, told_in}
+use Rattle.seam_rules.specs.Round.{with_bounds}
 
 -- whether a ghost line is one of this entity, in a cell that a tree can have
 abbrev pub is_ghost_of : ℕ → GhostLine → Bool
@@ -29,18 +29,13 @@ place_at r l = record { home = l.cell; ghosts = ghosts_among r.ghosts l.entity }
 abbrev pub place_in : RoundData → ℕ → Place
 place_in r e = unwrap_or (option_map (place_at r) (find (λ l. l.entity == e) r.homes)) in_first_cell
 
--- a book with the tree that a round prints, if it prints one
-abbrev pub with_bounds : Option Division → Book → Book
-with_bounds None b = b
-with_bounds (Some next) b = with_tree b next
-
 -- The standing after a round: each part executed the calls of its lines, each entity is held where its lines show it, and each client was
 -- shown its lines.
 abbrev pub after_round : Standing → RoundData → Standing
 after_round s r = record {
   lines = s.lines;
   rounds = s.rounds + 1;
-  book = with_bounds r.bounds (with_round_ended s.book);
+  book = with_bounds (with_round_ended s.book) r.bounds;
   orders = λ p e. s.orders p e ++ filter (is_for p e) (map (λ l. l.call) (r.did ++ r.dob));
   places = place_in r;
   told = λ e. s.told e ++ told_in r e;

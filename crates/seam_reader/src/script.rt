@@ -8,7 +8,7 @@ use seam_io::LONGEST_LINE;
 use seam_judge::{is_numbered, standing_after};
 use seam_round::{Round, Standing};
 use seam_toml::HeaderError;
-use seam_transcript::{Cause, Commands, Entry, Header, MOST_LINES};
+use seam_transcript::{Cause, Entry, Header, MOST_LINES};
 use seam_tree::Tree;
 use std::alloc::{AllocError, Global};
 
@@ -164,7 +164,7 @@ impl Script {
             told: Vec::new(alloc),
         };
         Ok(Script {
-            book: Book::new(alloc, &header, Commands::All)?,
+            book: Book::new(alloc, &header)?,
             header,
             standing,
         })

@@ -1,8 +1,9 @@
-//! Writes the lines of refused lines and of rounds, and rounds, as `Texts` of `seam_transcript` and of `seam_rules` say. If allocation
+//! Writes the lines of refused lines and of rounds, rounds, and their steps, as `Texts` of `seam_transcript` and of `seam_rules` say. If allocation
 //! fails, a text has no use.
 #![tactic(auto)]
 
 mod bounds;
+mod journal;
 mod lines;
 mod refusals;
 mod round;
@@ -10,11 +11,12 @@ mod told;
 mod values;
 
 pub use bounds::push_bounds;
+pub use journal::push_journal;
 pub use lines::{
     BaseLine, DoneLine, HomeLine, push_base, push_done, push_ghost, push_home, push_number_line,
 };
 pub use refusals::push_refusal;
-pub use round::write_round;
+pub use round::{write_round, write_traced_round};
 pub use told::push_client;
 
 #[cfg(test)]

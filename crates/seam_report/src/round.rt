@@ -1,10 +1,12 @@
 // The text of a round.
-ghost use Rattle.std.specs.Prelude.{◌≡◌, ◌++◌, OnOk};
+ghost use Rattle.std.specs.Prelude.{◌≡◌, ◌++◌, OnOk, codes};
 ghost use Rattle.std.specs.List.{flat_map};
-ghost use Rattle.seam_transcript.specs.Texts.{done_text, home_text, base_text};
-ghost use Rattle.seam_rules.specs.Texts.{ghost_text, client_text, bounds_text, round_text};
+ghost use Rattle.seam_transcript.specs.Texts.{number_text, done_text, home_text, base_text};
+ghost use Rattle.seam_rules.specs.Texts.{ghost_text, client_text, bounds_text, round_text, traced_text, journal_text};
+ghost use Rattle.seam_report.specs.Rounds.{lines_text};
 
 use crate::bounds::push_bounds;
+use crate::journal::push_journal;
 use crate::lines::{
     BaseLine, DoneLine, HomeLine, push_base, push_done, push_ghost, push_home, push_number_line,
 };
@@ -12,13 +14,41 @@ use crate::told::push_client;
 use seam_defs::Defs;
 use seam_round::{ClientLine, GhostLine, Round};
 use seam_tree::Tree;
+use seam_watch::Journal;
 use std::alloc::AllocError;
 
 /// Appends the text of a round: its lines, each kind in its order.
 pub fn write_round(out: &mut Vec<u8>, defs: &Defs, round: &Round) -> Result<(), AllocError>
     ensures { OnOk result (out.new.items ≡ out.old.items ++ round_text defs.now round.now) }
 {
-    push_number_line(out, b"round ", round.number)?;
+    push_round_number(out, round)?;
+    push_lines(out, defs, round)
+}
+
+/// Appends the text of a round with that of its steps, which stands after the round's number.
+pub fn write_traced_round(
+    out: &mut Vec<u8>,
+    defs: &Defs,
+    round: &Round,
+    steps: &Journal,
+) -> Result<(), AllocError>
+    ensures { OnOk result (out.new.items ≡ out.old.items ++ traced_text (journal_text steps.now) defs.now round.now) }
+{
+    push_round_number(out, round)?;
+    push_journal(out, steps)?;
+    push_lines(out, defs, round)
+}
+
+fn push_round_number(out: &mut Vec<u8>, round: &Round) -> Result<(), AllocError>
+    ensures { OnOk result (out.new.items ≡ out.old.items ++ number_text (codes "round ") round.now.number) }
+{
+    push_number_line(out, b"round ", round.number)
+}
+
+// All lines of a round but the first.
+fn push_lines(out: &mut Vec<u8>, defs: &Defs, round: &Round) -> Result<(), AllocError>
+    ensures { OnOk result (out.new.items ≡ out.old.items ++ lines_text defs.now round.now) }
+{
     push_all_done(out, b"did ", defs, round.did.as_slice())?;
     push_all_done(out, b"dob ", defs, round.dob.as_slice())?;
     push_homes(out, defs, round.homes.as_slice())?;

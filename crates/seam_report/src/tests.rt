@@ -1,10 +1,12 @@
-use crate::{DoneLine, push_done, push_number_line, push_refusal, write_round};
+use crate::{DoneLine, push_done, push_journal, push_number_line, push_refusal, write_round};
 use seam_call::{Call, ClientText, GhostCopy, Line, Sender, Shown};
-use seam_defs::{Deed, Defs, Group, Part, State};
+use seam_defs::{Deed, Defs, Group, Listed, Part, State};
 use seam_geo::Pos;
+use seam_machine::Event;
 use seam_round::{BaseLine, ClientLine, GhostLine, HomeLine, Round};
 use seam_transcript::Cause;
 use seam_tree::{Axis, CutError, ShiftError, Tree};
+use seam_watch::Journal;
 use seam_words::WordsError;
 use std::alloc::{AllocError, Global};
 use std::test::Fail;
@@ -25,6 +27,30 @@ fn lines_have_their_texts(rt: HostRuntime) -> Result<(), Fail> {
     assert_eq!(rt;
         out.as_slice(),
         b"round 1\ndid 3 c3 1 move 5 6\n".as_slice()
+    );
+    Ok(())
+}
+
+#[test]
+fn steps_have_their_texts(rt: HostRuntime) -> Result<(), Fail> {
+    let task = Event {
+        node: 16,
+        from: None,
+    };
+    let message = Event {
+        node: 0,
+        from: Some(16),
+    };
+    let journal = Journal {
+        calls: Listed::of(vec![in rt.alloc(); task, message]?),
+        reaps: Listed::of(Vec::new(rt.alloc())),
+        looks: Listed::of(vec![in rt.alloc(); message]?),
+    };
+    let mut out = Vec::new(rt.alloc());
+    push_journal(&mut out, &journal)?;
+    assert_eq!(rt;
+        out.as_slice(),
+        b"phase 1\nstep 16 task\nstep 0 from 16\nphase 2\nphase 3\nstep 0 from 16\n".as_slice()
     );
     Ok(())
 }

@@ -1,9 +1,6 @@
 pub mod Public
 pub mod Shown
 pub mod WithoutTick
-pub mod OneCell
-pub mod SoFar
-pub mod Transcripts
 pub mod Example
 pub mod Edges
 pub mod Lines

@@ -98,7 +98,7 @@ pub record ShowsClient (h : Header) (s : Standing) (r : RoundData) (t : Standing
   pub right : ShowsRightly (truth_of h s t c) c.entity (replica_of h s c.entity) (shown_by_lines (told_in r c.entity))
   pub bases : base_texts r c.entity ≡ map (base_shown h t c) (base_versions h s t c)
 
--- Exactly the clients of the round are shown lines, in rising number of their entities, and these are added to what each was told.
+-- Only the clients of the round are shown lines, in rising number of their entities, and these are added to what each was told.
 pub record HasShown (h : Header) (s : Standing) (r : RoundData) (t : Standing) : Type 0 where
   pub rising : IsNonDecreasing (map (λ l. l.entity) r.shown)
   pub only : All (λ l. IsTrue (is_shown s.book l.entity)) r.shown

@@ -6,5 +6,4 @@ pub mod Clients
 pub mod Round
 pub mod Texts
 pub mod Transcript
-pub mod OneCell
 pub mod Example

@@ -1,27 +1,37 @@
 -- A legal round: its points, each a field over the data that it prints, and what it leaves.
-use Rattle.std.specs.Prelude.{◌≡◌, ◌+◌, MatchBool, List, length, map, Some, None}
+use Rattle.std.specs.Prelude.{◌≡◌, ◌+◌, MatchBool, List, length, map, Option, Some, None}
 use Rattle.std.specs.List.{All, flat_map}
 use Rattle.seam_tree.specs.Division.{Division}
 use Rattle.seam_balance.specs.Balance.{IsBalanced}
 use Rattle.seam_defs.specs.declared.flags.Part.TheVariants as part
 use Rattle.seam_call.specs.declared.create.Create.{Create}
 use Rattle.seam_toml.specs.declared.header.Header.{Header}
-use Rattle.seam_transcript.specs.Round as taken
+use Rattle.seam_transcript.specs.FlatTable.{flat}
 use Rattle.seam_transcript.specs.Round.{HomeLine, BaseLine, Lists, ExtendsOrders}
-use Rattle.seam_transcript.specs.Book.{live_as, tree_of, has_balance, with_round_ended, with_tree}
+use Rattle.seam_transcript.specs.Book.{Book, live_as, tree_of, has_balance, with_round_ended, with_tree}
 use Rattle.seam_rules.specs.FlatTable.{public_at}
 use Rattle.seam_rules.specs.Standing.{Standing}
 use Rattle.seam_rules.specs.Places.{HasPlace, ghost_cells}
 use Rattle.seam_rules.specs.Lines.{GhostLine, RoundData}
 use Rattle.seam_rules.specs.Clients.{HasShown, HasLooked}
 
--- the home line of an entity, whose cell is its home
+-- the home line of an entity: its cell is its home, and the state is that after all calls
 abbrev pub home_line : Header → Standing → Create → HomeLine
-home_line h t c = record (taken.home_line h (t.orders part.Cell c.entity) c) { cell = (t.places c.entity).home }
+home_line h t c =
+    let order = t.orders part.Cell c.entity in
+    record {
+      entity = c.entity;
+      ty = c.ty;
+      cell = (t.places c.entity).home;
+      version = length order;
+      state = flat h part.Cell c order (length order);
+    }
 
 -- the base line of an entity
 abbrev pub base_line : Header → Standing → Create → BaseLine
-base_line h t c = taken.base_line h (t.orders part.Base c.entity) c
+base_line h t c =
+    let order = t.orders part.Base c.entity in
+    record { entity = c.entity; ty = c.ty; version = length order; props = (flat h part.Base c order (length order)).props }
 
 -- the ghost lines of an entity, one for each cell with a ghost, at its public version
 abbrev pub ghost_lines : Header → Division → Standing → Create → List GhostLine
@@ -29,6 +39,11 @@ ghost_lines h tree t c =
     let order = t.orders part.Cell c.entity in
     map (λ cell. record { entity = c.entity; cell = cell; version = public_at h c order (length order) })
     (ghost_cells tree (t.places c.entity))
+
+-- the book of the next round, with another tree where there are bounds
+abbrev pub with_bounds : Book → Option Division → Book
+with_bounds b None = b
+with_bounds b (Some tree) = with_tree b tree
 
 -- a round in which a `balance` was accepted has bounds: the tree balanced by where the homes are, with which the next round begins; any
 -- other round keeps its tree

@@ -9,8 +9,7 @@ use Rattle.seam_transcript.specs.Header.{BeginWithHeader, AwaitHeader}
 use Rattle.seam_transcript.specs.Book.{open_lines, with_entry}
 use Rattle.seam_transcript.specs.Judging.{Judges}
 use Rattle.seam_transcript.specs.Texts.{refusal}
-use Rattle.seam_transcript.specs.Transcript.{Run}
-use Rattle.seam_transcript.specs.declared.commands.Commands.TheVariants.{All}
+use Rattle.seam_transcript.specs.Run.{Run}
 use Rattle.seam_transcript.specs.declared.verdict.Cause.{Cause}
 use Rattle.seam_transcript.specs.declared.verdict.Verdict.{Verdict}
 use Rattle.seam_transcript.specs.declared.verdict.Verdict.TheVariants as verdict
@@ -68,7 +67,7 @@ module _ (IsPlayed : Play) where
 
   -- the next line is read, with what is printed for it
   abbrev pub Step : Header → Standing → Line → List Piece → Standing → Type 0
-  Step h s line pieces t = (v : Verdict) × Judges All h s.book line v × Follows h (with_line s) v pieces t
+  Step h s line pieces t = (v : Verdict) × Judges h s.book line v × Follows h (with_line s) v pieces t
 
   -- the lines after the header print the pieces, one after another, and leave this standing
   pub record PrintLines (lines : List Line) (h : Header) (pieces : List Piece) (t : Standing) : Type 0 where
@@ -83,7 +82,7 @@ module _ (IsPlayed : Play) where
   IsOpen traced lines text steps =
       ((text ≡ []) × (steps ≡ []) × AwaitHeader lines)
       ⊎ ((h : Header) × (pieces : List Piece) × (t : Standing) × PrintLines lines h pieces t
-         × (text ≡ text_of traced h.defs pieces) × (steps ≡ journals_of pieces))
+      × (text ≡ text_of traced h.defs pieces) × (steps ≡ journals_of pieces))
 
   -- what is printed at the end of the input: a last round, where a line was accepted since the last one ended
   abbrev pub EndsInput : Header → Standing → List Piece → Type 0

@@ -1,26 +1,16 @@
 // What the definitions say together, each law on a function that does nothing.
 ghost use Rattle.std.specs.Prelude.{◌≡◌, ◌⊎◌, ℕ, ◌<◌, ◌≤◌, IsTrue, IsFalse, List, [], ◌∷◌, Some, codes};
-ghost use Rattle.std.specs.List as list;
 ghost use Rattle.std.specs.FinSet as set;
-ghost use Rattle.seam_io.specs.Lines.{Line};
 ghost use Rattle.seam_call.specs.declared.call.Call.{Call};
 ghost use Rattle.seam_call.specs.declared.create.Create.{Create};
 ghost use Rattle.seam_call.specs.declared.shown.GhostCopy.{GhostCopy};
 ghost use Rattle.seam_defs.specs.declared.flags.Part.TheVariants as part;
 ghost use Rattle.seam_toml.specs.declared.header.Header.{Header};
 ghost use Rattle.seam_transcript.specs.Orders.{Orders};
-ghost use Rattle.seam_defs.specs.declared.types.TypeDef.{TypeDef};
 ghost use Rattle.seam_transcript.specs.Book.{Book, live_as, has_client, is_shown, has_tick};
-ghost use Rattle.seam_transcript.specs.Judging.{Judges, MayCall, MayMove};
-ghost use Rattle.seam_transcript.specs.OneCell.{IsInOneCell};
-ghost use Rattle.seam_transcript.specs.declared.commands.Commands.TheVariants.{OneCell, All};
-ghost use Rattle.seam_transcript.specs.declared.verdict.Verdict.{Verdict};
+ghost use Rattle.seam_transcript.specs.Judging.{MayCall, MayMove};
 ghost use Rattle.seam_transcript.specs.declared.verdict.Cause.TheVariants.{CutRefused, ShiftRefused};
-ghost use Rattle.seam_transcript.specs.Round as taken;
-ghost use Rattle.seam_transcript.specs.Transcript as taken_transcript;
 ghost use Rattle.seam_transcript.specs.Round.{Lists};
-ghost use Rattle.seam_transcript.specs.Standing as taken_standing;
-ghost use Rattle.seam_transcript.specs.Texts as texts;
 ghost use Rattle.seam_transcript.specs.Texts.{refusal};
 ghost use Rattle.seam_rules.specs.Texts.{round_text, client_text, bounds_text};
 ghost use Rattle.seam_rules.specs.Example.{header, begun, round, ended, text_of_round};
@@ -33,8 +23,6 @@ ghost use Rattle.seam_call.specs.declared.shown.ClientText.TheVariants as text;
 ghost use Rattle.seam_defs.specs.Builtin.{builtin};
 ghost use Rattle.seam_tree.specs.declared.tree.CutError.TheVariants.{TooManyCells};
 ghost use Rattle.seam_tree.specs.declared.tree.ShiftError.TheVariants.{WouldEmpty};
-ghost use Rattle.seam_rules.specs.OneCell.{whole_standing, whole_round, plain_standing, plain_round, NamesFurther, however};
-ghost use Rattle.seam_rules.specs.Transcript.{IsEnded, IsOpen};
 ghost use Rattle.seam_rules.specs.FlatTable.{has_changed_at, public_at, rows_of};
 ghost use Rattle.seam_rules.specs.Standing.{Standing, in_first_cell, replica_of};
 ghost use Rattle.seam_rules.specs.Lines.{RoundData};
@@ -70,32 +58,6 @@ pub fn lines_are_one_without_a_tick()
         t.orders ≡ u.orders → (e : ℕ) → t.told e ≡ u.told e }
     ensures replica { (h : Header) (s t u : Standing) (r q : RoundData) → IsFalse (has_tick s.book) → IsRound h s r t → IsRound h s q u →
         t.orders ≡ u.orders → (e : ℕ) → replica_of h t e ≡ replica_of h u e }
-{}
-
-/// In a space of one cell, in which no entity has a client and none is destroyed, the rounds that the program runs so far are the legal
-/// ones: each of them is legal as a whole, and none other is. They have no ghosts and show no client anything, so their texts are the same.
-pub fn round_of_one_cell()
-    ensures whole { (h : Header) (s t : taken_standing.Standing) (r : taken.RoundData) → IsInOneCell h.settings.size s.book →
-        taken.IsRound h s r t → IsRound h (whole_standing s) (whole_round r) (whole_standing t) }
-    ensures no_other { (h : Header) (s : taken_standing.Standing) (t : Standing) (r : RoundData) → IsInOneCell h.settings.size s.book →
-        IsRound h (whole_standing s) r t → (r ≡ whole_round (plain_round r)) × taken.IsRound h s (plain_round r) (plain_standing t) }
-    ensures text { (defs : List TypeDef) (r : taken.RoundData) → round_text defs (whole_round r) ≡ texts.round_text defs r }
-{}
-
-/// The verdict on a line is the one that the program gives so far, but on a line whose first word is that of a further command, which the
-/// program answers `command`.
-pub fn verdicts_so_far()
-    ensures { (h : Header) (b : Book) (line : Line) (v : Verdict) → ¬ (NamesFurther line) → Judges OneCell h b line v →
-        Judges All h b line v }
-{}
-
-/// What the program prints so far is a transcript of every command: for an input without further commands, each transcript that it may
-/// print is one as a whole, however nodes play its rounds.
-pub fn transcript_so_far()
-    ensures ended { (lines : List Line) (text : List ℕ) → list.All (λ l. ¬ (NamesFurther l)) lines → taken_transcript.IsEnded lines text →
-        IsEnded however lines text }
-    ensures open_ { (lines : List Line) (text : List ℕ) → list.All (λ l. ¬ (NamesFurther l)) lines → taken_transcript.IsOpen lines text →
-        IsOpen however lines text }
 {}
 
 /// The round of two chests on both sides of a boundary is legal, and has this text: each has a ghost in the other's cell, and the client

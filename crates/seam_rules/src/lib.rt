@@ -1,19 +1,17 @@
 //! The whole legal round: definitions and laws of it, and nothing else.
 //!
-//! It stands over `seam_transcript`, whose `Language`, `Book` and `Judging` say what lines mean and what becomes of them, and of whose
-//! rounds of one cell it uses all that stays as it is. A reader goes on with `FlatTable`, `Places` and `Clients` (what is true of entities,
+//! It stands over `seam_transcript`, whose `Language`, `Book` and `Judging` say what lines mean and what becomes of them. A reader goes on with `FlatTable`, `Places` and `Clients` (what is true of entities,
 //! where they are held, what clients are shown), and finds all of it in `Round`, whose fields are the points of a legal round. (Cells,
 //! ghosts, witnesses and clients after the BigWorld Server Overview.)
 //!
 //! Of `proofs/`, `Public` (the public version, the one table), `Shown` (the versions shown in a round), `WithoutTick` (what a round
-//! without a tick tells clients), `OneCell`, `SoFar` and `Transcripts` (places, verdicts and transcripts in one cell) and `Example` are
-//! for callers.
+//! without a tick tells clients) and `Example` are for callers.
 #![tactic(auto)]
 
 mod laws;
 
 pub use laws::{
     a_round_is_legal, clients_of_a_round, lines_are_one_without_a_tick, places_have_hystereses,
-    public_version_is_the_last_change, round_of_one_cell, shown_versions_are_public, table_is_one,
-    texts_of_lines, transcript_so_far, verdicts_so_far, who_may_call, wrong_states_are_not_true,
+    public_version_is_the_last_change, shown_versions_are_public, table_is_one, texts_of_lines,
+    who_may_call, wrong_states_are_not_true,
 };

@@ -6,8 +6,6 @@ use Rattle.std.proofs.lemmas.Option.{same_Some}
 use Rattle.seam_words.proofs.WordTexts.{words_are_one_list}
 use Rattle.seam_transcript.specs.Language.{Command, Create, Call, Move, Sync, Client, Tick, Cut, Shift, Balance, Destroy, words_of}
 use Rattle.seam_transcript.specs.Language.{SpellsCommand, NamesCommand}
-use Rattle.seam_transcript.specs.declared.commands.Commands.{Commands}
-use Rattle.seam_transcript.specs.declared.commands.Commands.TheVariants as commands
 
 -- a command of the words after the first one
 abbrev Rest : Type 0
@@ -77,7 +75,7 @@ pub line_spells_one : (line : List ℕ) (c d : Command) → SpellsCommand line c
 line_spells_one line c d one other = command_is_one c d (words_are_one_list line (words_of c) (words_of d) one other)
 
 -- the first word of a command names one
-pub command_is_named : (c : Command) → NamesCommand commands.All (words_of c)
+pub command_is_named : (c : Command) → NamesCommand (words_of c)
 command_is_named (Create e n x z) = (0, omega arith, refl)
 command_is_named (Call s e n a) = (1, omega arith, refl)
 command_is_named (Move s e x z) = (2, omega arith, refl)
@@ -88,8 +86,3 @@ command_is_named (Cut c a at) = (6, omega arith, refl)
 command_is_named (Shift b at) = (7, omega arith, refl)
 command_is_named Balance = (8, omega arith, refl)
 command_is_named (Destroy e) = (9, omega arith, refl)
-
--- `sync` is always taken
-pub sync_is_taken : (taken : Commands) → NamesCommand taken (words_of Sync)
-sync_is_taken commands.OneCell = (3, omega arith, refl)
-sync_is_taken commands.All = (3, omega arith, refl)

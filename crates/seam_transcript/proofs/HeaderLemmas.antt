@@ -1,5 +1,5 @@
 -- The lines of headers.
-use Rattle.std.proofs.Common.{◌≡◌, ◌≢◌, ◌+◌, ◌≤◌, ◌<◌, ℕ, List, [], ◌∷◌, ◌++◌, length, map, refl, sym, ◌∙◌, ap, arith}
+use Rattle.std.proofs.Common.{◌≡◌, ◌≢◌, ◌+◌, ◌≤◌, ◌<◌, ℕ, List, [], ◌∷◌, ◌++◌, length, map, refl, sym, ◌∙◌, ap, subst, arith}
 use Rattle.std.proofs.Common.{append_assoc, append-nil, length-append}
 use Rattle.std.specs.Prelude.{All}
 use Rattle.std.proofs.lemmas.List.{map-append}
@@ -9,6 +9,7 @@ use Rattle.seam_io.specs.Lines.{Line, Content, Long}
 use Rattle.seam_toml.specs.declared.documents.TheConstants.{MOST_HEADER_BYTES}
 use Rattle.seam_toml.specs.declared.header.Header.{Header}
 use Rattle.seam_toml.specs.Header.{Reads}
+use Rattle.seam_toml.proofs.HeaderLaws.{reads_one}
 use Rattle.seam_transcript.specs.Header.{AreHeaderLines, BeginWithHeader, AwaitHeader, separator, text_of_contents}
 
 -- ---- contents of lines
@@ -185,3 +186,13 @@ header_of_append lines h count rest more begins = record {
   number = begins.number;
   whole = ap (λ (ls : List Line). ls ++ more) begins.whole ∙ append_assoc begins.head (separator ∷ rest) more;
 }
+
+-- what lines with a header begin with is one
+pub header_is_one : (lines : List Line) (h k : Header) (m n : ℕ) (rest more : List Line) → BeginWithHeader lines h m rest →
+    BeginWithHeader lines k n more → (h ≡ k) × (m ≡ n) × (rest ≡ more)
+header_is_one lines h k m n rest more x y =
+    let same = header_lines_are_one lines h k m n rest more x y in (
+      reads_one y.text h k (subst (λ (t : List ℕ). Reads t h) same.1 x.reads) y.reads,
+      x.number ∙ ap (λ (ls : List Line). length ls + 1) same.0 ∙ sym y.number,
+      same.2,
+    )

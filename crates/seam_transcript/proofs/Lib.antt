@@ -5,10 +5,8 @@ pub mod RunLemmas
 pub mod SkipLemmas
 pub mod InOrderLemmas
 pub mod BookEntries
-pub mod Following
 pub mod CommandWords
 pub mod Verdicts
 pub mod Refusals
-pub mod OneCell
 pub mod OneSender
 pub mod HeaderLemmas

@@ -1,7 +1,7 @@
 -- Runs through lines.
 use Rattle.std.proofs.Common.{List, [], ◌∷◌, ◌++◌, refl, sym, ap, ◌∙◌, subst, append_assoc, append-nil}
 use Rattle.seam_io.specs.Lines.{Line}
-use Rattle.seam_transcript.specs.Transcript.{Run}
+use Rattle.seam_transcript.specs.Run.{Run}
 
 -- a run is extended by one line
 pub run_with_line : {S P : Type 0} (Steps : S → Line → List P → S → Type 0) (s : S) (lines : List Line) (pieces : List P) (t : S)

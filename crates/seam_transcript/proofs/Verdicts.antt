@@ -44,14 +44,13 @@ use Rattle.seam_transcript.specs.Language as language
 use Rattle.seam_transcript.specs.Book.{Book, live_as, accepted, tree_of}
 use Rattle.seam_transcript.specs.Judging.{NamesType, NamesMethod, NamesLive, NamesDeed, NamesMove, NamesCreate, SpellsPosition, NamesCall}
 use Rattle.seam_transcript.specs.Judging.{RefusesCut, RefusesShift, Adds, rank, HoldsAgainst, Holds, IsFirst, Spells, Judges}
-use Rattle.seam_transcript.specs.declared.commands.Commands.{Commands}
 use Rattle.seam_transcript.specs.declared.verdict.Entry.{Entry}
 use Rattle.seam_transcript.specs.declared.verdict.Entry.TheVariants as entry
 use Rattle.seam_transcript.specs.declared.verdict.Cause.{Cause}
 use Rattle.seam_transcript.specs.declared.verdict.Cause.TheVariants as cause
 use Rattle.seam_transcript.specs.declared.verdict.Verdict.{Verdict}
 use Rattle.seam_transcript.specs.declared.verdict.Verdict.TheVariants as verdict
-use Rattle.seam_transcript.proofs.CommandWords.{command_is_one, line_spells_one, sync_is_taken}
+use Rattle.seam_transcript.proofs.CommandWords.{command_is_one, line_spells_one, command_is_named}
 use Rattle.seam_transcript.proofs.Names.{place_of_type, place_of_method}
 
 -- ---- what words name is one
@@ -209,9 +208,9 @@ no_fault_of line content words e same has refuses =
 
 -- ---- causes of one rank
 
-same_fault : (taken : Commands) (h : Header) (b : Book) (line : Line) (e f : WordsError) → Holds taken h b line (cause.BadWords e) →
-    Holds taken h b line (cause.BadWords f) → e ≡ f
-same_fault taken h b line e f (one, same, refuses) (other, same', refuses') =
+same_fault : (h : Header) (b : Book) (line : Line) (e f : WordsError) → Holds h b line (cause.BadWords e) →
+    Holds h b line (cause.BadWords f) → e ≡ f
+same_fault h b line e f (one, same, refuses) (other, same', refuses') =
     fault_is_first other e f (subst (λ (l : List ℕ). Refuses l e) (same_content one other (sym same ∙ same')) refuses) refuses'
 
 -- a boundary that runs through an area leaves no part of it empty
@@ -270,21 +269,21 @@ one_spelled : (line : Line) (one other : List ℕ) (ws vs : List (List ℕ)) (c 
 one_spelled line one other ws vs c d same same' has has' is is' =
     command_is_one c d (sym is ∙ same_words one other ws vs (sym same ∙ same') has has' ∙ is')
 
-cut_is_one : (taken : Commands) (h : Header) (b : Book) (line : Line) (e f : CutError) → Holds taken h b line (cause.CutRefused e) →
-    Holds taken h b line (cause.CutRefused f) → e ≡ f
-cut_is_one taken h b line e f (one, ws, same, has, (c, is, a)) (other, vs, same', has', (d, is', a')) =
+cut_is_one : (h : Header) (b : Book) (line : Line) (e f : CutError) → Holds h b line (cause.CutRefused e) →
+    Holds h b line (cause.CutRefused f) → e ≡ f
+cut_is_one h b line e f (one, ws, same, has, (c, is, a)) (other, vs, same', has', (d, is', a')) =
     let command = one_spelled line one other ws vs c d same same' has has' is is' in
     cut_against h b d e f (subst (λ (x : language.Command). HoldsAgainst h b x (cause.CutRefused e)) command a) a'
 
-shift_is_one : (taken : Commands) (h : Header) (b : Book) (line : Line) (e f : ShiftError) → Holds taken h b line (cause.ShiftRefused e) →
-    Holds taken h b line (cause.ShiftRefused f) → e ≡ f
-shift_is_one taken h b line e f (one, ws, same, has, (c, is, a)) (other, vs, same', has', (d, is', a')) =
+shift_is_one : (h : Header) (b : Book) (line : Line) (e f : ShiftError) → Holds h b line (cause.ShiftRefused e) →
+    Holds h b line (cause.ShiftRefused f) → e ≡ f
+shift_is_one h b line e f (one, ws, same, has, (c, is, a)) (other, vs, same', has', (d, is', a')) =
     let command = one_spelled line one other ws vs c d same same' has has' is is' in
     shift_against h b d e f (subst (λ (x : language.Command). HoldsAgainst h b x (cause.ShiftRefused e)) command a) a'
 
-not_cut_and_shift : (taken : Commands) (h : Header) (b : Book) (line : Line) (e : CutError) (f : ShiftError) →
-    Holds taken h b line (cause.CutRefused e) → Holds taken h b line (cause.ShiftRefused f) → ⊥
-not_cut_and_shift taken h b line e f (one, ws, same, has, (c, is, a)) (other, vs, same', has', (d, is', a')) =
+not_cut_and_shift : (h : Header) (b : Book) (line : Line) (e : CutError) (f : ShiftError) →
+    Holds h b line (cause.CutRefused e) → Holds h b line (cause.ShiftRefused f) → ⊥
+not_cut_and_shift h b line e f (one, ws, same, has, (c, is, a)) (other, vs, same', has', (d, is', a')) =
     let command = one_spelled line one other ws vs c d same same' has has' is is' in
     not_both h b d e f (subst (λ (x : language.Command). HoldsAgainst h b x (cause.CutRefused e)) command a) a'
 
@@ -348,31 +347,31 @@ is_refused_by_tree cause.IllTyped is = absurd (omega (arith, is))
 is_refused_by_tree (cause.CutRefused f) is = inl (f, refl)
 is_refused_by_tree (cause.ShiftRefused f) is = inr (f, refl)
 
-module _ (taken : Commands) (h : Header) (b : Book) (line : Line) where
-  both_bad : (k l : Cause) → Holds taken h b line k → Holds taken h b line l → (e : WordsError) × (k ≡ cause.BadWords e) →
+module _ (h : Header) (b : Book) (line : Line) where
+  both_bad : (k l : Cause) → Holds h b line k → Holds h b line l → (e : WordsError) × (k ≡ cause.BadWords e) →
       (f : WordsError) × (l ≡ cause.BadWords f) → k ≡ l
   both_bad k l one other (e, is) (f, is') =
-      is ∙ ap cause.BadWords (same_fault taken h b line e f (subst (Holds taken h b line) is one) (subst (Holds taken h b line) is' other))
+      is ∙ ap cause.BadWords (same_fault h b line e f (subst (Holds h b line) is one) (subst (Holds h b line) is' other))
       ∙ sym is'
 
-  both_refused : (k l : Cause) → Holds taken h b line k → Holds taken h b line l →
+  both_refused : (k l : Cause) → Holds h b line k → Holds h b line l →
       ((e : CutError) × (k ≡ cause.CutRefused e)) ⊎ ((f : ShiftError) × (k ≡ cause.ShiftRefused f)) →
       ((e : CutError) × (l ≡ cause.CutRefused e)) ⊎ ((f : ShiftError) × (l ≡ cause.ShiftRefused f)) → k ≡ l
   both_refused k l one other (inl (e, is)) (inl (f, is')) =
-      is ∙ ap cause.CutRefused (cut_is_one taken h b line e f (subst (Holds taken h b line) is one)
-      (subst (Holds taken h b line) is' other))
+      is ∙ ap cause.CutRefused (cut_is_one h b line e f (subst (Holds h b line) is one)
+      (subst (Holds h b line) is' other))
       ∙ sym is'
   both_refused k l one other (inl (e, is)) (inr (f, is')) =
-      absurd (not_cut_and_shift taken h b line e f (subst (Holds taken h b line) is one) (subst (Holds taken h b line) is' other))
+      absurd (not_cut_and_shift h b line e f (subst (Holds h b line) is one) (subst (Holds h b line) is' other))
   both_refused k l one other (inr (e, is)) (inl (f, is')) =
-      absurd (not_cut_and_shift taken h b line f e (subst (Holds taken h b line) is' other) (subst (Holds taken h b line) is one))
+      absurd (not_cut_and_shift h b line f e (subst (Holds h b line) is' other) (subst (Holds h b line) is one))
   both_refused k l one other (inr (e, is)) (inr (f, is')) =
-      is ∙ ap cause.ShiftRefused (shift_is_one taken h b line e f (subst (Holds taken h b line) is one)
-      (subst (Holds taken h b line) is' other))
+      is ∙ ap cause.ShiftRefused (shift_is_one h b line e f (subst (Holds h b line) is one)
+      (subst (Holds h b line) is' other))
       ∙ sym is'
 
   -- causes of one rank that hold of a line are one
-  cause_of_rank : (k l : Cause) → rank k ≡ rank l → Holds taken h b line k → Holds taken h b line l → k ≡ l
+  cause_of_rank : (k l : Cause) → rank k ≡ rank l → Holds h b line k → Holds h b line l → k ≡ l
   cause_of_rank k l ranks one other = cases (rank k == 1) (rank k == 13) refl refl
     where
       cases : (x y : Bool) → (rank k == 1) ≡ x → (rank k == 13) ≡ y → k ≡ l
@@ -389,7 +388,7 @@ module _ (taken : Commands) (h : Header) (b : Book) (line : Line) where
           ∙ sym (is_of_rank l (λ e. no_words (ranks ∙ e)) (λ e. no_tree (ranks ∙ e)))
 
   -- a line has one first cause
-  pub cause_is_one : (k l : Cause) → IsFirst (Holds taken h b line) k → IsFirst (Holds taken h b line) l → k ≡ l
+  pub cause_is_one : (k l : Cause) → IsFirst (Holds h b line) k → IsFirst (Holds h b line) l → k ≡ l
   cause_is_one k l one other =
       let low = one.first l other.here in
       let high = other.first k one.here in
@@ -451,8 +450,7 @@ not_wrong_count h b (language.Shift n at) against = against
 not_wrong_count h b language.Balance against = against
 not_wrong_count h b (language.Destroy e) against = against
 
-module _ (taken : Commands) (h : Header) (b : Book) (line : List ℕ) (c : language.Command)
-    (is_taken : language.NamesCommand taken (language.words_of c)) (spells : language.SpellsCommand line c) where
+module _ (h : Header) (b : Book) (line : List ℕ) (c : language.Command) (spells : language.SpellsCommand line c) where
   only : (k : Cause) (content : List ℕ) (words : List (List ℕ)) → Content line ≡ Content content → HasWords content words →
       (d : language.Command) × (words ≡ language.words_of d) × HoldsAgainst h b d k → HoldsAgainst h b c k
   only k content words same has (d, is, against) =
@@ -460,12 +458,12 @@ module _ (taken : Commands) (h : Header) (b : Book) (line : List ℕ) (c : langu
       (sym (command_is_one c d (same_words line content (language.words_of c) words same spells has ∙ is))) against
 
   -- a cause that holds of the line holds against the command
-  pub against_command : (k : Cause) → Holds taken h b (Content line) k → HoldsAgainst h b c k
+  pub against_command : (k : Cause) → Holds h b (Content line) k → HoldsAgainst h b c k
   against_command cause.TooLong holds = absurd (content_is_not_long line holds)
   against_command (cause.BadWords f) (content, same, refuses) =
       absurd (no_fault_of line content (language.words_of c) f same spells refuses)
   against_command cause.NoCommand (content, words, same, has, none) =
-      absurd (none (subst (language.NamesCommand taken) (same_words line content (language.words_of c) words same spells has) is_taken))
+      absurd (none (subst language.NamesCommand (same_words line content (language.words_of c) words same spells has) (command_is_named c)))
   against_command cause.WrongCount (content, words, same, has, none) =
       absurd (none c (sym (same_words line content (language.words_of c) words same spells has)))
   against_command cause.BadNumber (content, words, same, has, other) = only cause.BadNumber content words same has other
@@ -481,7 +479,7 @@ module _ (taken : Commands) (h : Header) (b : Book) (line : List ℕ) (c : langu
   against_command (cause.ShiftRefused f) (content, words, same, has, other) = only (cause.ShiftRefused f) content words same has other
 
   -- a cause that holds against the command holds of the line
-  pub against_line : (k : Cause) → HoldsAgainst h b c k → Holds taken h b (Content line) k
+  pub against_line : (k : Cause) → HoldsAgainst h b c k → Holds h b (Content line) k
   against_line cause.TooLong against = absurd (not_too_long h b c against)
   against_line (cause.BadWords f) against = absurd (not_bad_words h b c f against)
   against_line cause.NoCommand against = absurd (not_no_command h b c against)
@@ -500,7 +498,7 @@ module _ (taken : Commands) (h : Header) (b : Book) (line : List ℕ) (c : langu
 
   -- a line that spells a command is refused for the first cause against the command
   pub command_is_refused : (k : Cause) → ¬ (language.IsSkipped line) → IsFirst (HoldsAgainst h b c) k →
-      Judges taken h b (Content line) (verdict.Refused k)
+      Judges h b (Content line) (verdict.Refused k)
   command_is_refused k not first = (
     not,
     record { here = against_line k first.here; first = λ d holds. first.first d (against_command d holds) },
@@ -508,45 +506,45 @@ module _ (taken : Commands) (h : Header) (b : Book) (line : List ℕ) (c : langu
 
   -- and accepted where there is none
   pub command_is_accepted : (x : Entry) → ¬ (language.IsSkipped line) → ((k : Cause) → ¬ (HoldsAgainst h b c k)) → Adds h b c x →
-      Judges taken h b (Content line) (verdict.Accepted x)
+      Judges h b (Content line) (verdict.Accepted x)
   command_is_accepted x not none adds = (not, (λ k holds. none k (against_command k holds)), c, spells, adds)
 
 adds_no_sync : (h : Header) (b : Book) (c : language.Command) (x : Entry) → c ≡ language.Sync → ¬ (Adds h b c x)
 adds_no_sync h b c x is adds = subst (λ (d : language.Command). Adds h b d x) is adds
 
 -- no cause holds of a line that ends the round
-pub sync_is_not_refused : (taken : Commands) (h : Header) (b : Book) (line : Line) (k : Cause) → Spells line language.Sync →
-    ¬ (Holds taken h b line k)
-sync_is_not_refused taken h b Long k spells holds = spells
-sync_is_not_refused taken h b (Content line) k spells holds =
-    no_cause k (against_command taken h b line language.Sync (sync_is_taken taken) spells k holds)
+pub sync_is_not_refused : (h : Header) (b : Book) (line : Line) (k : Cause) → Spells line language.Sync →
+    ¬ (Holds h b line k)
+sync_is_not_refused h b Long k spells holds = spells
+sync_is_not_refused h b (Content line) k spells holds =
+    no_cause k (against_command h b line language.Sync spells k holds)
   where
     no_cause : (k : Cause) → ¬ (HoldsAgainst h b language.Sync k)
     no_cause k against = against
 
 -- a line has one verdict
-pub verdict_is_one_of : (taken : Commands) (h : Header) (b : Book) (line : Line) (v w : Verdict) → AreDefs h.defs →
-    Judges taken h b line v → Judges taken h b line w → v ≡ w
-verdict_is_one_of taken h b line verdict.Skipped verdict.Skipped are one other = refl
-verdict_is_one_of taken h b line verdict.Skipped (verdict.Refused l) are one other = absurd (other.0 one)
-verdict_is_one_of taken h b line verdict.Skipped (verdict.Accepted y) are one other = absurd (other.0 one)
-verdict_is_one_of taken h b line verdict.Skipped verdict.Synced are one other = absurd (other.0 one)
-verdict_is_one_of taken h b line (verdict.Refused k) verdict.Skipped are one other = absurd (one.0 other)
-verdict_is_one_of taken h b line (verdict.Refused k) (verdict.Refused l) are one other =
-    ap verdict.Refused (cause_is_one taken h b line k l one.1 other.1)
-verdict_is_one_of taken h b line (verdict.Refused k) (verdict.Accepted y) are one (_, none, _, _, _) = absurd (none k one.1.here)
-verdict_is_one_of taken h b line (verdict.Refused k) verdict.Synced are one other =
-    absurd (sync_is_not_refused taken h b line k other.1 one.1.here)
-verdict_is_one_of taken h b line (verdict.Accepted x) verdict.Skipped are one other = absurd (one.0 other)
-verdict_is_one_of taken h b line (verdict.Accepted x) (verdict.Refused l) are (_, none, _, _, _) other = absurd (none l other.1.here)
-verdict_is_one_of taken h b line (verdict.Accepted x) (verdict.Accepted y) are (_, _, c, spells, adds) (_, _, d, spells', adds') =
+pub verdict_is_one_of : (h : Header) (b : Book) (line : Line) (v w : Verdict) → AreDefs h.defs →
+    Judges h b line v → Judges h b line w → v ≡ w
+verdict_is_one_of h b line verdict.Skipped verdict.Skipped are one other = refl
+verdict_is_one_of h b line verdict.Skipped (verdict.Refused l) are one other = absurd (other.0 one)
+verdict_is_one_of h b line verdict.Skipped (verdict.Accepted y) are one other = absurd (other.0 one)
+verdict_is_one_of h b line verdict.Skipped verdict.Synced are one other = absurd (other.0 one)
+verdict_is_one_of h b line (verdict.Refused k) verdict.Skipped are one other = absurd (one.0 other)
+verdict_is_one_of h b line (verdict.Refused k) (verdict.Refused l) are one other =
+    ap verdict.Refused (cause_is_one h b line k l one.1 other.1)
+verdict_is_one_of h b line (verdict.Refused k) (verdict.Accepted y) are one (_, none, _, _, _) = absurd (none k one.1.here)
+verdict_is_one_of h b line (verdict.Refused k) verdict.Synced are one other =
+    absurd (sync_is_not_refused h b line k other.1 one.1.here)
+verdict_is_one_of h b line (verdict.Accepted x) verdict.Skipped are one other = absurd (one.0 other)
+verdict_is_one_of h b line (verdict.Accepted x) (verdict.Refused l) are (_, none, _, _, _) other = absurd (none l other.1.here)
+verdict_is_one_of h b line (verdict.Accepted x) (verdict.Accepted y) are (_, _, c, spells, adds) (_, _, d, spells', adds') =
     ap verdict.Accepted (entry_is_one h b d x y are
     (subst (λ (k : language.Command). Adds h b k x) (spells_one line c d spells spells') adds) adds')
-verdict_is_one_of taken h b line (verdict.Accepted x) verdict.Synced are (_, _, c, spells, adds) other =
+verdict_is_one_of h b line (verdict.Accepted x) verdict.Synced are (_, _, c, spells, adds) other =
     absurd (adds_no_sync h b c x (spells_one line c language.Sync spells other.1) adds)
-verdict_is_one_of taken h b line verdict.Synced verdict.Skipped are one other = absurd (one.0 other)
-verdict_is_one_of taken h b line verdict.Synced (verdict.Refused l) are one other =
-    absurd (sync_is_not_refused taken h b line l one.1 other.1.here)
-verdict_is_one_of taken h b line verdict.Synced (verdict.Accepted y) are one (_, _, c, spells, adds) =
+verdict_is_one_of h b line verdict.Synced verdict.Skipped are one other = absurd (one.0 other)
+verdict_is_one_of h b line verdict.Synced (verdict.Refused l) are one other =
+    absurd (sync_is_not_refused h b line l one.1 other.1.here)
+verdict_is_one_of h b line verdict.Synced (verdict.Accepted y) are one (_, _, c, spells, adds) =
     absurd (adds_no_sync h b c y (spells_one line c language.Sync spells one.1) adds)
-verdict_is_one_of taken h b line verdict.Synced verdict.Synced are one other = refl
+verdict_is_one_of h b line verdict.Synced verdict.Synced are one other = refl

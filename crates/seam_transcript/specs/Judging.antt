@@ -32,7 +32,6 @@ use Rattle.seam_call.specs.declared.create.Create.{Create}
 use Rattle.seam_toml.specs.declared.header.Header.{Header}
 use Rattle.seam_transcript.specs.Language as language
 use Rattle.seam_transcript.specs.Book.{Book, entries, creates_of, created_as, live_as, accepted, has_client, count_of_clients, tree_of}
-use Rattle.seam_transcript.specs.declared.commands.Commands.{Commands}
 use Rattle.seam_transcript.specs.declared.verdict.Entry.{Entry}
 use Rattle.seam_transcript.specs.declared.verdict.Entry.TheVariants as entry
 use Rattle.seam_transcript.specs.declared.verdict.Cause.{Cause}
@@ -223,19 +222,19 @@ HoldsAgainst h b (language.Destroy entity) cause.BadNumber = IsNoEntity entity
 HoldsAgainst h b (language.Destroy entity) cause.Dead = IsDead b entity
 HoldsAgainst h b c k = ⊥
 
--- which causes hold against words, where these commands are taken
-abbrev pub HoldsAgainstWords : Commands → Header → Book → List language.Word → Cause → Type 0
-HoldsAgainstWords taken h b words cause.NoCommand = ¬ (language.NamesCommand taken words)
-HoldsAgainstWords taken h b words cause.WrongCount = (c : language.Command) → ¬ (words ≡ language.words_of c)
-HoldsAgainstWords taken h b words k = (c : language.Command) × (words ≡ language.words_of c) × HoldsAgainst h b c k
+-- which causes hold against words
+abbrev pub HoldsAgainstWords : Header → Book → List language.Word → Cause → Type 0
+HoldsAgainstWords h b words cause.NoCommand = ¬ (language.NamesCommand words)
+HoldsAgainstWords h b words cause.WrongCount = (c : language.Command) → ¬ (words ≡ language.words_of c)
+HoldsAgainstWords h b words k = (c : language.Command) × (words ≡ language.words_of c) × HoldsAgainst h b c k
 
 -- which causes hold against a line that has words
-abbrev pub Holds : Commands → Header → Book → Line → Cause → Type 0
-Holds taken h b line cause.TooLong = line ≡ Long
-Holds taken h b line (cause.BadWords error) = (content : List ℕ) × (line ≡ Content content) × Refuses content error
-Holds taken h b line k =
+abbrev pub Holds : Header → Book → Line → Cause → Type 0
+Holds h b line cause.TooLong = line ≡ Long
+Holds h b line (cause.BadWords error) = (content : List ℕ) × (line ≡ Content content) × Refuses content error
+Holds h b line k =
     (content : List ℕ) × (words : List language.Word) × (line ≡ Content content) × HasWords content words
-    × HoldsAgainstWords taken h b words k
+    × HoldsAgainstWords h b words k
 
 -- a cause holds, and none that comes before it
 pub record IsFirst (Against : Cause → Type 0) (c : Cause) : Type 0 where
@@ -254,11 +253,11 @@ abbrev pub Spells : Line → language.Command → Type 0
 Spells Long c = ⊥
 Spells (Content line) c = language.SpellsCommand line c
 
--- What becomes of a line where these commands are taken: one without words is skipped. Every other one is refused for the first cause
--- that holds; where none holds, its command is accepted, and adds an entry or ends the round.
-abbrev pub Judges : Commands → Header → Book → Line → Verdict → Type 0
-Judges taken h b line verdict.Skipped = IsEmptyLine line
-Judges taken h b line (verdict.Refused c) = ¬ (IsEmptyLine line) × IsFirst (Holds taken h b line) c
-Judges taken h b line (verdict.Accepted x) =
-    ¬ (IsEmptyLine line) × ((k : Cause) → ¬ (Holds taken h b line k)) × (c : language.Command) × Spells line c × Adds h b c x
-Judges taken h b line verdict.Synced = ¬ (IsEmptyLine line) × Spells line language.Sync
+-- What becomes of a line: one without words is skipped. Every other one is refused for the first cause that holds; where none holds, its
+-- command is accepted, and adds an entry or ends the round.
+abbrev pub Judges : Header → Book → Line → Verdict → Type 0
+Judges h b line verdict.Skipped = IsEmptyLine line
+Judges h b line (verdict.Refused c) = ¬ (IsEmptyLine line) × IsFirst (Holds h b line) c
+Judges h b line (verdict.Accepted x) =
+    ¬ (IsEmptyLine line) × ((k : Cause) → ¬ (Holds h b line k)) × (c : language.Command) × Spells line c × Adds h b c x
+Judges h b line verdict.Synced = ¬ (IsEmptyLine line) × Spells line language.Sync

@@ -9,8 +9,6 @@ use Rattle.seam_tree.specs.declared.boundary.Axis.TheVariants as axis
 use Rattle.seam_tree.specs.declared.boundary.Boundary.{Boundary}
 use Rattle.seam_call.specs.declared.sender.Sender.{Sender}
 use Rattle.seam_call.specs.declared.sender.Sender.TheVariants as sender
-use Rattle.seam_transcript.specs.declared.commands.Commands.{Commands}
-use Rattle.seam_transcript.specs.declared.commands.Commands.TheVariants as commands
 
 -- the bytes of a word
 abbrev pub Word : Type 0
@@ -48,22 +46,16 @@ words_of (Shift boundary at) = codes "shift" ∷ boundary ∷ at ∷ []
 words_of Balance = codes "balance" ∷ []
 words_of (Destroy entity) = codes "destroy" ∷ entity ∷ []
 
--- the first words of the commands of a world of one cell, and of the others
-abbrev pub names_in_one_cell : List Word
-names_in_one_cell = codes "create" ∷ codes "call" ∷ codes "move" ∷ codes "sync" ∷ []
+-- the first words of the commands
+abbrev pub command_names : List Word
+command_names =
+    codes "create" ∷ codes "call" ∷ codes "move" ∷ codes "sync" ∷ codes "client" ∷ codes "tick" ∷ codes "cut" ∷ codes "shift" ∷ codes "balance"
+    ∷ codes "destroy" ∷ []
 
-abbrev pub further_names : List Word
-further_names = codes "client" ∷ codes "tick" ∷ codes "cut" ∷ codes "shift" ∷ codes "balance" ∷ codes "destroy" ∷ []
-
--- the first words of the commands that are taken
-abbrev pub command_names : Commands → List Word
-command_names commands.OneCell = names_in_one_cell
-command_names commands.All = names_in_one_cell ++ further_names
-
--- the first of the words is that of a command that is taken
-abbrev pub NamesCommand : Commands → List Word → Type 0
-NamesCommand taken [] = ⊥
-NamesCommand taken (first ∷ rest) = Contains (command_names taken) first
+-- the first of the words is that of a command
+abbrev pub NamesCommand : List Word → Type 0
+NamesCommand [] = ⊥
+NamesCommand (first ∷ rest) = Contains command_names first
 
 -- the words of the line spell the command
 abbrev pub SpellsCommand : List ℕ → Command → Type 0

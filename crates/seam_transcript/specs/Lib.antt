@@ -2,13 +2,10 @@ pub mod Language
 pub mod Header
 pub mod Book
 pub mod Judging
-pub mod OneCell
 pub mod Orders
 pub mod FlatTable
-pub mod Standing
 pub mod Round
 pub mod Texts
-pub mod Transcript
-pub mod Following
+pub mod Run
 pub mod Senders
 pub mod InOrder

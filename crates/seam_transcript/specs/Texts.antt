@@ -1,4 +1,4 @@
--- The text of each line, and of a round.
+-- The text of each line that is printed, but for those that only rounds of cells and clients have.
 use Rattle.std.specs.Prelude.{ℕ, List, [], ◌∷◌, ◌++◌, codes}
 use Rattle.std.specs.List.{flat_map}
 use Rattle.seam_value.specs.Values.{decimal_of, text_of}
@@ -14,7 +14,7 @@ use Rattle.seam_defs.specs.declared.flags.Group.TheVariants as group
 use Rattle.seam_defs.specs.declared.states.Deed.{Deed}
 use Rattle.seam_defs.specs.declared.states.Deed.TheVariants.{Move, Method}
 use Rattle.seam_transcript.specs.Language.{sender_text}
-use Rattle.seam_transcript.specs.Round.{DoneLine, HomeLine, BaseLine, RoundData}
+use Rattle.seam_transcript.specs.Round.{DoneLine, HomeLine, BaseLine}
 use Rattle.seam_transcript.specs.declared.verdict.Cause.{Cause}
 use Rattle.seam_transcript.specs.declared.verdict.Cause.TheVariants as cause
 
@@ -83,10 +83,3 @@ home_text defs l =
 abbrev pub base_text : List TypeDef → BaseLine → List ℕ
 base_text defs l =
     codes "base " ++ decimal_of l.entity ++ field l.version ++ values_text (type_of defs l.ty).properties group.Base l.props ++ 10 ∷ []
-
--- the text of a round: its lines, in their order
-abbrev pub round_text : List TypeDef → RoundData → List ℕ
-round_text defs r =
-    number_text (codes "round ") r.number
-    ++ flat_map (done_text (codes "did ") defs) r.did ++ flat_map (done_text (codes "dob ") defs) r.dob
-    ++ flat_map (home_text defs) r.homes ++ flat_map (base_text defs) r.bases ++ number_text (codes "end ") r.number

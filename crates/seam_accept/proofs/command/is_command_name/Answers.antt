@@ -1,8 +1,11 @@
-use Rattle.seam_transcript.specs.Language.{names_in_one_cell, further_names}
+use Rattle.std.proofs.Common.{[], ◌∷◌}
+use Rattle.std.specs.Prelude.{codes}
 use Rattle.seam_accept.proofs.CommandLemmas.{one_of_others}
 use Rattle.seam_accept.proofs.command.is_command_name.Goals as goal
 
-pub returns-else-is_name_in_one_cell : goal.returns-else-is_name_in_one_cell
-returns-else-is_name_in_one_cell c =
-    rw c.in-All.is (one_of_others names_in_one_cell further_names c.args.word.now c.is_name_in_one_cell-in-All.result
-    c.is_further_name.result c.if-is_name_in_one_cell.false c.is_name_in_one_cell-in-All.ensures c.is_further_name.ensures)
+pub returns-else-is_create_call_move_or_sync : goal.returns-else-is_create_call_move_or_sync
+returns-else-is_create_call_move_or_sync c =
+    one_of_others (codes "create" ∷ codes "call" ∷ codes "move" ∷ codes "sync" ∷ [])
+    (codes "client" ∷ codes "tick" ∷ codes "cut" ∷ codes "shift" ∷ codes "balance" ∷ codes "destroy" ∷ []) c.args.word.now
+    c.is_create_call_move_or_sync.result c.is_other_name.result c.if-is_create_call_move_or_sync.false
+    c.is_create_call_move_or_sync.ensures c.is_other_name.ensures

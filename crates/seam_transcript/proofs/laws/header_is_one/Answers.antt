@@ -1,5 +1,4 @@
-use Rattle.seam_transcript.proofs.HeaderLemmas.{header_of_append}
-use Rattle.seam_transcript.proofs.OneSender.{header_is_one}
+use Rattle.seam_transcript.proofs.HeaderLemmas.{header_of_append, header_is_one}
 use Rattle.seam_toml.proofs.HeaderLaws.{reads_defs}
 use Rattle.seam_transcript.proofs.laws.header_is_one.Goals as goal
 

@@ -6,14 +6,13 @@ use Rattle.seam_accept.proofs.Keeping.{call_kept}
 use Rattle.seam_accept.proofs.book.Book.add_call.Goals as goal
 
 pub returns-clause-kept : goal.returns-clause-kept
-returns-clause-kept c = λ t h b was is.
-    let here = subst (Refines t h b) (sym c.self.view_is) was in
+returns-clause-kept c = λ h b was is.
+    let here = subst (Refines h b) (sym c.self.view_is) was in
     let node : c.node_of-node.result ≡ node_of h c.args.call.sender =
     c.node_of-node.ensures h (ap (λ (x : Header). x.settings.bases) (sym here.header)) in
-    call_kept t h b _ _ c.args.call here is c.in_ok-keep_last.ensures.kept refl
+    call_kept h b _ _ c.args.call here is c.in_ok-keep_last.ensures.kept refl
     (record {
       header = refl;
-      commands = refl;
       tree = refl;
       count = refl;
       creates = refl;

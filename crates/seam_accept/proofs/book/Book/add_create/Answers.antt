@@ -9,11 +9,11 @@ use Rattle.seam_accept.proofs.Keeping.{absent_where_new, create_kept}
 use Rattle.seam_accept.proofs.book.Book.add_create.Goals as goal
 
 pub returns-clause-kept : goal.returns-clause-kept
-returns-clause-kept c = λ t h b was new.
+returns-clause-kept c = λ h b was new.
     let put = c.in_ok-insert.ensures in
-    let here = subst (Refines t h b) (sym c.self.view_is) was in
+    let here = subst (Refines h b) (sym c.self.view_is) was in
     let absent = absent_where_new b c.self.inside.entities.entries c.args.create.entity here.entities new in
-    create_kept t h b _ _ c.args.create c.new.result here (omega arith) absent
+    create_kept h b _ _ c.args.create c.new.result here (omega arith) absent
     (record { ty = c.new.ensures.ty; live = c.new.ensures.live; last = c.new.ensures.last })
     (record {
       count =
@@ -25,7 +25,6 @@ returns-clause-kept c = λ t h b was new.
     refl
     (record {
       header = refl;
-      commands = refl;
       tree = refl;
       count = refl;
       creates = c.push_reserved.ensures.items ∙ ap (λ (cs : List Create). cs ++ c.args.create ∷ []) c.reserve.ensures.items;

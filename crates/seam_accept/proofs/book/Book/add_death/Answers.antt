@@ -7,14 +7,13 @@ use Rattle.seam_accept.proofs.Keeping.{destroy_kept}
 use Rattle.seam_accept.proofs.book.Book.add_death.Goals as goal
 
 pub returns-clause-kept : goal.returns-clause-kept
-returns-clause-kept c = λ t h b was lives.
+returns-clause-kept c = λ h b was lives.
     let taken = c.remove.ensures in
-    destroy_kept t h b _ _ c.args.entity (subst (Refines t h b) (sym c.self.view_is) was) lives c.keep_destroyed.ensures
+    destroy_kept h b _ _ c.args.entity (subst (Refines h b) (sym c.self.view_is) was) lives c.keep_destroyed.ensures
     (record { here = taken.updates.1; others = λ other ne. taken.updates.2 other (apart_in_set c.args.entity other ne) })
     (ap (λ (x : Bool). btree_set_len c.remove.new.self + (if x then 1 else 0)) (sym taken.test) ∙ taken.len)
     (record {
       header = refl;
-      commands = refl;
       tree = refl;
       count = refl;
       creates = refl;

@@ -5,12 +5,11 @@ use Rattle.seam_accept.proofs.Keeping.{other_kept}
 use Rattle.seam_accept.proofs.book.Book.add_tick.Goals as goal
 
 pub returns-clause-kept : goal.returns-clause-kept
-returns-clause-kept c = λ t h b was.
-    other_kept t h b Ticked _ _ (subst (Refines t h b) (sym c.self.view_is) was) refl
+returns-clause-kept c = λ h b was.
+    other_kept h b Ticked _ _ (subst (Refines h b) (sym c.self.view_is) was) refl
     (λ e. record { makes = refl; destroys = refl; joins = refl; calls = λ p s. refl }) refl refl
     (record {
       header = refl;
-      commands = refl;
       tree = refl;
       count = refl;
       creates = refl;

@@ -5,7 +5,6 @@ use Rattle.seam_transcript.specs.Book.{Book}
 use Rattle.seam_transcript.specs.Judging.{HoldsAgainst, IsFirst}
 use Rattle.seam_transcript.specs.declared.verdict.Cause.{Cause}
 use Rattle.seam_transcript.specs.declared.verdict.Entry.{Entry}
-use Rattle.seam_transcript.specs.declared.verdict.Entry.TheVariants as entry
 use Rattle.seam_accept.specs.Commands.{command_of}
 use Rattle.seam_accept.specs.Judging.{Judged}
 use Rattle.seam_accept.specs.Refines.{Refines}
@@ -34,41 +33,41 @@ judged_as h g b x y e f same is made judged =
 pub returns-in_err-judge_create-in-Create-clause-refused : goal.returns-in_err-judge_create-in-Create-clause-refused
 returns-in_err-judge_create-in-Create-clause-refused c =
     let p = err_from_is_err_and c.from_residual.result c.from_residual.ensures.1 in
-    rw (p.1, p.2) (λ t h b was.
-    let is = subst (Refines t h b) (sym c.self.view_is) was in
+    rw (p.1, p.2) (λ h b was.
+    let is = subst (Refines h b) (sym c.self.view_is) was in
     refused_as h _ b _ _ _ is.header c.in-Create.is (c.in_err-judge_create-in-Create.ensures.refused b is.entities))
 
 pub returns-in_err-judge_client-in-Client-clause-refused : goal.returns-in_err-judge_client-in-Client-clause-refused
 returns-in_err-judge_client-in-Client-clause-refused c =
     let p = err_from_is_err_and c.from_residual-in_err-judge_client-in-Client.result c.from_residual-in_err-judge_client-in-Client.ensures.1 in
-    rw (p.1, p.2) (λ t h b was.
-    let is = subst (Refines t h b) (sym c.self.view_is) was in
+    rw (p.1, p.2) (λ h b was.
+    let is = subst (Refines h b) (sym c.self.view_is) was in
     refused_as h _ b _ _ _ refl c.in-Client.is (c.in_err-judge_client-in-Client.ensures.refused h b is.entities is.clients))
 
 pub returns-in_err-judge_cut-in-Cut-clause-refused : goal.returns-in_err-judge_cut-in-Cut-clause-refused
 returns-in_err-judge_cut-in-Cut-clause-refused c =
     let p = err_from_is_err_and c.from_residual-in_err-judge_cut-in-Cut.result c.from_residual-in_err-judge_cut-in-Cut.ensures.1 in
-    rw (p.1, p.2) (λ t h b was.
-    let is = subst (Refines t h b) (sym c.self.view_is) was in
+    rw (p.1, p.2) (λ h b was.
+    let is = subst (Refines h b) (sym c.self.view_is) was in
     refused_as h _ b _ _ _ refl c.in-Cut.is (c.in_err-judge_cut-in-Cut.ensures.refused h b is.tree))
 
 pub returns-in_err-judge_shift-in-Shift-clause-refused : goal.returns-in_err-judge_shift-in-Shift-clause-refused
 returns-in_err-judge_shift-in-Shift-clause-refused c =
     let p = err_from_is_err_and c.from_residual-in_err-judge_shift-in-Shift.result c.from_residual-in_err-judge_shift-in-Shift.ensures.1 in
-    rw (p.1, p.2) (λ t h b was.
-    let is = subst (Refines t h b) (sym c.self.view_is) was in
+    rw (p.1, p.2) (λ h b was.
+    let is = subst (Refines h b) (sym c.self.view_is) was in
     refused_as h _ b _ _ _ refl c.in-Shift.is (c.in_err-judge_shift-in-Shift.ensures.refused h b is.tree))
 
 pub returns-in_err-judge_destroy-in-Destroy-clause-refused : goal.returns-in_err-judge_destroy-in-Destroy-clause-refused
 returns-in_err-judge_destroy-in-Destroy-clause-refused c =
     let p = err_from_is_err_and c.from_residual-in_err-judge_destroy-in-Destroy.result c.from_residual-in_err-judge_destroy-in-Destroy.ensures.1 in
-    rw (p.1, p.2) (λ t h b was.
-    let is = subst (Refines t h b) (sym c.self.view_is) was in
+    rw (p.1, p.2) (λ h b was.
+    let is = subst (Refines h b) (sym c.self.view_is) was in
     refused_as h _ b _ _ _ refl c.in-Destroy.is (c.in_err-judge_destroy-in-Destroy.ensures.refused h b is.entities))
 
 pub returns-clause-judged : goal.returns-clause-judged
-returns-clause-judged c = λ t h b was.
-    let is = subst (Refines t h b) (sym c.self.view_is) was in
+returns-clause-judged c = λ h b was.
+    let is = subst (Refines h b) (sym c.self.view_is) was in
     elim c.match-form.branch [
       | in-Create+in_ok-judge_create-in-Create w ↦ judged_as h _ b _ _ _ _ is.header w.in-Create.is w.entry-is (w.in_ok-judge_create-in-Create.ensures.judged b is.entities)
       | in-Call+in_ok-judge_call-in-Call w ↦ judged_as h _ b _ _ _ _ is.header w.in-Call.is w.entry-is (w.in_ok-judge_call-in-Call.ensures.judged b is.entities is.clients)

@@ -6,7 +6,7 @@ use Rattle.seam_accept.proofs.Keeping.{line_counted}
 use Rattle.seam_accept.proofs.book.Book.keep.Goals as goal
 
 pub returns-clause-kept : goal.returns-clause-kept
-returns-clause-kept c = λ t h b was next.
-    line_counted t h b c.args.entry _ _ _ (subst (Refines t h b) (sym c.self.view_is) was) c.in_ok-count.ensures
-    (subst (λ (v : BookView). Refines t h (with_entry b c.args.entry) (counted v)) (sym c.self-2.view_is)
-    (c.in_ok-add.ensures.kept t h b was next))
+returns-clause-kept c = λ h b was next.
+    line_counted h b c.args.entry _ _ _ (subst (Refines h b) (sym c.self.view_is) was) c.in_ok-count.ensures
+    (subst (λ (v : BookView). Refines h (with_entry b c.args.entry) (counted v)) (sym c.self-2.view_is)
+    (c.in_ok-add.ensures.kept h b was next))

@@ -4,8 +4,8 @@ use Rattle.seam_accept.proofs.book.Book.new.Goals as goal
 
 pub returns : goal.returns
 returns c =
-    begins c.args.commands c.args.header.now _
-    (λ i. record { settings = c.args.header.now.settings; defs = c.in_ok-defs.ensures i }) refl c.one.ensures.whole c.new.ensures.empty
+    begins c.args.header.now _
+    (λ i. record { settings = c.args.header.now.settings; defs = c.in_ok-defs.ensures i }) c.one.ensures.whole c.new.ensures.empty
     c.new-2.ensures.empty
     (record {
       count = refl;

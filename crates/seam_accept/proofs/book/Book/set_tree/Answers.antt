@@ -5,6 +5,6 @@ use Rattle.seam_accept.proofs.Keeping.{tree_kept}
 use Rattle.seam_accept.proofs.book.Book.set_tree.Goals as goal
 
 pub returns : goal.returns
-returns c = λ t h b was.
-    tree_kept t h b _ c.args.tree (subst (Refines t h b) (sym c.self.view_is) was)
+returns c = λ h b was.
+    tree_kept h b _ c.args.tree (subst (Refines h b) (sym c.self.view_is) was)
     (ap (λ (v : BookView). v.count) c.self.view_is ∙ c.requires)

@@ -1,7 +1,7 @@
 use Rattle.std.proofs.Common.{[], ◌∷◌}
 use Rattle.std.specs.Prelude.{codes}
 use Rattle.seam_accept.proofs.CommandLemmas.{one_of_others}
-use Rattle.seam_accept.proofs.command.is_further_name.Goals as goal
+use Rattle.seam_accept.proofs.command.is_other_name.Goals as goal
 
 pub returns-else-is_client_tick_or_cut : goal.returns-else-is_client_tick_or_cut
 returns-else-is_client_tick_or_cut c =
