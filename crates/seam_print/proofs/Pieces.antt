@@ -43,24 +43,21 @@ module _ (m : BTreeMap ℕ Resident) (rs : List Resident) (is : values m ≡ rs)
       ∙ ap (map (λ l. l.state.pos)) same
 
   module _ (defs : List TypeDef) (d : RoundData) (first : List ℕ) where
-    pub calls_written : (u : World) (number : ℕ) → number ≡ d.number →
+    pub calls_written : (u : World) →
         flat_map (λ r. done_of_type r.made.ty (done_found part.Cell u r.made.entity)) rs ≡ d.did →
-        flat_map (λ r. done_of_type r.made.ty (done_found part.Base u r.made.entity)) rs ≡ d.dob → (a b c : List ℕ) →
-        a ≡ first ++ number_text (codes "round ") number →
-        b ≡ a ++ flat_map (λ x. done_of (codes "did ") defs part.Cell u x.1) m.entries →
+        flat_map (λ r. done_of_type r.made.ty (done_found part.Base u r.made.entity)) rs ≡ d.dob → (b c : List ℕ) →
+        b ≡ first ++ flat_map (λ x. done_of (codes "did ") defs part.Cell u x.1) m.entries →
         c ≡ b ++ flat_map (λ x. done_of (codes "dob ") defs part.Base u x.1) m.entries → c ≡ first ++ calls_text defs d
-    calls_written u number same did dob a b c first_is then last =
-        let N = number_text (codes "round ") d.number in
+    calls_written u did dob b c then last =
         let D = flat_map (done_text (codes "did ") defs) d.did in
         let B = flat_map (done_text (codes "dob ") defs) d.dob in
-        let one : a ≡ first ++ N = first_is ∙ ap (λ n. first ++ number_text (codes "round ") n) same in
-        let two : b ≡ (first ++ N) ++ D =
-        then ∙ (λ i. one i ++ of_lines (done_text (codes "did ") defs)
-        (λ r. done_of_type r.made.ty (done_found part.Cell u r.made.entity)) d.did did i) in
-        let three : c ≡ ((first ++ N) ++ D) ++ B =
+        let two : b ≡ first ++ D =
+        then ∙ ap (λ l. first ++ l) (of_lines (done_text (codes "did ") defs)
+        (λ r. done_of_type r.made.ty (done_found part.Cell u r.made.entity)) d.did did) in
+        let three : c ≡ (first ++ D) ++ B =
         last ∙ (λ i. two i ++ of_lines (done_text (codes "dob ") defs)
         (λ r. done_of_type r.made.ty (done_found part.Base u r.made.entity)) d.dob dob i) in
-        three ∙ simp append_assoc
+        three ∙ append_assoc first D B
 
     pub ends_written : (v : World) (kept : Map (List ℕ)) (number : ℕ) → number ≡ d.number →
         flat_map (λ r. homes_found v r.made.entity) rs ≡ d.homes → flat_map (λ r. bases_found v r.made.entity) rs ≡ d.bases →

@@ -1,4 +1,4 @@
--- The two parts of a round's text: its calls, and where they end its lines of what is left; and what of them is written of each resident.
+-- The two parts of a round's text after its number line: its calls, and what it leaves; and what of them is written of each resident.
 use Rattle.std.specs.Prelude.{ℕ, List, [], ◌++◌, map, codes, Option, None, Some, if◌then◌else◌}
 use Rattle.std.specs.List.{flat_map}
 use Rattle.std.specs.FinMap as table
@@ -19,10 +19,9 @@ use Rattle.seam_print.specs.declared.residents.Resident.{Resident}
 
 -- ---- a round
 
--- its number, and the calls that were executed
+-- the calls that were executed
 abbrev pub calls_text : List TypeDef → RoundData → List ℕ
-calls_text defs r =
-    number_text (codes "round ") r.number ++ flat_map (done_text (codes "did ") defs) r.did ++ flat_map (done_text (codes "dob ") defs) r.dob
+calls_text defs r = flat_map (done_text (codes "did ") defs) r.did ++ flat_map (done_text (codes "dob ") defs) r.dob
 
 -- what it leaves, what clients were shown, and its number again
 abbrev pub ends_text : List TypeDef → RoundData → List ℕ

@@ -19,12 +19,12 @@ use crate::round::PrintedRound;
 use seam_call::Call;
 use seam_core::World;
 use seam_defs::Defs;
-use seam_report::{DoneLine, push_done, push_number_line};
+use seam_report::{DoneLine, push_done};
 use std::alloc::AllocError;
 use std::collections::BTreeMap;
 
-/// Appends the first part of a round's text, where its calls have ended: its number, and the calls that each part executed, each kind in
-/// rising number of the entities.
+/// Appends the calls that each part executed in a round, where its calls have ended, each kind in rising number of the entities. The
+/// round's number line stands before them, and is the caller's to write.
 ///
 /// If allocation fails, the text has no use.
 pub fn write_calls(
@@ -38,7 +38,6 @@ pub fn write_calls(
 {
     what_is_found_is_printed();
     let residents = round.present.by_number();
-    push_number_line(out, b"round ", round.number)?;
     push_did(out, round.defs, residents, called)?;
     push_dob(out, round.defs, residents, called)
 }

@@ -32,7 +32,7 @@ use seam_tree::{MOST_CELLS, Tree};
 use std::alloc::{AllocError, Global};
 use std::collections::BTreeMap;
 
-/// Appends the second part of a round's text, where the round has ended: the homes, the base parts, the ghosts, and what clients were
+/// Appends the last part of a round's text, where the round has ended: the homes, the base parts, the ghosts, and what clients were
 /// shown, each kind in rising number of the entities; the boundaries, if they were balanced; and the round's number again. What was kept
 /// of clients where the calls had ended is the lines of those whose entities died.
 ///

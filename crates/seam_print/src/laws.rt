@@ -1,6 +1,6 @@
 //! What is written of residents is what a round prints; and who lives stays as lines come.
 
-ghost use Rattle.std.specs.Prelude.{◌≡◌, ◌++◌, ℕ, List, map, Option};
+ghost use Rattle.std.specs.Prelude.{◌≡◌, ◌++◌, ℕ, List, map, codes, Option};
 ghost use Rattle.std.specs.List.{flat_map};
 ghost use Rattle.seam_tree.specs.Division.{Division};
 ghost use Rattle.seam_defs.specs.declared.flags.Part.TheVariants as part;
@@ -9,6 +9,7 @@ ghost use Rattle.seam_steps.specs.Maps.{Map};
 ghost use Rattle.seam_steps.specs.Nodes.{World};
 ghost use Rattle.seam_toml.specs.declared.header.Header.{Header};
 ghost use Rattle.seam_transcript.specs.Book.{Book, with_entry, with_round_ended, with_tree};
+ghost use Rattle.seam_transcript.specs.Texts.{number_text};
 ghost use Rattle.seam_transcript.specs.declared.verdict.Entry.{Entry};
 ghost use Rattle.seam_batches.specs.Books.{as_begun};
 ghost use Rattle.seam_rules.specs.Lines.{RoundData};
@@ -22,9 +23,10 @@ ghost use Rattle.seam_print.specs.Farewells.{AreFarewells};
 ghost use Rattle.seam_print.specs.Texts.{calls_text, ends_text, done_of_type, shown_of};
 ghost use Rattle.seam_print.specs.declared.residents.Resident.{Resident as AnyResident};
 
-/// The text of a round is what `write_calls` appends, and then what `write_ends` appends.
+/// The text of a round is its number line, then what `write_calls` appends, and then what `write_ends` appends.
 pub fn a_rounds_text_has_two_parts()
-    ensures { (defs : List TypeDef) (r : RoundData) → round_text defs r ≡ calls_text defs r ++ ends_text defs r }
+    ensures { (defs : List TypeDef) (r : RoundData) → round_text defs r
+        ≡ number_text (codes "round ") r.number ++ calls_text defs r ++ ends_text defs r }
 {}
 
 /// Who lived as the open round began stays so when a line is accepted (`entry`); and who lives where a round has ended lives as the next one

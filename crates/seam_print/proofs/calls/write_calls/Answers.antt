@@ -25,7 +25,6 @@ returns c =
     (λ (u : World). flat_map (λ r. done_of_type r.made.ty (done_found part.Base u r.made.entity)) rs ≡ d.dob) called
     (c.what_is_found_is_printed.ensures.dob h s tree w v p bounds rs is.present) in
     calls_written c.by_number-residents.result.now rs c.by_number-residents.ensures.list round.defs.now d first c.args.called.now
-    round.number is.number did dob c.push_number_line.new.out.items c.push_did.new.out.items c.push_dob.new.out.items
-    c.in_ok-push_number_line.ensures c.in_ok-push_did.ensures last
+    did dob c.push_did.new.out.items c.push_dob.new.out.items c.in_ok-push_did.ensures last
     ∙ ap (λ (ds : List TypeDef). first ++ calls_text ds d) is.defs)
     c.push_dob.ensures
