@@ -14,7 +14,7 @@ ghost use Rattle.seam_transcript.specs.declared.verdict.Entry.{Entry};
 ghost use Rattle.seam_batches.specs.Books.{as_begun};
 ghost use Rattle.seam_rules.specs.Lines.{RoundData};
 ghost use Rattle.seam_rules.specs.Standing.{Standing};
-ghost use Rattle.seam_rules.specs.Texts.{client_text, round_text};
+ghost use Rattle.seam_rules.specs.Texts.{client_text, traced_text};
 ghost use Rattle.seam_played.specs.Playing.{IsPlayed, data_of};
 ghost use Rattle.seam_print.specs.Residents.{AreResidents, ArePresent};
 ghost use Rattle.seam_print.specs.Worlds.{AreAtRest};
@@ -23,10 +23,11 @@ ghost use Rattle.seam_print.specs.Farewells.{AreFarewells};
 ghost use Rattle.seam_print.specs.Texts.{calls_text, ends_text, done_of_type, shown_of};
 ghost use Rattle.seam_print.specs.declared.residents.Resident.{Resident as AnyResident};
 
-/// The text of a round is its number line, then what `write_calls` appends, and then what `write_ends` appends.
+/// The text of a round is its number line, its steps where they are traced, then what `write_calls` appends, and then what `write_ends`
+/// appends.
 pub fn a_rounds_text_has_two_parts()
-    ensures { (defs : List TypeDef) (r : RoundData) → round_text defs r
-        ≡ number_text (codes "round ") r.number ++ calls_text defs r ++ ends_text defs r }
+    ensures { (defs : List TypeDef) (r : RoundData) (steps : List ℕ) → traced_text steps defs r
+        ≡ number_text (codes "round ") r.number ++ steps ++ calls_text defs r ++ ends_text defs r }
 {}
 
 /// Who lived as the open round began stays so when a line is accepted (`entry`); and who lives where a round has ended lives as the next one

@@ -13,6 +13,7 @@ use std::sync::Wait;
 use std::thread::Threads;
 
 /// The workers of a run: how many there are, how many turns each has in a phase of a round, and the gate that is called before each turn.
+#[derive(Drop)]
 pub struct Workers<'a, G> {
     crew: Crew,
     gate: &'a G,

@@ -9,7 +9,6 @@ use Rattle.seam_toml.specs.declared.header.Header.{Header}
 use Rattle.seam_transcript.specs.Book.{open_lines, with_entry}
 use Rattle.seam_transcript.specs.Judging.{Judges}
 use Rattle.seam_transcript.specs.Texts.{refusal}
-use Rattle.seam_transcript.specs.declared.commands.Commands.TheVariants.{All}
 use Rattle.seam_transcript.specs.declared.verdict.Entry.{Entry}
 use Rattle.seam_transcript.specs.declared.verdict.Cause.{Cause}
 use Rattle.seam_transcript.specs.declared.verdict.Verdict.TheVariants as verdict
@@ -26,7 +25,7 @@ one_piece traced defs s r j = append-nil (played_text traced defs r j)
 
 module _ (traced : Bool) (h : Header) (t : Standing) where
   -- a line that is skipped
-  pub skipped : (line : Line) (refines : Standing → Type 0) → Judges All h t.book line verdict.Skipped → refines t →
+  pub skipped : (line : Line) (refines : Standing → Type 0) → Judges h t.book line verdict.Skipped → refines t →
       LineFollowed traced h t line refines [] []
   skipped line refines judges holds = record {
     verdict = verdict.Skipped;
@@ -40,7 +39,7 @@ module _ (traced : Bool) (h : Header) (t : Standing) where
   }
 
   -- a line that ends the round
-  pub synced : (line : Line) (refines : Standing → Type 0) (text : List ℕ) (steps : Journal) → Judges All h t.book line verdict.Synced →
+  pub synced : (line : Line) (refines : Standing → Type 0) (text : List ℕ) (steps : Journal) → Judges h t.book line verdict.Synced →
       RoundEnds traced h t refines text steps → LineFollowed traced h t line refines text (steps ∷ [])
   synced line refines text steps judges ends = record {
     verdict = verdict.Synced;
@@ -55,7 +54,7 @@ module _ (traced : Bool) (h : Header) (t : Standing) where
 
   -- a line that is kept, and filled the round, which ended
   pub kept_last : (line : Line) (x : Entry) (refines : Standing → Type 0) (text : List ℕ) (steps : Journal) →
-      Judges All h t.book line (verdict.Accepted x) → open_lines (with_entry t.book x) ≡ MOST_LINES →
+      Judges h t.book line (verdict.Accepted x) → open_lines (with_entry t.book x) ≡ MOST_LINES →
       RoundEnds traced h (with_book t (with_entry t.book x)) refines text steps → LineFollowed traced h t line refines text (steps ∷ [])
   kept_last line x refines text steps judges full ends =
       let at : Standing = with_book t (with_entry t.book x) in
@@ -75,7 +74,7 @@ module _ (traced : Bool) (h : Header) (t : Standing) where
       }
 
   -- one that is kept in a round with room for more
-  pub kept_open : (line : Line) (x : Entry) (refines : Standing → Type 0) → Judges All h t.book line (verdict.Accepted x) →
+  pub kept_open : (line : Line) (x : Entry) (refines : Standing → Type 0) → Judges h t.book line (verdict.Accepted x) →
       open_lines (with_entry t.book x) ≢ MOST_LINES → refines (with_book t (with_entry t.book x)) → LineFollowed traced h t line refines [] []
   kept_open line x refines judges open_ holds =
       let at : Standing = with_book t (with_entry t.book x) in
@@ -105,7 +104,7 @@ module _ (traced : Bool) (h : Header) (t : Standing) where
   }
 
   -- a line that was refused
-  pub refused : (line : Line) (c : Cause) (refines : Standing → Type 0) → Judges All h t.book line (verdict.Refused c) →
+  pub refused : (line : Line) (c : Cause) (refines : Standing → Type 0) → Judges h t.book line (verdict.Refused c) →
       refines (with_line t) → LineRead traced h t line refines (refusal (t.lines + 1) c) []
   refused line c refines judges holds = record {
     pieces = Refusal (t.lines + 1) c ∷ [];

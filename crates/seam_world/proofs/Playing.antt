@@ -1,5 +1,5 @@
 -- A round that is being played: what it leaves, once its phases have ended.
-use Rattle.std.proofs.Common.{◌≡◌, ℕ, Bool, true, false, List, [], ◌++◌, sym, ap, subst, ◌∙◌, append_assoc}
+use Rattle.std.proofs.Common.{◌≡◌, ℕ, Bool, true, false, List, [], ◌++◌, sym, ap, subst, ◌∙◌, append_assoc, append-nil}
 use Rattle.std.specs.Prelude.{codes}
 use Rattle.seam_call.specs.declared.create.Create.{Create}
 use Rattle.seam_call.specs.declared.order.Batch.{Batch}
@@ -45,19 +45,20 @@ played_so h s tree w v u given j beside is stood made live made_listed live_list
 
 -- ---- the text of a round, appended part by part
 
-after_start : (out number steps calls ends : List ℕ) →
-    ((out ++ number ++ steps) ++ calls) ++ ends ≡ out ++ number ++ steps ++ calls ++ ends
-after_start out number steps calls ends =
-    append_assoc (out ++ number ++ steps) calls ends ∙ append_assoc out (number ++ steps) (calls ++ ends)
-    ∙ ap (λ (xs : List ℕ). out ++ xs) (append_assoc number steps (calls ++ ends))
+after_start : (out start calls ends : List ℕ) → ((out ++ start) ++ calls) ++ ends ≡ out ++ (start ++ calls ++ ends)
+after_start out start calls ends =
+    ap (λ (xs : List ℕ). xs ++ ends) (append_assoc out start calls) ∙ append_assoc out (start ++ calls) ends
 
 pub text_in_order : (traced : Bool) (defs : List TypeDef) (r : RoundData) (n : ℕ) (j : Journal) (out calls ends : List ℕ) → n ≡ r.number →
     ((steps : List ℕ) → traced_text steps defs r ≡ number_text (codes "round ") r.number ++ steps ++ calls ++ ends) →
     ((out ++ start_text traced n j) ++ calls) ++ ends ≡ out ++ played_text traced defs r j
 text_in_order true defs r n j out calls ends is parts =
-    after_start out (number_text (codes "round ") n) (journal_text j) calls ends
+    after_start out (number_text (codes "round ") n ++ journal_text j) calls ends
     ∙ ap (λ (xs : List ℕ). out ++ xs)
     (ap (λ k. number_text (codes "round ") k ++ journal_text j ++ calls ++ ends) is ∙ sym (parts (journal_text j)))
 text_in_order false defs r n j out calls ends is parts =
-    append_assoc (out ++ number_text (codes "round ") n) calls ends ∙ append_assoc out (number_text (codes "round ") n) (calls ++ ends)
-    ∙ ap (λ (xs : List ℕ). out ++ xs) (ap (λ k. number_text (codes "round ") k ++ calls ++ ends) is ∙ sym (parts []))
+    let number = number_text (codes "round ") r.number in
+    after_start out (number_text (codes "round ") n) calls ends
+    ∙ ap (λ (xs : List ℕ). out ++ xs)
+    (ap (λ k. number_text (codes "round ") k ++ calls ++ ends) is
+    ∙ ap (λ (xs : List ℕ). xs ++ calls ++ ends) (sym (append-nil number)) ∙ sym (parts []))

@@ -87,12 +87,12 @@ pub gathered_prints : (P : List ℕ → List Journal → Type 0) (piece : List �
     (pending text : List ℕ) (told told' : Told) (result : Option Status) → P piece steps →
     Prints (λ printed given. (printed ≡ piece) × (given ≡ steps)) sink now pending text told told' result →
     Prints P sink now pending text told told' result
-gathered_prints P piece steps sink now pending text told told' None p (printed, given, is, rest) =
-    (printed, given, subst (λ xs. P xs given) (sym is.0) (subst (P piece) (sym is.1) p), rest)
+gathered_prints P piece steps sink now pending text told told' None p (printed, given, is, shown, tells) =
+    (printed, given, subst (λ xs. P xs given) (sym is.0) (subst (P piece) (sym is.1) p), shown, tells)
 gathered_prints P piece steps sink now pending text told told' (Some status.NoMemory) p printed = printed
 gathered_prints P piece steps sink now pending text told told' (Some status.WriteFault) p (inl failed) = inl failed
-gathered_prints P piece steps sink now pending text told told' (Some status.WriteFault) p (inr (printed, given, is, rest)) =
-    inr (printed, given, subst (λ xs. P xs given) (sym is.0) (subst (P piece) (sym is.1) p), rest)
+gathered_prints P piece steps sink now pending text told told' (Some status.WriteFault) p (inr (printed, given, is, failed, tells)) =
+    inr (printed, given, subst (λ xs. P xs given) (sym is.0) (subst (P piece) (sym is.1) p), failed, tells)
 gathered_prints P piece steps sink now pending text told told' (Some status.Done) p printed = absurd printed
 gathered_prints P piece steps sink now pending text told told' (Some status.Usage) p printed = absurd printed
 gathered_prints P piece steps sink now pending text told told' (Some (status.BadHeader k)) p printed = absurd printed

@@ -8,12 +8,11 @@ use Rattle.seam_balance.specs.Balance.{IsBalanced, HasSameCuts}
 use Rattle.seam_steps.specs.Nodes.{World}
 use Rattle.seam_toml.specs.declared.header.Header.{Header}
 use Rattle.seam_transcript.specs.Book.{Book, open_lines, has_balance, tree_of, with_round_ended, with_tree}
-use Rattle.seam_transcript.specs.declared.commands.Commands.TheVariants.{All}
 use Rattle.seam_transcript.specs.declared.limits.TheConstants.{MOST_LINES}
 use Rattle.seam_accept.specs.Refines.{Refines as HoldsBook}
 use Rattle.seam_batches.specs.Books.{as_begun}
 use Rattle.seam_rules.specs.Lines.{RoundData}
-use Rattle.seam_rules.specs.Round.{IsRound}
+use Rattle.seam_rules.specs.Round.{IsRound, with_bounds}
 use Rattle.seam_rules.specs.Standing.{Standing}
 use Rattle.seam_rules.specs.Transcript.{played_text}
 use Rattle.seam_played.specs.Playing.{IsPlayed, data_of, standing_of}
@@ -88,7 +87,7 @@ module _ (traced : Bool) (h : Header) (t : Standing) (old new : Script) (ready :
       IsRight h t ready.has.tree ready.has.world left.world p (Some u)) →
       HasOneReal h t ready.has.world left.world p.round → ((r : RoundData) (u : Standing) → ClientsSeeAll h t r u) →
       new.header ≡ old.header → new.world ≡ Some left.world → new.residents ≡ residents → new.line ≡ old.line →
-      new.round ≡ old.round + 1 → HoldsBook All h after.book new.book →
+      new.round ≡ old.round + 1 → HoldsBook h after.book new.book →
       RoundEnds traced h t (λ s. ScriptRefines h s new)
       (played_text traced h.defs (printed h t ready.has.tree ready.has.world left.world p left.bounds) left.journal) left.journal
   unfolding plays_so

@@ -368,3 +368,9 @@ not_run traced st source old new told why tail a higher f = by_status st why f
       last = line;
       watched = told_nothing the_space told;
     }
+
+-- with or without a trace, as the words say
+pub traced_as : {st : Status} {old new : SourceState} {sink sink' : SinkState} {told told' : Told} (t u : Bool) → t ≡ u →
+    RunEnds (IsOpen t) (IsEnded t) st old new sink sink' told told' → RunEnds (IsOpen u) (IsEnded u) st old new sink sink' told told'
+traced_as {st} {old} {new} {sink} {sink'} {told} {told'} t u same ends =
+    subst (λ (b : Bool). RunEnds (IsOpen b) (IsEnded b) st old new sink sink' told told') same ends

@@ -1,5 +1,5 @@
 -- What a script does to its standing.
-use Rattle.std.proofs.Common.{◌≡◌, ◌≢◌, ℕ, ◌+◌, ◌≤◌, List, [], ◌∷◌, Some, sym, ap, ◌∙◌, subst, arith, length-append}
+use Rattle.std.proofs.Common.{◌≡◌, ◌≢◌, ℕ, ◌+◌, ◌≤◌, Bool, List, [], ◌∷◌, Some, sym, ap, ◌∙◌, subst, arith, length-append}
 use Rattle.std.proofs.lemmas.Option.{same_Some}
 use Rattle.seam_io.specs.Lines.{Line}
 use Rattle.seam_tree.specs.Division.{Division}
@@ -10,7 +10,6 @@ use Rattle.seam_toml.specs.declared.header.Header.{Header}
 use Rattle.seam_transcript.specs.Book.{open_lines, one_cell, with_entry, empty_book}
 use Rattle.seam_transcript.specs.Judging.{Judges}
 use Rattle.seam_transcript.specs.Texts.{refusal}
-use Rattle.seam_transcript.specs.declared.commands.Commands.TheVariants.{All}
 use Rattle.seam_transcript.specs.declared.verdict.Cause.{Cause}
 use Rattle.seam_transcript.specs.declared.verdict.Entry.{Entry}
 use Rattle.seam_transcript.specs.declared.verdict.Verdict.TheVariants as verdict
@@ -39,7 +38,7 @@ use Rattle.seam_world.proofs.Following.{refused}
 
 -- where a script begins
 pub script_begins : (h : Header) (count : ℕ) (s : Script) → count ≤ most_lines → s.header ≡ h → s.line ≡ count → s.round ≡ 0 →
-    HoldsBook All h (empty_book h.settings.size) s.book → (w : World) → s.world ≡ Some w → w ≡ opened h.defs h.settings →
+    HoldsBook h (empty_book h.settings.size) s.book → (w : World) → s.world ≡ Some w → w ≡ opened h.defs h.settings →
     GoesOn h (after_header h count) (one_cell h.settings.size) (opened h.defs h.settings) →
     AreResidents (empty_book h.settings.size) s.residents → ScriptRefines h (after_header h count) s
 script_begins h count s few header line round book w is made goes_on residents = record {
@@ -98,14 +97,14 @@ module _ (h : Header) (t : Standing) where
   -- a line was refused
   pub refused_line : GoesOnWithLine → (line : Line) (c : Cause) (old new : Script) → ScriptRefines h t old → new.header ≡ old.header →
       new.world ≡ old.world → new.residents ≡ old.residents → new.round ≡ old.round → new.line ≡ old.line + 1 → new.line ≤ most_lines →
-      new.book ≡ old.book → Judges All h t.book line (verdict.Refused c) →
+      new.book ≡ old.book → Judges h t.book line (verdict.Refused c) →
       (traced : Bool) → LineRead traced h t line (λ s. ScriptRefines h s new) (refusal new.line c) []
   refused_line goes line c old new was header world residents round counted most book judges traced =
       let number : new.line ≡ t.lines + 1 = counted ∙ ap (λ (n : ℕ). n + 1) was.line in
       subst (λ (n : ℕ). LineRead traced h t line (λ s. ScriptRefines h s new) (refusal n c) []) (sym number)
       (refused traced h t line c (λ s. ScriptRefines h s new) judges (record {
         has = with_line_read goes new (same_world h t old new was.has header world residents round);
-        book = subst (HoldsBook All h t.book) (sym book) was.book;
+        book = subst (HoldsBook h t.book) (sym book) was.book;
         line = number;
         most = omega (arith, number, most);
         below_most = was.below_most;
@@ -114,7 +113,7 @@ module _ (h : Header) (t : Standing) where
   -- the book answered a line that the script has counted
   pub has_accepted : (line : Line) (a : Accepted) (old new : Script) → ScriptRefines h t old → new.header ≡ old.header →
       new.world ≡ old.world → new.residents ≡ old.residents → new.round ≡ old.round → new.line ≡ old.line + 1 → new.line ≤ most_lines →
-      LineAccepted All h t.book line a new.book → HasAccepted h t line a new
+      LineAccepted h t.book line a new.book → HasAccepted h t line a new
   has_accepted line a old new was header world residents round counted most answered =
       let number : new.line ≡ t.lines + 1 = counted ∙ ap (λ (n : ℕ). n + 1) was.line in
       record {

@@ -5,7 +5,6 @@ use Rattle.seam_io.specs.Lines.{Line}
 use Rattle.seam_watch.specs.declared.journal.Journal.{Journal}
 use Rattle.seam_toml.specs.declared.header.Header.{Header}
 use Rattle.seam_transcript.specs.Judging.{Judges}
-use Rattle.seam_transcript.specs.declared.commands.Commands.TheVariants.{All}
 use Rattle.seam_transcript.specs.declared.verdict.Verdict.{Verdict}
 use Rattle.seam_rules.specs.Standing.{Standing}
 use Rattle.seam_rules.specs.Lines.{RoundData}
@@ -26,7 +25,7 @@ module _ (traced : Bool) (h : Header) (t : Standing) where
   -- what a line that the standing has counted asks for was done, with this text and these steps
   pub record LineFollowed (line : Line) (refines : Standing → Type 0) (text : List ℕ) (steps : List Journal) : Type 0 where
     pub verdict : Verdict
-    pub judges : Judges All h t.book line verdict
+    pub judges : Judges h t.book line verdict
     pub pieces : List Piece
     pub next : Standing
     pub follows : Follows h t verdict pieces next

@@ -7,7 +7,7 @@ use Rattle.seam_io.specs.Lines.{Line}
 use Rattle.seam_io.specs.Reading.{Reader, Reading}
 use Rattle.seam_toml.specs.declared.header.Header.{Header}
 use Rattle.seam_transcript.specs.Header.{AreHeaderLines, BeginWithHeader}
-use Rattle.seam_transcript.specs.Transcript.{Run}
+use Rattle.seam_transcript.specs.Run.{Run}
 use Rattle.seam_rules.specs.Standing.{Standing, after_header}
 use Rattle.seam_rules.specs.Transcript.{Piece, text_of, journals_of}
 use Rattle.seam_watch.specs.Watching.{Told, after_all}

@@ -44,7 +44,7 @@ Prints P began now pending text told told' (Some status.NoMemory) = Printed bega
 Prints P began now pending text told told' (Some status.WriteFault) =
     (FailedWithin began now text × (told' ≡ told))
     ⊎ ((piece : List ℕ) × (steps : List Journal) × P piece steps × FailedWithin began now (text ++ piece)
-       × (told' ≡ after_all the_space steps told))
+    × (told' ≡ after_all the_space steps told))
 Prints P began now pending text told told' (Some status.Done) = ⊥
 Prints P began now pending text told told' (Some status.Usage) = ⊥
 Prints P began now pending text told told' (Some (status.BadHeader k)) = ⊥

@@ -5,7 +5,6 @@ use Rattle.seam_tree.specs.Division.{Division}
 use Rattle.seam_steps.specs.Nodes.{World}
 use Rattle.seam_toml.specs.declared.header.Header.{Header}
 use Rattle.seam_transcript.specs.Book.{open_lines}
-use Rattle.seam_transcript.specs.declared.commands.Commands.TheVariants.{All}
 use Rattle.seam_transcript.specs.declared.limits.TheConstants.{MOST_LINES}
 use Rattle.seam_accept.specs.Refines.{Refines as HoldsBook, LineAccepted}
 use Rattle.seam_accept.specs.declared.answers.Accepted.{Accepted}
@@ -31,7 +30,7 @@ pub record HasWorld (h : Header) (t : Standing) (s : Script) : Type 0 where
 -- the script refines the standing
 pub record ScriptRefines (h : Header) (t : Standing) (s : Script) : Type 0 where
   pub has : HasWorld h t s
-  pub book : HoldsBook All h t.book s.book
+  pub book : HoldsBook h t.book s.book
   pub line : s.line ≡ t.lines
   pub most : t.lines ≤ most_lines
   pub below_most : open_lines t.book < MOST_LINES
@@ -39,14 +38,14 @@ pub record ScriptRefines (h : Header) (t : Standing) (s : Script) : Type 0 where
 -- it refines a standing whose open round is to end
 pub record IsReady (h : Header) (t : Standing) (s : Script) : Type 0 where
   pub has : HasWorld h t s
-  pub book : HoldsBook All h t.book s.book
+  pub book : HoldsBook h t.book s.book
   pub line : s.line ≡ t.lines
   pub may : MayEnd t
 
 -- the script has counted a line and the book has answered it, and nothing has followed
 pub record HasAccepted (h : Header) (t : Standing) (line : Line) (answer : Accepted) (s : Script) : Type 0 where
   pub has : HasWorld h t s
-  pub answered : LineAccepted All h t.book line answer s.book
+  pub answered : LineAccepted h t.book line answer s.book
   pub line_ : s.line ≡ t.lines + 1
   pub most : t.lines + 1 ≤ most_lines
   pub below_most : open_lines t.book < MOST_LINES

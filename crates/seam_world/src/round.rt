@@ -29,6 +29,7 @@ use std::sync::Wait;
 use std::thread::Threads;
 
 /// How the rounds of a run are played and printed: by these workers, and with its steps in each round's text where they are traced.
+#[derive(Drop)]
 pub struct Playing<'a, G> {
     pub workers: Workers<'a, G>,
     pub traced: bool,

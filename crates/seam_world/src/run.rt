@@ -54,13 +54,7 @@ const NO_END: u8 = 10;
 /// without the program's name (`seam_args`); words that it refuses, and those that ask for a generated input, are answered by `Usage`.
 /// The rounds are played by as many workers as the words say, who call the gate before each step; the watch is given the journal of each
 /// round as it ends, with space 0. Every end but `Done` and `WriteFault` writes a fault line last; if that fails, the status stays.
-pub fn run_seamless<
-    S: Source,
-    K: Sink,
-    G: Gate + Sync,
-    W: Watch,
-    R: Threads + Wait + Sync,
->(
+pub fn run_seamless<S: Source, K: Sink, G: Gate + Sync, W: Watch, R: Threads + Wait + Sync>(
     rt: &R,
     alloc: Global,
     words: &[String],
@@ -121,13 +115,7 @@ fn asked(alloc: Global, words: &[String]) -> Result<Options, Status>
 }
 
 // The whole run but for the fault line.
-fn run_body<
-    S: Source,
-    K: Sink,
-    G: Gate + Sync,
-    W: Watch,
-    R: Threads + Wait + Sync,
->(
+fn run_body<S: Source, K: Sink, G: Gate + Sync, W: Watch, R: Threads + Wait + Sync>(
     rt: &R,
     alloc: Global,
     playing: &Playing<G>,
@@ -239,13 +227,7 @@ struct Runner {
 
 impl Runner {
     // Reads line by line, until the run ends.
-    fn run<
-        S: Source,
-        K: Sink,
-        G: Gate + Sync,
-        W: Watch,
-        R: Threads + Wait + Sync,
-    >(
+    fn run<S: Source, K: Sink, G: Gate + Sync, W: Watch, R: Threads + Wait + Sync>(
         &mut self,
         rt: &R,
         playing: &Playing<G>,
@@ -253,7 +235,7 @@ impl Runner {
         out: &mut K,
         watch: &mut W,
     ) -> Status
-        requires { (h : Headers) × (t : Standing) × ScriptRefines h t self.old.script }
+        requires ready { (h : Headers) × (t : Standing) × ScriptRefines h t self.old.script }
         ensures history { (began : SourceState) (sink : SinkState) (told : Told) →
             Going playing.now.traced began (S.state input.old) self.old.lines sink (K.state out.old) told (W.told watch.old)
             self.old.pending self.old.script →
@@ -270,13 +252,7 @@ impl Runner {
 
     // One line, before which all that was printed is written where the line may have to be waited for. Answers the status where
     // the run ends.
-    fn turn<
-        S: Source,
-        K: Sink,
-        G: Gate + Sync,
-        W: Watch,
-        R: Threads + Wait + Sync,
-    >(
+    fn turn<S: Source, K: Sink, G: Gate + Sync, W: Watch, R: Threads + Wait + Sync>(
         &mut self,
         rt: &R,
         playing: &Playing<G>,
@@ -284,7 +260,7 @@ impl Runner {
         out: &mut K,
         watch: &mut W,
     ) -> Option<Status>
-        requires { (h : Headers) × (t : Standing) × ScriptRefines h t self.old.script }
+        requires ready { (h : Headers) × (t : Standing) × ScriptRefines h t self.old.script }
         ensures history { (began : SourceState) (sink : SinkState) (told : Told) →
             Going playing.now.traced began (S.state input.old) self.old.lines sink (K.state out.old) told (W.told watch.old)
             self.old.pending self.old.script →
@@ -303,13 +279,7 @@ impl Runner {
     }
 
     // The next line: it is read, the script follows it, and what the script prints is pending.
-    fn follow<
-        S: Source,
-        K: Sink,
-        G: Gate + Sync,
-        W: Watch,
-        R: Threads + Wait + Sync,
-    >(
+    fn follow<S: Source, K: Sink, G: Gate + Sync, W: Watch, R: Threads + Wait + Sync>(
         &mut self,
         rt: &R,
         playing: &Playing<G>,
@@ -317,7 +287,7 @@ impl Runner {
         out: &mut K,
         watch: &mut W,
     ) -> Option<Status>
-        requires { (h : Headers) × (t : Standing) × ScriptRefines h t self.old.script }
+        requires ready { (h : Headers) × (t : Standing) × ScriptRefines h t self.old.script }
         ensures history { (began : SourceState) (sink : SinkState) (told : Told) →
             Going playing.now.traced began (S.state input.old) self.old.lines sink (K.state out.old) told (W.told watch.old)
             self.old.pending self.old.script →
@@ -349,7 +319,7 @@ impl Runner {
         out: &mut K,
         watch: &mut W,
     ) -> Option<Status>
-        requires { (h : Headers) × (t : Standing) × ScriptRefines h t self.old.script }
+        requires ready { (h : Headers) × (t : Standing) × ScriptRefines h t self.old.script }
         ensures prints { (h : Headers) (t : Standing) (sink : SinkState) (text : List ℕ) → ScriptRefines h t self.old.script →
             Printed sink (K.state out.old) self.old.pending text →
             Prints (LineRead playing.now.traced h t (Content self.old.lines.line) (λ s. ScriptRefines h s self.new.script)) sink
@@ -358,7 +328,10 @@ impl Runner {
         ensures ready { IfNone result ((h : Headers) × (t : Standing) × ScriptRefines h t self.new.script) }
     {
         self.text.clear();
-        match self.script.read_line(rt, playing, self.lines.line(), &mut self.text) {
+        match self
+            .script
+            .read_line(rt, playing, self.lines.line(), &mut self.text)
+        {
             Ok(ended) => self.show(&ended, out, watch),
             Err(_) => Some(stop(Status::NoMemory, &mut self.pending, out)),
         }
@@ -366,7 +339,7 @@ impl Runner {
 
     // Prints for a line that is too long.
     fn print_long<K: Sink>(&mut self, out: &mut K) -> Option<Status>
-        requires { (h : Headers) × (t : Standing) × ScriptRefines h t self.old.script }
+        requires ready { (h : Headers) × (t : Standing) × ScriptRefines h t self.old.script }
         ensures prints { (traced : Bool) (h : Headers) (t : Standing) (sink : SinkState) (text : List ℕ) (told : Told) →
             ScriptRefines h t self.old.script → Printed sink (K.state out.old) self.old.pending text →
             Prints (LineRead traced h t Long (λ s. ScriptRefines h s self.new.script)) sink (K.state out.new) self.new.pending text told
@@ -389,7 +362,7 @@ impl Runner {
         out: &mut K,
         watch: &mut W,
     ) -> Option<Status>
-        requires { (h : Headers) × (t : Standing) × ScriptRefines h t self.old.script }
+        requires ready { (h : Headers) × (t : Standing) × ScriptRefines h t self.old.script }
         ensures { (h : Headers) (t : Standing) (sink : SinkState) (text : List ℕ) → ScriptRefines h t self.old.script →
             Printed sink (K.state out.old) self.old.pending text →
             Prints (InputEnded playing.now.traced h t) sink (K.state out.new) [] text (W.told watch.old) (W.told watch.new) result }
@@ -439,11 +412,7 @@ impl Runner {
 }
 
 // Gives the watch the steps of a round that ended, if one did.
-fn give<W: Watch>(
-    alloc: Global,
-    ended: &Option<Journal>,
-    watch: &mut W,
-) -> Result<(), AllocError>
+fn give<W: Watch>(alloc: Global, ended: &Option<Journal>, watch: &mut W) -> Result<(), AllocError>
     ensures given { OnOk result (W.told watch.new ≡ after_all the_space (option_to_list ended.now) (W.told watch.old)) }
     ensures err { OnErr result (W.told watch.new ≡ W.told watch.old) }
 {

@@ -6,7 +6,6 @@ ghost use Rattle.seam_defs.specs.Settings.{AreLegal};
 ghost use Rattle.seam_defs.specs.Types.{AreDefs};
 ghost use Rattle.seam_toml.specs.declared.header.Header.{Header as Headers};
 ghost use Rattle.seam_transcript.specs.Book.{Book as Books};
-ghost use Rattle.seam_transcript.specs.declared.commands.Commands.TheVariants.{All};
 ghost use Rattle.seam_accept.specs.Refines.{Refines as HoldsBook};
 ghost use Rattle.seam_rules.specs.Standing.{Standing, after_header, with_line};
 ghost use Rattle.seam_course.specs.Counts.{most_lines};
@@ -21,7 +20,7 @@ use seam_core::World;
 use seam_io::LONGEST_LINE;
 use seam_print::Residents;
 use seam_report::push_refusal;
-use seam_transcript::{Cause, Commands, Header, MOST_LINES};
+use seam_transcript::{Cause, Header, MOST_LINES};
 use seam_tree::Tree;
 use seam_watch::Journal;
 use seam_workers::Gate;
@@ -56,7 +55,7 @@ impl Script {
         seam_course::a_course_begins_and_goes_on();
         Ok(Script {
             alloc,
-            book: Book::new(alloc, &header, Commands::All)?,
+            book: Book::new(alloc, &header)?,
             world: Some(World::open(alloc, &header.defs, header.settings)?),
             residents: Residents::new(alloc),
             header,
@@ -109,7 +108,7 @@ impl Script {
         accepted: Accepted,
         out: &mut Vec<u8>,
     ) -> Result<Option<Journal>, AllocError>
-        requires { (h : Headers) × (t : Standing) × (line : Lines) × HasAccepted h t line accepted self.old }
+        requires accepted { (h : Headers) × (t : Standing) × (line : Lines) × HasAccepted h t line accepted self.old }
         ensures { IfOk result (λ ended. (h : Headers) (t : Standing) (line : Lines) → HasAccepted h t line accepted self.old
             → (text : List ℕ)
             × LineFollowed playing.now.traced h (with_line t) line (λ s. ScriptRefines h s self.new) text (option_to_list ended)
@@ -136,7 +135,7 @@ impl Script {
         playing: &Playing<G>,
         out: &mut Vec<u8>,
     ) -> Result<Journal, AllocError>
-        requires { (h : Headers) × (t : Standing) × IsReady h t self.old }
+        requires ready { (h : Headers) × (t : Standing) × IsReady h t self.old }
         ensures { IfOk result (λ steps. (h : Headers) (t : Standing) → IsReady h t self.old
             → (text : List ℕ) × RoundEnds playing.now.traced h t (λ s. ScriptRefines h s self.new) text steps
             × (out.new.items ≡ out.old.items ++ text)) }
@@ -174,7 +173,7 @@ impl Script {
         playing: &Playing<G>,
         out: &mut Vec<u8>,
     ) -> Result<Option<Journal>, AllocError>
-        requires { (h : Headers) × (t : Standing) × ScriptRefines h t self.old }
+        requires refines { (h : Headers) × (t : Standing) × ScriptRefines h t self.old }
         ensures { IfOk result (λ ended. (h : Headers) (t : Standing) → ScriptRefines h t self.old
             → (text : List ℕ) × InputEnded playing.now.traced h t text (option_to_list ended) × (out.new.items ≡ out.old.items ++ text)) }
     {
@@ -189,7 +188,7 @@ impl Script {
 // Begins the next round, with another tree where the boundaries were balanced.
 fn begin_next(book: &mut Book, bounds: Option<Tree>)
     requires { book.old.count ≡ 0 }
-    ensures { (h : Headers) (b : Books) → HoldsBook All h b book.old → HoldsBook All h (with_bounds b bounds) book.new }
+    ensures { (h : Headers) (b : Books) → HoldsBook h b book.old → HoldsBook h (with_bounds b bounds) book.new }
 {
     if let Some(tree) = bounds {
         book.set_tree(tree);

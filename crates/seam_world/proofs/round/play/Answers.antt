@@ -1,4 +1,4 @@
-use Rattle.std.proofs.Common.{◌≡◌, ◌++◌, map, ap, sym, subst, ◌∙◌, append_assoc}
+use Rattle.std.proofs.Common.{◌≡◌, ◌++◌, map, ap, sym, subst, ◌∙◌}
 use Rattle.seam_call.specs.declared.order.Batch.{Batch}
 use Rattle.seam_toml.specs.declared.header.Header.{Header as Headers}
 use Rattle.seam_accept.specs.Batches.{batch_of}
@@ -12,20 +12,22 @@ use Rattle.seam_quiet.specs.Calls.{HasCalled}
 use Rattle.seam_world.proofs.Playing.{played_so, text_in_order}
 use Rattle.seam_world.proofs.round.play.Goals as goal
 
-pub run_calls-requires : goal.run_calls-requires
-run_calls-requires g c = (
-  c.requires.1.1.0,
-  c.requires.1.1.1,
-  subst (λ w. MayRun c.requires.1.1.0 c.requires.1.1.1 w c.args.batch) (sym c.requires.0)
-      (subst (MayRun c.requires.1.1.0 c.requires.1.1.1 g.from.world) (sym c.requires.1.0) c.requires.1.1.2),
-)
+pub run_calls-requires-clause-may : goal.run_calls-requires-clause-may
+run_calls-requires-clause-may g c κs within =
+    let asked = c.requires.1.1.1.1 in (
+      asked.1.1.0,
+      asked.1.1.1,
+      subst (λ w. MayRun asked.1.1.0 asked.1.1.1 w c.args.batch) (sym asked.0)
+          (subst (MayRun asked.1.1.0 asked.1.1.1 g.from.world) (sym asked.1.0) asked.1.1.2),
+    )
 
 pub run_ends-requires : goal.run_ends-requires
-run_ends-requires g c = (
-  c.requires.1.1,
-  subst (λ w. HasCalled w g.from.batch c.in_ok-called.called) c.requires.0
-      (subst (λ b. HasCalled c.args.world b c.in_ok-called.called) c.requires.1.0 c.in_ok-called.ensures),
-)
+run_ends-requires g c κs within =
+    let asked = c.requires.1.1.1.1 in
+    let called =
+    subst (λ w. HasCalled w g.from.batch c.in_ok-called.called) asked.0
+    (subst (λ b. HasCalled c.args.world b c.in_ok-called.called) asked.1.0 c.in_ok-called.ensures) in
+    (within.0, (within.1, (c.requires.1.1.0, (c.requires.1.1.1.0, (asked.1.1, called)))))
 
 pub returns : goal.returns
 returns g c = λ h s tree beside brings header number present.
@@ -39,7 +41,7 @@ returns g c = λ h s tree beside brings header number present.
     made.1 live.1 in
     let bounds = c.in_ok-bounds.bounds in
     let same_defs = ap (λ (k : Headers). k.defs) header in
-    let is = c.requires.1.0 ∙ brings in
+    let is = c.requires.1.1.1.1.1.0 ∙ brings in
     let destroys : c.in_ok-called.called.destroys ≡ (batch_of h s.book).destroys =
     c.in_ok-called.ensures.destroys ∙ ap (λ (x : Batch). x.destroys) is in
     let kept =
@@ -47,10 +49,11 @@ returns g c = λ h s tree beside brings header number present.
     (subst (λ ds. AreFarewells ds s.book c.in_ok-called.called.world c.in_ok-kept.kept) same_defs
     (c.in_ok-kept.ensures s.book (c.as_slice.ensures ∙ destroys) present)) in
     let printed = data_of h s tree g.from.world v p.0 bounds in
-    let open_ = record { number = number; defs = same_defs; present = present } in
-    let begun = c.in_ok-write_calls.ensures h s tree g.from.world v p.0 bounds p.1 open_ in
+    let begun =
+    c.in_ok-write_calls.ensures h s tree g.from.world v p.0 bounds p.1
+    (record { number = number; defs = same_defs; present = present }) in
     let ended =
-    c.in_ok-write_ends.ensures h s tree g.from.world p.0 open_ kept in
+    c.in_ok-write_ends.ensures h s tree g.from.world p.0 (record { number = number; defs = same_defs; present = present }) kept in
     let calls = c.deref.ensures.value ∙ begun ∙ ap (λ xs. xs ++ calls_text h.defs printed) c.new-calls.ensures.items in
     let out = c.args.out.now.items in
     let traced = c.args.playing.now.traced in
@@ -60,7 +63,7 @@ returns g c = λ h s tree beside brings header number present.
       steps = p.2;
       whole =
           ended ∙ ap (λ xs. xs ++ ends_text h.defs printed)
-          (c.in_ok-extend_from_slice.ensures ∙ ap (λ xs. xs ++ c.deref.result.now) c.in_ok-write_start.ensures
+          (c.in_ok-extend_from_slice.ensures.items ∙ ap (λ xs. xs ++ c.deref.result.now) c.in_ok-write_start.ensures
           ∙ ap (λ xs. (out ++ start_text traced c.args.number journal) ++ xs) calls)
           ∙ text_in_order traced h.defs printed c.args.number journal out (calls_text h.defs printed) (ends_text h.defs printed) number
           (c.a_rounds_text_has_two_parts.ensures h.defs printed);

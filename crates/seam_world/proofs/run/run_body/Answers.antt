@@ -8,6 +8,9 @@ use Rattle.seam_world.proofs.run.run_body.Goals as goal
 pub returns-in-Err-clause-stopped : goal.returns-in-Err-clause-stopped
 returns-in-Err-clause-stopped g c = nothing_judged _ _ [] (Consumes-nil _) (omega arith) _ _ _
 
+pub returns-in-Err-new-clause-stopped : goal.returns-in-Err-new-clause-stopped
+returns-in-Err-new-clause-stopped g c = nothing_judged _ _ [] (Consumes-nil _) (omega arith) _ _ _
+
 pub new-requires-3 : goal.new-requires-3
 new-requires-3 g c =
     let has =

@@ -23,5 +23,5 @@ returns-in-Err-clause-prints g c = λ traced h t sink text told refines printed.
 
 pub returns-in-Ok-clause-ready : goal.returns-in-Ok-clause-ready
 returns-in-Ok-clause-ready g c =
-    let read = c.in-Ok.ensures false c.requires.0 c.requires.1 c.requires.2 in
-    if_none c.print.result _ (c.requires.0, read.1.next, read.1.after)
+    let read = c.in-Ok.ensures false c.requires.ready.0 c.requires.ready.1 c.requires.ready.2 in
+    if_none c.print.result _ (c.requires.ready.0, read.1.next, read.1.after)

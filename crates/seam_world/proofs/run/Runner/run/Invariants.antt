@@ -3,6 +3,7 @@ use Rattle.seam_io.specs.States.{SourceState, SinkState}
 use Rattle.seam_io.specs.Reading.{budget}
 use Rattle.seam_toml.specs.declared.header.Header.{Header}
 use Rattle.seam_rules.specs.Standing.{Standing}
+use Rattle.seam_watch.specs.Watching.{Told}
 use Rattle.seam_world.specs.Histories.{Going}
 use Rattle.seam_world.specs.Script.{ScriptRefines}
 use Rattle.seam_world.proofs.run.Runner.run.Given as goal
@@ -11,10 +12,11 @@ abbrev pub invariant-loop-status : goal.invariant-loop-status
 invariant-loop-status g l = record {
   later : (g.S.Source.state l.initial.input).faults ≤ (g.S.Source.state l.input).faults;
   ready : (h : Header) × (t : Standing) × ScriptRefines h t l.self.script;
-  history : (began : SourceState) (sink : SinkState) →
-      Going began (g.S.Source.state l.initial.input) l.initial.self.lines sink (g.K.Sink.state l.initial.out) l.initial.self.pending
-      l.initial.self.script →
-      Going began (g.S.Source.state l.input) l.self.lines sink (g.K.Sink.state l.out) l.self.pending l.self.script;
+  history : (began : SourceState) (sink : SinkState) (told : Told) →
+      Going l.fn.playing.traced began (g.S.Source.state l.initial.input) l.initial.self.lines sink (g.K.Sink.state l.initial.out) told
+      (g.W.Watch.told l.initial.watch) l.initial.self.pending l.initial.self.script →
+      Going l.fn.playing.traced began (g.S.Source.state l.input) l.self.lines sink (g.K.Sink.state l.out) told (g.W.Watch.told l.watch)
+      l.self.pending l.self.script;
 }
 
 abbrev pub decreases-loop-status : goal.decreases-loop-status

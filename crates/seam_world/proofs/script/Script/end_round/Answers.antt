@@ -6,28 +6,26 @@ use Rattle.seam_world.proofs.Rounds.{round_ended}
 use Rattle.seam_world.proofs.script.Script.end_round.Goals as goal
 
 pub play-requires : goal.play-requires
-play-requires c =
-    let h = c.requires.0 in
-    let t = c.requires.1 in
-    let ready = c.requires.2 in (
-      refl,
+play-requires g c κs within =
+    let h = c.requires.ready.0 in
+    let t = c.requires.ready.1 in
+    let ready = c.requires.ready.2 in
+    let may =
+    may_run h t c.args.self.now ready c.in-Some.world (sym c.in-Some.ensures.value) c.take_batch-batch.result
+    (c.take_batch-batch.ensures.batch h t.book ready.book)
+    (c.a_round_may_be_run.ensures.given h t ready.has.tree ready.has.world ready.has.goes_on ready.may) in (
+      within.0,
       (
-        refl,
-        (
-          frame_of h ready.has.tree,
-          replica_of h t,
-          may_run h t c.args.self.now ready c.in-Some.world (sym c.in-Some.ensures.value) c.take_batch-batch.result
-              (c.take_batch-batch.ensures.batch _ h t.book ready.book)
-              (c.a_round_may_be_run.ensures.given h t ready.has.tree ready.has.world ready.has.goes_on ready.may),
-        ),
+        within.1,
+        (c.type_bounds.sync-G, (c.type_bounds.sync-R, (refl, (refl, (frame_of h ready.has.tree, replica_of h t, may))))),
       ),
     )
 
 pub returns : goal.returns
-returns c = λ h t ready.
+returns g c = λ h t ready.
     let old = c.args.self.now in
     let batch = c.take_batch-batch.result in
-    let brings = c.take_batch-batch.ensures.batch _ h t.book ready.book in
+    let brings = c.take_batch-batch.ensures.batch h t.book ready.book in
     let is = sym c.in-Some.ensures.value in
     let legal = ready.has.goes_on.legal in
     let of_lines = ready.has.goes_on.of_lines in
@@ -51,6 +49,6 @@ returns c = λ h t ready.
           p.round p.ended)
           (λ r u. c.clients_see_all_within_their_radius.ensures h t r u)
           refl refl refl refl c.in_ok-self.ensures.next
-          (c.begin_next.ensures h _ (c.take_batch-batch.ensures.ended _ h t.book ready.book)),
+          (c.begin_next.ensures h _ (c.take_batch-batch.ensures.ended h t.book ready.book)),
       has.whole,
     )

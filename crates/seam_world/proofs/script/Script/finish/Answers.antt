@@ -1,32 +1,31 @@
 use Rattle.std.proofs.Common.{◌≢◌, [], sym, ◌∙◌, append-nil}
 use Rattle.seam_transcript.specs.Book.{open_lines}
-use Rattle.seam_transcript.specs.declared.commands.Commands.TheVariants.{All}
 use Rattle.seam_world.specs.Script.{ScriptRefines}
 use Rattle.seam_world.proofs.Following.{last_round, nothing_open}
 use Rattle.seam_world.proofs.ScriptLemmas.{open_ready}
 use Rattle.seam_world.proofs.script.Script.finish.Goals as goal
 
 pub returns-then-count-eq0 : goal.returns-then-count-eq0
-returns-then-count-eq0 c =
+returns-then-count-eq0 g c =
     λ h t was. (
       [],
-      nothing_open c.args.playing.now.traced h t (sym (c.count.ensures All h t.book was.book) ∙ c.if-count-eq0.true),
+      nothing_open c.args.playing.now.traced h t (sym (c.count.ensures h t.book was.book) ∙ c.if-count-eq0.true),
       sym (append-nil c.args.out.now.items),
     )
 
-pub end_round-requires : goal.end_round-requires
-end_round-requires c =
-    let h = c.requires.0 in
-    let t = c.requires.1 in
-    let was = c.requires.2 in (
+pub end_round-requires-clause-ready : goal.end_round-requires-clause-ready
+end_round-requires-clause-ready g c κs within =
+    let h = c.requires.refines.0 in
+    let t = c.requires.refines.1 in
+    let was = c.requires.refines.2 in (
       h,
       t,
       open_ready h t c.args.self.now was (c.a_round_may_be_run.ensures.some h t)
-          (λ none. c.if-count-eq0.false (c.count.ensures All h t.book was.book ∙ none)),
+          (λ none. c.if-count-eq0.false (c.count.ensures h t.book was.book ∙ none)),
     )
 
 pub returns : goal.returns
-returns c = λ h t was.
-    let some : open_lines t.book ≢ 0 = λ none. c.if-count-eq0.false (c.count.ensures All h t.book was.book ∙ none) in
+returns g c = λ h t was.
+    let some : open_lines t.book ≢ 0 = λ none. c.if-count-eq0.false (c.count.ensures h t.book was.book ∙ none) in
     let e = c.in_ok-end_round.ensures h t (open_ready h t c.args.self.now was (c.a_round_may_be_run.ensures.some h t) some) in
     (e.0, last_round c.args.playing.now.traced h t (λ s. ScriptRefines h s c.end_round.new.self) e.0 _ some e.1, e.2)

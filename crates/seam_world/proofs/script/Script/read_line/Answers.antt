@@ -2,7 +2,6 @@ use Rattle.std.proofs.Common.{refl, subst}
 use Rattle.std.specs.Option.{option_to_list}
 use Rattle.seam_io.specs.Lines.{Content}
 use Rattle.seam_transcript.specs.Texts.{refusal}
-use Rattle.seam_transcript.specs.declared.commands.Commands.TheVariants.{All}
 use Rattle.seam_accept.specs.Refines.{LineRefused}
 use Rattle.seam_world.specs.Script.{ScriptRefines}
 use Rattle.seam_world.proofs.Results.{if_ok}
@@ -10,8 +9,8 @@ use Rattle.seam_world.proofs.Following.{line_read}
 use Rattle.seam_world.proofs.ScriptLemmas.{has_accepted, refused_line}
 use Rattle.seam_world.proofs.script.Script.read_line.Goals as goal
 
-pub follow-requires : goal.follow-requires
-follow-requires c =
+pub follow-requires-clause-accepted : goal.follow-requires-clause-accepted
+follow-requires-clause-accepted g c κs within =
     let h = c.requires.ready.0 in
     let t = c.requires.ready.1 in
     let was = c.requires.ready.2 in
@@ -20,26 +19,26 @@ follow-requires c =
       t,
       line,
       has_accepted h t line c.in-Ok.accepted c.args.self.now _ was refl refl refl refl c.in_ok-self.ensures.next c.in_ok-self.ensures.most
-          (c.in-Ok.ensures.accepted All h t.book was.book),
+          (c.in-Ok.ensures.accepted h t.book was.book),
     )
 
 pub returns-in-Ok : goal.returns-in-Ok
-returns-in-Ok c = if_ok c.follow.result
+returns-in-Ok g c = if_ok c.follow.result
     (λ ended followed h t was.
     let line = Content c.args.line.now in
     let accepted =
     has_accepted h t line c.in-Ok.accepted c.args.self.now _ was refl refl refl refl c.in_ok-self.ensures.next c.in_ok-self.ensures.most
-    (c.in-Ok.ensures.accepted All h t.book was.book) in
+    (c.in-Ok.ensures.accepted h t.book was.book) in
     let f = followed h t line accepted in
     (f.0, line_read c.args.playing.now.traced h t line (λ s. ScriptRefines h s c.follow.new.self) f.0 (option_to_list ended) f.1, f.2))
     c.follow.ensures
 
-pub returns-in-Err-Cause : goal.returns-in-Err-Cause
-returns-in-Err-Cause c = λ h t was. (
-      refusal c.in_ok-self.field-0 c.in-Err-Cause.cause,
-      refused_line h t (c.a_course_begins_and_goes_on.ensures.line h t) (Content c.args.line.now) c.in-Err-Cause.cause c.args.self.now _ was
-          refl refl refl refl c.in_ok-self.ensures.next c.in_ok-self.ensures.most c.in-Err-Cause.ensures.unchanged
-          (subst (LineRefused All h t.book (Content c.args.line.now)) c.in-Err-Cause.field-0-is
-          (c.in-Err-Cause.ensures.refused All h t.book was.book)) c.args.playing.now.traced,
-      c.in_ok-push_refusal.ensures,
-    )
+pub returns-in_ok-push_refusal-in-Err-Cause : goal.returns-in_ok-push_refusal-in-Err-Cause
+returns-in_ok-push_refusal-in-Err-Cause g c = λ h t was. (
+  refusal c.in_ok-self.field-0 c.in-Err-Cause.cause,
+  refused_line h t (c.a_course_begins_and_goes_on.ensures.line h t) (Content c.args.line.now) c.in-Err-Cause.cause c.args.self.now _ was
+      refl refl refl refl c.in_ok-self.ensures.next c.in_ok-self.ensures.most c.in-Err-Cause.ensures.unchanged
+      (subst (LineRefused h t.book (Content c.args.line.now)) c.in-Err-Cause.field-0-is
+      (c.in-Err-Cause.ensures.refused h t.book was.book)) c.args.playing.now.traced,
+  c.in_ok-push_refusal-in-Err-Cause.ensures,
+)

@@ -2,7 +2,6 @@ use Rattle.std.proofs.Common.{refl}
 use Rattle.std.proofs.lemmas.Result.{on_ok_weaker}
 use Rattle.seam_io.specs.Lines.{Long}
 use Rattle.seam_transcript.specs.Texts.{refusal}
-use Rattle.seam_transcript.specs.declared.commands.Commands.TheVariants.{All}
 use Rattle.seam_transcript.specs.declared.verdict.Cause.TheVariants.{TooLong}
 use Rattle.seam_transcript.proofs.Refusals.{long_is_refused}
 use Rattle.seam_world.proofs.ScriptLemmas.{refused_line}
@@ -13,7 +12,7 @@ returns c = on_ok_weaker c.push_refusal.result
     (λ text traced h t was. (
       refusal c.in_ok-self.field-0 TooLong,
       refused_line h t (c.a_course_begins_and_goes_on.ensures.line h t) Long TooLong c.args.self.now _ was refl refl refl refl
-          c.in_ok-self.ensures.next c.in_ok-self.ensures.most refl (long_is_refused All h t.book) traced,
+          c.in_ok-self.ensures.next c.in_ok-self.ensures.most refl (long_is_refused h t.book) traced,
       text,
     ))
     c.push_refusal.ensures
