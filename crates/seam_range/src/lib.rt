@@ -180,8 +180,7 @@ fn key(e: u32, p: Place) -> ((u64, u64), u32)
 fn are_at_one_spot(a: Place, b: Place) -> bool
     ensures { result ≡ same_spot (spot_of a) (spot_of b) }
 {
-    u64::from(a.pos.x) / STRIP_WIDTH == u64::from(b.pos.x) / STRIP_WIDTH
-        && a.pos.z == b.pos.z
+    u64::from(a.pos.x) / STRIP_WIDTH == u64::from(b.pos.x) / STRIP_WIDTH && a.pos.z == b.pos.z
 }
 
 // The first strip that has positions at distance at most d from p.

@@ -29,7 +29,10 @@ fn near_entities_in_rising_number(rt: HostRuntime) -> Result<(), Fail> {
     list.put(1, one)?;
     list.put(3, three)?;
     let corner = Pos { x: 0, z: 0 };
-    assert_eq!(rt; list.within(corner, 5)?.as_slice(), [(1, one), (2, two)].as_slice());
+    assert_eq!(rt;
+        list.within(corner, 5)?.as_slice(),
+        [(1, one), (2, two)].as_slice()
+    );
     assert_eq!(rt;
         list.within(corner, 5_000)?.as_slice(),
         [(1, one), (2, two), (3, three)].as_slice()
@@ -41,6 +44,9 @@ fn near_entities_in_rising_number(rt: HostRuntime) -> Result<(), Fail> {
     assert!(rt; list.remove(2));
     assert!(rt; !list.remove(2));
     assert_eq!(rt; list.within(corner, 6)?.as_slice(), [(3, newer)].as_slice());
-    assert_eq!(rt; list.within(corner, 9)?.as_slice(), [(1, moved), (3, newer)].as_slice());
+    assert_eq!(rt;
+        list.within(corner, 9)?.as_slice(),
+        [(1, moved), (3, newer)].as_slice()
+    );
     Ok(())
 }
