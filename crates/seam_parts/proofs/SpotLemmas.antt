@@ -1,5 +1,6 @@
 -- Where reals and copies are, as it is kept beside them: after a change of one entity, and after a walk over all.
-use Rattle.std.proofs.Common.{◌≡◌, ℕ, ◌<◌, ◌-◌, Bool, true, false, cond, T, find, List, Option, None, Some, refl, sym, ap, subst, ◌∙◌, arith}
+use Rattle.std.proofs.Common.{◌≡◌, ℕ, ◌<◌, ◌-◌, Bool, true, false, cond, T, find, List, Option, None, Some, refl, sym, ap, subst, ◌∙◌}
+use Rattle.std.proofs.Common.{arith}
 use Rattle.std.proofs.Common.{IfSome, is_some, eqb, ◌&&◌, Bor, option_copied}
 use Rattle.std.specs.Prelude.{option_map, nat_lt}
 use Rattle.std.specs.Ordering.{nat_cmp, eq_by_cmp, is_eq}
@@ -21,7 +22,8 @@ use Rattle.seam_steps.proofs.Slots.{get-set_at, set_at-same}
 use Rattle.seam_known.proofs.Sorted.{tied_same}
 use Rattle.seam_known.proofs.Walks.{comes_after, IsBefore, nothing_before, there}
 use Rattle.seam_known.proofs.Knowing.{find_copied, copies_rise}
-use Rattle.seam_parts.specs.Spots.{is_out, is_none_else_out, still_out, AreNoted, AreListed, IsNoted, IsChanged, place_of_real, place_of_copy, real_places}
+use Rattle.seam_parts.specs.Spots.{is_out, is_none_else_out, still_out, AreNoted, AreListed, IsNoted, IsChanged, place_of_real}
+use Rattle.seam_parts.specs.Spots.{place_of_copy, real_places}
 use Rattle.seam_parts.specs.Spots.{copy_places}
 
 -- ---- a list that is kept
@@ -57,7 +59,8 @@ noted_by l out left e o before after are changed others q not =
     by false apart = are q (others q not apart)
 
 -- after the place of one entity changed
-noted_in : (old new : Option Places) (out left : Option ℕ) (e : ℕ) (o : Option Place) (before after : ℕ → Option Place) → IsNoted old new e o →
+noted_in : (old new : Option Places) (out left : Option ℕ) (e : ℕ) (o : Option Place) (before after : ℕ → Option Place) →
+    IsNoted old new e o →
     AreListed old out before → IsChanged before after e o →
     ((q : ℕ) → is_out left q ≡ false → eq_by_cmp nat_cmp q e ≡ false → is_out out q ≡ false) → AreListed new left after
 noted_in old None out left e o before after is are changed others = tt
@@ -84,7 +87,8 @@ noted_after old new out left e o before after is noted are changed =
 -- and the one that is out stays so
 pub noted_beside : (old new : Option Places) (out : Option ℕ) (e : ℕ) (o : Option Place) (before after : ℕ → Option Place) →
     IsNoted old new e o → AreListed old out before → IsChanged before after e o → AreListed new out after
-noted_beside old new out e o before after noted are changed = noted_in old new out out e o before after noted are changed (λ q not apart. not)
+noted_beside old new out e o before after noted are changed = noted_in old new out out e o before after noted are changed
+    (λ q not apart. not)
 
 -- where the entity is out from then on, and no other one was
 pub noted_out : (s : Option Places) (out : Option ℕ) (e : ℕ) (before after : ℕ → Option Place) →
@@ -131,7 +135,8 @@ real_set m e o q =
     ap (option_map place_of_real) (get-set_at m e q o) ∙ map_cond place_of_real (eq_by_cmp nat_cmp q e) o (map.get m q)
 
 -- the places of copies, where that of the entity is known after a change at it
-pub copy_followed : (before now : Map (Ghost GhostCopy)) (e : ℕ) (ghost : Option (Ghost GhostCopy)) (o : Option Place) → now ≡ set_at before e ghost →
+pub copy_followed : (before now : Map (Ghost GhostCopy)) (e : ℕ) (ghost : Option (Ghost GhostCopy)) (o : Option Place) →
+    now ≡ set_at before e ghost →
     copy_places now e ≡ o → (q : ℕ) → copy_places now q ≡ cond (eq_by_cmp nat_cmp q e) o (copy_places before q)
 copy_followed before now e ghost o is at q = by (eq_by_cmp nat_cmp q e) refl
   where
@@ -173,7 +178,8 @@ module _ {X : Type 0} (f : X → Place) (es : List (ℕ × X)) (h : T (is_sorted
   after_later None e q first second = refl
   after_later (Some low) e q first second = grind (arith, nat_tests, first, second)
 
-  pub noted_more : (last : Option ℕ) (l now : Places) (e : ℕ) (x : X) → Some (e, x) ≡ find (comes_after last) es → now ≡ map.insert l e (f x) →
+  pub noted_more : (last : Option ℕ) (l now : Places) (e : ℕ) (x : X) → Some (e, x) ≡ find (comes_after last) es →
+      now ≡ map.insert l e (f x) →
       AreNotedSoFar last l → AreNotedSoFar (Some e) now
   noted_more last l now e x is put are q =
       ap (λ m. map.get m q) put ∙ (map.get-insert nat_cmp_total l e (f x) q ∙ by (nat_cmp q e) refl)

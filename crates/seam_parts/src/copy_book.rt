@@ -1,6 +1,7 @@
 //! The copies of a cell by entity, and where they are.
 
-ghost use Rattle.std.specs.Prelude.{◌≡◌, Option, Some, None, true, false, OnOk, OnErr, IfOk, IfErr, IfSome, find, option_map, option_copied};
+ghost use Rattle.std.specs.Prelude.{◌≡◌, Option, Some, None, true, false, OnOk, OnErr, IfOk, IfErr, IfSome, find, option_map};
+ghost use Rattle.std.specs.Prelude.{option_copied};
 ghost use Rattle.std.specs.FinMap as map;
 ghost use Rattle.std.specs.FinSet as set;
 ghost use Rattle.seam_table.specs.Tables.{is_after};

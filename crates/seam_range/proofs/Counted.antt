@@ -6,7 +6,7 @@ use Rattle.std.specs.Cmp.{nat_cmp_total, eq_by_cmp_equiv}
 use Rattle.std.specs.Map.{keys_of, lookup}
 use Rattle.std.specs.BTreeMap as tree
 use Rattle.std.specs.BTreeMap.{is_at}
-use Rattle.std.specs.List.{IsDistinct, All, AllByRecursion, filter, list_any, count_by}
+use Rattle.std.specs.List.{IsDistinct, AllByRecursion, filter, list_any, count_by}
 use Rattle.std.specs.List.Sorted.{IsPermutation, IsNonDecreasing, IsNonDecreasingBy}
 use Rattle.std.specs.FinMap as map
 use Rattle.std.proofs.lemmas.Bool.Decides.{nat_tests}
@@ -22,7 +22,7 @@ use Rattle.seam_range.specs.declared.Place.{Place}
 use Rattle.seam_range.specs.Found.{count_of, AreInPlace, one_if}
 use Rattle.seam_range.proofs.Moves.{place_of_entry}
 use Rattle.seam_range.proofs.Strips.{same_again}
-use Rattle.seam_range.proofs.Sorted.{same_number, is_number, sorted_same, sorted_by_filter, entries_when_sorted}
+use Rattle.seam_range.proofs.Sorted.{same_number, sorted_same, sorted_by_filter, entries_when_sorted}
 
 -- ---- counts of numbers
 
@@ -38,7 +38,8 @@ none_by x y n false e h = (grind (arith, nat_tests), omega (arith, h))
 
 none_counted : (x : ℕ) (xs : List ℕ) → number_count x xs ≡ 0 → AllByRecursion (λ y. eqb x y ≡ false) xs
 none_counted x [] h = tt
-none_counted x (y ∷ ys) h = let k = none_by x y (number_count x ys) (eqb y x) refl (sym (count_cons x y ys) ∙ h) in (k.0, none_counted x ys k.1)
+none_counted x (y ∷ ys) h =
+    let k = none_by x y (number_count x ys) (eqb y x) refl (sym (count_cons x y ys) ∙ h) in (k.0, none_counted x ys k.1)
 
 distinct_when_counted : (xs : List ℕ) → ((q : ℕ) → number_count q xs ≤ 1) → IsDistinct eqb xs
 unfolding IsDistinct
@@ -106,7 +107,8 @@ same_by_keys f (x ∷ xs) (y ∷ ys) e h k =
 in_filter : (f : ℕ → Option Place) (t : ℕ × Place → Bool) (xs : List (ℕ × Place)) → InPlaces f xs → InPlaces f (filter t xs)
 in_filter f t [] h = tt
 in_filter f t (x ∷ xs) h =
-    elim (t x) as (λ b. InPlaces f (cond b (x ∷ filter t xs) (filter t xs))) [ true ↦ (h.0, in_filter f t xs h.1) | false ↦ in_filter f t xs h.1 ]
+    elim (t x) as (λ b. InPlaces f (cond b (x ∷ filter t xs) (filter t xs)))
+    [ true ↦ (h.0, in_filter f t xs h.1) | false ↦ in_filter f t xs h.1 ]
 
 apart : (x y : ℕ) → is_eq (nat_cmp x y) ≡ false → is_eq (nat_cmp y x) ≡ false
 apart x y h = grind (arith, nat_tests)

@@ -259,7 +259,8 @@ strip_by : (strip : ℕ) (p : Pos) (o : Place) (d q : ℕ) (w : Bool) → is_wit
     (in_run strip p d (spot_of o, q) && w) ≡ (eqb (o.pos.x / STRIP_WIDTH) strip && w)
 strip_by strip p o d q true e =
     let z = z_within p o d e in
-    ap (λ b. b && true) (run_by strip (o.pos.x / STRIP_WIDTH) (p.z - d) ((p.z + d) + 1) o.pos.z q (nat_cmp strip (o.pos.x / STRIP_WIDTH)) refl z.0 z.1)
+    ap (λ b. b && true)
+    (run_by strip (o.pos.x / STRIP_WIDTH) (p.z - d) ((p.z + d) + 1) o.pos.z q (nat_cmp strip (o.pos.x / STRIP_WIDTH)) refl z.0 z.1)
 strip_by strip p o d q false e = and_no (in_run strip p d (spot_of o, q)) ∙ sym (and_no (eqb (o.pos.x / STRIP_WIDTH) strip))
 
 strip_of : (strip : ℕ) (p : Pos) (d q : ℕ) (o : Option Place) →
@@ -296,7 +297,8 @@ listed_each : (m : tree.BTreeMap ℕ Place) (rs : List (Key × Place)) → AllBy
 listed_each m [] h = tt
 listed_each m (r ∷ rs) h = (place_of_entry m r.0.1 ∙ h.0.0, listed_each m rs h.1)
 
-listed_by_filter : (places : Places) (t : Key × Place → Bool) (rs : List (Key × Place)) → AreListed places rs → AreListed places (filter t rs)
+listed_by_filter : (places : Places) (t : Key × Place → Bool) (rs : List (Key × Place)) → AreListed places rs →
+    AreListed places (filter t rs)
 listed_by_filter places t [] h = tt
 listed_by_filter places t (r ∷ rs) h =
     elim (t r) as (λ b. AreListed places (cond b (r ∷ filter t rs) (filter t rs)))
@@ -310,7 +312,8 @@ run_listed m s strip p d i o =
     (located_each m s s.entries i (found_each s.entries (IsDistinct-from_sorted by_spot (keys_of s.entries) o))))
 
 -- an entry passed, of an entity that is near or not
-pub count_when_found : (p : Pos) (d q : ℕ) (items : List (ℕ × Place)) (r : Key × Place) (rest : List (Key × Place)) → is_within p d r.1 ≡ true →
+pub count_when_found : (p : Pos) (d q : ℕ) (items : List (ℕ × Place)) (r : Key × Place) (rest : List (Key × Place)) →
+    is_within p d r.1 ≡ true →
     count_of q (items ++ (r.0.1, r.1) ∷ []) + count_near p d q rest ≡ count_of q items + count_near p d q (r ∷ rest)
 count_when_found p d q items r rest w =
     let a = sum_by_push (λ x. cond (eqb x.0 q) 1 0) items (r.0.1, r.1) in

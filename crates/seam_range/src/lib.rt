@@ -19,6 +19,9 @@ mod tests;
 // The width of the strips of x in which the positions are ordered.
 const STRIP_WIDTH: u64 = 256;
 
+// Where one in so many is near, a walk over all in rising number is quicker than to sort those that are.
+const MANY: usize = 4;
+
 /// Where an entity is, and its version there.
 #[derive(Clone, Copy, Debug, PartialEq, Eq)]
 pub struct Place {
@@ -116,6 +119,9 @@ impl RangeList {
             return self.near_by_entity(p, d);
         }
         let mut found = self.near_by_strip(p, d)?;
+        if found.len() >= self.places.len() / MANY {
+            return self.near_by_entity(p, d);
+        }
         found.sort_unstable_by_key(|(e, _)| *e);
         Ok(found)
     }

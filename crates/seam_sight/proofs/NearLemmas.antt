@@ -84,7 +84,8 @@ module _ (d : CellView) (own : ℕ) (r : Replica) (p : Pos) (reach : ℕ) (is_re
   where_none b None = None
   where_none b (Some x) = cond (not b) (Some x) None
 
-  passing_none : (q : ℕ) (o : Option Place) → passing (λ x. not (is_some (table.get reals x.0))) q o ≡ where_none (is_some (table.get reals q)) o
+  passing_none : (q : ℕ) (o : Option Place) →
+      passing (λ x. not (is_some (table.get reals x.0))) q o ≡ where_none (is_some (table.get reals q)) o
   passing_none q None = refl
   passing_none q (Some x) = refl
 
@@ -104,7 +105,8 @@ module _ (d : CellView) (own : ℕ) (r : Replica) (p : Pos) (reach : ℕ) (is_re
       ≡ passing test q (option_map (place_of q) (known_by d.here x c))
   known_place q (Some x) c = by (test (q, place_of_real x)) (passing test q (option_map place_of_copy c))
     where
-      by : (b : Bool) (o : Option Place) → or_else (cond b (Some (place_of_real x)) None) (where_none true o) ≡ cond b (Some (place_of_real x)) None
+      by : (b : Bool) (o : Option Place) →
+          or_else (cond b (Some (place_of_real x)) None) (where_none true o) ≡ cond b (Some (place_of_real x)) None
       by true o = refl
       by false None = refl
       by false (Some y) = refl
@@ -115,7 +117,8 @@ module _ (d : CellView) (own : ℕ) (r : Replica) (p : Pos) (reach : ℕ) (is_re
       by true = refl
       by false = refl
 
-  apart_or_own : (q : ℕ) (x y : Option Place) (o : Option GhostCopy) → (eqb own q ≡ false → or_else x y ≡ passing test q (option_map (place_of q) o)) →
+  apart_or_own : (q : ℕ) (x y : Option Place) (o : Option GhostCopy) →
+      (eqb own q ≡ false → or_else x y ≡ passing test q (option_map (place_of q) o)) →
       passing (is_other own) q (or_else x y) ≡ passing test q (option_map (place_of q) (unless_self own q o))
   apart_or_own q x y o are = by (eqb q own) refl (or_else x y) are
     where
@@ -179,7 +182,8 @@ module _ (d : CellView) (own : ℕ) (r : Replica) (p : Pos) (reach : ℕ) (is_re
       ∙ ap (filter (is_near r p)) (sym (seen_with_place (known_to d own))))
 
 -- one more that is seen, if it is another one, and what is left after it
-pub merged_more : (own : ℕ) (x : ℕ × Place) (left all : List (ℕ × Place)) (v w : List Seen) (s : Seen) → s ≡ seen_at_place x → all ≡ x ∷ left →
+pub merged_more : (own : ℕ) (x : ℕ × Place) (left all : List (ℕ × Place)) (v w : List Seen) (s : Seen) → s ≡ seen_at_place x →
+    all ≡ x ∷ left →
     w ≡ v ++ seen_if (is_another own s.entity) s →
     w ++ map seen_at_place (filter (is_other own) left) ≡ v ++ map seen_at_place (filter (is_other own) all)
 merged_more own x left all v w s seen is more =

@@ -278,7 +278,8 @@ module _ (r : Replica) (own : Pos) (known : List Seen) (rises : IsStrictlySorted
     itself_later x xs xs (sorted_head nat_cmp x.entity (entities xs) o) (each_itself xs (sorted_tail nat_cmp x.entity (entities xs) o)),
   )
 
-  enters_agree : (xs : List Seen) → AllByRecursion (IsItself known) xs → AllByRecursion (λ s. enters r own s ≡ true → Agree (Enter s.entity)) xs
+  enters_agree : (xs : List Seen) → AllByRecursion (IsItself known) xs →
+      AllByRecursion (λ s. enters r own s ≡ true → Agree (Enter s.entity)) xs
   enters_agree [] h = tt
   enters_agree (x ∷ xs) h = (
     λ is. seen_near x.entity ∙ (ap (passing t) h.0

@@ -1,6 +1,7 @@
 //! What a cell knows of others that are near, by the lists of places that are kept beside its reals and copies.
 
-ghost use Rattle.std.specs.Prelude.{◌≡◌, ◌<◌, ◌+◌, ◌++◌, [], ◌∷◌, length, map, filter, not, IfOk, OnOk, IfSome, IfNone, option_map, if◌then◌else◌};
+ghost use Rattle.std.specs.Prelude.{◌≡◌, ◌<◌, ◌+◌, ◌++◌, [], ◌∷◌, length, map, filter, not, IfOk, OnOk, IfSome, IfNone, option_map};
+ghost use Rattle.std.specs.Prelude.{if◌then◌else◌};
 ghost use Rattle.std.specs.List.Sorted.{IsStrictlySortedBy};
 ghost use Rattle.std.specs.Ordering.{nat_cmp};
 ghost use Rattle.seam_view.specs.Replica.{IsView, seen_of};

@@ -4,5 +4,5 @@ use Rattle.seam_parts.proofs.spots.note.Goals as goal
 
 pub returns : goal.returns
 returns c before after are changed =
-    noted_after c.args.spots.now.list _ c.args.spots.now.out c.still_out-spots.result c.args.e (Some c.args.p) before after c.still_out-spots.ensures
-    c.set.ensures are changed
+    noted_after c.args.spots.now.list _ c.args.spots.now.out c.still_out-spots.result c.args.e (Some c.args.p) before after
+    c.still_out-spots.ensures c.set.ensures are changed

@@ -14,7 +14,8 @@ returns c = λ k.
     let l = c.in-Some-spots_beside.reals.now in
     let reals = c.deref-2.ensures.value ∙ c.in_ok-near_reals.ensures in
     let copies = c.deref.ensures.value ∙ c.in_ok-near_copies.ensures in
+    let left = c.deref-3.ensures.value ∙ (c.in_ok-only_copies.ensures ∙ ap (unlisted l) copies) in
     c.in_ok-seen.ensures
-    ∙ ((λ i. map seen_at_place (filter (is_other own) (merged (reals i) ((c.deref-3.ensures.value ∙ (c.in_ok-only_copies.ensures ∙ ap (unlisted l) copies)) i))))
+    ∙ ((λ i. map seen_at_place (filter (is_other own) (merged (reals i) (left i))))
     ∙ near_are d own c.args.view.now.core c.args.own c.in-Some.reach c.in-Some.ensures l c.in-Some-spots_beside-2.copies.now
     c.in-Some-spots_beside.ensures c.in-Some-spots_beside-2.ensures)
