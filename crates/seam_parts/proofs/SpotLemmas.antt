@@ -1,6 +1,7 @@
 -- Where reals and copies are, as it is kept beside them: after a change of one entity, and after a walk over all.
-use Rattle.std.proofs.Common.{◌≡◌, ℕ, ◌<◌, ◌-◌, Bool, true, false, cond, T, find, List, Option, None, Some, refl, sym, ap, subst, ◌∙◌, arith}
-use Rattle.std.proofs.Common.{IfSome, is_some, eqb, ◌&&◌}
+use Rattle.std.proofs.Common.{◌≡◌, ℕ, ◌<◌, ◌-◌, Bool, true, false, cond, T, find, List, Option, None, Some, refl, sym, ap, subst, ◌∙◌}
+use Rattle.std.proofs.Common.{arith}
+use Rattle.std.proofs.Common.{IfSome, is_some, eqb, ◌&&◌, Bor, option_copied}
 use Rattle.std.specs.Prelude.{option_map, nat_lt}
 use Rattle.std.specs.Ordering.{nat_cmp, eq_by_cmp, is_eq}
 use Rattle.std.specs.declared.cmp.Ordering.{Ordering}
@@ -9,8 +10,8 @@ use Rattle.std.specs.Cmp.{nat_cmp_total}
 use Rattle.std.specs.FinMap as map
 use Rattle.std.specs.FinMap.Entries.{is_sorted}
 use Rattle.std.proofs.lemmas.Bool.Decides.{nat_tests}
-use Rattle.seam_geo.specs.declared.pos.Pos.{Pos}
 use Rattle.seam_table.specs.Tables.{is_after}
+use Rattle.seam_range.specs.declared.Place.{Place}
 use Rattle.seam_range.specs.Places.{Places}
 use Rattle.seam_ghosts.specs.declared.Ghost.{Ghost}
 use Rattle.seam_ghosts.specs.Book.{copy_in, copied}
@@ -21,60 +22,106 @@ use Rattle.seam_steps.proofs.Slots.{get-set_at, set_at-same}
 use Rattle.seam_known.proofs.Sorted.{tied_same}
 use Rattle.seam_known.proofs.Walks.{comes_after, IsBefore, nothing_before, there}
 use Rattle.seam_known.proofs.Knowing.{find_copied, copies_rise}
-use Rattle.seam_parts.specs.Spots.{AreNoted, AreKeptNoted, IsNoted, place_of_real, place_of_copy, real_places, copy_places}
+use Rattle.seam_parts.specs.Spots.{is_out, is_none_else_out, still_out, AreNoted, AreListed, IsNoted, IsChanged, place_of_real}
+use Rattle.seam_parts.specs.Spots.{place_of_copy, real_places}
+use Rattle.seam_parts.specs.Spots.{copy_places}
 
 -- ---- a list that is kept
 
 -- to put what is there changes nothing
-pub put_there : (l : Places) (e : ℕ) (p : Pos) → map.get l e ≡ Some p → l ≡ map.insert l e p
+pub put_there : (l : Places) (e : ℕ) (p : Place) → map.get l e ≡ Some p → l ≡ map.insert l e p
 put_there l e p at = sym (ap (set_at l e) (sym at) ∙ set_at-same l e)
 
 both_true : (a b : Bool) → (a && b) ≡ true → (a ≡ true) × (b ≡ true)
 both_true true b h = (refl, h)
 both_true false b h = cc
 
-pub same_pos : (a b : Pos) → (eqb a.x b.x && eqb a.z b.z) ≡ true → a ≡ b
-same_pos a b same =
-    let tests = both_true (eqb a.x b.x) (eqb a.z b.z) same in
+pub same_place : (a b : Place) → (eqb a.version b.version && (eqb a.pos.x b.pos.x && eqb a.pos.z b.pos.z)) ≡ true → a ≡ b
+same_place a b same =
+    let tests = both_true (eqb a.version b.version) (eqb a.pos.x b.pos.x && eqb a.pos.z b.pos.z) same in
+    let spots = both_true (eqb a.pos.x b.pos.x) (eqb a.pos.z b.pos.z) tests.1 in
     let first = tests.0 in
-    let second = tests.1 in
-    let x : a.x ≡ b.x = grind (arith, nat_tests, first) in
-    let z : a.z ≡ b.z = grind (arith, nat_tests, second) in
-    λ i. record { x = x i; z = z i }
+    let second = spots.0 in
+    let third = spots.1 in
+    let version : a.version ≡ b.version = grind (arith, nat_tests, first) in
+    let x : a.pos.x ≡ b.pos.x = grind (arith, nat_tests, second) in
+    let z : a.pos.z ≡ b.pos.z = grind (arith, nat_tests, third) in
+    λ i. record { version = version i; pos = record { x = x i; z = z i } }
 
-noted_by : (l : Places) (e : ℕ) (o : Option Pos) (before after : ℕ → Option Pos) → AreNoted l before →
-    ((q : ℕ) → after q ≡ cond (eq_by_cmp nat_cmp q e) o (before q)) → AreNoted (set_at l e o) after
-noted_by l e o before after are changed q p at =
-    get-set_at l e q o ∙ by (eq_by_cmp nat_cmp q e) (sym (changed q) ∙ at)
+noted_by : (l : Places) (out left : Option ℕ) (e : ℕ) (o : Option Place) (before after : ℕ → Option Place) → AreNoted l out before →
+    IsChanged before after e o → ((q : ℕ) → is_out left q ≡ false → eq_by_cmp nat_cmp q e ≡ false → is_out out q ≡ false) →
+    AreNoted (set_at l e o) left after
+noted_by l out left e o before after are changed others q not =
+    get-set_at l e q o ∙ (by (eq_by_cmp nat_cmp q e) refl ∙ sym (changed q))
   where
-    by : (b : Bool) → cond b o (before q) ≡ Some p → cond b o (map.get l q) ≡ Some p
-    by true h = h
-    by false h = are q p h
+    by : (b : Bool) → eq_by_cmp nat_cmp q e ≡ b → cond b o (map.get l q) ≡ cond b o (before q)
+    by true same = refl
+    by false apart = are q (others q not apart)
 
 -- after the place of one entity changed
-pub noted_after : (old new : Option Places) (e : ℕ) (o : Option Pos) (before after : ℕ → Option Pos) → IsNoted old new e o →
-    AreKeptNoted old before → ((q : ℕ) → after q ≡ cond (eq_by_cmp nat_cmp q e) o (before q)) → AreKeptNoted new after
-noted_after old None e o before after is are changed = tt
-noted_after old (Some l) e o before after is are changed =
+noted_in : (old new : Option Places) (out left : Option ℕ) (e : ℕ) (o : Option Place) (before after : ℕ → Option Place) →
+    IsNoted old new e o →
+    AreListed old out before → IsChanged before after e o →
+    ((q : ℕ) → is_out left q ≡ false → eq_by_cmp nat_cmp q e ≡ false → is_out out q ≡ false) → AreListed new left after
+noted_in old None out left e o before after is are changed others = tt
+noted_in old (Some l) out left e o before after is are changed others =
     let k = is.0 in
-    subst (λ m. AreNoted m after) (sym is.1.1)
-    (noted_by k e o before after (subst (λ s. AreKeptNoted s before) is.1.0 are) changed)
+    subst (λ m. AreNoted m left after) (sym is.1.1)
+    (noted_by k out left e o before after (subst (λ s. AreListed s out before) is.1.0 are) changed others)
 
-pub noted_moved : (old : Option Places) (k : Places) (o : Option Places) (e : ℕ) (p : Pos) → old ≡ Some k →
+others_in : (out : Option ℕ) (e q : ℕ) → is_out (still_out out e) q ≡ false → eq_by_cmp nat_cmp q e ≡ false → is_out out q ≡ false
+others_in None e q not apart = refl
+others_in (Some x) e q not apart = by (eqb x e) refl not
+  where
+    by : (b : Bool) → eqb x e ≡ b → is_out (cond b None (Some x)) q ≡ false → eqb x q ≡ false
+    by true same h = grind (arith, nat_tests)
+    by false other h = h
+
+-- and the entity is not out from then on
+pub noted_after : (old new : Option Places) (out left : Option ℕ) (e : ℕ) (o : Option Place) (before after : ℕ → Option Place) →
+    left ≡ still_out out e → IsNoted old new e o → AreListed old out before → IsChanged before after e o → AreListed new left after
+noted_after old new out left e o before after is noted are changed =
+    noted_in old new out left e o before after noted are changed
+    (λ q not apart. others_in out e q (ap (λ x. is_out x q) (sym is) ∙ not) apart)
+
+-- and the one that is out stays so
+pub noted_beside : (old new : Option Places) (out : Option ℕ) (e : ℕ) (o : Option Place) (before after : ℕ → Option Place) →
+    IsNoted old new e o → AreListed old out before → IsChanged before after e o → AreListed new out after
+noted_beside old new out e o before after noted are changed = noted_in old new out out e o before after noted are changed
+    (λ q not apart. not)
+
+-- where the entity is out from then on, and no other one was
+pub noted_out : (s : Option Places) (out : Option ℕ) (e : ℕ) (before after : ℕ → Option Place) →
+    ((q : ℕ) → eqb e q ≡ false → is_out out q ≡ false) → AreListed s out before → IsChanged before after e None → AreListed s (Some e) after
+noted_out None out e before after others are changed = tt
+noted_out (Some l) out e before after others are changed = λ q not.
+    let apart : eq_by_cmp nat_cmp q e ≡ false = grind (arith, nat_tests, not) in
+    are q (others q not) ∙ sym (changed q ∙ ap (λ b. cond b None (before q)) apart)
+
+pub none_else : (out : Option ℕ) (e : ℕ) → is_none_else_out out e ≡ true → (q : ℕ) → eqb e q ≡ false → is_out out q ≡ false
+none_else None e is q not = refl
+none_else (Some x) e is q not = grind (arith, nat_tests, is, not)
+
+-- of entities other than e, where none but e is out
+pub noted_others : (s : Option Places) (out : Option ℕ) (e : ℕ) (place : ℕ → Option Place) →
+    ((q : ℕ) → eqb e q ≡ false → is_out out q ≡ false) → AreListed s out place → IfSome s (λ l. AreNoted l (Some e) place)
+noted_others None out e place others are = tt
+noted_others (Some l) out e place others are = λ q not. are q (others q not)
+
+pub copied_has : (o : Option (Bor Places)) (s : Option Places) (P : Places → Type 0) → option_copied o ≡ s → IfSome s P →
+    IfSome o (λ l. P l.now)
+copied_has None s P is h = tt
+copied_has (Some l) s P is h = subst (λ x. IfSome x P) (sym is) h
+
+pub noted_moved : (old : Option Places) (k : Places) (o : Option Places) (e : ℕ) (p : Place) → old ≡ Some k →
     IfSome o (λ l. l ≡ map.insert k e p) → IsNoted old o e (Some p)
 noted_moved old k None e p is put = tt
 noted_moved old k (Some l) e p is put = (k, (is, put))
 
 -- where no list is kept
-pub none_kept : (s : Option Places) (place : ℕ → Option Pos) → is_some s ≡ false → AreKeptNoted s place
-none_kept None place is = tt
-none_kept (Some l) place is = cc
-
--- where fewer have a place
-pub fewer_noted : (s : Option Places) (before after : ℕ → Option Pos) → AreKeptNoted s before →
-    ((q : ℕ) (p : Pos) → after q ≡ Some p → before q ≡ Some p) → AreKeptNoted s after
-fewer_noted None before after are fewer = tt
-fewer_noted (Some l) before after are fewer = λ q p at. are q p (fewer q p at)
+pub none_kept : (s : Option Places) (out : Option ℕ) (place : ℕ → Option Place) → is_some s ≡ false → AreListed s out place
+none_kept None out place is = tt
+none_kept (Some l) out place is = cc
 
 -- ---- places of reals and copies after a change
 
@@ -87,15 +134,9 @@ pub real_set : (m : Map RealView) (e : ℕ) (o : Option RealView) (q : ℕ) →
 real_set m e o q =
     ap (option_map place_of_real) (get-set_at m e q o) ∙ map_cond place_of_real (eq_by_cmp nat_cmp q e) o (map.get m q)
 
-pub real_taken : (m : Map RealView) (e q : ℕ) (p : Pos) → real_places (map.remove m e) q ≡ Some p → real_places m q ≡ Some p
-real_taken m e q p at = by (eq_by_cmp nat_cmp q e) (sym (real_set m e None q) ∙ at)
-  where
-    by : (b : Bool) → cond b None (real_places m q) ≡ Some p → real_places m q ≡ Some p
-    by true h = cc
-    by false h = h
-
 -- the places of copies, where that of the entity is known after a change at it
-pub copy_followed : (before now : Map (Ghost GhostCopy)) (e : ℕ) (ghost : Option (Ghost GhostCopy)) (o : Option Pos) → now ≡ set_at before e ghost →
+pub copy_followed : (before now : Map (Ghost GhostCopy)) (e : ℕ) (ghost : Option (Ghost GhostCopy)) (o : Option Place) →
+    now ≡ set_at before e ghost →
     copy_places now e ≡ o → (q : ℕ) → copy_places now q ≡ cond (eq_by_cmp nat_cmp q e) o (copy_places before q)
 copy_followed before now e ghost o is at q = by (eq_by_cmp nat_cmp q e) refl
   where
@@ -116,62 +157,67 @@ pub fewer_left : (last : Option ℕ) (e : ℕ) → is_after last e ≡ true → 
 fewer_left None e after small = omega (arith, small)
 fewer_left (Some low) e after small = let lt : low < e = grind (arith, nat_tests, after) in omega (arith, small, lt)
 
-none_is_some : {A X : Type 0} (o : Option X) (x : X) → o ≡ None → o ≡ Some x → A
-none_is_some o x n s = cc
-
-module _ {X : Type 0} (f : X → Pos) (es : List (ℕ × X)) (h : T (is_sorted nat_cmp es)) where
-  -- those that do not come after the last one are noted
+module _ {X : Type 0} (f : X → Place) (es : List (ℕ × X)) (h : T (is_sorted nat_cmp es)) where
+  -- just those are noted that do not come after the last one
   abbrev pub AreNotedSoFar : Option ℕ → Places → Type 0
-  AreNotedSoFar last l = (q : ℕ) (x : X) → map.find nat_cmp q es ≡ Some x → is_after last q ≡ false → map.get l q ≡ Some (f x)
+  AreNotedSoFar last l = (q : ℕ) → map.get l q ≡ cond (is_after last q) None (option_map f (map.find nat_cmp q es))
 
-  pub none_noted : (l : Places) → AreNotedSoFar None l
-  none_noted l q x at not = cc
+  pub none_noted : (l : Places) → l ≡ map.empty → AreNotedSoFar None l
+  none_noted l is q = ap (λ m. map.get m q) is ∙ map.get-empty nat_cmp q
 
   -- one that comes before what the walk finds is noted
-  noted_before : (last : Option ℕ) (l : Places) (o : Option (ℕ × X)) → AreNotedSoFar last l → find (comes_after last) es ≡ o → (q : ℕ) (x : X) →
-      IsBefore q o → map.find nat_cmp q es ≡ Some x → map.get l q ≡ Some (f x)
-  noted_before last l o are is q x before at = by (is_after last q) refl
+  noted_before : (last : Option ℕ) (l : Places) (o : Option (ℕ × X)) → AreNotedSoFar last l → find (comes_after last) es ≡ o → (q : ℕ) →
+      IsBefore q o → map.get l q ≡ option_map f (map.find nat_cmp q es)
+  noted_before last l o are is q before = are q ∙ by (is_after last q) refl
     where
-      by : (b : Bool) → is_after last q ≡ b → map.get l q ≡ Some (f x)
-      by true after = none_is_some (map.find nat_cmp q es) x (nothing_before last es o h is q after before) at
-      by false after = are q x at after
+      by : (b : Bool) → is_after last q ≡ b → cond b None (option_map f (map.find nat_cmp q es)) ≡ option_map f (map.find nat_cmp q es)
+      by true after = sym (ap (option_map f) (nothing_before last es o h is q after before))
+      by false after = refl
 
-  pub noted_more : (last : Option ℕ) (l now : Places) (e : ℕ) (x : X) → Some (e, x) ≡ find (comes_after last) es → now ≡ map.insert l e (f x) →
+  after_later : (last : Option ℕ) (e q : ℕ) → is_after last e ≡ true → nat_lt e q ≡ true → is_after last q ≡ true
+  after_later None e q first second = refl
+  after_later (Some low) e q first second = grind (arith, nat_tests, first, second)
+
+  pub noted_more : (last : Option ℕ) (l now : Places) (e : ℕ) (x : X) → Some (e, x) ≡ find (comes_after last) es →
+      now ≡ map.insert l e (f x) →
       AreNotedSoFar last l → AreNotedSoFar (Some e) now
-  noted_more last l now e x is put are q y at not =
+  noted_more last l now e x is put are q =
       ap (λ m. map.get m q) put ∙ (map.get-insert nat_cmp_total l e (f x) q ∙ by (nat_cmp q e) refl)
     where
-      here : map.find nat_cmp e es ≡ Some x
-      here = (there last es (e, x) h (sym is)).0
+      here : (map.find nat_cmp e es ≡ Some x) × (is_after last e ≡ true)
+      here = there last es (e, x) h (sym is)
 
-      by : (r : Ordering) → nat_cmp q e ≡ r → cond (is_eq r) (Some (f x)) (map.get l q) ≡ Some (f y)
-      by Less less = noted_before last l (Some (e, x)) are (sym is) q y less at
+      by : (r : Ordering) → nat_cmp q e ≡ r →
+          cond (is_eq r) (Some (f x)) (map.get l q) ≡ cond (nat_lt e q) None (option_map f (map.find nat_cmp q es))
+      by Less less =
+          let not : nat_lt e q ≡ false = grind (arith, nat_tests, less) in
+          noted_before last l (Some (e, x)) are (sym is) q less
+          ∙ sym (ap (λ b. cond b None (option_map f (map.find nat_cmp q es))) not)
       by Equal same =
           let key : q ≡ e = map.nat_cmp-IsAntisymmetric q e same in
-          let value : Some x ≡ Some y = sym here ∙ (ap (λ k. map.find nat_cmp k es) (sym key) ∙ at) in
-          ap (option_map f) value
-      by Greater more = let wrong : nat_lt e q ≡ true = grind (arith, nat_tests, more) in cc
+          let not : nat_lt e q ≡ false = grind (arith, nat_tests, key) in
+          sym (ap (λ b. cond b None (option_map f (map.find nat_cmp q es))) not
+          ∙ ap (option_map f) (ap (λ k. map.find nat_cmp k es) key ∙ here.0))
+      by Greater more =
+          let later : nat_lt e q ≡ true = grind (arith, nat_tests, more) in
+          are q
+          ∙ (ap (λ b. cond b None (option_map f (map.find nat_cmp q es))) (after_later last e q here.1 later)
+          ∙ sym (ap (λ b. cond b None (option_map f (map.find nat_cmp q es))) later))
 
-  pub all_noted : (last : Option ℕ) (l : Places) → None ≡ find (comes_after last) es → AreNotedSoFar last l → (q : ℕ) (x : X) →
-      map.find nat_cmp q es ≡ Some x → map.get l q ≡ Some (f x)
-  all_noted last l none are q x at = noted_before last l None are (sym none) q x tt at
-
-placed : {X : Type 0} (f : X → Pos) (l : Places) (q : ℕ) (o : Option X) (p : Pos) → option_map f o ≡ Some p →
-    ((x : X) → o ≡ Some x → map.get l q ≡ Some (f x)) → map.get l q ≡ Some p
-placed f l q None p at noted = cc
-placed f l q (Some x) p at noted = noted x refl ∙ at
+  pub all_noted : (last : Option ℕ) (l : Places) → None ≡ find (comes_after last) es → AreNotedSoFar last l → (q : ℕ) →
+      map.get l q ≡ option_map f (map.find nat_cmp q es)
+  all_noted last l none are q = noted_before last l None are (sym none) q tt
 
 -- after a walk over all reals, or all copies, all of them are noted
 pub reals_noted : (m : Map RealView) (last : Option ℕ) (l : Places) → None ≡ find (comes_after last) (map.entries m) →
-    AreNotedSoFar place_of_real (map.entries m) (map.entries_sorted m) last l → AreNoted l (real_places m)
-reals_noted m last l none are q p at =
-    placed place_of_real l q (map.get m q) p at
-    (λ x is. all_noted place_of_real (map.entries m) (map.entries_sorted m) last l none are q x (sym (map.get-entries m q) ∙ is))
+    AreNotedSoFar place_of_real (map.entries m) (map.entries_sorted m) last l → AreNoted l None (real_places m)
+reals_noted m last l none are q not =
+    all_noted place_of_real (map.entries m) (map.entries_sorted m) last l none are q
+    ∙ ap (option_map place_of_real) (sym (map.get-entries m q))
 
 pub copies_noted : (m : Map (Ghost GhostCopy)) (last : Option ℕ) (l : Places) → None ≡ find (comes_after last) (copied (map.entries m)) →
     AreNotedSoFar place_of_copy (copied (map.entries m)) (copies_rise (map.entries m) (map.entries_sorted m)) last l →
-    AreNoted l (copy_places m)
-copies_noted m last l none are q p at =
-    placed place_of_copy l q (copy_in (map.get m q)) p at
-    (λ x is. all_noted place_of_copy (copied (map.entries m)) (copies_rise (map.entries m) (map.entries_sorted m)) last l none are q x
-    (find_copied q (map.entries m) (map.entries_sorted m) ∙ (ap copy_in (sym (map.get-entries m q)) ∙ is)))
+    AreNoted l None (copy_places m)
+copies_noted m last l none are q not =
+    all_noted place_of_copy (copied (map.entries m)) (copies_rise (map.entries m) (map.entries_sorted m)) last l none are q
+    ∙ ap (option_map place_of_copy) (find_copied q (map.entries m) (map.entries_sorted m) ∙ ap copy_in (sym (map.get-entries m q)))

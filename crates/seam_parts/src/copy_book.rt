@@ -1,6 +1,7 @@
 //! The copies of a cell by entity, and where they are.
 
-ghost use Rattle.std.specs.Prelude.{◌≡◌, Option, Some, None, true, false, OnOk, OnErr, IfOk, IfErr, IfSome, find, option_map, option_copied};
+ghost use Rattle.std.specs.Prelude.{◌≡◌, Option, Some, None, true, false, OnOk, OnErr, IfOk, IfErr, IfSome, find, option_map};
+ghost use Rattle.std.specs.Prelude.{option_copied};
 ghost use Rattle.std.specs.FinMap as map;
 ghost use Rattle.std.specs.FinSet as set;
 ghost use Rattle.seam_table.specs.Tables.{is_after};
@@ -8,13 +9,13 @@ ghost use Rattle.seam_ghosts.specs.declared.Ghost.{Ghost};
 ghost use Rattle.seam_ghosts.specs.Book.{copies, copy_of, ghost_after};
 ghost use Rattle.seam_call.specs.declared.shown.GhostCopy.{GhostCopy as AnyCopy};
 ghost use Rattle.seam_steps.specs.Maps.{Map, set_at};
-ghost use Rattle.seam_parts.specs.Spots.{AreNoted, AreKeptNoted, copy_places};
+ghost use Rattle.seam_parts.specs.Spots.{AreNoted, AreKeptNoted, place_of_copy, copy_places};
 
-use crate::spots::{forget, note, put};
+use crate::spots::{Spots, beside, forget, note, put};
 use seam_call::GhostCopy;
 use seam_ghosts::GhostBook;
 use seam_memory::NoMemoryFor;
-use seam_range::RangeList;
+use seam_range::{Place, RangeList};
 use std::alloc::{AllocError, Global};
 use std::marker::Model;
 
@@ -22,7 +23,7 @@ use std::marker::Model;
 #[derive(Drop)]
 pub struct CopyBook {
     book: GhostBook<GhostCopy>,
-    spots: Option<RangeList>,
+    spots: Spots,
 }
 
 impl Model for CopyBook {
@@ -42,29 +43,39 @@ impl Model for CopyBook {
     ghost invariant = { λ b. AreKeptNoted b.spots (copy_places b.book.ghosts) };
 }
 
+// Where the copy is.
+fn place_of(copy: &GhostCopy) -> Place
+    ensures { result ≡ place_of_copy copy.now }
+{
+    Place {
+        version: copy.version,
+        pos: copy.state.pos,
+    }
+}
+
 // Where all the copies are.
 fn places_of(alloc: Global, book: &GhostBook<GhostCopy>) -> Result<RangeList, AllocError>
-    ensures { IfOk result (λ l. AreNoted l (copy_places book.now.ghosts)) }
+    ensures { IfOk result (λ l. AreNoted l None (copy_places book.now.ghosts)) }
 {
     let mut list = RangeList::new(alloc);
     let mut last = None;
     while let Some((e, copy)) = book.next_after(last) {
-        put(&mut list, e, copy.state.pos)?;
+        put(&mut list, e, place_of(copy))?;
         last = Some(e);
     }
     Ok(list)
 }
 
 // Notes where the entity's copy is after a message about it.
-fn follow(book: &GhostBook<GhostCopy>, e: u32, spots: &mut Option<RangeList>)
+fn follow(book: &GhostBook<GhostCopy>, e: u32, spots: &mut Spots)
     ensures { (before : Map (Ghost AnyCopy)) (g : Option (Ghost AnyCopy)) → book.now.ghosts ≡ set_at before e g →
         AreKeptNoted spots.old (copy_places before) → AreKeptNoted spots.new (copy_places book.now.ghosts) }
 {
-    if spots.is_none() {
+    if spots.list.is_none() {
         return;
     }
     match book.get(e) {
-        Some(copy) => note(spots, e, copy.state.pos),
+        Some(copy) => note(spots, e, place_of(copy)),
         None => forget(spots, e),
     }
 }
@@ -76,7 +87,7 @@ impl CopyBook {
     {
         CopyBook {
             book: GhostBook::new(alloc),
-            spots: None,
+            spots: Spots::none(),
         }
     }
 
@@ -149,15 +160,18 @@ impl CopyBook {
     pub fn locate(&mut self, alloc: Global)
         ensures { self.new ≡ self.old }
     {
-        if self.spots.is_none() {
-            self.spots = places_of(alloc, &self.book).ok();
+        if self.spots.list.is_none() {
+            self.spots = Spots {
+                list: places_of(alloc, &self.book).ok(),
+                out: None,
+            };
         }
     }
 
-    /// Where the copies are, if it is kept. Others may be in the list too.
-    pub fn spots(&self) -> Option<&RangeList>
-        ensures { IfSome result (λ l. AreNoted l.now (copy_places self.now.ghosts)) }
+    /// Where the copies of other entities are, and at which version, if it is kept.
+    pub fn spots_beside(&self, e: u32) -> Option<&RangeList>
+        ensures { IfSome result (λ l. AreNoted l.now (Some e) (copy_places self.now.ghosts)) }
     {
-        self.spots.as_ref()
+        beside(&self.spots, e)
     }
 }

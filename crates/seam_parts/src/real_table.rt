@@ -1,14 +1,14 @@
 //! The reals of a cell by entity, and where they are.
 
-ghost use Rattle.std.specs.Prelude.{◌≡◌, true, false, OnOk, OnErr, IfOk, IfSome, find, option_map, option_copied};
+ghost use Rattle.std.specs.Prelude.{◌≡◌, Some, None, true, false, OnOk, OnErr, IfOk, IfSome, find, option_map, option_copied};
 ghost use Rattle.std.specs.FinMap as map;
 ghost use Rattle.std.specs.FinSet as set;
 ghost use Rattle.seam_table.specs.Tables.{with_item, without_item, without_room, is_after};
-ghost use Rattle.seam_parts.specs.Spots.{AreNoted, real_places};
+ghost use Rattle.seam_parts.specs.Spots.{AreNoted, place_of_real, real_places};
 
-use crate::spots::{forget, note, put};
-use seam_entity::Parcel;
-use seam_range::RangeList;
+use crate::spots::{Spots, beside, forget, let_out, note, put};
+use seam_entity::{Parcel, Real};
+use seam_range::{Place, RangeList};
 use seam_table::Table;
 use std::alloc::{AllocError, Global};
 use std::marker::Model;
@@ -17,7 +17,7 @@ use std::marker::Model;
 #[derive(Drop)]
 pub struct RealTable {
     items: Table<Parcel>,
-    spots: Option<RangeList>,
+    spots: Spots,
 }
 
 impl Model for RealTable {
@@ -37,14 +37,24 @@ impl Model for RealTable {
     ghost invariant = { λ t. AreKeptNoted t.spots (real_places t.items.items) };
 }
 
+// Where the real is.
+fn place_of(real: &Real) -> Place
+    ensures { result ≡ place_of_real real.now.core }
+{
+    Place {
+        version: real.public_version(),
+        pos: real.state().pos,
+    }
+}
+
 // Where all the reals are.
 fn places_of(alloc: Global, items: &Table<Parcel>) -> Result<RangeList, AllocError>
-    ensures { IfOk result (λ l. AreNoted l (real_places items.now.items)) }
+    ensures { IfOk result (λ l. AreNoted l None (real_places items.now.items)) }
 {
     let mut list = RangeList::new(alloc);
     let mut last = None;
     while let Some((e, parcel)) = items.next_after(last) {
-        put(&mut list, e, parcel.real.state().pos)?;
+        put(&mut list, e, place_of(&parcel.real))?;
         last = Some(e);
     }
     Ok(list)
@@ -57,7 +67,7 @@ impl RealTable {
     {
         RealTable {
             items: Table::new(alloc),
-            spots: None,
+            spots: Spots::none(),
         }
     }
 
@@ -87,7 +97,7 @@ impl RealTable {
         ensures after { self.new ≡ with_item self.old e parcel }
         ensures room { self.new.room ≡ self.old.room }
     {
-        note(&mut self.spots, e, parcel.real.state().pos);
+        note(&mut self.spots, e, place_of(&parcel.real));
         self.items.put_reserved(e, parcel)
     }
 
@@ -97,6 +107,7 @@ impl RealTable {
         ensures after { self.new ≡ without_item self.old e }
         ensures room { IfSome result (λ _. set.contains self.new.room e ≡ true) }
     {
+        let_out(&mut self.spots, e);
         self.items.take(e)
     }
 
@@ -120,15 +131,18 @@ impl RealTable {
     pub fn locate(&mut self, alloc: Global)
         ensures { self.new ≡ self.old }
     {
-        if self.spots.is_none() {
-            self.spots = places_of(alloc, &self.items).ok();
+        if self.spots.list.is_none() {
+            self.spots = Spots {
+                list: places_of(alloc, &self.items).ok(),
+                out: None,
+            };
         }
     }
 
-    /// Where the reals are, if it is kept. Others may be in the list too.
-    pub fn spots(&self) -> Option<&RangeList>
-        ensures { IfSome result (λ l. AreNoted l.now (real_places self.now.items)) }
+    /// Where the reals of other entities are, and at which public version, if it is kept.
+    pub fn spots_beside(&self, e: u32) -> Option<&RangeList>
+        ensures { IfSome result (λ l. AreNoted l.now (Some e) (real_places self.now.items)) }
     {
-        self.spots.as_ref()
+        beside(&self.spots, e)
     }
 }

@@ -1,15 +1,34 @@
-//! Where entities are, as long as it is kept.
+//! Where entities are, and at which version, as long as it is kept.
 
-ghost use Rattle.std.specs.Prelude.{◌≡◌, ◌<◌, ◌^◌, IfSome, OnOk, None, Some};
+ghost use Rattle.std.specs.Prelude.{◌≡◌, ℕ, ◌<◌, ◌^◌, Option, IfSome, OnOk, None, Some};
 ghost use Rattle.std.specs.FinMap as map;
-ghost use Rattle.seam_parts.specs.Spots.{IsNoted};
+ghost use Rattle.seam_range.specs.declared.Place.{Place as AnyPlace};
+ghost use Rattle.seam_parts.specs.Spots.{is_none_else_out, still_out, AreNoted, AreKeptNoted, IsNoted, IsChanged};
 
-use seam_geo::Pos;
-use seam_range::RangeList;
+use seam_range::{Place, RangeList};
 use std::alloc::AllocError;
 
-// The list with the entity at the position; none where there is no memory for that.
-fn moved(mut list: RangeList, e: u32, p: Pos) -> Option<RangeList>
+/// A list of entities with their places, if it is kept. An entity that is taken out to change is still in the list: it is out.
+#[derive(Drop)]
+pub struct Spots {
+    pub list: Option<RangeList>,
+    pub out: Option<u32>,
+}
+
+impl Spots {
+    /// No list.
+    pub fn none() -> Spots
+        ensures { result ≡ record { list = None; out = None } }
+    {
+        Spots {
+            list: None,
+            out: None,
+        }
+    }
+}
+
+// The list with the entity at the place; none where there is no memory for that.
+fn moved(mut list: RangeList, e: u32, p: Place) -> Option<RangeList>
     ensures { IfSome result (λ l. l ≡ map.insert list e p) }
 {
     if let Some(old) = list.get(e) {
@@ -23,26 +42,86 @@ fn moved(mut list: RangeList, e: u32, p: Pos) -> Option<RangeList>
     }
 }
 
-/// Notes that the entity is at the position, where a list is kept. Without memory for that the list is given up.
-pub fn note(spots: &mut Option<RangeList>, e: u32, p: Pos)
-    ensures { IsNoted spots.old spots.new e (Some p) }
+// The list with the entity at the place. Without memory for that the list is given up.
+fn set(list: &mut Option<RangeList>, e: u32, p: Place)
+    ensures { IsNoted list.old list.new e (Some p) }
 {
-    if let Some(list) = spots.take() {
-        *spots = moved(list, e, p);
+    if let Some(kept) = list.take() {
+        *list = moved(kept, e, p);
     }
 }
 
-/// Notes that the entity is nowhere, where a list is kept.
-pub fn forget(spots: &mut Option<RangeList>, e: u32)
-    ensures { IsNoted spots.old spots.new e None }
+// The list without the entity.
+fn remove(list: &mut Option<RangeList>, e: u32)
+    ensures { IsNoted list.old list.new e None }
 {
-    if let Some(list) = spots {
+    if let Some(list) = list {
         list.remove(e);
     }
 }
 
-/// Puts an entity into a list at its position.
-pub fn put(list: &mut RangeList, e: u32, p: Pos) -> Result<(), AllocError>
+// Whether no other entity is out.
+fn is_none_else_out(out: Option<u32>, e: u32) -> bool
+    ensures { result ≡ is_none_else_out out e }
+{
+    match out {
+        Some(other) => other == e,
+        None => true,
+    }
+}
+
+// The entity that is out, unless it is this one.
+fn still_out(out: Option<u32>, e: u32) -> Option<u32>
+    ensures { result ≡ still_out out e }
+{
+    match out {
+        Some(other) => if other == e { None } else { Some(other) },
+        None => None,
+    }
+}
+
+/// Notes that the entity is at the place, where a list is kept. Without memory for that the list is given up.
+pub fn note(spots: &mut Spots, e: u32, p: Place)
+    ensures { (before after : ℕ → Option AnyPlace) → AreKeptNoted spots.old before → IsChanged before after e (Some p) →
+        AreKeptNoted spots.new after }
+{
+    set(&mut spots.list, e, p);
+    spots.out = still_out(spots.out, e);
+}
+
+/// Notes that the entity is nowhere, where a list is kept.
+pub fn forget(spots: &mut Spots, e: u32)
+    ensures { (before after : ℕ → Option AnyPlace) → AreKeptNoted spots.old before → IsChanged before after e None →
+        AreKeptNoted spots.new after }
+{
+    remove(&mut spots.list, e);
+    spots.out = still_out(spots.out, e);
+}
+
+/// Notes that the entity is taken out, to be put back. One alone is kept in the list meanwhile.
+pub fn let_out(spots: &mut Spots, e: u32)
+    ensures { (before after : ℕ → Option AnyPlace) → AreKeptNoted spots.old before → IsChanged before after e None →
+        AreKeptNoted spots.new after }
+{
+    if is_none_else_out(spots.out, e) {
+        spots.out = Some(e);
+        return;
+    }
+    remove(&mut spots.list, e);
+}
+
+/// The places of all entities other than e, if they are kept.
+pub fn beside(spots: &Spots, e: u32) -> Option<&RangeList>
+    ensures { (place : ℕ → Option AnyPlace) → AreKeptNoted spots.now place → IfSome result (λ l. AreNoted l.now (Some e) place) }
+{
+    if !is_none_else_out(spots.out, e) {
+        return None;
+    }
+    spots.list.as_ref()
+}
+
+/// Puts an entity into a list at its place.
+pub fn put(list: &mut RangeList, e: u32, p: Place) -> Result<(), AllocError>
     ensures after { OnOk result (list.new ≡ map.insert list.old e p) }
     ensures small { e < 2 ^ 32 }
 {

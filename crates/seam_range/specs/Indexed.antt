@@ -1,14 +1,14 @@
--- How an ordered map by strip, z and entity refines the positions.
+-- How an ordered map by strip, z and entity refines the places.
 use Rattle.std.specs.Prelude.{◌≡◌, ℕ, ◌/◌, Bool, ◌&&◌, Option, None, Some, nat_eq, if◌then◌else◌}
 use Rattle.std.specs.Ordering.{nat_cmp, ordering_then}
 use Rattle.std.specs.declared.cmp.Ordering.{Ordering}
 use Rattle.std.specs.BTreeMap as tree
-use Rattle.seam_geo.specs.declared.pos.Pos.{Pos}
+use Rattle.seam_range.specs.declared.Place.{Place}
 use Rattle.seam_range.specs.declared.TheConstants.{STRIP_WIDTH}
 
--- the spot of a position: its strip of x, and its z
-abbrev pub spot_of : Pos → ℕ × ℕ
-spot_of p = (p.x / STRIP_WIDTH, p.z)
+-- the spot of a place: its strip of x, and its z
+abbrev pub spot_of : Place → ℕ × ℕ
+spot_of p = (p.pos.x / STRIP_WIDTH, p.pos.z)
 
 abbrev pub same_spot : ℕ × ℕ → ℕ × ℕ → Bool
 same_spot a b = nat_eq a.0 b.0 && nat_eq a.1 b.1
@@ -17,12 +17,12 @@ same_spot a b = nat_eq a.0 b.0 && nat_eq a.1 b.1
 abbrev pub by_spot : (ℕ × ℕ) × ℕ → (ℕ × ℕ) × ℕ → Ordering
 by_spot a b = ordering_then (ordering_then (nat_cmp a.0.0 b.0.0) (nat_cmp a.0.1 b.0.1)) (nat_cmp a.1 b.1)
 
--- the position, where there is one and it is at this spot
-abbrev pub at_spot : ℕ × ℕ → Option Pos → Option Pos
+-- the place, where there is one and it is at this spot
+abbrev pub at_spot : ℕ × ℕ → Option Place → Option Place
 at_spot s None = None
 at_spot s (Some p) = if same_spot (spot_of p) s then Some p else None
 
--- the other map has each entity's position, under its spot and the entity, and nothing else
-pub record IsIndexed (places : tree.BTreeMap ℕ Pos) (spots : tree.BTreeMap ((ℕ × ℕ) × ℕ) Pos) : Type 0 where
+-- the other map has each entity's place, under its spot and the entity, and nothing else
+pub record IsIndexed (places : tree.BTreeMap ℕ Place) (spots : tree.BTreeMap ((ℕ × ℕ) × ℕ) Place) : Type 0 where
   pub ordered : tree.IsOrdered nat_cmp places
   pub listed : (k : (ℕ × ℕ) × ℕ) → tree.get by_spot spots k ≡ at_spot k.0 (tree.get nat_cmp places k.1)

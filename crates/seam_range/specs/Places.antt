@@ -1,25 +1,27 @@
--- The positions of entities, and which of them are near a position.
+-- Where entities are, and which of them are near a position.
 use Rattle.std.specs.Prelude.{ℕ, Bool, nat_le, List}
 use Rattle.std.specs.Ordering.{nat_cmp}
 use Rattle.std.specs.List.{filter}
-use Rattle.std.specs.Map.{keys_of}
 use Rattle.std.specs.FinMap as map
 use Rattle.std.specs.Coded.{Coded, code_by, coded×, coded_ℕ}
 use Rattle.std.proofs.Common.{refl}
 use Rattle.seam_geo.specs.declared.pos.Pos.{Pos}
 use Rattle.seam_geo.specs.Pos.{distance}
+use Rattle.seam_range.specs.declared.Place.{Place}
 
--- the position of each entity that was put
+-- the place of each entity that was put
 abbrev pub Places : Type 0
-Places = map.FinMap nat_cmp Pos
+Places = map.FinMap nat_cmp Place
 
-abbrev pub pos_code : Coded Pos
-pos_code = code_by (ℕ × ℕ) (coded× coded_ℕ coded_ℕ) (λ p. (p.x, p.z)) (λ q. record { x = q.0; z = q.1 }) (λ _. refl)
+abbrev pub place_code : Coded Place
+place_code =
+    code_by (ℕ × (ℕ × ℕ)) (coded× coded_ℕ (coded× coded_ℕ coded_ℕ)) (λ p. (p.version, (p.pos.x, p.pos.z)))
+    (λ q. record { version = q.0; pos = record { x = q.1.0; z = q.1.1 } }) (λ _. refl)
 
--- the two positions are at distance at most d
-abbrev pub is_within : Pos → ℕ → Pos → Bool
-is_within p d q = nat_le (distance p q) d
+-- the place is at distance at most d from the position
+abbrev pub is_within : Pos → ℕ → Place → Bool
+is_within p d q = nat_le (distance p q.pos) d
 
--- the entities at distance at most d from a position, in rising number
-abbrev pub within : Places → Pos → ℕ → List ℕ
-within places p d = keys_of (filter (λ e. is_within p d e.1) (map.entries places))
+-- the entities at distance at most d from a position, in rising number, each with its place
+abbrev pub within : Places → Pos → ℕ → List (ℕ × Place)
+within places p d = filter (λ e. is_within p d e.1) (map.entries places)

@@ -1,12 +1,12 @@
-//! Entities by their positions, for queries of those that are near.
+//! Entities by their positions, for queries of those that are near. Each has its version beside the position, which a query gives too.
 #![tactic(auto)]
 
 ghost use Rattle.std.specs.Prelude.{◌≡◌, ◌≤◌, ℕ, ◌+◌, is_some, IfOk, OnOk, OnErr};
 ghost use Rattle.std.specs.FinMap as map;
 ghost use Rattle.std.specs.Ordering.{nat_cmp};
-ghost use Rattle.seam_range.specs.Places.{is_within, within};
+ghost use Rattle.seam_range.specs.Places.{Places, is_within, within};
 ghost use Rattle.seam_range.specs.Indexed.{spot_of, same_spot};
-ghost use Rattle.seam_range.specs.Found.{count_of, one_if, is_in_strip, first_strip, end_strip};
+ghost use Rattle.seam_range.specs.Found.{count_of, AreInPlace, one_if, is_in_strip, first_strip, end_strip};
 
 use seam_geo::{Pos, dist};
 use std::alloc::{AllocError, Global};
@@ -19,23 +19,33 @@ mod tests;
 // The width of the strips of x in which the positions are ordered.
 const STRIP_WIDTH: u64 = 256;
 
-/// Entities with their positions. Contracts see the position of each entity that was put.
+// Where one in so many is near, a walk over all in rising number is quicker than to sort those that are.
+const MANY: usize = 4;
+
+/// Where an entity is, and its version there.
+#[derive(Clone, Copy, Debug, PartialEq, Eq)]
+pub struct Place {
+    pub version: u64,
+    pub pos: Pos,
+}
+
+/// Entities with their places. Contracts see the place of each entity that was put.
 #[derive(Drop)]
 pub struct RangeList {
     alloc: Global,
-    places: BTreeMap<u32, Pos>,
-    // The positions again, by strip, z and entity, so that a query reads a short run of each strip that it meets.
-    by_spot: BTreeMap<((u64, u64), u32), Pos>,
+    places: BTreeMap<u32, Place>,
+    // The places again, by strip, z and entity, so that a query reads a short run of each strip that it meets.
+    by_spot: BTreeMap<((u64, u64), u32), Place>,
 }
 
 impl Model for RangeList {
     ghost use Rattle.std.specs.Coded.{coded_ℕ};
     ghost use Rattle.std.specs.FinMap as map;
-    ghost use Rattle.seam_range.specs.Places.{Places, pos_code};
+    ghost use Rattle.seam_range.specs.Places.{Places, place_code};
 
     ghost Value = { Places };
 
-    ghost coded = { map.code coded_ℕ pos_code };
+    ghost coded = { map.code coded_ℕ place_code };
 
     ghost use Rattle.seam_range.specs.Indexed.{IsIndexed};
 
@@ -57,14 +67,14 @@ impl RangeList {
     }
 
     /// Where the entity is, if it was put.
-    pub fn get(&self, e: u32) -> Option<Pos>
+    pub fn get(&self, e: u32) -> Option<Place>
         ensures { result ≡ map.get self.now e }
     {
         self.places.get(&e).copied()
     }
 
-    /// Puts the entity at the position, or moves it there.
-    pub fn put(&mut self, e: u32, p: Pos) -> Result<(), AllocError>
+    /// Puts the entity at the place, or moves it there.
+    pub fn put(&mut self, e: u32, p: Place) -> Result<(), AllocError>
         ensures after { OnOk result (self.new ≡ map.insert self.old e p) }
         ensures err { OnErr result (self.new ≡ self.old) }
     {
@@ -100,8 +110,8 @@ impl RangeList {
         }
     }
 
-    /// The entities at distance at most d from the position, in rising number.
-    pub fn within(&self, p: Pos, d: u32) -> Result<Vec<u32>, AllocError>
+    /// The entities at distance at most d from the position, in rising number, each with its place.
+    pub fn within(&self, p: Pos, d: u32) -> Result<Vec<(u32, Place)>, AllocError>
         ensures { IfOk result (λ v. v.items ≡ within self.now p d) }
     {
         let strips = strip_after(p, d) - strip_from(p, d);
@@ -109,26 +119,30 @@ impl RangeList {
             return self.near_by_entity(p, d);
         }
         let mut found = self.near_by_strip(p, d)?;
-        found.sort_unstable();
+        if found.len() >= self.places.len() / MANY {
+            return self.near_by_entity(p, d);
+        }
+        found.sort_unstable_by_key(|(e, _)| *e);
         Ok(found)
     }
 
     // The near entities, in rising number: all are looked at.
-    fn near_by_entity(&self, p: Pos, d: u32) -> Result<Vec<u32>, AllocError>
+    fn near_by_entity(&self, p: Pos, d: u32) -> Result<Vec<(u32, Place)>, AllocError>
         ensures { IfOk result (λ v. v.items ≡ within self.now p d) }
     {
         let mut found = Vec::new(self.alloc);
         for (e, place) in &self.places {
             if is_near(*place, p, d) {
-                found.push(*e)?;
+                found.push((*e, *place))?;
             }
         }
         Ok(found)
     }
 
     // The near entities, strip after strip.
-    fn near_by_strip(&self, p: Pos, d: u32) -> Result<Vec<u32>, AllocError>
-        ensures { IfOk result (λ v. (q : ℕ) → count_of q v.items ≡ one_if (is_within p d) (map.get self.now q)) }
+    fn near_by_strip(&self, p: Pos, d: u32) -> Result<Vec<(u32, Place)>, AllocError>
+        ensures near { IfOk result (λ v. (q : ℕ) → count_of q v.items ≡ one_if (is_within p d) (map.get self.now q)) }
+        ensures places { IfOk result (λ v. AreInPlace self.now v.items) }
     {
         let mut found = Vec::new(self.alloc);
         for strip in strip_from(p, d)..strip_after(p, d) {
@@ -138,33 +152,41 @@ impl RangeList {
     }
 
     // Appends the near entities of the strip.
-    fn push_near(&self, strip: u64, p: Pos, d: u32, found: &mut Vec<u32>) -> Result<(), AllocError>
-        ensures { OnOk result ((q : ℕ) → count_of q found.new.items
+    fn push_near(
+        &self,
+        strip: u64,
+        p: Pos,
+        d: u32,
+        found: &mut Vec<(u32, Place)>,
+    ) -> Result<(), AllocError>
+        requires { AreInPlace self.now found.old.items }
+        ensures near { OnOk result ((q : ℕ) → count_of q found.new.items
             ≡ count_of q found.old.items + one_if (is_in_strip strip p d) (map.get self.now q)) }
+        ensures places { OnOk result (AreInPlace self.now found.new.items) }
     {
         let low = u64::from(p.z.saturating_sub(d));
         let end = u64::from(p.z) + u64::from(d) + 1;
         for ((_, e), place) in self.by_spot.range(((strip, low), 0)..((strip, end), 0)) {
             if is_near(*place, p, d) {
-                found.push(*e)?;
+                found.push((*e, *place))?;
             }
         }
         Ok(())
     }
 }
 
-// The key of an entity at a position.
-fn key(e: u32, p: Pos) -> ((u64, u64), u32)
+// The key of an entity at a place.
+fn key(e: u32, p: Place) -> ((u64, u64), u32)
     ensures { result ≡ (spot_of p, e) }
 {
-    ((u64::from(p.x) / STRIP_WIDTH, u64::from(p.z)), e)
+    ((u64::from(p.pos.x) / STRIP_WIDTH, u64::from(p.pos.z)), e)
 }
 
-// Whether the positions lie in one strip at one z.
-fn are_at_one_spot(a: Pos, b: Pos) -> bool
+// Whether the places lie in one strip at one z.
+fn are_at_one_spot(a: Place, b: Place) -> bool
     ensures { result ≡ same_spot (spot_of a) (spot_of b) }
 {
-    u64::from(a.x) / STRIP_WIDTH == u64::from(b.x) / STRIP_WIDTH && a.z == b.z
+    u64::from(a.pos.x) / STRIP_WIDTH == u64::from(b.pos.x) / STRIP_WIDTH && a.pos.z == b.pos.z
 }
 
 // The first strip that has positions at distance at most d from p.
@@ -183,8 +205,8 @@ fn strip_after(p: Pos, d: u32) -> u64
 }
 
 // Whether the place is at distance at most d from p.
-fn is_near(place: Pos, p: Pos, d: u32) -> bool
+fn is_near(place: Place, p: Pos, d: u32) -> bool
     ensures { result ≡ is_within p d place }
 {
-    dist(p, place) <= d
+    dist(p, place.pos) <= d
 }

@@ -10,22 +10,43 @@ fn sent<T: Send>(value: T) -> T
     value
 }
 
+fn place(version: u64, x: u32, z: u32) -> Place
+    ensures { result ≡ record { version = version; pos = record { x = x; z = z } } }
+{
+    Place {
+        version,
+        pos: Pos { x, z },
+    }
+}
+
 #[test]
 fn near_entities_in_rising_number(rt: HostRuntime) -> Result<(), Fail> {
     let mut list = sent(RangeList::new(rt.alloc()));
-    list.put(2, Pos { x: 5, z: 5 })?;
-    list.put(1, Pos { x: 0, z: 0 })?;
-    list.put(3, Pos { x: 6, z: 0 })?;
+    let one = place(0, 0, 0);
+    let two = place(0, 5, 5);
+    let three = place(7, 6, 0);
+    list.put(2, two)?;
+    list.put(1, one)?;
+    list.put(3, three)?;
     let corner = Pos { x: 0, z: 0 };
-    assert_eq!(rt; list.within(corner, 5)?.as_slice(), [1, 2].as_slice());
+    assert_eq!(rt;
+        list.within(corner, 5)?.as_slice(),
+        [(1, one), (2, two)].as_slice()
+    );
     assert_eq!(rt;
         list.within(corner, 5_000)?.as_slice(),
-        [1, 2, 3].as_slice()
+        [(1, one), (2, two), (3, three)].as_slice()
     );
-    list.put(1, Pos { x: 9, z: 9 })?;
+    let moved = place(0, 9, 9);
+    let newer = place(8, 6, 0);
+    list.put(1, moved)?;
+    list.put(3, newer)?;
     assert!(rt; list.remove(2));
     assert!(rt; !list.remove(2));
-    assert_eq!(rt; list.within(corner, 6)?.as_slice(), [3].as_slice());
-    assert_eq!(rt; list.within(corner, 9)?.as_slice(), [1, 3].as_slice());
+    assert_eq!(rt; list.within(corner, 6)?.as_slice(), [(3, newer)].as_slice());
+    assert_eq!(rt;
+        list.within(corner, 9)?.as_slice(),
+        [(1, moved), (3, newer)].as_slice()
+    );
     Ok(())
 }

@@ -1,2 +1,4 @@
 pub mod LookLemmas
+pub mod NearLooks
+pub mod Merges
 pub mod NearLemmas

@@ -1,17 +1,18 @@
--- Which entities can matter to a view, and what is known of them.
-use Rattle.std.specs.Prelude.{◌≡◌, ℕ, Bool, true, nat_eq, List, Option, Some, option_map}
-use Rattle.std.specs.List.{list_any, filter_map}
+-- What is near a witness, as the lists of places give it, and what it decides.
+use Rattle.std.specs.Prelude.{◌≡◌, ℕ, Bool, true, false, not, is_some, nat_lt, List, [], ◌∷◌, filter, Option, None, Some}
+use Rattle.std.specs.Ordering.{nat_cmp, match_ordering}
+use Rattle.std.specs.FinMap as table
 use Rattle.seam_geo.specs.declared.pos.Pos.{Pos}
+use Rattle.seam_range.specs.declared.Place.{Place}
+use Rattle.seam_range.specs.Places.{Places}
 use Rattle.seam_call.specs.declared.shown.GhostCopy.{GhostCopy}
 use Rattle.seam_view.specs.declared.Seen.{Seen}
-use Rattle.seam_view.specs.Replica.{Replica}
-use Rattle.seam_view.specs.Looks.{matters}
+use Rattle.seam_view.specs.declared.Look.{Look}
+use Rattle.seam_view.specs.declared.Look.TheVariants.{Leave, Set, Enter}
+use Rattle.seam_view.specs.Replica.{Replica, seen_of}
+use Rattle.seam_view.specs.Looks.{is_far}
 use Rattle.seam_steps.specs.Looks.{Known, seen_as}
-use Rattle.seam_steps.specs.Cells.{CellView}
-use Rattle.seam_known.specs.Knowing.{known_at, unless_self}
-
-abbrev pub is_listed : ℕ → List ℕ → Bool
-is_listed e es = list_any (nat_eq e) es
+use Rattle.seam_steps.specs.Cells.{is_another}
 
 -- what is known of an entity, with its number
 abbrev pub known_entity : ℕ → GhostCopy → Known
@@ -21,14 +22,47 @@ known_entity e g = (e, g)
 abbrev pub seen_of_entity : ℕ → GhostCopy → Seen
 seen_of_entity e g = seen_as (known_entity e g)
 
--- each entity that is known and can matter to the view from that position is among these
-abbrev pub HasAllNear : CellView → Replica → Pos → List ℕ → Type 0
-HasAllNear c r own es = (e : ℕ) (g : GhostCopy) → known_at c e ≡ Some g → matters r own (seen_of_entity e g) ≡ true → is_listed e es ≡ true
+-- ---- two lists of places
 
--- what is known of the entity, if it is another one
-abbrev pub known_other : CellView → ℕ → ℕ → Option Known
-known_other c own e = option_map (known_entity e) (unless_self own e (known_at c e))
+-- an entity as it is seen at its place
+abbrev pub seen_at_place : ℕ × Place → Seen
+seen_at_place x = record { entity = x.0; version = x.1.version; pos = x.1.pos }
 
--- what is known of others among these
-abbrev pub known_among : CellView → ℕ → List ℕ → List Known
-known_among c own es = filter_map (known_other c own) es
+abbrev pub is_other : ℕ → ℕ × Place → Bool
+is_other own x = is_another own x.0
+
+-- those of whose entities the list has no place
+abbrev pub unlisted : Places → List (ℕ × Place) → List (ℕ × Place)
+unlisted places xs = filter (λ x. not (is_some (table.get places x.0))) xs
+
+-- one before the rest of its list, and those of another list, as they come in rising number
+abbrev pub merged_with : ℕ × Place → (List (ℕ × Place) → List (ℕ × Place)) → List (ℕ × Place) → List (ℕ × Place)
+merged_with x rest [] = x ∷ rest []
+merged_with x rest (y ∷ ys) = match_ordering (nat_cmp x.0 y.0) (x ∷ rest (y ∷ ys)) (x ∷ rest ys) (y ∷ merged_with x rest ys)
+
+-- two lists in rising number as one; where both have an entity, the first one's place of it
+abbrev pub merged : List (ℕ × Place) → List (ℕ × Place) → List (ℕ × Place)
+merged [] ys = ys
+merged (x ∷ xs) ys = merged_with x (merged xs) ys
+
+-- ---- what it decides
+
+-- the entity is known to be within radius and hysteresis together
+abbrev pub is_near : Replica → Pos → Seen → Bool
+is_near r own s = not (is_far r own s.pos)
+
+-- of what is known these are all that are near, and maybe others
+abbrev pub HasNear : Replica → Pos → List Seen → List Seen → Type 0
+HasNear r own known seen = (t : Seen → Bool) × ((s : Seen) → is_near r own s ≡ true → t s ≡ true) × (seen ≡ filter t known)
+
+-- an entity was shown at a greater version than it is known at
+abbrev pub was_newer : Option ℕ → Option Seen → Bool
+was_newer None o = false
+was_newer (Some v) None = false
+was_newer (Some v) (Some s) = nat_lt s.version v
+
+-- the look is the leave of such an entity, which stays in view, however far it is known to be
+abbrev pub is_early : Replica → List Seen → Look → Bool
+is_early r known (Leave e) = was_newer (table.get r.shown e) (seen_of e known)
+is_early r known (Set e) = false
+is_early r known (Enter e) = false

@@ -6,8 +6,6 @@ ghost use Rattle.std.specs.List.Sorted.{IsStrictlySortedBy};
 ghost use Rattle.std.specs.Ordering.{nat_cmp};
 ghost use Rattle.std.specs.FinMap as table;
 ghost use Rattle.seam_ghosts.specs.Book.{copies};
-ghost use Rattle.std.specs.List.{filter};
-ghost use Rattle.seam_view.specs.Looks.{matters};
 ghost use Rattle.seam_view.specs.Replica.{HasRoom};
 ghost use Rattle.seam_defs.specs.declared.limits.TheConstants.{MOST_BASE_NODES};
 ghost use Rattle.seam_entity.specs.Here.{Here, base_of};
@@ -20,6 +18,7 @@ ghost use Rattle.seam_parts.specs.Kept.{here_in, cell_of, AreKept};
 ghost use Rattle.seam_parts.specs.News.{listed};
 ghost use Rattle.seam_sight.specs.Looking.{seeing, looked, told_at_look, own_told, told_these, real_has_witness};
 ghost use Rattle.seam_sight.specs.Looking.{comes_after, seen_if, seen_real_of, seen_copy_of, earlier_seen};
+ghost use Rattle.seam_sight.specs.Near.{HasNear};
 
 use seam_call::{GhostCopy, Shown, Update};
 use seam_entity::{Msg, Real, Witness, copy_for_others, is_small};
@@ -279,8 +278,7 @@ impl Sight<'_> {
         ensures rising { IfOk result (λ g. IsStrictlySortedBy nat_cmp (map (λ s. s.entity) g.seen.items)) }
         ensures near { (c : CellView) → let h = here_in self.now.known.now in let own = real.now.core.state.pos in
             let d = seeing c h self.now.reals.now.items self.now.copies.now.ghosts in
-            IfOk result (λ g. filter (matters witness.old.view.core own) g.seen.items
-            ≡ filter (matters witness.old.view.core own) (map seen_as (known_to d self.now.own))) }
+            IfOk result (λ g. HasNear witness.old.view.core own (map seen_as (known_to d self.now.own)) g.seen.items) }
         ensures looks { (c : CellView) → let h = here_in self.now.known.now in
             let d = seeing c h self.now.reals.now.items self.now.copies.now.ghosts in
             IfOk result (λ g. g.looks.items ≡ looks_of real.now.core (witness_of witness.old) (known_to d self.now.own)) }
@@ -291,7 +289,8 @@ impl Sight<'_> {
     {
         let own = real.state().pos;
         let seen = self.seen(own, &witness.view)?;
-        let looks = witness.view.plan(own, &seen)?;
+        let planned = witness.view.plan(own, &seen)?;
+        let looks = self.without_early(&witness.view, &planned)?;
         let shown = self.show(real, witness, &looks)?;
         Ok(Glance { seen, looks, shown })
     }
@@ -439,7 +438,7 @@ fn look_around(
 }
 
 /// Look task: the first entity of the look list is taken off it, and its witness looks. From the first look on it is kept where the
-/// reals and the copies are, so that a look goes over those that are near or in view alone.
+/// reals and the copies are, so that a look goes over those that are near alone.
 pub fn look_task(
     alloc: Global,
     known: &Known,

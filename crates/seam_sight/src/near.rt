@@ -1,73 +1,195 @@
-//! Of what a cell knows, what can matter to a view: what is in view, or near.
+//! What a cell knows of others that are near, by the lists of places that are kept beside its reals and copies.
 
-ghost use Rattle.std.specs.Prelude.{◌≡◌, ℕ, ◌++◌, ◌||◌, map, IfOk, IfSome, OnOk, option_map};
-ghost use Rattle.std.specs.List.{filter};
+ghost use Rattle.std.specs.Prelude.{◌≡◌, ◌<◌, ◌+◌, ◌++◌, [], ◌∷◌, length, map, filter, not, IfOk, OnOk, IfSome, IfNone, option_map};
+ghost use Rattle.std.specs.Prelude.{if◌then◌else◌};
 ghost use Rattle.std.specs.List.Sorted.{IsStrictlySortedBy};
 ghost use Rattle.std.specs.Ordering.{nat_cmp};
-ghost use Rattle.seam_view.specs.Looks.{in_view, matters};
+ghost use Rattle.seam_view.specs.Replica.{IsView, seen_of};
 ghost use Rattle.seam_steps.specs.Looks.{seen_as};
 ghost use Rattle.seam_steps.specs.Cells.{CellView, known_to};
 ghost use Rattle.seam_known.specs.Knowing.{known_at};
 ghost use Rattle.seam_parts.specs.Kept.{here_in};
-ghost use Rattle.seam_parts.specs.News.{listed};
 ghost use Rattle.seam_sight.specs.Looking.{seeing};
-ghost use Rattle.seam_sight.specs.Near.{is_listed, HasAllNear, seen_of_entity, known_other, known_among};
+ghost use Rattle.seam_sight.specs.Near.{seen_at_place, is_other, unlisted, merged, is_near, HasNear, was_newer, is_early, seen_of_entity};
 
 use crate::looking::{Sight, see, seen_copy, seen_real};
 use seam_geo::Pos;
-use seam_parts::EntitySet;
-use seam_view::{Seen, View};
-use std::alloc::AllocError;
+use seam_range::{Place, RangeList};
+use seam_view::{Look, Seen, View};
+use std::alloc::{AllocError, Global};
 
-// Adds the entities.
-fn add_all(entities: &[u32], to: &mut EntitySet) -> Result<(), AllocError>
-    ensures { (q : ℕ) → OnOk result (is_listed q to.new ≡ (is_listed q entities.now || is_listed q to.old)) }
-{
-    for e in entities {
-        to.insert(*e)?;
-    }
-    Ok(())
+// An entity of two lists, each in rising number and with places, and what is left of them after it.
+#[derive(Clone, Copy)]
+struct Step<'a> {
+    entity: u32,
+    place: Place,
+    first: &'a [(u32, Place)],
+    second: &'a [(u32, Place)],
 }
 
-// Adds the entities in view.
-fn add_viewed(view: &View, to: &mut EntitySet) -> Result<(), AllocError>
-    ensures { (q : ℕ) → OnOk result (is_listed q to.new ≡ (in_view view.now.core q || is_listed q to.old)) }
+// The next entity of both lists, with the first one's place where both have it.
+fn next_of<'a>(first: &'a [(u32, Place)], second: &'a [(u32, Place)]) -> Option<Step<'a>>
+    ensures some { IfSome result (λ s. merged first.now second.now ≡ (s.entity, s.place) ∷ merged s.first.now s.second.now) }
+    ensures fewer { IfSome result (λ s. length s.first.now + length s.second.now < length first.now + length second.now) }
+    ensures none { IfNone result (merged first.now second.now ≡ []) }
 {
-    for i in 0..view.len() {
-        let Some((e, _)) = view.at(i) else {
-            unreachable!()
-        };
-        to.insert(e)?;
+    let Some(((entity, place), rest)) = first.split_first() else {
+        return next_of_second(first, second);
+    };
+    let one = Step {
+        entity: *entity,
+        place: *place,
+        first: rest,
+        second,
+    };
+    let Some(((entity, place), others)) = second.split_first() else {
+        return Some(one);
+    };
+    if one.entity < *entity {
+        return Some(one);
     }
-    Ok(())
+    if *entity < one.entity {
+        return Some(Step {
+            entity: *entity,
+            place: *place,
+            first,
+            second: others,
+        });
+    }
+    Some(Step {
+        second: others,
+        ..one
+    })
+}
+
+// The same where nothing is left of the first list.
+fn next_of_second<'a>(first: &'a [(u32, Place)], second: &'a [(u32, Place)]) -> Option<Step<'a>>
+    requires { first.now ≡ [] }
+    ensures some { IfSome result (λ s. merged first.now second.now ≡ (s.entity, s.place) ∷ merged s.first.now s.second.now) }
+    ensures fewer { IfSome result (λ s. length s.first.now + length s.second.now < length first.now + length second.now) }
+    ensures none { IfNone result (merged first.now second.now ≡ []) }
+{
+    match second.split_first() {
+        Some(((entity, place), others)) => Some(Step {
+            entity: *entity,
+            place: *place,
+            first,
+            second: others,
+        }),
+        None => None,
+    }
+}
+
+// An entity as it is seen at its place.
+fn seen_at(entity: u32, place: Place) -> Seen
+    ensures { result ≡ seen_at_place (entity, place) }
+{
+    Seen {
+        entity,
+        version: place.version,
+        pos: place.pos,
+    }
+}
+
+// Those of whose entities the list has no place.
+fn unlisted(
+    alloc: Global,
+    places: &RangeList,
+    entities: &[(u32, Place)],
+) -> Result<Vec<(u32, Place)>, AllocError>
+    ensures { IfOk result (λ v. v.items ≡ unlisted places.now entities.now) }
+{
+    let mut left = Vec::new(alloc);
+    for (e, place) in entities {
+        if places.get(*e).is_none() {
+            left.push((*e, *place))?;
+        }
+    }
+    Ok(left)
+}
+
+// Whether a greater version was shown than is known.
+fn was_newer(shown: Option<u64>, seen: Option<Seen>) -> bool
+    ensures { result ≡ was_newer shown seen }
+{
+    match (shown, seen) {
+        (Some(shown), Some(seen)) => seen.version < shown,
+        _ => false,
+    }
+}
+
+// Adds the look, if it is to be kept.
+fn keep(left: &mut Vec<Look>, look: Look, is_kept: bool) -> Result<(), AllocError>
+    ensures { OnOk result (left.new.items ≡ left.old.items ++ (if is_kept then look ∷ [] else [])) }
+{
+    if !is_kept {
+        return Ok(());
+    }
+    match left.push(look) {
+        Ok(()) => Ok(()),
+        Err(_) => Err(AllocError),
+    }
 }
 
 impl Sight<'_> {
-    // Entities among which is all that can matter to the view from that position; none where it is not kept where reals and copies are.
-    fn candidates(&self, own: Pos, view: &View) -> Result<Option<EntitySet>, AllocError>
+    // The entities of both lists other than the own one, as they are seen.
+    fn merged(
+        &self,
+        reals: &[(u32, Place)],
+        copies: &[(u32, Place)],
+    ) -> Result<Vec<Seen>, AllocError>
+        ensures { IfOk result (λ v. v.items ≡ map seen_at_place (filter (is_other self.now.own) (merged reals.now copies.now))) }
+    {
+        let mut seen = Vec::new(self.alloc);
+        let mut first = reals;
+        let mut second = copies;
+        while let Some(next) = next_of(first, second) {
+            see(&mut seen, seen_at(next.entity, next.place), self.own)?;
+            first = next.first;
+            second = next.second;
+        }
+        Ok(seen)
+    }
+
+    // What is near; none where it is not kept where reals and copies are. A copy counts only where the real is not here.
+    fn near(&self, own: Pos, view: &View) -> Result<Option<Vec<Seen>>, AllocError>
         ensures { (c : CellView) → let d = seeing c (here_in self.now.known.now) self.now.reals.now.items self.now.copies.now.ghosts in
-            IfOk result (λ o. IfSome o (λ es. HasAllNear d view.now.core own es)) }
+            IfOk result (λ o. IfSome o (λ v. v.items
+            ≡ filter (is_near view.now.core own) (map seen_as (known_to d self.now.own)))) }
     {
         let Some(reach) = view.reach() else {
             return Ok(None);
         };
-        let Some(reals) = self.reals.spots() else {
+        let Some(reals) = self.reals.spots_beside(self.own) else {
             return Ok(None);
         };
-        let Some(copies) = self.copies.spots() else {
+        let Some(copies) = self.copies.spots_beside(self.own) else {
             return Ok(None);
         };
         let near_reals = reals.within(own, reach)?;
         let near_copies = copies.within(own, reach)?;
-        let mut candidates = EntitySet::new(self.alloc);
-        add_all(&near_reals, &mut candidates)?;
-        add_all(&near_copies, &mut candidates)?;
-        add_viewed(view, &mut candidates)?;
-        Ok(Some(candidates))
+        let only_copies = unlisted(self.alloc, reals, &near_copies)?;
+        let seen = self.merged(&near_reals, &only_copies)?;
+        Ok(Some(seen))
+    }
+
+    /// What is known of others, in rising number, as far as it is near the position; it may be more.
+    pub fn seen(&self, own: Pos, view: &View) -> Result<Vec<Seen>, AllocError>
+        ensures rising { IfOk result (λ v. IsStrictlySortedBy nat_cmp (map (λ s. s.entity) v.items)) }
+        ensures near { (c : CellView) →
+            let d = seeing c (here_in self.now.known.now) self.now.reals.now.items self.now.copies.now.ghosts in
+            IfOk result (λ v. HasNear view.now.core own (map seen_as (known_to d self.now.own)) v.items) }
+    {
+        let found = self.near(own, view)?;
+        let Some(seen) = found else {
+            let all = self.others()?;
+            return Ok(all);
+        };
+        Ok(seen)
     }
 
     // The entity as it is seen, by its real or, where that is not here, by its copy.
-    fn seen_at(&self, e: u32) -> Option<Seen>
+    fn known_at(&self, e: u32) -> Option<Seen>
         ensures { (c : CellView) → let d = seeing c (here_in self.now.known.now) self.now.reals.now.items self.now.copies.now.ghosts in
             result ≡ option_map (seen_of_entity e) (known_at d e) }
     {
@@ -80,47 +202,43 @@ impl Sight<'_> {
         }
     }
 
-    // Adds the entity as it is seen, if it is known and is another one.
-    fn see_at(&self, e: u32, seen: &mut Vec<Seen>) -> Result<(), AllocError>
+    // The entity as it is seen, if it is another one.
+    fn seen_of(&self, e: u32) -> Option<Seen>
         ensures { (c : CellView) → let d = seeing c (here_in self.now.known.now) self.now.reals.now.items self.now.copies.now.ghosts in
-            OnOk result (seen.new.items ≡ seen.old.items ++ map seen_as (listed (known_other d self.now.own e))) }
+            result ≡ seen_of e (map seen_as (known_to d self.now.own)) }
     {
-        match self.seen_at(e) {
-            Some(next) => see(seen, next, self.own),
-            None => Ok(()),
+        if e == self.own {
+            return None;
         }
+        self.known_at(e)
     }
 
-    // Those of the entities that are known and others, in rising number.
-    fn seen_among(&self, mut entities: EntitySet) -> Result<Vec<Seen>, AllocError>
-        ensures seen { (c : CellView) →
-            let d = seeing c (here_in self.now.known.now) self.now.reals.now.items self.now.copies.now.ghosts in
-            IfOk result (λ v. v.items ≡ map seen_as (known_among d self.now.own entities)) }
-        ensures rising { IsStrictlySortedBy nat_cmp entities }
+    // Whether the look is the leave of an entity that is known after all, and was shown at a greater version.
+    fn is_early(&self, view: &View, look: &Look) -> bool
+        ensures { (c : CellView) → let d = seeing c (here_in self.now.known.now) self.now.reals.now.items self.now.copies.now.ghosts in
+            result ≡ is_early view.now.core (map seen_as (known_to d self.now.own)) look.now }
     {
-        // `len` is called for its clause that the entities are in rising number.
-        let _ = entities.len();
-        let mut seen = Vec::new(self.alloc);
-        while let Some(e) = entities.take_first() {
-            self.see_at(e, &mut seen)?;
-        }
-        Ok(seen)
-    }
-
-    /// What is known of others, in rising number, as far as it can matter to the view from that position; it may be more.
-    pub fn seen(&self, own: Pos, view: &View) -> Result<Vec<Seen>, AllocError>
-        ensures rising { IfOk result (λ v. IsStrictlySortedBy nat_cmp (map (λ s. s.entity) v.items)) }
-        ensures near { (c : CellView) →
-            let d = seeing c (here_in self.now.known.now) self.now.reals.now.items self.now.copies.now.ghosts in
-            IfOk result (λ v. filter (matters view.now.core own) v.items
-            ≡ filter (matters view.now.core own) (map seen_as (known_to d self.now.own))) }
-    {
-        let found = self.candidates(own, view)?;
-        let Some(candidates) = found else {
-            let all = self.others()?;
-            return Ok(all);
+        let Look::Leave(e) = look else {
+            return false;
         };
-        let seen = self.seen_among(candidates)?;
-        Ok(seen)
+        was_newer(view.shown(*e), self.seen_of(*e))
+    }
+
+    /// The looks without early leaves. A plan by what is near alone lets all leave that are not near; those stay that are known, and
+    /// were shown at a greater version.
+    pub fn without_early(&self, view: &View, looks: &[Look]) -> Result<Vec<Look>, AllocError>
+        ensures looks { (c : CellView) →
+            let d = seeing c (here_in self.now.known.now) self.now.reals.now.items self.now.copies.now.ghosts in
+            IfOk result (λ v. v.items
+            ≡ filter (λ look. not (is_early view.now.core (map seen_as (known_to d self.now.own)) look)) looks.now) }
+        ensures view { IsView view.now.core }
+    {
+        // `len` is called for its clause that each version in view is the one last shown.
+        let _ = view.len();
+        let mut left = Vec::new(self.alloc);
+        for look in looks {
+            keep(&mut left, *look, !self.is_early(view, look))?;
+        }
+        Ok(left)
     }
 }

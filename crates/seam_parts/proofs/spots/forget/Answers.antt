@@ -1,4 +1,8 @@
+use Rattle.std.proofs.Common.{None}
+use Rattle.seam_parts.proofs.SpotLemmas.{noted_after}
 use Rattle.seam_parts.proofs.spots.forget.Goals as goal
 
-pub returns-in-Some : goal.returns-in-Some
-returns-in-Some c = (_, (c.in-Some.is, c.remove.ensures.after))
+pub returns : goal.returns
+returns c before after are changed =
+    noted_after c.args.spots.now.list _ c.args.spots.now.out c.still_out-spots.result c.args.e None before after c.still_out-spots.ensures
+    c.remove.ensures are changed

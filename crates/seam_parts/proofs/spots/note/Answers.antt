@@ -1,7 +1,8 @@
-use Rattle.std.proofs.Common.{sym}
-use Rattle.seam_parts.proofs.SpotLemmas.{noted_moved}
+use Rattle.std.proofs.Common.{Some}
+use Rattle.seam_parts.proofs.SpotLemmas.{noted_after}
 use Rattle.seam_parts.proofs.spots.note.Goals as goal
 
-pub returns-in-Some : goal.returns-in-Some
-returns-in-Some c =
-    noted_moved c.args.spots.now c.in-Some.list c.moved.result c.args.e c.args.p (sym c.in-Some.ensures.value) c.moved.ensures
+pub returns : goal.returns
+returns c before after are changed =
+    noted_after c.args.spots.now.list _ c.args.spots.now.out c.still_out-spots.result c.args.e (Some c.args.p) before after
+    c.still_out-spots.ensures c.set.ensures are changed

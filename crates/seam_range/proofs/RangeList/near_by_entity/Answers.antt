@@ -1,6 +1,5 @@
 use Rattle.std.proofs.Common.{sym, ap, ◌∙◌, ◌++◌, ◌≡◌, []}
 use Rattle.std.specs.List.{filter}
-use Rattle.std.specs.Map.{keys_of}
 use Rattle.seam_range.specs.Places.{is_within, within}
 use Rattle.seam_range.proofs.Sorted.{entries_when_sorted}
 use Rattle.seam_range.proofs.RangeList.near_by_entity.Goals as goal
@@ -11,8 +10,8 @@ loop-e-init c =
     let none : c.new-found.result.items ≡ [] = c.new-found.ensures.items in (
       tt,
       tt,
-      ap (λ items. items ++ keys_of (filter (λ e. is_within c.args.p c.args.d e.1) c.into_iter-e-iterator.result)) none
-          ∙ (ap (λ es. keys_of (filter (λ e. is_within c.args.p c.args.d e.1) es)) (given
+      ap (λ items. items ++ filter (λ e. is_within c.args.p c.args.d e.1) c.into_iter-e-iterator.result) none
+          ∙ (ap (λ es. filter (λ e. is_within c.args.p c.args.d e.1) es) (given
           ∙ sym (entries_when_sorted c.self.inside.places.entries c.self.invariant.ordered))
           ∙ ap (λ m. within m c.args.p c.args.d) c.self.view_is),
     )

@@ -1,6 +1,5 @@
 use Rattle.std.proofs.Common.{◌≡◌, ◌++◌}
 use Rattle.std.specs.List.{filter}
-use Rattle.std.specs.Map.{keys_of}
 use Rattle.seam_range.specs.Places.{is_within, within}
 use Rattle.seam_range.proofs.RangeList.near_by_entity.Given as goal
 
@@ -8,4 +7,4 @@ abbrev pub invariant-loop-e : goal.invariant-loop-e
 invariant-loop-e l =
     goal.iterator-loop-e.can_next l.e-iterator ×
     goal.iterator-loop-e.is_finite l.e-iterator ×
-    (l.found.items ++ keys_of (filter (λ e. is_within l.p l.d e.1) l.e-iterator) ≡ within l.self l.p l.d)
+    (l.found.items ++ filter (λ e. is_within l.p l.d e.1) l.e-iterator ≡ within l.self l.p l.d)

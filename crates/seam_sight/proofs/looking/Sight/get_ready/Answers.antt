@@ -1,13 +1,19 @@
-use Rattle.std.proofs.Common.{◌≡◌, ◌∙◌, sym, subst, map}
+use Rattle.std.proofs.Common.{◌∙◌, [], ap, sym, subst, map, not}
 use Rattle.std.specs.List.{filter}
 use Rattle.std.specs.Ordering.{nat_cmp}
 use Rattle.std.specs.List.Sorted.{IsStrictlySortedBy}
-use Rattle.seam_view.specs.Looks.{matters, one_look}
-use Rattle.seam_view.proofs.Only.{looks_agree}
+use Rattle.std.specs.FinMap as table
+use Rattle.seam_view.specs.declared.Look.{Look}
+use Rattle.seam_view.specs.Looks.{one_look}
+use Rattle.seam_view.specs.Replica.{IsView}
 use Rattle.seam_steps.specs.Looks.{seen_as, all_shown}
 use Rattle.seam_steps.specs.Cells.{CellView, known_to}
+use Rattle.seam_known.proofs.Knowing.{known_in_order}
 use Rattle.seam_parts.specs.Kept.{here_in}
 use Rattle.seam_sight.specs.Looking.{seeing}
+use Rattle.seam_sight.specs.Near.{HasNear, is_early}
+use Rattle.seam_sight.proofs.NearLooks.{looks_same}
+use Rattle.seam_sight.proofs.NearLemmas.{room_for_fewer}
 use Rattle.seam_sight.proofs.looking.Sight.get_ready.Goals as goal
 
 pub plan-requires : goal.plan-requires
@@ -17,30 +23,51 @@ plan-requires c =
 pub returns-clause-near : goal.returns-clause-near
 returns-clause-near c = λ k.
     let d : CellView = seeing k (here_in c.args.self.now.known.now) c.args.self.now.reals.now.items c.args.self.now.copies.now.ghosts in
-    subst (λ s. filter (matters c.args.witness.now.view.core s.pos) c.in_ok-seen.seen.items
-    ≡ filter (matters c.args.witness.now.view.core s.pos) (map seen_as (known_to d c.args.self.now.own))) c.state.ensures
-    (c.in_ok-seen.ensures.near k)
+    subst (λ s. HasNear c.args.witness.now.view.core s.pos (map seen_as (known_to d c.args.self.now.own)) c.in_ok-seen.seen.items)
+    c.state.ensures (c.in_ok-seen.ensures.near k)
 
 pub returns-clause-looks : goal.returns-clause-looks
 returns-clause-looks c = λ k.
     let d : CellView = seeing k (here_in c.args.self.now.known.now) c.args.self.now.reals.now.items c.args.self.now.copies.now.ghosts in
-    c.in_ok-looks.ensures.looks
-    ∙ ((λ i. one_look c.args.witness.now.view.core c.state.result.now.pos (c.deref.ensures.value i))
-    ∙ (looks_agree c.args.witness.now.view.core c.state.result.now.pos c.in_ok-seen.seen.items
-    (map seen_as (known_to d c.args.self.now.own)) (c.in_ok-seen.ensures.near k)
-    ∙ λ i. one_look c.args.witness.now.view.core (c.state.ensures i).pos (map seen_as (known_to d c.args.self.now.own))))
+    let known = map seen_as (known_to d c.args.self.now.own) in
+    let core = c.args.witness.now.view.core in
+    c.in_ok-looks.ensures.looks k
+    ∙ ((λ i. filter (λ look. not (is_early (c.in_ok-planned.ensures.same i) known look))
+    ((c.deref-2.ensures.value ∙ c.in_ok-planned.ensures.looks) i))
+    ∙ ((λ i. filter (λ look. not (is_early core known look)) (one_look core c.state.result.now.pos (c.deref.ensures.value i)))
+    ∙ (looks_same core c.state.result.now.pos known c.in_ok-seen.seen.items (known_in_order d c.args.self.now.own)
+    (c.in_ok-seen.ensures.near k) (subst IsView c.in_ok-planned.ensures.same c.in_ok-looks.ensures.view)
+    ∙ λ i. one_look core (c.state.ensures i).pos known)))
 
 pub returns-clause-shown : goal.returns-clause-shown
 returns-clause-shown c = λ k.
-    let h = here_in c.args.self.now.known.now in
-    let d : CellView = seeing k h c.args.self.now.reals.now.items c.args.self.now.copies.now.ghosts in
+    let d : CellView = seeing k (here_in c.args.self.now.known.now) c.args.self.now.reals.now.items c.args.self.now.copies.now.ghosts in
+    let known = map seen_as (known_to d c.args.self.now.own) in
+    let core = c.args.witness.now.view.core in
     let looks =
-    c.in_ok-looks.ensures.looks
-    ∙ ((λ i. one_look c.args.witness.now.view.core c.state.result.now.pos (c.deref.ensures.value i))
-    ∙ (looks_agree c.args.witness.now.view.core c.state.result.now.pos c.in_ok-seen.seen.items
-    (map seen_as (known_to d c.args.self.now.own)) (c.in_ok-seen.ensures.near k)
-    ∙ λ i. one_look c.args.witness.now.view.core (c.state.ensures i).pos (map seen_as (known_to d c.args.self.now.own)))) in
+    c.in_ok-looks.ensures.looks k
+    ∙ ((λ i. filter (λ look. not (is_early (c.in_ok-planned.ensures.same i) known look))
+    ((c.deref-2.ensures.value ∙ c.in_ok-planned.ensures.looks) i))
+    ∙ ((λ i. filter (λ look. not (is_early core known look)) (one_look core c.state.result.now.pos (c.deref.ensures.value i)))
+    ∙ (looks_same core c.state.result.now.pos known c.in_ok-seen.seen.items (known_in_order d c.args.self.now.own)
+    (c.in_ok-seen.ensures.near k) (subst IsView c.in_ok-planned.ensures.same c.in_ok-looks.ensures.view)
+    ∙ λ i. one_look core (c.state.ensures i).pos known))) in
     c.in_ok-shown.ensures k
-    ∙ λ i. all_shown h c.args.real.now.core
-    (record { view = c.in_ok-looks.ensures.same i; told = c.args.witness.now.told; sent = c.args.witness.now.sent })
-    (known_to d c.args.self.now.own) ((c.deref-2.ensures.value ∙ looks) i)
+    ∙ λ i. all_shown (here_in c.args.self.now.known.now) c.args.real.now.core
+    (record { view = c.in_ok-planned.ensures.same i; told = c.args.witness.now.told; sent = c.args.witness.now.sent })
+    (known_to d c.args.self.now.own) ((c.deref-3.ensures.value ∙ looks) i)
+
+pub returns-clause-room : goal.returns-clause-room
+returns-clause-room c =
+    let d : CellView = record {
+      here = here_in c.args.self.now.known.now;
+      tree = c.args.self.now.known.now.tree;
+      reals = c.args.self.now.reals.now.items;
+      nexts = table.empty;
+      ghosts = c.args.self.now.copies.now.ghosts;
+      survey = [];
+      looks = [];
+    } in
+    let t = λ (look : Look). not (is_early c.plan.new.self.core (map seen_as (known_to d c.args.self.now.own)) look) in
+    room_for_fewer c.plan.new.self t c.in_ok-planned.planned.items c.in_ok-looks.looks.items
+    (c.in_ok-looks.ensures.looks d ∙ ap (filter t) c.deref-2.ensures.value) c.in_ok-planned.ensures.room

@@ -10,7 +10,7 @@ use Rattle.seam_steps.specs.Cells.{CellView, known_to}
 use Rattle.seam_known.proofs.Knowing.{known_in_order}
 use Rattle.seam_parts.specs.Kept.{here_in}
 use Rattle.seam_sight.specs.Looking.{seeing}
-use Rattle.seam_sight.proofs.NearLemmas.{kept_near}
+use Rattle.seam_sight.proofs.NearLooks.{kept_same}
 use Rattle.seam_sight.proofs.LookLemmas.{stray_stays, stray_is_silent, small_looks, small_tells}
 use Rattle.seam_sight.proofs.looking.Sight.look.Goals as goal
 
@@ -43,8 +43,8 @@ returns-clause-witness c = λ k.
     let known = known_to d c.args.self.now.own in
     let same = c.get_ready.ensures.same in
     let view =
-    kept_near w.view r.state.pos g.seen.items (map seen_as known) g.looks.items c.in_ok-glance.ensures.rising
-    (known_in_order d c.args.self.now.own) (c.in_ok-glance.ensures.near k) (c.in_ok-glance.ensures.looks k)
+    kept_same w.view r.state.pos (map seen_as known) g.seen.items (known_in_order d c.args.self.now.own) (c.in_ok-glance.ensures.near k)
+    g.looks.items (c.in_ok-glance.ensures.looks k)
     ∙ ap (after_looks (map seen_as known) w.view) (c.in_ok-glance.ensures.looks k) in
     c.tell.ensures.witness
     ∙ ((λ i. record {

@@ -1,0 +1,21 @@
+use Rattle.std.proofs.Common.{ap, ◌∙◌, map}
+use Rattle.std.specs.List.{filter}
+use Rattle.seam_steps.specs.Cells.{CellView}
+use Rattle.seam_parts.specs.Kept.{here_in}
+use Rattle.seam_sight.specs.Looking.{seeing}
+use Rattle.seam_sight.specs.Near.{seen_at_place, is_other, unlisted, merged}
+use Rattle.seam_sight.proofs.NearLemmas.{near_are}
+use Rattle.seam_sight.proofs.looking.Sight.near.Goals as goal
+
+pub returns : goal.returns
+returns c = λ k.
+    let d : CellView = seeing k (here_in c.args.self.now.known.now) c.args.self.now.reals.now.items c.args.self.now.copies.now.ghosts in
+    let own = c.args.self.now.own in
+    let l = c.in-Some-spots_beside.reals.now in
+    let reals = c.deref-2.ensures.value ∙ c.in_ok-near_reals.ensures in
+    let copies = c.deref.ensures.value ∙ c.in_ok-near_copies.ensures in
+    let left = c.deref-3.ensures.value ∙ (c.in_ok-only_copies.ensures ∙ ap (unlisted l) copies) in
+    c.in_ok-seen.ensures
+    ∙ ((λ i. map seen_at_place (filter (is_other own) (merged (reals i) (left i))))
+    ∙ near_are d own c.args.view.now.core c.args.own c.in-Some.reach c.in-Some.ensures l c.in-Some-spots_beside-2.copies.now
+    c.in-Some-spots_beside.ensures c.in-Some-spots_beside-2.ensures)
