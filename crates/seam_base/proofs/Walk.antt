@@ -54,7 +54,7 @@ module _ (last : Option ℕ) (old now : Map PartView) (are : AreBegun last old n
       by false after = are q ∙ ap (λ c. cond c (table.get old q) (option_map part_begins (table.get old q))) after
 
   module _ (e : ℕ) (p : PartView) (found_is : Some (e, p) ≡ find (comes_after last) (table.entries now)) where
-    there : (table.get now e ≡ Some p) × (is_after last e ≡ true)
+    pub there : (table.get now e ≡ Some p) × (is_after last e ≡ true)
     there = found (comes_after last) now (e, p) (sym found_is)
 
     pub part_is_there : is_some (table.get now e) ≡ true

@@ -7,7 +7,7 @@ ghost use Rattle.seam_steps.specs.Bases.{with_line};
 ghost use Rattle.seam_entity.specs.Orders.{order_of};
 ghost use Rattle.seam_entity.specs.Calls.{may_offer};
 ghost use Rattle.seam_entity.specs.Preparing.{node_with};
-ghost use Rattle.seam_steps.specs.Loads.{new_part};
+ghost use Rattle.seam_steps.specs.Loads.{new_part, part_begins};
 ghost use Rattle.seam_steps.specs.BaseCases.{may_call as part_may_call, may_execute as part_may_execute};
 ghost use Rattle.seam_steps.specs.BaseCases.{may_show as client_may_show, fits_base_part};
 ghost use Rattle.seam_base.specs.Nodes.{has_client as part_has_client};
@@ -134,6 +134,13 @@ impl BasePart {
             Some(proxy) => &proxy.lines,
             None => &[],
         }
+    }
+
+    /// Whether it did nothing, and its client was shown nothing, since a round began.
+    pub fn has_begun(&self) -> bool
+        ensures { result ≡ true → part_begins self.now ≡ self.now }
+    {
+        self.done().is_empty() && self.lines().is_empty()
     }
 
     /// The number of its client's next update; 0 where it has no client.

@@ -206,13 +206,27 @@ fn begin(items: &mut Table<BasePart>, e: u32)
     let _none = items.put_reserved(e, part);
 }
 
+// The same, but for a part that did nothing since a round began, which stays as it is.
+fn begin_again(items: &mut Table<BasePart>, e: u32, has_begun: bool)
+    requires there { is_some (table.get items.old.items e) ≡ true }
+    requires same { has_begun ≡ true → option_map part_begins (table.get items.old.items e) ≡ table.get items.old.items e }
+    ensures after { items.new.items ≡ changed_at part_begins items.old.items e }
+    ensures small { e < 2 ^ 32 }
+{
+    if has_begun {
+        return;
+    }
+    begin(items, e);
+}
+
 // Begins a round for every part.
 fn begin_all(items: &mut Table<BasePart>)
     ensures { items.new.items ≡ each_value part_begins items.old.items }
 {
     let mut last = None;
-    while let Some((e, _)) = items.next_after(last) {
-        begin(items, e);
+    while let Some((e, part)) = items.next_after(last) {
+        let has_begun = part.has_begun();
+        begin_again(items, e, has_begun);
         last = Some(e);
     }
 }

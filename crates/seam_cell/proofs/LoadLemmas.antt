@@ -27,7 +27,7 @@ use Rattle.seam_parts.specs.declared.lists.Lists.{Lists}
 use Rattle.seam_parts.specs.Kept.{here_in, cell_of, AreKept, IsThere, IsKept, AreWhole}
 use Rattle.seam_cell.proofs.RoundLemmas.{got_each}
 
-no_length : {A : Type 0} (xs : List A) → length xs ≡ 0 → xs ≡ []
+pub no_length : {A : Type 0} (xs : List A) → length xs ≡ 0 → xs ≡ []
 no_length [] e = refl
 no_length (x ∷ xs) e = absurd (omega arith)
 

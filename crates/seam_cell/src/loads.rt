@@ -105,6 +105,19 @@ fn begin(items: &mut RealTable, e: u32)
     let _none = items.put_reserved(e, Parcel { real });
 }
 
+// The same, but for a real that did nothing since a round began, which stays as it is.
+fn begin_again(items: &mut RealTable, e: u32, has_begun: bool)
+    requires there { is_some (table.get items.old.items e) ≡ true }
+    requires same { has_begun ≡ true → option_map real_begins (table.get items.old.items e) ≡ table.get items.old.items e }
+    ensures after { items.new.items ≡ changed_at real_begins items.old.items e }
+    ensures small { e < 2 ^ 32 }
+{
+    if has_begun {
+        return;
+    }
+    begin(items, e);
+}
+
 // Begins a round for every real.
 fn begin_all(items: &mut RealTable)
     ensures after { items.new.items ≡ each_value real_begins items.old.items }
@@ -112,8 +125,9 @@ fn begin_all(items: &mut RealTable)
     ensures witnesses { marked has_witness items.new.items ≡ marked has_witness items.old.items }
 {
     let mut last = None;
-    while let Some((e, _)) = items.next_after(last) {
-        begin(items, e);
+    while let Some((e, parcel)) = items.next_after(last) {
+        let has_begun = parcel.real.done().is_empty();
+        begin_again(items, e, has_begun);
         last = Some(e);
     }
 }
