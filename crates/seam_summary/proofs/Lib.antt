@@ -1,0 +1,4 @@
+mod Counts
+mod Moved
+mod Rounds
+mod Inputs
