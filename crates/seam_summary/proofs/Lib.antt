@@ -1,7 +1,8 @@
-mod Counts
-mod Moved
-mod Rounds
-mod Inputs
-mod Plain
 mod Asking
+mod Counts
+mod Inputs
+mod Moved
+mod Plain
+pub mod Played
+mod Rounds
 mod Storm

@@ -16,7 +16,7 @@ use Rattle.seam_rules.specs.Standing.{Standing}
 use Rattle.seam_rules.specs.Lines.{RoundData}
 use Rattle.seam_rules.specs.Transcript.{Piece, Refusal, Ended, Play, PrintLines, EndsInput}
 
--- what the summary tells of a round: how many calls cell parts executed, how many lines clients were shown, and the hp of all homes together
+-- what the summary tells of a round: how many calls cell parts executed, how many lines clients were shown, and the hp of all homes
 pub record Sums : Type 0 where
   pub did : ℕ
   pub shown : ℕ
@@ -41,8 +41,8 @@ round_of (Ended s r j) = Some r
 abbrev pub all_sums : List Piece → List Sums
 all_sums pieces = map sums_of (filter_map round_of pieces)
 
--- the summary of so many lines: the number of rounds, of calls that cell parts executed, and of lines that clients were shown; and the hp of
--- all homes of the last round together
+-- the summary of so many lines: the number of rounds, of calls that cell parts executed, and of lines that clients were shown; and the
+-- hp of all homes of the last round
 abbrev pub text_of_sums : (n : ℕ) → List Sums → List ℕ
 text_of_sums n sums =
     codes "storm" ++ field n ++ codes " rounds" ++ field (length sums) ++ codes " did" ++ field (sum (map (λ s. s.did) sums))
@@ -52,15 +52,18 @@ text_of_sums n sums =
 abbrev pub summary_text : (n : ℕ) → List Piece → List ℕ
 summary_text n pieces = text_of_sums n (all_sums pieces)
 
+-- all pieces that are printed for an input, by its end, with rounds that are played so
+abbrev pub PrintAllBy : Play → List Line → List Piece → Type 0
+PrintAllBy IsPlayed lines pieces =
+    (h : Header) × (first last : List Piece) × (t : Standing) × PrintLines IsPlayed lines h first t × EndsInput IsPlayed h t last
+    × (pieces ≡ first ++ last)
+
 -- however its rounds are played
 abbrev pub however : Play
 however h s r j t = ⊤
 
--- all pieces that are printed for an input, by its end
 abbrev pub PrintAll : List Line → List Piece → Type 0
-PrintAll lines pieces =
-    (h : Header) × (first last : List Piece) × (t : Standing) × PrintLines however lines h first t × EndsInput however h t last
-    × (pieces ≡ first ++ last)
+PrintAll lines pieces = PrintAllBy however lines pieces
 
 -- the line asks neither for a tick nor for a balance
 abbrev pub AsksForNeither : Line → Type 0
