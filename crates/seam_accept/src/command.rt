@@ -171,8 +171,8 @@ fn is_create_call_move_or_sync(word: &[u8]) -> bool
 }
 
 fn is_other_name(word: &[u8]) -> bool
-    ensures { IsTrue result ↔ Contains (codes "client" ∷ codes "tick" ∷ codes "cut" ∷ codes "shift" ∷ codes "balance" ∷ codes "destroy" ∷ [])
-        word.now }
+    ensures { IsTrue result
+        ↔ Contains (codes "client" ∷ codes "tick" ∷ codes "cut" ∷ codes "shift" ∷ codes "balance" ∷ codes "destroy" ∷ []) word.now }
 {
     is_client_tick_or_cut(word) || is_shift_balance_or_destroy(word)
 }

@@ -1,5 +1,5 @@
-//! Writes the lines of refused lines and of rounds, rounds, and their steps, as `Texts` of `seam_transcript` and of `seam_rules` say. If allocation
-//! fails, a text has no use.
+//! Writes the lines of refused lines and of rounds, rounds, and their steps, as `Texts` of `seam_transcript` and of `seam_rules` say. If
+//! allocation fails, a text has no use.
 #![tactic(auto)]
 
 mod bounds;

@@ -1,8 +1,9 @@
 //! The whole legal round: definitions and laws of it, and nothing else.
 //!
-//! It stands over `seam_transcript`, whose `Language`, `Book` and `Judging` say what lines mean and what becomes of them. A reader goes on with `FlatTable`, `Places` and `Clients` (what is true of entities,
-//! where they are held, what clients are shown), and finds all of it in `Round`, whose fields are the points of a legal round. (Cells,
-//! ghosts, witnesses and clients after the BigWorld Server Overview.)
+//! It stands over `seam_transcript`, whose `Language`, `Book` and `Judging` say what lines mean and what becomes of them. A reader goes on
+//! with `FlatTable`, `Places` and `Clients` (what is true of entities, where they are held, what clients are shown), finds all of it in
+//! `Round`, whose fields are the points of a legal round, and then reads `Transcript`. (Cells, ghosts, witnesses and clients after the
+//! BigWorld Server Overview.)
 //!
 //! Of `proofs/`, `Public` (the public version, the one table), `Shown` (the versions shown in a round), `WithoutTick` (what a round
 //! without a tick tells clients) and `Example` are for callers.

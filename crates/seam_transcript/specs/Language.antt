@@ -49,8 +49,8 @@ words_of (Destroy entity) = codes "destroy" ∷ entity ∷ []
 -- the first words of the commands
 abbrev pub command_names : List Word
 command_names =
-    codes "create" ∷ codes "call" ∷ codes "move" ∷ codes "sync" ∷ codes "client" ∷ codes "tick" ∷ codes "cut" ∷ codes "shift" ∷ codes "balance"
-    ∷ codes "destroy" ∷ []
+    codes "create" ∷ codes "call" ∷ codes "move" ∷ codes "sync" ∷ codes "client" ∷ codes "tick" ∷ codes "cut" ∷ codes "shift"
+    ∷ codes "balance" ∷ codes "destroy" ∷ []
 
 -- the first of the words is that of a command
 abbrev pub NamesCommand : List Word → Type 0

@@ -1,0 +1,13 @@
+use Rattle.std.proofs.Common.{ap}
+use Rattle.seam_io.specs.Lines.{lines_of}
+use Rattle.seam_storm.specs.Storm.{text_of_storm}
+use Rattle.seam_summary.specs.Summary.{text_of_sums}
+use Rattle.seam_summary.proofs.Inputs.{sums_are_one}
+use Rattle.seam_summary.proofs.Storm.{sender_of, storm_is_fine}
+use Rattle.seam_summary.proofs.laws.storm_has_one_summary.Goals as goal
+
+pub returns : goal.returns
+returns c = λ n ps qs x y.
+    let fine = storm_is_fine n in
+    ap (text_of_sums n)
+    (sums_are_one sender_of (lines_of (text_of_storm n)) ps qs (λ k d within. (fine k d within).0) (λ k d within. (fine k d within).1) x y)

@@ -1,0 +1,70 @@
+-- The summary of a run: one line in place of all that is printed.
+use Rattle.std.specs.Prelude.{◌≡◌, ⊤, ℕ, ℤ, pos, ◌+ℤ◌, List, [], ◌∷◌, ◌++◌, length, map, fold, filter_map, codes, unwrap_or, Option, None, Some}
+use Rattle.std.specs.List.{sum, last_or}
+use Rattle.seam_io.specs.Lines.{Line}
+use Rattle.seam_value.specs.Values.{text_of}
+use Rattle.seam_value.specs.declared.values.Value.TheVariants.{Number}
+use Rattle.seam_defs.specs.Builtin.{avatar_properties}
+use Rattle.seam_defs.specs.Deeds.{number_of, place_of, value_at}
+use Rattle.seam_defs.specs.declared.flags.Group.TheVariants as group
+use Rattle.seam_toml.specs.declared.header.Header.{Header}
+use Rattle.seam_transcript.specs.Language.{Tick, Balance}
+use Rattle.seam_transcript.specs.Judging.{Spells}
+use Rattle.seam_transcript.specs.Round.{HomeLine}
+use Rattle.seam_transcript.specs.Texts.{field}
+use Rattle.seam_rules.specs.Standing.{Standing}
+use Rattle.seam_rules.specs.Lines.{RoundData}
+use Rattle.seam_rules.specs.Transcript.{Piece, Refusal, Ended, Play, PrintLines, EndsInput}
+
+-- what the summary tells of a round: how many calls cell parts executed, how many lines clients were shown, and the hp of all homes
+pub record Sums : Type 0 where
+  pub did : ℕ
+  pub shown : ℕ
+  pub hp : ℤ
+
+-- the number of the property `hp` of an avatar
+abbrev pub hp : ℕ
+hp = 1
+
+-- the hp of an avatar's home
+abbrev pub hp_of : HomeLine → ℤ
+hp_of l = number_of (value_at l.state.props (place_of avatar_properties group.Real hp))
+
+abbrev pub sums_of : RoundData → Sums
+sums_of r = record { did = length r.did; shown = length r.shown; hp = fold (λ n l. n +ℤ hp_of l) (pos 0) r.homes }
+
+abbrev pub round_of : Piece → Option RoundData
+round_of (Refusal line c) = None
+round_of (Ended s r j) = Some r
+
+-- of each round that ended, in order
+abbrev pub all_sums : List Piece → List Sums
+all_sums pieces = map sums_of (filter_map round_of pieces)
+
+-- the summary of so many lines: the number of rounds, of calls that cell parts executed, and of lines that clients were shown; and the
+-- hp of all homes of the last round
+abbrev pub text_of_sums : (n : ℕ) → List Sums → List ℕ
+text_of_sums n sums =
+    codes "storm" ++ field n ++ codes " rounds" ++ field (length sums) ++ codes " did" ++ field (sum (map (λ s. s.did) sums))
+    ++ codes " shown" ++ field (sum (map (λ s. s.shown) sums)) ++ codes " hp "
+    ++ text_of (Number (unwrap_or (last_or None (map (λ s. s.hp) sums)) (pos 0))) ++ 10 ∷ []
+
+abbrev pub summary_text : (n : ℕ) → List Piece → List ℕ
+summary_text n pieces = text_of_sums n (all_sums pieces)
+
+-- all pieces that are printed for an input, by its end, with rounds that are played so
+abbrev pub PrintAllBy : Play → List Line → List Piece → Type 0
+PrintAllBy IsPlayed lines pieces =
+    (h : Header) × (first last : List Piece) × (t : Standing) × PrintLines IsPlayed lines h first t × EndsInput IsPlayed h t last
+    × (pieces ≡ first ++ last)
+
+-- however its rounds are played
+abbrev pub however : Play
+however h s r j t = ⊤
+
+abbrev pub PrintAll : List Line → List Piece → Type 0
+PrintAll lines pieces = PrintAllBy however lines pieces
+
+-- the line asks neither for a tick nor for a balance
+abbrev pub AsksForNeither : Line → Type 0
+AsksForNeither line = ¬ (Spells line Tick) × ¬ (Spells line Balance)
