@@ -1,5 +1,5 @@
 -- What a world has of an entity, found by the entity's base node, and by the route that this has to the real.
-use Rattle.std.specs.Prelude.{ℕ, ◌+◌, ◌-◌, ◌%◌, List, [], ◌∷◌, length, Option, None, Some, option_map, if◌then◌else◌}
+use Rattle.std.specs.Prelude.{◌≡◌, ℕ, ◌+◌, ◌-◌, ◌%◌, List, [], ◌∷◌, length, Option, None, Some, option_map, if◌then◌else◌}
 use Rattle.std.specs.List.{flat_map}
 use Rattle.std.specs.FinSet as set
 use Rattle.seam_geo.specs.declared.pos.Pos.{Pos}
@@ -41,6 +41,10 @@ by_route w e (Some r) = option_map (λ q. (r.cell, q)) (real_in ((entity_flow e 
 -- the same by the route of its base node
 abbrev pub home_found : World → ℕ → Option (ℕ × RealView)
 home_found w e = by_route w e ((entity_flow e w).slot (node_for w e)).base.route
+
+-- wherever its real is, the route of its base node leads there: so that the real may be looked for in a cell first
+abbrev pub RoutesLeadHome : World → Type 0
+RoutesLeadHome w = (e k : ℕ) (r : RealView) → real_in ((entity_flow e w).slot k) ≡ Some r → home_found w e ≡ Some (k, r)
 
 -- ---- its lines
 

@@ -9,10 +9,11 @@ ghost use Rattle.seam_toml.specs.declared.header.Header.{Header};
 ghost use Rattle.seam_transcript.specs.Texts.{done_text};
 ghost use Rattle.seam_rules.specs.Standing.{Standing};
 ghost use Rattle.seam_played.specs.Playing.{IsPlayed, data_of};
+ghost use Rattle.seam_print.specs.Finding.{RoutesLeadHome};
 ghost use Rattle.seam_print.specs.Printing.{IsOpenRound};
 ghost use Rattle.seam_print.specs.Texts.{calls_text, done_of, done_of_type};
 
-use crate::finding::{home, part};
+use crate::finding::{home, near_after, part};
 use crate::laws::what_is_found_is_printed;
 use crate::residents::Resident;
 use crate::round::PrintedRound;
@@ -58,19 +59,22 @@ fn push_calls(
     Ok(())
 }
 
-// Those of a resident's cell part.
+// Those of a resident's cell part, and the cell to look in for the next one.
 fn push_did_of(
     out: &mut Vec<u8>,
     defs: &Defs,
+    near: Option<u8>,
     resident: &Resident,
     world: &World,
-) -> Result<(), AllocError>
-    ensures { OnOk result (out.new.items ≡ out.old.items ++ done_of (codes "did ") defs.now part.Cell world.now resident.now) }
+) -> Result<Option<u8>, AllocError>
+    ensures { OnOk result (RoutesLeadHome world.now →
+        out.new.items ≡ out.old.items ++ done_of (codes "did ") defs.now part.Cell world.now resident.now) }
 {
-    match home(world, resident.made.entity) {
-        Some((_, parcel)) => push_calls(out, b"did ", defs, resident.made.ty, parcel.real.done()),
-        None => Ok(()),
-    }
+    let Some((cell, parcel)) = home(world, near, resident.made.entity) else {
+        return Ok(near);
+    };
+    push_calls(out, b"did ", defs, resident.made.ty, parcel.real.done())?;
+    Ok(near_after(near, cell))
 }
 
 fn push_did(
@@ -79,11 +83,12 @@ fn push_did(
     residents: &BTreeMap<u32, Resident>,
     world: &World,
 ) -> Result<(), AllocError>
-    ensures { OnOk result (out.new.items
+    ensures { OnOk result (RoutesLeadHome world.now → out.new.items
         ≡ out.old.items ++ flat_map (λ e. done_of (codes "did ") defs.now part.Cell world.now e.1) residents.now.entries) }
 {
+    let mut near = Some(0);
     for (_, resident) in residents {
-        push_did_of(out, defs, resident, world)?;
+        near = push_did_of(out, defs, near, resident, world)?;
     }
     Ok(())
 }

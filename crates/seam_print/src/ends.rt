@@ -11,13 +11,13 @@ ghost use Rattle.seam_rules.specs.Texts.{ghost_text, bounds_text};
 ghost use Rattle.seam_entity.specs.Here.{cell_numbers};
 ghost use Rattle.seam_played.specs.Playing.{IsPlayed, data_of};
 ghost use Rattle.seam_print.specs.Residents.{ArePresent};
-ghost use Rattle.seam_print.specs.Finding.{haunt_line, positions_found};
+ghost use Rattle.seam_print.specs.Finding.{RoutesLeadHome, haunt_line, positions_found};
 ghost use Rattle.seam_print.specs.Farewells.{AreFarewells};
 ghost use Rattle.seam_print.specs.Printing.{IsOpenRound};
 ghost use Rattle.seam_print.specs.Texts.{ends_text, home_of, base_of, ghosts_of, shown_of};
 
 use crate::farewells::{Farewells, push_lines};
-use crate::finding::{home, part};
+use crate::finding::{home, near_after, part};
 use crate::laws::what_is_found_is_printed;
 use crate::residents::{Resident, Residents};
 use crate::round::PrintedRound;
@@ -73,11 +73,12 @@ fn find_positions(
     residents: &BTreeMap<u32, Resident>,
     ended: &World,
 ) -> Result<Vec<Pos>, AllocError>
-    ensures { IfOk result (λ ps. ps.items ≡ flat_map (λ e. positions_found ended.now e.1.made.entity) residents.now.entries) }
+    ensures { IfOk result (λ ps. RoutesLeadHome ended.now →
+        ps.items ≡ flat_map (λ e. positions_found ended.now e.1.made.entity) residents.now.entries) }
 {
     let mut positions = Vec::new(alloc);
     for (_, resident) in residents {
-        if let Some((_, parcel)) = home(ended, resident.made.entity) {
+        if let Some((_, parcel)) = home(ended, None, resident.made.entity) {
             positions.push(parcel.real.state().pos)?;
         }
     }
@@ -86,17 +87,19 @@ fn find_positions(
 
 // ---- homes
 
+// The line of a resident's home, and the cell to look in for the next one.
 fn push_home_of(
     out: &mut Vec<u8>,
     defs: &Defs,
+    near: Option<u8>,
     resident: &Resident,
     world: &World,
-) -> Result<(), AllocError>
-    ensures { OnOk result (out.new.items ≡ out.old.items ++ home_of defs.now world.now resident.now) }
+) -> Result<Option<u8>, AllocError>
+    ensures { OnOk result (RoutesLeadHome world.now → out.new.items ≡ out.old.items ++ home_of defs.now world.now resident.now) }
 {
     let entity = resident.made.entity;
-    let Some((cell, parcel)) = home(world, entity) else {
-        return Ok(());
+    let Some((cell, parcel)) = home(world, near, entity) else {
+        return Ok(near);
     };
     let real = &parcel.real;
     let line = HomeLine {
@@ -106,7 +109,8 @@ fn push_home_of(
         version: real.version(),
         state: real.state(),
     };
-    push_home(out, defs, &line)
+    push_home(out, defs, &line)?;
+    Ok(near_after(near, cell))
 }
 
 fn push_homes(
@@ -115,10 +119,12 @@ fn push_homes(
     residents: &BTreeMap<u32, Resident>,
     world: &World,
 ) -> Result<(), AllocError>
-    ensures { OnOk result (out.new.items ≡ out.old.items ++ flat_map (λ e. home_of defs.now world.now e.1) residents.now.entries) }
+    ensures { OnOk result (RoutesLeadHome world.now →
+        out.new.items ≡ out.old.items ++ flat_map (λ e. home_of defs.now world.now e.1) residents.now.entries) }
 {
+    let mut near = Some(0);
     for (_, resident) in residents {
-        push_home_of(out, defs, resident, world)?;
+        near = push_home_of(out, defs, near, resident, world)?;
     }
     Ok(())
 }
@@ -181,14 +187,21 @@ fn push_haunts(out: &mut Vec<u8>, entity: u32, real: &Real) -> Result<(), AllocE
     Ok(())
 }
 
-fn push_ghosts_of(out: &mut Vec<u8>, resident: &Resident, world: &World) -> Result<(), AllocError>
-    ensures { OnOk result (out.new.items ≡ out.old.items ++ ghosts_of world.now resident.now) }
+// The lines of a resident's ghosts, and the cell to look in for the next one.
+fn push_ghosts_of(
+    out: &mut Vec<u8>,
+    near: Option<u8>,
+    resident: &Resident,
+    world: &World,
+) -> Result<Option<u8>, AllocError>
+    ensures { OnOk result (RoutesLeadHome world.now → out.new.items ≡ out.old.items ++ ghosts_of world.now resident.now) }
 {
     let entity = resident.made.entity;
-    match home(world, entity) {
-        Some((_, parcel)) => push_haunts(out, entity, &parcel.real),
-        None => Ok(()),
-    }
+    let Some((cell, parcel)) = home(world, near, entity) else {
+        return Ok(near);
+    };
+    push_haunts(out, entity, &parcel.real)?;
+    Ok(near_after(near, cell))
 }
 
 fn push_ghosts(
@@ -196,10 +209,12 @@ fn push_ghosts(
     residents: &BTreeMap<u32, Resident>,
     world: &World,
 ) -> Result<(), AllocError>
-    ensures { OnOk result (out.new.items ≡ out.old.items ++ flat_map (λ e. ghosts_of world.now e.1) residents.now.entries) }
+    ensures { OnOk result (RoutesLeadHome world.now →
+        out.new.items ≡ out.old.items ++ flat_map (λ e. ghosts_of world.now e.1) residents.now.entries) }
 {
+    let mut near = Some(0);
     for (_, resident) in residents {
-        push_ghosts_of(out, resident, world)?;
+        near = push_ghosts_of(out, near, resident, world)?;
     }
     Ok(())
 }

@@ -3,7 +3,7 @@
 ghost use Rattle.std.specs.Prelude.{◌≡◌, ℕ, Option, None, Some, option_map, option_copied, slice_get};
 ghost use Rattle.std.specs.Option.{option_and_then};
 ghost use Rattle.seam_core.specs.Nodes.{base_in};
-ghost use Rattle.seam_print.specs.Finding.{node_for, part_found, home_found};
+ghost use Rattle.seam_print.specs.Finding.{node_for, part_found, home_found, RoutesLeadHome};
 ghost use Rattle.seam_ones.specs.Sights.{entity_flow};
 ghost use Rattle.seam_ones.specs.Ones.{real_in};
 
@@ -38,11 +38,23 @@ pub(crate) fn part(world: &World, e: u32) -> Option<&BasePart>
     base_of(world, e)?.part(e)
 }
 
-/// The real of an entity, and the cell that it is in, which its base node has the route to.
-pub(crate) fn home(world: &World, e: u32) -> Option<(u8, &Parcel)>
-    ensures { option_map (λ p. (p.0, p.1.now)) result ≡ home_found world.now e }
+/// The real of an entity, and the cell that it is in, which its base node has the route to. It is looked for in the near cell first, if
+/// there is one, and the route is followed only where it is not there.
+pub(crate) fn home(world: &World, near: Option<u8>, e: u32) -> Option<(u8, &Parcel)>
+    ensures { RoutesLeadHome world.now → option_map (λ p. (p.0, p.1.now)) result ≡ home_found world.now e }
 {
+    if let Some(cell) = near {
+        if let Some(parcel) = real_at(world, cell, e) {
+            return Some((cell, parcel));
+        }
+    }
     let (cell, _) = base_of(world, e)?.route(e)?;
     let parcel = real_at(world, cell, e)?;
     Some((cell, parcel))
+}
+
+/// The cell to look in for the next real, where one was found in a cell: the same as long as each was there. Where reals are in many cells,
+/// their routes find them sooner.
+pub(crate) fn near_after(near: Option<u8>, cell: u8) -> Option<u8> {
+    if near? == cell { near } else { None }
 }

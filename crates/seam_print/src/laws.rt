@@ -18,7 +18,7 @@ ghost use Rattle.seam_rules.specs.Texts.{client_text, traced_text};
 ghost use Rattle.seam_played.specs.Playing.{IsPlayed, data_of};
 ghost use Rattle.seam_print.specs.Residents.{AreResidents, ArePresent};
 ghost use Rattle.seam_print.specs.Worlds.{AreAtRest};
-ghost use Rattle.seam_print.specs.Finding.{done_found, homes_found, bases_found, ghosts_found};
+ghost use Rattle.seam_print.specs.Finding.{done_found, homes_found, bases_found, ghosts_found, RoutesLeadHome};
 ghost use Rattle.seam_print.specs.Farewells.{AreFarewells};
 ghost use Rattle.seam_print.specs.Texts.{calls_text, ends_text, done_of_type, shown_of};
 ghost use Rattle.seam_print.specs.declared.residents.Resident.{Resident as AnyResident};
@@ -57,7 +57,7 @@ fn a_round_is_read_at_rest()
 
 /// What is found of those who are there in a played round is what the round prints: where its calls have ended, the calls (`done`), and
 /// where it has ended, the homes (`homes`), the base parts (`bases`) and the ghosts (`ghosts`), and the lines of clients, with what was kept
-/// of those whose entities died (`shown`).
+/// of those whose entities died (`shown`). In both worlds each real is where the route of its base node leads (`routes`).
 pub fn what_is_found_is_printed()
     ensures did { (h : Header) (s : Standing) (tree : Division) (w v : World) (p : IsPlayed h s tree w v) (bounds : Option Division)
         (rs : List AnyResident) → ArePresent s.book rs →
@@ -79,6 +79,8 @@ pub fn what_is_found_is_printed()
     ensures shown { (h : Header) (s : Standing) (tree : Division) (w v : World) (p : IsPlayed h s tree w v) (bounds : Option Division)
         (rs : List AnyResident) → ArePresent s.book rs → (kept : Map (List ℕ)) → AreFarewells h.defs s.book p.round.called kept →
         flat_map (shown_of h.defs kept v) rs ≡ flat_map (client_text h.defs) (data_of h s tree w v p bounds).shown }
+    ensures routes { (h : Header) (s : Standing) (tree : Division) (w v : World) (p : IsPlayed h s tree w v) →
+        RoutesLeadHome p.round.called × RoutesLeadHome v }
 {
     a_round_is_read_at_rest();
 }

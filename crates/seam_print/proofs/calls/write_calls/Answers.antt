@@ -5,7 +5,7 @@ use Rattle.seam_defs.specs.declared.flags.Part.TheVariants as part
 use Rattle.seam_defs.specs.declared.types.TypeDef.{TypeDef}
 use Rattle.seam_steps.specs.Nodes.{World}
 use Rattle.seam_played.specs.Playing.{data_of}
-use Rattle.seam_print.specs.Finding.{done_found}
+use Rattle.seam_print.specs.Finding.{RoutesLeadHome, done_found}
 use Rattle.seam_print.specs.Texts.{calls_text, done_of_type}
 use Rattle.seam_print.proofs.Pieces.{calls_written}
 use Rattle.seam_print.proofs.calls.write_calls.Goals as goal
@@ -24,7 +24,8 @@ returns c =
     let dob = subst
     (λ (u : World). flat_map (λ r. done_of_type r.made.ty (done_found part.Base u r.made.entity)) rs ≡ d.dob) called
     (c.what_is_found_is_printed.ensures.dob h s tree w v p bounds rs is.present) in
+    let routes = subst RoutesLeadHome called (c.what_is_found_is_printed.ensures.routes h s tree w v p).0 in
     calls_written c.by_number-residents.result.now rs c.by_number-residents.ensures.list round.defs.now d first c.args.called.now
-    did dob c.push_did.new.out.items c.push_dob.new.out.items c.in_ok-push_did.ensures last
+    did dob c.push_did.new.out.items c.push_dob.new.out.items (c.in_ok-push_did.ensures routes) last
     ∙ ap (λ (ds : List TypeDef). first ++ calls_text ds d) is.defs)
     c.push_dob.ensures

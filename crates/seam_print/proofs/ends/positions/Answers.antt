@@ -10,6 +10,7 @@ returns c =
     let v = c.args.ended.now in
     if_ok c.find_positions.result
     (λ ps are h s tree w p bounds present.
-    are ∙ positions_are c.by_number.result.now rs c.by_number.ensures.list v (data_of h s tree w v p bounds).homes
+    are (c.what_is_found_is_printed.ensures.routes h s tree w v p).1
+    ∙ positions_are c.by_number.result.now rs c.by_number.ensures.list v (data_of h s tree w v p bounds).homes
     (c.what_is_found_is_printed.ensures.homes h s tree w v p bounds rs present))
     c.find_positions.ensures

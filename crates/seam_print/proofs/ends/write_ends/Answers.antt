@@ -21,11 +21,12 @@ returns c =
     let law = c.what_is_found_is_printed.ensures in
     let shown = subst (λ (ds : List TypeDef). flat_map (shown_of ds kept v) rs ≡ flat_map (client_text ds) d.shown) (sym is.defs)
     (law.shown h s tree w v p c.args.bounds.now rs is.present kept farewells) in
+    let routes = (law.routes h s tree w v p).1 in
     ends_written c.by_number-residents.result.now rs c.by_number-residents.ensures.list round.defs.now d first v kept round.number
     is.number (law.homes h s tree w v p c.args.bounds.now rs is.present) (law.bases h s tree w v p c.args.bounds.now rs is.present)
     (law.ghosts h s tree w v p c.args.bounds.now rs is.present) shown c.push_homes.new.out.items c.push_bases.new.out.items
     c.push_ghosts.new.out.items c.push_clients.new.out.items c.push_tree.new.out.items c.push_number_line.new.out.items
-    c.in_ok-push_homes.ensures c.in_ok-push_bases.ensures c.in_ok-push_ghosts.ensures c.in_ok-push_clients.ensures
+    (c.in_ok-push_homes.ensures routes) c.in_ok-push_bases.ensures (c.in_ok-push_ghosts.ensures routes) c.in_ok-push_clients.ensures
     c.in_ok-push_tree.ensures last
     ∙ ap (λ (ds : List TypeDef). first ++ ends_text ds d) is.defs)
     c.push_number_line.ensures

@@ -5,7 +5,7 @@ use Rattle.seam_legal.specs.Standings.{ghosts_read}
 use Rattle.seam_legal.proofs.Ended.{live_ended}
 use Rattle.seam_played.specs.Reading.{homes_read, base_if, bases_read}
 use Rattle.seam_print.specs.Finding.{home_line_at, homes_found, bases_found, ghost_lines_at, ghosts_found}
-use Rattle.seam_print.proofs.Routes.{homes_are_found, bases_are_found, ghosts_are_found, nowhere}
+use Rattle.seam_print.proofs.Routes.{homes_are_found, bases_are_found, ghosts_are_found, nowhere, home_is}
 use Rattle.seam_print.proofs.Played.{done_is_printed, left_is_printed, shown_is_printed, is_nowhere, has_no_part}
 use Rattle.seam_print.proofs.laws.what_is_found_is_printed.Goals as goal
 
@@ -50,6 +50,12 @@ returns-clause-ghosts c h s tree w v p bounds rs present =
     (λ x has.
     let held = rest.goes.live x.entity x (live_ended b x.entity ∙ (p.live_listed.exact x).0 has) in
     ghosts_are_found h t some v rest.ended x.entity held.cell held.real held.here rest.copies)
+
+pub returns-clause-routes : goal.returns-clause-routes
+returns-clause-routes c h s tree w v p =
+    let rest = c.a_round_is_read_at_rest.ensures h s tree w v p in
+    let some = p.beside.legal.in_range.some_bases in
+    (home_is h (tree_of s.book) some p.round.called rest.called, home_is h (tree_of s.book) some v rest.ended)
 
 pub returns-clause-shown : goal.returns-clause-shown
 returns-clause-shown c h s tree w v p bounds rs present kept farewells =
