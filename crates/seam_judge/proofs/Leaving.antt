@@ -16,7 +16,7 @@ use Rattle.seam_call.specs.declared.call.Call.{Call}
 use Rattle.seam_defs.specs.declared.flags.Part.{Part}
 use Rattle.seam_transcript.specs.Book.{tree_of, with_round_ended}
 use Rattle.seam_transcript.specs.Round.{DoneLine, HomeLine}
-use Rattle.seam_rules.specs.Standing.{Standing, in_first_cell}
+use Rattle.seam_rules.specs.Standing.{in_first_cell}
 use Rattle.seam_rules.specs.Lines.{GhostLine, ClientLine, RoundData}
 use Rattle.seam_rules.specs.Round.{with_bounds}
 use Rattle.seam_round.specs.Codes.{AreSmall}
