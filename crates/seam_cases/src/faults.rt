@@ -5,12 +5,7 @@ use std::test::Fail;
 
 const SCRIPT: &str = "%%\ncreate 1 Avatar 100 100\ncall b1 9 heal 1\nsync\n";
 
-fn check(
-    rt: &HostRuntime,
-    streams: Streams,
-    status: Status,
-    output: &[u8],
-) -> Result<(), Fail> {
+fn check(rt: &HostRuntime, streams: Streams, status: Status, output: &[u8]) -> Result<(), Fail> {
     let (ended, out) = run_with(rt, SCRIPT, streams)?;
     assert_eq!(rt; ended, status);
     assert_eq!(rt; out.bytes(), output);
@@ -54,10 +49,5 @@ fn a_first_write_that_fails_writes_nothing(rt: HostRuntime) -> Result<(), Fail> 
 #[test]
 fn a_full_sink_ends_the_run(rt: HostRuntime) -> Result<(), Fail> {
     let streams = Streams { limit: 20, ..GOOD };
-    check(
-        &rt,
-        streams,
-        Status::WriteFault,
-        b"line 3 dead\nround 1\n",
-    )
+    check(&rt, streams, Status::WriteFault, b"line 3 dead\nround 1\n")
 }

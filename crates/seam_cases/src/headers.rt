@@ -128,12 +128,7 @@ fn headers_are_read(rt: HostRuntime) -> Result<(), Fail> {
 }
 
 // Checks a row whose script comes after so many lines, each a comment of so many bytes.
-fn check_after_comments(
-    rt: &HostRuntime,
-    lines: u32,
-    bytes: u32,
-    row: &Row,
-) -> Result<(), Fail> {
+fn check_after_comments(rt: &HostRuntime, lines: u32, bytes: u32, row: &Row) -> Result<(), Fail> {
     let mut script = String::new(rt.alloc());
     for _ in 0..lines {
         for _ in 0..bytes {

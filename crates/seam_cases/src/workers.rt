@@ -13,8 +13,7 @@ use std::thread::Threads;
 
 const ONE_CALL: &str = "%%\ncreate 1 Avatar 100 100\ncall b1 1 hit 30\nsync\n";
 
-const LAST_LINES: &str =
-    "phase 2\nphase 3\nstep 16 task\nstep 0 from 16\ndid 1 b1 1 hit 30\n\
+const LAST_LINES: &str = "phase 2\nphase 3\nstep 16 task\nstep 0 from 16\ndid 1 b1 1 hit 30\n\
     home 1 0 1 100 100 hp=70 mana=50 mood=0 note=\"\" scent=0 xp=0\nbase 1 0 gold=0 rank=1\nend 1\n";
 
 #[test]
@@ -87,7 +86,15 @@ fn two_nodes_are_inside_their_steps_at_once(rt: HostRuntime) -> Result<(), Fail>
     );
     let mut out = MemSink::new(alloc, 1 << 20, Vec::new(alloc))?;
     let words = words_of(alloc, &["--workers", "2"])?;
-    let status = run_seamless(&rt, alloc, &words, &mut input, &mut out, &gate, &mut NoWatch);
+    let status = run_seamless(
+        &rt,
+        alloc,
+        &words,
+        &mut input,
+        &mut out,
+        &gate,
+        &mut NoWatch,
+    );
     assert_eq!(rt; status, Status::Done);
     assert_eq!(rt; gate.inside.load(Ordering::SeqCst), 3);
     assert_eq!(rt; gate.given_up.load(Ordering::SeqCst), 0);

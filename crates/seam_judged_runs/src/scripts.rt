@@ -32,11 +32,7 @@ pub(crate) fn script_of(alloc: Global, kind: &Kind, seed: u64) -> Result<String,
 }
 
 /// The script of a seed with one large round, which threads play: some entities, clients and cells, and then calls and moves.
-pub(crate) fn large_script_of(
-    alloc: Global,
-    kind: &Kind,
-    seed: u64,
-) -> Result<String, AllocError> {
+pub(crate) fn large_script_of(alloc: Global, kind: &Kind, seed: u64) -> Result<String, AllocError> {
     let mut writer = Writer {
         alloc,
         kind,

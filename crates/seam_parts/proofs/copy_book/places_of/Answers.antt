@@ -17,7 +17,7 @@ loop-e-smaller c =
     let m = c.args.book.now.ghosts in
     fewer_left c.loop-e.last c.in-Some.e
     (there c.loop-e.last (copied (map.entries m)) (c.in-Some.e, c.in-Some.copy.now) (copies_rise (map.entries m) (map.entries_sorted m))
-        (sym c.in-Some.ensures)).1
+    (sym c.in-Some.ensures)).1
     c.in_ok-put.ensures.small
 
 pub loop-e-preserved : goal.loop-e-preserved

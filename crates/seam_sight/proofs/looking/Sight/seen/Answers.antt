@@ -53,4 +53,4 @@ pub returns-in_default-clause-near : goal.returns-in_default-clause-near
 returns-in_default-clause-near c = λ k.
     let d : CellView = seeing k (here_in c.args.self.now.known.now) c.args.self.now.reals.now.items c.args.self.now.copies.now.ghosts in
     near_and_far c.args.view.now.core c.args.own (map seen_as (known_to d c.args.self.now.own)) c.in_ok-all.all.items
-        (c.in_ok-all.ensures k)
+    (c.in_ok-all.ensures k)
