@@ -1,6 +1,7 @@
 // Scripts of several cells, of clients and of entities that die, and what they print.
 use crate::rows::{Row, check_row};
-use crate::runs::{GOOD, run_with};
+use crate::runs::{GOOD, run_watched, run_with};
+use seam_watch::NoWatch;
 use seam_world::Status;
 use std::alloc::{AllocError, Global};
 use std::test::Fail;
@@ -130,9 +131,11 @@ fn joined(alloc: Global, parts: &[&str]) -> Result<String, AllocError> {
 
 #[test]
 fn scripts_of_cells_print_what_they_say(rt: HostRuntime) -> Result<(), Fail> {
-    for row in &CELLS {
-        let (status, out) = run_with(&rt, row.script, GOOD)?;
-        check_row(&rt, row, status, &out);
+    for words in &[["--workers=1"], ["--workers=4"]] {
+        for row in &CELLS {
+            let (status, out) = run_watched(&rt, words, row.script, GOOD, &mut NoWatch)?;
+            check_row(&rt, row, status, &out);
+        }
     }
     Ok(())
 }

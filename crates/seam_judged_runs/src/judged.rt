@@ -1,9 +1,13 @@
 // What a server printed of a script, judged line by line.
 use seam_judge::{Point, have_homes, judge};
 use seam_plain::plain_round;
-use seam_reader::{BadScript, Read, ScriptReader, first_piece, read_round};
+use seam_reader::{
+    BadScript, Read, ScriptReader, TracedRound, first_piece, read_round, read_traced_round,
+};
 use seam_report::push_refusal;
-use seam_transcript::Cause;
+use seam_round::{Round, Standing};
+use seam_transcript::{Cause, Header};
+use seam_watch::{Journal, JournalLog};
 use std::alloc::{AllocError, Global};
 
 /// What is wrong of what was printed of a script.
@@ -13,7 +17,7 @@ pub(crate) enum Wrong {
     Header,
     /// The refusal of the line of this number is not printed where it is due.
     Refusal(u64),
-    /// The text of the round after so many is no text of a round.
+    /// The text of the round after so many is no text of a round, or its steps are not those that the watch was told.
     NoRound(u64),
     /// The round after so many is not legal, at this point.
     Round(u64, Point),
@@ -23,17 +27,20 @@ pub(crate) enum Wrong {
     More,
 }
 
-/// The first thing that is wrong of what was printed of a script.
+/// The first thing that is wrong of what was printed of a script. Where there is a log, rounds have their steps in their text, and these
+/// are those of the log.
 pub(crate) fn wrong_in(
     alloc: Global,
     script: &str,
     printed: &[u8],
+    log: Option<&JournalLog>,
 ) -> Result<Option<Wrong>, AllocError> {
     let mut follower = Follower {
         alloc,
         reader: ScriptReader::new(alloc),
         lines: 0,
         rest: printed,
+        log,
     };
     for line in script.trim_end().split('\n') {
         if let Some(wrong) = follower.follow(line.as_bytes())? {
@@ -50,6 +57,34 @@ struct Follower<'a> {
     reader: ScriptReader,
     lines: u64,
     rest: &'a [u8],
+    log: Option<&'a JournalLog>,
+}
+
+// The round that has a text, with its steps there where there is a log, which has the same.
+fn round_of(
+    alloc: Global,
+    header: &Header,
+    standing: &Standing,
+    text: &[u8],
+    log: Option<&JournalLog>,
+) -> Result<Option<Round>, AllocError> {
+    let Some(log) = log else {
+        return read_round(alloc, header, standing, text);
+    };
+    let Some(traced) = read_traced_round(alloc, header, standing, text)? else {
+        return Ok(None);
+    };
+    let TracedRound { round, steps } = traced;
+    match log.at(standing.rounds as usize) {
+        Some((_, told)) if are_same(told, &steps) => Ok(Some(round)),
+        _ => Ok(None),
+    }
+}
+
+fn are_same(one: &Journal, other: &Journal) -> bool {
+    one.calls.as_slice() == other.calls.as_slice()
+        && one.reaps.as_slice() == other.reaps.as_slice()
+        && one.looks.as_slice() == other.looks.as_slice()
 }
 
 impl<'a> Follower<'a> {
@@ -93,7 +128,8 @@ impl<'a> Follower<'a> {
             return Ok(Some(Wrong::Header));
         };
         let rounds = standing.rounds;
-        let Some(round) = read_round(self.alloc, header, standing, text)? else {
+        let read = round_of(self.alloc, header, standing, text, self.log)?;
+        let Some(round) = read else {
             return Ok(Some(Wrong::NoRound(rounds)));
         };
         if !have_homes(standing) {

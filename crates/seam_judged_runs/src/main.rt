@@ -1,7 +1,7 @@
 //! Runs scripts, and judges what is printed of them by the plain judge: the scripts that it reads from standard input, and scripts that it
-//! makes from seeds, some with rounds so large that threads play them. It prints a line for each script that is read, with the name before
-//! it, then what is wrong of a made one, and then a line for each error that it plants in what was printed, which the judge has to refuse
-//! wherever it is planted.
+//! makes from seeds, some with rounds so large that threads play them, and some with the steps of their rounds. It prints a line for each
+//! script that is read, with the name before it, then what is wrong of made ones, and then a line for each error that it plants in what
+//! was printed, which the judge has to refuse wherever it is planted.
 #![tactic(auto)]
 
 mod draws;
@@ -14,7 +14,7 @@ mod scripts;
 use crate::judged::wrong_in;
 use crate::kinds::{EXACT, KINDS};
 use crate::planted::{PLANTS, Plant};
-use crate::runs::printed_of;
+use crate::runs::{printed_of, traced_of};
 use crate::scripts::{large_script_of, script_of};
 use std::alloc::AllocError;
 use std::io;
@@ -39,6 +39,8 @@ fn main(rt: HostRuntime) -> io::Result<()> {
     println!(rt; "made from seeds: {verdict}")?;
     let verdict = verdict_on_large(&rt)?;
     println!(rt; "made from seeds, with large rounds: {verdict}")?;
+    let verdict = verdict_on_traced(&rt)?;
+    println!(rt; "made from seeds, with their steps: {verdict}")?;
     for plant in &PLANTS {
         let verdict = verdict_on_plant(&rt, plant)?;
         println!(rt; "{}: {verdict}", plant.name)?;
@@ -58,7 +60,7 @@ fn halves(text: &str) -> (&str, &str) {
 fn verdict_on(rt: &HostRuntime, script: &str) -> Result<String, AllocError> {
     let alloc = rt.alloc();
     let printed = printed_of(rt, script)?;
-    match wrong_in(alloc, script, printed.as_bytes())? {
+    match wrong_in(alloc, script, printed.as_bytes(), None)? {
         None => String::from_str(alloc, "legal"),
         Some(wrong) => format!(in alloc; "{wrong:?}"),
     }
@@ -92,6 +94,32 @@ fn verdict_on_large(rt: &HostRuntime) -> Result<String, AllocError> {
     String::from_str(alloc, "legal")
 }
 
+// What comes of scripts that are run with a trace, large rounds among them: the first that is not legal, or has other steps than the watch
+// was told.
+fn verdict_on_traced(rt: &HostRuntime) -> Result<String, AllocError> {
+    let alloc = rt.alloc();
+    for (place, kind) in KINDS.iter().enumerate() {
+        for seed in 0..LARGE {
+            let small = verdict_on_steps(rt, script_of(alloc, kind, seed)?.as_str())?;
+            let large = verdict_on_steps(rt, large_script_of(alloc, kind, seed)?.as_str())?;
+            if small.as_str() != "legal" || large.as_str() != "legal" {
+                return format!(in alloc; "kind {place}, seed {seed}: {small}, {large}");
+            }
+        }
+    }
+    String::from_str(alloc, "legal")
+}
+
+// What comes of a script that is run with a trace.
+fn verdict_on_steps(rt: &HostRuntime, script: &str) -> Result<String, AllocError> {
+    let alloc = rt.alloc();
+    let (printed, log) = traced_of(rt, script)?;
+    match wrong_in(alloc, script, printed.as_bytes(), Some(&log))? {
+        None => String::from_str(alloc, "legal"),
+        Some(wrong) => format!(in alloc; "{wrong:?}"),
+    }
+}
+
 // What comes of scripts with an error planted in what was printed of them.
 fn verdict_on_plant(rt: &HostRuntime, plant: &Plant) -> Result<String, AllocError> {
     let alloc = rt.alloc();
@@ -100,7 +128,7 @@ fn verdict_on_plant(rt: &HostRuntime, plant: &Plant) -> Result<String, AllocErro
         let script = script_of(alloc, &KINDS[EXACT], seed)?;
         let printed = printed_of(rt, script.as_str())?;
         if let Some(changed) = plant.put_in(alloc, printed.as_str())? {
-            if wrong_in(alloc, script.as_str(), changed.as_bytes())?.is_none() {
+            if wrong_in(alloc, script.as_str(), changed.as_bytes(), None)?.is_none() {
                 return format!(in alloc; "legal with seed {seed}");
             }
             refused = true;
