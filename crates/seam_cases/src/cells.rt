@@ -133,7 +133,14 @@ fn joined(alloc: Global, parts: &[&str]) -> Result<String, AllocError> {
 fn scripts_of_cells_print_what_they_say(rt: HostRuntime) -> Result<(), Fail> {
     for words in &[["--workers=1"], ["--workers=4"]] {
         for row in &CELLS {
-            let (status, out) = run_watched(&rt, words, row.script, GOOD, &mut NoWatch)?;
+            let (status, out) = run_watched(
+                &rt,
+                rt.alloc(),
+                words,
+                row.script,
+                GOOD,
+                &mut NoWatch,
+            )?;
             check_row(&rt, row, status, &out);
         }
     }
@@ -146,7 +153,7 @@ fn nobody_sees_a_seam_in_one_cell(rt: HostRuntime) -> Result<(), Fail> {
     let homes = "home 1 0 1 1990 100 hp=101 mana=50 mood=0 note=\"\" scent=0 xp=0\n\
         home 2 0 2 2100 100 hp=90 mana=50 mood=0 note=\"\" scent=0 xp=0\n";
     let output = joined(rt.alloc(), &[BOTH[0], homes, BOTH[1], BOTH[2]])?;
-    let (status, out) = run_with(&rt, &script, GOOD)?;
+    let (status, out) = run_with(&rt, rt.alloc(), &script, GOOD)?;
     assert_eq!(rt; status, Status::Done);
     assert_eq!(rt; out.bytes(), output.as_bytes());
     Ok(())
@@ -159,7 +166,7 @@ fn nobody_sees_a_seam_in_sixteen_cells(rt: HostRuntime) -> Result<(), Fail> {
         home 2 15 2 2100 100 hp=90 mana=50 mood=0 note=\"\" scent=0 xp=0\n";
     let ghosts = "ghost 1 15 1\nghost 2 0 2\nghost 2 14 2\n";
     let output = joined(rt.alloc(), &[BOTH[0], homes, BOTH[1], ghosts, BOTH[2]])?;
-    let (status, out) = run_with(&rt, &script, GOOD)?;
+    let (status, out) = run_with(&rt, rt.alloc(), &script, GOOD)?;
     assert_eq!(rt; status, Status::Done);
     assert_eq!(rt; out.bytes(), output.as_bytes());
     Ok(())
@@ -169,7 +176,7 @@ fn nobody_sees_a_seam_in_sixteen_cells(rt: HostRuntime) -> Result<(), Fail> {
 fn there_are_sixteen_cells_at_most(rt: HostRuntime) -> Result<(), Fail> {
     let more = "cut 16 x 5\ncut 0 x 5000\ncut 0 x 1000\nshift 1 8500\nshift 16 5\n";
     let script = joined(rt.alloc(), &["%%\n", SIXTEEN, more])?;
-    let (status, out) = run_with(&rt, &script, GOOD)?;
+    let (status, out) = run_with(&rt, rt.alloc(), &script, GOOD)?;
     assert_eq!(rt; status, Status::Done);
     assert_eq!(rt;
         out.bytes(),

@@ -1,12 +1,16 @@
 // Scripts with streams that fail.
 use crate::runs::{GOOD, Streams, run_with};
 use seam_world::Status;
+use std::alloc::Global;
+use std::process::Abort;
+use std::sync::Wait;
 use std::test::Fail;
+use std::thread::Threads;
 
 const SCRIPT: &str = "%%\ncreate 1 Avatar 100 100\ncall b1 9 heal 1\nsync\n";
 
 fn check(rt: &HostRuntime, streams: Streams, status: Status, output: &[u8]) -> Result<(), Fail> {
-    let (ended, out) = run_with(rt, SCRIPT, streams)?;
+    let (ended, out) = run_with(rt, alloc, SCRIPT, streams)?;
     assert_eq!(rt; ended, status);
     assert_eq!(rt; out.bytes(), output);
     Ok(())
@@ -18,7 +22,7 @@ fn a_first_read_that_fails_ends_the_run(rt: HostRuntime) -> Result<(), Fail> {
         bad_reads: &[1],
         ..GOOD
     };
-    check(&rt, streams, Status::ReadFault, b"fault read\n")
+    check(&rt, rt.alloc(), streams, Status::ReadFault, b"fault read\n")
 }
 
 #[test]
@@ -30,6 +34,7 @@ fn a_later_read_that_fails_comes_after_the_round(rt: HostRuntime) -> Result<(), 
     };
     check(
         &rt,
+        rt.alloc(),
         streams,
         Status::ReadFault,
         b"line 3 dead\nround 1\nhome 1 0 0 100 100 hp=100 mana=50 mood=0 note=\"\" scent=0 xp=0\nbase 1 0 gold=0 rank=1\nend 1\n\
@@ -43,11 +48,17 @@ fn a_first_write_that_fails_writes_nothing(rt: HostRuntime) -> Result<(), Fail> 
         bad_writes: &[1],
         ..GOOD
     };
-    check(&rt, streams, Status::WriteFault, b"")
+    check(&rt, rt.alloc(), streams, Status::WriteFault, b"")
 }
 
 #[test]
 fn a_full_sink_ends_the_run(rt: HostRuntime) -> Result<(), Fail> {
     let streams = Streams { limit: 20, ..GOOD };
-    check(&rt, streams, Status::WriteFault, b"line 3 dead\nround 1\n")
+    check(
+        &rt,
+        rt.alloc(),
+        streams,
+        Status::WriteFault,
+        b"line 3 dead\nround 1\n",
+    )
 }

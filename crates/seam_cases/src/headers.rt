@@ -2,7 +2,11 @@
 use crate::rows::{Row, check_row};
 use crate::runs::{GOOD, run_with};
 use seam_world::Status;
+use std::alloc::Global;
+use std::process::Abort;
+use std::sync::Wait;
 use std::test::Fail;
+use std::thread::Threads;
 
 pub static HEADERS: [Row; 12] = [
     Row {
@@ -121,7 +125,7 @@ static LONG_LINE: Row = Row {
 #[test]
 fn headers_are_read(rt: HostRuntime) -> Result<(), Fail> {
     for row in &HEADERS {
-        let (status, out) = run_with(&rt, row.script, GOOD)?;
+        let (status, out) = run_with(&rt, rt.alloc(), row.script, GOOD)?;
         check_row(&rt, row, status, &out);
     }
     Ok(())
@@ -129,7 +133,7 @@ fn headers_are_read(rt: HostRuntime) -> Result<(), Fail> {
 
 // Checks a row whose script comes after so many lines, each a comment of so many bytes.
 fn check_after_comments(rt: &HostRuntime, lines: u32, bytes: u32, row: &Row) -> Result<(), Fail> {
-    let mut script = String::new(rt.alloc());
+    let mut script = String::new(alloc);
     for _ in 0..lines {
         for _ in 0..bytes {
             script.push('#')?;
@@ -137,14 +141,14 @@ fn check_after_comments(rt: &HostRuntime, lines: u32, bytes: u32, row: &Row) -> 
         script.push('\n')?;
     }
     script.push_str(row.script)?;
-    let (status, out) = run_with(rt, &script, GOOD)?;
+    let (status, out) = run_with(rt, alloc, &script, GOOD)?;
     check_row(rt, row, status, &out);
     Ok(())
 }
 
 #[test]
 fn a_header_may_be_too_long(rt: HostRuntime) -> Result<(), Fail> {
-    check_after_comments(&rt, 16, 4095, &LONGEST)?;
-    check_after_comments(&rt, 16, 4095, &TOO_LONG)?;
-    check_after_comments(&rt, 1, 4097, &LONG_LINE)
+    check_after_comments(&rt, rt.alloc(), 16, 4095, &LONGEST)?;
+    check_after_comments(&rt, rt.alloc(), 16, 4095, &TOO_LONG)?;
+    check_after_comments(&rt, rt.alloc(), 1, 4097, &LONG_LINE)
 }

@@ -124,7 +124,14 @@ pub fn check_row(rt: &impl Abort, row: &Row, status: Status, out: &MemSink) {
 fn rows_print_what_they_say(rt: HostRuntime) -> Result<(), Fail> {
     for words in &[["--workers=1"], ["--workers=4"]] {
         for row in &ROWS {
-            let (status, out) = run_watched(&rt, words, row.script, GOOD, &mut NoWatch)?;
+            let (status, out) = run_watched(
+                &rt,
+                rt.alloc(),
+                words,
+                row.script,
+                GOOD,
+                &mut NoWatch,
+            )?;
             check_row(&rt, row, status, &out);
         }
     }
@@ -138,7 +145,7 @@ fn bytes_may_come_one_at_a_time(rt: HostRuntime) -> Result<(), Fail> {
         cuts: &cuts,
         ..GOOD
     };
-    let (status, out) = run_with(&rt, FIRST_PATH, streams)?;
+    let (status, out) = run_with(&rt, rt.alloc(), FIRST_PATH, streams)?;
     check_row(&rt, &ROWS[1], status, &out);
     Ok(())
 }
@@ -146,7 +153,7 @@ fn bytes_may_come_one_at_a_time(rt: HostRuntime) -> Result<(), Fail> {
 #[test]
 fn words_are_refused(rt: HostRuntime) -> Result<(), Fail> {
     for words in &[["--workers", "17"], ["--storm", "1"], ["--turns", "0"]] {
-        let (status, out) = run_watched(&rt, words, FIRST_PATH, GOOD, &mut NoWatch)?;
+        let (status, out) = run_watched(&rt, rt.alloc(), words, FIRST_PATH, GOOD, &mut NoWatch)?;
         assert_eq!(rt; status, Status::Usage);
         assert_eq!(rt; out.bytes(), b"fault usage\n".as_slice());
     }
@@ -160,7 +167,7 @@ fn a_long_line_is_named(rt: HostRuntime) -> Result<(), Fail> {
         script.push('#')?;
     }
     script.push_str("\ncreate 1 Avatar 100 100")?;
-    let (status, out) = run_with(&rt, &script, GOOD)?;
+    let (status, out) = run_with(&rt, rt.alloc(), &script, GOOD)?;
     assert_eq!(rt; status, Status::Done);
     assert_eq!(rt;
         out.bytes(),

@@ -4,6 +4,8 @@ use seam_watch::{NoWatch, Watch};
 use seam_workers::OpenGate;
 use seam_world::{Status, run_seamless};
 use std::alloc::{AllocError, Global};
+use std::sync::Wait;
+use std::thread::Threads;
 
 /// What a source and a sink do to a run, beside giving and taking bytes.
 #[derive(Clone, Copy)]
@@ -27,23 +29,24 @@ pub const GOOD: Streams<'static> = Streams {
 };
 
 /// Runs a script, and gives its status and what was written.
-pub fn run_with(
-    rt: &HostRuntime,
+pub fn run_with<R: Threads + Wait + Sync>(
+    rt: &R,
+    alloc: Global,
     script: &str,
     streams: Streams,
 ) -> Result<(Status, MemSink), AllocError> {
-    run_watched(rt, &[], script, streams, &mut NoWatch)
+    run_watched(rt, alloc, &[], script, streams, &mut NoWatch)
 }
 
 /// Runs a script for these words, beside a watch.
-pub fn run_watched<W: Watch>(
-    rt: &HostRuntime,
+pub fn run_watched<R: Threads + Wait + Sync, W: Watch>(
+    rt: &R,
+    alloc: Global,
     words: &[&str],
     script: &str,
     streams: Streams,
     watch: &mut W,
 ) -> Result<(Status, MemSink), AllocError> {
-    let alloc = rt.alloc();
     let mut input = MemSource::new(
         script.as_bytes().to_vec(alloc)?,
         streams.cuts.to_vec(alloc)?,

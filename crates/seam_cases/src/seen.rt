@@ -87,7 +87,7 @@ fn the_answers_to_the_lines_of_one_read_are_one_write(rt: HostRuntime) -> Result
         bad_writes: &[2],
         ..GOOD
     };
-    let (status, out) = run_with(&rt, &script, streams)?;
+    let (status, out) = run_with(&rt, rt.alloc(), &script, streams)?;
     assert_eq!(rt; status, Status::Done);
     assert!(rt; out.bytes().starts_with(b"line 2 command\nline 3 command\n"));
     assert_eq!(rt; out.bytes().len(), 8 * 15 + 90 * 16 + 102 * 17);

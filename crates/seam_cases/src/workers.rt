@@ -19,7 +19,7 @@ const LAST_LINES: &str = "phase 2\nphase 3\nstep 16 task\nstep 0 from 16\ndid 1 
 #[test]
 fn a_trace_has_the_steps_of_a_round(rt: HostRuntime) -> Result<(), Fail> {
     let mut log = JournalLog::new(rt.alloc());
-    let (status, out) = run_watched(&rt, &["--trace"], ONE_CALL, GOOD, &mut log)?;
+    let (status, out) = run_watched(&rt, rt.alloc(), &["--trace"], ONE_CALL, GOOD, &mut log)?;
     assert_eq!(rt; status, Status::Done);
     assert!(rt; out.bytes().starts_with(b"round 1\nphase 1\n"));
     assert!(rt; out.bytes().ends_with(LAST_LINES.as_bytes()));

@@ -16,8 +16,10 @@ use crate::kinds::{EXACT, KINDS};
 use crate::planted::{PLANTS, Plant};
 use crate::runs::{printed_of, traced_of};
 use crate::scripts::{large_script_of, script_of};
-use std::alloc::AllocError;
+use std::alloc::{AllocError, Global};
 use std::io;
+use std::sync::Wait;
+use std::thread::Threads;
 
 // How many scripts are made for each kind of world, and in how many of them errors are planted.
 const SEEDS: u64 = 10;
@@ -32,17 +34,17 @@ fn main(rt: HostRuntime) -> io::Result<()> {
     let text = io::read_to_string(alloc, rt.reader())?;
     for block in text.trim_end().split("\n\n") {
         let (name, script) = halves(block);
-        let verdict = verdict_on(&rt, script)?;
+        let verdict = verdict_on(&rt, alloc, script)?;
         println!(rt; "{name}: {verdict}")?;
     }
-    let verdict = verdict_on_made(&rt)?;
+    let verdict = verdict_on_made(&rt, alloc)?;
     println!(rt; "made from seeds: {verdict}")?;
-    let verdict = verdict_on_large(&rt)?;
+    let verdict = verdict_on_large(&rt, alloc)?;
     println!(rt; "made from seeds, with large rounds: {verdict}")?;
-    let verdict = verdict_on_traced(&rt)?;
+    let verdict = verdict_on_traced(&rt, alloc)?;
     println!(rt; "made from seeds, with their steps: {verdict}")?;
     for plant in &PLANTS {
-        let verdict = verdict_on_plant(&rt, plant)?;
+        let verdict = verdict_on_plant(&rt, alloc, plant)?;
         println!(rt; "{}: {verdict}", plant.name)?;
     }
     Ok(())
@@ -57,9 +59,12 @@ fn halves(text: &str) -> (&str, &str) {
 }
 
 // What comes of a script.
-fn verdict_on(rt: &HostRuntime, script: &str) -> Result<String, AllocError> {
-    let alloc = rt.alloc();
-    let printed = printed_of(rt, script)?;
+fn verdict_on<R: Threads + Wait + Sync>(
+    rt: &R,
+    alloc: Global,
+    script: &str,
+) -> Result<String, AllocError> {
+    let printed = printed_of(rt, alloc, script)?;
     match wrong_in(alloc, script, printed.as_bytes(), None)? {
         None => String::from_str(alloc, "legal"),
         Some(wrong) => format!(in alloc; "{wrong:?}"),
@@ -67,11 +72,10 @@ fn verdict_on(rt: &HostRuntime, script: &str) -> Result<String, AllocError> {
 }
 
 // What comes of the scripts that are made: the first that is not legal.
-fn verdict_on_made(rt: &HostRuntime) -> Result<String, AllocError> {
-    let alloc = rt.alloc();
+fn verdict_on_made<R: Threads + Wait + Sync>(rt: &R, alloc: Global) -> Result<String, AllocError> {
     for (place, kind) in KINDS.iter().enumerate() {
         for seed in 0..SEEDS {
-            let verdict = verdict_on(rt, script_of(alloc, kind, seed)?.as_str())?;
+            let verdict = verdict_on(rt, alloc, script_of(alloc, kind, seed)?.as_str())?;
             if verdict.as_str() != "legal" {
                 return format!(in alloc; "kind {place}, seed {seed}: {verdict}");
             }
@@ -81,11 +85,10 @@ fn verdict_on_made(rt: &HostRuntime) -> Result<String, AllocError> {
 }
 
 // What comes of scripts with large rounds: the first that is not legal.
-fn verdict_on_large(rt: &HostRuntime) -> Result<String, AllocError> {
-    let alloc = rt.alloc();
+fn verdict_on_large<R: Threads + Wait + Sync>(rt: &R, alloc: Global) -> Result<String, AllocError> {
     for (place, kind) in KINDS.iter().enumerate() {
         for seed in 0..LARGE {
-            let verdict = verdict_on(rt, large_script_of(alloc, kind, seed)?.as_str())?;
+            let verdict = verdict_on(rt, alloc, large_script_of(alloc, kind, seed)?.as_str())?;
             if verdict.as_str() != "legal" {
                 return format!(in alloc; "kind {place}, seed {seed}: {verdict}");
             }
@@ -96,12 +99,14 @@ fn verdict_on_large(rt: &HostRuntime) -> Result<String, AllocError> {
 
 // What comes of scripts that are run with a trace, large rounds among them: the first that is not legal, or has other steps than the watch
 // was told.
-fn verdict_on_traced(rt: &HostRuntime) -> Result<String, AllocError> {
-    let alloc = rt.alloc();
+fn verdict_on_traced<R: Threads + Wait + Sync>(
+    rt: &R,
+    alloc: Global,
+) -> Result<String, AllocError> {
     for (place, kind) in KINDS.iter().enumerate() {
         for seed in 0..LARGE {
-            let small = verdict_on_steps(rt, script_of(alloc, kind, seed)?.as_str())?;
-            let large = verdict_on_steps(rt, large_script_of(alloc, kind, seed)?.as_str())?;
+            let small = verdict_on_steps(rt, alloc, script_of(alloc, kind, seed)?.as_str())?;
+            let large = verdict_on_steps(rt, alloc, large_script_of(alloc, kind, seed)?.as_str())?;
             if small.as_str() != "legal" || large.as_str() != "legal" {
                 return format!(in alloc; "kind {place}, seed {seed}: {small}, {large}");
             }
@@ -111,9 +116,12 @@ fn verdict_on_traced(rt: &HostRuntime) -> Result<String, AllocError> {
 }
 
 // What comes of a script that is run with a trace.
-fn verdict_on_steps(rt: &HostRuntime, script: &str) -> Result<String, AllocError> {
-    let alloc = rt.alloc();
-    let (printed, log) = traced_of(rt, script)?;
+fn verdict_on_steps<R: Threads + Wait + Sync>(
+    rt: &R,
+    alloc: Global,
+    script: &str,
+) -> Result<String, AllocError> {
+    let (printed, log) = traced_of(rt, alloc, script)?;
     match wrong_in(alloc, script, printed.as_bytes(), Some(&log))? {
         None => String::from_str(alloc, "legal"),
         Some(wrong) => format!(in alloc; "{wrong:?}"),
@@ -121,12 +129,15 @@ fn verdict_on_steps(rt: &HostRuntime, script: &str) -> Result<String, AllocError
 }
 
 // What comes of scripts with an error planted in what was printed of them.
-fn verdict_on_plant(rt: &HostRuntime, plant: &Plant) -> Result<String, AllocError> {
-    let alloc = rt.alloc();
+fn verdict_on_plant<R: Threads + Wait + Sync>(
+    rt: &R,
+    alloc: Global,
+    plant: &Plant,
+) -> Result<String, AllocError> {
     let mut refused = false;
     for seed in 0..PLANTED {
         let script = script_of(alloc, &KINDS[EXACT], seed)?;
-        let printed = printed_of(rt, script.as_str())?;
+        let printed = printed_of(rt, alloc, script.as_str())?;
         if let Some(changed) = plant.put_in(alloc, printed.as_str())? {
             if wrong_in(alloc, script.as_str(), changed.as_bytes(), None)?.is_none() {
                 return format!(in alloc; "legal with seed {seed}");

@@ -14,7 +14,9 @@ use seam_tree::{Axis, Tree};
 use seam_watch::Journal;
 use seam_workers::{Crew, OpenGate};
 use std::alloc::Global;
+use std::sync::Wait;
 use std::test::Fail;
+use std::thread::Threads;
 
 // An avatar at x.
 fn avatar(entity: u32, x: u32) -> Create
@@ -60,9 +62,8 @@ fn batch(alloc: Global) -> Result<Batch, Fail>
 }
 
 // The round, of a world as it is opened.
-fn run(rt: &HostRuntime) -> Result<(World, Journal), Fail> {
+fn run<R: Threads + Wait + Sync>(rt: &R, alloc: Global) -> Result<(World, Journal), Fail> {
     a_worked_round_may_run();
-    let alloc = rt.alloc();
     let defs = Defs::builtin(alloc)?;
     let world = World::open(alloc, &defs, Settings::standard())?;
     let crew = Crew {
@@ -89,7 +90,7 @@ fn lines_shown(world: &World, base: u8, e: u32) -> Option<usize> {
 
 #[test]
 fn an_entity_crosses_between_two_witnesses(rt: HostRuntime) -> Result<(), Fail> {
-    let (world, journal) = run(&rt)?;
+    let (world, journal) = run(&rt, rt.alloc())?;
     assert!(rt; is_in(&world, 1, 3));
     assert!(rt; !is_in(&world, 0, 3));
     assert_eq!(rt; lines_shown(&world, 17, 1), Some(4));
