@@ -7,8 +7,8 @@ use Rattle.seam_base_rounds.specs.Example.{opening}
 use Rattle.seam_quiet.specs.Rounds.{MayRun}
 use Rattle.seam_quiet.proofs.tests.run.Goals as goal
 
-pub run_round-requires : goal.run_round-requires
-run_round-requires c =
+pub run_round-requires-clause-may : goal.run_round-requires-clause-may
+run_round-requires-clause-may g c κs within =
     let clients : ℕ → ClientReplica = λ e. new_client standard in
     let world : c.in_ok-world.world ≡ empty_world =
     c.in_ok-world.ensures.opened ∙ (λ i. opened (c.in_ok-defs.ensures i) (c.standard.ensures.value i)) in (
