@@ -9,7 +9,13 @@ use std::thread::Threads;
 
 const SCRIPT: &str = "%%\ncreate 1 Avatar 100 100\ncall b1 9 heal 1\nsync\n";
 
-fn check(rt: &HostRuntime, streams: Streams, status: Status, output: &[u8]) -> Result<(), Fail> {
+fn check<R: Abort + Threads + Wait + Sync>(
+    rt: &R,
+    alloc: Global,
+    streams: Streams,
+    status: Status,
+    output: &[u8],
+) -> Result<(), Fail> {
     let (ended, out) = run_with(rt, alloc, SCRIPT, streams)?;
     assert_eq!(rt; ended, status);
     assert_eq!(rt; out.bytes(), output);

@@ -132,7 +132,13 @@ fn headers_are_read(rt: HostRuntime) -> Result<(), Fail> {
 }
 
 // Checks a row whose script comes after so many lines, each a comment of so many bytes.
-fn check_after_comments(rt: &HostRuntime, lines: u32, bytes: u32, row: &Row) -> Result<(), Fail> {
+fn check_after_comments<R: Abort + Threads + Wait + Sync>(
+    rt: &R,
+    alloc: Global,
+    lines: u32,
+    bytes: u32,
+    row: &Row,
+) -> Result<(), Fail> {
     let mut script = String::new(alloc);
     for _ in 0..lines {
         for _ in 0..bytes {
