@@ -14,4 +14,6 @@ mod runs;
 #[cfg(test)]
 mod seen;
 #[cfg(test)]
+mod storm;
+#[cfg(test)]
 mod workers;

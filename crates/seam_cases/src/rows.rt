@@ -152,7 +152,7 @@ fn bytes_may_come_one_at_a_time(rt: HostRuntime) -> Result<(), Fail> {
 
 #[test]
 fn words_are_refused(rt: HostRuntime) -> Result<(), Fail> {
-    for words in &[["--workers", "17"], ["--storm", "1"], ["--turns", "0"]] {
+    for words in &[["--workers", "17"], ["--storm", "0"], ["--turns", "0"]] {
         let (status, out) = run_watched(&rt, rt.alloc(), words, FIRST_PATH, GOOD, &mut NoWatch)?;
         assert_eq!(rt; status, Status::Usage);
         assert_eq!(rt; out.bytes(), b"fault usage\n".as_slice());

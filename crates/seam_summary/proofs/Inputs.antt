@@ -1,9 +1,8 @@
 -- Two runs through the lines of an input, and their summaries.
-use Rattle.std.proofs.Common.{◌≡◌, ◌++◌, ◌||◌, ℕ, Bool, true, false, List, [], ◌∷◌, map, refl, sym, ◌∙◌, ap, subst, append-nil}
-use Rattle.std.specs.Prelude.{All, filter_map, MatchBool, ◌==◌}
+use Rattle.std.proofs.Common.{◌≡◌, ◌++◌, ◌||◌, ℕ, Bool, true, false, List, [], ◌∷◌, refl, sym, ◌∙◌, ap, subst, append-nil}
+use Rattle.std.specs.Prelude.{All, MatchBool, ◌==◌}
 use Rattle.std.specs.List.{list_any}
-use Rattle.std.proofs.lemmas.List.{map-append}
-use Rattle.std.proofs.lemmas.List.Elements.{All-nil, All-head, All-tail, filter_map-append}
+use Rattle.std.proofs.lemmas.List.Elements.{All-nil, All-head, All-tail}
 use Rattle.seam_io.specs.Lines.{Line}
 use Rattle.seam_haunt.specs.Places.{Place}
 use Rattle.seam_call.specs.declared.sender.Sender.{Sender}
@@ -26,12 +25,11 @@ use Rattle.seam_transcript.proofs.OneSender.{accepted_is_own}
 use Rattle.seam_transcript.proofs.Verdicts.{verdict_is_one_of}
 use Rattle.seam_rules.specs.Standing.{Standing, after_header, with_line, with_book}
 use Rattle.seam_rules.specs.Transcript.{Piece, EndsRound, Follows, Step, EndsInput}
-use Rattle.seam_summary.specs.Summary.{Sums, sums_of, round_of, all_sums, PrintAll, AsksForNeither, however}
+use Rattle.seam_summary.specs.declared.totals.Sums.{Sums}
+use Rattle.seam_summary.specs.Summary.{all_sums, PrintAll, AsksForNeither, however}
+use Rattle.seam_summary.proofs.Pieces.{sums_of_append}
 use Rattle.seam_summary.proofs.Moved.{held_at}
 use Rattle.seam_summary.proofs.Rounds.{same_sums, book_left, left_same}
-
-sums_of_append : (ps qs : List Piece) → all_sums (ps ++ qs) ≡ all_sums ps ++ all_sums qs
-sums_of_append ps qs = ap (map sums_of) (filter_map-append round_of ps qs) ∙ map-append sums_of (filter_map round_of ps) (filter_map round_of qs)
 
 -- ---- what a book keeps
 

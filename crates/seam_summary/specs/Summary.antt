@@ -1,6 +1,6 @@
 -- The summary of a run: one line in place of all that is printed.
-use Rattle.std.specs.Prelude.{◌≡◌, ⊤, ℕ, ℤ, pos, ◌+ℤ◌, List, [], ◌∷◌, ◌++◌, length, map, fold, filter_map, codes, unwrap_or, Option, None, Some}
-use Rattle.std.specs.List.{sum, last_or}
+use Rattle.std.specs.Prelude.{◌≡◌, ⊤, ℕ, ℤ, pos, ◌+ℤ◌, List, [], ◌∷◌, ◌++◌, length, map, fold, filter_map, codes, Option, None, Some}
+use Rattle.std.specs.List.{sum_by}
 use Rattle.seam_io.specs.Lines.{Line}
 use Rattle.seam_value.specs.Values.{text_of}
 use Rattle.seam_value.specs.declared.values.Value.TheVariants.{Number}
@@ -15,12 +15,8 @@ use Rattle.seam_transcript.specs.Texts.{field}
 use Rattle.seam_rules.specs.Standing.{Standing}
 use Rattle.seam_rules.specs.Lines.{RoundData}
 use Rattle.seam_rules.specs.Transcript.{Piece, Refusal, Ended, Play, PrintLines, EndsInput}
-
--- what the summary tells of a round: how many calls cell parts executed, how many lines clients were shown, and the hp of all homes
-pub record Sums : Type 0 where
-  pub did : ℕ
-  pub shown : ℕ
-  pub hp : ℤ
+use Rattle.seam_summary.specs.declared.totals.Sums.{Sums}
+use Rattle.seam_summary.specs.declared.totals.Totals.{Totals}
 
 -- the number of the property `hp` of an avatar
 abbrev pub hp : ℕ
@@ -30,6 +26,7 @@ hp = 1
 abbrev pub hp_of : HomeLine → ℤ
 hp_of l = number_of (value_at l.state.props (place_of avatar_properties group.Real hp))
 
+-- what is summed up of a round
 abbrev pub sums_of : RoundData → Sums
 sums_of r = record { did = length r.did; shown = length r.shown; hp = fold (λ n l. n +ℤ hp_of l) (pos 0) r.homes }
 
@@ -41,16 +38,23 @@ round_of (Ended s r j) = Some r
 abbrev pub all_sums : List Piece → List Sums
 all_sums pieces = map sums_of (filter_map round_of pieces)
 
--- the summary of so many lines: the number of rounds, of calls that cell parts executed, and of lines that clients were shown; and the
--- hp of all homes of the last round
-abbrev pub text_of_sums : (n : ℕ) → List Sums → List ℕ
-text_of_sums n sums =
-    codes "storm" ++ field n ++ codes " rounds" ++ field (length sums) ++ codes " did" ++ field (sum (map (λ s. s.did) sums))
-    ++ codes " shown" ++ field (sum (map (λ s. s.shown) sums)) ++ codes " hp "
-    ++ text_of (Number (unwrap_or (last_or None (map (λ s. s.hp) sums)) (pos 0))) ++ 10 ∷ []
+-- what is summed up of rounds: the hp is that of the homes of the last one
+abbrev pub totals_of : List Sums → Totals
+totals_of sums = record {
+  rounds = length sums;
+  did = sum_by (λ s. s.did) sums;
+  shown = sum_by (λ s. s.shown) sums;
+  hp = fold (λ earlier s. s.hp) (pos 0) sums;
+}
+
+-- the summary of so many lines
+abbrev pub totals_text : (n : ℕ) → Totals → List ℕ
+totals_text n t =
+    codes "storm" ++ field n ++ codes " rounds" ++ field t.rounds ++ codes " did" ++ field t.did ++ codes " shown" ++ field t.shown
+    ++ codes " hp " ++ text_of (Number t.hp) ++ 10 ∷ []
 
 abbrev pub summary_text : (n : ℕ) → List Piece → List ℕ
-summary_text n pieces = text_of_sums n (all_sums pieces)
+summary_text n pieces = totals_text n (totals_of (all_sums pieces))
 
 -- all pieces that are printed for an input, by its end, with rounds that are played so
 abbrev pub PrintAllBy : Play → List Line → List Piece → Type 0

@@ -30,7 +30,7 @@ use Rattle.seam_defs.specs.Deeds.{target, operand}
 use Rattle.seam_defs.proofs.NameSearch.{one_place}
 use Rattle.seam_toml.specs.declared.header.Header.{Header}
 use Rattle.seam_toml.specs.Tables.{Each}
-use Rattle.seam_toml.specs.Operations.{verb_of, word_of, SpellOperation, SaysOperation}
+use Rattle.seam_toml.specs.Operations.{verb_of, word_of, SpellOperation}
 use Rattle.seam_toml.specs.Definitions.{Says, DefinesMethod, DefinesType, DefinesTypes}
 use Rattle.seam_toml.specs.Header.{Reads}
 use Rattle.seam_toml.proofs.OperationLemmas.{name_at, letter}

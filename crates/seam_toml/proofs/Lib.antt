@@ -9,3 +9,4 @@ mod AnswerLemmas
 mod Soundness
 mod Existence
 pub mod HeaderLaws
+pub mod EmptyHeader

@@ -2,7 +2,8 @@
 //! `read_header` is the whole; the rest are its parts: the document that a text is, the grammar of a header's tables, the settings that
 //! its table of settings sets, and what is at fault in its values.
 //!
-//! Of `proofs/`, `HeaderLaws` is for callers: a text stands for one header at most, whose types and settings are well formed.
+//! Of `proofs/`, `HeaderLaws` and `EmptyHeader` are for callers: a text stands for one header at most, whose types and settings are well
+//! formed, and no text at all stands for the standard one.
 #![tactic(auto)]
 
 mod bodies;

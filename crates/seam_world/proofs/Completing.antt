@@ -1,5 +1,5 @@
 -- When a run is complete.
-use Rattle.std.proofs.Common.{◌≡◌, ◌≢◌, ◌≤◌, inl, inr, ℕ, Bool, List, [], ◌∷◌, ◌++◌, Option, Some, None, map, length, refl, sym, ap, ◌∙◌}
+use Rattle.std.proofs.Common.{◌≡◌, ◌≢◌, ◌≤◌, inl, inr, ℕ, List, [], ◌∷◌, ◌++◌, Option, Some, None, map, length, refl, sym, ap, ◌∙◌}
 use Rattle.std.proofs.Common.{subst, arith, append_assoc, append-nil, length-append}
 use Rattle.std.specs.Prelude.{All, ◌⊎◌}
 use Rattle.std.specs.Io.KnownBytes.{Consumes, IsAtEnd}
@@ -17,10 +17,9 @@ use Rattle.seam_toml.specs.declared.faults.Fault.{Fault}
 use Rattle.seam_toml.specs.Header.{Reads, Refuses, HasFirstFault, number_of}
 use Rattle.seam_toml.specs.Faults.{HeaderHas}
 use Rattle.seam_transcript.specs.Header.{AreHeaderLines, BeginWithHeader, AwaitHeader, RefusesHeader, separator, text_of_contents}
-use Rattle.seam_watch.specs.Watching.{Told}
-use Rattle.seam_world.specs.Transcripts.{IsOpen, IsEnded}
+use Rattle.seam_watch.specs.declared.journal.Journal.{Journal}
 use Rattle.seam_transcript.proofs.HeaderLemmas.{text_is_one, end_for_header}
-use Rattle.seam_world.specs.Ends.{AreFirst, IsHeaderFault, RunEnds, MayComplete}
+use Rattle.seam_world.specs.Ends.{AreFirst, AreAll, IsPrefix, IsHeaderFault, Tells, MayComplete}
 use Rattle.seam_world.specs.declared.status.Status.{Status}
 use Rattle.seam_world.specs.declared.status.Status.TheVariants as status
 
@@ -175,28 +174,33 @@ at_end : (new : Option (List ℕ)) (left : List ℕ) → new ≡ Some left → I
 at_end None left is end = absurd (none-some left is)
 at_end (Some ys) left is end = sym (same_Some ys left is) ∙ end
 
-first_lines : (old new : SourceState) (bytes given left : List ℕ) (read : List Line) → new.left ≡ Some left → bytes ≡ given ++ left →
-    AreFirst old new given read → (more : List Line) × (lines_of bytes ≡ read ++ more)
-first_lines old new bytes given left read is whole (inl (more, prefix)) =
-    let all = lines_of-append given left in (
+-- all lines, where the input has ended
+pub all_lines : (old new : SourceState) (bytes given : List ℕ) (read : List Line) → old.left ≡ Some bytes →
+    Consumes old.left new.left given → AreAll old new given read → lines_of bytes ≡ read
+all_lines old new bytes given read is took (rose, end, lines) =
+    let rest = taken old.left new.left bytes given is took in
+    let none = at_end new.left rest.0 rest.1 end in
+    ap lines_of (rest.2 ∙ ap (λ (bs : List ℕ). given ++ bs) none ∙ append-nil given) ∙ lines
+
+-- or the first
+pub first_lines : (old new : SourceState) (bytes given : List ℕ) (read : List Line) → old.left ≡ Some bytes →
+    Consumes old.left new.left given → AreFirst old new given read → IsPrefix read (lines_of bytes)
+first_lines old new bytes given read is took (inl (more, prefix)) =
+    let rest = taken old.left new.left bytes given is took in
+    let all = lines_of-append given rest.0 in (
       more ++ all.0,
-      ap lines_of whole ∙ all.1 ∙ ap (λ (ls : List Line). ls ++ all.0) prefix ∙ append_assoc read more all.0,
+      ap lines_of rest.2 ∙ all.1 ∙ ap (λ (ls : List Line). ls ++ all.0) prefix ∙ append_assoc read more all.0,
     )
-first_lines old new bytes given left read is whole (inr (rose, end, (more, prefix))) =
-    let none = at_end new.left left is end in
-    (more, ap lines_of (whole ∙ ap (λ (bs : List ℕ). given ++ bs) none ∙ append-nil given) ∙ prefix)
+first_lines old new bytes given read is took (inr (rose, end, (more, prefix))) =
+    (more, all_lines old new bytes given (lines_of given) is took (rose, end, refl) ∙ prefix)
 
 no_header_fault : (old new : SourceState) (sink sink' : SinkState) (given : List ℕ) (k : ℕ) → MayComplete old new sink sink' →
     Consumes old.left new.left given → IsHeaderFault old new given k → ⊥
-no_header_fault old new sink sink' given k may took (inl (is, read, (rose, end, lines), awaits)) =
-    let rest = taken old.left new.left may.bytes given may.left took in
-    let none = at_end new.left rest.0 rest.1 end in
-    let all : lines_of may.bytes ≡ read =
-    ap lines_of (rest.2 ∙ ap (λ (bs : List ℕ). given ++ bs) none ∙ append-nil given) ∙ lines in
-    end_is_there (lines_of may.bytes) may.header may.count may.rest may.begins (subst AwaitHeader (sym all) awaits)
+no_header_fault old new sink sink' given k may took (inl (is, read, all, awaits)) =
+    end_is_there (lines_of may.bytes) may.header may.count may.rest may.begins
+    (subst AwaitHeader (sym (all_lines old new may.bytes given read may.left took all)) awaits)
 no_header_fault old new sink sink' given k may took (inr (read, line, first, refuses)) =
-    let rest = taken old.left new.left may.bytes given may.left took in
-    let all = first_lines old new may.bytes given rest.0 (read ++ line ∷ []) rest.1 rest.2 first in
+    let all = first_lines old new may.bytes given (read ++ line ∷ []) may.left took first in
     line_is_not_refused (lines_of may.bytes) may.header may.count may.rest read line all.0 k may.begins all.1 refuses
 
 -- ---- how a run ends that may be complete
@@ -209,18 +213,19 @@ within_bytes old new bytes given is took =
     let parts = length-append given rest.0 in
     omega (arith, size, parts)
 
-pub is_complete : (traced : Bool) (st : Status) (old new : SourceState) (sink sink' : SinkState) (told told' : Told) →
-    RunEnds (IsOpen traced) (IsEnded traced) st old new sink sink' told told' → MayComplete old new sink sink' →
-    (st ≡ status.Usage → ⊥) → (st ≡ status.WriteFault → Rose sink.faults sink'.faults) → (st ≡ status.Done) ⊎ (st ≡ status.NoMemory)
-is_complete traced status.Done old new sink sink' told told' ends may usage failed = inl refl
-is_complete traced status.NoMemory old new sink sink' told told' ends may usage failed = inr refl
-is_complete traced status.Usage old new sink sink' told told' ends may usage failed = absurd (usage refl)
-is_complete traced status.ReadFault old new sink sink' told told' ends may usage failed = absurd (may.reads ends.tells.0)
-is_complete traced status.WriteFault old new sink sink' told told' ends may usage failed = absurd (may.writes (failed refl))
-is_complete traced status.Limit old new sink sink' told told' ends may usage failed =
-    let all = ends.tells.0 in
+pub is_complete : (Open Ended : List Line → List ℕ → List Journal → Type 0) (st : Status) (old new : SourceState) (sink sink' : SinkState)
+    (given text : List ℕ) (steps : List Journal) → Consumes old.left new.left given → Tells Open Ended st old new given text steps →
+    MayComplete old new sink sink' → (st ≡ status.Usage → ⊥) → (st ≡ status.WriteFault → Rose sink.faults sink'.faults) →
+    (st ≡ status.Done) ⊎ (st ≡ status.NoMemory)
+is_complete Open Ended status.Done old new sink sink' given text steps took tells may usage failed = inl refl
+is_complete Open Ended status.NoMemory old new sink sink' given text steps took tells may usage failed = inr refl
+is_complete Open Ended status.Usage old new sink sink' given text steps took tells may usage failed = absurd (usage refl)
+is_complete Open Ended status.ReadFault old new sink sink' given text steps took tells may usage failed = absurd (may.reads tells.0)
+is_complete Open Ended status.WriteFault old new sink sink' given text steps took tells may usage failed = absurd (may.writes (failed refl))
+is_complete Open Ended status.Limit old new sink sink' given text steps took tells may usage failed =
+    let all = tells.0 in
     let few = may.few in
-    let within = within_bytes old new may.bytes ends.given may.left ends.took in
+    let within = within_bytes old new may.bytes given may.left took in
     absurd (omega (arith, all, few, within))
-is_complete traced (status.BadHeader k) old new sink sink' told told' ends may usage failed =
-    absurd (no_header_fault old new sink sink' ends.given k may ends.took ends.tells.2)
+is_complete Open Ended (status.BadHeader k) old new sink sink' given text steps took tells may usage failed =
+    absurd (no_header_fault old new sink sink' given k may took tells.2)

@@ -15,18 +15,28 @@ use Rattle.seam_transcript.specs.declared.verdict.Verdict.TheVariants as verdict
 use Rattle.seam_transcript.specs.declared.limits.TheConstants.{MOST_LINES}
 use Rattle.seam_rules.specs.Standing.{Standing, with_line, with_book}
 use Rattle.seam_rules.specs.Lines.{RoundData}
-use Rattle.seam_rules.specs.Transcript.{Piece, Refusal, Ended, text_of, played_text}
+use Rattle.seam_rules.specs.Transcript.{Piece, Refusal, Ended, played_text}
 use Rattle.seam_world.specs.Transcripts.{EndsRound}
+use Rattle.seam_world.specs.Output.{round_output, refusal_output, output_of}
+use Rattle.seam_world.specs.declared.round.Output.{Output}
+use Rattle.seam_world.specs.declared.round.Output.TheVariants as output
 use Rattle.seam_world.specs.Following.{RoundEnds, LineFollowed, LineRead, InputEnded}
 
-one_piece : (traced : Bool) (defs : List TypeDef) (s : Standing) (r : RoundData) (j : Journal) →
-    text_of traced defs (Ended s r j ∷ []) ≡ played_text traced defs r j
-one_piece traced defs s r j = append-nil (played_text traced defs r j)
+one_piece : (o : Output) (defs : List TypeDef) (s : Standing) (r : RoundData) (j : Journal) →
+    output_of o defs (Ended s r j ∷ []) ≡ round_output o defs r j
+one_piece output.Rounds defs s r j = append-nil (played_text false defs r j)
+one_piece output.TracedRounds defs s r j = append-nil (played_text true defs r j)
+one_piece output.Sums defs s r j = refl
 
-module _ (traced : Bool) (h : Header) (t : Standing) where
+one_refusal : (o : Output) (defs : List TypeDef) (line : ℕ) (c : Cause) → output_of o defs (Refusal line c ∷ []) ≡ refusal_output o line c
+one_refusal output.Rounds defs line c = append-nil (refusal line c)
+one_refusal output.TracedRounds defs line c = append-nil (refusal line c)
+one_refusal output.Sums defs line c = refl
+
+module _ (o : Output) (h : Header) (t : Standing) where
   -- a line that is skipped
-  pub skipped : (line : Line) (refines : Standing → Type 0) → Judges h t.book line verdict.Skipped → refines t →
-      LineFollowed traced h t line refines [] []
+  pub skipped : (line : Line) (refines : List Piece → Standing → Type 0) → Judges h t.book line verdict.Skipped → refines [] t →
+      LineFollowed o h t line refines [] []
   skipped line refines judges holds = record {
     verdict = verdict.Skipped;
     judges = judges;
@@ -39,23 +49,23 @@ module _ (traced : Bool) (h : Header) (t : Standing) where
   }
 
   -- a line that ends the round
-  pub synced : (line : Line) (refines : Standing → Type 0) (text : List ℕ) (steps : Journal) → Judges h t.book line verdict.Synced →
-      RoundEnds traced h t refines text steps → LineFollowed traced h t line refines text (steps ∷ [])
+  pub synced : (line : Line) (refines : List Piece → Standing → Type 0) (text : List ℕ) (steps : Journal) → Judges h t.book line verdict.Synced →
+      RoundEnds o h t refines text steps → LineFollowed o h t line refines text (steps ∷ [])
   synced line refines text steps judges ends = record {
     verdict = verdict.Synced;
     judges = judges;
     pieces = Ended t ends.round steps ∷ [];
     next = ends.next;
     follows = (ends.round, steps, refl, ends.legal, ends.played);
-    whole = ends.whole ∙ sym (one_piece traced h.defs t ends.round steps);
+    whole = ends.whole ∙ sym (one_piece o h.defs t ends.round steps);
     stepped = refl;
     after = ends.after;
   }
 
   -- a line that is kept, and filled the round, which ended
-  pub kept_last : (line : Line) (x : Entry) (refines : Standing → Type 0) (text : List ℕ) (steps : Journal) →
+  pub kept_last : (line : Line) (x : Entry) (refines : List Piece → Standing → Type 0) (text : List ℕ) (steps : Journal) →
       Judges h t.book line (verdict.Accepted x) → open_lines (with_entry t.book x) ≡ MOST_LINES →
-      RoundEnds traced h (with_book t (with_entry t.book x)) refines text steps → LineFollowed traced h t line refines text (steps ∷ [])
+      RoundEnds o h (with_book t (with_entry t.book x)) refines text steps → LineFollowed o h t line refines text (steps ∷ [])
   kept_last line x refines text steps judges full ends =
       let at : Standing = with_book t (with_entry t.book x) in
       let test : (open_lines at.book == MOST_LINES) ≡ true = grind (arith, common_steps, full) in
@@ -68,14 +78,14 @@ module _ (traced : Bool) (h : Header) (t : Standing) where
         follows =
             subst (λ (b : Bool). MatchBool b (EndsRound h at pieces ends.next) ((pieces ≡ []) × (ends.next ≡ at))) (sym test)
             (ends.round, steps, refl, ends.legal, ends.played);
-        whole = ends.whole ∙ sym (one_piece traced h.defs at ends.round steps);
+        whole = ends.whole ∙ sym (one_piece o h.defs at ends.round steps);
         stepped = refl;
         after = ends.after;
       }
 
   -- one that is kept in a round with room for more
-  pub kept_open : (line : Line) (x : Entry) (refines : Standing → Type 0) → Judges h t.book line (verdict.Accepted x) →
-      open_lines (with_entry t.book x) ≢ MOST_LINES → refines (with_book t (with_entry t.book x)) → LineFollowed traced h t line refines [] []
+  pub kept_open : (line : Line) (x : Entry) (refines : List Piece → Standing → Type 0) → Judges h t.book line (verdict.Accepted x) →
+      open_lines (with_entry t.book x) ≢ MOST_LINES → refines [] (with_book t (with_entry t.book x)) → LineFollowed o h t line refines [] []
   kept_open line x refines judges open_ holds =
       let at : Standing = with_book t (with_entry t.book x) in
       let test : (open_lines at.book == MOST_LINES) ≡ false = grind (arith, common_steps, open_) in
@@ -92,8 +102,8 @@ module _ (traced : Bool) (h : Header) (t : Standing) where
       }
 
   -- a line that was counted and followed was read
-  pub line_read : (line : Line) (refines : Standing → Type 0) (text : List ℕ) (steps : List Journal) →
-      LineFollowed traced h (with_line t) line refines text steps → LineRead traced h t line refines text steps
+  pub line_read : (line : Line) (refines : List Piece → Standing → Type 0) (text : List ℕ) (steps : List Journal) →
+      LineFollowed o h (with_line t) line refines text steps → LineRead o h t line refines text steps
   line_read line refines text steps followed = record {
     pieces = followed.pieces;
     next = followed.next;
@@ -104,21 +114,22 @@ module _ (traced : Bool) (h : Header) (t : Standing) where
   }
 
   -- a line that was refused
-  pub refused : (line : Line) (c : Cause) (refines : Standing → Type 0) → Judges h t.book line (verdict.Refused c) →
-      refines (with_line t) → LineRead traced h t line refines (refusal (t.lines + 1) c) []
+  pub refused : (line : Line) (c : Cause) (refines : List Piece → Standing → Type 0) → Judges h t.book line (verdict.Refused c) →
+      refines (Refusal (t.lines + 1) c ∷ []) (with_line t) → LineRead o h t line refines (refusal_output o (t.lines + 1) c) []
   refused line c refines judges holds = record {
     pieces = Refusal (t.lines + 1) c ∷ [];
     next = with_line t;
     step = (verdict.Refused c, judges, (refl, refl));
-    whole = sym (append-nil (refusal (t.lines + 1) c));
+    whole = sym (one_refusal o h.defs (t.lines + 1) c);
     stepped = refl;
     after = holds;
   }
 
   -- the input ended, and with it the open round
-  pub last_round : (refines : Standing → Type 0) (text : List ℕ) (steps : Journal) → open_lines t.book ≢ 0 →
-      RoundEnds traced h t refines text steps → InputEnded traced h t text (steps ∷ [])
-  last_round refines text steps some ends =
+  pub last_round : (counts : List Piece → Type 0) (refines : List Piece → Standing → Type 0) (text : List ℕ) (steps : Journal) →
+      ((pieces : List Piece) (next : Standing) → refines pieces next → counts pieces) → open_lines t.book ≢ 0 →
+      RoundEnds o h t refines text steps → InputEnded o h t counts text (steps ∷ [])
+  last_round counts refines text steps count some ends =
       let test : (open_lines t.book == 0) ≡ false = grind (arith, common_steps, some) in
       let pieces : List Piece = Ended t ends.round steps ∷ [] in
       record {
@@ -126,17 +137,19 @@ module _ (traced : Bool) (h : Header) (t : Standing) where
         ends =
             subst (λ (b : Bool). MatchBool b (pieces ≡ []) ((next : Standing) × EndsRound h t pieces next)) (sym test)
             (ends.next, (ends.round, steps, refl, ends.legal, ends.played));
-        whole = ends.whole ∙ sym (one_piece traced h.defs t ends.round steps);
+        whole = ends.whole ∙ sym (one_piece o h.defs t ends.round steps);
         stepped = refl;
+        counted = count pieces ends.next ends.after;
       }
 
   -- the input ended, and no round was open
-  pub nothing_open : open_lines t.book ≡ 0 → InputEnded traced h t [] []
-  nothing_open none =
+  pub nothing_open : (counts : List Piece → Type 0) → counts [] → open_lines t.book ≡ 0 → InputEnded o h t counts [] []
+  nothing_open counts count none =
       let test : (open_lines t.book == 0) ≡ true = grind (arith, common_steps, none) in
       record {
         pieces = [];
         ends = subst (λ (b : Bool). MatchBool b (◌≡◌ {A = List Piece} [] []) ((next : Standing) × EndsRound h t [] next)) (sym test) refl;
         whole = refl;
         stepped = refl;
+        counted = count;
       }

@@ -1,5 +1,5 @@
 -- How a run reads its header.
-use Rattle.std.proofs.Common.{◌≡◌, ◌≢◌, ◌≤◌, ◌+◌, inl, inr, ℕ, Bool, List, [], ◌∷◌, ◌++◌, Option, Some, None, Ok, length, refl, sym, ◌∙◌}
+use Rattle.std.proofs.Common.{◌≡◌, ◌≢◌, ◌≤◌, ◌+◌, inl, inr, ℕ, List, [], ◌∷◌, ◌++◌, Option, Some, None, Ok, length, refl, sym, ◌∙◌}
 use Rattle.std.proofs.Common.{subst, arith}
 use Rattle.std.proofs.Common.{append-nil, length-append}
 use Rattle.std.proofs.KnownBytes.{Appends-nil}
@@ -16,11 +16,12 @@ use Rattle.seam_toml.specs.declared.header.HeaderError.{HeaderError}
 use Rattle.seam_toml.specs.declared.header.HeaderError.TheVariants as error
 use Rattle.seam_toml.specs.Header.{number_of}
 use Rattle.seam_transcript.specs.Header.{AreHeaderLines, BeginWithHeader, AwaitHeader, RefusesHeader, separator}
-use Rattle.seam_world.specs.Transcripts.{IsOpen, IsEnded}
+use Rattle.seam_summary.specs.declared.totals.Totals.{Totals}
 use Rattle.seam_transcript.proofs.HeaderLemmas.{await_at_first, long_line_for_header}
 use Rattle.seam_world.specs.Status.{IsHeaderCause, IsHeaderEnd, IsRunEnd, refused_with, refusal_of}
 use Rattle.seam_world.specs.Ends.{Tells, most_bytes, the_space}
-use Rattle.seam_world.specs.Histories.{InHeader, HasHeader, HeaderLineRead, StoppedFirst}
+use Rattle.seam_world.specs.Histories.{InHeader, HasHeader, HeaderLineRead, OpenAs, EndedAs, StoppedFirst}
+use Rattle.seam_world.specs.declared.round.Output.{Output}
 use Rattle.seam_world.specs.declared.status.Status.{Status}
 use Rattle.seam_world.specs.declared.status.Status.TheVariants as status
 use Rattle.seam_watch.proofs.Told.{told_nothing}
@@ -47,8 +48,9 @@ header_may_end status.NoMemory h = tt
 -- the run ended within the header
 header_stopped : (began now : SourceState) (st : Status) (given : List ℕ) → Consumes began.left now.left given →
     length given ≤ most_bytes
-    → ((traced : Bool) → Tells (IsOpen traced) (IsEnded traced) st began now given [] []) → IsHeaderEnd st → StoppedFirst st began now
-header_stopped began now st given took most tells end = λ traced sink told. record {
+    → ((o : Output) (totals : Totals) → Tells (OpenAs o) (EndedAs o totals) st began now given [] []) → IsHeaderEnd st →
+    StoppedFirst st began now
+header_stopped began now st given took most tells end = λ o totals sink told. record {
   given = given;
   text = [];
   steps = [];
@@ -58,7 +60,7 @@ header_stopped began now st given took most tells end = λ traced sink told. rec
   later = omega arith;
   failed = λ e. absurd (header_fails_no_write st end e);
   allowed = header_may_end st end;
-  tells = tells traced;
+  tells = tells o totals;
   watched = told_nothing the_space told;
 }
 
@@ -67,12 +69,12 @@ pub nothing_judged : (began now : SourceState) (given : List ℕ) → Consumes b
     StoppedFirst status.NoMemory began now
 nothing_judged began now given took most =
     header_stopped began now status.NoMemory given took most
-    (λ traced. ([], inl (whole_lines_of given, refl), inl (refl, refl, await_at_first))) tt
+    (λ o totals. ([], inl (whole_lines_of given, refl), inl (refl, refl, await_at_first))) tt
 
 -- nothing was printed for the lines of a header
-nothing_open : (given : List ℕ) (read : List Line) → whole_lines_of given ≡ read → AwaitHeader read → (traced : Bool) →
-    IsOpen traced (whole_lines_of given) [] []
-nothing_open given read whole awaits traced = inl (refl, refl, subst AwaitHeader (sym whole) awaits)
+nothing_open : (given : List ℕ) (read : List Line) → whole_lines_of given ≡ read → AwaitHeader read → (o : Output) →
+    OpenAs o (whole_lines_of given) [] []
+nothing_open given read whole awaits o = inl (refl, refl, subst AwaitHeader (sym whole) awaits)
 
 numbered : (n k : ℕ) → IsHeaderCause n → Some n ≡ Some k → IsHeaderCause k
 numbered n k is same = subst IsHeaderCause (same_Some n k same) is
@@ -134,7 +136,7 @@ module _ (began now later : SourceState) (reader after : Reader) (text : List �
       let first = are_first began later after (was.given ++ got) (read ++ line ∷ []) []
       (subst (Reading began later after (was.given ++ got)) (sym (append-nil (read ++ line ∷ []))) r) in
       header_stopped began later (status.BadHeader k) (was.given ++ got) r.took (within_limit r limit)
-      (λ traced. (refl, refl, inr (read, line, first, refusal))) cause
+      (λ o totals. (refl, refl, inr (read, line, first, refusal))) cause
 
   -- by a line that is too long
   pub long_header : Reading began later after (was.given ++ got) (read ++ Long ∷ []) → StoppedFirst (status.BadHeader 9) began later
@@ -148,7 +150,7 @@ module _ (began now later : SourceState) (reader after : Reader) (text : List �
       let end = exact.ended.0 refl in
       let at = r.ended end.0 in
       header_stopped began later (status.BadHeader 10) (was.given ++ got) r.took (within_limit r limit)
-      (λ traced. (refl, refl, inl (refl, read, (at.1, at.0, end.1), (text, was.are)))) (omega arith, omega arith)
+      (λ o totals. (refl, refl, inl (refl, read, (at.1, at.0, end.1), (text, was.are)))) (omega arith, omega arith)
 
   pub header_read_fault : Reading began later after (was.given ++ got) (read ++ []) → IsExact next.ReadFault after (was.given ++ got) read →
       Rose now.faults later.faults → StoppedFirst status.ReadFault began later
@@ -157,14 +159,14 @@ module _ (began now later : SourceState) (reader after : Reader) (text : List �
       let low = here.1 in
       let count = r.count in
       header_stopped began later status.ReadFault (was.given ++ got) r.took (within_limit r limit)
-      (λ traced. ((let l = was.reading.faults in omega arith), omega arith, nothing_open (was.given ++ got) read here.2 (text, was.are) traced)) tt
+      (λ o totals. ((let l = was.reading.faults in omega arith), omega arith, nothing_open (was.given ++ got) read here.2 (text, was.are) o)) tt
 
   pub header_limit : Reading began later after (was.given ++ got) (read ++ []) → IsExact next.Limit after (was.given ++ got) read →
       StoppedFirst status.Limit began later
   header_limit r exact =
       let here = exact.full.0 refl in
       header_stopped began later status.Limit (was.given ++ got) r.took (within_limit r limit)
-      (λ traced. (sym r.count ∙ here.0 ∙ limit, nothing_open (was.given ++ got) read here.1 (text, was.are) traced)) tt
+      (λ o totals. (sym r.count ∙ here.0 ∙ limit, nothing_open (was.given ++ got) read here.1 (text, was.are) o)) tt
 
   pub header_no_memory : (line : Line) → Reading began later after (was.given ++ got) (read ++ line ∷ []) →
       StoppedFirst status.NoMemory began later

@@ -1,3 +1,4 @@
+mod Counting
 mod Following
 mod Rounds
 mod Playing
@@ -8,3 +9,4 @@ mod PrintLemmas
 mod RunLemmas
 mod HeaderRuns
 mod Completing
+mod StormRuns

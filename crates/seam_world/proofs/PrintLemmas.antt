@@ -15,8 +15,12 @@ use Rattle.seam_world.specs.declared.status.Status.{Status}
 use Rattle.seam_world.specs.declared.status.Status.TheVariants as status
 use Rattle.seam_world.proofs.Prefixes.{taken_is_proper}
 
+-- all of a text is pending
+pub all_pending : (sink : SinkState) (text : List ℕ) → Printed sink sink text text
+all_pending sink text = record { wrote = []; whole = refl; writing = Appends-nil sink.written; later = omega arith }
+
 pub nothing_printed : (sink : SinkState) (pending : List ℕ) → pending ≡ [] → Printed sink sink pending []
-nothing_printed sink pending none = record { wrote = []; whole = sym none; writing = Appends-nil sink.written; later = omega arith }
+nothing_printed sink pending none = subst (Printed sink sink pending) none (all_pending sink pending)
 
 module _ (sink was is : SinkState) (pending text : List ℕ) (p : Printed sink was pending text) where
   -- what was pending was written

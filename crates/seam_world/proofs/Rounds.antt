@@ -1,5 +1,5 @@
 -- What a played round leaves.
-use Rattle.std.proofs.Common.{◌≡◌, ℕ, ◌+◌, ◌<◌, Bool, true, false, List, Option, None, Some, map, refl, sym, ap, ◌∙◌, subst, arith}
+use Rattle.std.proofs.Common.{◌≡◌, ℕ, ◌+◌, ◌<◌, Bool, true, false, List, [], ◌∷◌, ◌++◌, Option, None, Some, map, refl, sym, ap, ◌∙◌, subst, arith}
 use Rattle.std.specs.Prelude.{IsTrue, IsFalse}
 use Rattle.seam_geo.specs.declared.pos.Pos.{Pos}
 use Rattle.seam_tree.specs.Division.{Division, IsTree}
@@ -14,7 +14,10 @@ use Rattle.seam_batches.specs.Books.{as_begun}
 use Rattle.seam_rules.specs.Lines.{RoundData}
 use Rattle.seam_rules.specs.Round.{IsRound, with_bounds}
 use Rattle.seam_rules.specs.Standing.{Standing}
-use Rattle.seam_rules.specs.Transcript.{played_text}
+use Rattle.seam_rules.specs.Transcript.{Ended}
+use Rattle.seam_summary.specs.Summary.{totals_of}
+use Rattle.seam_summary.specs.declared.totals.Sums.{Sums}
+use Rattle.seam_summary.specs.declared.totals.Totals.{Totals}
 use Rattle.seam_played.specs.Playing.{IsPlayed, data_of, standing_of}
 use Rattle.seam_course.specs.Course.{GoesOn}
 use Rattle.seam_course.specs.OneReal.{HasOneReal}
@@ -24,7 +27,11 @@ use Rattle.seam_print.specs.declared.residents.Resident.{Resident}
 use Rattle.seam_world.specs.Transcripts.{Plays, HasSteps}
 use Rattle.seam_world.specs.Transcripts.IsWorldOf.{plays}
 use Rattle.seam_world.specs.Rounds.{IsBalancedBy, HasPlayed}
-use Rattle.seam_world.specs.Script.{IsReady, ScriptRefines}
+use Rattle.seam_world.specs.Output.{AddsSums, Counts, round_output, sums_if}
+use Rattle.seam_world.specs.Script.{IsReady, Refines}
+use Rattle.seam_world.specs.declared.round.Output.{Output}
+use Rattle.seam_world.specs.declared.round.Output.TheVariants as output
+use Rattle.seam_world.proofs.Counting.{added_none}
 use Rattle.seam_world.specs.Following.{RoundEnds}
 use Rattle.seam_world.specs.declared.round.Played.{Played}
 use Rattle.seam_world.specs.declared.script.Script.{Script}
@@ -70,10 +77,18 @@ module _ (h : Header) (t : Standing) (tree : Division) (w v : World) (p : IsPlay
     leaves = refl;
   }
 
+-- ---- what is summed up of it
+
+counted : (o : Output) (s : Standing) (r : RoundData) (j : Journal) (old new : Totals) (sums : Option Sums) → AddsSums old sums new →
+    sums ≡ sums_if o r → Counts o old new (Ended s r j ∷ [])
+counted output.Rounds s r j old new sums adds is = added_none old new (subst (λ x. AddsSums old x new) is adds)
+counted output.TracedRounds s r j old new sums adds is = added_none old new (subst (λ x. AddsSums old x new) is adds)
+counted output.Sums s r j old new sums adds is = subst (λ x. AddsSums old x new) is adds
+
 -- ---- the script after it
 
-module _ (traced : Bool) (h : Header) (t : Standing) (old new : Script) (ready : IsReady h t old) (left : Played)
-    (residents : List Resident) (before text : List ℕ) (has : HasPlayed traced h t ready.has.tree ready.has.world left residents before text) where
+module _ (o : Output) (h : Header) (t : Standing) (old new : Script) (ready : IsReady h t old) (left : Played)
+    (residents : List Resident) (before text : List ℕ) (has : HasPlayed o h t ready.has.tree ready.has.world left residents before text) where
   abbrev p : IsPlayed h t ready.has.tree ready.has.world left.world
   p = has.played
 
@@ -87,11 +102,11 @@ module _ (traced : Bool) (h : Header) (t : Standing) (old new : Script) (ready :
       IsRight h t ready.has.tree ready.has.world left.world p (Some u)) →
       HasOneReal h t ready.has.world left.world p.round → ((r : RoundData) (u : Standing) → ClientsSeeAll h t r u) →
       new.header ≡ old.header → new.world ≡ Some left.world → new.residents ≡ residents → new.line ≡ old.line →
-      new.round ≡ old.round + 1 → HoldsBook h after.book new.book →
-      RoundEnds traced h t (λ s. ScriptRefines h s new)
-      (played_text traced h.defs (printed h t ready.has.tree ready.has.world left.world p left.bounds) left.journal) left.journal
+      new.round ≡ old.round + 1 → HoldsBook h after.book new.book → AddsSums old.totals left.sums new.totals →
+      RoundEnds o h t (Refines o h old new)
+      (round_output o h.defs (printed h t ready.has.tree ready.has.world left.world p left.bounds) left.journal) left.journal
   unfolding plays_so
-  round_ended kept balanced one_real sees_all header world live line round book =
+  round_ended kept balanced one_real sees_all header world live line round book adds =
       let right =
       right_by h t ready.has.tree ready.has.world left.world p (has_balance t.book) refl kept balanced left.bounds has.bounds in
       let so = plays_so h t ready.has.tree ready.has.world left.world p left.journal has.steps left.bounds in
@@ -108,7 +123,7 @@ module _ (traced : Bool) (h : Header) (t : Standing) (old new : Script) (ready :
           sees_all = sees_all _ after;
         };
         whole = refl;
-        after = record {
+        after = (record {
           has = record {
             header = header ∙ ready.has.header;
             world = left.world;
@@ -126,5 +141,5 @@ module _ (traced : Bool) (h : Header) (t : Standing) (old new : Script) (ready :
           most = ready.may.all;
           below_most =
               next_book (λ b. open_lines b < MOST_LINES) (with_round_ended t.book) (omega arith) (λ u. omega arith) left.bounds;
-        };
+        }, counted o t _ left.journal old.totals new.totals left.sums adds has.sums);
       }

@@ -1,5 +1,5 @@
 -- How a run goes on, and how it stops.
-use Rattle.std.proofs.Common.{◌≡◌, inl, inr, ℕ, ◌≤◌, Bool, List, [], ◌∷◌, ◌++◌, Option, None, Some, refl, sym}
+use Rattle.std.proofs.Common.{◌≡◌, inl, inr, ℕ, ◌≤◌, Bool, true, false, List, [], ◌∷◌, ◌++◌, Option, None, Some, refl, sym}
 use Rattle.std.proofs.Common.{ap, ◌∙◌, subst, arith, append-nil}
 use Rattle.std.proofs.KnownBytes.{Appends-trans, Consumes-nil}
 use Rattle.std.proofs.lemmas.List.Concat.{flat_map-append}
@@ -13,33 +13,42 @@ use Rattle.seam_io.specs.Reading.{Reader, Reading, IsExact}
 use Rattle.seam_io.specs.declared.lines.Next.TheVariants as next
 use Rattle.seam_toml.specs.declared.header.Header.{Header}
 use Rattle.seam_rules.specs.Standing.{after_header}
-use Rattle.seam_rules.specs.Transcript.{Piece, text_of, piece_text, journals_of, journal_of}
+use Rattle.seam_rules.specs.Transcript.{Piece, journals_of, journal_of}
+use Rattle.seam_summary.specs.Summary.{totals_of}
+use Rattle.seam_summary.specs.declared.totals.Totals.{Totals}
 use Rattle.seam_transcript.proofs.RunLemmas.{run_with_line}
 use Rattle.seam_transcript.proofs.HeaderLemmas.{header_of_append}
 use Rattle.seam_world.specs.Transcripts.{Step, PrintLines, IsOpen, IsEnded}
 use Rattle.seam_world.specs.Following.{LineRead, InputEnded}
-use Rattle.seam_world.specs.Script.{ScriptRefines}
+use Rattle.seam_world.specs.Output.{Counts, output_of, piece_output, sums_for, text_output}
+use Rattle.seam_world.specs.declared.round.Output.{Output}
+use Rattle.seam_world.specs.declared.round.Output.TheVariants as output
+use Rattle.seam_world.specs.Script.{ScriptRefines, Refines}
+use Rattle.seam_world.specs.Storm.{StormEnds, TellsOfStorm}
 use Rattle.seam_world.specs.Status.{IsRunEnd}
 use Rattle.seam_watch.specs.Watching.{Told, after_all}
 use Rattle.seam_watch.specs.declared.journal.Journal.{Journal}
 use Rattle.seam_watch.proofs.Told.{told_nothing, told_more}
-use Rattle.seam_world.specs.Ends.{AreAll, IsSoFar, Tells, HasFaultLine, RunEnds, most_bytes, the_space}
-use Rattle.seam_world.specs.Histories.{HasHeader, Going, Stopped}
+use Rattle.seam_world.specs.Ends.{AreAll, IsSoFar, Tells, HasFaultLine, RunEnds, MayComplete, most_bytes, the_space}
+use Rattle.seam_world.specs.Histories.{HasHeader, Going, OpenAs, EndedAs, Stopped, StormStopped}
 use Rattle.seam_world.specs.Printing.{Printed, FailedWithin, StopsBy, Prints}
 use Rattle.seam_world.specs.declared.script.Script.{Script}
 use Rattle.seam_world.specs.declared.status.Status.{Status}
 use Rattle.seam_world.specs.declared.status.Status.TheVariants as status
+use Rattle.seam_world.proofs.Counting.{counted_after}
 use Rattle.seam_world.proofs.Prefixes.{are_first, within_limit}
 use Rattle.seam_world.proofs.PrintLemmas.{nothing_printed}
 use Rattle.seam_world.proofs.HeaderRuns.{nothing_judged}
+use Rattle.seam_world.proofs.Completing.{is_complete}
+use Rattle.seam_world.proofs.StormRuns.{nothing_run}
 
 -- all of a text was written
-all_written : (traced : Bool) (began later : SourceState) (after : Reader) (sink is : SinkState) (told told' : Told) (st : Status)
+all_written : (o : Output) (totals : Totals) (began later : SourceState) (after : Reader) (sink is : SinkState) (told told' : Told) (st : Status)
     (given : List ℕ) (read : List Line) (text : List ℕ) (steps : List Journal) → Reading began later after given read →
     after.limit ≡ most_bytes → Printed sink is [] text → told' ≡ after_all the_space steps told → (st ≡ status.WriteFault → ⊥) →
-    IsRunEnd st → Tells (IsOpen traced) (IsEnded traced) st began later given text steps →
-    Stopped traced st began later sink is told told'
-all_written traced began later after sink is told told' st given read text steps r most p watched other allowed tells = record {
+    IsRunEnd st → Tells (OpenAs o) (EndedAs o totals) st began later given text steps →
+    Stopped o totals st began later sink is told told'
+all_written o totals began later after sink is told told' st given read text steps r most p watched other allowed tells = record {
   given = given;
   text = text;
   steps = steps;
@@ -54,11 +63,11 @@ all_written traced began later after sink is told told' st given read text steps
 }
 
 -- the sink failed within a text
-sink_failed : (traced : Bool) (began later : SourceState) (after : Reader) (sink is : SinkState) (told told' : Told) (given : List ℕ)
+sink_failed : (o : Output) (totals : Totals) (began later : SourceState) (after : Reader) (sink is : SinkState) (told told' : Told) (given : List ℕ)
     (read : List Line) (text : List ℕ) (steps : List Journal) → Reading began later after given read → after.limit ≡ most_bytes →
     FailedWithin sink is text → told' ≡ after_all the_space steps told →
-    IsSoFar (IsOpen traced) (IsEnded traced) began later given text steps → Stopped traced status.WriteFault began later sink is told told'
-sink_failed traced began later after sink is told told' given read text steps r most f watched transcript = record {
+    IsSoFar (OpenAs o) (EndedAs o totals) began later given text steps → Stopped o totals status.WriteFault began later sink is told told'
+sink_failed o totals began later after sink is told told' given read text steps r most f watched transcript = record {
   given = given;
   text = f.prefix;
   steps = steps;
@@ -73,16 +82,16 @@ sink_failed traced began later after sink is told told' given read text steps r 
 }
 
 -- the source and the sink after a call, and what is pending then
-module _ (traced : Bool) (began : SourceState) (sink : SinkState) (told : Told) (now : SourceState) (reader : Reader) (was is : SinkState)
-    (had : Told) (pending : List ℕ) (script : Script) (g : Going traced began now reader sink was told had pending script) where
+module _ (o : Output) (began : SourceState) (sink : SinkState) (told : Told) (now : SourceState) (reader : Reader) (was is : SinkState)
+    (had : Told) (pending : List ℕ) (script : Script) (g : Going o began now reader sink was told had pending script) where
   abbrev text : List ℕ
-  text = text_of traced g.header.defs g.pieces
+  text = output_of o g.header.defs g.pieces
 
   abbrev steps : List Journal
   steps = journals_of g.pieces
 
   -- what was printed until then was written as far as may be
-  pub with_printed : (pending' : List ℕ) → Printed sink is pending' text → Going traced began now reader sink is told had pending' script
+  pub with_printed : (pending' : List ℕ) → Printed sink is pending' text → Going o began now reader sink is told had pending' script
   with_printed pending' p = record {
     header = g.header;
     count = g.count;
@@ -98,18 +107,19 @@ module _ (traced : Bool) (began : SourceState) (sink : SinkState) (told : Told) 
     watched = g.watched;
     run = g.run;
     refines = g.refines;
+    counted = g.counted;
   }
 
   so_far : PrintLines g.read g.header g.pieces g.standing
   so_far = record { count = g.count; rest = g.rest; header = g.begins; run = g.run }
 
-  open_so_far : IsOpen traced g.read text steps
+  open_so_far : OpenAs o g.read text steps
   open_so_far = inr (g.header, g.pieces, g.standing, so_far, refl, refl)
 
   -- the sink failed before the next line was read
-  pub failed_before : FailedWithin sink is (text_of traced g.header.defs g.pieces) →
-      Stopped traced status.WriteFault began now sink is told had
-  failed_before f = sink_failed traced began now reader sink is told had g.given g.read text steps g.reading g.limit f g.watched (
+  pub failed_before : (totals : Totals) → FailedWithin sink is (output_of o g.header.defs g.pieces) →
+      Stopped o totals status.WriteFault began now sink is told had
+  failed_before totals f = sink_failed o totals began now reader sink is told had g.given g.read text steps g.reading g.limit f g.watched (
     g.read,
     inl (
       are_first began now reader g.given g.read []
@@ -118,12 +128,12 @@ module _ (traced : Bool) (began : SourceState) (sink : SinkState) (told : Told) 
     ),
   )
 
-  module _ (later : SourceState) (after : Reader) (limit : after.limit ≡ reader.limit) (has : Told) where
+  module _ (later : SourceState) (after : Reader) (limit : after.limit ≡ reader.limit) (has : Told) (totals : Totals) where
     most : after.limit ≡ most_bytes
     most = limit ∙ g.limit
 
-    text_with : (pieces : List Piece) → text_of traced g.header.defs (g.pieces ++ pieces) ≡ text ++ text_of traced g.header.defs pieces
-    text_with pieces = flat_map-append (piece_text traced g.header.defs) g.pieces pieces
+    text_with : (pieces : List Piece) → output_of o g.header.defs (g.pieces ++ pieces) ≡ text ++ output_of o g.header.defs pieces
+    text_with pieces = flat_map-append (piece_output o g.header.defs) g.pieces pieces
 
     steps_with : (pieces : List Piece) → journals_of (g.pieces ++ pieces) ≡ steps ++ journals_of pieces
     steps_with pieces = filter_map-append journal_of g.pieces pieces
@@ -137,8 +147,8 @@ module _ (traced : Bool) (began : SourceState) (sink : SinkState) (told : Told) 
 
     going_on : (line : Line) (got piece pending' : List ℕ) (more : List Journal) (new : Script) →
         Reading began later after (g.given ++ got) (g.read ++ line ∷ []) →
-        LineRead traced g.header g.standing line (λ s. ScriptRefines g.header s new) piece more → Printed sink is pending' (text ++ piece)
-        → has ≡ after_all the_space more had → Going traced began later after sink is told has pending' new
+        LineRead o g.header g.standing line (Refines o g.header script new) piece more → Printed sink is pending' (text ++ piece)
+        → has ≡ after_all the_space more had → Going o began later after sink is told has pending' new
     going_on line got piece pending' more new r taken p given = record {
       header = g.header;
       count = g.count;
@@ -157,12 +167,13 @@ module _ (traced : Bool) (began : SourceState) (sink : SinkState) (told : Told) 
           (ap (λ (js : List Journal). steps ++ js) taken.stepped ∙ sym (steps_with taken.pieces));
       run = run_with_line (Step g.header) (after_header g.header g.count) g.rest g.pieces g.standing line taken.pieces taken.next g.run
           taken.step;
-      refines = taken.after;
+      refines = taken.after.0;
+      counted = counted_after o g.pieces taken.pieces script.totals new.totals g.counted taken.after.1;
     }
 
     open_more : (line : Line) (piece : List ℕ) (more : List Journal) (new : Script) →
-        LineRead traced g.header g.standing line (λ s. ScriptRefines g.header s new) piece more →
-        IsOpen traced (g.read ++ line ∷ []) (text ++ piece) (steps ++ more)
+        LineRead o g.header g.standing line (Refines o g.header script new) piece more →
+        OpenAs o (g.read ++ line ∷ []) (text ++ piece) (steps ++ more)
     open_more line piece more new taken = inr (
       g.header,
       g.pieces ++ taken.pieces,
@@ -178,8 +189,8 @@ module _ (traced : Bool) (began : SourceState) (sink : SinkState) (told : Told) 
       ap (λ (js : List Journal). steps ++ js) taken.stepped ∙ sym (steps_with taken.pieces),
     )
 
-    ended : (piece : List ℕ) (more : List Journal) → InputEnded traced g.header g.standing piece more →
-        IsEnded traced g.read (text ++ piece) (steps ++ more)
+    ended : (piece : List ℕ) (more : List Journal) → InputEnded o g.header g.standing (Counts o script.totals totals) piece more →
+        EndedAs o totals g.read (text ++ piece) (steps ++ more)
     ended piece more l = (
       g.header,
       g.pieces,
@@ -189,32 +200,33 @@ module _ (traced : Bool) (began : SourceState) (sink : SinkState) (told : Told) 
       l.ends,
       ap (λ (x : List ℕ). text ++ x) l.whole ∙ sym (text_with l.pieces),
       ap (λ (js : List Journal). steps ++ js) l.stepped ∙ sym (steps_with l.pieces),
+      counted_after o g.pieces l.pieces script.totals totals g.counted l.counted,
     )
 
     first_so_far : (got : List ℕ) (more : List Line) → Reading began later after (g.given ++ got) (g.read ++ more) →
-        IsSoFar (IsOpen traced) (IsEnded traced) began later (g.given ++ got) text steps
+        IsSoFar (OpenAs o) (EndedAs o totals) began later (g.given ++ got) text steps
     first_so_far got more r = (g.read, inl (are_first began later after _ g.read more r, open_so_far))
 
     -- an allocation failed: nothing of this line was printed
     no_memory : (got : List ℕ) (more : List Line) → Reading began later after (g.given ++ got) (g.read ++ more) → Printed sink is [] text
-        → has ≡ had → Stopped traced status.NoMemory began later sink is told has
+        → has ≡ had → Stopped o totals status.NoMemory began later sink is told has
     no_memory got more r p same =
-        all_written traced began later after sink is told has status.NoMemory (g.given ++ got) (g.read ++ more) text steps r most p
+        all_written o totals began later after sink is told has status.NoMemory (g.given ++ got) (g.read ++ more) text steps r most p
         (told_no_more same) (λ e. cc) tt (g.read, are_first began later after _ g.read more r, open_so_far)
 
     -- one more line, whatever the call that printed it answered
     pub line_printed : (line : Line) (got pending' : List ℕ) (new : Script) (result : Option Status) →
         Reading began later after (g.given ++ got) (g.read ++ line ∷ [])
-        → Prints (LineRead traced g.header g.standing line (λ s. ScriptRefines g.header s new)) sink is pending'
-        (text_of traced g.header.defs g.pieces) had has result
-        → MatchOption result (Going traced began later after sink is told has pending' new) (λ st. Stopped traced st began later sink is told has)
+        → Prints (LineRead o g.header g.standing line (Refines o g.header script new)) sink is pending'
+        (output_of o g.header.defs g.pieces) had has result
+        → MatchOption result (Going o began later after sink is told has pending' new) (λ st. Stopped o totals st began later sink is told has)
     line_printed line got pending' new None r (piece, more, read, p, given) = going_on line got piece pending' more new r read p given
     line_printed line got pending' new (Some status.NoMemory) r p = no_memory got (line ∷ []) r p.0 p.1
     line_printed line got pending' new (Some status.WriteFault) r (inl f) =
-        sink_failed traced began later after sink is told has (g.given ++ got) _ text steps r most f.0 (told_no_more f.1)
+        sink_failed o totals began later after sink is told has (g.given ++ got) _ text steps r most f.0 (told_no_more f.1)
         (first_so_far got (line ∷ []) r)
     line_printed line got pending' new (Some status.WriteFault) r (inr (piece, more, read, f, given)) =
-        sink_failed traced began later after sink is told has (g.given ++ got) _ (text ++ piece) (steps ++ more) r most f
+        sink_failed o totals began later after sink is told has (g.given ++ got) _ (text ++ piece) (steps ++ more) r most f
         (told_so_far more given) (
           g.read ++ line ∷ [],
           inl (
@@ -238,26 +250,26 @@ module _ (traced : Bool) (began : SourceState) (sink : SinkState) (told : Told) 
         (at.1, at.0, end.1)
 
     pub done : (got : List ℕ) → Reading began later after (g.given ++ got) (g.read ++ []) → IsExact next.End after (g.given ++ got) g.read
-        → Prints (InputEnded traced g.header g.standing) sink is [] (text_of traced g.header.defs g.pieces) had has None →
-        Stopped traced status.Done began later sink is told has
+        → Prints (InputEnded o g.header g.standing (Counts o script.totals totals)) sink is [] (output_of o g.header.defs g.pieces) had has None →
+        Stopped o totals status.Done began later sink is told has
     done got r exact (piece, more, ends, p, given) =
         let at = r.ended (exact.ended.0 refl).0 in
         let count = r.count in
         let low = at.2 in
         let bound = most in
-        all_written traced began later after sink is told has status.Done (g.given ++ got) _ (text ++ piece) (steps ++ more) r most p
+        all_written o totals began later after sink is told has status.Done (g.given ++ got) _ (text ++ piece) (steps ++ more) r most p
         (told_so_far more given) (λ e. cc) tt (omega arith, g.read, all_of got r exact, ended piece more ends)
 
     pub last_printed : (got : List ℕ) (st : Status) → Reading began later after (g.given ++ got) (g.read ++ []) →
         IsExact next.End after (g.given ++ got) g.read
-        → Prints (InputEnded traced g.header g.standing) sink is [] (text_of traced g.header.defs g.pieces) had has (Some st) →
-        Stopped traced st began later sink is told has
+        → Prints (InputEnded o g.header g.standing (Counts o script.totals totals)) sink is [] (output_of o g.header.defs g.pieces) had has (Some st) →
+        Stopped o totals st began later sink is told has
     last_printed got status.NoMemory r exact p = no_memory got [] r p.0 p.1
     last_printed got status.WriteFault r exact (inl f) =
-        sink_failed traced began later after sink is told has (g.given ++ got) _ text steps r most f.0 (told_no_more f.1)
+        sink_failed o totals began later after sink is told has (g.given ++ got) _ text steps r most f.0 (told_no_more f.1)
         (first_so_far got [] r)
     last_printed got status.WriteFault r exact (inr (piece, more, ends, f, given)) =
-        sink_failed traced began later after sink is told has (g.given ++ got) _ (text ++ piece) (steps ++ more) r most f
+        sink_failed o totals began later after sink is told has (g.given ++ got) _ (text ++ piece) (steps ++ more) r most f
         (told_so_far more given) (g.read, inr (all_of got r exact, ended piece more ends))
     last_printed got status.Done r exact p = absurd p
     last_printed got status.Usage r exact p = absurd p
@@ -265,24 +277,24 @@ module _ (traced : Bool) (began : SourceState) (sink : SinkState) (told : Told) 
     last_printed got status.ReadFault r exact p = absurd p
     last_printed got status.Limit r exact p = absurd p
 
-    whole_open : (got : List ℕ) → whole_lines_of (g.given ++ got) ≡ g.read → IsOpen traced (whole_lines_of (g.given ++ got)) text steps
-    whole_open got e = subst (λ (x : List Line). IsOpen traced x text steps) (sym e) open_so_far
+    whole_open : (got : List ℕ) → whole_lines_of (g.given ++ got) ≡ g.read → OpenAs o (whole_lines_of (g.given ++ got)) text steps
+    whole_open got e = subst (λ (x : List Line). OpenAs o x text steps) (sym e) open_so_far
 
     stopped_by : (wanted result : Status) (got : List ℕ) → has ≡ had → Reading began later after (g.given ++ got) (g.read ++ []) →
-        (Printed sink is [] text → Stopped traced wanted began later sink is told has) → StopsBy wanted sink is text result
-        → Stopped traced result began later sink is told has
+        (Printed sink is [] text → Stopped o totals wanted began later sink is told has) → StopsBy wanted sink is text result
+        → Stopped o totals result began later sink is told has
     stopped_by wanted result got same r stopped (inl s) =
-        subst (λ (st : Status). Stopped traced st began later sink is told has) (sym s.0) (stopped s.1)
+        subst (λ (st : Status). Stopped o totals st began later sink is told has) (sym s.0) (stopped s.1)
     stopped_by wanted result got same r stopped (inr s) =
-        subst (λ (st : Status). Stopped traced st began later sink is told has) (sym s.0)
-        (sink_failed traced began later after sink is told has (g.given ++ got) _ text steps r most s.1 (told_no_more same)
+        subst (λ (st : Status). Stopped o totals st began later sink is told has) (sym s.0)
+        (sink_failed o totals began later after sink is told has (g.given ++ got) _ text steps r most s.1 (told_no_more same)
         (first_so_far got [] r))
 
     -- a fault of the source, or the limit
     pub read_fault : (got : List ℕ) (result : Status) → has ≡ had → Reading began later after (g.given ++ got) (g.read ++ []) →
         IsExact next.ReadFault after (g.given ++ got) g.read
-        → Rose now.faults later.faults → StopsBy status.ReadFault sink is (text_of traced g.header.defs g.pieces) result
-        → Stopped traced result began later sink is told has
+        → Rose now.faults later.faults → StopsBy status.ReadFault sink is (output_of o g.header.defs g.pieces) result
+        → Stopped o totals result began later sink is told has
     read_fault got result same r exact rose s =
         let here = exact.fault refl in
         let count = r.count in
@@ -290,23 +302,24 @@ module _ (traced : Bool) (began : SourceState) (sink : SinkState) (told : Told) 
         let low = here.1 in
         let earlier = g.reading.faults in
         stopped_by status.ReadFault result got same r (λ p.
-        all_written traced began later after sink is told has status.ReadFault (g.given ++ got) _ text steps r most p (told_no_more same)
+        all_written o totals began later after sink is told has status.ReadFault (g.given ++ got) _ text steps r most p (told_no_more same)
         (λ e. cc) tt (omega arith, omega arith, whole_open got here.2)) s
 
     pub limit_reached : (got : List ℕ) (result : Status) → has ≡ had → Reading began later after (g.given ++ got) (g.read ++ []) →
         IsExact next.Limit after (g.given ++ got) g.read
-        → StopsBy status.Limit sink is (text_of traced g.header.defs g.pieces) result → Stopped traced result began later sink is told has
+        → StopsBy status.Limit sink is (output_of o g.header.defs g.pieces) result → Stopped o totals result began later sink is told has
     limit_reached got result same r exact s =
         let here = exact.full.0 refl in
         stopped_by status.Limit result got same r (λ p.
-        all_written traced began later after sink is told has status.Limit (g.given ++ got) _ text steps r most p (told_no_more same)
+        all_written o totals began later after sink is told has status.Limit (g.given ++ got) _ text steps r most p (told_no_more same)
         (λ e. cc) tt (sym r.count ∙ here.0 ∙ most, whole_open got here.1)) s
 
 -- the run goes on after the header
-pub after_a_header : (traced : Bool) (began now : SourceState) (reader : Reader) (sink : SinkState) (told : Told) (h : Header) (count : ℕ)
+pub after_a_header : (o : Output) (began now : SourceState) (reader : Reader) (sink : SinkState) (told : Told) (h : Header) (count : ℕ)
     (pending : List ℕ) (script : Script) → HasHeader began now reader h count → pending ≡ [] →
-    ScriptRefines h (after_header h count) script → Going traced began now reader sink sink told told pending script
-after_a_header traced began now reader sink told h count pending script has none refines = record {
+    ScriptRefines h (after_header h count) script → script.totals ≡ totals_of [] →
+    Going o began now reader sink sink told told pending script
+after_a_header o began now reader sink told h count pending script has none refines totals = record {
   header = h;
   count = count;
   given = has.given;
@@ -321,13 +334,53 @@ after_a_header traced began now reader sink told h count pending script has none
   watched = told_nothing the_space told;
   run = (refl, refl);
   refines = refines;
+  counted = totals ∙ sym (ap totals_of (nothing_for o));
 }
+  where
+    nothing_for : (o : Output) → sums_for o [] ≡ []
+    nothing_for output.Rounds = refl
+    nothing_for output.TracedRounds = refl
+    nothing_for output.Sums = refl
+
+-- ---- the end of a run, with its fault line
+
+-- what tells of transcripts tells of others that they are
+module _ (Open Ended Open' Ended' : List Line → List ℕ → List Journal → Type 0)
+    (is_open : (ls : List Line) (t : List ℕ) (js : List Journal) → Open ls t js → Open' ls t js)
+    (is_ended : (ls : List Line) (t : List ℕ) (js : List Journal) → Ended ls t js → Ended' ls t js) (old new : SourceState) (given t : List ℕ)
+    (js : List Journal) where
+  tells_others : (st : Status) → Tells Open Ended st old new given t js → Tells Open' Ended' st old new given t js
+  tells_others status.Done (low, read, all, x) = (low, read, all, is_ended read t js x)
+  tells_others status.Usage x = x
+  tells_others (status.BadHeader k) x = x
+  tells_others status.ReadFault (rose, low, x) = (rose, low, is_open (whole_lines_of given) t js x)
+  tells_others status.WriteFault (whole, proper, (read, inl x)) = (whole, proper, (read, inl (x.0, is_open read whole js x.1)))
+  tells_others status.WriteFault (whole, proper, (read, inr x)) = (whole, proper, (read, inr (x.0, is_ended read whole js x.1)))
+  tells_others status.Limit (all, x) = (all, is_open (whole_lines_of given) t js x)
+  tells_others status.NoMemory (read, first, x) = (read, first, is_open read t js x)
+
+-- where rounds are printed, what is given of transcripts is their text
+tells_of_text : (traced : Bool) (totals : Totals) (st : Status) (old new : SourceState) (given t : List ℕ) (js : List Journal) →
+    Tells (OpenAs (text_output traced)) (EndedAs (text_output traced) totals) st old new given t js →
+    Tells (IsOpen traced) (IsEnded traced) st old new given t js
+tells_of_text true totals st old new given t js =
+    tells_others (OpenAs output.TracedRounds) (EndedAs output.TracedRounds totals) (IsOpen true) (IsEnded true) (λ ls t js x. x)
+    (λ ls t js x. (x.0, x.1, x.2, x.3, x.4, x.5, x.6, x.7)) old new given t js st
+tells_of_text false totals st old new given t js =
+    tells_others (OpenAs output.Rounds) (EndedAs output.Rounds totals) (IsOpen false) (IsEnded false) (λ ls t js x. x)
+    (λ ls t js x. (x.0, x.1, x.2, x.3, x.4, x.5, x.6, x.7)) old new given t js st
+
+-- the fault line begins with what was there before
+from_start : (st : Status) (old mid new : SinkState) (tail : List ℕ) → old.faults ≤ mid.faults → HasFaultLine st mid new tail →
+    HasFaultLine st old new tail
+from_start st old mid new tail later (inl e) = inl e
+from_start st old mid new tail later (inr e) = inr (e.0, let r = e.1 in omega (arith, later, r))
 
 -- the fault line after what was written
-pub with_tail : (traced : Bool) (st : Status) (began now : SourceState) (old mid new : SinkState) (told told' : Told) →
-    Stopped traced st began now old mid told told' → (tail : List ℕ) → Appends mid.written new.written tail → mid.faults ≤ new.faults →
+pub with_tail : (traced : Bool) (totals : Totals) (st : Status) (began now : SourceState) (old mid new : SinkState) (told told' : Told) →
+    Stopped (text_output traced) totals st began now old mid told told' → (tail : List ℕ) → Appends mid.written new.written tail →
     HasFaultLine st mid new tail → RunEnds (IsOpen traced) (IsEnded traced) st began now old new told told'
-with_tail traced st began now old mid new told told' s tail a higher f = record {
+with_tail traced totals st began now old mid new told told' s tail a f = record {
   given = s.given;
   text = s.text;
   tail = tail;
@@ -335,42 +388,96 @@ with_tail traced st began now old mid new told told' s tail a higher f = record 
   took = s.took;
   most = s.most;
   wrote = Appends-trans old.written mid.written new.written s.text tail s.writing a;
-  tells = s.tells;
-  last = from_start f;
+  tells = tells_of_text traced totals st began now s.given s.text s.steps s.tells;
+  last = from_start st old mid new tail s.later f;
   watched = s.watched;
 }
-  where
-    from_start : HasFaultLine st mid new tail → HasFaultLine st old new tail
-    from_start (inl e) = inl e
-    from_start (inr e) = inr (e.0, let l = s.later in let r = e.1 in omega arith)
 
--- nothing was run for the words
-pub not_run : (traced : Bool) (st : Status) (source : SourceState) (old new : SinkState) (told : Told) →
-    (st ≡ status.NoMemory) ⊎ (st ≡ status.Usage) → (tail : List ℕ) → Appends old.written new.written tail → old.faults ≤ new.faults →
-    HasFaultLine st old new tail → RunEnds (IsOpen traced) (IsEnded traced) st source source old new told told
-not_run traced st source old new told why tail a higher f = by_status st why f
-  where
-    by_status : (s : Status) → (s ≡ status.NoMemory) ⊎ (s ≡ status.Usage) → HasFaultLine s old new tail →
-        RunEnds (IsOpen traced) (IsEnded traced) s source source old new told told
-    by_status s (inl is) line =
-        with_tail traced s source source old old new told told
-        (subst (λ (x : Status). Stopped traced x source source old old told told) (sym is)
-        (nothing_judged source source [] (Consumes-nil source.left) (omega arith) traced old told)) tail a higher line
-    by_status s (inr is) line = record {
-      given = [];
-      text = [];
-      tail = tail;
-      steps = [];
-      took = Consumes-nil source.left;
-      most = omega arith;
-      wrote = a;
-      tells = subst (λ (x : Status). Tells (IsOpen traced) (IsEnded traced) x source source [] [] []) (sym is) (refl, refl, refl);
-      last = line;
-      watched = told_nothing the_space told;
-    }
+storm_with_tail : (lines : ℕ) (st : Status) (before after : SourceState) (old mid new : SinkState) (told told' : Told) → after ≡ before →
+    StormStopped lines st old mid told told' → (tail : List ℕ) → Appends mid.written new.written tail → HasFaultLine st mid new tail →
+    StormEnds lines st before after old new told told'
+storm_with_tail lines st before after old mid new told told' unread s tail a f = record {
+  text = s.text;
+  tail = tail;
+  steps = s.steps;
+  unread = unread;
+  wrote = Appends-trans old.written mid.written new.written s.text tail s.writing a;
+  tells = s.tells;
+  last = from_start st old mid new tail s.later f;
+  watched = s.watched;
+}
 
--- with or without a trace, as the words say
-pub traced_as : {st : Status} {old new : SourceState} {sink sink' : SinkState} {told told' : Told} (t u : Bool) → t ≡ u →
-    RunEnds (IsOpen t) (IsEnded t) st old new sink sink' told told' → RunEnds (IsOpen u) (IsEnded u) st old new sink sink' told told'
-traced_as {st} {old} {new} {sink} {sink'} {told} {told'} t u same ends =
-    subst (λ (b : Bool). RunEnds (IsOpen b) (IsEnded b) st old new sink sink' told told') same ends
+module _ (asked : Option ℕ) (traced : Bool) (st : Status) (before after : SourceState) (old new : SinkState) (told told' : Told) where
+  -- how a run ends, by what was asked for
+  abbrev pub EndsAsAsked : Type 0
+  EndsAsAsked = MatchOption asked (RunEnds (IsOpen traced) (IsEnded traced) st before after old new told told')
+      (λ lines. StormEnds lines st before after old new told told')
+
+  abbrev pub StopsAsAsked : SinkState → Type 0
+  StopsAsAsked mid = MatchOption asked
+      ((totals : Totals) × Stopped (text_output traced) totals st before after old mid told told')
+      (λ lines. (after ≡ before) × StormStopped lines st old mid told told')
+
+-- the fault line after what was written
+pub ends_as_asked : (asked : Option ℕ) (traced : Bool) (st : Status) (before after : SourceState) (old mid new : SinkState)
+    (told told' : Told) → StopsAsAsked asked traced st before after old new told told' mid → (tail : List ℕ) →
+    Appends mid.written new.written tail → HasFaultLine st mid new tail → EndsAsAsked asked traced st before after old new told told'
+ends_as_asked None traced st before after old mid new told told' s tail a f =
+    with_tail traced s.0 st before after old mid new told told' s.1 tail a f
+ends_as_asked (Some lines) traced st before after old mid new told told' s tail a f =
+    storm_with_tail lines st before after old mid new told told' s.0 s.1 tail a f
+
+-- nothing was run
+pub ends_unasked : (asked : Option ℕ) (traced : Bool) (st : Status) (source : SourceState) (old new : SinkState) (told : Told) →
+    (st ≡ status.NoMemory) ⊎ (st ≡ status.Usage) → (tail : List ℕ) → Appends old.written new.written tail → HasFaultLine st old new tail →
+    EndsAsAsked asked traced st source source old new told told
+ends_unasked asked traced st source old new told (inl is) tail a f =
+    subst (λ (x : Status). EndsAsAsked asked traced x source source old new told told) (sym is)
+    (ends_as_asked asked traced status.NoMemory source source old old new told told (stopped asked) tail a
+    (subst (λ (x : Status). HasFaultLine x old new tail) is f))
+  where
+    stopped : (o : Option ℕ) → StopsAsAsked o traced status.NoMemory source source old new told told old
+    stopped None = (totals_of [], nothing_judged source source [] (Consumes-nil source.left) (omega arith) (text_output traced) (totals_of []) old told)
+    stopped (Some lines) = (refl, nothing_run lines old told)
+ends_unasked None traced st source old new told (inr is) tail a f = record {
+  given = [];
+  text = [];
+  tail = tail;
+  steps = [];
+  took = Consumes-nil source.left;
+  most = omega arith;
+  wrote = a;
+  tells = subst (λ (x : Status). Tells (IsOpen traced) (IsEnded traced) x source source [] [] []) (sym is) (refl, refl, refl);
+  last = f;
+  watched = told_nothing the_space told;
+}
+ends_unasked (Some lines) traced st source old new told (inr is) tail a f = record {
+  text = [];
+  tail = tail;
+  steps = [];
+  unread = refl;
+  wrote = a;
+  tells = subst (λ (x : Status). TellsOfStorm lines x [] []) (sym is) (refl, refl);
+  last = f;
+  watched = told_nothing the_space told;
+}
+
+-- a run that may be complete is, unless an allocation failed
+pub completes_as_asked : (asked : Option ℕ) (traced : Bool) (st : Status) (before after : SourceState) (old mid new : SinkState)
+    (told told' : Told) → StopsAsAsked asked traced st before after old new told told' mid → mid.faults ≤ new.faults →
+    MayComplete before after old new → (st ≡ status.Done) ⊎ (st ≡ status.NoMemory)
+completes_as_asked None traced st before after old mid new told told' (totals, s) later may =
+    is_complete (OpenAs (text_output traced)) (EndedAs (text_output traced) totals) st before after old new s.given s.text s.steps s.took s.tells
+    may (λ is. subst IsRunEnd is s.allowed) (λ is. let rose = s.failed is in omega (arith, rose, later))
+completes_as_asked (Some lines) traced st before after old mid new told told' (unread, s) later may =
+    by_status st s.allowed s.tells s.failed
+  where
+    by_status : (x : Status) → IsRunEnd x → TellsOfStorm lines x s.text s.steps → (x ≡ status.WriteFault → Rose old.faults mid.faults) →
+        (x ≡ status.Done) ⊎ (x ≡ status.NoMemory)
+    by_status status.Done allowed tells failed = inl refl
+    by_status status.Usage allowed tells failed = absurd allowed
+    by_status (status.BadHeader k) allowed tells failed = absurd tells
+    by_status status.ReadFault allowed tells failed = absurd tells
+    by_status status.WriteFault allowed tells failed = absurd (may.writes (let rose = failed refl in omega (arith, rose, later)))
+    by_status status.Limit allowed tells failed = absurd tells
+    by_status status.NoMemory allowed tells failed = inr refl

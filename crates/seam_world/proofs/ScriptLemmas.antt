@@ -1,5 +1,5 @@
 -- What a script does to its standing.
-use Rattle.std.proofs.Common.{◌≡◌, ◌≢◌, ℕ, ◌+◌, ◌≤◌, Bool, List, [], ◌∷◌, Some, sym, ap, ◌∙◌, subst, arith, length-append}
+use Rattle.std.proofs.Common.{◌≡◌, ◌≢◌, ℕ, ◌+◌, ◌≤◌, List, [], ◌∷◌, Some, sym, ap, ◌∙◌, subst, arith, length-append}
 use Rattle.std.proofs.lemmas.Option.{same_Some}
 use Rattle.seam_io.specs.Lines.{Line}
 use Rattle.seam_tree.specs.Division.{Division}
@@ -9,7 +9,6 @@ use Rattle.seam_steps.specs.Loads.{opened}
 use Rattle.seam_toml.specs.declared.header.Header.{Header}
 use Rattle.seam_transcript.specs.Book.{open_lines, one_cell, with_entry, empty_book}
 use Rattle.seam_transcript.specs.Judging.{Judges}
-use Rattle.seam_transcript.specs.Texts.{refusal}
 use Rattle.seam_transcript.specs.declared.verdict.Cause.{Cause}
 use Rattle.seam_transcript.specs.declared.verdict.Entry.{Entry}
 use Rattle.seam_transcript.specs.declared.verdict.Verdict.TheVariants as verdict
@@ -31,9 +30,12 @@ use Rattle.seam_print.specs.declared.residents.Resident.{Resident}
 use Rattle.seam_world.specs.Transcripts.IsWorldOf.{opens, reads, accepts}
 use Rattle.seam_world.specs.Rounds.{HasPlayed}
 use Rattle.seam_world.specs.declared.round.Played.{Played}
-use Rattle.seam_world.specs.Script.{HasWorld, ScriptRefines, IsReady, HasAccepted}
+use Rattle.seam_world.specs.Output.{refusal_output}
+use Rattle.seam_world.specs.declared.round.Output.{Output}
+use Rattle.seam_world.specs.Script.{HasWorld, ScriptRefines, Refines, IsReady, HasAccepted}
 use Rattle.seam_world.specs.Following.{LineRead}
 use Rattle.seam_world.specs.declared.script.Script.{Script}
+use Rattle.seam_world.proofs.Counting.{refusal_counted}
 use Rattle.seam_world.proofs.Following.{refused}
 
 -- where a script begins
@@ -97,18 +99,18 @@ module _ (h : Header) (t : Standing) where
   -- a line was refused
   pub refused_line : GoesOnWithLine → (line : Line) (c : Cause) (old new : Script) → ScriptRefines h t old → new.header ≡ old.header →
       new.world ≡ old.world → new.residents ≡ old.residents → new.round ≡ old.round → new.line ≡ old.line + 1 → new.line ≤ most_lines →
-      new.book ≡ old.book → Judges h t.book line (verdict.Refused c) →
-      (traced : Bool) → LineRead traced h t line (λ s. ScriptRefines h s new) (refusal new.line c) []
-  refused_line goes line c old new was header world residents round counted most book judges traced =
+      new.book ≡ old.book → new.totals ≡ old.totals → Judges h t.book line (verdict.Refused c) → (o : Output) →
+      LineRead o h t line (Refines o h old new) (refusal_output o new.line c) []
+  refused_line goes line c old new was header world residents round counted most book totals judges o =
       let number : new.line ≡ t.lines + 1 = counted ∙ ap (λ (n : ℕ). n + 1) was.line in
-      subst (λ (n : ℕ). LineRead traced h t line (λ s. ScriptRefines h s new) (refusal n c) []) (sym number)
-      (refused traced h t line c (λ s. ScriptRefines h s new) judges (record {
+      subst (λ (n : ℕ). LineRead o h t line (Refines o h old new) (refusal_output o n c) []) (sym number)
+      (refused o h t line c (Refines o h old new) judges (record {
         has = with_line_read goes new (same_world h t old new was.has header world residents round);
         book = subst (HoldsBook h t.book) (sym book) was.book;
         line = number;
         most = omega (arith, number, most);
         below_most = was.below_most;
-      }))
+      }, refusal_counted o (t.lines + 1) c old.totals new.totals totals))
 
   -- the book answered a line that the script has counted
   pub has_accepted : (line : Line) (a : Accepted) (old new : Script) → ScriptRefines h t old → new.header ≡ old.header →
@@ -225,11 +227,11 @@ module _ (h : Header) (t : Standing) (s : Script) (ready : IsReady h t s) (world
       (record { keeps = ready.has.goes_on.between.keeps; bounded = ready.has.goes_on.bounded; given = given }))
 
   -- what was played in that world was played in the standing's
-  pub played_in : (traced : Bool) (left : Played) (residents : List Resident) (before text : List ℕ) →
-      HasPlayed traced h t ready.has.tree world left residents before text →
-      HasPlayed traced h t ready.has.tree ready.has.world left residents before text
-  played_in traced left residents before text has =
-      subst (λ w. HasPlayed traced h t ready.has.tree w left residents before text) (sym same) has
+  pub played_in : (o : Output) (left : Played) (residents : List Resident) (before text : List ℕ) →
+      HasPlayed o h t ready.has.tree world left residents before text →
+      HasPlayed o h t ready.has.tree ready.has.world left residents before text
+  played_in o left residents before text has =
+      subst (λ w. HasPlayed o h t ready.has.tree w left residents before text) (sym same) has
 
   pub beside_in : StandsBeside h t ready.has.tree ready.has.world → StandsBeside h t ready.has.tree world
   beside_in stands = subst (StandsBeside h t ready.has.tree) same stands

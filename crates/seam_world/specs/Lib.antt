@@ -5,5 +5,7 @@ pub mod Following
 pub mod Rounds
 pub mod Script
 pub mod Ends
+pub mod Storm
+pub mod Output
 pub mod Printing
 pub mod Histories

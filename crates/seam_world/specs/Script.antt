@@ -1,5 +1,5 @@
 -- How far a script was read, beside the standing of a transcript.
-use Rattle.std.specs.Prelude.{◌≡◌, ◌<◌, ◌≤◌, ◌+◌, Some}
+use Rattle.std.specs.Prelude.{◌≡◌, ◌<◌, ◌≤◌, ◌+◌, List, Some}
 use Rattle.seam_io.specs.Lines.{Line}
 use Rattle.seam_tree.specs.Division.{Division}
 use Rattle.seam_steps.specs.Nodes.{World}
@@ -10,10 +10,13 @@ use Rattle.seam_accept.specs.Refines.{Refines as HoldsBook, LineAccepted}
 use Rattle.seam_accept.specs.declared.answers.Accepted.{Accepted}
 use Rattle.seam_batches.specs.Books.{as_begun}
 use Rattle.seam_rules.specs.Standing.{Standing}
+use Rattle.seam_rules.specs.Transcript.{Piece}
 use Rattle.seam_course.specs.Counts.{MayEnd, most_lines}
 use Rattle.seam_course.specs.Course.{GoesOn}
 use Rattle.seam_print.specs.Residents.{AreResidents}
 use Rattle.seam_world.specs.Transcripts.{IsWorldOf}
+use Rattle.seam_world.specs.Output.{Counts}
+use Rattle.seam_world.specs.declared.round.Output.{Output}
 use Rattle.seam_world.specs.declared.script.Script.{Script}
 
 -- the script has the world of the standing, which goes on with it, and the entities that live in it; and the standing's count of rounds
@@ -34,6 +37,10 @@ pub record ScriptRefines (h : Header) (t : Standing) (s : Script) : Type 0 where
   pub line : s.line ≡ t.lines
   pub most : t.lines ≤ most_lines
   pub below_most : open_lines t.book < MOST_LINES
+
+-- after pieces it refines the standing, and has counted them
+abbrev pub Refines : Output → Header → (old new : Script) → List Piece → Standing → Type 0
+Refines output h old new pieces t = ScriptRefines h t new × Counts output old.totals new.totals pieces
 
 -- it refines a standing whose open round is to end
 pub record IsReady (h : Header) (t : Standing) (s : Script) : Type 0 where

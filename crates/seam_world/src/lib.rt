@@ -7,6 +7,7 @@ mod round;
 mod run;
 mod script;
 mod status;
+mod storm;
 
 pub use run::run_seamless;
 pub use status::Status;

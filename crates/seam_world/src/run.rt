@@ -1,5 +1,5 @@
 // The run of a script, from the bytes of a source to what is written to a sink.
-ghost use Rattle.std.specs.Prelude.{◌≡◌, ◌∷◌, ◌<◌, ◌≤◌, ◌^◌, ◌⊎◌, ◌++◌, ◌+◌, [], List, ℕ, Bool, Option, MatchOption, MatchResult};
+ghost use Rattle.std.specs.Prelude.{◌≡◌, ◌∷◌, ◌<◌, ◌≤◌, ◌^◌, ◌⊎◌, ◌++◌, ◌+◌, [], List, ℕ, Option, MatchOption, MatchResult};
 ghost use Rattle.std.specs.Prelude.{IfNone, IfOk, IfErr, OnOk, OnErr, length, codes, map};
 ghost use Rattle.std.specs.Io.KnownBytes.{Appends};
 ghost use Rattle.seam_io.specs.Causes.{Rose};
@@ -12,12 +12,16 @@ ghost use Rattle.seam_course.specs.Counts.{most_lines};
 ghost use Rattle.seam_world.specs.Transcripts.{IsOpen, IsEnded};
 ghost use Rattle.seam_world.specs.Status.{IsRunEnd, IsHeaderCause, refusal_of};
 ghost use Rattle.seam_world.specs.Following.{LineRead, InputEnded};
-ghost use Rattle.seam_world.specs.Script.{ScriptRefines};
+ghost use Rattle.seam_world.specs.Script.{ScriptRefines, Refines};
+ghost use Rattle.seam_world.specs.Output.{Counts, text_output};
+ghost use Rattle.seam_world.specs.Storm.{StormEnds};
+ghost use Rattle.seam_world.specs.declared.round.Output.{Output as OutputOf};
+ghost use Rattle.seam_summary.specs.declared.totals.Totals.{Totals as TotalsOf};
 ghost use Rattle.seam_world.specs.Ends.{RunEnds, MayComplete, HasFaultLine, IsPrefix, most_bytes, the_space, fault_line as fault_line_of};
-ghost use Rattle.seam_world.specs.Histories.{HasHeader, InHeader, HeaderLineRead, Going, Stopped, StoppedFirst};
+ghost use Rattle.seam_world.specs.Histories.{HasHeader, InHeader, HeaderLineRead, Going, Stopped, StoppedFirst, StormStopped};
 ghost use Rattle.seam_world.specs.Printing.{Printed, FailedWithin, StopsBy, Prints, IsPrinted};
-ghost use Rattle.seam_world.specs.Words.{asks_for_trace, AreNotRun};
-ghost use Rattle.seam_args.specs.Words.{AreInRange};
+ghost use Rattle.seam_world.specs.Words.{asks_for_trace, storm_asked};
+ghost use Rattle.seam_args.specs.Words.{AreInRange, AreRefused};
 ghost use Rattle.seam_watch.specs.Watching.{Told, after_all};
 ghost use Rattle.std.specs.Option.{option_to_list};
 ghost use Rattle.std.specs.String.{string_bytes};
@@ -25,12 +29,14 @@ ghost use Rattle.std.specs.String.{string_bytes};
 use crate::Status;
 use crate::count::next_count;
 use crate::pending::Pending;
-use crate::round::Playing;
+use crate::round::{Output, Playing};
 use crate::script::Script;
+use crate::storm::run_storm;
 use seam_accept::HeaderLines;
 use seam_args::{ArgsError, Options, read_words};
 use seam_io::{Failed, Lines, Next, Sink, Source, write_whole};
 use seam_quiet::Workers;
+use seam_summary::Totals;
 use seam_toml::HeaderError;
 use seam_transcript::Header;
 use seam_watch::{Journal, Watch};
@@ -51,9 +57,10 @@ const TOO_LONG: u8 = 9;
 const NO_END: u8 = 10;
 
 /// Runs a script: reads a header and commands, and writes for each round what happened in it. The words are those of the command line,
-/// without the program's name (`seam_args`); words that it refuses, and those that ask for a generated input, are answered by `Usage`.
-/// The rounds are played by as many workers as the words say, who call the gate before each step; the watch is given the journal of each
-/// round as it ends, with space 0. Every end but `Done` and `WriteFault` writes a fault line last; if that fails, the status stays.
+/// without the program's name (`seam_args`). Where they ask for a generated input of so many lines (`seam_storm`), that is run in place of
+/// the script, and nothing but its summary (`seam_summary`) is written. The rounds are played by as many workers as the words say, who
+/// call the gate before each step; the watch is given the journal of each round as it ends, with space 0. Every end but `Done` and
+/// `WriteFault` writes a fault line last; if that fails, the status stays.
 pub fn run_seamless<S: Source, K: Sink, G: Gate + Sync, W: Watch, R: Threads + Wait + Sync>(
     rt: &R,
     alloc: Global,
@@ -64,16 +71,18 @@ pub fn run_seamless<S: Source, K: Sink, G: Gate + Sync, W: Watch, R: Threads + W
     watch: &mut W,
 ) -> Status
     // What was written is the text that the status tells of, and then its fault line; the watch was given the steps of its rounds.
-    ensures ends { let traced = asks_for_trace (map string_bytes words.now) in
-        RunEnds (IsOpen traced) (IsEnded traced) result (S.state input.old) (S.state input.new) (K.state out.old) (K.state out.new)
-        (W.told watch.old) (W.told watch.new) }
-    ensures usage { result ≡ Status.Usage → AreNotRun (map string_bytes words.now) }
-    ensures refused { AreNotRun (map string_bytes words.now) → (result ≡ Status.Usage) ⊎ (result ≡ Status.NoMemory) }
+    ensures ends { let traced = asks_for_trace (map string_bytes words.now) in MatchOption (storm_asked (map string_bytes words.now))
+        (RunEnds (IsOpen traced) (IsEnded traced) result (S.state input.old) (S.state input.new) (K.state out.old) (K.state out.new)
+        (W.told watch.old) (W.told watch.new))
+        (λ lines. StormEnds lines result (S.state input.old) (S.state input.new) (K.state out.old) (K.state out.new) (W.told watch.old)
+        (W.told watch.new)) }
+    ensures usage { result ≡ Status.Usage → AreRefused (map string_bytes words.now) }
+    ensures refused { AreRefused (map string_bytes words.now) → (result ≡ Status.Usage) ⊎ (result ≡ Status.NoMemory) }
     ensures read { result ≡ Status.ReadFault → Rose (S.state input.old).faults (S.state input.new).faults }
     ensures write { result ≡ Status.WriteFault → Rose (K.state out.old).faults (K.state out.new).faults }
     ensures later { ((S.state input.old).faults ≤ (S.state input.new).faults) × ((K.state out.old).faults ≤ (K.state out.new).faults) }
     // A run that may be complete is, unless an allocation fails.
-    ensures complete { ¬ (AreNotRun (map string_bytes words.now)) →
+    ensures complete { ¬ (AreRefused (map string_bytes words.now)) →
         MayComplete (S.state input.old) (S.state input.new) (K.state out.old) (K.state out.new)
         → (result ≡ Status.Done) ⊎ (result ≡ Status.NoMemory) }
 {
@@ -84,73 +93,122 @@ pub fn run_seamless<S: Source, K: Sink, G: Gate + Sync, W: Watch, R: Threads + W
             return status;
         }
     };
-    let crew = Crew {
-        workers: options.workers,
-        turns: options.turns,
-    };
-    let playing = Playing {
-        workers: Workers::new(crew, gate),
-        traced: options.trace,
-    };
-    let status = run_body(rt, alloc, &playing, input, out, watch);
+    let status = run_asked(rt, alloc, &options, input, out, gate, watch);
     put_fault(out, status);
     status
 }
 
-// What the words ask for, or the status where nothing is run for them.
+// What the words ask for, or the status where they are refused.
 fn asked(alloc: Global, words: &[String]) -> Result<Options, Status>
     ensures trace { IfOk result (λ o. o.trace ≡ asks_for_trace (map string_bytes words.now)) }
+    ensures storm { IfOk result (λ o. o.storm ≡ storm_asked (map string_bytes words.now)) }
     ensures range { IfOk result AreInRange }
-    ensures run { OnOk result (AreNotRun (map string_bytes words.now) → ⊥) }
-    ensures err { IfErr result (λ s. (s ≡ Status.NoMemory) ⊎ ((s ≡ Status.Usage) × AreNotRun (map string_bytes words.now))) }
+    ensures run { OnOk result (AreRefused (map string_bytes words.now) → ⊥) }
+    ensures err { IfErr result (λ s. (s ≡ Status.NoMemory) ⊎ ((s ≡ Status.Usage) × AreRefused (map string_bytes words.now))) }
 {
     match read_words(alloc, words) {
-        Ok(options) => match options.storm {
-            None => Ok(options),
-            Some(_) => Err(Status::Usage),
-        },
+        Ok(options) => Ok(options),
         Err(ArgsError::Usage) => Err(Status::Usage),
         Err(ArgsError::NoMemory) => Err(Status::NoMemory),
     }
 }
 
-// The whole run but for the fault line.
-fn run_body<S: Source, K: Sink, G: Gate + Sync, W: Watch, R: Threads + Wait + Sync>(
+// All but the fault line, where these options were asked for.
+fn run_asked<S: Source, K: Sink, G: Gate + Sync, W: Watch, R: Threads + Wait + Sync>(
+    rt: &R,
+    alloc: Global,
+    options: &Options,
+    input: &mut S,
+    out: &mut K,
+    gate: &G,
+    watch: &mut W,
+) -> Status
+    requires { AreInRange options.now }
+    ensures stopped { MatchOption options.now.storm
+        ((totals : TotalsOf) × Stopped (text_output options.now.trace) totals result (S.state input.old) (S.state input.new) (K.state out.old)
+        (K.state out.new) (W.told watch.old) (W.told watch.new))
+        (λ lines. (S.state input.new ≡ S.state input.old) × StormStopped lines result (K.state out.old) (K.state out.new)
+        (W.told watch.old) (W.told watch.new)) }
+    ensures allowed { IsRunEnd result }
+    ensures read { result ≡ Status.ReadFault → Rose (S.state input.old).faults (S.state input.new).faults }
+    ensures write { result ≡ Status.WriteFault → Rose (K.state out.old).faults (K.state out.new).faults }
+    ensures later { ((S.state input.old).faults ≤ (S.state input.new).faults) × ((K.state out.old).faults ≤ (K.state out.new).faults) }
+{
+    let workers = Workers::new(
+        Crew {
+            workers: options.workers,
+            turns: options.turns,
+        },
+        gate,
+    );
+    match options.storm {
+        None => {
+            let output = text_output(options.trace);
+            run_body(rt, alloc, &Playing { workers, output }, input, out, watch).0
+        }
+        Some(lines) => run_storm(rt, alloc, lines, workers, out, watch),
+    }
+}
+
+// What is given of rounds where they are printed.
+fn text_output(traced: bool) -> Output
+    ensures { result ≡ text_output traced }
+{
+    if traced {
+        return Output::TracedRounds;
+    }
+    Output::Rounds
+}
+
+// The whole run but for the fault line, and what is summed up of it.
+pub(crate) fn run_body<S: Source, K: Sink, G: Gate + Sync, W: Watch, R: Threads + Wait + Sync>(
     rt: &R,
     alloc: Global,
     playing: &Playing<G>,
     input: &mut S,
     out: &mut K,
     watch: &mut W,
-) -> Status
-    ensures stopped { Stopped playing.now.traced result (S.state input.old) (S.state input.new) (K.state out.old) (K.state out.new)
-        (W.told watch.old) (W.told watch.new) }
+) -> (Status, Totals)
+    ensures stopped { Stopped playing.now.output result.1 result.0 (S.state input.old) (S.state input.new) (K.state out.old)
+        (K.state out.new) (W.told watch.old) (W.told watch.new) }
+    ensures later { (S.state input.old).faults ≤ (S.state input.new).faults }
+{
+    let mut runner = match begin(alloc, input) {
+        Ok(runner) => runner,
+        Err(status) => return (status, Totals::new()),
+    };
+    let status = runner.run(rt, playing, input, out, watch);
+    (status, runner.script.totals())
+}
+
+// Reads the header, with which the run begins; or answers the status where it ends there.
+fn begin<S: Source>(alloc: Global, input: &mut S) -> Result<Runner, Status>
+    ensures began { MatchResult result
+        (λ r. ((h : Headers) × (t : Standing) × ScriptRefines h t r.script) × ((output : OutputOf) (sink : SinkState) (told : Told) →
+        Going output (S.state input.old) (S.state input.new) r.lines sink sink told told r.pending r.script))
+        (λ s. StoppedFirst s (S.state input.old) (S.state input.new)) }
     ensures later { (S.state input.old).faults ≤ (S.state input.new).faults }
 {
     let pending = match Pending::new(alloc) {
         Ok(pending) => pending,
-        Err(_) => return Status::NoMemory,
+        Err(_) => return Err(Status::NoMemory),
     };
     let mut lines = match Lines::new(alloc, LIMIT) {
         Ok(lines) => lines,
-        Err(_) => return Status::NoMemory,
+        Err(_) => return Err(Status::NoMemory),
     };
-    let (header, count) = match read_header(alloc, &mut lines, input) {
-        Ok(header) => header,
-        Err(status) => return status,
-    };
+    let (header, count) = read_header(alloc, &mut lines, input)?;
     let script = match Script::new(alloc, header, count) {
         Ok(script) => script,
-        Err(_) => return Status::NoMemory,
+        Err(_) => return Err(Status::NoMemory),
     };
-    let mut runner = Runner {
+    Ok(Runner {
         alloc,
         lines,
         script,
         text: Vec::new(alloc),
         pending,
-    };
-    runner.run(rt, playing, input, out, watch)
+    })
 }
 
 // Reads the header line by line. Answers what it sets, and of how many lines it is; or the status where the run ends there.
@@ -237,9 +295,9 @@ impl Runner {
     ) -> Status
         requires ready { (h : Headers) × (t : Standing) × ScriptRefines h t self.old.script }
         ensures history { (began : SourceState) (sink : SinkState) (told : Told) →
-            Going playing.now.traced began (S.state input.old) self.old.lines sink (K.state out.old) told (W.told watch.old)
+            Going playing.now.output began (S.state input.old) self.old.lines sink (K.state out.old) told (W.told watch.old)
             self.old.pending self.old.script →
-            Stopped playing.now.traced result began (S.state input.new) sink (K.state out.new) told (W.told watch.new) }
+            Stopped playing.now.output self.new.script.totals result began (S.state input.new) sink (K.state out.new) told (W.told watch.new) }
         ensures later { (S.state input.old).faults ≤ (S.state input.new).faults }
     {
         loop {
@@ -262,12 +320,13 @@ impl Runner {
     ) -> Option<Status>
         requires ready { (h : Headers) × (t : Standing) × ScriptRefines h t self.old.script }
         ensures history { (began : SourceState) (sink : SinkState) (told : Told) →
-            Going playing.now.traced began (S.state input.old) self.old.lines sink (K.state out.old) told (W.told watch.old)
+            Going playing.now.output began (S.state input.old) self.old.lines sink (K.state out.old) told (W.told watch.old)
             self.old.pending self.old.script →
             MatchOption result
-            (Going playing.now.traced began (S.state input.new) self.new.lines sink (K.state out.new) told (W.told watch.new)
+            (Going playing.now.output began (S.state input.new) self.new.lines sink (K.state out.new) told (W.told watch.new)
             self.new.pending self.new.script)
-            (λ s. Stopped playing.now.traced s began (S.state input.new) sink (K.state out.new) told (W.told watch.new)) }
+            (λ s. Stopped playing.now.output self.new.script.totals s began (S.state input.new) sink (K.state out.new) told
+            (W.told watch.new)) }
         ensures later { (S.state input.old).faults ≤ (S.state input.new).faults }
         ensures falls { IfNone result (budget self.new.lines < budget self.old.lines) }
         ensures ready { IfNone result ((h : Headers) × (t : Standing) × ScriptRefines h t self.new.script) }
@@ -289,19 +348,20 @@ impl Runner {
     ) -> Option<Status>
         requires ready { (h : Headers) × (t : Standing) × ScriptRefines h t self.old.script }
         ensures history { (began : SourceState) (sink : SinkState) (told : Told) →
-            Going playing.now.traced began (S.state input.old) self.old.lines sink (K.state out.old) told (W.told watch.old)
+            Going playing.now.output began (S.state input.old) self.old.lines sink (K.state out.old) told (W.told watch.old)
             self.old.pending self.old.script →
             MatchOption result
-            (Going playing.now.traced began (S.state input.new) self.new.lines sink (K.state out.new) told (W.told watch.new)
+            (Going playing.now.output began (S.state input.new) self.new.lines sink (K.state out.new) told (W.told watch.new)
             self.new.pending self.new.script)
-            (λ s. Stopped playing.now.traced s began (S.state input.new) sink (K.state out.new) told (W.told watch.new)) }
+            (λ s. Stopped playing.now.output self.new.script.totals s began (S.state input.new) sink (K.state out.new) told
+            (W.told watch.new)) }
         ensures later { (S.state input.old).faults ≤ (S.state input.new).faults }
         ensures falls { IfNone result (budget self.new.lines < budget self.old.lines) }
         ensures ready { IfNone result ((h : Headers) × (t : Standing) × ScriptRefines h t self.new.script) }
     {
         match self.lines.next(input) {
             Next::Line => self.print_line(rt, playing, out, watch),
-            Next::Long => self.print_long(out),
+            Next::Long => self.print_long(playing.output, out),
             Next::End => match self.print_last(rt, playing, out, watch) {
                 None => Some(Status::Done),
                 Some(status) => Some(status),
@@ -322,7 +382,7 @@ impl Runner {
         requires ready { (h : Headers) × (t : Standing) × ScriptRefines h t self.old.script }
         ensures prints { (h : Headers) (t : Standing) (sink : SinkState) (text : List ℕ) → ScriptRefines h t self.old.script →
             Printed sink (K.state out.old) self.old.pending text →
-            Prints (LineRead playing.now.traced h t (Content self.old.lines.line) (λ s. ScriptRefines h s self.new.script)) sink
+            Prints (LineRead playing.now.output h t (Content self.old.lines.line) (Refines playing.now.output h self.old.script self.new.script)) sink
             (K.state out.new) self.new.pending text (W.told watch.old) (W.told watch.new) result }
         ensures lines { self.new.lines ≡ self.old.lines }
         ensures ready { IfNone result ((h : Headers) × (t : Standing) × ScriptRefines h t self.new.script) }
@@ -338,17 +398,17 @@ impl Runner {
     }
 
     // Prints for a line that is too long.
-    fn print_long<K: Sink>(&mut self, out: &mut K) -> Option<Status>
+    fn print_long<K: Sink>(&mut self, output: Output, out: &mut K) -> Option<Status>
         requires ready { (h : Headers) × (t : Standing) × ScriptRefines h t self.old.script }
-        ensures prints { (traced : Bool) (h : Headers) (t : Standing) (sink : SinkState) (text : List ℕ) (told : Told) →
+        ensures prints { (h : Headers) (t : Standing) (sink : SinkState) (text : List ℕ) (told : Told) →
             ScriptRefines h t self.old.script → Printed sink (K.state out.old) self.old.pending text →
-            Prints (LineRead traced h t Long (λ s. ScriptRefines h s self.new.script)) sink (K.state out.new) self.new.pending text told
-            told result }
+            Prints (LineRead output h t Long (Refines output h self.old.script self.new.script)) sink (K.state out.new) self.new.pending
+            text told told result }
         ensures lines { self.new.lines ≡ self.old.lines }
         ensures ready { IfNone result ((h : Headers) × (t : Standing) × ScriptRefines h t self.new.script) }
     {
         self.text.clear();
-        match self.script.read_long(&mut self.text) {
+        match self.script.read_long(output, &mut self.text) {
             Ok(()) => print(&self.text, &mut self.pending, out),
             Err(_) => Some(stop(Status::NoMemory, &mut self.pending, out)),
         }
@@ -365,7 +425,7 @@ impl Runner {
         requires ready { (h : Headers) × (t : Standing) × ScriptRefines h t self.old.script }
         ensures { (h : Headers) (t : Standing) (sink : SinkState) (text : List ℕ) → ScriptRefines h t self.old.script →
             Printed sink (K.state out.old) self.old.pending text →
-            Prints (InputEnded playing.now.traced h t) sink (K.state out.new) [] text (W.told watch.old) (W.told watch.new) result }
+            Prints (InputEnded playing.now.output h t (Counts playing.now.output self.old.script.totals self.new.script.totals)) sink (K.state out.new) [] text (W.told watch.old) (W.told watch.new) result }
     {
         self.text.clear();
         match self.script.finish(rt, playing, &mut self.text) {
@@ -400,7 +460,8 @@ impl Runner {
         out: &mut K,
         watch: &mut W,
     ) -> Option<Status>
-        ensures { (sink : SinkState) (before : List ℕ) → Printed sink (K.state out.old) self.old.pending before →
+        ensures script { self.new.script ≡ self.old.script }
+        ensures prints { (sink : SinkState) (before : List ℕ) → Printed sink (K.state out.old) self.old.pending before →
             Prints (λ piece steps. (piece ≡ self.old.text.items) × (steps ≡ option_to_list ended.now)) sink (K.state out.new) []
             before (W.told watch.old) (W.told watch.new) result }
     {

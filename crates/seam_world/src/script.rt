@@ -1,5 +1,5 @@
 // A script, line by line.
-ghost use Rattle.std.specs.Prelude.{◌≡◌, ◌≤◌, ◌++◌, List, [], ℕ, Bool, length, OnOk, IfOk};
+ghost use Rattle.std.specs.Prelude.{◌≡◌, ◌≤◌, ◌++◌, List, [], ℕ, length, OnOk, IfOk};
 ghost use Rattle.std.specs.Option.{option_to_list};
 ghost use Rattle.seam_io.specs.Lines.{Line as Lines, Content, Long};
 ghost use Rattle.seam_defs.specs.Settings.{AreLegal};
@@ -11,15 +11,18 @@ ghost use Rattle.seam_rules.specs.Standing.{Standing, after_header, with_line};
 ghost use Rattle.seam_course.specs.Counts.{most_lines};
 ghost use Rattle.seam_world.specs.Following.{RoundEnds, LineFollowed, LineRead, InputEnded};
 ghost use Rattle.seam_rules.specs.Round.{with_bounds};
-ghost use Rattle.seam_world.specs.Script.{IsReady, ScriptRefines, HasAccepted};
+ghost use Rattle.seam_summary.specs.Summary.{totals_of};
+ghost use Rattle.seam_world.specs.Script.{IsReady, ScriptRefines, Refines, HasAccepted};
+ghost use Rattle.seam_world.specs.Output.{AddsSums, Counts, refusal_output};
 
 use crate::count::next_count;
-use crate::round::{Playing, play};
+use crate::round::{Output, Playing, play};
 use seam_accept::{Accepted, Book, Refusal};
 use seam_core::World;
 use seam_io::LONGEST_LINE;
 use seam_print::Residents;
 use seam_report::push_refusal;
+use seam_summary::{Sums, Totals};
 use seam_transcript::{Cause, Header, MOST_LINES};
 use seam_tree::Tree;
 use seam_watch::Journal;
@@ -29,7 +32,7 @@ use std::sync::Wait;
 use std::thread::Threads;
 
 /// How far a script was read: the book of what was accepted, the world of cells as the last round left it with the entities that live
-/// in it, and the counts of lines and rounds.
+/// in it, the counts of lines and rounds, and what is summed up of rounds.
 #[derive(Drop)]
 pub struct Script {
     alloc: Global,
@@ -42,6 +45,7 @@ pub struct Script {
     line: u64,
     // the number of the last round that ended
     round: u64,
+    totals: Totals,
 }
 
 impl Script {
@@ -50,7 +54,8 @@ impl Script {
         requires legal { AreLegal header.settings }
         requires sound { AreDefs header.defs }
         requires few { lines ≤ most_lines }
-        ensures { IfOk result (ScriptRefines header (after_header header lines)) }
+        ensures refines { IfOk result (ScriptRefines header (after_header header lines)) }
+        ensures totals { IfOk result (λ s. s.totals ≡ totals_of []) }
     {
         seam_course::a_course_begins_and_goes_on();
         Ok(Script {
@@ -61,7 +66,15 @@ impl Script {
             header,
             line: lines,
             round: 0,
+            totals: Totals::new(),
         })
+    }
+
+    /// What is summed up of the rounds so far, where that is asked for.
+    pub fn totals(&self) -> Totals
+        ensures { result ≡ self.now.totals }
+    {
+        self.totals
     }
 
     /// Reads the next line, and appends what is printed for it. Answers the steps of a round that it ended.
@@ -75,7 +88,8 @@ impl Script {
         requires length { length line.now ≤ LONGEST_LINE }
         requires ready { (h : Headers) × (t : Standing) × ScriptRefines h t self.old }
         ensures { IfOk result (λ ended. (h : Headers) (t : Standing) → ScriptRefines h t self.old
-            → (text : List ℕ) × LineRead playing.now.traced h t (Content line.now) (λ s. ScriptRefines h s self.new) text (option_to_list ended)
+            → (text : List ℕ) × LineRead playing.now.output h t (Content line.now) (Refines playing.now.output h self.old self.new) text
+            (option_to_list ended)
             × (out.new.items ≡ out.old.items ++ text)) }
     {
         seam_course::a_course_begins_and_goes_on();
@@ -83,7 +97,7 @@ impl Script {
         match self.book.accept(line) {
             Ok(accepted) => self.follow(rt, playing, accepted, out),
             Err(Refusal::Cause(cause)) => {
-                push_refusal(out, self.line, cause)?;
+                refuse(playing.output, self.line, cause, out)?;
                 Ok(None)
             }
             Err(Refusal::NoMemory) => Err(AllocError),
@@ -91,13 +105,13 @@ impl Script {
     }
 
     /// Reads a line that is too long.
-    pub fn read_long(&mut self, out: &mut Vec<u8>) -> Result<(), AllocError>
-        ensures { OnOk result ((traced : Bool) (h : Headers) (t : Standing) → ScriptRefines h t self.old
-            → (text : List ℕ) × LineRead traced h t Long (λ s. ScriptRefines h s self.new) text [] × (out.new.items ≡ out.old.items ++ text)) }
+    pub fn read_long(&mut self, output: Output, out: &mut Vec<u8>) -> Result<(), AllocError>
+        ensures { OnOk result ((h : Headers) (t : Standing) → ScriptRefines h t self.old
+            → (text : List ℕ) × LineRead output h t Long (Refines output h self.old self.new) text [] × (out.new.items ≡ out.old.items ++ text)) }
     {
         seam_course::a_course_begins_and_goes_on();
         self.line = next_count(self.line)?;
-        push_refusal(out, self.line, Cause::TooLong)
+        refuse(output, self.line, Cause::TooLong, out)
     }
 
     // Does what a line asks for that the book accepted or skipped, and appends what is printed. Answers the steps of a round that ended.
@@ -111,7 +125,7 @@ impl Script {
         requires accepted { (h : Headers) × (t : Standing) × (line : Lines) × HasAccepted h t line accepted self.old }
         ensures { IfOk result (λ ended. (h : Headers) (t : Standing) (line : Lines) → HasAccepted h t line accepted self.old
             → (text : List ℕ)
-            × LineFollowed playing.now.traced h (with_line t) line (λ s. ScriptRefines h s self.new) text (option_to_list ended)
+            × LineFollowed playing.now.output h (with_line t) line (Refines playing.now.output h self.old self.new) text (option_to_list ended)
             × (out.new.items ≡ out.old.items ++ text)) }
     {
         seam_course::a_course_begins_and_goes_on();
@@ -137,7 +151,7 @@ impl Script {
     ) -> Result<Journal, AllocError>
         requires ready { (h : Headers) × (t : Standing) × IsReady h t self.old }
         ensures { IfOk result (λ steps. (h : Headers) (t : Standing) → IsReady h t self.old
-            → (text : List ℕ) × RoundEnds playing.now.traced h t (λ s. ScriptRefines h s self.new) text steps
+            → (text : List ℕ) × RoundEnds playing.now.output h t (Refines playing.now.output h self.old self.new) text steps
             × (out.new.items ≡ out.old.items ++ text)) }
     {
         seam_course::a_round_may_be_run();
@@ -163,6 +177,7 @@ impl Script {
         )?;
         begin_next(&mut self.book, played.bounds);
         self.world = Some(played.world);
+        self.totals = with_sums(self.totals, &played.sums)?;
         Ok(played.journal)
     }
 
@@ -175,7 +190,8 @@ impl Script {
     ) -> Result<Option<Journal>, AllocError>
         requires refines { (h : Headers) × (t : Standing) × ScriptRefines h t self.old }
         ensures { IfOk result (λ ended. (h : Headers) (t : Standing) → ScriptRefines h t self.old
-            → (text : List ℕ) × InputEnded playing.now.traced h t text (option_to_list ended) × (out.new.items ≡ out.old.items ++ text)) }
+            → (text : List ℕ) × InputEnded playing.now.output h t (Counts playing.now.output self.old.totals self.new.totals) text
+            (option_to_list ended) × (out.new.items ≡ out.old.items ++ text)) }
     {
         seam_course::a_round_may_be_run();
         if self.book.count() == 0 {
@@ -192,5 +208,30 @@ fn begin_next(book: &mut Book, bounds: Option<Tree>)
 {
     if let Some(tree) = bounds {
         book.set_tree(tree);
+    }
+}
+
+// The totals with what is summed up of a round, where it was.
+fn with_sums(totals: Totals, sums: &Option<Sums>) -> Result<Totals, AllocError>
+    ensures { IfOk result (AddsSums totals sums.now) }
+{
+    match sums {
+        Some(sums) => totals.with(sums),
+        None => Ok(totals),
+    }
+}
+
+// Appends the refusal of a line, where texts are given.
+fn refuse(
+    output: Output,
+    line: u64,
+    cause: Cause,
+    out: &mut Vec<u8>,
+) -> Result<(), AllocError>
+    ensures { OnOk result (out.new.items ≡ out.old.items ++ refusal_output output line cause) }
+{
+    match output {
+        Output::Sums => Ok(()),
+        Output::Rounds | Output::TracedRounds => push_refusal(out, line, cause),
     }
 }

@@ -1,7 +1,7 @@
 use Rattle.std.proofs.Common.{ap}
 use Rattle.seam_io.specs.Lines.{lines_of}
 use Rattle.seam_storm.specs.Storm.{text_of_storm}
-use Rattle.seam_summary.specs.Summary.{text_of_sums}
+use Rattle.seam_summary.specs.Summary.{totals_of, totals_text}
 use Rattle.seam_summary.proofs.Inputs.{sums_are_one}
 use Rattle.seam_summary.proofs.Storm.{sender_of, storm_is_fine}
 use Rattle.seam_summary.proofs.laws.storm_has_one_summary.Goals as goal
@@ -9,5 +9,5 @@ use Rattle.seam_summary.proofs.laws.storm_has_one_summary.Goals as goal
 pub returns : goal.returns
 returns c = λ n ps qs x y.
     let fine = storm_is_fine n in
-    ap (text_of_sums n)
+    ap (λ sums. totals_text n (totals_of sums))
     (sums_are_one sender_of (lines_of (text_of_storm n)) ps qs (λ k d within. (fine k d within).0) (λ k d within. (fine k d within).1) x y)

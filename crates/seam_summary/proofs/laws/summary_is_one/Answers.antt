@@ -1,7 +1,7 @@
 use Rattle.std.proofs.Common.{ap}
-use Rattle.seam_summary.specs.Summary.{text_of_sums}
+use Rattle.seam_summary.specs.Summary.{totals_of, totals_text}
 use Rattle.seam_summary.proofs.Inputs.{sums_are_one}
 use Rattle.seam_summary.proofs.laws.summary_is_one.Goals as goal
 
 pub returns : goal.returns
-returns c = λ one lines n ps qs names asks x y. ap (text_of_sums n) (sums_are_one one lines ps qs names asks x y)
+returns c = λ one lines n ps qs names asks x y. ap (λ sums. totals_text n (totals_of sums)) (sums_are_one one lines ps qs names asks x y)

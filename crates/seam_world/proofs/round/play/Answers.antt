@@ -1,15 +1,14 @@
-use Rattle.std.proofs.Common.{◌≡◌, ◌++◌, map, ap, sym, subst, ◌∙◌}
+use Rattle.std.proofs.Common.{◌≡◌, map, ap, sym, subst, ◌∙◌}
 use Rattle.seam_call.specs.declared.order.Batch.{Batch}
 use Rattle.seam_toml.specs.declared.header.Header.{Header as Headers}
 use Rattle.seam_accept.specs.Batches.{batch_of}
 use Rattle.seam_transcript.specs.Book.{tree_of}
 use Rattle.seam_played.specs.Playing.{data_of}
-use Rattle.seam_print.specs.Texts.{calls_text, ends_text}
 use Rattle.seam_print.specs.Farewells.{AreFarewells}
-use Rattle.seam_world.specs.Rounds.{IsBalancedBy, start_text}
+use Rattle.seam_world.specs.Rounds.{IsBalancedBy}
 use Rattle.seam_quiet.specs.Rounds.{MayRun}
 use Rattle.seam_quiet.specs.Calls.{HasCalled}
-use Rattle.seam_world.proofs.Playing.{played_so, text_in_order}
+use Rattle.seam_world.proofs.Playing.{played_so}
 use Rattle.seam_world.proofs.round.play.Goals as goal
 
 pub run_calls-requires-clause-may : goal.run_calls-requires-clause-may
@@ -48,25 +47,16 @@ returns g c = λ h s tree beside brings header number present.
     subst (λ u. AreFarewells h.defs s.book u c.in_ok-kept.kept) (sym p.1)
     (subst (λ ds. AreFarewells ds s.book c.in_ok-called.called.world c.in_ok-kept.kept) same_defs
     (c.in_ok-kept.ensures s.book (c.as_slice.ensures ∙ destroys) present)) in
-    let printed = data_of h s tree g.from.world v p.0 bounds in
-    let begun =
-    c.in_ok-write_calls.ensures h s tree g.from.world v p.0 bounds p.1
+    let taken = c.in_ok-taken.ensures h s tree g.from.world v p.0 bounds p.1
     (record { number = number; defs = same_defs; present = present }) in
-    let ended =
-    c.in_ok-write_ends.ensures h s tree g.from.world p.0 (record { number = number; defs = same_defs; present = present }) kept in
-    let calls = c.deref.ensures.value ∙ begun ∙ ap (λ xs. xs ++ calls_text h.defs printed) c.new-calls.ensures.items in
-    let out = c.args.out.now.items in
-    let traced = c.args.playing.now.traced in
-    let journal = c.in_ok-ended.ended.journal in
+    let printed = data_of h s tree g.from.world v p.0 bounds in
+    let given = c.in_ok-sums.ensures h s tree g.from.world p.0
+    (record { number = number; defs = same_defs; present = present }) kept taken in
     record {
       played = p.0;
       steps = p.2;
-      whole =
-          ended ∙ ap (λ xs. xs ++ ends_text h.defs printed)
-          (c.in_ok-extend_from_slice.ensures.items ∙ ap (λ xs. xs ++ c.deref.result.now) c.in_ok-write_start.ensures
-          ∙ ap (λ xs. (out ++ start_text traced c.args.number journal) ++ xs) calls)
-          ∙ text_in_order traced h.defs printed c.args.number journal out (calls_text h.defs printed) (ends_text h.defs printed) number
-          (c.a_rounds_text_has_two_parts.ensures h.defs printed);
+      whole = given.1;
+      sums = given.0;
       bounds =
           subst (λ asked. IsBalancedBy asked (tree_of s.book) (map (λ l. l.state.pos) printed.homes) h.settings.balance_shift bounds)
           (ap (λ (x : Batch). x.balance) is)

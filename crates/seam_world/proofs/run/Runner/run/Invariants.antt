@@ -13,9 +13,9 @@ invariant-loop-status g l = record {
   later : (g.S.Source.state l.initial.input).faults ≤ (g.S.Source.state l.input).faults;
   ready : (h : Header) × (t : Standing) × ScriptRefines h t l.self.script;
   history : (began : SourceState) (sink : SinkState) (told : Told) →
-      Going l.fn.playing.traced began (g.S.Source.state l.initial.input) l.initial.self.lines sink (g.K.Sink.state l.initial.out) told
+      Going l.fn.playing.output began (g.S.Source.state l.initial.input) l.initial.self.lines sink (g.K.Sink.state l.initial.out) told
       (g.W.Watch.told l.initial.watch) l.initial.self.pending l.initial.self.script →
-      Going l.fn.playing.traced began (g.S.Source.state l.input) l.self.lines sink (g.K.Sink.state l.out) told (g.W.Watch.told l.watch)
+      Going l.fn.playing.output began (g.S.Source.state l.input) l.self.lines sink (g.K.Sink.state l.out) told (g.W.Watch.told l.watch)
       l.self.pending l.self.script;
 }
 

@@ -7,4 +7,4 @@ returns-in-Ok-clause-history g c = λ began sink told h.
 
 pub returns-in-Err-clause-history : goal.returns-in-Err-clause-history
 returns-in-Err-clause-history g c = λ began sink told h.
-    failed_before _ began sink told _ _ _ _ _ _ _ h (c.in-Err.ensures.prints sink _ h.printed)
+    failed_before _ began sink told _ _ _ _ _ _ _ h _ (c.in-Err.ensures.prints sink _ h.printed)

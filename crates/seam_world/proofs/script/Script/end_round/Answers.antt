@@ -34,13 +34,13 @@ returns g c = λ h t ready.
     let number = c.in_ok-self.ensures.next ∙ ap (λ (n : ℕ). n + 1) ready.has.round in
     let left = c.in_ok-played.played in
     let has =
-    played_in h t old ready c.in-Some.world is batch brings c.args.playing.now.traced left c.play.new.residents c.args.out.now.items c.play.new.out.items
+    played_in h t old ready c.in-Some.world is batch brings c.args.playing.now.output left c.play.new.residents c.args.out.now.items c.play.new.out.items
     (c.in_ok-played.ensures h t ready.has.tree (beside_in h t old ready c.in-Some.world is batch brings stands) brings ready.has.header
     number present) in
     let p = has.played in
     let law = c.a_run_round_is_legal.ensures in (
       _,
-      round_ended c.args.playing.now.traced h t old _ ready left c.play.new.residents c.args.out.now.items c.play.new.out.items has
+      round_ended c.args.playing.now.output h t old _ ready left c.play.new.residents c.args.out.now.items c.play.new.out.items has
           (λ none. law.kept h t ready.has.tree ready.has.world ready.has.goes_on ready.may left.world p.round p.ended p.made p.live
           p.made_listed p.live_listed none)
           (λ some u is_tree same balanced. law.balanced h t ready.has.tree ready.has.world ready.has.goes_on ready.may left.world p.round
@@ -49,6 +49,6 @@ returns g c = λ h t ready.
           p.round p.ended)
           (λ r u. c.clients_see_all_within_their_radius.ensures h t r u)
           refl refl refl refl c.in_ok-self.ensures.next
-          (c.begin_next.ensures h _ (c.take_batch-batch.ensures.ended h t.book ready.book)),
+          (c.begin_next.ensures h _ (c.take_batch-batch.ensures.ended h t.book ready.book)) c.in_ok-self-2.ensures,
       has.whole,
     )
