@@ -2,7 +2,8 @@
 use Rattle.std.proofs.Common.{◌≡◌, ℕ, zero, suc, ◌+◌, ◌<◌, Bool, true, false, cond, List, [], ◌∷◌, ◌++◌, map, length, refl, sym, ap, ◌∙◌, arith}
 use Rattle.std.proofs.Common.{length-append, append-nil, append_assoc}
 use Rattle.std.specs.Prelude.{Contains, filter}
-use Rattle.std.specs.List.{flat_map, range_with_len}
+use Rattle.std.specs.List.{flat_map, fold, sum_by, range_with_len}
+use Rattle.std.proofs.lemmas.List.Sums.{fold-append, sum_by-cons}
 use Rattle.std.proofs.lemmas.List.{map-append}
 use Rattle.std.proofs.lemmas.List.Concat.{flat_map-append}
 use Rattle.seam_transcript.proofs.Lists.{contains_first, contains_later}
@@ -72,6 +73,22 @@ next_in_range f a (suc n) =
     ap (λ l. f a ++ l) (next_in_range f (a + 1) n)
     ∙ sym (append_assoc (f a) (flat_map f (range_with_len (a + 1) n)) (f (a + 1 + n)))
     ∙ ap (λ k. (f a ++ flat_map f (range_with_len (a + 1) n)) ++ f k) (let same : a + 1 + n ≡ a + suc n = omega arith in same)
+
+-- ---- how many are gathered
+
+-- the same number of each
+pub same_number_of_each : {A : Type 0} (f g : A → ℕ) (xs : List A) → ((x : A) → Contains xs x → f x ≡ g x) → sum_by f xs ≡ sum_by g xs
+same_number_of_each f g [] each = refl
+same_number_of_each f g (x ∷ xs) each =
+    sum_by-cons f x xs
+    ∙ (λ i. each x (contains_first x xs) i + same_number_of_each f g xs (λ y has. each y (contains_later x y xs has)) i)
+    ∙ sym (sum_by-cons g x xs)
+
+-- what is folded over all is folded over what each gives
+pub folded_gathered : {A B Y : Type 0} (f : Y → B → Y) (g : A → List B) (y : Y) (xs : List A) →
+    fold (λ z x. fold f z (g x)) y xs ≡ fold f y (flat_map g xs)
+folded_gathered f g y [] = refl
+folded_gathered f g y (x ∷ xs) = folded_gathered f g (fold f y (g x)) xs ∙ sym (fold-append f y (g x) (flat_map g xs))
 
 -- ---- what more there is
 

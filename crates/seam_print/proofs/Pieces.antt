@@ -1,12 +1,14 @@
 -- A round's text, piece by piece.
-use Rattle.std.proofs.Common.{◌≡◌, ℕ, List, ◌++◌, map, refl, sym, ap, ◌∙◌, append_assoc}
-use Rattle.std.specs.Prelude.{codes, Option, None, Some}
-use Rattle.std.specs.List.{flat_map}
+use Rattle.std.proofs.Common.{◌≡◌, ℕ, ◌+◌, List, ◌++◌, map, length, refl, sym, ap, ◌∙◌, append_assoc}
+use Rattle.std.specs.Prelude.{codes, pos, Option, None, Some}
+use Rattle.std.specs.List.{flat_map, fold, sum_by}
 use Rattle.std.specs.BTreeMap.{BTreeMap, values}
-use Rattle.std.proofs.lemmas.List.Folds.{flat_map-map}
+use Rattle.std.proofs.lemmas.List.{length-map}
+use Rattle.std.proofs.lemmas.List.Concat.{length-flat_map}
+use Rattle.std.proofs.lemmas.List.Folds.{flat_map-map, fold-map}
 use Rattle.seam_defs.specs.declared.flags.Part.TheVariants as part
 use Rattle.seam_defs.specs.declared.types.TypeDef.{TypeDef}
-use Rattle.seam_transcript.specs.Round.{HomeLine}
+use Rattle.seam_transcript.specs.Round.{DoneLine, HomeLine}
 use Rattle.seam_entity.specs.Reals.{RealView}
 use Rattle.seam_transcript.specs.Texts.{number_text, done_text, home_text, base_text}
 use Rattle.seam_rules.specs.Lines.{RoundData}
@@ -15,8 +17,10 @@ use Rattle.seam_steps.specs.Maps.{Map}
 use Rattle.seam_steps.specs.Nodes.{World}
 use Rattle.seam_print.specs.Finding.{home_found, done_found, home_line_at, homes_found, bases_found, ghosts_found, position_at, positions_found}
 use Rattle.seam_print.specs.Texts.{calls_text, ends_text, done_of_type, done_of, home_of, base_of, ghosts_of, shown_of}
+use Rattle.seam_print.specs.declared.farewells.Farewell.{Farewell}
+use Rattle.seam_print.specs.Sums.{did_count, and_hp, and_hp_found}
 use Rattle.seam_print.specs.declared.residents.Resident.{Resident}
-use Rattle.seam_print.proofs.Gathering.{same_of_each, gathered_twice, map_gathered}
+use Rattle.seam_print.proofs.Gathering.{same_of_each, same_number_of_each, gathered_twice, map_gathered, folded_gathered}
 
 module _ (m : BTreeMap ℕ Resident) (rs : List Resident) (is : values m ≡ rs) where
   -- what is gathered over the residents by number is gathered over their list
@@ -42,6 +46,29 @@ module _ (m : BTreeMap ℕ Resident) (rs : List Resident) (is : values m ≡ rs)
       ∙ sym (map_gathered (λ (l : HomeLine). l.state.pos) (λ (r : Resident). homes_found v r.made.entity) rs)
       ∙ ap (map (λ l. l.state.pos)) same
 
+  -- ---- what is counted
+
+  -- a sum over the residents by number is that over their list
+  pub of_sum : (f : Resident → ℕ) → sum_by (λ x. f x.1) m.entries ≡ sum_by f rs
+  of_sum f = sym (fold-map (λ n r. n + f r) (λ (x : ℕ × Resident). x.1) 0 m.entries) ∙ ap (sum_by f) is
+
+  pub did_counted : (u : World) (did : List DoneLine) →
+      flat_map (λ r. done_of_type r.made.ty (done_found part.Cell u r.made.entity)) rs ≡ did →
+      sum_by (λ x. did_count u x.1) m.entries ≡ length did
+  did_counted u did same =
+      let lines : Resident → List DoneLine = λ r. done_of_type r.made.ty (done_found part.Cell u r.made.entity) in
+      of_sum (did_count u)
+      ∙ same_number_of_each (did_count u) (λ r. length (lines r)) rs (λ r has. sym (length-map (done_found part.Cell u r.made.entity) _))
+      ∙ sym (length-flat_map lines rs) ∙ ap length same
+
+  pub hp_summed : (v : World) (homes : List HomeLine) → flat_map (λ r. homes_found v r.made.entity) rs ≡ homes →
+      fold (λ z x. and_hp_found v z x.1) (pos 0) m.entries ≡ fold and_hp (pos 0) homes
+  hp_summed v homes same =
+      folded_gathered and_hp (λ (x : ℕ × Resident). homes_found v x.1.made.entity) (pos 0) m.entries
+      ∙ ap (fold and_hp (pos 0)) (of_list (λ r. homes_found v r.made.entity) ∙ same)
+
+  -- ---- what is written
+
   module _ (defs : List TypeDef) (d : RoundData) (first : List ℕ) where
     pub calls_written : (u : World) →
         flat_map (λ r. done_of_type r.made.ty (done_found part.Cell u r.made.entity)) rs ≡ d.did →
@@ -59,7 +86,7 @@ module _ (m : BTreeMap ℕ Resident) (rs : List Resident) (is : values m ≡ rs)
         (λ r. done_of_type r.made.ty (done_found part.Base u r.made.entity)) d.dob dob i) in
         three ∙ append_assoc first D B
 
-    pub ends_written : (v : World) (kept : Map (List ℕ)) (number : ℕ) → number ≡ d.number →
+    pub ends_written : (v : World) (kept : Map Farewell) (number : ℕ) → number ≡ d.number →
         flat_map (λ r. homes_found v r.made.entity) rs ≡ d.homes → flat_map (λ r. bases_found v r.made.entity) rs ≡ d.bases →
         flat_map (λ r. ghosts_found v r.made.entity) rs ≡ d.ghosts →
         flat_map (shown_of defs kept v) rs ≡ flat_map (client_text defs) d.shown → (o1 o2 o3 o4 o5 o6 : List ℕ) →

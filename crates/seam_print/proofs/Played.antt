@@ -1,8 +1,10 @@
 -- What is found of those who are there in a played round is what the round prints.
-use Rattle.std.proofs.Common.{◌≡◌, ℕ, ◌≤◌, Bool, true, false, cond, List, [], map, Option, None, Some, refl, sym, ap, ◌∙◌}
+use Rattle.std.proofs.Common.{◌≡◌, ℕ, ◌≤◌, Bool, true, false, cond, List, [], map, length, Option, None, Some, refl, sym, ap, ◌∙◌}
 use Rattle.std.specs.Prelude.{Contains, filter, not, ◌||◌, ◌&&◌, is_some}
-use Rattle.std.specs.List.{flat_map, list_any}
+use Rattle.std.specs.List.{flat_map, list_any, sum_by}
 use Rattle.std.specs.FinMap as table
+use Rattle.std.proofs.lemmas.List.{length-map}
+use Rattle.std.proofs.lemmas.List.Concat.{length-flat_map}
 use Rattle.std.proofs.lemmas.List.Folds.{flat_map-map, list_any-append}
 use Rattle.seam_tree.specs.Division.{Division}
 use Rattle.seam_defs.specs.declared.flags.Part.{Part}
@@ -13,6 +15,7 @@ use Rattle.seam_transcript.specs.Book.{Book, entries, created_as, live_as, destr
 use Rattle.seam_transcript.specs.Round.{Lists, DoneLine, done_lines}
 use Rattle.seam_transcript.proofs.Lists.{listed_is_one}
 use Rattle.seam_expected.proofs.ListedLemmas.{lists_living}
+use Rattle.seam_rules.specs.Lines.{ClientLine}
 use Rattle.seam_rules.specs.Texts.{client_text}
 use Rattle.seam_entity.specs.Reals.{RealView}
 use Rattle.seam_steps.specs.Bases.{PartView}
@@ -28,12 +31,14 @@ use Rattle.seam_legal.specs.Rounds.{done_in}
 use Rattle.seam_legal.proofs.Ended.{live_ended}
 use Rattle.seam_played.specs.Reading.{client_lines, lines_shown, lines_told}
 use Rattle.seam_print.specs.Residents.{ArePresent, present_as}
-use Rattle.seam_print.specs.Farewells.{AreFarewells}
+use Rattle.seam_print.specs.Farewells.{AreFarewells, kept_of}
 use Rattle.seam_print.specs.Finding.{node_for, done_found, part_found}
 use Rattle.seam_print.specs.Finding.{lines_found}
-use Rattle.seam_print.specs.Texts.{done_of_type, lines_text, shown_so_far, kept_or, shown_of}
+use Rattle.seam_print.specs.Texts.{done_of_type, lines_text, shown_so_far, kept_text, shown_of}
+use Rattle.seam_print.specs.Sums.{kept_count, shown_count}
+use Rattle.seam_print.specs.declared.farewells.Farewell.{Farewell}
 use Rattle.seam_print.specs.declared.residents.Resident.{Resident}
-use Rattle.seam_print.proofs.Gathering.{same_of_each, kept_give_all, kept_or_none, kept_once, gathered_twice}
+use Rattle.seam_print.proofs.Gathering.{same_of_each, same_number_of_each, kept_give_all, kept_or_none, kept_once, gathered_twice}
 use Rattle.seam_print.proofs.Listing.{mapped}
 use Rattle.seam_print.proofs.Routes.{done_is_found, lines_are_found}
 
@@ -127,47 +132,79 @@ module _ (b : Book) (rs : List Resident) (present : ArePresent b rs) where
 
   module _ (h : Header) (tree : Division) (some : 1 ≤ h.settings.bases) (called v : World)
       (between_called : IsBetweenRounds (frame_of h tree) called) (between : IsBetweenRounds (frame_of h tree) v) (made : List Create)
-      (listed : Lists (created_as b) made) (kept : Map (List ℕ)) (farewells : AreFarewells h.defs b called kept) where
+      (listed : Lists (created_as b) made) (kept : Map Farewell) (farewells : AreFarewells h.defs b called kept) where
     abbrev shows : Create → Bool
     shows c = is_shown b c.entity
 
-    abbrev text_of : Create → List ℕ
-    text_of c = lines_text h.defs c (lines_told h b called v c.entity)
+    abbrev its_lines : Create → List ClientLine
+    its_lines c = client_lines c (lines_told h b called v c.entity)
 
-    told_by : (c : Create) (x : Bool) (first last first_found last_found : List Line) → first ≡ first_found → last ≡ last_found →
-        kept_or (cond x (Some (lines_text h.defs c first_found)) None) (lines_text h.defs c last_found)
-        ≡ lines_text h.defs c (cond x first last)
-    told_by c true first last first_found last_found same other = ap (lines_text h.defs c) (sym same)
-    told_by c false first last first_found last_found same other = ap (lines_text h.defs c) (sym other)
-
-    shown_by : (c : Create) → present_as b c.entity ≡ Some c → (x : Bool) → is_shown b c.entity ≡ x →
-        cond x (kept_or (table.get kept c.entity) (shown_so_far h.defs v c)) [] ≡ cond x (text_of c) []
-    shown_by c here true is =
-        ap (λ o. kept_or o (shown_so_far h.defs v c)) (farewells c here is)
-        ∙ told_by c (list_any (destroys c.entity) b.current) (lines_shown h called c.entity) (lines_shown h v c.entity)
-        (lines_found called c.entity) (lines_found v c.entity) (lines_are_found h tree some called between_called c.entity)
-        (lines_are_found h tree some v between c.entity)
-    shown_by c here false is = refl
-
-    shown_is : (r : Resident) → Contains rs r → shown_of h.defs kept v r ≡ cond (shows r.made) (text_of r.made) []
-    shown_is r has =
-        ap (λ x. cond x (kept_or (table.get kept r.made.entity) (shown_so_far h.defs v r.made)) []) (present.clients r has)
-        ∙ shown_by r.made ((present.listed.exact r.made).0 (mapped made_of rs r has)) (shows r.made) refl
+    abbrev lines_of_one : Resident → List ClientLine
+    lines_of_one r = cond (shows r.made) (its_lines r.made) []
 
     second : (x y : Bool) → (x && y) ≡ true → y ≡ true
     second true y is = is
     second false y is = absurd (let z = is in cc)
 
-    pub shown_is_printed : flat_map (shown_of h.defs kept v) rs
-        ≡ flat_map (client_text h.defs) (flat_map (λ c. client_lines c (lines_told h b called v c.entity)) (filter shows made))
-    shown_is_printed =
-        same_of_each (shown_of h.defs kept v) (λ r. cond (shows r.made) (text_of r.made) []) rs shown_is
-        ∙ sym (flat_map-map (λ c. cond (shows c) (text_of c) []) made_of rs)
-        ∙ sym (kept_or_none shows text_of (there b rs present))
-        ∙ ap (λ cs. flat_map text_of (filter shows cs)) (there_of b rs present made listed)
-        ∙ ap (flat_map text_of) (kept_once shows (λ c. not (was_dead b c.entity)) made
+    lines_are_printed : flat_map lines_of_one rs ≡ flat_map its_lines (filter shows made)
+    lines_are_printed =
+        sym (flat_map-map (λ c. cond (shows c) (its_lines c) []) made_of rs)
+        ∙ sym (kept_or_none shows its_lines (there b rs present))
+        ∙ ap (λ cs. flat_map its_lines (filter shows cs)) (there_of b rs present made listed)
+        ∙ ap (flat_map its_lines) (kept_once shows (λ c. not (was_dead b c.entity)) made
         (λ c is. second (is_some (created_as b c.entity) && list_any (joins c.entity) (entries b)) (not (was_dead b c.entity)) is))
-        ∙ sym (gathered_twice (client_text h.defs) (λ c. client_lines c (lines_told h b called v c.entity)) (filter shows made))
+
+    -- ---- of one resident
+
+    abbrev found_or : Create → Bool → List Line
+    found_or c x = cond x (lines_found called c.entity) (lines_found v c.entity)
+
+    told_is : (c : Create) (x : Bool) →
+        found_or c x ≡ cond x (lines_shown h called c.entity) (lines_shown h v c.entity)
+    told_is c true = sym (lines_are_found h tree some called between_called c.entity)
+    told_is c false = sym (lines_are_found h tree some v between c.entity)
+
+    text_by : (c : Create) (x : Bool) →
+        kept_text (cond x (Some (kept_of h.defs called c)) None) (shown_so_far h.defs v c) ≡ lines_text h.defs c (found_or c x)
+    text_by c true = refl
+    text_by c false = refl
+
+    count_by : (c : Create) (x : Bool) →
+        kept_count (cond x (Some (kept_of h.defs called c)) None) (length (lines_found v c.entity)) ≡ length (client_lines c (found_or c x))
+    count_by c true = sym (length-map (lines_found called c.entity) _)
+    count_by c false = sym (length-map (lines_found v c.entity) _)
+
+    text_is : (c : Create) → present_as b c.entity ≡ Some c → (x : Bool) → is_shown b c.entity ≡ x →
+        cond x (kept_text (table.get kept c.entity) (shown_so_far h.defs v c)) [] ≡ flat_map (client_text h.defs) (cond x (its_lines c) [])
+    text_is c here true is =
+        let dies = list_any (destroys c.entity) b.current in
+        ap (λ o. kept_text o (shown_so_far h.defs v c)) (farewells c here is) ∙ text_by c dies ∙ ap (lines_text h.defs c) (told_is c dies)
+    text_is c here false is = refl
+
+    count_is : (c : Create) → present_as b c.entity ≡ Some c → (x : Bool) → is_shown b c.entity ≡ x →
+        cond x (kept_count (table.get kept c.entity) (length (lines_found v c.entity))) 0 ≡ length (cond x (its_lines c) [])
+    count_is c here true is =
+        let dies = list_any (destroys c.entity) b.current in
+        ap (λ o. kept_count o (length (lines_found v c.entity))) (farewells c here is) ∙ count_by c dies
+        ∙ ap (λ ls. length (client_lines c ls)) (told_is c dies)
+    count_is c here false is = refl
+
+    here : (r : Resident) → Contains rs r → present_as b r.made.entity ≡ Some r.made
+    here r has = (present.listed.exact r.made).0 (mapped made_of rs r has)
+
+    pub shown_is_printed : flat_map (shown_of h.defs kept v) rs ≡ flat_map (client_text h.defs) (flat_map its_lines (filter shows made))
+    shown_is_printed =
+        same_of_each (shown_of h.defs kept v) (λ r. flat_map (client_text h.defs) (lines_of_one r)) rs
+        (λ r has. ap (λ x. cond x (kept_text (table.get kept r.made.entity) (shown_so_far h.defs v r.made)) []) (present.clients r has)
+        ∙ text_is r.made (here r has) (shows r.made) refl)
+        ∙ sym (gathered_twice (client_text h.defs) lines_of_one rs) ∙ ap (flat_map (client_text h.defs)) lines_are_printed
+
+    pub shown_is_counted : sum_by (shown_count kept v) rs ≡ length (flat_map its_lines (filter shows made))
+    shown_is_counted =
+        same_number_of_each (shown_count kept v) (λ r. length (lines_of_one r)) rs
+        (λ r has. ap (λ x. cond x (kept_count (table.get kept r.made.entity) (length (lines_found v r.made.entity))) 0) (present.clients r has)
+        ∙ count_is r.made (here r has) (shows r.made) refl)
+        ∙ sym (length-flat_map lines_of_one rs) ∙ ap length lines_are_printed
 
 -- ---- who dies in the round is nowhere at its end
 

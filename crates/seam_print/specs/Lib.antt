@@ -2,5 +2,6 @@ pub mod Residents
 pub mod Finding
 pub mod Texts
 pub mod Farewells
+pub mod Sums
 pub mod Printing
 pub mod Worlds

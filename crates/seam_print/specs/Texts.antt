@@ -15,6 +15,7 @@ use Rattle.seam_steps.specs.Maps.{Map}
 use Rattle.seam_steps.specs.Nodes.{World}
 use Rattle.seam_played.specs.Reading.{client_lines}
 use Rattle.seam_print.specs.Finding.{done_found, homes_found, bases_found, ghosts_found, lines_found}
+use Rattle.seam_print.specs.declared.farewells.Farewell.{Farewell}
 use Rattle.seam_print.specs.declared.residents.Resident.{Resident}
 
 -- ---- a round
@@ -57,11 +58,11 @@ abbrev pub shown_so_far : List TypeDef → World → Create → List ℕ
 shown_so_far defs w c = lines_text defs c (lines_found w c.entity)
 
 -- a text that was kept, or another one
-abbrev pub kept_or : Option (List ℕ) → List ℕ → List ℕ
-kept_or None text = text
-kept_or (Some kept) text = kept
+abbrev pub kept_text : Option Farewell → List ℕ → List ℕ
+kept_text None text = text
+kept_text (Some kept) text = kept.text
 
 -- what its client was shown: what was kept of that, or else what the world has, and nothing where it has no client
-abbrev pub shown_of : List TypeDef → Map (List ℕ) → World → Resident → List ℕ
+abbrev pub shown_of : List TypeDef → Map Farewell → World → Resident → List ℕ
 shown_of defs farewells w r =
-    if r.client then kept_or (table.get farewells r.made.entity) (shown_so_far defs w r.made) else []
+    if r.client then kept_text (table.get farewells r.made.entity) (shown_so_far defs w r.made) else []

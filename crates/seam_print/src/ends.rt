@@ -233,8 +233,8 @@ fn push_client_of(
     if !resident.client {
         return Ok(());
     }
-    match kept.text(resident.made.entity) {
-        Some(text) => out.extend_from_slice(text.as_slice()),
+    match kept.of(resident.made.entity) {
+        Some(farewell) => out.extend_from_slice(farewell.text.as_slice()),
         None => push_lines(out, defs, &resident.made, world),
     }
 }

@@ -1,6 +1,6 @@
 //! The lines of clients whose entities die in a round.
 
-ghost use Rattle.std.specs.Prelude.{◌≡◌, ◌++◌, IfOk, OnOk, option_copied};
+ghost use Rattle.std.specs.Prelude.{◌≡◌, ◌++◌, IfOk, OnOk, length, option_copied};
 ghost use Rattle.std.specs.FinMap as table;
 ghost use Rattle.std.specs.Ordering.{nat_cmp};
 ghost use Rattle.std.specs.BTreeMap.{get};
@@ -8,6 +8,7 @@ ghost use Rattle.std.specs.List.{filter_map};
 ghost use Rattle.seam_transcript.specs.Book.{Book};
 ghost use Rattle.seam_accept.specs.Batches.{destroyed};
 ghost use Rattle.seam_print.specs.Residents.{ArePresent};
+ghost use Rattle.seam_print.specs.Finding.{lines_found};
 ghost use Rattle.seam_print.specs.Farewells.{AreFarewells, farewell_of};
 ghost use Rattle.seam_print.specs.Texts.{shown_so_far, lines_text};
 
@@ -23,35 +24,42 @@ use std::alloc::{AllocError, Global};
 use std::collections::BTreeMap;
 use std::marker::Model;
 
-/// What was kept of clients: the texts of their lines, each by the number of its entity.
+/// What was kept of a client: the text of its lines, and how many they are.
+#[derive(Drop)]
+pub struct Farewell {
+    pub text: Listed<u8>,
+    pub lines: u64,
+}
+
+/// What was kept of clients, each by the number of its entity.
 #[derive(Drop)]
 pub struct Farewells {
-    texts: Table<Listed<u8>>,
+    kept: Table<Farewell>,
 }
 
 impl Model for Farewells {
-    ghost use Rattle.std.specs.Prelude.{ℕ, List};
     ghost use Rattle.std.specs.Coded.{codes};
     ghost use Rattle.std.specs.FinMap as table;
     ghost use Rattle.seam_steps.specs.Maps.{Map};
+    ghost use Rattle.seam_print.specs.declared.farewells.Farewell.{Farewell as AnyFarewell};
 
-    ghost Value = { Map (List ℕ) };
+    ghost Value = { Map AnyFarewell };
 
     ghost coded = { Prim.hlevel (codes, table.code) };
 
-    ghost view = { λ f. f.texts.items };
+    ghost view = { λ f. f.kept.items };
 }
 
 impl Farewells {
     // What was kept of the entity's client.
-    pub(crate) fn text(&self, e: u32) -> Option<&Listed<u8>>
+    pub(crate) fn of(&self, e: u32) -> Option<&Farewell>
         ensures { option_copied result ≡ table.get self.now e }
     {
-        self.texts.get(e)
+        self.kept.get(e)
     }
 }
 
-/// The lines of clients whose entities die in the round, written where its calls have ended, for `write_ends`.
+/// The lines of clients whose entities die in the round, written where its calls have ended, for `write_ends` and `count_shown`.
 pub fn write_farewells(
     alloc: Global,
     round: &PrintedRound,
@@ -61,25 +69,25 @@ pub fn write_farewells(
     ensures { IfOk result (λ f. (b : Book) → destroys.now ≡ filter_map destroyed b.current → ArePresent b round.now.present.now →
         AreFarewells round.now.defs.now b called.now f) }
 {
-    let mut texts = Table::new(alloc);
+    let mut kept = Table::new(alloc);
     let residents = round.present.by_number();
     for e in destroys {
-        if let Some(text) = farewell(alloc, round.defs, residents, *e, called)? {
-            keep(&mut texts, *e, text)?;
+        if let Some(farewell) = farewell_to(alloc, round.defs, residents, *e, called)? {
+            keep(&mut kept, *e, farewell)?;
         }
     }
-    Ok(Farewells { texts })
+    Ok(Farewells { kept })
 }
 
-// The text of the lines of a resident's client, if it has one.
-fn farewell(
+// What is kept of a resident's client, if it has one.
+fn farewell_to(
     alloc: Global,
     defs: &Defs,
     residents: &BTreeMap<u32, Resident>,
     e: u32,
     called: &World,
-) -> Result<Option<Listed<u8>>, AllocError>
-    ensures { IfOk result (λ t. t ≡ farewell_of defs.now called.now (get nat_cmp residents.now e)) }
+) -> Result<Option<Farewell>, AllocError>
+    ensures { IfOk result (λ f. f ≡ farewell_of defs.now called.now (get nat_cmp residents.now e)) }
 {
     let Some(resident) = residents.get(&e) else {
         return Ok(None);
@@ -89,15 +97,28 @@ fn farewell(
     }
     let mut text = Vec::new(alloc);
     push_lines(&mut text, defs, &resident.made, called)?;
-    Ok(Some(Listed::of(text)))
+    Ok(Some(Farewell {
+        text: Listed::of(text),
+        lines: count_lines(resident.made.entity, called),
+    }))
 }
 
-fn keep(texts: &mut Table<Listed<u8>>, e: u32, text: Listed<u8>) -> Result<(), AllocError>
-    ensures { OnOk result (texts.new.items ≡ table.insert texts.old.items e text) }
+fn keep(kept: &mut Table<Farewell>, e: u32, farewell: Farewell) -> Result<(), AllocError>
+    ensures { OnOk result (kept.new.items ≡ table.insert kept.old.items e farewell) }
 {
-    match texts.put(e, text) {
+    match kept.put(e, farewell) {
         Ok(_) => Ok(()),
         Err(_) => Err(AllocError),
+    }
+}
+
+/// How many lines an entity's client was shown in the round so far.
+pub(crate) fn count_lines(e: u32, world: &World) -> u64
+    ensures { result ≡ length (lines_found world.now e) }
+{
+    match part(world, e) {
+        Some(part) => part.lines().len() as u64,
+        None => 0,
     }
 }
 

@@ -1,7 +1,7 @@
 //! What is written of residents is what a round prints; and who lives stays as lines come.
 
-ghost use Rattle.std.specs.Prelude.{◌≡◌, ◌++◌, ℕ, List, map, codes, Option};
-ghost use Rattle.std.specs.List.{flat_map};
+ghost use Rattle.std.specs.Prelude.{◌≡◌, ◌++◌, ℕ, List, map, length, codes, Option};
+ghost use Rattle.std.specs.List.{flat_map, sum_by};
 ghost use Rattle.seam_tree.specs.Division.{Division};
 ghost use Rattle.seam_defs.specs.declared.flags.Part.TheVariants as part;
 ghost use Rattle.seam_defs.specs.declared.types.TypeDef.{TypeDef};
@@ -20,7 +20,9 @@ ghost use Rattle.seam_print.specs.Residents.{AreResidents, ArePresent};
 ghost use Rattle.seam_print.specs.Worlds.{AreAtRest};
 ghost use Rattle.seam_print.specs.Finding.{done_found, homes_found, bases_found, ghosts_found, RoutesLeadHome};
 ghost use Rattle.seam_print.specs.Farewells.{AreFarewells};
+ghost use Rattle.seam_print.specs.Sums.{shown_count};
 ghost use Rattle.seam_print.specs.Texts.{calls_text, ends_text, done_of_type, shown_of};
+ghost use Rattle.seam_print.specs.declared.farewells.Farewell.{Farewell as AnyFarewell};
 ghost use Rattle.seam_print.specs.declared.residents.Resident.{Resident as AnyResident};
 
 /// The text of a round is its number line, its steps where they are traced, then what `write_calls` appends, and then what `write_ends`
@@ -57,7 +59,7 @@ fn a_round_is_read_at_rest()
 
 /// What is found of those who are there in a played round is what the round prints: where its calls have ended, the calls (`done`), and
 /// where it has ended, the homes (`homes`), the base parts (`bases`) and the ghosts (`ghosts`), and the lines of clients, with what was kept
-/// of those whose entities died (`shown`). In both worlds each real is where the route of its base node leads (`routes`).
+/// of those whose entities died (`shown`), and how many these are (`count`). In both worlds each real is where the route of its base node leads (`routes`).
 pub fn what_is_found_is_printed()
     ensures did { (h : Header) (s : Standing) (tree : Division) (w v : World) (p : IsPlayed h s tree w v) (bounds : Option Division)
         (rs : List AnyResident) → ArePresent s.book rs →
@@ -77,8 +79,11 @@ pub fn what_is_found_is_printed()
         (rs : List AnyResident) → ArePresent s.book rs →
         flat_map (λ r. ghosts_found v r.made.entity) rs ≡ (data_of h s tree w v p bounds).ghosts }
     ensures shown { (h : Header) (s : Standing) (tree : Division) (w v : World) (p : IsPlayed h s tree w v) (bounds : Option Division)
-        (rs : List AnyResident) → ArePresent s.book rs → (kept : Map (List ℕ)) → AreFarewells h.defs s.book p.round.called kept →
+        (rs : List AnyResident) → ArePresent s.book rs → (kept : Map AnyFarewell) → AreFarewells h.defs s.book p.round.called kept →
         flat_map (shown_of h.defs kept v) rs ≡ flat_map (client_text h.defs) (data_of h s tree w v p bounds).shown }
+    ensures count { (h : Header) (s : Standing) (tree : Division) (w v : World) (p : IsPlayed h s tree w v) (bounds : Option Division)
+        (rs : List AnyResident) → ArePresent s.book rs → (kept : Map AnyFarewell) → AreFarewells h.defs s.book p.round.called kept →
+        sum_by (shown_count kept v) rs ≡ length (data_of h s tree w v p bounds).shown }
     ensures routes { (h : Header) (s : Standing) (tree : Division) (w v : World) (p : IsPlayed h s tree w v) →
         RoutesLeadHome p.round.called × RoutesLeadHome v }
 {

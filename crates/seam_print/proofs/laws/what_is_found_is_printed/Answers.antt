@@ -6,7 +6,7 @@ use Rattle.seam_legal.proofs.Ended.{live_ended}
 use Rattle.seam_played.specs.Reading.{homes_read, base_if, bases_read}
 use Rattle.seam_print.specs.Finding.{home_line_at, homes_found, bases_found, ghost_lines_at, ghosts_found}
 use Rattle.seam_print.proofs.Routes.{homes_are_found, bases_are_found, ghosts_are_found, nowhere, home_is}
-use Rattle.seam_print.proofs.Played.{done_is_printed, left_is_printed, shown_is_printed, is_nowhere, has_no_part}
+use Rattle.seam_print.proofs.Played.{done_is_printed, left_is_printed, shown_is_printed, shown_is_counted, is_nowhere, has_no_part}
 use Rattle.seam_print.proofs.laws.what_is_found_is_printed.Goals as goal
 
 pub returns-clause-did : goal.returns-clause-did
@@ -61,4 +61,10 @@ pub returns-clause-shown : goal.returns-clause-shown
 returns-clause-shown c h s tree w v p bounds rs present kept farewells =
     let rest = c.a_round_is_read_at_rest.ensures h s tree w v p in
     shown_is_printed s.book rs present h (tree_of s.book) p.beside.legal.in_range.some_bases p.round.called v rest.called rest.ended p.made
+    p.made_listed kept farewells
+
+pub returns-clause-count : goal.returns-clause-count
+returns-clause-count c h s tree w v p bounds rs present kept farewells =
+    let rest = c.a_round_is_read_at_rest.ensures h s tree w v p in
+    shown_is_counted s.book rs present h (tree_of s.book) p.beside.legal.in_range.some_bases p.round.called v rest.called rest.ended p.made
     p.made_listed kept farewells
