@@ -45,11 +45,7 @@ pub fn count_did(present: &Residents, called: &World) -> Result<u64, AllocError>
 /// were shown whose entities died.
 ///
 /// No memory holds as many as do not fit 64 bits: of those it would answer as if allocation failed.
-pub fn count_shown(
-    present: &Residents,
-    kept: &Farewells,
-    ended: &World,
-) -> Result<u64, AllocError>
+pub fn count_shown(present: &Residents, kept: &Farewells, ended: &World) -> Result<u64, AllocError>
     ensures { IfOk result (λ n. (h : Header) (s : Standing) (tree : Division) (w : AnyWorld) (p : IsPlayed h s tree w ended.now)
         (bounds : Option Division) → ArePresent s.book present.now → AreFarewells h.defs s.book p.round.called kept.now →
         n ≡ length (data_of h s tree w ended.now p bounds).shown) }
