@@ -11,7 +11,7 @@ use Rattle.std.specs.BTreeMap.{is_at}
 use Rattle.std.proofs.lemmas.Map.Keys.{sorted_head, sorted_tail}
 use Rattle.std.proofs.lemmas.Bool.Decides.{nat_tests}
 use Rattle.seam_steps.specs.Cells.{without}
-use Rattle.seam_parts.specs.Sets.{with_entity, first_of}
+use Rattle.seam_parts.specs.Sets.{with_entity, first_of, members, IsAlone, IsSet}
 
 pub inserted : (e : ℕ) (xs : List ℕ) → insert_key nat_cmp xs e ≡ with_entity e xs
 inserted e [] = refl
@@ -61,3 +61,28 @@ first_taken (Some x) old new e some none first =
     let same : Some e ≡ Some x = first ∙ ap first_of some in
     let number : x ≡ e = cc in
     some ∙ ap (λ k. k ∷ new) number
+
+-- ---- one that is alone
+
+one_rises : (e : ℕ) → IsStrictlySortedBy nat_cmp (e ∷ [])
+unfolding IsStrictlySortedBy
+one_rises e = (tt, tt)
+
+pub members_rise : (one : Option ℕ) (xs : List ℕ) → IsSet one xs → IsStrictlySortedBy nat_cmp (members one xs)
+members_rise None xs s = s.rising
+members_rise (Some e) xs s = one_rises e
+
+pub alone_goes : (e : ℕ) (one : Option ℕ) (xs : List ℕ) → one ≡ Some e → IsAlone one xs → xs ≡ without e (members one xs)
+alone_goes e None xs is alone = cc
+alone_goes e (Some x) xs is alone =
+    let same : e ≡ x = cc in
+    alone ∙ sym (subst (λ y. without e (y ∷ []) ≡ []) same (first_goes e [] tt))
+
+apart : (e x : ℕ) → (x ≡ e → ⊥) → eqb x e ≡ false
+apart e x other = grind (arith, nat_tests, other)
+
+pub another_stays : (e x : ℕ) (one : Option ℕ) (xs : List ℕ) → one ≡ Some x → (x ≡ e → ⊥) → members one xs ≡ without e (members one xs)
+another_stays e x None xs is other = cc
+another_stays e x (Some y) xs is other =
+    let same : x ≡ y = cc in
+    sym (ap (λ b. cond (not b) (y ∷ []) []) (subst (λ z. eqb z e ≡ false) same (apart e x other)))

@@ -1,5 +1,6 @@
 -- Ordered sets of entities, as lists of their numbers in rising order.
-use Rattle.std.specs.Prelude.{ℕ, List, [], ◌∷◌, Option, None, Some}
+use Rattle.std.specs.Prelude.{◌≡◌, ℕ, List, [], ◌∷◌, Option, None, Some}
+use Rattle.std.specs.List.Sorted.{IsStrictlySortedBy}
 use Rattle.std.specs.Ordering.{nat_cmp, match_ordering}
 
 -- the first of a list
@@ -11,3 +12,18 @@ first_of (x ∷ xs) = Some x
 abbrev pub with_entity : ℕ → List ℕ → List ℕ
 with_entity e [] = e ∷ []
 with_entity e (x ∷ xs) = match_ordering (nat_cmp e x) (e ∷ x ∷ xs) (x ∷ xs) (x ∷ with_entity e xs)
+
+-- the one that is alone, or else those of the list
+abbrev pub members : Option ℕ → List ℕ → List ℕ
+members None xs = xs
+members (Some e) xs = e ∷ []
+
+-- where one is alone, the list is empty
+abbrev pub IsAlone : Option ℕ → List ℕ → Type 0
+IsAlone None xs = Unit {0}
+IsAlone (Some e) xs = xs ≡ []
+
+-- the list is in rising order, and empty where one is alone
+pub record IsSet (one : Option ℕ) (xs : List ℕ) : Type 0 where
+  pub rising : IsStrictlySortedBy nat_cmp xs
+  pub alone : IsAlone one xs

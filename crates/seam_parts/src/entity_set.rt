@@ -14,19 +14,33 @@ use std::marker::Model;
 /// An ordered set of entities. Contracts see their numbers, in rising order.
 #[derive(Drop)]
 pub struct EntitySet {
+    // Where it is there, it is the only one: a set that has at most one, as most steps leave it, takes no memory.
+    one: Option<u32>,
     numbers: BTreeSet<u32>,
 }
 
 impl Model for EntitySet {
     ghost use Rattle.std.specs.Prelude.{ℕ, List};
-    ghost use Rattle.std.specs.List.Sorted.{IsStrictlySortedBy};
-    ghost use Rattle.std.specs.Ordering.{nat_cmp};
+    ghost use Rattle.seam_parts.specs.Sets.{members, IsSet};
 
     ghost Value = { List ℕ };
 
-    ghost view = { λ s. s.numbers.keys };
+    ghost view = { λ s. members s.one s.numbers.keys };
 
-    ghost invariant = { λ s. IsStrictlySortedBy nat_cmp s.numbers.keys };
+    ghost invariant = { λ s. IsSet s.one s.numbers.keys };
+}
+
+// Puts the number in.
+fn put(numbers: &mut BTreeSet<u32>, e: u32) -> Result<(), AllocError>
+    requires { IsStrictlySortedBy nat_cmp numbers.old.keys }
+    ensures ok { OnOk result (numbers.new.keys ≡ with_entity e numbers.old.keys) }
+    ensures err { OnErr result (numbers.new.keys ≡ numbers.old.keys) }
+    ensures rising { IsStrictlySortedBy nat_cmp numbers.new.keys }
+{
+    match numbers.insert(e) {
+        Ok(_) => Ok(()),
+        Err(_) => Err(AllocError),
+    }
 }
 
 impl EntitySet {
@@ -35,6 +49,7 @@ impl EntitySet {
         ensures { result ≡ [] }
     {
         EntitySet {
+            one: None,
             numbers: BTreeSet::new(alloc),
         }
     }
@@ -43,7 +58,10 @@ impl EntitySet {
     pub fn first(&self) -> Option<u32>
         ensures { result ≡ first_of self.now }
     {
-        self.numbers.first().copied()
+        match self.one {
+            Some(e) => Some(e),
+            None => self.numbers.first().copied(),
+        }
     }
 
     /// Takes out the first.
@@ -52,7 +70,10 @@ impl EntitySet {
         ensures none { IfNone result (self.old ≡ []) }
         ensures unchanged { IfNone result (self.new ≡ self.old) }
     {
-        self.numbers.pop_first()
+        match self.one.take() {
+            Some(e) => Some(e),
+            None => self.numbers.pop_first(),
+        }
     }
 
     /// How many there are. They are in rising number.
@@ -60,14 +81,20 @@ impl EntitySet {
         ensures count { result ≡ length self.now }
         ensures rising { IsStrictlySortedBy nat_cmp self.now }
     {
-        self.numbers.len()
+        match self.one {
+            Some(_) => 1,
+            None => self.numbers.len(),
+        }
     }
 
     /// Whether there is one.
     pub fn is_empty(&self) -> bool
         ensures { result ≡ not (has_any self.now) }
     {
-        self.numbers.is_empty()
+        match self.one {
+            Some(_) => false,
+            None => self.numbers.is_empty(),
+        }
     }
 
     /// Puts the entity in.
@@ -75,17 +102,31 @@ impl EntitySet {
         ensures ok { OnOk result (self.new ≡ with_entity e self.old) }
         ensures err { OnErr result (self.new ≡ self.old) }
     {
-        match self.numbers.insert(e) {
-            Ok(_) => Ok(()),
-            Err(_) => Err(AllocError),
+        if let Some(other) = self.one {
+            if other == e {
+                return Ok(());
+            }
+            put(&mut self.numbers, other)?;
+            self.one = None;
+        } else if self.numbers.is_empty() {
+            self.one = Some(e);
+            return Ok(());
         }
+        put(&mut self.numbers, e)
     }
 
     /// Takes the entity out.
     pub fn remove(&mut self, e: u32)
         ensures { self.new ≡ without e self.old }
     {
-        let _ = self.numbers.remove(&e);
+        match self.one {
+            Some(other) => if other == e {
+                self.one = None;
+            },
+            None => {
+                let _ = self.numbers.remove(&e);
+            }
+        }
     }
 
     /// The same entities once more.
@@ -93,6 +134,7 @@ impl EntitySet {
         ensures { IfOk result (λ s. s ≡ self.now) }
     {
         Ok(EntitySet {
+            one: self.one,
             numbers: self.numbers.clone()?,
         })
     }

@@ -1,7 +1,27 @@
-use Rattle.std.proofs.Common.{ap, ◌∙◌}
+use Rattle.std.proofs.Common.{Some, ap, sym, ◌∙◌}
 use Rattle.seam_steps.specs.Cells.{without}
-use Rattle.seam_parts.proofs.SetLemmas.{removed}
+use Rattle.seam_parts.specs.Sets.{members}
+use Rattle.seam_parts.proofs.SetLemmas.{removed, alone_goes, another_stays}
 use Rattle.seam_parts.proofs.entity_set.EntitySet.remove.Goals as goal
 
-pub returns : goal.returns
-returns c = c.remove.ensures.keys ∙ (removed c.args.e c.self.inside.numbers.keys c.self.invariant ∙ ap (without c.args.e) c.self.view_is)
+pub returns-in-None : goal.returns-in-None
+returns-in-None c =
+    ap (λ o. members o c.remove.new.self.keys) c.in-None.is
+    ∙ (c.remove.ensures.keys
+    ∙ (removed c.args.e c.self.inside.numbers.keys c.self.invariant.rising
+    ∙ (sym (ap (λ o. without c.args.e (members o c.self.inside.numbers.keys)) c.in-None.is) ∙ ap (without c.args.e) c.self.view_is)))
+
+pub returns-then-other-e : goal.returns-then-other-e
+returns-then-other-e c =
+    alone_goes c.args.e c.self.inside.one c.self.inside.numbers.keys (c.in-Some.is ∙ ap (λ x. Some x) c.if-other-e.true)
+    c.self.invariant.alone
+    ∙ ap (without c.args.e) c.self.view_is
+
+pub returns-else-other-e : goal.returns-else-other-e
+returns-else-other-e c =
+    sym c.self.view_is
+    ∙ (another_stays c.args.e c.in-Some.other c.self.inside.one c.self.inside.numbers.keys c.in-Some.is c.if-other-e.false
+    ∙ ap (without c.args.e) c.self.view_is)
+
+pub invariant_of-self : goal.invariant_of-self
+invariant_of-self c = record { rising = c.self.invariant.rising; alone = tt }
