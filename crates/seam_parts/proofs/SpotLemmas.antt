@@ -14,12 +14,12 @@ use Rattle.seam_table.specs.Tables.{is_after}
 use Rattle.seam_range.specs.declared.Place.{Place}
 use Rattle.seam_range.specs.Places.{Places}
 use Rattle.seam_ghosts.specs.declared.Ghost.{Ghost}
-use Rattle.seam_ghosts.specs.Book.{copy_in, copied}
+use Rattle.seam_ghosts.specs.declared.Kept.TheVariants.{Taken, Ignored}
+use Rattle.seam_ghosts.specs.Book.{BookView, copy_in, copied, answer, beat_of, with_ghost, after_message}
 use Rattle.seam_call.specs.declared.shown.GhostCopy.{GhostCopy}
 use Rattle.seam_entity.specs.Reals.{RealView}
 use Rattle.seam_steps.specs.Maps.{Map, set_at}
 use Rattle.seam_steps.proofs.Slots.{get-set_at, set_at-same}
-use Rattle.seam_known.proofs.Sorted.{tied_same}
 use Rattle.seam_known.proofs.Walks.{comes_after, IsBefore, nothing_before, there}
 use Rattle.seam_known.proofs.Knowing.{find_copied, copies_rise}
 use Rattle.seam_parts.specs.Spots.{is_out, is_none_else_out, still_out, AreNoted, AreListed, IsNoted, IsChanged, place_of_real}
@@ -134,17 +134,30 @@ pub real_set : (m : Map RealView) (e : ℕ) (o : Option RealView) (q : ℕ) →
 real_set m e o q =
     ap (option_map place_of_real) (get-set_at m e q o) ∙ map_cond place_of_real (eq_by_cmp nat_cmp q e) o (map.get m q)
 
--- the places of copies, where that of the entity is known after a change at it
-pub copy_followed : (before now : Map (Ghost GhostCopy)) (e : ℕ) (ghost : Option (Ghost GhostCopy)) (o : Option Place) →
-    now ≡ set_at before e ghost →
-    copy_places now e ≡ o → (q : ℕ) → copy_places now q ≡ cond (eq_by_cmp nat_cmp q e) o (copy_places before q)
-copy_followed before now e ghost o is at q = by (eq_by_cmp nat_cmp q e) refl
+-- the places of copies after a message about the entity that is taken
+pub copy_changed : (w : BookView GhostCopy) (e : ℕ) (g : Ghost GhostCopy) → Taken ≡ answer (beat_of w e) g.beat → (q : ℕ) →
+    copy_places (after_message w e g).ghosts q
+    ≡ cond (eq_by_cmp nat_cmp q e) (option_map place_of_copy g.copy) (copy_places w.ghosts q)
+copy_changed w e g is q =
+    ap (λ b. option_map place_of_copy (copy_in (map.get (cond b (with_ghost w e g) w).ghosts q))) (later (nat_lt (beat_of w e) g.beat) is)
+    ∙ (ap (λ x. option_map place_of_copy (copy_in x)) (get-set_at w.ghosts e q (Some g)) ∙ at (eq_by_cmp nat_cmp q e))
   where
-    by : (b : Bool) → eq_by_cmp nat_cmp q e ≡ b → copy_places now q ≡ cond b o (copy_places before q)
-    by true tied = ap (copy_places now) (tied_same q e tied) ∙ at
-    by false tied =
-        ap (λ m. option_map place_of_copy (copy_in (map.get m q))) is
-        ∙ ap (λ g. option_map place_of_copy (copy_in g)) (get-set_at before e q ghost ∙ ap (λ b. cond b ghost (map.get before q)) tied)
+    later : (b : Bool) → Taken ≡ cond b Taken Ignored → b ≡ true
+    later true h = refl
+    later false h = cc
+
+    at : (b : Bool) → option_map place_of_copy (copy_in (cond b (Some g) (map.get w.ghosts q)))
+        ≡ cond b (option_map place_of_copy g.copy) (copy_places w.ghosts q)
+    at true = refl
+    at false = refl
+
+-- and after one that is ignored
+pub copies_kept : (w : BookView GhostCopy) (e : ℕ) (g : Ghost GhostCopy) → Ignored ≡ answer (beat_of w e) g.beat → after_message w e g ≡ w
+copies_kept w e g is = ap (λ b. cond b (with_ghost w e g) w) (not_later (nat_lt (beat_of w e) g.beat) is)
+  where
+    not_later : (b : Bool) → Ignored ≡ cond b Taken Ignored → b ≡ false
+    not_later true h = cc
+    not_later false h = refl
 
 -- ---- a walk over all
 

@@ -1,19 +1,17 @@
 //! The copies of a cell by entity, and where they are.
 
-ghost use Rattle.std.specs.Prelude.{◌≡◌, Option, Some, None, true, false, OnOk, OnErr, IfOk, IfErr, IfSome, find, option_map};
+ghost use Rattle.std.specs.Prelude.{◌≡◌, Some, None, true, false, OnOk, OnErr, IfOk, IfErr, IfSome, find, option_map};
 ghost use Rattle.std.specs.Prelude.{option_copied};
 ghost use Rattle.std.specs.FinMap as map;
 ghost use Rattle.std.specs.FinSet as set;
 ghost use Rattle.seam_table.specs.Tables.{is_after};
-ghost use Rattle.seam_ghosts.specs.declared.Ghost.{Ghost};
 ghost use Rattle.seam_ghosts.specs.Book.{copies, copy_of, ghost_after};
-ghost use Rattle.seam_call.specs.declared.shown.GhostCopy.{GhostCopy as AnyCopy};
-ghost use Rattle.seam_steps.specs.Maps.{Map, set_at};
-ghost use Rattle.seam_parts.specs.Spots.{AreNoted, AreKeptNoted, place_of_copy, copy_places};
+ghost use Rattle.seam_steps.specs.Maps.{set_at};
+ghost use Rattle.seam_parts.specs.Spots.{AreNoted, place_of_copy, copy_places};
 
 use crate::spots::{Spots, beside, forget, note, put};
 use seam_call::GhostCopy;
-use seam_ghosts::GhostBook;
+use seam_ghosts::{GhostBook, Kept};
 use seam_memory::NoMemoryFor;
 use seam_range::{Place, RangeList};
 use std::alloc::{AllocError, Global};
@@ -66,20 +64,6 @@ fn places_of(alloc: Global, book: &GhostBook<GhostCopy>) -> Result<RangeList, Al
     Ok(list)
 }
 
-// Notes where the entity's copy is after a message about it.
-fn follow(book: &GhostBook<GhostCopy>, e: u32, spots: &mut Spots)
-    ensures { (before : Map (Ghost AnyCopy)) (g : Option (Ghost AnyCopy)) → book.now.ghosts ≡ set_at before e g →
-        AreKeptNoted spots.old (copy_places before) → AreKeptNoted spots.new (copy_places book.now.ghosts) }
-{
-    if spots.list.is_none() {
-        return;
-    }
-    match book.get(e) {
-        Some(copy) => note(spots, e, place_of(copy)),
-        None => forget(spots, e),
-    }
-}
-
 impl CopyBook {
     /// A book that knows of no entity.
     pub fn new(alloc: Global) -> Self
@@ -124,11 +108,13 @@ impl CopyBook {
         ensures err_item { IfErr result (λ r. r.item ≡ copy) }
         ensures err_only_first { OnErr result (set.contains self.old.room e ≡ false) }
     {
+        let place = place_of(&copy);
         match self.book.set(e, beat, copy) {
-            Ok(_) => {
-                follow(&self.book, e, &mut self.spots);
+            Ok(Kept::Taken) => {
+                note(&mut self.spots, e, place);
                 Ok(())
             }
+            Ok(Kept::Ignored) => Ok(()),
             Err(refused) => Err(refused),
         }
     }
@@ -141,10 +127,11 @@ impl CopyBook {
         ensures err_only_first { OnErr result (set.contains self.old.room e ≡ false) }
     {
         match self.book.drop_copy(e, beat) {
-            Ok(_) => {
-                follow(&self.book, e, &mut self.spots);
+            Ok(Kept::Taken) => {
+                forget(&mut self.spots, e);
                 Ok(())
             }
+            Ok(Kept::Ignored) => Ok(()),
             Err(refused) => Err(refused),
         }
     }
