@@ -143,6 +143,9 @@ impl<T> Links<T> {
         if at >= self.busy.len() {
             return false;
         }
+        if self.out.is_empty() {
+            return self.busy[at] == 0;
+        }
         self.busy[at] == 0 && self.out.count_to(to) == 0
     }
 
