@@ -11,6 +11,7 @@ use Rattle.std.specs.BTreeMap.{is_at}
 use Rattle.std.proofs.lemmas.Map.Keys.{sorted_head, sorted_tail}
 use Rattle.std.proofs.lemmas.Bool.Decides.{nat_tests}
 use Rattle.seam_steps.specs.Cells.{without}
+use Rattle.seam_steps.specs.Maps.{has_any}
 use Rattle.seam_parts.specs.Sets.{with_entity, first_of, members, IsAlone, IsSet}
 
 pub inserted : (e : ℕ) (xs : List ℕ) → insert_key nat_cmp xs e ≡ with_entity e xs
@@ -61,6 +62,10 @@ first_taken (Some x) old new e some none first =
     let same : Some e ≡ Some x = first ∙ ap first_of some in
     let number : x ≡ e = cc in
     some ∙ ap (λ k. k ∷ new) number
+
+pub none_first : (xs : List ℕ) → not (has_any xs) ≡ true → None ≡ first_of xs
+none_first [] none = refl
+none_first (x ∷ xs) none = cc
 
 -- ---- one that is alone
 

@@ -86,6 +86,10 @@ pub fn first_ready(reals: &Reals) -> Option<u32>
     requires { AreKept reals.now }
     ensures { result ≡ option_map number_of (find real_is_ready (table.entries reals.now.items.items)) }
 {
+    // Asked of every cell before most events: most often none is ready.
+    if reals.ready.is_empty() {
+        return None;
+    }
     reals.ready.first()
 }
 
