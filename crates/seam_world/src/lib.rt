@@ -2,6 +2,7 @@
 #![tactic(auto)]
 
 mod count;
+mod laws;
 mod pending;
 mod round;
 mod run;
@@ -9,5 +10,6 @@ mod script;
 mod status;
 mod storm;
 
+pub use laws::a_storm_has_one_summary;
 pub use run::run_seamless;
 pub use status::Status;
