@@ -50,9 +50,10 @@ pub fn write_ends(
 {
     what_is_found_is_printed();
     let residents = round.present.by_number();
-    push_homes(out, round.defs, residents, ended)?;
+    let mut ghosts = Vec::new(*out.allocator());
+    push_homes(out, &mut ghosts, round.defs, residents, ended)?;
     push_bases(out, round.defs, residents, ended)?;
-    push_ghosts(out, residents, ended)?;
+    out.extend_from_slice(&ghosts)?;
     push_clients(out, round.defs, residents, kept, ended)?;
     push_tree(out, bounds)?;
     push_number_line(out, b"end ", round.number)
@@ -85,17 +86,19 @@ fn find_positions(
     Ok(positions)
 }
 
-// ---- homes
+// ---- homes and ghosts
 
-// The line of a resident's home, and the cell to look in for the next one.
+// The line of a resident's home, and those of its ghosts into another text; and the cell to look in for the next one.
 fn push_home_of(
     out: &mut Vec<u8>,
+    ghosts: &mut Vec<u8>,
     defs: &Defs,
     near: Option<u8>,
     resident: &Resident,
     world: &World,
 ) -> Result<Option<u8>, AllocError>
-    ensures { OnOk result (RoutesLeadHome world.now → out.new.items ≡ out.old.items ++ home_of defs.now world.now resident.now) }
+    ensures home { OnOk result (RoutesLeadHome world.now → out.new.items ≡ out.old.items ++ home_of defs.now world.now resident.now) }
+    ensures ghosts { OnOk result (RoutesLeadHome world.now → ghosts.new.items ≡ ghosts.old.items ++ ghosts_of world.now resident.now) }
 {
     let entity = resident.made.entity;
     let Some((cell, parcel)) = home(world, near, entity) else {
@@ -110,21 +113,45 @@ fn push_home_of(
         state: real.state(),
     };
     push_home(out, defs, &line)?;
+    push_haunts(ghosts, entity, real)?;
     Ok(near_after(near, cell))
 }
 
+// The lines of homes, and those of ghosts, which come later, into another text: so each real is looked for once.
 fn push_homes(
     out: &mut Vec<u8>,
+    ghosts: &mut Vec<u8>,
     defs: &Defs,
     residents: &BTreeMap<u32, Resident>,
     world: &World,
 ) -> Result<(), AllocError>
-    ensures { OnOk result (RoutesLeadHome world.now →
+    ensures homes { OnOk result (RoutesLeadHome world.now →
         out.new.items ≡ out.old.items ++ flat_map (λ e. home_of defs.now world.now e.1) residents.now.entries) }
+    ensures ghosts { OnOk result (RoutesLeadHome world.now →
+        ghosts.new.items ≡ ghosts.old.items ++ flat_map (λ e. ghosts_of world.now e.1) residents.now.entries) }
 {
     let mut near = Some(0);
     for (_, resident) in residents {
-        near = push_home_of(out, defs, near, resident, world)?;
+        near = push_home_of(out, ghosts, defs, near, resident, world)?;
+    }
+    Ok(())
+}
+
+// A line for a cell, where the entity's real has it as a haunt.
+fn push_haunt(out: &mut Vec<u8>, entity: u32, real: &Real, cell: u8) -> Result<(), AllocError>
+    ensures { OnOk result (out.new.items ≡ out.old.items ++ flat_map ghost_text (haunt_line entity real.now.core cell)) }
+{
+    if !real.haunts().holds(cell) {
+        return Ok(());
+    }
+    push_ghost(out, entity, cell, real.public_version())
+}
+
+fn push_haunts(out: &mut Vec<u8>, entity: u32, real: &Real) -> Result<(), AllocError>
+    ensures { OnOk result (out.new.items ≡ out.old.items ++ flat_map ghost_text (flat_map (haunt_line entity real.now.core) cell_numbers)) }
+{
+    for cell in 0..MOST_CELLS as u8 {
+        push_haunt(out, entity, real, cell)?;
     }
     Ok(())
 }
@@ -162,59 +189,6 @@ fn push_bases(
 {
     for (_, resident) in residents {
         push_base_of(out, defs, resident, world)?;
-    }
-    Ok(())
-}
-
-// ---- ghosts
-
-// A line for a cell, where the entity's real has it as a haunt.
-fn push_haunt(out: &mut Vec<u8>, entity: u32, real: &Real, cell: u8) -> Result<(), AllocError>
-    ensures { OnOk result (out.new.items ≡ out.old.items ++ flat_map ghost_text (haunt_line entity real.now.core cell)) }
-{
-    if !real.haunts().holds(cell) {
-        return Ok(());
-    }
-    push_ghost(out, entity, cell, real.public_version())
-}
-
-fn push_haunts(out: &mut Vec<u8>, entity: u32, real: &Real) -> Result<(), AllocError>
-    ensures { OnOk result (out.new.items ≡ out.old.items ++ flat_map ghost_text (flat_map (haunt_line entity real.now.core) cell_numbers)) }
-{
-    for cell in 0..MOST_CELLS as u8 {
-        push_haunt(out, entity, real, cell)?;
-    }
-    Ok(())
-}
-
-// The lines of a resident's ghosts, and the cell to look in for the next one.
-fn push_ghosts_of(
-    out: &mut Vec<u8>,
-    near: Option<u8>,
-    resident: &Resident,
-    world: &World,
-) -> Result<Option<u8>, AllocError>
-    ensures { OnOk result (RoutesLeadHome world.now → out.new.items ≡ out.old.items ++ ghosts_of world.now resident.now) }
-{
-    let entity = resident.made.entity;
-    let Some((cell, parcel)) = home(world, near, entity) else {
-        return Ok(near);
-    };
-    push_haunts(out, entity, &parcel.real)?;
-    Ok(near_after(near, cell))
-}
-
-fn push_ghosts(
-    out: &mut Vec<u8>,
-    residents: &BTreeMap<u32, Resident>,
-    world: &World,
-) -> Result<(), AllocError>
-    ensures { OnOk result (RoutesLeadHome world.now →
-        out.new.items ≡ out.old.items ++ flat_map (λ e. ghosts_of world.now e.1) residents.now.entries) }
-{
-    let mut near = Some(0);
-    for (_, resident) in residents {
-        near = push_ghosts_of(out, near, resident, world)?;
     }
     Ok(())
 }

@@ -1,10 +1,10 @@
-use Rattle.std.proofs.Common.{◌≡◌, ◌++◌, List, sym, ap, ◌∙◌, subst}
+use Rattle.std.proofs.Common.{◌≡◌, ◌++◌, ℕ, List, sym, ap, ◌∙◌, subst}
 use Rattle.std.specs.List.{flat_map}
 use Rattle.std.proofs.lemmas.Result.{on_ok_weaker}
 use Rattle.seam_defs.specs.declared.types.TypeDef.{TypeDef}
 use Rattle.seam_rules.specs.Texts.{client_text}
 use Rattle.seam_played.specs.Playing.{data_of}
-use Rattle.seam_print.specs.Texts.{ends_text, shown_of}
+use Rattle.seam_print.specs.Texts.{ends_text, ghosts_of, shown_of}
 use Rattle.seam_print.proofs.Pieces.{ends_written}
 use Rattle.seam_print.proofs.ends.write_ends.Goals as goal
 
@@ -22,11 +22,15 @@ returns c =
     let shown = subst (λ (ds : List TypeDef). flat_map (shown_of ds kept v) rs ≡ flat_map (client_text ds) d.shown) (sym is.defs)
     (law.shown h s tree w v p c.args.bounds.now rs is.present kept farewells) in
     let routes = (law.routes h s tree w v p).1 in
+    let ghosts = c.in_ok-extend_from_slice.ensures.items
+    ∙ ap (λ (l : List ℕ). c.push_bases.new.out.items ++ l)
+    (c.deref.ensures.value ∙ c.in_ok-push_homes.ensures.ghosts routes
+    ∙ ap (λ (l : List ℕ). l ++ flat_map (λ x. ghosts_of v x.1) c.by_number-residents.result.now.entries) c.new-ghosts.ensures.items) in
     ends_written c.by_number-residents.result.now rs c.by_number-residents.ensures.list round.defs.now d first v kept round.number
     is.number (law.homes h s tree w v p c.args.bounds.now rs is.present) (law.bases h s tree w v p c.args.bounds.now rs is.present)
     (law.ghosts h s tree w v p c.args.bounds.now rs is.present) shown c.push_homes.new.out.items c.push_bases.new.out.items
-    c.push_ghosts.new.out.items c.push_clients.new.out.items c.push_tree.new.out.items c.push_number_line.new.out.items
-    (c.in_ok-push_homes.ensures routes) c.in_ok-push_bases.ensures (c.in_ok-push_ghosts.ensures routes) c.in_ok-push_clients.ensures
+    c.extend_from_slice.new.self.items c.push_clients.new.out.items c.push_tree.new.out.items c.push_number_line.new.out.items
+    (c.in_ok-push_homes.ensures.homes routes) c.in_ok-push_bases.ensures ghosts c.in_ok-push_clients.ensures
     c.in_ok-push_tree.ensures last
     ∙ ap (λ (ds : List TypeDef). first ++ ends_text ds d) is.defs)
     c.push_number_line.ensures
