@@ -120,9 +120,10 @@ pub fn push_ghost(out: &mut Vec<u8>, entity: u32, cell: u8, version: u64) -> Res
     ensures { OnOk result (out.new.items ≡ out.old.items
         ++ ghost_text (record { entity = entity; cell = cell; version = version })) }
 {
-    out.extend_from_slice(b"ghost ")?;
-    push_number(out, u64::from(entity))?;
-    push_field(out, u64::from(cell))?;
-    push_field(out, version)?;
-    out.extend_from_slice(b"\n")
+    let mut text = [b'\n'; 3 * LONGEST_FIELD + 1];
+    let at = write_field(version, &mut text, 3 * LONGEST_FIELD);
+    let at = write_field(u64::from(cell), &mut text, at);
+    let at = write_field(u64::from(entity), &mut text, at);
+    out.extend_from_slice(b"ghost")?;
+    out.extend_from_slice(&text[at..])
 }

@@ -5,10 +5,9 @@ ghost use Rattle.seam_defs.specs.declared.flags.Group.TheVariants as group;
 ghost use Rattle.seam_transcript.specs.Texts.{field};
 ghost use Rattle.seam_rules.specs.Texts.{state_text, shown_text, told_text, client_text};
 
-use crate::values::push_field;
+use crate::values::{LONGEST_FIELD, push_field, write_field};
 use seam_call::{ClientText, GhostCopy, Line, Shown};
 use seam_defs::{Defs, Group, State, TypeDef};
-use seam_value::push_number;
 use std::alloc::AllocError;
 
 /// Appends a line that the client of an entity of a type is shown.
@@ -22,9 +21,11 @@ pub fn push_client(
     ensures { OnOk result (out.new.items ≡ out.old.items
         ++ client_text defs.now (record { entity = entity; ty = ty; line = line.now })) }
 {
-    out.extend_from_slice(b"to ")?;
-    push_number(out, u64::from(entity))?;
-    push_field(out, line.number)?;
+    let mut text = [0; 2 * LONGEST_FIELD];
+    let at = write_field(line.number, &mut text, 2 * LONGEST_FIELD);
+    let at = write_field(u64::from(entity), &mut text, at);
+    out.extend_from_slice(b"to")?;
+    out.extend_from_slice(&text[at..])?;
     push_told(out, defs, ty, &line.text)?;
     out.extend_from_slice(b"\n")
 }
@@ -50,8 +51,7 @@ fn push_shown(out: &mut Vec<u8>, defs: &Defs, ty: u16, shown: &Shown) -> Result<
     match shown {
         Shown::Own(version, state) => {
             out.extend_from_slice(b" own")?;
-            push_field(out, *version)?;
-            push_state(out, defs.type_at(ty), Group::Own, state)
+            push_state(out, *version, defs.type_at(ty), Group::Own, state)
         }
         Shown::Enter(entity, copy) => {
             out.extend_from_slice(b" enter")?;
@@ -77,20 +77,29 @@ fn push_copy(out: &mut Vec<u8>, defs: &Defs, copy: &GhostCopy) -> Result<(), All
     ensures { OnOk result (out.new.items ≡ out.old.items
         ++ field copy.now.version ++ state_text (type_of defs.now copy.now.ty) group.Other copy.now.state) }
 {
-    push_field(out, copy.version)?;
-    push_state(out, defs.type_at(copy.ty), Group::Other, &copy.state)
+    push_state(
+        out,
+        copy.version,
+        defs.type_at(copy.ty),
+        Group::Other,
+        &copy.state,
+    )
 }
 
-// A position, and the values of a group.
+// A version, a position, and the values of a group.
 fn push_state(
     out: &mut Vec<u8>,
+    version: u64,
     t: &TypeDef,
     values: Group,
     state: &State,
 ) -> Result<(), AllocError>
-    ensures { OnOk result (out.new.items ≡ out.old.items ++ state_text t.now values state.now) }
+    ensures { OnOk result (out.new.items ≡ out.old.items ++ field version ++ state_text t.now values state.now) }
 {
-    push_field(out, u64::from(state.pos.x))?;
-    push_field(out, u64::from(state.pos.z))?;
+    let mut text = [0; 3 * LONGEST_FIELD];
+    let at = write_field(u64::from(state.pos.z), &mut text, 3 * LONGEST_FIELD);
+    let at = write_field(u64::from(state.pos.x), &mut text, at);
+    let at = write_field(version, &mut text, at);
+    out.extend_from_slice(&text[at..])?;
     t.write_props(values, &state.props, out)
 }

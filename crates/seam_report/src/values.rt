@@ -9,6 +9,7 @@ ghost use Rattle.seam_transcript.specs.Texts.{field, deed_text};
 use itoa::write_digits;
 use seam_call::Sender;
 use seam_defs::{Deed, TypeDef};
+use seam_geo::Pos;
 use seam_value::{Value, push_number};
 use std::alloc::AllocError;
 
@@ -16,8 +17,19 @@ use std::alloc::AllocError;
 pub(crate) fn push_field(out: &mut Vec<u8>, number: u64) -> Result<(), AllocError>
     ensures { OnOk result (out.new.items ≡ out.old.items ++ field number) }
 {
-    out.extend_from_slice(b" ")?;
-    push_number(out, number)
+    let mut text = [0; LONGEST_FIELD];
+    let at = write_field(number, &mut text, LONGEST_FIELD);
+    out.extend_from_slice(&text[at..])
+}
+
+// The numbers of a position, gathered from the last to the first and appended at once.
+fn push_pos(out: &mut Vec<u8>, pos: Pos) -> Result<(), AllocError>
+    ensures { OnOk result (out.new.items ≡ out.old.items ++ field pos.x ++ field pos.z) }
+{
+    let mut text = [0; 2 * LONGEST_FIELD];
+    let at = write_field(u64::from(pos.z), &mut text, 2 * LONGEST_FIELD);
+    let at = write_field(u64::from(pos.x), &mut text, at);
+    out.extend_from_slice(&text[at..])
 }
 
 // The room that the longest field takes.
@@ -58,8 +70,7 @@ pub(crate) fn push_deed(out: &mut Vec<u8>, t: &TypeDef, deed: &Deed) -> Result<(
     match deed {
         Deed::Move(to) => {
             out.extend_from_slice(b" move")?;
-            push_field(out, u64::from(to.x))?;
-            push_field(out, u64::from(to.z))
+            push_pos(out, *to)
         }
         Deed::Method(method, args) => {
             out.extend_from_slice(b" ")?;
