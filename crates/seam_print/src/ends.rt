@@ -1,7 +1,8 @@
 //! What a round leaves, and what clients were shown in it.
 
-ghost use Rattle.std.specs.Prelude.{◌≡◌, ◌++◌, map, OnOk, IfOk, Option};
+ghost use Rattle.std.specs.Prelude.{◌≡◌, ◌++◌, ◌∷◌, [], if◌then◌else◌, map, OnOk, IfOk, Option};
 ghost use Rattle.std.specs.List.{flat_map};
+ghost use Rattle.std.specs.FinSet as set;
 ghost use Rattle.seam_tree.specs.Division.{Division};
 ghost use Rattle.seam_entity.specs.Reals.{RealView};
 ghost use Rattle.seam_steps.specs.Nodes.{World as AnyWorld};
@@ -11,7 +12,7 @@ ghost use Rattle.seam_rules.specs.Texts.{ghost_text, bounds_text};
 ghost use Rattle.seam_entity.specs.Here.{cell_numbers};
 ghost use Rattle.seam_played.specs.Playing.{IsPlayed, data_of};
 ghost use Rattle.seam_print.specs.Residents.{ArePresent};
-ghost use Rattle.seam_print.specs.Finding.{RoutesLeadHome, haunt_line, positions_found};
+ghost use Rattle.seam_print.specs.Finding.{RoutesLeadHome, ghost_line, haunt_line, positions_found};
 ghost use Rattle.seam_print.specs.Farewells.{AreFarewells};
 ghost use Rattle.seam_print.specs.Printing.{IsOpenRound};
 ghost use Rattle.seam_print.specs.Texts.{ends_text, home_of, base_of, ghosts_of, shown_of};
@@ -28,7 +29,7 @@ use seam_geo::Pos;
 use seam_report::{
     BaseLine, HomeLine, push_base, push_bounds, push_ghost, push_home, push_number_line,
 };
-use seam_tree::{MOST_CELLS, Tree};
+use seam_tree::{CellSet, MOST_CELLS, Tree};
 use std::alloc::{AllocError, Global};
 use std::collections::BTreeMap;
 
@@ -137,21 +138,29 @@ fn push_homes(
     Ok(())
 }
 
-// A line for a cell, where the entity's real has it as a haunt.
-fn push_haunt(out: &mut Vec<u8>, entity: u32, real: &Real, cell: u8) -> Result<(), AllocError>
-    ensures { OnOk result (out.new.items ≡ out.old.items ++ flat_map ghost_text (haunt_line entity real.now.core cell)) }
+// A line for a cell, where it is one of the haunts.
+fn push_haunt(
+    out: &mut Vec<u8>,
+    entity: u32,
+    version: u64,
+    haunts: CellSet,
+    cell: u8,
+) -> Result<(), AllocError>
+    ensures { OnOk result (out.new.items ≡ out.old.items
+        ++ flat_map ghost_text (if set.contains haunts cell then ghost_line entity version cell ∷ [] else [])) }
 {
-    if !real.haunts().holds(cell) {
+    if !haunts.holds(cell) {
         return Ok(());
     }
-    push_ghost(out, entity, cell, real.public_version())
+    push_ghost(out, entity, cell, version)
 }
 
 fn push_haunts(out: &mut Vec<u8>, entity: u32, real: &Real) -> Result<(), AllocError>
     ensures { OnOk result (out.new.items ≡ out.old.items ++ flat_map ghost_text (flat_map (haunt_line entity real.now.core) cell_numbers)) }
 {
+    let (version, haunts) = (real.public_version(), real.haunts());
     for cell in 0..MOST_CELLS as u8 {
-        push_haunt(out, entity, real, cell)?;
+        push_haunt(out, entity, version, haunts, cell)?;
     }
     Ok(())
 }

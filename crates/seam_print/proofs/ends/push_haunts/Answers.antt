@@ -1,9 +1,11 @@
-use Rattle.std.proofs.Common.{◌++◌, ℕ, ◌+◌, List, sym, ap, ◌∙◌, append_assoc, add-one, arith, ◌≡◌}
+use Rattle.std.proofs.Common.{◌++◌, ℕ, ◌+◌, List, [], ◌∷◌, sym, ap, ◌∙◌, append_assoc, add-one, arith, ◌≡◌}
+use Rattle.std.specs.Prelude.{if◌then◌else◌}
+use Rattle.std.specs.FinSet as set
 use Rattle.std.specs.List.{flat_map, range_with_len}
 use Rattle.std.proofs.lemmas.List.Concat.{flat_map-append}
 use Rattle.seam_rules.specs.Lines.{GhostLine}
 use Rattle.seam_rules.specs.Texts.{ghost_text}
-use Rattle.seam_print.specs.Finding.{haunt_line}
+use Rattle.seam_print.specs.Finding.{haunt_line, ghost_line}
 use Rattle.seam_print.proofs.Gathering.{next_in_range}
 use Rattle.seam_print.proofs.ends.push_haunts.Goals as goal
 
@@ -14,7 +16,9 @@ loop-cell-preserved c =
     let first = c.args.out.now.items in
     let before = flat_map line (range_with_len 0 n) in
     let number : 0 + n ≡ n = omega arith in
-    c.in_ok-push_haunt.ensures
+    (c.in_ok-push_haunt.ensures
+    ∙ (λ i. c.loop-cell.out.items ++ flat_map ghost_text
+    (if set.contains (c.haunts-haunts.ensures i) n then ghost_line c.args.entity (c.public_version-version.ensures i) n ∷ [] else [])))
     ∙ ap (λ l. l ++ flat_map ghost_text (line n)) c.loop-cell.invariant
     ∙ append_assoc first (flat_map ghost_text before) (flat_map ghost_text (line n))
     ∙ ap (λ l. first ++ l)
