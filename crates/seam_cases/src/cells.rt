@@ -109,7 +109,7 @@ const SEAMLESS: &str =
     call b2 1 heal 1\nsync\n";
 
 // Fifteen cuts.
-const SIXTEEN: &str =
+pub const SIXTEEN: &str =
     "cut 0 x 9000\ncut 0 x 8500\ncut 0 x 8000\ncut 0 x 7500\ncut 0 x 7000\ncut 0 x 6500\ncut 0 x 6000\n\
     cut 0 x 5500\ncut 0 x 5000\ncut 0 x 4500\ncut 0 x 4000\ncut 0 x 3500\ncut 0 x 3000\ncut 0 x 2500\ncut 0 x 2000\n";
 
@@ -121,7 +121,7 @@ const BOTH: [&str; 3] = [
 ];
 
 // The parts of a script, one after another.
-fn joined(alloc: Global, parts: &[&str]) -> Result<String, AllocError> {
+pub fn joined(alloc: Global, parts: &[&str]) -> Result<String, AllocError> {
     let mut script = String::from_str(alloc, "")?;
     for part in parts {
         script.push_str(part)?;

@@ -6,7 +6,13 @@ mod cells;
 #[cfg(test)]
 mod faults;
 #[cfg(test)]
+mod forty;
+#[cfg(test)]
+mod four_cells;
+#[cfg(test)]
 mod headers;
+#[cfg(test)]
+mod progress;
 #[cfg(test)]
 mod rows;
 #[cfg(test)]
