@@ -60,7 +60,8 @@ fn play(rt: &impl Abort, alloc: Global, trial: &mut Trial, turns: &[Turn]) -> Re
     Ok(())
 }
 
-fn early_call(alloc: Global) -> Result<Trial, Fail> {
+// The avatar is moved to cell 1 while calls of another base node are on their way to it.
+pub fn early_call(alloc: Global) -> Result<Trial, Fail> {
     let mut tree = Tree::one(10_000);
     let _ = tree.cut(0, Axis::X, 5000);
     let orders = vec![in alloc;

@@ -13,6 +13,8 @@ mod orders;
 #[cfg(test)]
 mod seen;
 mod trial;
+#[cfg(test)]
+mod workers;
 
 pub use first::may_begin;
 pub use orders::{hit, pass_on};
