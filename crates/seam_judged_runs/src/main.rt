@@ -1,19 +1,22 @@
 //! Runs scripts, and judges what is printed of them by the plain judge: the scripts that it reads from standard input, and scripts that it
-//! makes from seeds, some with rounds so large that threads play them, and some with the steps of their rounds. It prints a line for each
-//! script that is read, with the name before it, then what is wrong of made ones, and then a line for each error that it plants in what
-//! was printed, which the judge has to refuse wherever it is planted.
+//! makes from seeds, some with rounds so large that threads play them, and some with the steps of their rounds, by which it plays them anew
+//! on a world of its own. It prints a line for each script that is read, with the name before it, then what is wrong of made ones, and then
+//! a line for each error that it plants in what was printed, which the judge has to refuse wherever it is planted, or in steps.
 #![tactic(auto)]
 
 mod draws;
 mod judged;
 mod kinds;
 mod planted;
+mod replay;
 mod runs;
 mod scripts;
+mod stage;
 
 use crate::judged::wrong_in;
 use crate::kinds::{EXACT, KINDS};
-use crate::planted::{PLANTS, Plant};
+use crate::planted::{PLANTS, Plant, with_step_later, without_step};
+use crate::replay::replay;
 use crate::runs::{printed_of, traced_of};
 use crate::scripts::{large_script_of, script_of};
 use std::alloc::{AllocError, Global};
@@ -29,6 +32,11 @@ const PLANTED: u64 = 3;
 // How many scripts with a large round are made for each kind of world.
 const LARGE: u64 = 3;
 
+// A script with steps in all three phases: calls of two senders meet at an entity that leaves its cell, and one dies.
+const CROSSING: &str =
+    "%%\ncut 0 x 5000\ncreate 1 Avatar 4900 100\ncreate 2 Avatar 5100 100\nclient 2\ncall b1 1 hit 30\n\
+    call b2 1 heal 5\nmove b1 1 5200 100\ndestroy 2\nsync\n";
+
 fn main(rt: HostRuntime) -> io::Result<()> {
     let alloc = rt.alloc();
     let text = io::read_to_string(alloc, rt.reader())?;
@@ -37,6 +45,8 @@ fn main(rt: HostRuntime) -> io::Result<()> {
         let verdict = verdict_on(&rt, alloc, script)?;
         println!(rt; "{name}: {verdict}")?;
     }
+    let verdict = verdict_on_replayed(&rt, alloc, text.trim_end())?;
+    println!(rt; "all of these, by their steps: {verdict}")?;
     let verdict = verdict_on_made(&rt, alloc)?;
     println!(rt; "made from seeds: {verdict}")?;
     let verdict = verdict_on_large(&rt, alloc)?;
@@ -47,6 +57,10 @@ fn main(rt: HostRuntime) -> io::Result<()> {
         let verdict = verdict_on_plant(&rt, alloc, plant)?;
         println!(rt; "{}: {verdict}", plant.name)?;
     }
+    let verdict = verdict_on_fewer_steps(&rt, alloc)?;
+    println!(rt; "a step left out: {verdict}")?;
+    let verdict = verdict_on_other_order(&rt, alloc)?;
+    println!(rt; "two steps of a node exchanged: {verdict}")?;
     Ok(())
 }
 
@@ -69,6 +83,22 @@ fn verdict_on<R: Threads + Wait + Sync>(
         None => String::from_str(alloc, "legal"),
         Some(wrong) => format!(in alloc; "{wrong:?}"),
     }
+}
+
+// What comes of the scripts that are read, with their steps: the first that is not legal.
+fn verdict_on_replayed<R: Threads + Wait + Sync>(
+    rt: &R,
+    alloc: Global,
+    text: &str,
+) -> Result<String, AllocError> {
+    for block in text.split("\n\n") {
+        let (name, script) = halves(block);
+        let verdict = verdict_on_steps(rt, alloc, script)?;
+        if verdict.as_str() != "legal" {
+            return format!(in alloc; "{name}: {verdict}");
+        }
+    }
+    String::from_str(alloc, "legal")
 }
 
 // What comes of the scripts that are made: the first that is not legal.
@@ -97,8 +127,8 @@ fn verdict_on_large<R: Threads + Wait + Sync>(rt: &R, alloc: Global) -> Result<S
     String::from_str(alloc, "legal")
 }
 
-// What comes of scripts that are run with a trace, large rounds among them: the first that is not legal, or has other steps than the watch
-// was told.
+// What comes of scripts that are run with a trace, large rounds among them: the first that is not legal, has other steps than the watch was
+// told, or prints something else when these are made anew.
 fn verdict_on_traced<R: Threads + Wait + Sync>(
     rt: &R,
     alloc: Global,
@@ -122,9 +152,12 @@ fn verdict_on_steps<R: Threads + Wait + Sync>(
     script: &str,
 ) -> Result<String, AllocError> {
     let (printed, log) = traced_of(rt, alloc, script)?;
-    match wrong_in(alloc, script, printed.as_bytes(), Some(&log))? {
-        None => String::from_str(alloc, "legal"),
-        Some(wrong) => format!(in alloc; "{wrong:?}"),
+    if let Some(wrong) = wrong_in(alloc, script, printed.as_bytes(), Some(&log))? {
+        return format!(in alloc; "{wrong:?}");
+    }
+    match replay(alloc, script, printed.as_bytes()) {
+        Ok(()) => String::from_str(alloc, "legal"),
+        Err(unlike) => format!(in alloc; "{unlike:?}"),
     }
 }
 
@@ -146,4 +179,35 @@ fn verdict_on_plant<R: Threads + Wait + Sync>(
         }
     }
     String::from_str(alloc, if refused { "refused" } else { "nowhere" })
+}
+
+// What comes of a script's steps with each of them left out in turn.
+fn verdict_on_fewer_steps<R: Threads + Wait + Sync>(
+    rt: &R,
+    alloc: Global,
+) -> Result<String, AllocError> {
+    let (printed, _) = traced_of(rt, alloc, CROSSING)?;
+    for place in 0..printed.as_bytes().len() {
+        let Some(changed) = without_step(alloc, printed.as_str(), place)? else {
+            return String::from_str(alloc, if place == 0 { "nowhere" } else { "refused" });
+        };
+        if replay(alloc, CROSSING, changed.as_bytes()).is_ok() {
+            return format!(in alloc; "legal at {place}");
+        }
+    }
+    String::from_str(alloc, "nowhere")
+}
+
+// What comes of a script in which calls of two senders come to a cell in the other order: this is a play too, which has another text.
+fn verdict_on_other_order<R: Threads + Wait + Sync>(
+    rt: &R,
+    alloc: Global,
+) -> Result<String, AllocError> {
+    let script = "%%\ncreate 1 Avatar 100 100\ncall b1 1 hit 30\ncall b2 1 heal 5\nsync\n";
+    let (printed, _) = traced_of(rt, alloc, script)?;
+    let changed = with_step_later(alloc, printed.as_str(), "step 0 from 16", "step 0 from 17")?;
+    match replay(alloc, script, changed.as_bytes()) {
+        Ok(()) => String::from_str(alloc, "legal"),
+        Err(unlike) => format!(in alloc; "{unlike:?}"),
+    }
 }

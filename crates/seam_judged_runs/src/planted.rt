@@ -145,3 +145,51 @@ fn raised(alloc: Global, line: &str, place: usize) -> Result<String, AllocError>
     }
     Ok(changed)
 }
+
+/// What was printed without the step at this place among all steps; `None` where there are no more than so many.
+pub(crate) fn without_step(
+    alloc: Global,
+    printed: &str,
+    place: usize,
+) -> Result<Option<String>, AllocError> {
+    let mut text = String::new(alloc);
+    let mut steps = 0usize;
+    for line in printed.trim_end().split('\n') {
+        let is_step = first_word(line) == "step";
+        if !is_step || steps != place {
+            push_line(&mut text, line)?;
+        }
+        if is_step {
+            steps = steps.saturating_add(1);
+        }
+    }
+    if place < steps {
+        Ok(Some(text))
+    } else {
+        Ok(None)
+    }
+}
+
+/// What was printed with one line, where it comes first, behind another that comes later.
+pub(crate) fn with_step_later(
+    alloc: Global,
+    printed: &str,
+    step: &str,
+    before: &str,
+) -> Result<String, AllocError> {
+    let mut text = String::new(alloc);
+    let mut left_out = false;
+    let mut put = false;
+    for line in printed.trim_end().split('\n') {
+        if !left_out && line == step {
+            left_out = true;
+            continue;
+        }
+        push_line(&mut text, line)?;
+        if left_out && !put && line == before {
+            put = true;
+            push_line(&mut text, step)?;
+        }
+    }
+    Ok(text)
+}
