@@ -21,9 +21,7 @@ fn one_line_has_its_summary(rt: HostRuntime) -> Result<(), Fail> {
 }
 
 #[test]
-fn the_summary_is_one_with_any_workers_and_each_round_is_told(
-    rt: HostRuntime,
-) -> Result<(), Fail> {
+fn the_summary_is_one_with_any_workers_and_each_round_is_told(rt: HostRuntime) -> Result<(), Fail> {
     let runs = [
         ["--storm", "2500", "--workers", "1", "--turns", "1000"],
         ["--storm", "2500", "--workers", "4", "--turns", "100000"],
@@ -50,10 +48,7 @@ fn a_trace_changes_no_summary(rt: HostRuntime) -> Result<(), Fail> {
 
 #[test]
 fn a_sink_that_fails_has_a_part_of_the_summary(rt: HostRuntime) -> Result<(), Fail> {
-    let streams = Streams {
-        limit: 8,
-        ..GOOD
-    };
+    let streams = Streams { limit: 8, ..GOOD };
     let words = ["--storm", "1"];
     let (status, out) = run_watched(&rt, rt.alloc(), &words, NO_HEADER, streams, &mut NoWatch)?;
     assert_eq!(rt; status, Status::WriteFault);

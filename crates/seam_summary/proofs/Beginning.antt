@@ -19,15 +19,19 @@ after_header n = drop 3 (text_of_storm n)
 
 pub storm_begins : (n : ℕ) → (h : Header) × (rest : List Line) × BeginWithHeader (lines_of (text_of_storm n)) h 1 rest
 unfolding after_header
-storm_begins n = (plain_header, lines_of (after_header n), record {
-  head = [];
-  text = [];
-  are = record { contents = []; are = refl; none_ends = All-nil (λ content. Content content ≢ separator); whole = refl; most = omega arith };
-  reads = nothing_is_read;
-  number = refl;
-  whole = lines_of-fed (codes "%%") (after_header n) (no_feed_append (37 ∷ []) (37 ∷ []) (no_feed_one 37 refl) (no_feed_one 37 refl)) 
-      ∙ ap (λ (l : Line). l ∷ lines_of (after_header n)) (line_of-short (codes "%%") (omega arith));
-})
+storm_begins n = (
+  plain_header,
+  lines_of (after_header n),
+  record {
+    head = [];
+    text = [];
+    are = record { contents = []; are = refl; none_ends = All-nil (λ content. Content content ≢ separator); whole = refl; most = omega arith };
+    reads = nothing_is_read;
+    number = refl;
+    whole = lines_of-fed (codes "%%") (after_header n) (no_feed_append (37 ∷ []) (37 ∷ []) (no_feed_one 37 refl) (no_feed_one 37 refl))
+        ∙ ap (λ (l : Line). l ∷ lines_of (after_header n)) (line_of-short (codes "%%") (omega arith));
+  },
+)
 
 -- ---- how long it is
 

@@ -123,23 +123,26 @@ module _ (o : Output) (h : Header) (t : Standing) (old new : Script) (ready : Is
           sees_all = sees_all _ after;
         };
         whole = refl;
-        after = (record {
-          has = record {
-            header = header ∙ ready.has.header;
-            world = left.world;
-            is = world;
-            of_standing = plays t after ready.has.world left.world _ left.journal ready.has.of_standing so;
-            tree = tree_of t.book;
-            goes_on = right.1;
-            residents =
-                subst (AreResidents (as_begun after.book)) (sym live)
-                (next_book (λ b. AreResidents (as_begun b) residents) (with_round_ended t.book) has.residents_ (λ u. has.residents_) left.bounds);
-            round = round ∙ ap (λ (n : ℕ). n + 1) ready.has.round;
-          };
-          book = book;
-          line = line ∙ ready.line;
-          most = ready.may.all;
-          below_most =
-              next_book (λ b. open_lines b < MOST_LINES) (with_round_ended t.book) (omega arith) (λ u. omega arith) left.bounds;
-        }, counted o t _ left.journal old.totals new.totals left.sums adds has.sums);
+        after = (
+          record {
+            has = record {
+              header = header ∙ ready.has.header;
+              world = left.world;
+              is = world;
+              of_standing = plays t after ready.has.world left.world _ left.journal ready.has.of_standing so;
+              tree = tree_of t.book;
+              goes_on = right.1;
+              residents =
+                  subst (AreResidents (as_begun after.book)) (sym live)
+                  (next_book (λ b. AreResidents (as_begun b) residents) (with_round_ended t.book) has.residents_ (λ u. has.residents_) left.bounds);
+              round = round ∙ ap (λ (n : ℕ). n + 1) ready.has.round;
+            };
+            book = book;
+            line = line ∙ ready.line;
+            most = ready.may.all;
+            below_most =
+                next_book (λ b. open_lines b < MOST_LINES) (with_round_ended t.book) (omega arith) (λ u. omega arith) left.bounds;
+          },
+          counted o t _ left.journal old.totals new.totals left.sums adds has.sums,
+        );
       }

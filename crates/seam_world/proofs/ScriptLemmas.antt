@@ -104,13 +104,16 @@ module _ (h : Header) (t : Standing) where
   refused_line goes line c old new was header world residents round counted most book totals judges o =
       let number : new.line ≡ t.lines + 1 = counted ∙ ap (λ (n : ℕ). n + 1) was.line in
       subst (λ (n : ℕ). LineRead o h t line (Refines o h old new) (refusal_output o n c) []) (sym number)
-      (refused o h t line c (Refines o h old new) judges (record {
-        has = with_line_read goes new (same_world h t old new was.has header world residents round);
-        book = subst (HoldsBook h t.book) (sym book) was.book;
-        line = number;
-        most = omega (arith, number, most);
-        below_most = was.below_most;
-      }, refusal_counted o (t.lines + 1) c old.totals new.totals totals))
+      (refused o h t line c (Refines o h old new) judges (
+        record {
+          has = with_line_read goes new (same_world h t old new was.has header world residents round);
+          book = subst (HoldsBook h t.book) (sym book) was.book;
+          line = number;
+          most = omega (arith, number, most);
+          below_most = was.below_most;
+        },
+        refusal_counted o (t.lines + 1) c old.totals new.totals totals,
+      ))
 
   -- the book answered a line that the script has counted
   pub has_accepted : (line : Line) (a : Accepted) (old new : Script) → ScriptRefines h t old → new.header ≡ old.header →

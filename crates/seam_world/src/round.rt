@@ -243,15 +243,7 @@ pub fn play<G: Gate + Sync, R: Threads + Wait + Sync>(
     let ended = run_ends(rt, alloc, called, &playing.workers)?;
     let shift = header.settings.balance_shift;
     let bounds = balanced(alloc, asked, &tree, round.present, &ended.world, shift)?;
-    let sums = give_round(
-        out,
-        playing.output,
-        &round,
-        &taken,
-        &kept,
-        &ended,
-        &bounds,
-    )?;
+    let sums = give_round(out, playing.output, &round, &taken, &kept, &ended, &bounds)?;
     residents.end(ended.destroys.as_slice());
     Ok(Played {
         world: ended.world,

@@ -222,12 +222,7 @@ fn with_sums(totals: Totals, sums: &Option<Sums>) -> Result<Totals, AllocError>
 }
 
 // Appends the refusal of a line, where texts are given.
-fn refuse(
-    output: Output,
-    line: u64,
-    cause: Cause,
-    out: &mut Vec<u8>,
-) -> Result<(), AllocError>
+fn refuse(output: Output, line: u64, cause: Cause, out: &mut Vec<u8>) -> Result<(), AllocError>
     ensures { OnOk result (out.new.items ≡ out.old.items ++ refusal_output output line cause) }
 {
     match output {

@@ -57,9 +57,9 @@ returns-else-count-eq-MOST_LINES g c = λ h t line accepted.
       [],
       kept_open c.args.playing.now.output h (with_line t) line was.answered.0
           (Refines c.args.playing.now.output h c.args.self.now c.args.self.now) was.answered.1 open_ (
-        kept_refines h t (c.a_course_begins_and_goes_on.ensures.entry h t) line c.args.self.now was open_,
-        no_pieces_counted c.args.playing.now.output _ _ refl,
-      ),
+            kept_refines h t (c.a_course_begins_and_goes_on.ensures.entry h t) line c.args.self.now was open_,
+            no_pieces_counted c.args.playing.now.output _ _ refl,
+          ),
       sym (append-nil c.args.out.now.items),
     )
 
@@ -80,8 +80,8 @@ returns-in-Skipped g c = λ h t line accepted.
       [],
       skipped c.args.playing.now.output h (with_line t) line (Refines c.args.playing.now.output h c.args.self.now c.args.self.now)
           was.answered.0 (
-        skipped_refines h t (c.a_course_begins_and_goes_on.ensures.line h t) line c.args.self.now was,
-        no_pieces_counted c.args.playing.now.output _ _ refl,
-      ),
+            skipped_refines h t (c.a_course_begins_and_goes_on.ensures.line h t) line c.args.self.now was,
+            no_pieces_counted c.args.playing.now.output _ _ refl,
+          ),
       sym (append-nil c.args.out.now.items),
     )
