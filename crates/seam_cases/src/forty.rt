@@ -35,8 +35,8 @@ fn start(avatar: u8) -> u32 {
 fn spot(round: u8, avatar: u8) -> (u32, u32) {
     match round {
         1 => (start(avatar), 5_100),
-        2 => (start(avatar) + 300, 5_100),
-        _ => (start(avatar) + 300, 2_900),
+        2 => (start(avatar).saturating_add(300), 5_100),
+        _ => (start(avatar).saturating_add(300), 2_900),
     }
 }
 
