@@ -24,10 +24,10 @@ const CELLS: u8 = 16;
 const NODES: u8 = 18;
 
 // How many calls of each base node an avatar gets.
-const CALLS: usize = 100;
+const CALLS: usize = 400;
 
 // How many events of a phase happen before workers are called.
-const ALONE: usize = 1024;
+const ALONE: usize = 8192;
 
 // No two cells have anything to do with each other.
 const HEADER: &str =

@@ -78,7 +78,7 @@ fn two_nodes_are_inside_their_steps_at_once(rt: HostRuntime) -> Result<(), Fail>
         inside: AtomicU64::new(0),
         given_up: AtomicU64::new(0),
     };
-    let script = many_calls(alloc, 2_000)?;
+    let script = many_calls(alloc, 6_000)?;
     let mut input = MemSource::new(
         script.as_bytes().to_vec(alloc)?,
         Vec::new(alloc),

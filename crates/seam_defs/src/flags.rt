@@ -73,18 +73,28 @@ impl Flag {
     pub fn in_group(self, group: Group) -> bool
         ensures { result ≡ in_group_of self group }
     {
-        match self {
-            Flag::Base => matches!(group, Group::Base),
-            Flag::BaseAndClient => matches!(group, Group::Base | Group::BaseClient),
-            Flag::CellPrivate => matches!(group, Group::Real),
-            Flag::CellPublic => matches!(group, Group::Real | Group::Ghost),
-            Flag::CellPublicAndOwn => matches!(group, Group::Real | Group::Ghost | Group::Own),
-            Flag::OwnClient => matches!(group, Group::Real | Group::Own),
-            Flag::OtherClients => matches!(group, Group::Real | Group::Ghost | Group::Other),
-            Flag::AllClients => matches!(
-                group,
-                Group::Real | Group::Ghost | Group::Own | Group::Other
+        // By the group first, which is the same for all properties of a type that is gone through.
+        match group {
+            Group::Real => matches!(
+                self,
+                Flag::CellPrivate
+                    | Flag::CellPublic
+                    | Flag::CellPublicAndOwn
+                    | Flag::OwnClient
+                    | Flag::OtherClients
+                    | Flag::AllClients
             ),
+            Group::Ghost => matches!(
+                self,
+                Flag::CellPublic | Flag::CellPublicAndOwn | Flag::OtherClients | Flag::AllClients
+            ),
+            Group::Own => matches!(
+                self,
+                Flag::CellPublicAndOwn | Flag::OwnClient | Flag::AllClients
+            ),
+            Group::Other => matches!(self, Flag::OtherClients | Flag::AllClients),
+            Group::Base => matches!(self, Flag::Base | Flag::BaseAndClient),
+            Group::BaseClient => matches!(self, Flag::BaseAndClient),
         }
     }
 }

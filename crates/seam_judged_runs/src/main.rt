@@ -30,7 +30,7 @@ const SEEDS: u64 = 10;
 const PLANTED: u64 = 3;
 
 // How many scripts with a large round are made for each kind of world.
-const LARGE: u64 = 3;
+const LARGE: u64 = 1;
 
 // A script with steps in all three phases: calls of two senders meet at an entity that leaves its cell, and one dies.
 const CROSSING: &str =

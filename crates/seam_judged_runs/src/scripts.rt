@@ -11,7 +11,7 @@ const ENTITIES: u32 = 12;
 const LINES: u32 = 60;
 
 // How many calls and moves a large round has.
-const CALLS: u32 = 1_000;
+const CALLS: u32 = 5_000;
 
 // Commands name cells and boundaries below this number.
 const CELLS: u32 = 5;

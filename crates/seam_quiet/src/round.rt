@@ -31,7 +31,7 @@ use std::sync::Wait;
 use std::thread::Threads;
 
 // How many events of a phase happen before workers are called: so many take less time than threads take to start.
-const MOST_ALONE: u32 = 1024;
+const MOST_ALONE: u32 = 8192;
 
 // Lets events of a net happen: the first of them here, and where more are left by the workers, if they are more than one.
 fn take_events<G: Gate + Sync, R: Threads + Wait + Sync>(
