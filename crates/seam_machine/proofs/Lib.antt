@@ -1,5 +1,6 @@
 pub mod Counting
 pub mod Flats
+pub mod Known
 pub mod LinkLemmas
 pub mod Occurring
 pub mod Parts

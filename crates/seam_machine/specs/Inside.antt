@@ -1,5 +1,5 @@
 -- What a net keeps of its fields.
-use Rattle.std.specs.Prelude.{◌≡◌, ℕ, ◌+◌, ◌<◌, ◌≤◌, Bool, true, false, List, [], ◌∷◌, ◌++◌, length, Option, Some, slice_index_or}
+use Rattle.std.specs.Prelude.{◌≡◌, ℕ, ◌+◌, ◌<◌, ◌≤◌, Bool, true, false, List, [], ◌∷◌, ◌++◌, length, map, Option, Some, slice_index_or}
 use Rattle.std.specs.Prelude.{slice_set}
 use Rattle.std.specs.List.{All}
 use Rattle.seam_machine.specs.Views.{Stepped, NetView}
@@ -78,3 +78,8 @@ pub record Feeds {N M : Type 0} (steps : N → Input M → Stepped N M) (k : ℕ
 pub record IsNet {N M : Type 0} (w : NetView N M) : Type 0 where
   pub few : length w.nodes < 256
   pub square : IsSquare w
+
+-- a place for each node, and where all were asked, whether its task is there
+pub record KnowsTasks {N : Type 0} (has_work : N → Bool) (nodes : List N) (asked : Bool) (tasks : List Bool) : Type 0 where
+  pub len : length tasks ≡ length nodes
+  pub known : asked ≡ true → tasks ≡ map has_work nodes

@@ -1,6 +1,6 @@
 //! The links of a net, and what waits for room in them.
 
-ghost use Rattle.std.specs.Prelude.{◌≡◌, ℕ, ◌+◌, ◌-◌, ◌<◌, ◌≤◌, ◌^◌, List, [], ◌∷◌, ◌++◌, length, true, Some, None, OnOk, OnErr, IfOk};
+ghost use Rattle.std.specs.Prelude.{◌≡◌, ◌≢◌, ℕ, ◌+◌, ◌-◌, ◌<◌, ◌≤◌, ◌^◌, List, [], ◌∷◌, ◌++◌, length, true, Some, None, OnOk, OnErr, IfOk};
 ghost use Rattle.std.specs.Prelude.{IfSome, IfNone, option_copied, slice_get, slice_index, slice_index_or, slice_set, vec_len};
 ghost use Rattle.std.specs.List.{All};
 ghost use Rattle.seam_machine.specs.Sends.{AllBelow};
@@ -149,6 +149,24 @@ impl<T> Links<T> {
         self.busy[at] == 0 && self.out.count_to(to) == 0
     }
 
+    // The node that sent last, where its link to that node is the only one that holds a message.
+    fn only_from(&self, to: u8) -> Option<u8>
+        ensures some { IfSome result (λ a. 0 < length (link self.now.rows a to)) }
+        ensures only { IfSome result (λ a. (c : ℕ) → c ≢ a → link self.now.rows c to ≡ []) }
+    {
+        let at = to as usize;
+        if at >= self.busy.len() {
+            return None;
+        }
+        if !self.out.is_empty() || self.busy[at] != 1 {
+            return None;
+        }
+        if self.rows[self.sender].len(at) == 0 {
+            return None;
+        }
+        Some(self.sender as u8)
+    }
+
     /// The least node whose link to that node holds a message.
     pub fn first_from(&self, to: u8) -> Option<u8>
         ensures some { IfSome result (λ a. 0 < length (link self.now.rows a to)) }
@@ -157,6 +175,9 @@ impl<T> Links<T> {
     {
         if self.is_idle(to) {
             return None;
+        }
+        if let Some(from) = self.only_from(to) {
+            return Some(from);
         }
         for a in 0..self.rows.len() {
             if self.waiting(a, to) > 0 {

@@ -6,7 +6,7 @@ ghost use Rattle.std.specs.List.{All};
 ghost use Rattle.seam_machine.specs.Views.{NetView, PartsView};
 ghost use Rattle.seam_machine.specs.Nets.{link, flat, enabled, happens, with_node, IsQuiet, IsSquare, ArePeers, AreParts};
 ghost use Rattle.seam_machine.specs.Orders.{IsBefore};
-ghost use Rattle.seam_machine.specs.Inside.{IsNet};
+ghost use Rattle.seam_machine.specs.Inside.{IsNet, KnowsTasks};
 
 use crate::links::Links;
 use crate::machines::{Event, Machine};
@@ -38,17 +38,21 @@ impl<M: Machine> Model for NetParts<M> {
 pub struct Net<M: Machine> {
     nodes: Vec<M>,
     links: Links<M::Msg>,
+    // Of each node whether its task is there, if all were asked since `node_mut` lent one.
+    tasks: Vec<bool>,
+    asked: bool,
 }
 
 impl<M: Machine> Model for Net<M> {
     ghost use Rattle.seam_machine.specs.Views.{NetView};
-    ghost use Rattle.seam_machine.specs.Inside.{IsNet};
+    ghost use Rattle.seam_machine.specs.Inside.{IsNet, KnowsTasks};
 
     ghost Value = { NetView M M.Msg };
 
     ghost view = { λ n. record { nodes = n.nodes.items; rows = n.links.rows } };
 
-    ghost invariant = { λ n. IsNet (record { nodes = n.nodes.items; rows = n.links.rows }) };
+    ghost invariant = { λ n. IsNet (record { nodes = n.nodes.items; rows = n.links.rows })
+        × KnowsTasks M.has_work n.nodes.items n.asked n.tasks.items };
 }
 
 // n rows of n empty links.
@@ -88,7 +92,46 @@ fn in_rows<T: Drop>(alloc: Global, n: usize, links: Vec<Vec<T>>) -> Result<Vec<R
     Ok(rows)
 }
 
+// A place for each of n nodes, before they are asked for their tasks.
+fn unasked(alloc: Global, n: usize) -> Result<Vec<bool>, AllocError>
+    ensures { IfOk result (λ v. length v.items ≡ n) }
+{
+    let mut tasks = Vec::new(alloc);
+    for _i in 0..n {
+        tasks.push(false)?;
+    }
+    Ok(tasks)
+}
+
+// Asks each node whether its task is there, where not all were asked.
+fn ask<M: Machine>(nodes: &Vec<M>, tasks: &mut Vec<bool>, asked: &mut bool)
+    requires { KnowsTasks M.has_work nodes.now.items asked.old tasks.old.items }
+    ensures { KnowsTasks M.has_work nodes.now.items asked.new tasks.new.items }
+{
+    if *asked {
+        return;
+    }
+    for k in 0..nodes.len() {
+        tasks[k] = nodes[k].has_task();
+    }
+    *asked = true;
+}
+
 impl<M: Machine> Net<M> {
+    // The net of these nodes and links.
+    fn over(alloc: Global, nodes: Vec<M>, links: Links<M::Msg>) -> Result<Net<M>, AllocError>
+        requires { IsNet (record { nodes = nodes.items; rows = links.rows }) }
+        ensures { IfOk result (λ w. w ≡ record { nodes = nodes.items; rows = links.rows }) }
+    {
+        let tasks = unasked(alloc, nodes.len())?;
+        Ok(Net {
+            nodes,
+            links,
+            tasks,
+            asked: false,
+        })
+    }
+
     /// A net with empty links.
     pub fn new(alloc: Global, nodes: Vec<M>) -> Result<Net<M>, AllocError>
         requires { length nodes.items < 256 }
@@ -100,7 +143,7 @@ impl<M: Machine> Net<M> {
     {
         let rows = empty_rows(alloc, nodes.len())?;
         let links = Links::of_rows(alloc, rows)?;
-        Ok(Net { nodes, links })
+        Net::over(alloc, nodes, links)
     }
 
     /// The nodes and the links of the net.
@@ -109,7 +152,12 @@ impl<M: Machine> Net<M> {
         ensures many { IfOk result (λ p. length p.links ≡ length p.nodes * length p.nodes) }
     {
         self.links.settle()?;
-        let Net { nodes, links } = self;
+        let Net {
+            nodes,
+            links,
+            tasks: _,
+            asked: _,
+        } = self;
         let links = flattened(alloc, links.into_rows())?;
         Ok(NetParts { nodes, links })
     }
@@ -123,7 +171,7 @@ impl<M: Machine> Net<M> {
         let NetParts { nodes, links } = parts;
         let rows = in_rows(alloc, nodes.len(), links)?;
         let links = Links::of_rows(alloc, rows)?;
-        Ok(Net { nodes, links })
+        Net::over(alloc, nodes, links)
     }
 
     /// How many nodes there are. Each pair of them has a link.
@@ -169,6 +217,17 @@ impl<M: Machine> Net<M> {
         }
     }
 
+    // Whether the task of the node is there.
+    fn is_to_work(&self, node: u8) -> bool
+        requires { node < length self.now.nodes }
+        ensures { result ≡ enabled M.has_work self.now (record { node = node; from = None }) }
+    {
+        if self.asked {
+            return self.tasks[node as usize];
+        }
+        self.nodes[node as usize].has_task()
+    }
+
     /// The first enabled event: of the lowest node, and of its links in rising number before its task.
     /// There is none exactly where the net is quiet.
     pub fn next_event(&self) -> Option<Event>
@@ -184,7 +243,7 @@ impl<M: Machine> Net<M> {
                     from: Some(from),
                 });
             }
-            if self.nodes[k].has_task() {
+            if self.is_to_work(node) {
                 return Some(Event { node, from: None });
             }
         }
@@ -208,14 +267,22 @@ impl<M: Machine> Net<M> {
         ensures peers { ArePeers M.peer_count self.new }
     {
         self.links.settle()?;
-        let node = &mut self.nodes[event.node as usize];
+        ask(&self.nodes, &mut self.tasks, &mut self.asked);
+        let at = event.node as usize;
+        let node = &mut self.nodes[at];
         match event.from {
             Some(from) => match self.links.serve(alloc, from, event.node, node) {
-                Ok(()) => return Ok(()),
+                Ok(()) => {
+                    self.tasks[at] = node.has_task();
+                    return Ok(());
+                }
                 Err(refused) => return Err(refused),
             },
             None => match self.links.work(alloc, event.node, node) {
-                Ok(()) => return Ok(()),
+                Ok(()) => {
+                    self.tasks[at] = node.has_task();
+                    return Ok(());
+                }
                 Err(refused) => return Err(refused),
             },
         }
@@ -233,6 +300,7 @@ impl<M: Machine> Net<M> {
         ensures* writes_back { sem 𝓛 (Lends (the_row M.row M.Msg.row M.Machine) M.row self.entry result (with_node self.old n)) }
         ensures value { result.now ≡ slice_index_or self.old.nodes n result.now }
     {
+        self.asked = false;
         &mut self.nodes[n]
     }
 

@@ -4,6 +4,7 @@ use Rattle.std.proofs.lemmas.Option.{slice_get_read}
 use Rattle.seam_machine.specs.Nets.{ArePeers}
 use Rattle.seam_machine.specs.Inside.{IsNet}
 use Rattle.seam_machine.proofs.Occurring.{occurs, node_within, enabled_works, fed_happens, net_fed}
+use Rattle.seam_machine.proofs.Known.{knows_after}
 use Rattle.seam_machine.proofs.nets.Net.step.Goals as goal
 use Rattle.seam_machine.proofs.nets.Net.step.Goals.{In_ok-settle, After-index_mut-node}
 
@@ -22,7 +23,7 @@ rows_are : (g : _) (c : In_ok-settle g) → c.settle.new.self.rows ≡ c.args.se
 rows_are g c = c.settle.ensures.rows ∙ ap (λ w. w.rows) c.self.view_is
 
 is_net : (g : _) (c : In_ok-settle g) → IsNet c.args.self.now
-is_net g c = subst IsNet c.self.view_is c.self.invariant
+is_net g c = subst IsNet c.self.view_is c.self.invariant.0
 
 pub work-requires-clause-is_node : goal.work-requires-clause-is_node
 work-requires-clause-is_node g c =
@@ -47,10 +48,13 @@ work-requires-clause-peers g c =
 
 pub invariant_of-self-in-Ok : goal.invariant_of-self-in-Ok
 invariant_of-self-in-Ok g c =
-    let i = (goal.at.invariant_of-self-in-Ok g c).In_ok-settle in
-    net_fed g.M.Machine.steps c.args.self.now c.args.event (Some c.in-Some.from) c.self.inside.nodes.items c.settle.new.self.rows
-    c.serve.new.self.rows c.index_mut-node.result.now c.serve.new.node c.in-Some.is (ap (λ w. w.nodes) c.self.view_is) (rows_are g i)
-    (node_is g ((goal.at.invariant_of-self-in-Ok g c).After-index_mut-node)) c.in-Ok.ensures.fed (is_net g i)
+    let i = (goal.at.invariant_of-self-in-Ok g c).In_ok-settle in (
+      net_fed g.M.Machine.steps c.args.self.now c.args.event (Some c.in-Some.from) c.self.inside.nodes.items c.settle.new.self.rows
+          c.serve.new.self.rows c.index_mut-node.result.now c.serve.new.node c.in-Some.is (ap (λ w. w.nodes) c.self.view_is) (rows_are g i)
+          (node_is g ((goal.at.invariant_of-self-in-Ok g c).After-index_mut-node)) c.in-Ok.ensures.fed (is_net g i),
+      knows_after g.M.Machine.has_work c.self.inside.nodes.items c.ask.new.asked c.ask.new.tasks.items c.args.event.node c.serve.new.node
+          c.has_task.result c.has_task.ensures c.ask.ensures,
+    )
 
 pub returns-in-Ok-clause-happens : goal.returns-in-Ok-clause-happens
 returns-in-Ok-clause-happens g c =
@@ -61,10 +65,13 @@ returns-in-Ok-clause-happens g c =
 
 pub invariant_of-self-in-Ok-work : goal.invariant_of-self-in-Ok-work
 invariant_of-self-in-Ok-work g c =
-    let i = (goal.at.invariant_of-self-in-Ok-work g c).In_ok-settle in
-    net_fed g.M.Machine.steps c.args.self.now c.args.event None c.self.inside.nodes.items c.settle.new.self.rows c.work.new.self.rows
-    c.index_mut-node.result.now c.work.new.node c.in-None.is (ap (λ w. w.nodes) c.self.view_is) (rows_are g i)
-    (node_is g ((goal.at.invariant_of-self-in-Ok-work g c).After-index_mut-node)) c.in-Ok-work.ensures.fed (is_net g i)
+    let i = (goal.at.invariant_of-self-in-Ok-work g c).In_ok-settle in (
+      net_fed g.M.Machine.steps c.args.self.now c.args.event None c.self.inside.nodes.items c.settle.new.self.rows c.work.new.self.rows
+          c.index_mut-node.result.now c.work.new.node c.in-None.is (ap (λ w. w.nodes) c.self.view_is) (rows_are g i)
+          (node_is g ((goal.at.invariant_of-self-in-Ok-work g c).After-index_mut-node)) c.in-Ok-work.ensures.fed (is_net g i),
+      knows_after g.M.Machine.has_work c.self.inside.nodes.items c.ask.new.asked c.ask.new.tasks.items c.args.event.node c.work.new.node
+          c.has_task-in-Ok-work.result c.has_task-in-Ok-work.ensures c.ask.ensures,
+    )
 
 pub returns-in-Ok-work-clause-happens : goal.returns-in-Ok-work-clause-happens
 returns-in-Ok-work-clause-happens g c =
