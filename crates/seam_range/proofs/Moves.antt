@@ -1,9 +1,10 @@
 -- The map by spot keeps up with the places when an entity is put, moved or taken out.
-use Rattle.std.proofs.Common.{◌≡◌, ℕ, Bool, true, false, cond, ◌&&◌, eqb, Option, None, Some, refl, sym, ap, ◌∙◌, arith}
+use Rattle.std.proofs.Common.{◌≡◌, ℕ, Bool, true, false, cond, not, ◌&&◌, eqb, Option, None, Some, refl, sym, ap, ◌∙◌, arith}
 use Rattle.std.specs.Ordering.{nat_cmp, is_eq, ordering_then, eq_by_cmp}
 use Rattle.std.specs.declared.cmp.Ordering.{Ordering}
 use Rattle.std.specs.declared.cmp.Ordering.TheVariants.{Less, Equal, Greater}
 use Rattle.std.specs.Cmp.{nat_cmp_total, eq_by_cmp_equiv, unsigned_tied}
+use Rattle.std.proofs.Common.{Result, Ok, Err, OnErr}
 use Rattle.std.specs.BTreeMap as tree
 use Rattle.std.specs.BTreeMap.{is_at}
 use Rattle.std.specs.Map.{lookup}
@@ -87,6 +88,22 @@ indexed_when_moved m n s t u e p old i o was other w h g = record {
       ∙ (ap (cond (eqb e k.1) (at_spot k.0 (Some p))) (i.listed k) ∙ sym (spot_after m n e (Some p) w k))));
 }
 
+stays_at : {A : Type 0} (x t : Bool) (p : A) (s : Option A) → (t ≡ true → s ≡ None) → cond (x && t) (Some p) s ≡ cond t (cond x (Some p) None) s
+stays_at true true p s h = refl
+stays_at false true p s h = h refl
+stays_at true false p s h = refl
+stays_at false false p s h = refl
+
+-- a new entity
+pub indexed_when_new : (m n : tree.BTreeMap ℕ Place) (s t : tree.BTreeMap ((ℕ × ℕ) × ℕ) Place) (e : ℕ) (p : Place) → IsIndexed m s →
+    tree.IsOrdered nat_cmp n → tree.get nat_cmp m e ≡ None → Writes m n e (Some p) → Marks s t (spot_of p, e) (Some p) → IsIndexed n t
+indexed_when_new m n s t e p i o none w h = record {
+  ordered = o;
+  listed = λ k. marks_key s t (spot_of p) e (Some p) h k
+      ∙ (stays_at (same_spot (spot_of p) k.0) (eqb e k.1) p (tree.get by_spot s k) (λ v. here m s e k i v ∙ ap (at_spot k.0) none)
+      ∙ (ap (cond (eqb e k.1) (at_spot k.0 (Some p))) (i.listed k) ∙ sym (spot_after m n e (Some p) w k)));
+}
+
 -- a key put and taken out again
 pub indexed_when_back : (m n : tree.BTreeMap ℕ Place) (s t u : tree.BTreeMap ((ℕ × ℕ) × ℕ) Place) (e : ℕ) (p : Place) → IsIndexed m s →
     tree.IsOrdered nat_cmp n → n.entries ≡ m.entries → tree.get nat_cmp m e ≡ None → Marks s t (spot_of p, e) (Some p) →
@@ -110,6 +127,46 @@ places_when_put m n e p w =
     ∙ ap (λ b. cond b (Some p) (tree.get nat_cmp m q)) ((eq_by_cmp_equiv nat_cmp_total).symm e q)
     ∙ ap (cond (eq_by_cmp nat_cmp q e) (Some p)) (sym (place_of_entry m q))
     ∙ sym (map.get-insert nat_cmp_total _ e p q))
+
+here_kept : (m : tree.BTreeMap ℕ Place) (e : ℕ) (old : Place) → tree.get nat_cmp m e ≡ Some old → (q : ℕ) (t : Bool) → eqb e q ≡ t →
+    cond t (Some old) (tree.get nat_cmp m q) ≡ tree.get nat_cmp m q
+here_kept m e old at q true same = sym (ap (tree.get nat_cmp m) (number_is e q same) ∙ at)
+here_kept m e old at q false other = refl
+
+-- the place that is there, written once more
+pub places_when_kept : (m n : tree.BTreeMap ℕ Place) (e : ℕ) (old : Place) → tree.get nat_cmp m e ≡ Some old → Writes m n e (Some old) →
+    map.from_entries {R = nat_cmp} n.entries ≡ map.from_entries m.entries
+places_when_kept m n e old at w =
+    map.same_map nat_cmp_total map.nat_cmp-IsAntisymmetric _ _ (λ q.
+    place_of_entry n q ∙ w q
+    ∙ ap (λ b. cond b (Some old) (tree.get nat_cmp m q)) (unsigned_tied e q)
+    ∙ here_kept m e old at q (eqb e q) refl
+    ∙ sym (place_of_entry m q))
+
+pub on_err : {T E P : Type 0} (r : Result T E) → P → OnErr r P
+on_err (Ok x) h = tt
+on_err (Err x) h = h
+
+both_true : (a b : Bool) → (a && b) ≡ true → (a ≡ true) × (b ≡ true)
+both_true true b h = (refl, h)
+both_true false b h = cc
+
+no_other : (b : Bool) → false ≡ not b → b ≡ true
+no_other true h = refl
+no_other false h = cc
+
+-- places that do not differ are one
+pub same_place : (a b : Place) → false ≡ not (eqb a.version b.version && (eqb a.pos.x b.pos.x && eqb a.pos.z b.pos.z)) → a ≡ b
+same_place a b same =
+    let tests = both_true (eqb a.version b.version) (eqb a.pos.x b.pos.x && eqb a.pos.z b.pos.z) (no_other _ same) in
+    let spots = both_true (eqb a.pos.x b.pos.x) (eqb a.pos.z b.pos.z) tests.1 in
+    let first = tests.0 in
+    let second = spots.0 in
+    let third = spots.1 in
+    let version : a.version ≡ b.version = grind (arith, nat_tests, first) in
+    let x : a.pos.x ≡ b.pos.x = grind (arith, nat_tests, second) in
+    let z : a.pos.z ≡ b.pos.z = grind (arith, nat_tests, third) in
+    λ i. record { version = version i; pos = record { x = x i; z = z i } }
 
 pub places_when_removed : (m n : tree.BTreeMap ℕ Place) (e : ℕ) → Writes m n e None →
     map.from_entries {R = nat_cmp} n.entries ≡ map.remove (map.from_entries m.entries) e

@@ -22,7 +22,7 @@ use Rattle.seam_range.specs.declared.Place.{Place}
 use Rattle.seam_range.specs.Places.{Places, is_within}
 use Rattle.seam_range.specs.Indexed.{spot_of, same_spot, by_spot, at_spot, IsIndexed}
 use Rattle.seam_range.specs.Found.{count_of, one_if, is_in_strip, first_strip, end_strip}
-use Rattle.seam_range.specs.declared.TheConstants.{STRIP_WIDTH}
+use Rattle.seam_range.specs.declared.TheConstants.{STRIP_WIDTH, ROW_WIDTH}
 use Rattle.std.specs.FinMap as map
 use Rattle.seam_range.proofs.Moves.{same_key, place_of_entry}
 
@@ -250,17 +250,33 @@ run_by strip x low high z q Greater e le lt = let other : eqb x strip ≡ false 
 
 -- whether a key is in the run of the strip
 abbrev pub in_run : ℕ → Pos → ℕ → Key → Bool
-in_run strip p d k = range_contains by_spot (Included ((strip, p.z - d), 0)) (Excluded ((strip, (p.z + d) + 1), 0)) k
+in_run strip p d k =
+    range_contains by_spot (Included ((strip, (p.z - d) / ROW_WIDTH), 0)) (Excluded ((strip, (p.z + d) / ROW_WIDTH + 1), 0)) k
 
-z_within : (p : Pos) (o : Place) (d : ℕ) → is_within p d o ≡ true → (p.z - d ≤ o.pos.z) × (o.pos.z < (p.z + d) + 1)
+-- a greater number is in no lower part of that width
+part_rises : (a b w : ℕ) → 0 < w → a ≤ b → a / w ≤ b / w
+part_rises a b w some le =
+    let part = div-mul-le_self a w in
+    le-div (a / w) b w some (omega (arith, part, le))
+
+z_within : (p : Pos) (o : Place) (d : ℕ) → is_within p d o ≡ true → (p.z - d ≤ o.pos.z) × (o.pos.z ≤ p.z + d)
 z_within p o d t = let h = le_of (distance p o.pos) d t in (omega (arith, h), omega (arith, h))
+
+row_within : (p : Pos) (o : Place) (d : ℕ) → is_within p d o ≡ true →
+    ((p.z - d) / ROW_WIDTH ≤ o.pos.z / ROW_WIDTH) × (o.pos.z / ROW_WIDTH < (p.z + d) / ROW_WIDTH + 1)
+row_within p o d t =
+    let z = z_within p o d t in
+    let low = part_rises (p.z - d) o.pos.z ROW_WIDTH (omega arith) z.0 in
+    let high = part_rises o.pos.z (p.z + d) ROW_WIDTH (omega arith) z.1 in
+    (low, omega (arith, high))
 
 strip_by : (strip : ℕ) (p : Pos) (o : Place) (d q : ℕ) (w : Bool) → is_within p d o ≡ w →
     (in_run strip p d (spot_of o, q) && w) ≡ (eqb (o.pos.x / STRIP_WIDTH) strip && w)
 strip_by strip p o d q true e =
-    let z = z_within p o d e in
+    let row = row_within p o d e in
     ap (λ b. b && true)
-    (run_by strip (o.pos.x / STRIP_WIDTH) (p.z - d) ((p.z + d) + 1) o.pos.z q (nat_cmp strip (o.pos.x / STRIP_WIDTH)) refl z.0 z.1)
+    (run_by strip (o.pos.x / STRIP_WIDTH) ((p.z - d) / ROW_WIDTH) ((p.z + d) / ROW_WIDTH + 1) (o.pos.z / ROW_WIDTH) q
+    (nat_cmp strip (o.pos.x / STRIP_WIDTH)) refl row.0 row.1)
 strip_by strip p o d q false e = and_no (in_run strip p d (spot_of o, q)) ∙ sym (and_no (eqb (o.pos.x / STRIP_WIDTH) strip))
 
 strip_of : (strip : ℕ) (p : Pos) (d q : ℕ) (o : Option Place) →
@@ -345,15 +361,9 @@ one_strip_more strip p d (Some o) = one_more (o.pos.x / STRIP_WIDTH) strip (is_w
 x_within : (p : Pos) (o : Place) (d : ℕ) → is_within p d o ≡ true → (p.x - d ≤ o.pos.x) × (o.pos.x ≤ p.x + d)
 x_within p o d t = let h = le_of (distance p o.pos) d t in (omega (arith, h), omega (arith, h))
 
--- a greater x is in no lower strip
-strip_rises : (a b : ℕ) → a ≤ b → a / STRIP_WIDTH ≤ b / STRIP_WIDTH
-strip_rises a b le =
-    let part = div-mul-le_self a STRIP_WIDTH in
-    le-div (a / STRIP_WIDTH) b STRIP_WIDTH (omega arith) (omega (arith, part, le))
-
 first_by : (p : Pos) (o : Place) (d : ℕ) (w : Bool) → is_within p d o ≡ w → (nat_lt (o.pos.x / STRIP_WIDTH) (first_strip p d) && w) ≡ false
 first_by p o d true e =
-    let le = strip_rises (p.x - d) o.pos.x (x_within p o d e).0 in
+    let le = part_rises (p.x - d) o.pos.x STRIP_WIDTH (omega arith) (x_within p o d e).0 in
     let no : ltb (o.pos.x / STRIP_WIDTH) (first_strip p d) ≡ false = grind (arith, nat_tests) in
     ap (λ b. b && true) no
 first_by p o d false e = and_no _
@@ -364,7 +374,7 @@ none_below_first p d (Some o) = ap (λ b. cond b 1 0) (first_by p o d (is_within
 
 end_by : (p : Pos) (o : Place) (d : ℕ) (w : Bool) → is_within p d o ≡ w → (nat_lt (o.pos.x / STRIP_WIDTH) (end_strip p d) && w) ≡ w
 end_by p o d true e =
-    let le = strip_rises o.pos.x (p.x + d) (x_within p o d e).1 in
+    let le = part_rises o.pos.x (p.x + d) STRIP_WIDTH (omega arith) (x_within p o d e).1 in
     let yes : ltb (o.pos.x / STRIP_WIDTH) (end_strip p d) ≡ true = grind (arith, nat_tests) in
     ap (λ b. b && true) yes
 end_by p o d false e = and_no _

@@ -1,19 +1,19 @@
--- How an ordered map by strip, z and entity refines the places.
+-- How an ordered map by strip, row and entity refines the places.
 use Rattle.std.specs.Prelude.{◌≡◌, ℕ, ◌/◌, Bool, ◌&&◌, Option, None, Some, nat_eq, if◌then◌else◌}
 use Rattle.std.specs.Ordering.{nat_cmp, ordering_then}
 use Rattle.std.specs.declared.cmp.Ordering.{Ordering}
 use Rattle.std.specs.BTreeMap as tree
 use Rattle.seam_range.specs.declared.Place.{Place}
-use Rattle.seam_range.specs.declared.TheConstants.{STRIP_WIDTH}
+use Rattle.seam_range.specs.declared.TheConstants.{STRIP_WIDTH, ROW_WIDTH}
 
--- the spot of a place: its strip of x, and its z
+-- the spot of a place: its strip of x, and its row of z
 abbrev pub spot_of : Place → ℕ × ℕ
-spot_of p = (p.pos.x / STRIP_WIDTH, p.pos.z)
+spot_of p = (p.pos.x / STRIP_WIDTH, p.pos.z / ROW_WIDTH)
 
 abbrev pub same_spot : ℕ × ℕ → ℕ × ℕ → Bool
 same_spot a b = nat_eq a.0 b.0 && nat_eq a.1 b.1
 
--- a spot and an entity: by strip, then by z, then by entity
+-- a spot and an entity: by strip, then by row, then by entity
 abbrev pub by_spot : (ℕ × ℕ) × ℕ → (ℕ × ℕ) × ℕ → Ordering
 by_spot a b = ordering_then (ordering_then (nat_cmp a.0.0 b.0.0) (nat_cmp a.0.1 b.0.1)) (nat_cmp a.1 b.1)
 

@@ -1,11 +1,13 @@
 //! Entities by their positions, for queries of those that are near. Each has its version beside the position, which a query gives too.
 #![tactic(auto)]
 
-ghost use Rattle.std.specs.Prelude.{◌≡◌, ◌≤◌, ℕ, ◌+◌, is_some, IfOk, OnOk, OnErr};
+ghost use Rattle.std.specs.Prelude.{◌≡◌, ◌≤◌, ℕ, ◌+◌, is_some, Some, None, IfOk, OnOk, OnErr};
+ghost use Rattle.std.specs.BTreeMap.{BTreeMap as AnyMap, get, IsOrdered, Updates};
 ghost use Rattle.std.specs.FinMap as map;
 ghost use Rattle.std.specs.Ordering.{nat_cmp};
+ghost use Rattle.seam_range.specs.declared.Place.{Place as AnyPlace};
 ghost use Rattle.seam_range.specs.Places.{Places, is_within, within};
-ghost use Rattle.seam_range.specs.Indexed.{spot_of, same_spot};
+ghost use Rattle.seam_range.specs.Indexed.{spot_of, same_spot, IsIndexed};
 ghost use Rattle.seam_range.specs.Found.{count_of, AreInPlace, one_if, is_in_strip, first_strip, end_strip};
 
 use seam_geo::{Pos, dist};
@@ -16,8 +18,11 @@ use std::marker::Model;
 #[cfg(test)]
 mod tests;
 
-// The width of the strips of x in which the positions are ordered.
+// The width of the strips of x in which the positions are ordered, and of the rows of z in each. An entity that moves within its row
+// of a strip keeps its key.
 const STRIP_WIDTH: u64 = 256;
+
+const ROW_WIDTH: u64 = 256;
 
 // Where one in so many is near, a walk over all in rising number is quicker than to sort those that are.
 const MANY: usize = 4;
@@ -34,7 +39,7 @@ pub struct Place {
 pub struct RangeList {
     alloc: Global,
     places: BTreeMap<u32, Place>,
-    // The places again, by strip, z and entity, so that a query reads a short run of each strip that it meets.
+    // The places again, by strip, row and entity, so that a query reads a short run of each strip that it meets.
     by_spot: BTreeMap<((u64, u64), u32), Place>,
 }
 
@@ -78,17 +83,28 @@ impl RangeList {
         ensures after { OnOk result (self.new ≡ map.insert self.old e p) }
         ensures err { OnErr result (self.new ≡ self.old) }
     {
+        let Some(place) = self.places.get_mut(&e) else {
+            return self.put_new(e, p);
+        };
+        let old = *place;
+        if old != p {
+            move_spot(&mut self.by_spot, e, old, p)?;
+            *place = p;
+        }
+        Ok(())
+    }
+
+    // Puts the entity, which is not there, at the place.
+    fn put_new(&mut self, e: u32, p: Place) -> Result<(), AllocError>
+        requires { map.get self.old e ≡ None }
+        ensures after { OnOk result (self.new ≡ map.insert self.old e p) }
+        ensures err { OnErr result (self.new ≡ self.old) }
+    {
         let Ok(_) = self.by_spot.insert(key(e, p), p) else {
             return Err(AllocError);
         };
         match self.places.insert(e, p) {
-            Ok(Some(old)) => {
-                if !are_at_one_spot(old, p) {
-                    self.by_spot.remove(&key(e, old));
-                }
-                Ok(())
-            }
-            Ok(None) => Ok(()),
+            Ok(_) => Ok(()),
             Err(_) => {
                 self.by_spot.remove(&key(e, p));
                 Err(AllocError)
@@ -164,8 +180,8 @@ impl RangeList {
             ≡ count_of q found.old.items + one_if (is_in_strip strip p d) (map.get self.now q)) }
         ensures places { OnOk result (AreInPlace self.now found.new.items) }
     {
-        let low = u64::from(p.z.saturating_sub(d));
-        let end = u64::from(p.z) + u64::from(d) + 1;
+        let low = u64::from(p.z.saturating_sub(d)) / ROW_WIDTH;
+        let end = (u64::from(p.z) + u64::from(d)) / ROW_WIDTH + 1;
         for ((_, e), place) in self.by_spot.range(((strip, low), 0)..((strip, end), 0)) {
             if is_near(*place, p, d) {
                 found.push((*e, *place))?;
@@ -179,14 +195,37 @@ impl RangeList {
 fn key(e: u32, p: Place) -> ((u64, u64), u32)
     ensures { result ≡ (spot_of p, e) }
 {
-    ((u64::from(p.pos.x) / STRIP_WIDTH, u64::from(p.pos.z)), e)
+    let strip = u64::from(p.pos.x) / STRIP_WIDTH;
+    let row = u64::from(p.pos.z) / ROW_WIDTH;
+    ((strip, row), e)
 }
 
-// Whether the places lie in one strip at one z.
+// Moves the entity from its old place. Where it stays at its spot, the place is written over.
+fn move_spot(
+    by_spot: &mut BTreeMap<((u64, u64), u32), Place>,
+    e: u32,
+    old: Place,
+    p: Place,
+) -> Result<(), AllocError>
+    ensures ok { OnOk result ((places moved : AnyMap ℕ AnyPlace) → IsIndexed places by_spot.old → get nat_cmp places e ≡ Some old
+        → IsOrdered nat_cmp moved → Updates nat_cmp places moved e (Some p) → IsIndexed moved by_spot.new) }
+    ensures err { OnErr result (by_spot.new.entries ≡ by_spot.old.entries) }
+{
+    let Ok(_) = by_spot.insert(key(e, p), p) else {
+        return Err(AllocError);
+    };
+    if !are_at_one_spot(old, p) {
+        by_spot.remove(&key(e, old));
+    }
+    Ok(())
+}
+
+// Whether the places lie in one row of one strip.
 fn are_at_one_spot(a: Place, b: Place) -> bool
     ensures { result ≡ same_spot (spot_of a) (spot_of b) }
 {
-    u64::from(a.pos.x) / STRIP_WIDTH == u64::from(b.pos.x) / STRIP_WIDTH && a.pos.z == b.pos.z
+    u64::from(a.pos.x) / STRIP_WIDTH == u64::from(b.pos.x) / STRIP_WIDTH
+        && u64::from(a.pos.z) / ROW_WIDTH == u64::from(b.pos.z) / ROW_WIDTH
 }
 
 // The first strip that has positions at distance at most d from p.

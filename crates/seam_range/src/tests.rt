@@ -48,5 +48,12 @@ fn near_entities_in_rising_number(rt: HostRuntime) -> Result<(), Fail> {
         list.within(corner, 9)?.as_slice(),
         [(1, moved), (3, newer)].as_slice()
     );
+    let far = place(1, 600, 300);
+    list.put(1, far)?;
+    assert_eq!(rt; list.within(corner, 9)?.as_slice(), [(3, newer)].as_slice());
+    assert_eq!(rt;
+        list.within(Pos { x: 590, z: 310 }, 10)?.as_slice(),
+        [(1, far)].as_slice()
+    );
     Ok(())
 }

@@ -1,4 +1,4 @@
-use Rattle.std.proofs.Common.{sym, ap, subst, ◌∙◌, ◌≡◌, ◌+◌, ◌-◌, ◌++◌, ◌∷◌, [], true, Some}
+use Rattle.std.proofs.Common.{sym, ap, subst, ◌∙◌, ◌≡◌, ◌+◌, ◌-◌, ◌/◌, ◌++◌, ◌∷◌, [], true, Some}
 use Rattle.std.proofs.lemmas.List.Elements.{All-push}
 use Rattle.std.specs.List.{filter}
 use Rattle.std.specs.FinMap as map
@@ -9,6 +9,7 @@ use Rattle.seam_range.specs.Indexed.{by_spot}
 use Rattle.seam_range.specs.Found.{count_of, AreInPlace, one_if, is_in_strip}
 use Rattle.seam_range.specs.Places.{is_within}
 use Rattle.seam_range.specs.declared.Place.{Place}
+use Rattle.seam_range.specs.declared.TheConstants.{ROW_WIDTH}
 use Rattle.seam_range.proofs.Moves.{place_of_entry}
 use Rattle.seam_range.proofs.Strips.{Key, AreListed, count_near, count_when_found, run_of, count_in_run, run_listed}
 use Rattle.seam_range.proofs.RangeList.push_near.Goals as goal
@@ -19,8 +20,8 @@ loop-e-init c =
     let es = c.self.inside.by_spot.entries in
     let run : c.into_iter-e-iterator.result ≡ run_of c.args.strip c.args.p c.args.d es =
     c.into_iter-e-iterator.ensures.into_iter_gives ∙ c.range-e-items.ensures.between tt
-    ∙ (λ i. filter (λ r. range_contains by_spot (Included ((c.args.strip, low i), 0))
-    (Excluded ((c.args.strip, (c.from.ensures i + c.from-2.ensures i) + 1), 0)) r.0) es) in (
+    ∙ (λ i. filter (λ r. range_contains by_spot (Included ((c.args.strip, low i / ROW_WIDTH), 0))
+    (Excluded ((c.args.strip, (c.from.ensures i + c.from-2.ensures i) / ROW_WIDTH + 1), 0)) r.0) es) in (
       tt,
       tt,
       λ q.

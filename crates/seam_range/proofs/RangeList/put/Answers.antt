@@ -1,37 +1,35 @@
-use Rattle.std.proofs.Common.{sym, ap, ◌∙◌, subst, Some, None}
+use Rattle.std.proofs.Common.{◌≡◌, true, is_some, sym, ap, ◌∙◌, subst, Some, None}
 use Rattle.std.specs.FinMap as map
-use Rattle.seam_range.proofs.Moves.{Marks, indexed_when_moved, indexed_when_back, places_when_put}
+use Rattle.std.specs.Ordering.{nat_cmp}
+use Rattle.std.specs.BTreeMap.{get}
+use Rattle.seam_range.proofs.Moves.{places_when_put, places_when_kept, place_of_entry, same_place, on_err}
 use Rattle.seam_range.proofs.RangeList.put.Goals as goal
 
-pub invariant_of-self-then-not-are_at_one_spot : goal.invariant_of-self-then-not-are_at_one_spot
-invariant_of-self-then-not-are_at_one_spot c =
-    let put = subst (λ k. Marks c.self.inside.by_spot c.insert.new.self k (Some c.args.p)) c.key.ensures c.in-Ok.ensures.updates.0 in
-    let gone =
-    subst (λ k. Marks c.insert.new.self c.remove.new.self k None) c.key-then-not-are_at_one_spot.ensures c.remove.ensures.updates.0 in
-    indexed_when_moved c.self.inside.places c.insert-2.new.self c.self.inside.by_spot c.insert.new.self c.remove.new.self c.args.e c.args.p
-    c.in-Ok-Some.old c.self.invariant c.insert-2.ensures.ordered (sym c.in-Ok-Some.ensures.old ∙ c.in-Ok-Some.field-0-is)
-    (sym c.are_at_one_spot.ensures ∙ c.if-not-are_at_one_spot.true) c.in-Ok-Some.ensures.updates.0 put gone
+pub put_new-requires : goal.put_new-requires
+put_new-requires c =
+    ap (λ m. map.get (map.from_entries {R = nat_cmp} m.entries) c.args.e) c.get_mut.follows.holds-at-none
+    ∙ (place_of_entry c.self.inside.places c.args.e ∙ sym c.in_default.ensures.value)
 
-pub invariant_of-self-in-Err : goal.invariant_of-self-in-Err
-invariant_of-self-in-Err c =
-    let put = subst (λ k. Marks c.self.inside.by_spot c.insert.new.self k (Some c.args.p)) c.key.ensures c.in-Ok.ensures.updates.0 in
-    let gone =
-    subst (λ k. Marks c.insert.new.self c.remove-in-Err.new.self k None) c.key-in-Err.ensures c.remove-in-Err.ensures.updates.0 in
-    indexed_when_back c.self.inside.places c.insert-2.new.self c.self.inside.by_spot c.insert.new.self c.remove-in-Err.new.self c.args.e
-    c.args.p
-    c.self.invariant c.insert-2.ensures.ordered c.in-Err.ensures.err c.in-Err.ensures.absent put gone
+pub returns-in_err-move_spot-clause-err : goal.returns-in_err-move_spot-clause-err
+returns-in_err-move_spot-clause-err c =
+    let there : is_some (get nat_cmp c.self.inside.places c.args.e) ≡ true = sym (ap is_some c.in-Some.ensures.value) in
+    let h = c.get_mut.follows.holds c.in-Some.place.now in
+    on_err c.from_residual.result
+    (places_when_kept c.self.inside.places (c.get_mut.follows.lender c.in-Some.place.now) c.args.e c.in-Some.place.now
+    (sym c.in-Some.ensures.value) (h.3 there).0 ∙ c.self.view_is)
 
-pub returns-then-not-are_at_one_spot-clause-after : goal.returns-then-not-are_at_one_spot-clause-after
-returns-then-not-are_at_one_spot-clause-after c =
-    places_when_put c.self.inside.places c.insert-2.new.self c.args.e c.args.p c.in-Ok-Some.ensures.updates.0
+pub returns-in_ok-move_spot-clause-after : goal.returns-in_ok-move_spot-clause-after
+returns-in_ok-move_spot-clause-after c =
+    let there : is_some (get nat_cmp c.self.inside.places c.args.e) ≡ true = sym (ap is_some c.in-Some.ensures.value) in
+    let h = c.get_mut.follows.holds c.args.p in
+    places_when_put c.self.inside.places (c.get_mut.follows.lender c.args.p) c.args.e c.args.p (h.3 there).0
     ∙ ap (λ m. map.insert m c.args.e c.args.p) c.self.view_is
 
-pub returns-else-not-are_at_one_spot-clause-after : goal.returns-else-not-are_at_one_spot-clause-after
-returns-else-not-are_at_one_spot-clause-after c =
-    places_when_put c.self.inside.places c.insert-2.new.self c.args.e c.args.p c.in-Ok-Some.ensures.updates.0
-    ∙ ap (λ m. map.insert m c.args.e c.args.p) c.self.view_is
-
-pub returns-in-Ok-None-clause-after : goal.returns-in-Ok-None-clause-after
-returns-in-Ok-None-clause-after c =
-    places_when_put c.self.inside.places c.insert-2.new.self c.args.e c.args.p c.in-Ok-None.ensures.updates.0
+pub returns-else-ne-clause-after : goal.returns-else-ne-clause-after
+returns-else-ne-clause-after c =
+    let there : is_some (get nat_cmp c.self.inside.places c.args.e) ≡ true = sym (ap is_some c.in-Some.ensures.value) in
+    let h = c.get_mut.follows.holds c.in-Some.place.now in
+    places_when_put c.self.inside.places (c.get_mut.follows.lender c.in-Some.place.now) c.args.e c.in-Some.place.now (h.3 there).0
+    ∙ ap (λ p. map.insert (map.from_entries {R = nat_cmp} c.self.inside.places.entries) c.args.e p)
+    (same_place c.in-Some.place.now c.args.p c.if-ne.ensures)
     ∙ ap (λ m. map.insert m c.args.e c.args.p) c.self.view_is
