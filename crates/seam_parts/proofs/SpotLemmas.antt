@@ -28,26 +28,6 @@ use Rattle.seam_parts.specs.Spots.{copy_places}
 
 -- ---- a list that is kept
 
--- to put what is there changes nothing
-pub put_there : (l : Places) (e : ℕ) (p : Place) → map.get l e ≡ Some p → l ≡ map.insert l e p
-put_there l e p at = sym (ap (set_at l e) (sym at) ∙ set_at-same l e)
-
-both_true : (a b : Bool) → (a && b) ≡ true → (a ≡ true) × (b ≡ true)
-both_true true b h = (refl, h)
-both_true false b h = cc
-
-pub same_place : (a b : Place) → (eqb a.version b.version && (eqb a.pos.x b.pos.x && eqb a.pos.z b.pos.z)) ≡ true → a ≡ b
-same_place a b same =
-    let tests = both_true (eqb a.version b.version) (eqb a.pos.x b.pos.x && eqb a.pos.z b.pos.z) same in
-    let spots = both_true (eqb a.pos.x b.pos.x) (eqb a.pos.z b.pos.z) tests.1 in
-    let first = tests.0 in
-    let second = spots.0 in
-    let third = spots.1 in
-    let version : a.version ≡ b.version = grind (arith, nat_tests, first) in
-    let x : a.pos.x ≡ b.pos.x = grind (arith, nat_tests, second) in
-    let z : a.pos.z ≡ b.pos.z = grind (arith, nat_tests, third) in
-    λ i. record { version = version i; pos = record { x = x i; z = z i } }
-
 noted_by : (l : Places) (out left : Option ℕ) (e : ℕ) (o : Option Place) (before after : ℕ → Option Place) → AreNoted l out before →
     IsChanged before after e o → ((q : ℕ) → is_out left q ≡ false → eq_by_cmp nat_cmp q e ≡ false → is_out out q ≡ false) →
     AreNoted (set_at l e o) left after
@@ -112,11 +92,6 @@ pub copied_has : (o : Option (Bor Places)) (s : Option Places) (P : Places → T
     IfSome o (λ l. P l.now)
 copied_has None s P is h = tt
 copied_has (Some l) s P is h = subst (λ x. IfSome x P) (sym is) h
-
-pub noted_moved : (old : Option Places) (k : Places) (o : Option Places) (e : ℕ) (p : Place) → old ≡ Some k →
-    IfSome o (λ l. l ≡ map.insert k e p) → IsNoted old o e (Some p)
-noted_moved old k None e p is put = tt
-noted_moved old k (Some l) e p is put = (k, (is, put))
 
 -- where no list is kept
 pub none_kept : (s : Option Places) (out : Option ℕ) (place : ℕ → Option Place) → is_some s ≡ false → AreListed s out place

@@ -27,27 +27,15 @@ impl Spots {
     }
 }
 
-// The list with the entity at the place; none where there is no memory for that.
-fn moved(mut list: RangeList, e: u32, p: Place) -> Option<RangeList>
-    ensures { IfSome result (λ l. l ≡ map.insert list e p) }
-{
-    if let Some(old) = list.get(e) {
-        if old == p {
-            return Some(list);
-        }
-    }
-    match list.put(e, p) {
-        Ok(()) => Some(list),
-        Err(_) => None,
-    }
-}
-
 // The list with the entity at the place. Without memory for that the list is given up.
 fn set(list: &mut Option<RangeList>, e: u32, p: Place)
     ensures { IsNoted list.old list.new e (Some p) }
 {
-    if let Some(kept) = list.take() {
-        *list = moved(kept, e, p);
+    if let Some(kept) = list {
+        match kept.put(e, p) {
+            Ok(()) => {}
+            Err(_) => *list = None,
+        }
     }
 }
 

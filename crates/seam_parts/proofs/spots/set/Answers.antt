@@ -1,7 +1,4 @@
-use Rattle.std.proofs.Common.{sym}
-use Rattle.seam_parts.proofs.SpotLemmas.{noted_moved}
 use Rattle.seam_parts.proofs.spots.set.Goals as goal
 
-pub returns-in-Some : goal.returns-in-Some
-returns-in-Some c =
-    noted_moved c.args.list.now c.in-Some.kept c.moved.result c.args.e c.args.p (sym c.in-Some.ensures.value) c.moved.ensures
+pub returns-in-Ok : goal.returns-in-Ok
+returns-in-Ok c = (_, (c.in-Some.is, c.in-Ok.ensures.after))
