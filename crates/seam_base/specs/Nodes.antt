@@ -1,5 +1,5 @@
 -- What contracts see of the pieces of a base node.
-use Rattle.std.specs.Prelude.{ℕ, ◌≤◌, Bool, is_some, List}
+use Rattle.std.specs.Prelude.{◌≤◌, Bool, is_some, List}
 use Rattle.seam_call.specs.declared.order.Order.{Order}
 use Rattle.seam_entity.specs.Here.{Here}
 use Rattle.seam_entity.specs.Calls.{has_ready}

@@ -7,7 +7,6 @@ use Rattle.seam_defs.specs.declared.states.State.{State}
 use Rattle.seam_call.specs.declared.call.Call.{Call}
 use Rattle.seam_call.specs.declared.shown.Line.{Line}
 use Rattle.seam_call.specs.declared.shown.ClientText.{ClientText}
-use Rattle.seam_call.specs.Senders.{rank_of}
 use Rattle.seam_call.specs.declared.shown.Update.{Update}
 use Rattle.seam_entity.specs.Here.{Here}
 use Rattle.seam_entity.specs.Orders.{Orders, order_of}

@@ -8,13 +8,14 @@ ghost use Rattle.seam_defs.specs.Deeds.{properties_of};
 ghost use Rattle.seam_defs.specs.declared.flags.Group.TheVariants as group;
 ghost use Rattle.seam_defs.specs.declared.settings.Settings.{Settings as AllSettings};
 ghost use Rattle.seam_order.specs.Offers.{next_item};
-ghost use Rattle.seam_entity.specs.Calls.{may_offer};
+ghost use Rattle.seam_entity.specs.Calls.{may_offer, is_ready};
 ghost use Rattle.seam_entity.specs.Numbers.{may_rise};
 ghost use Rattle.seam_entity.specs.Preparing.{node_with};
 ghost use Rattle.seam_steps.specs.Maps.{has_any};
 ghost use Rattle.seam_steps.specs.Loads.{with_proxy, part_begins, new_proxy as empty_proxy};
 ghost use Rattle.seam_steps.specs.BaseCases.{offered_update, shows_next, stray_proxy_update, proxy_is_ready, may_show};
-ghost use Rattle.seam_base.specs.Parts.{proxy_of, with_update, with_shown};
+ghost use Rattle.seam_base.specs.Nodes.{has_update};
+ghost use Rattle.seam_base.specs.Parts.{proxy_of, client_with_update, with_update, with_shown};
 
 use crate::calls::text_of;
 use crate::part::{BasePart, Proxy};
@@ -31,6 +32,15 @@ fn may_update(proxy: &Proxy, update: &Update) -> bool
 {
     let n = update.number;
     (n > 0 && (number_may_rise(n) && !proxy.updates.holds(n))) && number_may_rise(proxy.last)
+}
+
+// Whether it is the update's turn, and the one after it has not come, so that none waits before or after it.
+fn is_alone(proxy: &Proxy, update: &Update) -> bool
+    requires { may_offer proxy.now.updates update.now.number ≡ true }
+    ensures { result ≡ true → is_ready (client_with_update update.now (proxy_of proxy.now)).updates ≡ is_ready proxy.now.updates }
+{
+    let next = proxy.updates.next_number();
+    update.number == next && !proxy.updates.holds(next + 1)
 }
 
 // Offers the update to the client's order. In its turn it is shown.
@@ -118,6 +128,18 @@ impl BasePart {
         match &self.body.proxy {
             Some(proxy) => !may_update(proxy, update),
             None => false,
+        }
+    }
+
+    /// Whether the client, if there is one, has a ready update after it was offered this one exactly where it has one before. It is so
+    /// where the answer is true, as it is of updates that come in order.
+    pub fn stays_as_ready(&self, update: &Update) -> bool
+        requires { stray_proxy_update update.now self.now.proxy ≡ false }
+        ensures { result ≡ true → has_update (with_update update.now self.now) ≡ has_update self.now }
+    {
+        match &self.body.proxy {
+            Some(proxy) => is_alone(proxy, update),
+            None => true,
         }
     }
 

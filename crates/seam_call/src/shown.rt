@@ -1,6 +1,9 @@
 //! What ghosts hold, and what clients are shown.
 
+ghost use Rattle.std.specs.Prelude.{◌≡◌, IfOk};
+
 use seam_defs::{Props, State};
+use std::alloc::AllocError;
 
 /// What a ghost holds of a real: its type, its public version, and its state at that version.
 #[derive(Debug, Drop)]
@@ -8,6 +11,19 @@ pub struct GhostCopy {
     pub ty: u16,
     pub version: u64,
     pub state: State,
+}
+
+impl GhostCopy {
+    /// An equal copy, which shares the values.
+    pub fn copy(&self) -> Result<GhostCopy, AllocError>
+        ensures { IfOk result (λ copy. copy ≡ self.now) }
+    {
+        Ok(GhostCopy {
+            ty: self.ty,
+            version: self.version,
+            state: self.state.copy()?,
+        })
+    }
 }
 
 /// What a witness shows its client.

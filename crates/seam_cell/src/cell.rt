@@ -35,7 +35,7 @@ use seam_parts::{
     CopyBook, EntitySet, Known, Lists, Places, RealTable, Reals, first_ready, put_after, put_in,
     take_out,
 };
-use seam_sight::look_task;
+use seam_sight::{ToldCopies, look_task};
 use seam_table::Table;
 use seam_tree::{MOST_CELLS, Tree};
 use std::alloc::{AllocError, Global};
@@ -48,6 +48,7 @@ pub struct Cell {
     reals: Reals,
     places: Places,
     lists: Lists,
+    told: ToldCopies,
 }
 
 impl Model for Cell {
@@ -114,6 +115,7 @@ impl Cell {
                 survey: EntitySet::new(alloc),
                 looks: EntitySet::new(alloc),
             },
+            told: ToldCopies::new(alloc),
         }
     }
 
@@ -194,6 +196,7 @@ impl Cell {
         ensures err { OnErr result (self.new ≡ self.old) }
     {
         self.lists.looks = self.reals.witnesses.copy()?;
+        self.told.clear();
         Ok(())
     }
 
@@ -356,6 +359,7 @@ impl Cell {
             &mut self.reals,
             &mut self.places,
             &mut self.lists,
+            &mut self.told,
             out,
         )
     }

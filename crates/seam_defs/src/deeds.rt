@@ -1,5 +1,5 @@
 // What a deed does to a state.
-ghost use Rattle.std.specs.Prelude.{◌≡◌, ◌≢◌, ◌<◌, ◌↔◌, ◌+ℤ◌, ◌-ℤ◌, List, OnOk, OnErr, IfOk, length, map, true, false, slice_index_or};
+ghost use Rattle.std.specs.Prelude.{◌≡◌, ◌≢◌, ◌<◌, ◌↔◌, ◌+ℤ◌, ◌-ℤ◌, List, OnOk, OnErr, IfOk, length, map, true, false, slice_index_or, slice_set};
 ghost use Rattle.seam_value.specs.declared.values.Value.{Value as AnyValue};
 ghost use Rattle.seam_defs.specs.declared.types.Operation.{Operation as AnyOperation};
 ghost use Rattle.seam_defs.specs.Groups.{held_by, shown_by};
@@ -10,6 +10,7 @@ ghost use Rattle.seam_defs.specs.Deeds.{value_at, after_with, after_body, after,
 ghost use Rattle.seam_defs.specs.Deeds.{FitsDeed};
 ghost use Rattle.seam_defs.specs.Running.{is_in, is_free, OnGroup, WereReplaced, OthersStay, SameOn, IsFirstShown};
 
+use crate::states::copy_values;
 use crate::{Deed, Group, Method, Operand, Operation, Part, Property, Props, State, TypeDef};
 use seam_value::{Value, ValueType};
 use std::alloc::{AllocError, Global};
@@ -117,7 +118,7 @@ impl TypeDef {
     }
 }
 
-// Runs a method's body. What it needs of memory it allocates first, so that it cannot fail half-way.
+// Runs a method's body, on values of its own: those that it is given may be shared.
 fn run(
     properties: &[Property],
     method: &Method,
@@ -133,9 +134,13 @@ fn run(
         ≡ projected properties.now (held_by method.now.part) (shown_by method.now.part) props.new)) }
     ensures err { OnErr result (props.new ≡ props.old) }
 {
+    let alloc = *method.body.allocator();
     let body = method.body.as_slice();
-    let mut values = operand_values(*method.body.allocator(), args, body)?;
-    Ok(execute(properties, method.part, body, props, &mut values))
+    let mut values = operand_values(alloc, args, body)?;
+    let mut later = copy_values(alloc, props.values())?;
+    let changed = execute(properties, method.part, body, &mut later, &mut values);
+    *props = Props::of(later)?;
+    Ok(changed)
 }
 
 // Does the operations of a body with the values of their operands, and answers whether what others may see has changed.
@@ -143,7 +148,7 @@ fn execute(
     properties: &[Property],
     part: Part,
     body: &[Operation],
-    props: &mut Props,
+    props: &mut [Value],
     values: &mut [Value],
 ) -> bool
     requires long { length values.old ≡ length body.now }
@@ -163,7 +168,7 @@ fn replace_values(
     properties: &[Property],
     group: Group,
     body: &[Operation],
-    props: &mut Props,
+    props: &mut [Value],
     values: &mut [Value],
 )
     requires long { length values.old ≡ length body.now }
@@ -185,7 +190,7 @@ fn operate(
     group: Group,
     operation: &Operation,
     value: &mut Value,
-    props: &mut Props,
+    props: &mut [Value],
 )
     ensures after { props.new ≡ after_with properties.now group props.old operation.now value.old }
     ensures replaced { let place = place_of properties.now group (target operation.now) in
@@ -194,8 +199,8 @@ fn operate(
     let by = std::mem::replace(value, Value::Number(0));
     let place = place_of(properties, group, operation.target());
     let ty = type_at(properties, operation.target());
-    let put = operated(operation, ty, props.number_at(place), by);
-    *value = props.replace(place, put);
+    let put = operated(operation, ty, number_at(props, place), by);
+    *value = replace_at(props, place, put);
 }
 
 // Whether a value that others may see differs from the one that the first operation on it replaced.
@@ -203,7 +208,7 @@ fn any_changed(
     properties: &[Property],
     part: Part,
     body: &[Operation],
-    props: &Props,
+    props: &[Value],
     replaced: &[Value],
 ) -> bool
     requires { length replaced.now ≡ length body.now }
@@ -224,7 +229,7 @@ fn is_changed_at(
     part: Part,
     body: &[Operation],
     i: usize,
-    props: &Props,
+    props: &[Value],
     old: &Value,
 ) -> bool
     requires { i < length body.now }
@@ -240,7 +245,7 @@ fn is_changed_at(
     let place = place_of(properties, part.held(), property);
     is_free(property, &body[..i])
         && is_in(properties, part.shown(), property)
-        && props.differs_at(place, old)
+        && differs_at(props, place, old)
 }
 
 // Whether no operation is on the property.
@@ -298,6 +303,39 @@ fn place_of(properties: &[Property], group: Group, property: u16) -> usize
         .count()
 }
 
+// Puts a value in a place, where there is one, and gives back what stood there, or else the value itself.
+fn replace_at(values: &mut [Value], place: usize, value: Value) -> Value
+    ensures values { values.new ≡ slice_set values.old place value }
+    ensures old { result ≡ slice_index_or values.old place value }
+{
+    if place < values.len() {
+        std::mem::replace(&mut values[place], value)
+    } else {
+        value
+    }
+}
+
+// The number at a place: 0 where there are not so many values, or for a text.
+fn number_at(values: &[Value], place: usize) -> i128
+    ensures { result ≡ number_of (value_at values.now place) }
+{
+    match values.get(place) {
+        Some(value) => number(value),
+        None => 0,
+    }
+}
+
+// Whether there is a value at a place, and it is another one.
+fn differs_at(values: &[Value], place: usize, old: &Value) -> bool
+    ensures yes { result ≡ true → (place < length values.now) × (value_at values.now place ≢ old.now) }
+    ensures no { result ≡ false → place < length values.now → value_at values.now place ≡ old.now }
+{
+    match values.get(place) {
+        Some(value) => value != old,
+        None => false,
+    }
+}
+
 // The type of a property.
 fn type_at(properties: &[Property], property: u16) -> ValueType
     ensures { result ≡ type_at properties.now property }
@@ -334,7 +372,7 @@ fn nearest_difference(ty: ValueType, a: i128, b: i128) -> i128
 }
 
 // A value as a number. A text counts as 0, which a well-typed operation never asks for.
-pub(crate) fn number(value: &Value) -> i128
+fn number(value: &Value) -> i128
     ensures { result ≡ number_of value.now }
 {
     match value {

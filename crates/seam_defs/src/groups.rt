@@ -1,10 +1,10 @@
 // Groups of values: their start, a group of a group, and their text.
-ghost use Rattle.std.specs.Prelude.{◌≡◌, ◌↔◌, ◌++◌, IsTrue, OnOk, OnErr, IfOk, List, [], ◌∷◌, length, take, drop};
+ghost use Rattle.std.specs.Prelude.{◌≡◌, ◌<◌, ◌↔◌, ◌++◌, IsTrue, OnOk, OnErr, IfOk, List, [], ◌∷◌, length, take, drop, true};
 ghost use Rattle.std.specs.List.{flat_map, zip};
 ghost use Rattle.seam_defs.specs.Types.{IsType};
 ghost use Rattle.seam_defs.specs.Tests.{are_of_group as are_values_of_group};
 ghost use Rattle.seam_defs.specs.Running.{FitsAt};
-ghost use Rattle.seam_defs.specs.Deeds.{properties_of, start_values, projected, property_text, values_text, IsOfGroup};
+ghost use Rattle.seam_defs.specs.Deeds.{properties_of, start_values, projected, property_text, values_text, value_at, IsOfGroup};
 
 use crate::{Group, Property, Props, TypeDef};
 use seam_value::{Value, ValueType};
@@ -18,7 +18,7 @@ impl TypeDef {
     {
         let mut values = Vec::with_capacity(*self.properties.allocator(), self.count_of(group))?;
         push_defaults(self.properties.as_slice(), group, &mut values)?;
-        Ok(Props::of(values))
+        Props::of(values)
     }
 
     /// Whether the values are those of the group: one for each of its properties, in name order, that fits its type.
@@ -49,7 +49,36 @@ impl TypeDef {
                 place += 1;
             }
         }
-        Ok(Props::of(values))
+        Props::of(values)
+    }
+
+    /// Whether `projection` has the values that `project_group` gives, which takes no memory to find out. It is so where the answer
+    /// is true.
+    pub fn is_projection(
+        &self,
+        held: Group,
+        props: &Props,
+        group: Group,
+        projection: &Props,
+    ) -> bool
+        ensures { result ≡ true → projection.now ≡ projected self.now.properties held group props.now }
+    {
+        let values = props.values();
+        let copies = projection.values();
+        let mut place = 0;
+        let mut copied = 0;
+        for property in self.properties.as_slice() {
+            if property.flag.in_group(held) {
+                if property.flag.in_group(group) {
+                    if !is_copy_at(values, place, copies, copied) {
+                        return false;
+                    }
+                    copied += 1;
+                }
+                place += 1;
+            }
+        }
+        copied == copies.len()
     }
 
     /// Appends the text of a group's values: for each of its properties, in name order, a space, the name, `=` and the
@@ -185,4 +214,12 @@ fn copy_at(
         }
         None => Ok(()),
     }
+}
+
+// Whether there are a value and a copy at their places, and they are equal.
+fn is_copy_at(values: &[Value], place: usize, copies: &[Value], copied: usize) -> bool
+    ensures within { result ≡ true → (place < length values.now) × (copied < length copies.now) }
+    ensures same { result ≡ true → value_at copies.now copied ≡ value_at values.now place }
+{
+    place < values.len() && copied < copies.len() && copies[copied] == values[place]
 }

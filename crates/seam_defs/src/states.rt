@@ -1,11 +1,10 @@
-ghost use Rattle.std.specs.Prelude.{◌≡◌, ◌≢◌, ◌<◌, true, false, IfOk, length, option_copied, slice_get, slice_set, slice_index_or};
-ghost use Rattle.seam_defs.specs.Deeds.{number_of, value_at};
+ghost use Rattle.std.specs.Prelude.{◌≡◌, IfOk, length, option_copied, slice_get};
 
-use crate::deeds::number;
 use seam_geo::Pos;
 use seam_value::Value;
 use std::alloc::{AllocError, Global};
 use std::marker::Model;
+use std::sync::Arc;
 
 /// The arguments of a call.
 #[derive(Debug, Drop)]
@@ -47,7 +46,7 @@ impl Args {
 }
 
 // Equal values.
-fn copy_values(alloc: Global, values: &[Value]) -> Result<Vec<Value>, AllocError>
+pub(crate) fn copy_values(alloc: Global, values: &[Value]) -> Result<Vec<Value>, AllocError>
     ensures { IfOk result (λ copies. copies.items ≡ values.now) }
 {
     let mut copies = Vec::with_capacity(alloc, values.len())?;
@@ -57,74 +56,48 @@ fn copy_values(alloc: Global, values: &[Value]) -> Result<Vec<Value>, AllocError
     Ok(copies)
 }
 
-/// The values of a group of properties, in the order of the properties.
+/// The values of a group of properties, in the order of the properties. Copies share the memory of the values, which never change.
 #[derive(Debug, Drop)]
 pub struct Props {
-    values: Vec<Value>,
+    values: Arc<Vec<Value>, Global>,
 }
 
 impl Model for Props {
     ghost use Rattle.std.specs.Prelude.{List};
+    ghost use Rattle.std.specs.Arc.{arc_value};
     ghost use Rattle.seam_value.specs.declared.values.Value.{Value as AnyValue};
 
     ghost Value = { List AnyValue };
 
-    ghost view = { λ p. p.values.items };
+    ghost view = { λ p. (arc_value p.values).items };
 }
 
 impl Props {
     /// The values of the vector, in its order.
-    pub fn of(values: Vec<Value>) -> Self
-        ensures { result ≡ values.items }
+    pub fn of(values: Vec<Value>) -> Result<Self, AllocError>
+        ensures { IfOk result (λ props. props ≡ values.items) }
     {
-        Props { values }
+        let alloc = *values.allocator();
+        match Arc::new(alloc, values) {
+            Ok(values) => Ok(Props { values }),
+            Err(_) => Err(AllocError),
+        }
     }
 
     /// Equal values.
     pub fn copy(&self) -> Result<Props, AllocError>
         ensures { IfOk result (λ props. props ≡ self.now) }
     {
-        let values = copy_values(*self.values.allocator(), &self.values)?;
-        Ok(Props { values })
+        Ok(Props {
+            values: Arc::try_clone(&self.values)?,
+        })
     }
 
     /// The values.
     pub(crate) fn values(&self) -> &[Value]
         ensures { result.now ≡ self.now }
     {
-        &self.values
-    }
-
-    // Puts a value in a place, where there is one, and gives back what stood there, or else the value itself.
-    pub(crate) fn replace(&mut self, place: usize, value: Value) -> Value
-        ensures values { self.new ≡ slice_set self.old place value }
-        ensures old { result ≡ slice_index_or self.old place value }
-    {
-        match self.values.get_mut(place) {
-            Some(old) => std::mem::replace(old, value),
-            None => value,
-        }
-    }
-
-    // The number at a place: 0 where there are not so many values, or for a text.
-    pub(crate) fn number_at(&self, place: usize) -> i128
-        ensures { result ≡ number_of (value_at self.now place) }
-    {
-        match self.values.get(place) {
-            Some(value) => number(value),
-            None => 0,
-        }
-    }
-
-    // Whether there is a value at a place, and it is another one.
-    pub(crate) fn differs_at(&self, place: usize, old: &Value) -> bool
-        ensures yes { result ≡ true → (place < length self.now) × (value_at self.now place ≢ old.now) }
-        ensures no { result ≡ false → place < length self.now → value_at self.now place ≡ old.now }
-    {
-        match self.values.get(place) {
-            Some(value) => value != old,
-            None => false,
-        }
+        self.values.as_slice()
     }
 
     /// How many values there are.

@@ -353,6 +353,23 @@ impl Real {
         })
     }
 
+    /// Whether the copy is what other clients are shown of it, which takes no memory to find out. It is so where the answer is true.
+    pub fn is_shown_as(&self, defs: &Defs, copy: &GhostCopy) -> bool
+        ensures { (me : ℕ) (settings : AllSettings) →
+            result ≡ true → copy.now ≡ other_of_real (node_with defs.now me settings) self.now.core }
+    {
+        let body = &self.body;
+        copy.ty == body.ty
+            && copy.version == body.public_version
+            && copy.state.pos == body.state.pos
+            && defs.type_at(body.ty).is_projection(
+                Group::Real,
+                &body.state.props,
+                Group::Other,
+                &copy.state.props,
+            )
+    }
+
     /// What its own client is shown of it.
     pub fn own_state(&self, defs: &Defs) -> Result<State, AllocError>
         ensures { (me : ℕ) (settings : AllSettings) →

@@ -1,6 +1,6 @@
 //! What an entity with a client has on its real, and what is shown of others.
 
-ghost use Rattle.std.specs.Prelude.{◌≡◌, ◌+◌, ◌<◌, ◌^◌, ℕ, IfOk, map, length, List};
+ghost use Rattle.std.specs.Prelude.{◌≡◌, ◌+◌, ◌<◌, ◌^◌, ℕ, IfOk, map, length, List, true};
 ghost use Rattle.std.specs.List.Sorted.{IsStrictlySortedBy};
 ghost use Rattle.std.specs.Ordering.{nat_cmp};
 ghost use Rattle.seam_defs.specs.declared.settings.Settings.{Settings as AllSettings};
@@ -80,4 +80,20 @@ pub fn copy_for_others(defs: &Defs, copy: &GhostCopy) -> Result<GhostCopy, Alloc
             props,
         },
     })
+}
+
+/// Whether `shown` is what other clients are shown of an entity of which there is a copy. It is so where the answer is true.
+pub fn is_shown_as(defs: &Defs, copy: &GhostCopy, shown: &GhostCopy) -> bool
+    ensures { (me : ℕ) (settings : AllSettings) →
+        result ≡ true → shown.now ≡ copy_for_others (node_with defs.now me settings) copy.now }
+{
+    shown.ty == copy.ty
+        && shown.version == copy.version
+        && shown.state.pos == copy.state.pos
+        && defs.type_at(copy.ty).is_projection(
+            Group::Ghost,
+            &copy.state.props,
+            Group::Other,
+            &shown.state.props,
+        )
 }

@@ -1,7 +1,7 @@
 -- Where reals and copies are, as it is kept beside them: after a change of one entity, and after a walk over all.
 use Rattle.std.proofs.Common.{◌≡◌, ℕ, ◌<◌, ◌-◌, Bool, true, false, cond, T, find, List, Option, None, Some, refl, sym, ap, subst, ◌∙◌}
 use Rattle.std.proofs.Common.{arith}
-use Rattle.std.proofs.Common.{IfSome, is_some, eqb, ◌&&◌, Bor, option_copied}
+use Rattle.std.proofs.Common.{IfSome, is_some, eqb, Bor, option_copied}
 use Rattle.std.specs.Prelude.{option_map, nat_lt}
 use Rattle.std.specs.Ordering.{nat_cmp, eq_by_cmp, is_eq}
 use Rattle.std.specs.declared.cmp.Ordering.{Ordering}
@@ -19,7 +19,7 @@ use Rattle.seam_ghosts.specs.Book.{BookView, copy_in, copied, answer, beat_of, w
 use Rattle.seam_call.specs.declared.shown.GhostCopy.{GhostCopy}
 use Rattle.seam_entity.specs.Reals.{RealView}
 use Rattle.seam_steps.specs.Maps.{Map, set_at}
-use Rattle.seam_steps.proofs.Slots.{get-set_at, set_at-same}
+use Rattle.seam_steps.proofs.Slots.{get-set_at}
 use Rattle.seam_known.proofs.Walks.{comes_after, IsBefore, nothing_before, there}
 use Rattle.seam_known.proofs.Knowing.{find_copied, copies_rise}
 use Rattle.seam_parts.specs.Spots.{is_out, is_none_else_out, still_out, AreNoted, AreListed, IsNoted, IsChanged, place_of_real}

@@ -30,7 +30,7 @@ use std::alloc::{AllocError, Global};
 use std::sync::Wait;
 use std::thread::Threads;
 
-// How many events of a phase happen before workers are called: so many take less time than threads take to start.
+// How many events of a phase happen before workers are called: they bring nothing below that.
 const MOST_ALONE: u32 = 8192;
 
 // Lets events of a net happen: the first of them here, and where more are left by the workers, if they are more than one.

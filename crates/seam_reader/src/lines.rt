@@ -10,7 +10,7 @@ use std::alloc::AllocError;
 fn state_at(known: &Known<'_>, words: &Words<'_>, place: usize) -> Result<State, AllocError> {
     Ok(State {
         pos: words.pos(place),
-        props: Props::of(words.props(known.alloc, place.saturating_add(2))?),
+        props: Props::of(words.props(known.alloc, place.saturating_add(2))?)?,
     })
 }
 
@@ -51,7 +51,7 @@ pub(crate) fn base_line(known: &Known<'_>, words: &Words<'_>) -> Result<BaseLine
         entity,
         ty: known.type_of(entity),
         version: words.long_number(2),
-        props: Props::of(words.props(known.alloc, 3)?),
+        props: Props::of(words.props(known.alloc, 3)?)?,
     })
 }
 
@@ -95,7 +95,7 @@ fn text_of(known: &Known<'_>, words: &Words<'_>) -> Result<ClientText, AllocErro
     Ok(match words.at(3) {
         b"base" => ClientText::Base(
             words.long_number(4),
-            Props::of(words.props(known.alloc, 5)?),
+            Props::of(words.props(known.alloc, 5)?)?,
         ),
         _ => ClientText::Shown(shown_at(known, words)?),
     })

@@ -46,11 +46,7 @@ impl Copied for Call {
 
 impl Copied for GhostCopy {
     fn copied(&self) -> Result<GhostCopy, AllocError> {
-        Ok(GhostCopy {
-            ty: self.ty,
-            version: self.version,
-            state: self.state.copy()?,
-        })
+        self.copy()
     }
 }
 

@@ -7,5 +7,7 @@
 
 mod looking;
 mod near;
+mod told;
 
 pub use looking::{Glance, Sight, look_task};
+pub use told::ToldCopies;

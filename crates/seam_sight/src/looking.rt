@@ -20,8 +20,9 @@ ghost use Rattle.seam_sight.specs.Looking.{seeing, looked, told_at_look, own_tol
 ghost use Rattle.seam_sight.specs.Looking.{comes_after, seen_if, seen_real_of, seen_copy_of, earlier_seen};
 ghost use Rattle.seam_sight.specs.Near.{HasNear};
 
+use crate::told::ToldCopies;
 use seam_call::{GhostCopy, Shown, Update};
-use seam_entity::{Msg, Real, Witness, copy_for_others, is_small};
+use seam_entity::{Msg, Real, Witness, is_small};
 use seam_machine::Out;
 use seam_parts::{CopyBook, Known, Lists, Places, RealTable, Reals, put_in, take_out};
 use seam_tree::MOST_CELLS;
@@ -182,7 +183,7 @@ impl Sight<'_> {
     }
 
     // What is known of an entity: its real or, where that is not here, its copy.
-    fn copy_of(&self, e: u32) -> Result<Option<GhostCopy>, AllocError>
+    fn copy_of(&self, e: u32, told: &mut ToldCopies) -> Result<Option<GhostCopy>, AllocError>
         ensures { (c : CellView) → let d = seeing c (here_in self.now.known.now) self.now.reals.now.items self.now.copies.now.ghosts in
             IfOk result (λ o. o ≡ known_of e (known_to d self.now.own)) }
     {
@@ -190,50 +191,60 @@ impl Sight<'_> {
             return Ok(None);
         }
         if let Some(parcel) = self.reals.get(e) {
-            let copy = parcel.real.copy_for_others(&self.known.defs)?;
+            let copy = told.of_real(&self.known.defs, e, &parcel.real)?;
             return Ok(Some(copy));
         }
         let Some(copy) = self.copies.get(e) else {
             return Ok(None);
         };
-        let shown = copy_for_others(&self.known.defs, copy)?;
+        let shown = told.of_copy(&self.known.defs, e, copy)?;
         Ok(Some(shown))
     }
 
     // What is shown for a look, if anything is.
-    fn shown_for(&self, look: &Look) -> Result<Option<Shown>, AllocError>
+    fn shown_for(&self, look: &Look, told: &mut ToldCopies) -> Result<Option<Shown>, AllocError>
         ensures { (c : CellView) → let d = seeing c (here_in self.now.known.now) self.now.reals.now.items self.now.copies.now.ghosts in
             IfOk result (λ o. o ≡ shown_for (known_to d self.now.own) look.now) }
     {
         match look {
             Look::Leave(e) => Ok(Some(Shown::Leave(*e))),
             Look::Set(e) => {
-                let copy = self.copy_of(*e)?;
+                let copy = self.copy_of(*e, told)?;
                 Ok(set_of(*e, copy))
             }
             Look::Enter(e) => {
-                let copy = self.copy_of(*e)?;
+                let copy = self.copy_of(*e, told)?;
                 Ok(enter_of(*e, copy))
             }
         }
     }
 
     // Adds what is shown for a look.
-    fn add(&self, look: &Look, shown: &mut VecDeque<Shown>) -> Result<(), AllocError>
+    fn add(
+        &self,
+        look: &Look,
+        told: &mut ToldCopies,
+        shown: &mut VecDeque<Shown>,
+    ) -> Result<(), AllocError>
         ensures { (c : CellView) → let d = seeing c (here_in self.now.known.now) self.now.reals.now.items self.now.copies.now.ghosts in
             OnOk result (shown.new.items ≡ shown.old.items ++ listed (shown_for (known_to d self.now.own) look.now)) }
     {
-        let item = self.shown_for(look)?;
+        let item = self.shown_for(look, told)?;
         push_if(shown, item)
     }
 
     // Adds what is shown for the looks, in their order.
-    fn add_all(&self, looks: &[Look], shown: &mut VecDeque<Shown>) -> Result<(), AllocError>
+    fn add_all(
+        &self,
+        looks: &[Look],
+        told: &mut ToldCopies,
+        shown: &mut VecDeque<Shown>,
+    ) -> Result<(), AllocError>
         ensures { (c : CellView) → let d = seeing c (here_in self.now.known.now) self.now.reals.now.items self.now.copies.now.ghosts in
             OnOk result (shown.new.items ≡ shown.old.items ++ filter_map (shown_for (known_to d self.now.own)) looks.now) }
     {
         for look in looks {
-            self.add(look, shown)?;
+            self.add(look, told, shown)?;
         }
         Ok(())
     }
@@ -261,6 +272,7 @@ impl Sight<'_> {
         real: &Real,
         witness: &Witness,
         looks: &[Look],
+        told: &mut ToldCopies,
     ) -> Result<VecDeque<Shown>, AllocError>
         ensures { (c : CellView) → let h = here_in self.now.known.now in
             let d = seeing c h self.now.reals.now.items self.now.copies.now.ghosts in
@@ -268,12 +280,17 @@ impl Sight<'_> {
     {
         let mut shown = VecDeque::new(self.alloc);
         self.add_own(real, witness, &mut shown)?;
-        self.add_all(looks, &mut shown)?;
+        self.add_all(looks, told, &mut shown)?;
         Ok(shown)
     }
 
     // Makes all that a look takes; nothing changes but the room of the witness.
-    fn get_ready(&self, real: &Real, witness: &mut Witness) -> Result<Glance, AllocError>
+    fn get_ready(
+        &self,
+        real: &Real,
+        witness: &mut Witness,
+        told: &mut ToldCopies,
+    ) -> Result<Glance, AllocError>
         ensures same { witness_of witness.new ≡ witness_of witness.old }
         ensures rising { IfOk result (λ g. IsStrictlySortedBy nat_cmp (map (λ s. s.entity) g.seen.items)) }
         ensures near { (c : CellView) → let h = here_in self.now.known.now in let own = real.now.core.state.pos in
@@ -291,7 +308,7 @@ impl Sight<'_> {
         let seen = self.seen(own, &witness.view)?;
         let planned = witness.view.plan(own, &seen)?;
         let looks = self.without_early(&witness.view, &planned)?;
-        let shown = self.show(real, witness, &looks)?;
+        let shown = self.show(real, witness, &looks, told)?;
         Ok(Glance { seen, looks, shown })
     }
 
@@ -300,6 +317,7 @@ impl Sight<'_> {
         &self,
         real: &Real,
         witness: &mut Witness,
+        told: &mut ToldCopies,
         out: &mut Out<Msg>,
     ) -> Result<(), AllocError>
         requires bases { 1 ≤ self.now.known.now.settings.bases }
@@ -314,7 +332,7 @@ impl Sight<'_> {
         ensures err { OnErr result (witness_of witness.new ≡ witness_of witness.old) }
         ensures err_out { OnErr result (out.new.items ≡ out.old.items) }
     {
-        let glance = self.get_ready(real, witness)?;
+        let glance = self.get_ready(real, witness, told)?;
         let updates = count(&glance.shown);
         if !are_numbers_small(witness.sent, updates) {
             return Ok(());
@@ -403,6 +421,7 @@ fn look_around(
     e: u32,
     reals: &mut Reals,
     copies: &CopyBook,
+    told: &mut ToldCopies,
     out: &mut Out<Msg>,
 ) -> Result<(), AllocError>
     requires marks { AreKept reals.old }
@@ -431,7 +450,7 @@ fn look_around(
         reals: &reals.items,
         copies,
     };
-    let result = sight.look(&real, &mut witness, out);
+    let result = sight.look(&real, &mut witness, told, out);
     real.put_witness(witness);
     put_in(reals, e, real);
     result
@@ -445,6 +464,7 @@ pub fn look_task(
     reals: &mut Reals,
     places: &mut Places,
     lists: &mut Lists,
+    told: &mut ToldCopies,
     out: &mut Out<Msg>,
 ) -> Result<(), AllocError>
     requires marks { AreKept reals.old }
@@ -463,7 +483,7 @@ pub fn look_task(
     };
     reals.items.locate(alloc);
     places.copies.locate(alloc);
-    look_around(alloc, known, e, reals, &places.copies, out)?;
+    look_around(alloc, known, e, reals, &places.copies, told, out)?;
     let _ = lists.looks.take_first();
     Ok(())
 }
