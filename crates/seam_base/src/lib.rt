@@ -19,6 +19,3 @@ mod updates;
 pub use node::Base;
 pub use part::BasePart;
 pub use seam_memory::NoMemoryFor;
-
-#[cfg(test)]
-mod tests;

@@ -20,6 +20,3 @@ pub use loads::{Making, begin_round, give_witness, make_real};
 pub use reaping::reap;
 pub use surveying::survey_task;
 pub use tasks::{Tasked, execute_ready};
-
-#[cfg(test)]
-mod tests;

@@ -35,6 +35,3 @@ pub use property_name::PropertyName;
 pub use settings::{LARGEST_SIZE, LONGEST_DISTANCE, Settings};
 pub use states::{Args, Deed, Props, State};
 pub use types::{Method, Operand, Operation, Property, TypeDef};
-
-#[cfg(test)]
-mod tests;

@@ -26,6 +26,3 @@ pub use real::{After, Did, Real, ghost_copy};
 pub use room::reserve_one;
 pub use seam_memory::NoMemoryFor;
 pub use witness::{Witness, copy_for_others, is_shown_as};
-
-#[cfg(test)]
-mod tests;

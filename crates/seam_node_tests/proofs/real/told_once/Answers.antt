@@ -1,5 +1,5 @@
 use Rattle.seam_entity.proofs.OrderLemmas.{ordered_none}
-use Rattle.seam_entity.proofs.tests.told_once.Goals as goal
+use Rattle.seam_node_tests.proofs.real.told_once.Goals as goal
 
 pub plan-requires : goal.plan-requires
 plan-requires c = ordered_none

@@ -1,19 +1,13 @@
-// What the calls that take memory give with ample memory.
-use crate::Cell;
+// What the calls of cells that take memory give with ample memory.
+use crate::builtin::{AVATAR, builtin};
 use seam_call::{Call, GhostCopy, Sender};
+use seam_cell::Cell;
 use seam_defs::{Deed, Defs, Part, Settings};
 use seam_entity::Real;
 use seam_geo::Pos;
 use seam_machine::Out;
 use std::alloc::{AllocError, Global};
 use std::test::Fail;
-
-const AVATAR: u16 = 0;
-
-// A call of its own, without a clause: what the built-in types are is not computed again for each call on them.
-fn builtin(alloc: Global) -> Result<Defs, AllocError> {
-    Defs::builtin(alloc)
-}
 
 fn create(alloc: Global, defs: &Defs) -> Result<Real, AllocError> {
     Real::create(alloc, defs, 1, AVATAR, Pos { x: 100, z: 100 })

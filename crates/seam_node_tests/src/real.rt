@@ -1,19 +1,13 @@
-// What the calls that take memory give with ample memory.
-use crate::{Did, Msg, Real, Witness, copy_for_others};
+// What the calls of reals that take memory give with ample memory.
+use crate::builtin::{AVATAR, builtin, sent};
 use seam_call::{Call, Sender};
 use seam_defs::{Args, Deed, Defs, Part, Settings};
+use seam_entity::{Did, Msg, Real, Witness, copy_for_others};
 use seam_geo::Pos;
 use seam_value::Value;
 use seam_view::Look;
 use std::alloc::{AllocError, Global};
 use std::test::Fail;
-
-const AVATAR: u16 = 0;
-
-// A call of its own, without a clause: what the built-in types are is not computed again for each call on them.
-fn builtin(alloc: Global) -> Result<Defs, AllocError> {
-    Defs::builtin(alloc)
-}
 
 fn call(alloc: Global, defs: &Defs, number: u64, name: &[u8], by: i128) -> Result<Call, Fail> {
     let method = defs.type_at(AVATAR).find_method(name).ok_or("no method")?;
@@ -148,10 +142,6 @@ fn a_witness_tells_its_own_state_once(rt: HostRuntime) -> Result<(), Fail> {
     assert_eq!(rt; told_once(&mut real)?, (true, false));
     assert!(rt; real.has_witness());
     Ok(())
-}
-
-fn sent<T: Send>(value: T) -> T {
-    value
 }
 
 #[test]

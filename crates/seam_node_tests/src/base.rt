@@ -1,13 +1,12 @@
 // The cases of a base node, with ample memory.
-use crate::Base;
+use crate::builtin::{AVATAR, builtin, sent};
+use seam_base::Base;
 use seam_call::{BaseNode, Call, Order, Sender, Shown, Update};
-use seam_defs::{Args, Deed, Defs, Part, Settings};
+use seam_defs::{Args, Deed, Part, Settings};
 use seam_entity::Msg;
 use seam_machine::{Input, Machine, Out};
-use std::alloc::{AllocError, Global};
+use std::alloc::Global;
 use std::test::Fail;
-
-const AVATAR: u16 = 0;
 
 // What comes to the node.
 #[derive(Drop)]
@@ -24,11 +23,6 @@ struct Seen {
     part: Option<(u64, usize, usize)>,
     route: Option<(u8, u64)>,
     sent: Option<u8>,
-}
-
-// A call of its own, without a clause: what the built-in types are is not computed again for each call on them.
-fn builtin(alloc: Global) -> Result<Defs, AllocError> {
-    Defs::builtin(alloc)
 }
 
 fn call(alloc: Global, part: Part, number: u64, name: &[u8]) -> Result<Call, Fail> {
@@ -54,10 +48,6 @@ fn leave(number: u64, entity: u32) -> Event {
         number,
         shown: Shown::Leave(entity),
     }))
-}
-
-fn sent<T: Send>(value: T) -> T {
-    value
 }
 
 // Base node 17 of two, with entity 1, whose real is in cell 1 and which has a client.

@@ -1,18 +1,9 @@
-// What the calls that take memory give with ample memory.
-use crate::{Args, Deed, Defs, Group, Props, State};
+// What the calls of definitions that take memory give with ample memory.
+use crate::builtin::{AVATAR, CHEST, builtin, sent};
+use seam_defs::{Args, Deed, Group, Props, State};
 use seam_geo::Pos;
 use seam_value::Value;
-use std::alloc::{AllocError, Global};
 use std::test::Fail;
-
-// A call of its own, without a clause: what the built-in types are is not computed again for each call on them.
-fn builtin(alloc: Global) -> Result<Defs, AllocError> {
-    Defs::builtin(alloc)
-}
-
-const AVATAR: u16 = 0;
-
-const CHEST: u16 = 1;
 
 #[test]
 fn groups_of_a_new_avatar_are_written(rt: HostRuntime) -> Result<(), Fail> {
@@ -53,10 +44,6 @@ fn a_heal_stops_at_the_greatest_number(rt: HostRuntime) -> Result<(), Fail> {
     assert!(rt; state.props.at(0) == Some(&Value::Number(2_147_483_647)));
     assert!(rt; !avatar.apply(&mut state, &deed)?);
     Ok(())
-}
-
-fn sent<T: Send>(value: T) -> T {
-    value
 }
 
 #[test]

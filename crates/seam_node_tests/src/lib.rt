@@ -1,0 +1,14 @@
+//! Tests of the crates that nodes are made of: definitions, reals, cells and base nodes. They stand here, since a crate with tests of
+//! its own is proved twice.
+#![tactic(auto)]
+
+#[cfg(test)]
+mod base;
+#[cfg(test)]
+mod builtin;
+#[cfg(test)]
+mod cell;
+#[cfg(test)]
+mod defs;
+#[cfg(test)]
+mod real;
