@@ -147,6 +147,27 @@ module _ {M : Type 0} where
       let two = either_none (eqb a sender) (items_to b out) (nothing_to (items_to b out) n) in
       link-view rows busy sender out q a b ∙ (ap (λ l. l ++ link_added sender out a b) one ∙ two)
 
+  none_filled : (b : ℕ) (rows : List (List (List M))) → ((a : ℕ) → link rows a b ≡ []) → filled_to b rows ≡ 0
+  none_filled b [] none = refl
+  none_filled b (r ∷ rs) none =
+      let first : filled (get_or r b []) ≡ 0 = ap filled (none zero) in
+      let others = none_filled b rs (λ a. none (suc a)) in
+      omega (arith, first, others)
+
+  both_none : (l m : List M) → l ++ m ≡ [] → (l ≡ []) × (m ≡ [])
+  both_none [] m e = (refl, e)
+  both_none (x ∷ xs) m e = cc
+
+  -- where each link to the node is empty, its count is 0 and nothing waits for it
+  pub idle_back : (rows : List (List (List M))) (busy : List ℕ) (sender : ℕ) (out : List (ℕ × M)) → IsLinks rows busy sender out → (b : ℕ) →
+      b < length busy → ((a : ℕ) → link (send_all rows sender out) a b ≡ []) → (get_or busy b 0 ≡ 0) × (items_to b out ≡ [])
+  idle_back rows busy sender out q b lt none =
+      let within : b < length rows = omega (arith, lt, q.busy_len) in
+      let parts : (a : ℕ) → (link rows a b ≡ []) × (link_added sender out a b ≡ []) =
+      λ a. both_none (link rows a b) (link_added sender out a b) (sym (link-view rows busy sender out q a b) ∙ none a) in
+      let own : link_added sender out sender b ≡ items_to b out = ap (λ t. cond t (items_to b out) []) (equal_is sender sender refl) in
+      (q.busy_is b within ∙ none_filled b rows (λ a. (parts a).0), sym own ∙ (parts sender).1)
+
   -- with a count of one and nothing that waits, the last sender's link alone holds something, where it does
   pub alone : (rows : List (List (List M))) (busy : List ℕ) (sender : ℕ) (out : List (ℕ × M)) → IsLinks rows busy sender out → (b : ℕ) →
       b < length busy → get_or busy b 0 ≡ 1 → is_empty out ≡ true → 0 < length (link rows sender b) → (a : ℕ) → a ≢ sender →

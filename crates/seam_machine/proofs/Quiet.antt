@@ -1,7 +1,8 @@
 -- A quiet net: every link is empty and no node has a task.
 use Rattle.std.proofs.Common.{◌≡◌, ℕ, zero, suc, ◌<◌, Bool, true, false, List, [], ◌∷◌, length, Option, None, Some, refl, sym, ap, ◌∙◌}
 use Rattle.std.proofs.Common.{arith}
-use Rattle.std.specs.Prelude.{slice_get}
+use Rattle.std.specs.Prelude.{slice_get, map, option_map}
+use Rattle.std.proofs.lemmas.Option.{slice_get-map}
 use Rattle.seam_machine.specs.Views.{NetView}
 use Rattle.seam_machine.specs.Nets.{link, letter, input_from, is_ready, enabled, IsQuiet, IsSquare}
 use Rattle.seam_machine.specs.Events.{EachNode, EachLink}
@@ -34,11 +35,22 @@ module _ {N M : Type 0} (has_work : N → Bool) (w : NetView N M) where
       let e : Event = record { node = k; from = None } in
       sym (ap (λ o. is_ready {M = M} has_work o (input_from w.rows k None)) h) ∙ quiet e
 
-  not_ready : (k : ℕ) (o : Option N) (from : Option ℕ) → slice_get w.nodes k ≡ o → EachLink (λ a b l. l ≡ []) w.rows →
-      EachNode (λ k s. has_work s ≡ false) w.nodes → is_ready has_work o (input_from w.rows k from) ≡ false
+  -- an event of a node whose task is not there, and to which no link holds a message
+  not_ready : (k : ℕ) (o : Option N) (from : Option ℕ) → slice_get w.nodes k ≡ o → ((a : ℕ) → link w.rows a k ≡ []) →
+      ((s : N) → slice_get w.nodes k ≡ Some s → has_work s ≡ false) → is_ready has_work o (input_from w.rows k from) ≡ false
   not_ready k None from h empty idle = refl
-  not_ready k (Some s) None h empty idle = idle k s h
-  not_ready k (Some s) (Some a) h empty idle = ap (λ l. is_ready has_work (Some s) (letter a l)) (empty a k)
+  not_ready k (Some s) None h empty idle = idle s h
+  not_ready k (Some s) (Some a) h empty idle = ap (λ l. is_ready has_work (Some s) (letter a l)) (empty a)
 
   pub quiet_from : EachLink (λ a b l. l ≡ []) w.rows → EachNode (λ k s. has_work s ≡ false) w.nodes → IsQuiet has_work w
-  quiet_from empty idle e = not_ready e.node (slice_get w.nodes e.node) e.from refl empty idle
+  quiet_from empty idle e = not_ready e.node (slice_get w.nodes e.node) e.from refl (λ a. empty a e.node) (idle e.node)
+
+  -- the same by the node's mark among those that were asked
+  pub not_enabled : (e : Event) → slice_get (map has_work w.nodes) e.node ≡ Some false → ((a : ℕ) → link w.rows a e.node ≡ []) →
+      enabled has_work w e ≡ false
+  not_enabled e marked empty =
+      not_ready e.node (slice_get w.nodes e.node) e.from refl empty
+      (λ s h.
+      let there = slice_get-map has_work w.nodes e.node in
+      let mapped = ap (option_map has_work) h in
+      cc)

@@ -1,7 +1,7 @@
 //! The links of a net, and what waits for room in them.
 
 ghost use Rattle.std.specs.Prelude.{◌≡◌, ◌≢◌, ℕ, ◌+◌, ◌-◌, ◌<◌, ◌≤◌, ◌^◌, List, [], ◌∷◌, ◌++◌, length, true, Some, None, OnOk, OnErr, IfOk};
-ghost use Rattle.std.specs.Prelude.{IfSome, IfNone, option_copied, slice_get, slice_index, slice_index_or, slice_set, vec_len};
+ghost use Rattle.std.specs.Prelude.{IfSome, IfNone, option_copied, slice_get, slice_index, slice_index_or, slice_set, vec_len, false};
 ghost use Rattle.std.specs.List.{All};
 ghost use Rattle.seam_machine.specs.Sends.{AllBelow};
 ghost use Rattle.seam_machine.specs.Nets.{link};
@@ -135,9 +135,10 @@ impl<T> Links<T> {
         None
     }
 
-    // No link to that node holds a message, where the answer is true.
+    // Whether no link to that node holds a message.
     fn is_idle(&self, to: u8) -> bool
-        ensures { result ≡ true → (a : ℕ) → link self.now.rows a to ≡ [] }
+        ensures idle { result ≡ true → (a : ℕ) → link self.now.rows a to ≡ [] }
+        ensures only_idle { to < length self.now.rows → ((a : ℕ) → link self.now.rows a to ≡ []) → result ≡ true }
     {
         let at = to as usize;
         if at >= self.busy.len() {
@@ -147,6 +148,22 @@ impl<T> Links<T> {
             return self.busy[at] == 0;
         }
         self.busy[at] == 0 && self.out.count_to(to) == 0
+    }
+
+    /// The first node that is marked, or to which a link holds a message; the number of nodes where there is none.
+    pub fn first_busy(&self, marks: &[bool]) -> usize
+        requires { length marks.now ≡ length self.now.rows }
+        ensures within { result ≤ length self.now.rows }
+        ensures unmarked { (k : ℕ) → k < result → slice_get marks.now k ≡ Some false }
+        ensures idle { (k a : ℕ) → k < result → link self.now.rows a k ≡ [] }
+        ensures busy { result < length self.now.rows → ((a : ℕ) → link self.now.rows a result ≡ []) → slice_get marks.now result ≡ Some true }
+    {
+        for k in 0..self.busy.len() {
+            if marks[k] || !self.is_idle(k as u8) {
+                return k;
+            }
+        }
+        self.busy.len()
     }
 
     // The node that sent last, where its link to that node is the only one that holds a message.

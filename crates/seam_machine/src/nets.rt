@@ -228,14 +228,14 @@ impl<M: Machine> Net<M> {
         self.nodes[node as usize].has_task()
     }
 
-    /// The first enabled event: of the lowest node, and of its links in rising number before its task.
-    /// There is none exactly where the net is quiet.
-    pub fn next_event(&self) -> Option<Event>
+    // The first enabled event, where none is enabled of the nodes before `first`.
+    fn next_from(&self, first: usize) -> Option<Event>
+        requires { (d : Event) → d.node < first → enabled M.has_work self.now d ≡ false }
         ensures enabled { IfSome result (λ e. enabled M.has_work self.now e ≡ true) }
         ensures first { IfSome result (λ e. (d : Event) → IsBefore d e → enabled M.has_work self.now d ≡ false) }
         ensures none { IfNone result (IsQuiet M.has_work self.now) }
     {
-        for k in 0..self.nodes.len() {
+        for k in first..self.nodes.len() {
             let node = k as u8;
             if let Some(from) = self.links.first_from(node) {
                 return Some(Event {
@@ -248,6 +248,19 @@ impl<M: Machine> Net<M> {
             }
         }
         None
+    }
+
+    /// The first enabled event: of the lowest node, and of its links in rising number before its task.
+    /// There is none exactly where the net is quiet.
+    pub fn next_event(&self) -> Option<Event>
+        ensures enabled { IfSome result (λ e. enabled M.has_work self.now e ≡ true) }
+        ensures first { IfSome result (λ e. (d : Event) → IsBefore d e → enabled M.has_work self.now d ≡ false) }
+        ensures none { IfNone result (IsQuiet M.has_work self.now) }
+    {
+        if self.asked {
+            return self.next_from(self.links.first_busy(self.tasks.as_slice()));
+        }
+        self.next_from(0)
     }
 
     /// Whether no event is enabled.
