@@ -22,6 +22,7 @@ use crate::laws::what_is_found_is_printed;
 use crate::residents::{Resident, Residents};
 use seam_core::World;
 use seam_defs::Props;
+use seam_summary::plus;
 use seam_value::Value;
 use std::alloc::AllocError;
 use std::collections::BTreeMap;
@@ -85,19 +86,10 @@ fn count_calls(residents: &BTreeMap<u32, Resident>, world: &World) -> Result<u64
     let mut near = Some(0);
     for (_, resident) in residents {
         let (calls, after) = calls_of(near, resident, world);
-        count = and_more(count, calls)?;
+        count = plus(count, calls)?;
         near = after;
     }
     Ok(count)
-}
-
-fn and_more(count: u64, more: u64) -> Result<u64, AllocError>
-    ensures { IfOk result (λ n. n ≡ count + more) }
-{
-    match count.checked_add(more) {
-        Some(all) => Ok(all),
-        None => Err(AllocError),
-    }
 }
 
 // ---- lines
@@ -123,7 +115,7 @@ fn count_told(
 {
     let mut count = 0;
     for (_, resident) in residents {
-        count = and_more(count, lines_of(resident, kept, world))?;
+        count = plus(count, lines_of(resident, kept, world))?;
     }
     Ok(count)
 }

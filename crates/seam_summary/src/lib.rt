@@ -8,4 +8,4 @@ mod laws;
 mod totals;
 
 pub use laws::{storm_has_one_summary, summary_is_one};
-pub use totals::{Sums, Totals};
+pub use totals::{Sums, Totals, plus};

@@ -1,6 +1,6 @@
 //! What is summed up of the rounds of a run.
 
-ghost use Rattle.std.specs.Prelude.{◌≡◌, ◌+◌, ◌∷◌, ◌++◌, [], List, IfOk, OnOk};
+ghost use Rattle.std.specs.Prelude.{◌≡◌, ◌≤◌, ◌+◌, ◌^◌, ◌∷◌, ◌++◌, [], List, IfOk, OnOk, OnErr};
 ghost use Rattle.seam_transcript.specs.Texts.{field};
 ghost use Rattle.seam_summary.specs.Summary.{totals_of, totals_text};
 ghost use Rattle.seam_summary.specs.declared.totals.Sums.{Sums as SumsOf};
@@ -32,9 +32,10 @@ pub struct Totals {
     pub hp: i64,
 }
 
-// The sum of two counts. One past 2^64 is answered like a failed allocation: no memory holds so many lines.
-fn plus(count: u64, more: u64) -> Result<u64, AllocError>
-    ensures { IfOk result (λ n. n ≡ count + more) }
+/// The sum of two counts. One that does not fit 64 bits is answered like a failed allocation: no memory holds so many lines.
+pub fn plus(count: u64, more: u64) -> Result<u64, AllocError>
+    ensures sum { IfOk result (λ n. n ≡ count + more) }
+    ensures over { OnErr result (2 ^ 64 ≤ count + more) }
 {
     count.checked_add(more).ok_or(AllocError)
 }
