@@ -1,13 +1,11 @@
 -- What the lists of places give is what is known of others that are near.
-use Rattle.std.proofs.Common.{◌≡◌, ◌+◌, ◌++◌, ◌≤◌, ℕ, Bool, true, false, cond, not, eqb, T, List, [], ◌∷◌, map, length, find}
-use Rattle.std.proofs.Common.{Option, None, Some, is_some, refl, sym, ap, ◌∙◌, subst, append_assoc, arith}
+use Rattle.std.proofs.Common.{◌≡◌, ◌+◌, ◌++◌, ℕ, Bool, true, false, cond, not, eqb, T, List, [], ◌∷◌, map, find}
+use Rattle.std.proofs.Common.{Option, None, Some, is_some, refl, sym, ap, ◌∙◌, append_assoc, arith}
 use Rattle.std.specs.Prelude.{nat_lt, nat_le, nat_eq, option_map}
 use Rattle.std.specs.List.{filter}
 use Rattle.std.specs.Ordering.{nat_cmp}
 use Rattle.std.specs.FinMap as table
-use Rattle.std.specs.FinSet as set
 use Rattle.std.specs.FinMap.Entries.{is_sorted}
-use Rattle.std.proofs.lemmas.List.Elements.{All-filter}
 use Rattle.std.proofs.lemmas.Bool.Decides.{nat_tests}
 use Rattle.seam_geo.specs.declared.pos.Pos.{Pos}
 use Rattle.seam_geo.specs.Pos.{distance}
@@ -16,8 +14,7 @@ use Rattle.seam_range.specs.Places.{Places, is_within, within}
 use Rattle.seam_ghosts.specs.Book.{copy_in}
 use Rattle.seam_call.specs.declared.shown.GhostCopy.{GhostCopy}
 use Rattle.seam_view.specs.declared.Seen.{Seen}
-use Rattle.seam_view.specs.declared.Look.{Look}
-use Rattle.seam_view.specs.Replica.{Replica, HasRoom, ViewValue, seen_of, entity_of}
+use Rattle.seam_view.specs.Replica.{Replica, seen_of}
 use Rattle.seam_entity.specs.Reals.{RealView}
 use Rattle.seam_steps.specs.Looks.{Known, seen_as, known_of, is_of, shown_of_known}
 use Rattle.seam_steps.specs.Cells.{CellView, known_to, is_another}
@@ -236,20 +233,3 @@ other_seen d own e apart = sym (seen_known d own e ∙ ap (λ b. option_map (see
   where
     no : eqb e own ≡ false
     no = grind (arith, nat_tests, apart)
-
--- ---- room for fewer looks
-
-fewer : (t : Look → Bool) (looks : List Look) (n : ℕ) → length looks ≤ n → length (filter t looks) ≤ n
-fewer t [] n le = le
-fewer t (look ∷ looks) n le = by (t look) n le (λ m h. fewer t looks m h)
-  where
-    by : (b : Bool) (n : ℕ) → length (look ∷ looks) ≤ n → ((m : ℕ) → length looks ≤ m → length (filter t looks) ≤ m) →
-        length (cond b (look ∷ filter t looks) (filter t looks)) ≤ n
-    by true n le more = let small = more (length looks) (omega arith) in omega (arith, small, le)
-    by false n le more = more n (omega (arith, le))
-
-pub room_for_fewer : (w : ViewValue) (t : Look → Bool) (looks left : List Look) → left ≡ filter t looks → HasRoom w looks → HasRoom w left
-room_for_fewer w t looks left is room = subst (HasRoom w) (sym is) (record {
-  places = fewer t looks w.places room.places;
-  versions = All-filter t (λ look. set.contains w.room (entity_of look) ≡ true) looks room.versions;
-})

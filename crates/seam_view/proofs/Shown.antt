@@ -1,53 +1,31 @@
--- Versions made into a map one by one, in rising number.
-use Rattle.std.proofs.Common.{◌++◌, get_or, zero, suc, take, ◌≡◌, ◌<◌, ◌+◌, ℕ, Bool, true, false, ◌||◌, List, [], ◌∷◌, None, refl, sym, ap}
-use Rattle.std.proofs.Common.{◌∙◌, arith, length}
-use Rattle.std.specs.Ordering.{nat_cmp, eq_by_cmp, is_eq}
-use Rattle.std.specs.Cmp.{nat_cmp_total}
-use Rattle.std.specs.Map.{keys_of}
-use Rattle.std.specs.List.{AllByRecursion}
+-- The versions shown, as the map of the pairs that are kept of them.
+use Rattle.std.proofs.Common.{◌≡◌, ℕ, cond, eqb, List, [], ◌∷◌, Some, refl, sym, ap, subst, ◌∙◌}
+use Rattle.std.specs.Ordering.{nat_cmp}
+use Rattle.std.specs.Cmp.{nat_cmp_total, unsigned_tied}
+use Rattle.std.specs.Map.{lookup}
+use Rattle.std.specs.List.{IsDistinct}
 use Rattle.std.specs.List.Sorted.{IsStrictlySortedBy}
-use Rattle.std.specs.declared.cmp.Ordering.TheVariants.{Less}
-use Rattle.std.proofs.lemmas.Map.Keys.{sorted_head, sorted_tail}
-use Rattle.std.proofs.lemmas.Bool.Decides.{nat_tests}
+use Rattle.std.proofs.lemmas.Map.Keys.{IsDistinct-from_sorted}
 use Rattle.std.specs.FinMap as versions
-use Rattle.std.specs.FinSet as set
+use Rattle.seam_view.proofs.Kept.{get_by_shown}
 
-more_than : (a b : ℕ) → nat_cmp a b ≡ Less → is_eq (nat_cmp b a) ≡ false
-more_than a b e = grind (arith, nat_tests)
+found_by_number : (q : ℕ) (es : List (ℕ × ℕ)) → versions.find nat_cmp q es ≡ lookup (eqb q) es
+found_by_number q [] = refl
+found_by_number q (p ∷ es) = λ i. cond (unsigned_tied q p.0 i) (Some p.1) (found_by_number q es i)
 
-key_below : (x : ℕ) (es : List (ℕ × ℕ)) (i : ℕ) (d : ℕ × ℕ) → AllByRecursion (λ y. nat_cmp x y ≡ Less) (keys_of es) → i < length es →
-    is_eq (nat_cmp (get_or es i d).0 x) ≡ false
-key_below x [] i d h lt = absurd (omega (arith, lt))
-key_below x (p ∷ es) zero d h lt = more_than x p.0 h.0
-key_below x (p ∷ es) (suc i) d h lt = key_below x es i d h.1 (omega (arith, lt))
+-- what a look-up among the pairs finds is the version that was shown
+pub shown_of_lookup : (es : List (ℕ × ℕ)) (q : ℕ) → lookup (eqb q) es ≡ versions.get (versions.from_entries {R = nat_cmp} es) q
+shown_of_lookup es q = sym (versions.get-from_entries nat_cmp_total es q ∙ found_by_number q es)
 
-fresh : (es : List (ℕ × ℕ)) (i : ℕ) (d : ℕ × ℕ) → IsStrictlySortedBy nat_cmp (keys_of es) → i < length es →
-    versions.find nat_cmp (get_or es i d).0 (take i es) ≡ None
-fresh [] i d o lt = absurd (omega (arith, lt))
-fresh (p ∷ es) zero d o lt = refl
-fresh (p ∷ es) (suc i) d o lt =
-    rw (key_below p.0 es i d (sorted_head nat_cmp p.0 (keys_of es) o) (omega (arith, lt)))
-    (fresh es i d (sorted_tail nat_cmp p.0 (keys_of es) o) (omega (arith, lt)))
+-- pairs among which each look-up finds what it found, but for one entity, have that one's version in place of the former one
+pub shown_of_insert : (old new : List (ℕ × ℕ)) (e v : ℕ) →
+    ((q : ℕ) → lookup (eqb q) new ≡ cond (eqb e q) (Some v) (lookup (eqb q) old)) →
+    versions.from_entries {R = nat_cmp} new ≡ versions.insert (versions.from_entries old) e v
+shown_of_insert old new e v found =
+    versions.same_map nat_cmp_total versions.nat_cmp-IsAntisymmetric _ _ (λ q.
+    sym (shown_of_lookup new q) ∙ (found q ∙ (ap (cond (eqb e q) (Some v)) (shown_of_lookup old q)
+    ∙ sym (get_by_shown (versions.from_entries old) e v q (eqb e q) refl))))
 
-take_and_next : (es : List (ℕ × ℕ)) (i : ℕ) (d : ℕ × ℕ) → i < length es → take i es ++ get_or es i d ∷ [] ≡ take (i + 1) es
-take_and_next [] i d lt = absurd (omega (arith, lt))
-take_and_next (p ∷ es) zero d lt = refl
-take_and_next (p ∷ es) (suc i) d lt =
-    let n : suc (i + 1) ≡ suc i + 1 = omega arith in
-    ap (λ xs. p ∷ xs) (take_and_next es i d (omega (arith, lt))) ∙ ap (λ n. take n (p ∷ es)) n
-
--- one more of the versions in rising number
-pub versions_next : (es : List (ℕ × ℕ)) (i : ℕ) (d : ℕ × ℕ) → IsStrictlySortedBy nat_cmp (keys_of es) → i < length es →
-    versions.insert (versions.from_entries {R = nat_cmp} (take i es)) (get_or es i d).0 (get_or es i d).1
-    ≡ versions.from_entries (take (i + 1) es)
-versions_next es i d o lt =
-    sym (versions.from_entries_push nat_cmp_total versions.nat_cmp-IsAntisymmetric (take i es) (get_or es i d).0 (get_or es i d).1
-    (fresh es i d o lt)) ∙ ap versions.from_entries (take_and_next es i d lt)
-
-or_true : (a b : Bool) → b ≡ true → (a || b) ≡ true
-or_true true b h = refl
-or_true false b h = h
-
--- room that was made for one entity leaves that for the others
-pub room_stays : (room : set.FinSet nat_cmp) (e q : ℕ) → set.contains room q ≡ true → set.contains (set.insert room e) q ≡ true
-room_stays room e q there = set.contains-insert nat_cmp_total room e q ∙ or_true (eq_by_cmp nat_cmp q e) (set.contains room q) there
+-- entities in rising number are each there once
+pub once_when_rising : (es : List ℕ) → IsStrictlySortedBy nat_cmp es → IsDistinct eqb es
+once_when_rising es rising = subst (λ eq. IsDistinct eq es) (λ i x y. unsigned_tied x y i) (IsDistinct-from_sorted nat_cmp es rising)

@@ -1,10 +1,9 @@
 -- What a client was shown, and what each look changes in it.
-use Rattle.std.specs.Prelude.{◌≡◌, ℕ, ◌≤◌, true, nat_eq, List, [], ◌∷◌, length, fold, find, Option, None, Some, if◌then◌else◌}
+use Rattle.std.specs.Prelude.{◌≡◌, ℕ, ◌≤◌, nat_eq, List, [], ◌∷◌, length, fold, find, Option, None, Some, if◌then◌else◌}
 use Rattle.std.specs.Ordering.{nat_cmp}
-use Rattle.std.specs.List.{All, AllByRecursion, IsDistinct}
+use Rattle.std.specs.List.{AllByRecursion, IsDistinct}
 use Rattle.std.specs.Map.{keys_of}
 use Rattle.std.specs.FinMap as versions
-use Rattle.std.specs.FinSet as set
 use Rattle.std.specs.Coded.{Coded, code_by, coded×, coded_ℕ, coded_list}
 use Rattle.std.proofs.Common.{refl}
 use Rattle.seam_view.specs.declared.Seen.{Seen}
@@ -32,11 +31,10 @@ pub record IsView (r : Replica) : Type 0 where
 abbrev pub NeverFalls : Replica → Replica → Type 0
 NeverFalls old new = (e v : ℕ) → versions.get old.shown e ≡ Some v → (w : ℕ) × (versions.get new.shown e ≡ Some w) × (v ≤ w)
 
--- beside it: for so many looks there are places, and for these entities there is room to keep a version
+-- beside it: for so many looks there are places
 pub record ViewValue : Type 0 where
   pub core : Replica
   pub places : ℕ
-  pub room : set.FinSet nat_cmp
 
 abbrev pub replica_code : Coded Replica
 replica_code =
@@ -47,8 +45,7 @@ replica_code =
 
 abbrev pub view_code : Coded ViewValue
 view_code =
-    code_by (Replica × (ℕ × set.FinSet nat_cmp)) (coded× replica_code (coded× coded_ℕ (set.code coded_ℕ)))
-    (λ w. (w.core, (w.places, w.room))) (λ q. record { core = q.0; places = q.1.0; room = q.1.1 }) (λ _. refl)
+    code_by (Replica × ℕ) (coded× replica_code coded_ℕ) (λ w. (w.core, w.places)) (λ q. record { core = q.0; places = q.1 }) (λ _. refl)
 
 -- what is known of the entity
 abbrev pub seen_of : ℕ → List Seen → Option Seen
@@ -89,6 +86,5 @@ entity_of (Set e) = e
 entity_of (Enter e) = e
 
 -- the looks can be kept without memory
-pub record HasRoom (w : ViewValue) (looks : List Look) : Type 0 where
-  pub places : length looks ≤ w.places
-  pub versions : All (λ look. set.contains w.room (entity_of look) ≡ true) looks
+abbrev pub HasRoom : ViewValue → List Look → Type 0
+HasRoom w looks = length looks ≤ w.places

@@ -6,21 +6,19 @@
 //! Of `proofs/`, `Only` (looks at two lists that agree on all that matters) is for callers.
 #![tactic(auto)]
 
-ghost use Rattle.std.specs.Prelude.{◌≡◌, ◌≤◌, ◌++◌, ℕ, List, [], filter, map, length, slice_get, option_copied, IfOk, OnOk, OnErr, is_some};
-ghost use Rattle.std.specs.Prelude.{false, not, IfSome, drop, find, Some};
+ghost use Rattle.std.specs.Prelude.{◌≡◌, ◌≤◌, ◌++◌, ℕ, List, [], filter, map, length, slice_get, option_copied, IfOk, OnOk, is_some};
+ghost use Rattle.std.specs.Prelude.{false, not, IfSome, drop, Some};
 ghost use Rattle.std.specs.Ordering.{nat_cmp};
 ghost use Rattle.std.specs.List.Sorted.{IsStrictlySortedBy};
-ghost use Rattle.std.specs.Prelude.{◌<◌, ◌+◌, nat_eq, true};
-ghost use Rattle.std.specs.List.{All, AllWithin, IsDistinct};
+ghost use Rattle.std.specs.Prelude.{◌<◌, ◌+◌, nat_eq};
+ghost use Rattle.std.specs.List.{AllWithin, IsDistinct};
 ghost use Rattle.std.specs.Map.{keys_of};
 ghost use Rattle.seam_geo.specs.declared.pos.Pos.{Pos};
 ghost use Rattle.seam_view.specs.declared.Seen.{Seen};
 ghost use Rattle.seam_view.specs.declared.Look.{Look};
 ghost use Rattle.seam_view.specs.declared.Look.TheVariants.{Leave, Set};
-ghost use Rattle.seam_table.specs.Tables.{is_after};
 ghost use Rattle.std.specs.FinMap as versions;
-ghost use Rattle.std.specs.FinSet as set;
-ghost use Rattle.seam_view.specs.Replica.{Replica, IsView, AreShown, NeverFalls, HasRoom, without, seen_of, entity_of, with_version_shown};
+ghost use Rattle.seam_view.specs.Replica.{Replica, IsView, AreShown, NeverFalls, HasRoom, without, seen_of, with_version_shown};
 ghost use Rattle.seam_view.specs.Replica.{after_showing, after_look, after_looks};
 ghost use Rattle.seam_view.specs.Together.{leaves_next, looks_past};
 ghost use Rattle.seam_view.specs.Looks.{is_far, in_view, not_older, enters, entering, one_look, matters};
@@ -29,7 +27,6 @@ ghost use Rattle.seam_view.specs.Plain.{plain_look, AreNotOlder};
 
 use indexmap::IndexMap;
 use seam_geo::{Pos, dist};
-use seam_table::Table;
 use std::alloc::{AllocError, Global};
 use std::marker::Model;
 
@@ -68,14 +65,14 @@ enum Note {
 
 /// The entities in view, in enter order, and what was shown of each entity ever shown.
 ///
-/// Contracts see these as a replica of what the client was shown, and beside it the room for looks that `plan` made.
+/// Contracts see these as a replica of what the client was shown, and beside it the number of looks that it has places for.
 #[derive(Drop)]
 pub struct View {
     alloc: Global,
     radius: u32,
     hysteresis: u32,
     view: IndexMap<u32, u64>,
-    shown: Table<u64>,
+    shown: IndexMap<u32, u64>,
 }
 
 impl Model for View {
@@ -85,19 +82,20 @@ impl Model for View {
 
     ghost coded = { view_code };
 
+    ghost use Rattle.std.specs.Prelude.{min};
+    ghost use Rattle.std.specs.FinMap.{from_entries};
     ghost use Rattle.indexmap.specs.IndexMap.{spare};
 
     ghost view = { λ v. record {
-      core = record { radius = v.radius; hysteresis = v.hysteresis; entries = v.view.entries; shown = v.shown.items };
-      places = spare v.view;
-      room = v.shown.room;
+      core = record { radius = v.radius; hysteresis = v.hysteresis; entries = v.view.entries; shown = from_entries v.shown.entries };
+      places = min (spare v.view) (spare v.shown);
     } };
 
     ghost invariant = { λ v. IsView (record {
       radius = v.radius;
       hysteresis = v.hysteresis;
       entries = v.view.entries;
-      shown = v.shown.items;
+      shown = from_entries v.shown.entries;
     }) };
 }
 
@@ -111,7 +109,7 @@ impl View {
             radius,
             hysteresis,
             view: IndexMap::new(alloc),
-            shown: Table::new(alloc),
+            shown: IndexMap::new(alloc),
         }
     }
 
@@ -134,8 +132,8 @@ impl View {
           shown = versions.from_entries shown.now;
         }) }
     {
-        let view = view_of(alloc, view)?;
-        let shown = shown_of(alloc, shown)?;
+        let view = map_of(alloc, view)?;
+        let shown = map_of(alloc, shown)?;
         Ok(View {
             alloc,
             radius,
@@ -167,18 +165,7 @@ impl View {
     pub fn shown(&self, e: u32) -> Option<u64>
         ensures { result ≡ versions.get self.now.core.shown e }
     {
-        self.shown.get(e).copied()
-    }
-
-    /// The first version shown, in rising entity number, of those whose number is greater than the given one, or of all where
-    /// none is given.
-    pub fn shown_after(&self, after: Option<u32>) -> Option<(u32, u64)>
-        ensures { result ≡ find (λ p. is_after after p.0) (versions.entries self.now.core.shown) }
-    {
-        match self.shown.next_after(after) {
-            Some((e, version)) => Some((e, *version)),
-            None => None,
-        }
+        self.shown.get(&e).copied()
     }
 
     /// The radius and the hysteresis together: beyond it nothing matters that is not in view. None where a `u32` does not hold it.
@@ -285,14 +272,13 @@ impl View {
         Ok(())
     }
 
-    // Makes room to keep the looks.
-    fn reserve(&mut self, looks: &[Look]) -> Result<(), AllocError>
+    // Makes places for so many looks.
+    fn reserve(&mut self, looks: usize) -> Result<(), AllocError>
         ensures same { self.new.core ≡ self.old.core }
-        ensures room { OnOk result (HasRoom self.new looks.now) }
+        ensures places { OnOk result (looks ≤ self.new.places) }
     {
-        self.view.reserve(looks.len())?;
-        reserve_versions(&mut self.shown, looks)?;
-        Ok(())
+        self.view.reserve(looks)?;
+        self.shown.reserve(looks)
     }
 
     /// The looks that bring the view up to what is known, for a witness at `own`: the leaves in enter order, the sets
@@ -311,7 +297,7 @@ impl View {
         self.push_noted(&notes, &mut looks, &mut sets)?;
         looks.append(&mut sets)?;
         looks.append(&mut enters)?;
-        self.reserve(&looks)?;
+        self.reserve(looks.len())?;
         Ok(looks)
     }
 
@@ -319,7 +305,6 @@ impl View {
     fn leave(&mut self, e: u32)
         ensures core { self.new.core ≡ record self.old.core { entries = without e self.old.core.entries } }
         ensures places { self.old.places ≤ self.new.places }
-        ensures room { self.new.room ≡ self.old.room }
     {
         let _ = self.view.shift_remove(&e);
     }
@@ -327,24 +312,22 @@ impl View {
     // Shows the entity at this version.
     fn show(&mut self, e: u32, version: u64)
         requires place { 0 < self.old.places }
-        requires room { set.contains self.old.room e ≡ true }
         ensures core { self.new.core ≡ with_version_shown self.old.core e version }
         ensures places { self.old.places ≤ self.new.places + 1 }
-        ensures room { self.new.room ≡ self.old.room }
     {
         let Ok(_) = self.view.insert(e, version) else {
             unreachable!()
         };
-        let _ = self.shown.put_reserved(e, version);
+        let Ok(_) = self.shown.insert(e, version) else {
+            unreachable!()
+        };
     }
 
     // Shows the entity as it is known.
     fn show_known(&mut self, e: u32, seen: Option<&Seen>)
         requires place { 0 < self.old.places }
-        requires room { set.contains self.old.room e ≡ true }
         ensures core { self.new.core ≡ after_showing self.old.core e (option_copied seen.entry) }
         ensures places { self.old.places ≤ self.new.places + 1 }
-        ensures room { self.new.room ≡ self.old.room }
     {
         match seen {
             Some(seen) => self.show(e, seen.version),
@@ -356,10 +339,8 @@ impl View {
     fn keep_look(&mut self, known: &[Seen], look: &Look)
         requires rising { IsStrictlySortedBy nat_cmp (map (λ s. s.entity) known.now) }
         requires place { 0 < self.old.places }
-        requires room { set.contains self.old.room (entity_of look.now) ≡ true }
         ensures core { self.new.core ≡ after_look known.now self.old.core look.now }
         ensures places { self.old.places ≤ self.new.places + 1 }
-        ensures room { self.new.room ≡ self.old.room }
     {
         match look {
             Look::Leave(e) => self.leave(*e),
@@ -373,7 +354,6 @@ impl View {
     fn leave_together(&mut self, looks: &[Look])
         ensures same_after { (known : List Seen) → after_looks known self.new.core looks.now ≡ after_looks known self.old.core looks.now }
         ensures places { self.old.places ≤ self.new.places }
-        ensures room { self.new.room ≡ self.old.room }
     {
         let Some(Look::Leave(_)) = looks.first() else {
             return;
@@ -410,8 +390,8 @@ impl View {
     }
 }
 
-// The pairs in this order.
-fn view_of(alloc: Global, pairs: &[(u32, u64)]) -> Result<IndexMap<u32, u64>, AllocError>
+// The pairs as a map, in this order.
+fn map_of(alloc: Global, pairs: &[(u32, u64)]) -> Result<IndexMap<u32, u64>, AllocError>
     requires { IsDistinct nat_eq (keys_of pairs.now) }
     ensures { IfOk result (λ m. m.entries ≡ pairs.now) }
 {
@@ -420,32 +400,6 @@ fn view_of(alloc: Global, pairs: &[(u32, u64)]) -> Result<IndexMap<u32, u64>, Al
         made.insert(*e, *version)?;
     }
     Ok(made)
-}
-
-// The versions of the pairs.
-fn shown_of(alloc: Global, pairs: &[(u32, u64)]) -> Result<Table<u64>, AllocError>
-    requires { IsStrictlySortedBy nat_cmp (keys_of pairs.now) }
-    ensures { IfOk result (λ t. t.items ≡ versions.from_entries pairs.now) }
-{
-    let mut made = Table::new(alloc);
-    for (e, version) in pairs {
-        match made.put(*e, *version) {
-            Ok(_) => {}
-            Err(_) => return Err(AllocError),
-        }
-    }
-    Ok(made)
-}
-
-// The entity of a look.
-fn entity(look: &Look) -> u32
-    ensures { result ≡ entity_of look.now }
-{
-    match look {
-        Look::Leave(e) => *e,
-        Look::Set(e) => *e,
-        Look::Enter(e) => *e,
-    }
 }
 
 // The looks past the first, where that is the leave of the entity.
@@ -479,17 +433,6 @@ fn find_seen(known: &[Seen], e: u32) -> Option<&Seen>
         return None;
     };
     if seen.entity == e { Some(seen) } else { None }
-}
-
-// Makes room to keep a version of the entity of each look.
-fn reserve_versions(shown: &mut Table<u64>, looks: &[Look]) -> Result<(), AllocError>
-    ensures same { shown.new.items ≡ shown.old.items }
-    ensures room { OnOk result (All (λ look. set.contains shown.new.room (entity_of look) ≡ true) looks.now) }
-{
-    for look in looks {
-        shown.reserve(entity(look))?;
-    }
-    Ok(())
 }
 
 /// What is known of entities that are neither in view nor near makes no difference: two lists that agree on all the others give the

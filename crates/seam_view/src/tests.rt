@@ -40,7 +40,6 @@ fn enters_at_the_radius_and_leaves_past_the_hysteresis(rt: HostRuntime) -> Resul
     view.keep(&far, &looks);
     assert_eq!(rt; view.len(), 0);
     assert_eq!(rt; view.shown(2), Some(0));
-    assert_eq!(rt; view.shown_after(None), Some((2, 0)));
     Ok(())
 }
 

@@ -6,5 +6,4 @@ abbrev pub invariant-loop-look : goal.invariant-loop-look
 invariant-loop-look l = record {
   core : fold (after_look l.known) l.self.core (drop l.look-index l.looks) ≡ fold (after_look l.known) l.initial.self.core l.looks;
   places : length l.looks ≤ l.self.places + l.look-index;
-  room : l.self.room ≡ l.initial.self.room;
 }

@@ -1,4 +1,5 @@
 use Rattle.std.proofs.Common.{◌∙◌, ap, sym, subst}
+use Rattle.std.specs.FinMap as versions
 use Rattle.seam_view.specs.Replica.{IsView, without}
 use Rattle.seam_view.proofs.Kept.{view_when_left}
 use Rattle.seam_view.proofs.Places.{without_of_remove}
@@ -7,7 +8,7 @@ use Rattle.seam_view.proofs.View.leave.Goals as goal
 pub returns-clause-core : goal.returns-clause-core
 returns-clause-core c =
     let e = c.shift_remove.ensures.entries ∙ without_of_remove c.args.e c.self.inside.view.entries in
-    (λ i. record { radius = c.self.inside.radius; hysteresis = c.self.inside.hysteresis; entries = e i; shown = c.self.inside.shown.items })
+    (λ i. record { radius = c.self.inside.radius; hysteresis = c.self.inside.hysteresis; entries = e i; shown = versions.from_entries c.self.inside.shown.entries })
     ∙ ap (λ w. record w.core { entries = without c.args.e w.core.entries }) c.self.view_is
 
 pub invariant_of-self : goal.invariant_of-self
@@ -17,12 +18,12 @@ invariant_of-self c =
       radius = c.self.inside.radius;
       hysteresis = c.self.inside.hysteresis;
       entries = es;
-      shown = c.self.inside.shown.items;
+      shown = versions.from_entries c.self.inside.shown.entries;
     })) (sym e)
     (view_when_left (record {
       radius = c.self.inside.radius;
       hysteresis = c.self.inside.hysteresis;
       entries = c.self.inside.view.entries;
-      shown = c.self.inside.shown.items;
+      shown = versions.from_entries c.self.inside.shown.entries;
     })
     c.args.e c.self.invariant)

@@ -1,4 +1,5 @@
 use Rattle.std.proofs.Common.{◌∙◌, ap, sym, subst, rules}
+use Rattle.std.specs.FinMap as versions
 use Rattle.seam_view.specs.Replica.{AreShown, after_looks}
 use Rattle.seam_view.proofs.Kept.{shown_walked}
 use Rattle.seam_view.specs.contracts.fn.View.leave_together.retain as closure
@@ -15,13 +16,13 @@ returns-clause-same_after c = λ known.
       radius = c.self.inside.radius;
       hysteresis = c.self.inside.hysteresis;
       entries = xs;
-      shown = c.self.inside.shown.items;
+      shown = versions.from_entries c.self.inside.shown.entries;
     }) c.args.looks.now) walk
     ∙ (same_together known (record {
       radius = c.self.inside.radius;
       hysteresis = c.self.inside.hysteresis;
       entries = es;
-      shown = c.self.inside.shown.items;
+      shown = versions.from_entries c.self.inside.shown.entries;
     }) es c.args.looks.now c.len.ensures.unique
     ∙ ap (λ w. after_looks known w.core c.args.looks.now) c.self.view_is)
 
@@ -34,6 +35,6 @@ invariant_of-self c =
     record {
       once = c.retain.ensures.unique;
       shown =
-          subst (AreShown c.self.inside.shown.items) (sym walk)
-          (shown_walked c.self.inside.shown.items c.args.looks.now es c.self.invariant.shown);
+          subst (AreShown (versions.from_entries c.self.inside.shown.entries)) (sym walk)
+          (shown_walked (versions.from_entries c.self.inside.shown.entries) c.args.looks.now es c.self.invariant.shown);
     }

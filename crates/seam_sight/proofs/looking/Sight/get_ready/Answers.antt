@@ -1,8 +1,9 @@
-use Rattle.std.proofs.Common.{◌∙◌, [], ap, sym, subst, map, not}
+use Rattle.std.proofs.Common.{◌∙◌, [], ap, sym, subst, map, not, length, refl, arith}
 use Rattle.std.specs.List.{filter}
 use Rattle.std.specs.Ordering.{nat_cmp}
 use Rattle.std.specs.List.Sorted.{IsStrictlySortedBy}
 use Rattle.std.specs.FinMap as table
+use Rattle.std.proofs.lemmas.List.Filters.{length-filter_both}
 use Rattle.seam_view.specs.declared.Look.{Look}
 use Rattle.seam_view.specs.Looks.{one_look}
 use Rattle.seam_view.specs.Replica.{IsView}
@@ -13,7 +14,6 @@ use Rattle.seam_parts.specs.Kept.{here_in}
 use Rattle.seam_sight.specs.Looking.{seeing}
 use Rattle.seam_sight.specs.Near.{HasNear, is_early}
 use Rattle.seam_sight.proofs.NearLooks.{looks_same}
-use Rattle.seam_sight.proofs.NearLemmas.{room_for_fewer}
 use Rattle.seam_sight.proofs.looking.Sight.get_ready.Goals as goal
 
 pub plan-requires : goal.plan-requires
@@ -69,5 +69,6 @@ returns-clause-room c =
       looks = [];
     } in
     let t = λ (look : Look). not (is_early c.plan.new.self.core (map seen_as (known_to d c.args.self.now.own)) look) in
-    room_for_fewer c.plan.new.self t c.in_ok-planned.planned.items c.in_ok-looks.looks.items
-    (c.in_ok-looks.ensures.looks d ∙ ap (filter t) c.deref-2.ensures.value) c.in_ok-planned.ensures.room
+    let left = ap length (c.in_ok-looks.ensures.looks d ∙ ap (filter t) c.deref-2.ensures.value) in
+    let parted = length-filter_both t (λ look. not (t look)) (λ _. refl) c.in_ok-planned.planned.items in
+    omega (arith, left, parted, c.in_ok-planned.ensures.room)

@@ -1,7 +1,7 @@
 use Rattle.std.proofs.Common.{◌∙◌, ap, eqb, get_or}
 use Rattle.indexmap.specs.IndexMap.{insert_entry}
 use Rattle.seam_view.proofs.Places.{placed_next}
-use Rattle.seam_view.proofs.view_of.Goals as goal
+use Rattle.seam_view.proofs.map_of.Goals as goal
 
 pub loop-e-preserved : goal.loop-e-preserved
 loop-e-preserved c =
