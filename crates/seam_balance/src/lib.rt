@@ -12,8 +12,6 @@ mod divided;
 mod laws;
 mod order;
 mod places;
-#[cfg(test)]
-mod tests;
 
 use crate::allowed::allowed_range;
 use crate::order::boundaries_from_root;

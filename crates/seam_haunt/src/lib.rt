@@ -44,6 +44,3 @@ fn is_close(area: Rect, pos: Pos, was_haunt: bool, near: u32, far: u32) -> bool
     let distance = area.dist(pos);
     distance <= near || (was_haunt && distance <= far)
 }
-
-#[cfg(test)]
-mod tests;

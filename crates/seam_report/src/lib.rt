@@ -18,6 +18,3 @@ pub use lines::{
 pub use refusals::push_refusal;
 pub use round::{write_round, write_traced_round};
 pub use told::push_client;
-
-#[cfg(test)]
-mod tests;

@@ -26,6 +26,3 @@ pub use laws::header_is_one;
 pub use operations::LONGEST_OPERATION;
 pub use roles::Role;
 pub use settings::{Setting, read_settings};
-
-#[cfg(test)]
-mod tests;

@@ -10,8 +10,6 @@ mod boundary;
 mod cell_set;
 mod cut;
 mod laws;
-#[cfg(test)]
-mod tests;
 mod tree;
 
 pub use area_table::MOST_CELLS;

@@ -1,4 +1,4 @@
-use super::balance;
+use seam_balance::balance;
 use seam_geo::Pos;
 use seam_tree::{Axis, Boundary, Tree};
 

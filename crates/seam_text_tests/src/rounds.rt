@@ -1,8 +1,8 @@
-use crate::{DoneLine, push_done, push_journal, push_number_line, push_refusal, write_round};
 use seam_call::{Call, ClientText, GhostCopy, Line, Sender, Shown};
 use seam_defs::{Deed, Defs, Group, Listed, Part, State};
 use seam_geo::Pos;
 use seam_machine::Event;
+use seam_report::{DoneLine, push_done, push_journal, push_number_line, push_refusal, write_round};
 use seam_round::{BaseLine, ClientLine, GhostLine, HomeLine, Round};
 use seam_transcript::Cause;
 use seam_tree::{Axis, CutError, ShiftError, Tree};

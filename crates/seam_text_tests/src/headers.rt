@@ -1,9 +1,9 @@
 // The worked rows of headers.
-use crate::{
+use seam_defs::Settings;
+use seam_toml::{
     Fault, Header, HeaderError, Role, first_fault, has_fault, is_at_fault, read_document,
     read_header, read_settings,
 };
-use seam_defs::Settings;
 use std::alloc::Global;
 use std::test::Fail;
 

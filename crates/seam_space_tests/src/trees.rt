@@ -1,5 +1,5 @@
-use crate::{Axis, CellSet, CutError, ShiftError, Tree};
 use seam_geo::Pos;
+use seam_tree::{Axis, CellSet, CutError, ShiftError, Tree};
 
 // Trees and sets go from one thread to another.
 fn sent<T: Send>(value: T) -> T {

@@ -1,5 +1,6 @@
-use super::*;
-use seam_tree::Axis;
+use seam_geo::Pos;
+use seam_haunt::haunts_after;
+use seam_tree::{Axis, CellSet, Tree};
 
 #[test]
 fn corner(rt: HostRuntime) {
