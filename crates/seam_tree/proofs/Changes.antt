@@ -47,7 +47,8 @@ area_with_cut : (t : Division) (cell : ℕ) (b : Boundary) (c : ℕ) →
     area (with_cut t cell b) c ≡ area_after (with_cut t cell b) (suc (length t.cuts)) c
 area_with_cut t cell b c = ap (λ (n : ℕ). area_after (with_cut t cell b) n c) (cells_with_cut t cell b)
 
-last_cut : (t : Division) (cell : ℕ) (b : Boundary) → cut_after (with_cut t cell b) (length t.cuts) ≡ record { cell = cell; boundary = b }
+pub last_cut : (t : Division) (cell : ℕ) (b : Boundary) →
+    cut_after (with_cut t cell b) (length t.cuts) ≡ record { cell = cell; boundary = b }
 last_cut t cell b = get_or_last t.cuts (record { cell = cell; boundary = b })
 
 area_upper : (t : Division) (cell : ℕ) (b : Boundary) → cell < cells_of t → area (with_cut t cell b) (cells_of t) ≡ above (area t cell) b

@@ -1,33 +1,24 @@
 -- The table of the cells' areas, filled cut after cut; and an area that is empty leaves one that is.
-use Rattle.std.proofs.Common.{◌≡◌, ◌⊎◌, ℕ, zero, suc, ◌+◌, ◌-◌, ◌<◌, ◌≤◌, List, length, set, get_or, slice_get, Option, Some, None, Bool}
-use Rattle.std.proofs.Common.{true, false, not, refl, sym, ◌∙◌, ap, subst, arith, inl, inr, get_or-set_other}
-use Rattle.std.specs.Option.{IfNone, IfSome, IsSome, is_some}
-use Rattle.std.specs.Prelude.{MatchBool}
+use Rattle.std.proofs.Common.{◌≡◌, ◌⊎◌, ℕ, zero, suc, ◌+◌, ◌-◌, ◌<◌, ◌≤◌, List, length, set, get_or, Option, Some, None}
+use Rattle.std.proofs.Common.{refl, sym, ◌∙◌, ap, subst, arith, inl, inr}
+use Rattle.std.specs.Option.{IfNone, IsSome}
 use Rattle.std.proofs.lemmas.Bool.{cases_lt}
-use Rattle.std.proofs.lemmas.List.{get_or_default}
-use Rattle.std.proofs.lemmas.Grind.{get_or-set_at, common_steps}
-use Rattle.std.proofs.lemmas.Option.{slice_get-get_or, get_or_from_slice_get}
 use Rattle.seam_geo.specs.Rect.{Area, IsProper}
 use Rattle.seam_tree.specs.declared.boundary.Axis.{Axis}
 use Rattle.seam_tree.specs.declared.boundary.Axis.TheVariants.{X, Z}
-use Rattle.seam_tree.specs.declared.boundary.Boundary.{Boundary}
 use Rattle.seam_tree.specs.Boundary.{across, below, above, RunsThrough, LeavesPartEmpty, IsEmptyArea}
-use Rattle.seam_tree.specs.Division.{Division, area_after, cut_after, whole, NoneEmpty, SomeEmpty}
+use Rattle.seam_tree.specs.Division.{Division, area_after, cut_after, whole, SomeEmpty}
+use Rattle.seam_tree.specs.Table.{table_after}
 use Rattle.seam_tree.proofs.Steps.{is_new, is_cut, is_other, area_step, same_or_not}
 use Rattle.seam_tree.proofs.Parts.{proper_below, proper_above}
 use Rattle.seam_tree.proofs.Areas.{CellsWereThere, ProperAfter}
+use Rattle.seam_tree.proofs.Tables.{table_at, table_step}
 use Rattle.seam_tree.proofs.Moves.{area_of_new, area_of_cut, area_of_other}
 
--- the table has the cells' areas after the first n cuts, and none is empty
+-- the table is that after the first n cuts, and no area is empty
 pub record IsFilled (t : Division) (n : ℕ) (areas : List Area) : Type 0 where
-  pub places : length areas ≡ 16
-  pub each : (c : ℕ) → c ≤ n → get_or areas c (whole t) ≡ area_after t n c
+  pub table : areas ≡ table_after t n
   pub proper : ProperAfter t n
-
-pub filled_reads : (t : Division) (n : ℕ) (areas : List Area) → IsFilled t n areas → n < 16 → (c : ℕ) → c ≤ n →
-    slice_get areas c ≡ Some (area_after t n c)
-filled_reads t n areas f small c within =
-    slice_get-get_or areas c (whole t) (omega (arith, f.places)) ∙ ap Some (f.each c within)
 
 proper_after_cut : (t : Division) (n : ℕ) → (cut_after t n).cell ≤ n → ProperAfter t n
     → RunsThrough (cut_after t n).boundary (area_after t n (cut_after t n).cell) → ProperAfter t (suc n)
@@ -39,7 +30,7 @@ proper_after_cut t n there proper runs c within =
       | is_other old _ e ↦ subst IsProper (sym e) (proper c old)
     ]
 
--- one more cut writes the lower part over the cell that it cut, and the upper part behind the others
+-- one more cut writes its two parts into the table
 pub filled_step : (t : Division) (n : ℕ) (areas : List Area) (k m : ℕ) (lower upper : Area) → IsFilled t n areas → n < 15
     → (cut_after t n).cell ≤ n → k ≡ (cut_after t n).cell → m ≡ n + 1
     → RunsThrough (cut_after t n).boundary (area_after t n (cut_after t n).cell)
@@ -47,31 +38,13 @@ pub filled_step : (t : Division) (n : ℕ) (areas : List Area) (k m : ℕ) (lowe
     → upper ≡ above (area_after t n (cut_after t n).cell) (cut_after t n).boundary
     → IsFilled t (n + 1) (set (set areas k lower) m upper)
 filled_step t n areas k m lower upper f small there cell next runs low high =
-    let cut_place : k < length areas = omega (arith, f.places) in
-    let kept : length (set areas k lower) ≡ length areas = grind (arith, common_steps) in
-    let new_place : m < length (set areas k lower) = omega (arith, f.places, kept) in
     let suc_n : suc n ≡ n + 1 = omega arith in
-    subst (λ (j : ℕ). IsFilled t j (set (set areas k lower) m upper)) suc_n (record {
-      places =
-          let again : length (set (set areas k lower) m upper) ≡ length (set areas k lower) = grind (arith, common_steps) in
-          again ∙ kept ∙ f.places;
-      each = λ c within.
-          elim (area_step t n c within) [
-            | is_new is e ↦ get_or-set_at (set areas k lower) m c upper (whole t) (omega arith) new_place ∙ high ∙ sym e
-            | is_cut old is e ↦
-                get_or-set_other (set areas k lower) m c upper (whole t) (λ same. omega arith)
-                ∙ get_or-set_at areas k c lower (whole t) (is ∙ sym cell) cut_place
-                ∙ low
-                ∙ ap (λ (j : ℕ). below (area_after t n j) (cut_after t n).boundary) (sym is)
-                ∙ sym e
-            | is_other old other e ↦
-                get_or-set_other (set areas k lower) m c upper (whole t) (λ same. omega arith)
-                ∙ get_or-set_other areas k c lower (whole t) (λ same. other (same ∙ cell))
-                ∙ f.each c old
-                ∙ sym e
-          ];
-      proper = proper_after_cut t n there f.proper runs;
-    })
+    record {
+      table =
+          ap (λ (a : List Area). set (set a k lower) m upper) f.table
+          ∙ table_step t n k m lower upper small there cell next low high;
+      proper = subst (ProperAfter t) suc_n (proper_after_cut t n there f.proper runs);
+    }
 
 -- after the first n cuts some cell's area is empty
 abbrev pub EmptyAfter : Division → ℕ → Type 0
@@ -147,18 +120,17 @@ empty_stays t n m le there empty =
 pub filled_at : (t : Division) (n : ℕ) (areas : List Area) (k c : ℕ) (d : Area) → IsFilled t n areas → n < 16 → k ≡ c → c ≤ n →
     get_or areas k d ≡ area_after t n c
 filled_at t n areas k c d f small is within =
-    get_or_default areas k d (whole t) (omega (arith, f.places)) ∙ ap (λ (j : ℕ). get_or areas j (whole t)) is ∙ f.each c within
+    ap (λ (a : List Area). get_or a k d) f.table
+    ∙ ap (λ (j : ℕ). get_or (table_after t n) j d) is
+    ∙ table_at t n c d (omega arith)
 
 -- where no area is empty, the table is given
 pub some_where_proper : (t : Division) (n : ℕ) (given : Option (List Area)) → ProperAfter t n → IfNone given (EmptyAfter t n) → IsSome given
 some_where_proper t n None proper empty = absurd (not_empty t n proper empty)
 some_where_proper t n (Some areas) proper empty = refl
 
--- whether the table is given says whether an area is empty
-pub given_unless_empty : (t : Division) (given : Option (List Area)) (none : Bool) → is_some given ≡ not none
-    → IfSome given (λ areas. ProperAfter t (length t.cuts)) → IfNone given (EmptyAfter t (length t.cuts)) →
-    MatchBool none (SomeEmpty t) (NoneEmpty t)
-given_unless_empty t None true is proper empty = (empty.0, omega (arith, empty.1), empty.2)
-given_unless_empty t (Some areas) false is proper empty = λ c within. proper c (omega arith)
-given_unless_empty t None false is proper empty = absurd (cc)
-given_unless_empty t (Some areas) true is proper empty = absurd (cc)
+-- where the table is not given, some area is empty
+pub some_empty_unless_given : (t : Division) (given : Option (List Area)) → IfNone given (EmptyAfter t (length t.cuts)) →
+    IfNone given (SomeEmpty t)
+some_empty_unless_given t None empty = (empty.0, omega (arith, empty.1), empty.2)
+some_empty_unless_given t (Some areas) empty = empty

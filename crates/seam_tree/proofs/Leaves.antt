@@ -1,5 +1,5 @@
 -- For callers: the cell of any position is a cell of the tree.
-use Rattle.std.proofs.Common.{ℕ, ◌<◌, length, arith}
+use Rattle.std.proofs.Common.{◌<◌, length, arith}
 use Rattle.seam_geo.specs.declared.pos.Pos.{Pos}
 use Rattle.seam_tree.specs.Division.{Division, leaf_at, cells_of}
 use Rattle.seam_tree.proofs.Areas.{leaf_within}

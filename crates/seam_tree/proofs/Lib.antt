@@ -7,4 +7,5 @@ pub mod Changes
 pub mod Sets
 pub mod Leaves
 pub mod Moves
+pub mod Tables
 pub mod Filled

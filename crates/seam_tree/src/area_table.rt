@@ -1,7 +1,8 @@
-ghost use Rattle.std.specs.Prelude.{◌≡◌, ◌<◌, ◌≤◌, ℕ, length, slice_get, Some, IfSome, IfNone};
+ghost use Rattle.std.specs.Prelude.{◌≡◌, ◌<◌, ◌≤◌, ℕ, length, IfSome, IfNone};
 ghost use Rattle.seam_geo.specs.Rect.{IsProper};
 ghost use Rattle.seam_tree.specs.Boundary.{moved_along, below, above, RunsThrough, LeavesPartEmpty, IsEmptyArea};
 ghost use Rattle.seam_tree.specs.Division.{area_after, cut_after};
+ghost use Rattle.seam_tree.specs.Table.{table_after};
 
 use crate::boundary::{Axis, Boundary};
 use crate::cut::Cut;
@@ -37,8 +38,7 @@ pub(crate) fn areas_after(size: u32, cuts: &[Cut], made: usize) -> Option<[Rect;
     requires few { made < MOST_CELLS }
     requires within { made ≤ length cuts.now }
     requires there { (n : ℕ) → n < made → (cut_after (record { size = size; cuts = cuts.now }) n).cell ≤ n }
-    ensures areas { IfSome result (λ areas. (c : ℕ) → c ≤ made
-        → slice_get areas c ≡ Some (area_after (record { size = size; cuts = cuts.now }) made c)) }
+    ensures areas { IfSome result (λ areas. areas ≡ table_after (record { size = size; cuts = cuts.now }) made) }
     ensures proper { IfSome result (λ areas. (c : ℕ) → c ≤ made
         → IsProper (area_after (record { size = size; cuts = cuts.now }) made c)) }
     ensures empty { IfNone result ((c : ℕ) × (c ≤ made)

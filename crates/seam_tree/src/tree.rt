@@ -1,11 +1,12 @@
 ghost use Rattle.std.specs.Prelude.{◌≡◌, ℕ, ◌+◌, ◌-◌, ◌<◌, ◌≤◌, ◌↔◌, ◌⊎◌, [], length, slice_get, Some, IsTrue, IsSome, IfOk, IfSome, OnOk};
-ghost use Rattle.std.specs.Prelude.{OnErr, MatchBool};
+ghost use Rattle.std.specs.Prelude.{IfNone, OnErr};
 ghost use Rattle.std.specs.Option.{SomeIff};
 ghost use Rattle.seam_geo.specs.Rect.{Holds};
-ghost use Rattle.seam_tree.specs.Boundary.{across, LeavesPartEmpty, RunsThrough};
+ghost use Rattle.seam_tree.specs.Boundary.{above, across, below, LeavesPartEmpty, RunsThrough};
 ghost use Rattle.seam_tree.specs.Division.{area, area_after, area_divided_by, boundary_of, cell_cut_by, cells_of, cut_after, cut_number};
 ghost use Rattle.seam_tree.specs.Division.{HasBoundary, HasEachArea, IsInSpace, IsTree, leaf_at, NoneEmpty, SomeEmpty};
 ghost use Rattle.seam_tree.specs.Change.{CanCut, CutsCell, MovesBoundary, with_cut, with_place};
+ghost use Rattle.seam_tree.specs.Table.{area_table};
 
 use crate::area_table::{MOST_CELLS, areas_after, parts};
 use crate::boundary::{Axis, Boundary};
@@ -45,7 +46,8 @@ pub enum ShiftError {
     WouldEmpty,
 }
 
-/// A space of at most sixteen cells and the boundaries between them: a table of fixed size, copied by value.
+/// A space of at most sixteen cells and the boundaries between them: a table of the cuts and one of the cells' areas,
+/// both of fixed size, copied by value.
 ///
 /// The first cell is 0. The k-th cut, from 1 on, makes boundary k and cell k: the cell that is cut keeps the part below
 /// the boundary, and the new cell gets the part from the boundary on.
@@ -54,12 +56,13 @@ pub struct Tree {
     size: u32,
     count: u8,
     cuts: [Cut; MOST_CUTS],
+    areas: [Rect; MOST_CELLS],
 }
 
 impl Model for Tree {
     ghost use Rattle.std.specs.Prelude.{◌≡◌, ◌≤◌, take, length};
     ghost use Rattle.seam_tree.specs.Division.{Division, IsTree};
-    ghost use Rattle.seam_tree.specs.Table.{padded};
+    ghost use Rattle.seam_tree.specs.Table.{area_table, padded};
     ghost use Rattle.seam_tree.specs.Inverse.{take_padded};
     ghost use Rattle.std.proofs.Common.{sym};
 
@@ -69,11 +72,13 @@ impl Model for Tree {
 
     ghost invariant = { λ a. (a.count ≤ 15)
         × (a.cuts ≡ padded (take a.count a.cuts))
-        × IsTree (record { size = a.size; cuts = take a.count a.cuts }) };
+        × IsTree (record { size = a.size; cuts = take a.count a.cuts })
+        × (a.areas ≡ area_table (record { size = a.size; cuts = take a.count a.cuts })) };
 
-    ghost inverse = { λ t. record { size = t.size; count = length t.cuts; cuts = padded t.cuts } };
+    ghost inverse = { λ t. record { size = t.size; count = length t.cuts; cuts = padded t.cuts; areas = area_table t } };
 
-    ghost inverse_ok = { λ a h. λ i. record { size = a.size; count = take_padded a.count a.cuts h.0 h.1 i; cuts = sym h.1 i } };
+    ghost inverse_ok = { λ a h. λ i.
+        record { size = a.size; count = take_padded a.count a.cuts h.0 h.1 i; cuts = sym h.1 i; areas = sym h.3 i } };
 }
 
 impl Tree {
@@ -88,6 +93,7 @@ impl Tree {
             size,
             count: 0,
             cuts: [NO_CUT; MOST_CUTS],
+            areas: areas_after(size, &[], 0).unwrap(),
         }
     }
 
@@ -132,14 +138,14 @@ impl Tree {
         if cell > self.count {
             return None;
         }
-        Some(self.areas()[usize::from(cell)])
+        Some(self.area_of(cell))
     }
 
     /// The areas of all cells, by the cells' numbers. What the table has past the last cell means nothing.
     pub fn areas(&self) -> [Rect; MOST_CELLS]
         ensures { HasEachArea self.now result }
     {
-        self.areas_after(usize::from(self.count))
+        self.areas
     }
 
     /// The boundary of this number: None where there is no such boundary.
@@ -191,13 +197,11 @@ impl Tree {
         }
         let cell = cell as u8;
         let boundary = Boundary { axis, at };
-        if !self.is_split_by(cell, boundary) {
-            return Err(CutError::OutsideCell);
-        }
+        let parts = parts(self.area_of(cell), boundary).ok_or(CutError::OutsideCell)?;
         if usize::from(self.count) == MOST_CUTS {
             return Err(CutError::TooManyCells);
         }
-        self.push(Cut { cell, boundary });
+        self.push(Cut { cell, boundary }, parts);
         Ok(self.count)
     }
 
@@ -218,51 +222,58 @@ impl Tree {
         if b == 0 || b > u32::from(self.count) {
             return Err(ShiftError::NoBoundary);
         }
-        if self.has_empty_cell_with(b as u8, at) {
-            return Err(ShiftError::WouldEmpty);
-        }
-        self.place(b as u8, at);
+        let areas = self.areas_with(b as u8, at).ok_or(ShiftError::WouldEmpty)?;
+        self.place(b as u8, at, areas);
         Ok(())
     }
 
-    // Whether neither part of the cell would be empty.
-    fn is_split_by(&self, cell: u8, boundary: Boundary) -> bool
+    // The area of a cell that there is.
+    fn area_of(&self, cell: u8) -> Rect
         requires { cell < cells_of self.now }
-        ensures split { MatchBool result (RunsThrough boundary (area self.now cell)) (LeavesPartEmpty boundary (area self.now cell)) }
+        ensures area { result ≡ area self.now cell }
         ensures tree { IsTree self.now }
     {
-        let area = self.areas_after(usize::from(self.count))[usize::from(cell)];
-        parts(area, boundary).is_some()
+        self.areas[usize::from(cell)]
     }
 
-    // Adds a cut to the table.
-    fn push(&mut self, cut: Cut)
+    // Adds a cut and the two parts that it makes of its cell to the tables.
+    fn push(&mut self, cut: Cut, parts: (Rect, Rect))
         requires room { cells_of self.old < 16 }
+        requires there { cut.cell < cells_of self.old }
+        requires lower { parts.0 ≡ below (area self.old cut.cell) cut.boundary }
+        requires upper { parts.1 ≡ above (area self.old cut.cell) cut.boundary }
         requires tree { IsTree (with_cut self.old cut.cell cut.boundary) }
         ensures { self.new ≡ with_cut self.old cut.cell cut.boundary }
     {
         self.cuts[usize::from(self.count)] = cut;
         self.count += 1;
+        self.areas[usize::from(cut.cell)] = parts.0;
+        self.areas[usize::from(self.count)] = parts.1;
     }
 
-    // Whether some cell's area is empty with the boundary at another place.
-    fn has_empty_cell_with(&self, b: u8, at: u32) -> bool
+    // The cells' areas with the boundary at another place: None where one of them would be empty.
+    fn areas_with(&self, b: u8, at: u32) -> Option<[Rect; MOST_CELLS]>
         requires { HasBoundary self.now b }
-        ensures { MatchBool result (SomeEmpty (with_place self.now b at)) (NoneEmpty (with_place self.now b at)) }
+        ensures areas { IfSome result (λ areas. areas ≡ area_table (with_place self.now b at)) }
+        ensures proper { IfSome result (λ areas. NoneEmpty (with_place self.now b at)) }
+        ensures tree { IfSome result (λ areas. IsTree (with_place self.now b at)) }
+        ensures empty { IfNone result (SomeEmpty (with_place self.now b at)) }
     {
         let mut cuts = self.cuts;
         cuts[usize::from(b) - 1].boundary.at = at;
         let made = &cuts[..usize::from(self.count)];
-        areas_after(self.size, made, made.len()).is_none()
+        areas_after(self.size, made, made.len())
     }
 
-    // Puts the boundary at another place.
-    fn place(&mut self, b: u8, at: u32)
+    // Puts the boundary at another place, with which the cells have these areas.
+    fn place(&mut self, b: u8, at: u32, areas: [Rect; MOST_CELLS])
         requires there { HasBoundary self.old b }
+        requires areas { areas ≡ area_table (with_place self.old b at) }
         requires tree { IsTree (with_place self.old b at) }
         ensures { self.new ≡ with_place self.old b at }
     {
         self.cuts[usize::from(b) - 1].boundary.at = at;
+        self.areas = areas;
     }
 
     // The cuts that were made.

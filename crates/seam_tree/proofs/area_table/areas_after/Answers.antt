@@ -1,11 +1,10 @@
-use Rattle.std.proofs.Common.{◌≡◌, ◌≤◌, ◌<◌, ℕ, zero, suc, ◌+◌, Bool, true, false, refl, ap, subst, ◌∙◌, arith, inl, inr, get_or, slice_get}
-use Rattle.std.proofs.Common.{Some}
-use Rattle.std.proofs.lemmas.Bool.{cases_lt}
+use Rattle.std.proofs.Common.{◌≡◌, ◌≤◌, suc, ◌+◌, true, false, refl, ap, subst, ◌∙◌, arith, get_or}
 use Rattle.seam_geo.specs.Rect.{Area, IsProper}
 use Rattle.seam_tree.specs.declared.cut.Cut.{Cut}
 use Rattle.seam_tree.specs.Boundary.{LeavesPartEmpty, RunsThrough, below, above}
 use Rattle.seam_tree.specs.Division.{Division, area_after, cut_after, whole}
-use Rattle.seam_tree.proofs.Filled.{EmptyAfter, empty_whole, empty_stays, empty_by_cut, filled_at, filled_step, filled_reads}
+use Rattle.seam_tree.specs.Table.{table_after}
+use Rattle.seam_tree.proofs.Filled.{empty_whole, empty_stays, empty_by_cut, filled_at, filled_step}
 use Rattle.seam_tree.proofs.area_table.areas_after.Goals as goal
 
 pub returns-in_err-whole-clause-empty : goal.returns-in_err-whole-clause-empty
@@ -42,9 +41,7 @@ loop-n-preserved c =
     (c.in_ok-lower.ensures.upper ∙ ap (λ (a : Area). above a cut.boundary) read)
 
 pub returns-clause-areas : goal.returns-clause-areas
-returns-clause-areas c k within =
+returns-clause-areas c =
     let t : Division = record { size = c.args.size; cuts = c.args.cuts.now } in
     let all : c.loop-n.n ≡ c.args.made = omega arith in
-    let read : slice_get c.loop-n.areas k ≡ Some (area_after t c.loop-n.n k) =
-    filled_reads t c.loop-n.n c.loop-n.areas c.loop-n.invariant (omega arith) k (omega arith) in
-    read ∙ ap (λ (n : ℕ). Some (area_after t n k)) all
+    c.loop-n.invariant.table ∙ ap (table_after t) all

@@ -1,7 +1,6 @@
-use Rattle.std.proofs.Common.{◌≡◌, ◌≤◌, ℕ, List, slice_get, Some, Option, subst, ap, ◌∙◌, arith}
-use Rattle.std.specs.Option.{IfNone, IsSome}
-use Rattle.seam_geo.specs.Rect.{Area}
-use Rattle.seam_tree.specs.Division.{Division, area_after}
+use Rattle.std.proofs.Common.{◌≡◌, subst}
+use Rattle.std.specs.Option.{IfNone}
+use Rattle.seam_tree.specs.Division.{Division}
 use Rattle.seam_tree.proofs.Areas.{tree_proper}
 use Rattle.seam_tree.proofs.Filled.{EmptyAfter, some_where_proper}
 use Rattle.seam_tree.proofs.tree.Tree.areas_after.Goals as goal

@@ -12,7 +12,7 @@ push-requires-clause-tree c =
     let runs : RunsThrough (record { axis = c.args.axis; at = c.args.at }) (area c.args.self.now c.args.cell) =
     grind (arith, common_steps) in
     let room : cells_of c.args.self.now < 16 = grind (arith, common_steps) in
-    with_cut_tree c.args.self.now c.args.cell _ c.is_split_by.ensures.tree there runs room
+    with_cut_tree c.args.self.now c.args.cell _ c.area_of.ensures.tree there runs room
 
 pub returns-clause-changed : goal.returns-clause-changed
 returns-clause-changed c =
