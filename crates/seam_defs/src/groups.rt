@@ -1,10 +1,11 @@
 // Groups of values: their start, a group of a group, and their text.
-ghost use Rattle.std.specs.Prelude.{◌≡◌, ◌<◌, ◌↔◌, ◌++◌, IsTrue, OnOk, OnErr, IfOk, List, [], ◌∷◌, length, take, drop, true};
+ghost use Rattle.std.specs.Prelude.{◌≡◌, ◌≢◌, ◌↔◌, ◌++◌, IsTrue, MatchOption, OnOk, OnErr, IfOk, List, [], ◌∷◌, length, take, drop};
+ghost use Rattle.seam_value.specs.declared.values.Value.{Value as AnyValue};
 ghost use Rattle.std.specs.List.{flat_map, zip};
 ghost use Rattle.seam_defs.specs.Types.{IsType};
 ghost use Rattle.seam_defs.specs.Tests.{are_of_group as are_values_of_group};
 ghost use Rattle.seam_defs.specs.Running.{FitsAt};
-ghost use Rattle.seam_defs.specs.Deeds.{properties_of, start_values, projected, property_text, values_text, value_at, IsOfGroup};
+ghost use Rattle.seam_defs.specs.Deeds.{properties_of, start_values, projected, property_text, values_text, IsOfGroup};
 
 use crate::{Group, Property, Props, TypeDef};
 use seam_value::{Value, ValueType};
@@ -52,8 +53,7 @@ impl TypeDef {
         Props::of(values)
     }
 
-    /// Whether `projection` has the values that `project_group` gives, which takes no memory to find out. It is so where the answer
-    /// is true.
+    /// Whether `projection` has the values that `project_group` gives, which takes no memory to find out.
     pub fn is_projection(
         &self,
         held: Group,
@@ -61,24 +61,26 @@ impl TypeDef {
         group: Group,
         projection: &Props,
     ) -> bool
-        ensures { result ≡ true → projection.now ≡ projected self.now.properties held group props.now }
+        ensures { IsTrue result ↔ projection.now ≡ projected self.now.properties held group props.now }
     {
-        let values = props.values();
-        let copies = projection.values();
-        let mut place = 0;
-        let mut copied = 0;
+        let mut values = props.values();
+        let mut copies = projection.values();
         for property in self.properties.as_slice() {
-            if property.flag.in_group(held) {
-                if property.flag.in_group(group) {
-                    if !is_copy_at(values, place, copies, copied) {
-                        return false;
-                    }
-                    copied += 1;
-                }
-                place += 1;
+            if !property.flag.in_group(held) {
+                continue;
+            }
+            let Some((value, others)) = values.split_first() else {
+                return copies.is_empty();
+            };
+            values = others;
+            if property.flag.in_group(group) {
+                let Some(others) = after_copy(copies, value) else {
+                    return false;
+                };
+                copies = others;
             }
         }
-        copied == copies.len()
+        copies.is_empty()
     }
 
     /// Appends the text of a group's values: for each of its properties, in name order, a space, the name, `=` and the
@@ -216,10 +218,14 @@ fn copy_at(
     }
 }
 
-// Whether there are a value and a copy at their places, and they are equal.
-fn is_copy_at(values: &[Value], place: usize, copies: &[Value], copied: usize) -> bool
-    ensures within { result ≡ true → (place < length values.now) × (copied < length copies.now) }
-    ensures same { result ≡ true → value_at copies.now copied ≡ value_at values.now place }
+// The others, where the first one is a copy of the value.
+fn after_copy<'a>(copies: &'a [Value], value: &Value) -> Option<&'a [Value]>
+    ensures { MatchOption result
+        ((others : List AnyValue) → copies.now ≢ value.now ∷ others)
+        (λ others. copies.now ≡ value.now ∷ others.now) }
 {
-    place < values.len() && copied < copies.len() && copies[copied] == values[place]
+    match copies.split_first() {
+        Some((copy, others)) if copy == value => Some(others),
+        _ => None,
+    }
 }
