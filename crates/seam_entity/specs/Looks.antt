@@ -7,9 +7,11 @@ use Rattle.seam_view.specs.declared.Look.{Look}
 use Rattle.seam_view.specs.declared.Look.TheVariants as look
 use Rattle.seam_view.specs.Looks.{one_look}
 use Rattle.seam_view.specs.Replica.{after_looks}
+use Rattle.seam_defs.specs.declared.flags.Group.{Group}
 use Rattle.seam_defs.specs.declared.flags.Group.TheVariants as group
+use Rattle.seam_defs.specs.declared.states.State.{State}
 use Rattle.seam_defs.specs.declared.settings.Settings.{Settings}
-use Rattle.seam_defs.specs.Deeds.{other_of, own_of, projected}
+use Rattle.seam_defs.specs.Deeds.{own_of, projected}
 use Rattle.seam_call.specs.declared.shown.GhostCopy.{GhostCopy}
 use Rattle.seam_call.specs.declared.shown.Shown.{Shown}
 use Rattle.seam_call.specs.declared.shown.Shown.TheVariants.{Own, Enter, Set, Leave}
@@ -35,16 +37,17 @@ new_witness settings = record {
 abbrev pub with_witness : Here → RealView → RealView
 with_witness h r = record r { witness = Some (new_witness h.settings) }
 
--- what other clients are shown of a real, and of a copy
+-- what other clients are shown of an entity of this type and public version, whose state has the values of a group
+abbrev pub shown_to_others : Here → Group → ℕ → ℕ → State → GhostCopy
+shown_to_others h held ty version s =
+    record { ty = ty; version = version; state = record { pos = s.pos; props = projected (properties h ty) held group.Other s.props } }
+
+-- what they are shown of a real, and of a copy
 abbrev pub other_of_real : Here → RealView → GhostCopy
-other_of_real h r = record { ty = r.ty; version = r.public; state = other_of (properties h r.ty) r.state }
+other_of_real h r = shown_to_others h group.Real r.ty r.public r.state
 
 abbrev pub other_of_copy : Here → GhostCopy → GhostCopy
-other_of_copy h c = record {
-  ty = c.ty;
-  version = c.version;
-  state = record { pos = c.state.pos; props = projected (properties h c.ty) group.Ghost group.Other c.state.props };
-}
+other_of_copy h c = shown_to_others h group.Ghost c.ty c.version c.state
 
 -- an entity with what is known of it
 abbrev pub Known : Type 0

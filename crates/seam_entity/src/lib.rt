@@ -13,6 +13,7 @@
 mod fitting;
 mod message;
 mod numbers;
+mod observed;
 mod orders;
 mod real;
 mod room;
@@ -21,8 +22,9 @@ mod witness;
 pub use fitting::{can_do, fits_cell_part, fits_copy, is_inside};
 pub use message::{Msg, Parcel};
 pub use numbers::{is_small, may_rise};
+pub use observed::Observed;
 pub use orders::Orders;
 pub use real::{After, Did, Real, ghost_copy};
 pub use room::reserve_one;
 pub use seam_memory::NoMemoryFor;
-pub use witness::{Witness, copy_for_others, is_shown_as};
+pub use witness::Witness;

@@ -16,7 +16,7 @@ ghost use Rattle.seam_entity.specs.Executing.{settled_to};
 ghost use Rattle.seam_entity.specs.Preparing.{node_with, advanced, with_after, met, offered as after_call, HasRoom, HasSpare, HasReady};
 ghost use Rattle.seam_entity.specs.Calls.{has_ready};
 ghost use Rattle.seam_entity.specs.Executing.{executed_ready, with_order, fits_real};
-ghost use Rattle.seam_entity.specs.Looks.{other_of_real};
+ghost use Rattle.seam_defs.specs.declared.flags.Group.TheVariants as group;
 ghost use Rattle.seam_entity.specs.Witnesses.{witness_in};
 ghost use Rattle.seam_order.specs.Held.{OrderView};
 ghost use Rattle.seam_order.specs.Offers.{after_taking};
@@ -24,6 +24,7 @@ ghost use Rattle.seam_call.specs.declared.call.Call.{Call as CallData};
 ghost use Rattle.seam_entity.specs.declared.real.Did.TheVariants.{Done as DidDone};
 
 use crate::fitting::is_inside;
+use crate::observed::Observed;
 use crate::orders::Orders;
 use crate::room::reserve_one;
 use crate::witness::Witness;
@@ -335,39 +336,20 @@ impl Real {
         self.body.witness = Some(witness);
     }
 
-    /// What other clients are shown of it.
-    pub fn copy_for_others(&self, defs: &Defs) -> Result<GhostCopy, AllocError>
-        ensures { (me : ℕ) (settings : AllSettings) →
-            IfOk result (λ c. c ≡ other_of_real (node_with defs.now me settings) self.now.core) }
-    {
-        let props = defs
-            .type_at(self.body.ty)
-            .project_group(Group::Real, &self.body.state.props, Group::Other)?;
-        Ok(GhostCopy {
-            ty: self.body.ty,
-            version: self.body.public_version,
-            state: State {
-                pos: self.body.state.pos,
-                props,
-            },
-        })
-    }
-
-    /// Whether the copy is what other clients are shown of it, which takes no memory to find out. It is so where the answer is true.
-    pub fn is_shown_as(&self, defs: &Defs, copy: &GhostCopy) -> bool
-        ensures { (me : ℕ) (settings : AllSettings) →
-            result ≡ true → copy.now ≡ other_of_real (node_with defs.now me settings) self.now.core }
+    /// It, as others look at it.
+    pub fn observed(&self) -> Observed<'_>
+        ensures held { result.held ≡ group.Real }
+        ensures ty { result.ty ≡ self.now.core.ty }
+        ensures version { result.version ≡ self.now.core.public }
+        ensures state { result.state.now ≡ self.now.core.state }
     {
         let body = &self.body;
-        copy.ty == body.ty
-            && copy.version == body.public_version
-            && copy.state.pos == body.state.pos
-            && defs.type_at(body.ty).is_projection(
-                Group::Real,
-                &body.state.props,
-                Group::Other,
-                &copy.state.props,
-            )
+        Observed {
+            held: Group::Real,
+            ty: body.ty,
+            version: body.public_version,
+            state: &body.state,
+        }
     }
 
     /// What its own client is shown of it.

@@ -1,16 +1,13 @@
-//! What an entity with a client has on its real, and what is shown of others.
+//! What an entity with a client has on its real.
 
-ghost use Rattle.std.specs.Prelude.{◌≡◌, ◌+◌, ◌<◌, ◌^◌, ℕ, IfOk, map, length, List, true};
+ghost use Rattle.std.specs.Prelude.{◌≡◌, ◌+◌, ◌<◌, ◌^◌, IfOk, map, length};
 ghost use Rattle.std.specs.List.Sorted.{IsStrictlySortedBy};
 ghost use Rattle.std.specs.Ordering.{nat_cmp};
-ghost use Rattle.seam_defs.specs.declared.settings.Settings.{Settings as AllSettings};
 ghost use Rattle.seam_view.specs.Replica.{HasRoom as HasRoomFor, after_looks};
-ghost use Rattle.seam_entity.specs.Looks.{new_witness, other_of_copy as copy_for_others, own_due, told_after};
-ghost use Rattle.seam_entity.specs.Preparing.{node_with};
+ghost use Rattle.seam_entity.specs.Looks.{new_witness, own_due, told_after};
 ghost use Rattle.seam_entity.specs.Witnesses.{witness_in};
 
-use seam_call::GhostCopy;
-use seam_defs::{Defs, Group, Settings, State};
+use seam_defs::Settings;
 use seam_view::{Look, Seen, View};
 use std::alloc::{AllocError, Global};
 
@@ -62,38 +59,4 @@ impl Witness {
         self.sent += updates;
         self.view.keep(known, looks);
     }
-}
-
-/// What other clients are shown of an entity of which there is a copy.
-pub fn copy_for_others(defs: &Defs, copy: &GhostCopy) -> Result<GhostCopy, AllocError>
-    ensures { (me : ℕ) (settings : AllSettings) →
-        IfOk result (λ c. c ≡ copy_for_others (node_with defs.now me settings) copy.now) }
-{
-    let props = defs
-        .type_at(copy.ty)
-        .project_group(Group::Ghost, &copy.state.props, Group::Other)?;
-    Ok(GhostCopy {
-        ty: copy.ty,
-        version: copy.version,
-        state: State {
-            pos: copy.state.pos,
-            props,
-        },
-    })
-}
-
-/// Whether `shown` is what other clients are shown of an entity of which there is a copy. It is so where the answer is true.
-pub fn is_shown_as(defs: &Defs, copy: &GhostCopy, shown: &GhostCopy) -> bool
-    ensures { (me : ℕ) (settings : AllSettings) →
-        result ≡ true → shown.now ≡ copy_for_others (node_with defs.now me settings) copy.now }
-{
-    shown.ty == copy.ty
-        && shown.version == copy.version
-        && shown.state.pos == copy.state.pos
-        && defs.type_at(copy.ty).is_projection(
-            Group::Ghost,
-            &copy.state.props,
-            Group::Other,
-            &shown.state.props,
-        )
 }

@@ -2,7 +2,7 @@
 use crate::builtin::{AVATAR, builtin, sent};
 use seam_call::{Call, Sender};
 use seam_defs::{Args, Deed, Defs, Part, Settings};
-use seam_entity::{Did, Msg, Real, Witness, copy_for_others};
+use seam_entity::{Did, Msg, Observed, Real, Witness};
 use seam_geo::Pos;
 use seam_value::Value;
 use seam_view::Look;
@@ -73,8 +73,9 @@ fn execute_ready(real: &mut Real, defs: &Defs) -> Result<(bool, bool), Fail> {
 
 // The first property as others and its own client are shown it.
 fn shown(real: &Real, defs: &Defs) -> Result<(bool, bool), AllocError> {
-    let others = copy_for_others(defs, &real.copy_out(defs)?)?;
-    let same = others.state.props.at(0) == real.copy_for_others(defs)?.state.props.at(0);
+    let copy = real.copy_out(defs)?;
+    let others = Observed::of_copy(&copy).copy_for_others(defs)?;
+    let same = others.state.props.at(0) == real.observed().copy_for_others(defs)?.state.props.at(0);
     let own = real.own_state(defs)?;
     Ok((same, own.props.at(0) == Some(&Value::Number(75))))
 }

@@ -22,7 +22,7 @@ ghost use Rattle.seam_sight.specs.Near.{HasNear};
 
 use crate::told::ToldCopies;
 use seam_call::{GhostCopy, Shown, Update};
-use seam_entity::{Msg, Real, Witness, is_small};
+use seam_entity::{Msg, Observed, Real, Witness, is_small};
 use seam_machine::Out;
 use seam_parts::{CopyBook, Known, Lists, Places, RealTable, Reals, put_in, take_out};
 use seam_tree::MOST_CELLS;
@@ -191,13 +191,13 @@ impl Sight<'_> {
             return Ok(None);
         }
         if let Some(parcel) = self.reals.get(e) {
-            let copy = told.of_real(&self.known.defs, e, &parcel.real)?;
+            let copy = told.copy_for_others(&self.known.defs, e, &parcel.real.observed())?;
             return Ok(Some(copy));
         }
         let Some(copy) = self.copies.get(e) else {
             return Ok(None);
         };
-        let shown = told.of_copy(&self.known.defs, e, copy)?;
+        let shown = told.copy_for_others(&self.known.defs, e, &Observed::of_copy(copy))?;
         Ok(Some(shown))
     }
 

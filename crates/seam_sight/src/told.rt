@@ -2,13 +2,13 @@
 
 ghost use Rattle.std.specs.Prelude.{◌≡◌, ℕ, IfOk};
 ghost use Rattle.seam_defs.specs.declared.settings.Settings.{Settings as AllSettings};
-ghost use Rattle.seam_entity.specs.Looks.{other_of_real, other_of_copy};
+ghost use Rattle.seam_entity.specs.Looks.{shown_to_others};
 ghost use Rattle.seam_entity.specs.Preparing.{node_with};
 
 use indexmap::IndexMap;
 use seam_call::GhostCopy;
 use seam_defs::Defs;
-use seam_entity::{Real, copy_for_others, is_shown_as};
+use seam_entity::Observed;
 use std::alloc::{AllocError, Global};
 use std::marker::Model;
 
@@ -46,39 +46,24 @@ impl ToldCopies {
         self.copies.clear();
     }
 
-    /// What other clients are shown of the entity's real.
-    pub fn of_real(&mut self, defs: &Defs, e: u32, real: &Real) -> Result<GhostCopy, AllocError>
-        ensures { (me : ℕ) (settings : AllSettings) →
-            IfOk result (λ c. c ≡ other_of_real (node_with defs.now me settings) real.now.core) }
-    {
-        if let Some(told) = self.copies.get(&e) {
-            if real.is_shown_as(defs, told) {
-                return told.copy();
-            }
-        }
-        let copy = real.copy_for_others(defs)?;
-        self.keep(e, &copy);
-        Ok(copy)
-    }
-
-    /// What other clients are shown of an entity of which there is a copy.
-    pub fn of_copy(
+    /// What other clients are shown of the entity.
+    pub fn copy_for_others(
         &mut self,
         defs: &Defs,
         e: u32,
-        copy: &GhostCopy,
+        entity: &Observed<'_>,
     ) -> Result<GhostCopy, AllocError>
-        ensures { (me : ℕ) (settings : AllSettings) →
-            IfOk result (λ c. c ≡ other_of_copy (node_with defs.now me settings) copy.now) }
+        ensures { (me : ℕ) (settings : AllSettings) → IfOk result (λ c. c
+            ≡ shown_to_others (node_with defs.now me settings) entity.now.held entity.now.ty entity.now.version entity.now.state.now) }
     {
         if let Some(told) = self.copies.get(&e) {
-            if is_shown_as(defs, copy, told) {
+            if entity.is_shown_as(defs, told) {
                 return told.copy();
             }
         }
-        let shown = copy_for_others(defs, copy)?;
-        self.keep(e, &shown);
-        Ok(shown)
+        let copy = entity.copy_for_others(defs)?;
+        self.keep(e, &copy);
+        Ok(copy)
     }
 
     // Keeps the copy, where there is memory for it.

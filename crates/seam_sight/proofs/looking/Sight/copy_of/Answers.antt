@@ -1,5 +1,5 @@
 use Rattle.std.proofs.Common.{Some, ap, ◌∙◌}
-use Rattle.seam_entity.specs.Looks.{other_of_real}
+use Rattle.seam_entity.specs.Looks.{shown_to_others, other_of_real, other_of_copy}
 use Rattle.seam_steps.specs.Cells.{CellView}
 use Rattle.seam_parts.specs.Kept.{here_in}
 use Rattle.seam_sight.specs.Looking.{seeing}
@@ -15,7 +15,10 @@ pub returns-in-Some : goal.returns-in-Some
 returns-in-Some c = λ k.
     let h = here_in c.args.self.now.known.now in
     let d : CellView = seeing k h c.args.self.now.reals.now.items c.args.self.now.copies.now.ghosts in
-    ap (λ x. Some x) (c.in_ok-copy.ensures h.me h.settings ∙ ap (other_of_real h) c.parcel.view_is)
+    let real = c.observed.ensures in
+    ap (λ x. Some x)
+    (c.in_ok-copy.ensures h.me h.settings ∙ (λ i. shown_to_others h (real.held i) (real.ty i) (real.version i) (real.state i))
+    ∙ ap (other_of_real h) c.parcel.view_is)
     ∙ real_known d c.args.self.now.own c.args.e c.if-e-self.false c.in-Some.parcel.now c.in-Some.ensures.item
 
 pub returns-in_default-get : goal.returns-in_default-get
@@ -27,5 +30,7 @@ pub returns : goal.returns
 returns c = λ k.
     let h = here_in c.args.self.now.known.now in
     let d : CellView = seeing k h c.args.self.now.reals.now.items c.args.self.now.copies.now.ghosts in
-    ap (λ x. Some x) (c.in_ok-shown.ensures h.me h.settings)
+    let copy = c.of_copy.ensures in
+    ap (λ x. Some x)
+    (c.in_ok-shown.ensures h.me h.settings ∙ (λ i. shown_to_others h (copy.held i) (copy.ty i) (copy.version i) (copy.state i)))
     ∙ copy_known d c.args.self.now.own c.args.e c.if-e-self.false _ c.in_default.ensures.item c.in-Some-get.ensures
