@@ -1,5 +1,6 @@
 pub mod Marks
 pub mod PartLemmas
+pub mod ReadyUpdates
 pub mod RouteLemmas
 pub mod NodeLemmas
 pub mod Walk

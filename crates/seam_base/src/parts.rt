@@ -5,7 +5,6 @@ ghost use Rattle.std.specs.Prelude.{false, find, OnOk, OnErr, IfErr, Some, optio
 ghost use Rattle.std.specs.FinMap as table;
 ghost use Rattle.std.specs.FinSet as set;
 ghost use Rattle.seam_steps.specs.Maps.{number_of, each_value};
-ghost use Rattle.seam_steps.specs.Bases.{PartView};
 ghost use Rattle.seam_defs.specs.declared.settings.Settings.{Settings as AllSettings};
 ghost use Rattle.seam_entity.specs.Preparing.{node_with};
 ghost use Rattle.seam_steps.specs.Loads.{with_proxy, new_part, part_begins};
@@ -73,27 +72,8 @@ fn least_of(marks: &Table<()>) -> Option<u32>
     }
 }
 
-// Offers the update to the client of the entity's part, which is here, and has a ready update then exactly where it has one before.
-fn update_unmarked(items: &mut Table<BasePart>, update: Update) -> Result<(), NoMemoryFor<Update>>
-    requires there { is_some (table.get items.old.items update.entity) ≡ true }
-    requires fits { stray_update update (table.get items.old.items update.entity) ≡ false }
-    requires same { (p : PartView) → table.get items.old.items update.entity ≡ Some p → has_update (with_update update p) ≡ has_update p }
-    ensures after { OnOk result (items.new.items ≡ changed_at (with_update update) items.old.items update.entity) }
-    ensures err { OnErr result (items.new.items ≡ items.old.items) }
-    ensures err_item { IfErr result (λ e. e.item ≡ update) }
-    ensures calls { PassAlike has_call items.old.items items.new.items }
-    ensures updates { PassAlike has_update items.old.items items.new.items }
-{
-    let e = update.entity;
-    let Some(mut part) = items.take(e) else {
-        unreachable!()
-    };
-    let done = part.offer_update(update);
-    let _none = items.put_reserved(e, part);
-    done
-}
-
-// Offers the update to the client of the entity's part, which is here. Most come in order, and need no mark.
+// Offers the update to the client of the entity's part, which is here. Most leave it as ready as it was, and need no
+// other mark.
 fn update_in(
     items: &mut Table<BasePart>,
     updates: &mut Table<()>,
@@ -112,17 +92,17 @@ fn update_in(
     let Some(part) = items.get(e) else {
         unreachable!()
     };
-    if part.stays_as_ready(&update) {
-        return update_unmarked(items, update);
-    }
-    if updates.reserve(e).is_err() {
+    let stays = part.stays_as_ready(&update);
+    if !stays && updates.reserve(e).is_err() {
         return Err(NoMemoryFor { item: update });
     }
     let Some(mut part) = items.take(e) else {
         unreachable!()
     };
     let done = part.offer_update(update);
-    mark(updates, e, part.is_client_ready());
+    if !stays {
+        mark(updates, e, part.is_client_ready());
+    }
     let _none = items.put_reserved(e, part);
     done
 }

@@ -1,6 +1,6 @@
 //! Clients of base parts, and what they are told.
 
-ghost use Rattle.std.specs.Prelude.{◌≡◌, ◌&&◌, ℕ, IfErr, OnOk, OnErr, true, false, Some, None};
+ghost use Rattle.std.specs.Prelude.{◌≡◌, ◌↔◌, ◌&&◌, ℕ, IsTrue, IfErr, OnOk, OnErr, true, false, Some, None};
 ghost use Rattle.std.specs.Ordering.{nat_cmp};
 ghost use Rattle.std.specs.List.{list_any};
 ghost use Rattle.seam_defs.specs.Groups.{in_group};
@@ -34,13 +34,13 @@ fn may_update(proxy: &Proxy, update: &Update) -> bool
     (n > 0 && (number_may_rise(n) && !proxy.updates.holds(n))) && number_may_rise(proxy.last)
 }
 
-// Whether it is the update's turn, and the one after it has not come, so that none waits before or after it.
-fn is_alone(proxy: &Proxy, update: &Update) -> bool
+// Whether the client has a ready update after it was offered this one exactly where it has one before.
+fn stays_as_ready(proxy: &Proxy, update: &Update) -> bool
     requires { may_offer proxy.now.updates update.now.number ≡ true }
-    ensures { result ≡ true → is_ready (client_with_update update.now (proxy_of proxy.now)).updates ≡ is_ready proxy.now.updates }
+    ensures { IsTrue result ↔ is_ready (client_with_update update.now (proxy_of proxy.now)).updates ≡ is_ready proxy.now.updates }
 {
-    let next = proxy.updates.next_number();
-    update.number == next && !proxy.updates.holds(next + 1)
+    // An update in its turn makes the one after it ready.
+    update.number != proxy.updates.next_number() || !proxy.updates.holds(update.number + 1)
 }
 
 // Offers the update to the client's order. In its turn it is shown.
@@ -131,14 +131,13 @@ impl BasePart {
         }
     }
 
-    /// Whether the client, if there is one, has a ready update after it was offered this one exactly where it has one before. It is so
-    /// where the answer is true, as it is of updates that come in order.
+    /// Whether the client, if there is one, has a ready update after it was offered this one exactly where it has one before.
     pub fn stays_as_ready(&self, update: &Update) -> bool
         requires { stray_proxy_update update.now self.now.proxy ≡ false }
-        ensures { result ≡ true → has_update (with_update update.now self.now) ≡ has_update self.now }
+        ensures { IsTrue result ↔ has_update (with_update update.now self.now) ≡ has_update self.now }
     {
         match &self.body.proxy {
-            Some(proxy) => is_alone(proxy, update),
+            Some(proxy) => stays_as_ready(proxy, update),
             None => true,
         }
     }
