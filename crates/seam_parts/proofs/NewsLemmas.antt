@@ -3,6 +3,7 @@ use Rattle.std.proofs.Common.{◌≡◌, ◌+◌, ◌++◌, ◌||◌, ℕ, zero,
 use Rattle.std.proofs.Common.{refl, ap, ◌∙◌, arith}
 use Rattle.std.specs.List.{filter_map, cons_option, range_with_len}
 use Rattle.std.specs.FinSet as set
+use Rattle.std.proofs.lemmas.List.{append-nil}
 use Rattle.std.proofs.lemmas.List.Elements.{filter_map-append}
 use Rattle.seam_call.specs.declared.shown.GhostCopy.{GhostCopy}
 use Rattle.seam_entity.specs.Reals.{RealView}
@@ -33,6 +34,17 @@ told_more f n =
 
 pub news_more : (t : Telling) (g : GhostCopy) (n : ℕ) → news t g (n + 1) ≡ news t g n ++ listed (said t g n (word t n))
 news_more t g n = told_more (told_by t g) n
+
+unless_here : (b changed : Bool) → cond b Nothing (word_at false false changed) ≡ Nothing
+unless_here true changed = refl
+unless_here false changed = refl
+
+-- a cell that is no haunt and was none is told nothing
+pub news_same : (t : Telling) (g : GhostCopy) (n : ℕ) → set.contains t.haunts n ≡ false → set.contains t.old n ≡ false →
+    news t g (n + 1) ≡ news t g n
+news_same t g n away was =
+    let nothing : word t n ≡ Nothing = rw (away, was) (unless_here (eqb n t.me || eqb n t.home) t.changed) in
+    news_more t g n ∙ (ap (λ w. news t g n ++ listed (said t g n w)) nothing ∙ append-nil (news t g n))
 
 module _ (t : Telling) (g : GhostCopy) (k : ℕ) where
   word_told : (a b c : Bool) → said t g k (word_at a b c) ≡ told_unless false k (told t.entity t.beat g a b c)

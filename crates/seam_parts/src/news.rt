@@ -111,7 +111,10 @@ pub fn gather(
 {
     let mut so_far = VecDeque::new(alloc);
     for k in 0..16 {
-        add(t, of, k, &mut so_far)?;
+        // Most cells are no haunt, and were none.
+        if t.haunts.holds(k) || t.old.holds(k) {
+            add(t, of, k, &mut so_far)?;
+        }
     }
     Ok(so_far)
 }

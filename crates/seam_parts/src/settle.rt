@@ -62,18 +62,13 @@ fn home_after(me: u8, settings: &Settings, tree: &Tree, pos: Pos) -> u8
     if me >= tree.cells() {
         return me;
     }
-    // Most stand in the cell's own area, which is quicker to find out than the area itself.
-    let leaf = tree.leaf_of(pos);
-    if leaf == me {
-        return me;
-    }
     let Some(area) = tree.area(me) else {
         unreachable!()
     };
     if area.dist(pos) <= settings.offload_hysteresis {
         me
     } else {
-        leaf
+        tree.leaf_of(pos)
     }
 }
 

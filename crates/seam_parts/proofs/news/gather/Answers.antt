@@ -2,16 +2,25 @@ use Rattle.std.proofs.Common.{◌≡◌, ◌++◌, ap, sym, ◌∙◌, arith}
 use Rattle.seam_entity.specs.Executing.{copy_with}
 use Rattle.seam_entity.specs.Preparing.{node_with}
 use Rattle.seam_parts.specs.News.{word, said, listed, news}
-use Rattle.seam_parts.proofs.NewsLemmas.{news_more}
+use Rattle.seam_parts.proofs.NewsLemmas.{news_more, news_same}
 use Rattle.seam_parts.proofs.news.gather.Goals as goal
+use Rattle.seam_parts.proofs.news.gather.Goals.{then-holds+in_ok-add, else-holds+else-holds-2}
 
 pub loop-k-preserved : goal.loop-k-preserved
 loop-k-preserved c me settings =
     let of = c.args.of.now in
     let t = c.args.t.now in
+    let k = c.loop-k.k in
     let g = copy_with (node_with of.defs.now me settings) of.ty of.version of.state.now in
-    c.in_ok-add.ensures me settings
-    ∙ (ap (λ l. l ++ listed (said t g c.loop-k.k (word t c.loop-k.k))) (c.loop-k.invariant me settings) ∙ sym (news_more t g c.loop-k.k))
+    elim c.if-holds.branch [
+      | then-holds+in_ok-add w ↦
+          ap (λ q. q.items) w.so_far-is ∙ w.in_ok-add.ensures me settings
+          ∙ (ap (λ l. l ++ listed (said t g k (word t k))) (c.loop-k.invariant me settings) ∙ sym (news_more t g k))
+      | else-holds+else-holds-2 w ↦
+          let away = sym c.holds.ensures.value ∙ w.if-holds.false in
+          let was = sym w.holds-else-holds.ensures.value ∙ w.if-holds-2.false in
+          ap (λ q. q.items) w.so_far-is ∙ (c.loop-k.invariant me settings ∙ sym (news_same t g k away was))
+    ]
 
 pub returns : goal.returns
 returns c me settings =
