@@ -1,5 +1,5 @@
 use Rattle.std.proofs.Common.{Some, ap, ◌∙◌}
-use Rattle.seam_entity.specs.Looks.{shown_to_others, other_of_real, other_of_copy}
+use Rattle.seam_entity.specs.Looks.{shown_to_others, other_of_real}
 use Rattle.seam_steps.specs.Cells.{CellView}
 use Rattle.seam_parts.specs.Kept.{here_in}
 use Rattle.seam_sight.specs.Looking.{seeing}
