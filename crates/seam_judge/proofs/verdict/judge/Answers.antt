@@ -8,6 +8,14 @@ use Rattle.seam_expected.proofs.ListedLemmas.{if_ok}
 use Rattle.seam_judge.proofs.AllPoints.{never_left}
 use Rattle.seam_judge.proofs.verdict.judge.Goals as goal
 
+pub returns-clause-legal : goal.returns-clause-legal
+returns-clause-legal c =
+    if_ok c.judge_case.result
+    (λ o legal.
+    subst (λ (x : Standing). (o ≡ None) ↔ IsRound c.args.header.now (standing_of c.args.before.now) c.args.round.now x) c.in_ok-after.ensures
+    legal)
+    c.judge_case.ensures.legal
+
 pub returns-clause-refused : goal.returns-clause-refused
 returns-clause-refused c =
     let h = c.args.header.now in
