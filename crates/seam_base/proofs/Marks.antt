@@ -175,20 +175,7 @@ module _ {M : Type 0} (test : PartView → Bool) (marks : Map M) (parts : Map Pa
       ∙ (sym (passes_cond test (eq_by_cmp nat_cmp q e) None (table.get parts q))
       ∙ ap (passes test) (sym (table.get-remove nat_cmp_total parts e q)))))
 
--- ---- a part that is taken and put
-
-cond_twice : {A : Type 0} (b : Bool) (x y z : A) → cond b x (cond b y z) ≡ cond b x z
-cond_twice true x y z = refl
-cond_twice false x y z = refl
-
-module _ {X : Type 0} (m : Map X) (e : ℕ) (x : X) where
-  pub put_again : table.insert (table.remove m e) e x ≡ table.insert m e x
-  put_again = table.same_map nat_cmp_total table.nat_cmp-IsAntisymmetric _ _
-      (λ q. simp (table.get-insert, table.get-remove, nat_cmp_total, cond_twice))
-
-  -- what is put back as it was changes nothing
-  pub put_back : table.get m e ≡ Some x → table.insert (table.remove m e) e x ≡ m
-  put_back is = put_again ∙ (ap (set_at m e) (sym is) ∙ set_at-same m e)
+-- ---- a part that is changed
 
 -- marks as they were, of parts as they were
 pub same_marks : {M : Type 0} (test : PartView → Bool) (marks m : Map M) (parts p : Map PartView) → m ≡ marks → p ≡ parts →
@@ -200,21 +187,17 @@ pub none_marked : (M : Type 0) (test : PartView → Bool) → AreMarked {M = M} 
 none_marked M test q =
     ap is_some (table.get-empty nat_cmp q) ∙ ap (passes test) (sym (table.get-empty nat_cmp q))
 
--- part p was taken, and is put as p'
-module _ (m : Map PartView) (e : ℕ) (p p' : PartView) (n : Map PartView) (at : Some p ≡ table.get m e)
-    (is : n ≡ table.insert (table.remove m e) e p') where
-  now_put : n ≡ table.insert m e p'
-  now_put = is ∙ put_again m e p'
-
+-- part p is p' now
+module _ (m : Map PartView) (e : ℕ) (p p' : PartView) (n : Map PartView) (at : Some p ≡ table.get m e) (is : n ≡ table.insert m e p') where
   pub changed : (f : PartView → PartView) → p' ≡ f p → n ≡ changed_at f m e
-  changed f same = now_put ∙ (ap (table.insert m e) same ∙ ap (λ o. set_at m e (option_map f o)) at)
+  changed f same = is ∙ (ap (table.insert m e) same ∙ ap (λ o. set_at m e (option_map f o)) at)
 
   pub unchanged : p' ≡ p → n ≡ m
-  unchanged same = is ∙ (ap (table.insert (table.remove m e) e) same ∙ put_back m e p (sym at))
+  unchanged same = is ∙ (ap (table.insert m e) same ∙ (ap (set_at m e) at ∙ set_at-same m e))
 
   pub pass_alike : (test : PartView → Bool) → test p' ≡ test p → PassAlike test m n
   pass_alike test same q =
-      ap (λ k. passes test (table.get k q)) now_put ∙ (got_passes test m e q p' ∙ by (eq_by_cmp nat_cmp q e) refl)
+      ap (λ k. passes test (table.get k q)) is ∙ (got_passes test m e q p' ∙ by (eq_by_cmp nat_cmp q e) refl)
     where
       by : (b : Bool) → eq_by_cmp nat_cmp q e ≡ b → cond b (test p') (passes test (table.get m q)) ≡ passes test (table.get m q)
       by true key = same ∙ (ap (passes test) at ∙ ap (λ k. passes test (table.get m k)) (sym (same_key q e key)))
@@ -223,16 +206,13 @@ module _ (m : Map PartView) (e : ℕ) (p p' : PartView) (n : Map PartView) (at :
   pub marks_put : {M : Type 0} (test : PartView → Bool) (marks after : Map M) (x : M) → AreMarked test marks m →
       after ≡ marked (test p') marks e x → AreMarked test after n
   marks_put test marks after x are eq =
-      same_marks test (marked (test p') marks e x) after (table.insert m e p') n eq now_put (marked_as_put test marks m are e p' x)
+      same_marks test (marked (test p') marks e x) after (table.insert m e p') n eq is (marked_as_put test marks m are e p' x)
 
 -- ---- a part that is not there, or does not change
 
 module _ (m : Map PartView) (e : ℕ) where
   nothing_there : None ≡ table.get m e → table.remove m e ≡ m
   nothing_there at = ap (set_at m e) at ∙ set_at-same m e
-
-  pub alike_none : (test : PartView → Bool) (n : Map PartView) → None ≡ table.get m e → n ≡ table.remove m e → PassAlike test m n
-  alike_none test n at is q = ap (λ k. passes test (table.get k q)) (is ∙ nothing_there at)
 
   pub changed_none : (f : PartView → PartView) → None ≡ table.get m e → changed_at f m e ≡ m
   changed_none f at = ap (λ o. set_at m e (option_map f o)) (sym at) ∙ nothing_there at

@@ -1,6 +1,6 @@
 -- Cases of a base node's step, as changes of one part.
 use Rattle.std.proofs.Common.{◌≡◌, ℕ, Bool, true, false, not, find, List, ◌∷◌, ◌++◌, Option, None, Some, Result, OnOk, refl, sym, ap, ◌∙◌}
-use Rattle.std.specs.Prelude.{option_map}
+use Rattle.std.specs.Prelude.{if◌then◌else◌, option_map}
 use Rattle.std.specs.FinMap as table
 use Rattle.std.proofs.lemmas.List.{append-nil}
 use Rattle.seam_table.proofs.Found.{found}
@@ -14,7 +14,7 @@ use Rattle.seam_steps.specs.BaseCases.{unless_stray, sends_none, stray_update, u
 use Rattle.seam_base.specs.declared.known.Known.{Known}
 use Rattle.seam_base.specs.Nodes.{node_of, has_call, has_update}
 use Rattle.seam_base.specs.Marks.{passes_in, least}
-use Rattle.seam_base.specs.Parts.{changed_at, with_ready_call, with_shown, with_update, client_with_update}
+use Rattle.seam_base.specs.Parts.{changed_at, with_ready_call, with_shown, with_update, parts_with_update, client_with_update}
 use Rattle.seam_base.proofs.Marks.{changed_none, changed_there, changed_same}
 use Rattle.seam_base.proofs.PartLemmas.{on_ok}
 
@@ -38,13 +38,15 @@ module _ (b : BaseView) (u : Update) where
   update_changes None at = ap (with_parts b) (sym (changed_none b.parts u.entity (with_update u) at))
   update_changes (Some p) at = updated_client p p.proxy at refl
 
-  pub update_left : {T E : Type 0} (r : Result T E) (m : Map PartView) → stray_update u (table.get b.parts u.entity) ≡ false →
-      OnOk r (m ≡ changed_at (with_update u) b.parts u.entity) →
+  update_by : (s : Bool) → with_parts b (if s then b.parts else changed_at (with_update u) b.parts u.entity)
+      ≡ (unless_stray s b (sends_none (update b u (table.get b.parts u.entity)))).state
+  update_by true = refl
+  update_by false = sym (update_changes (table.get b.parts u.entity) refl)
+
+  pub update_left : {T E : Type 0} (r : Result T E) (m : Map PartView) → OnOk r (m ≡ parts_with_update u b.parts) →
       OnOk r (with_parts b m ≡ (unless_stray (stray_update u (table.get b.parts u.entity)) b
       (sends_none (update b u (table.get b.parts u.entity)))).state)
-  update_left r m fits = on_ok r (λ is. ap (with_parts b) is
-      ∙ (sym (update_changes (table.get b.parts u.entity) refl)
-      ∙ ap (λ s. (unless_stray s b (sends_none (update b u (table.get b.parts u.entity)))).state) (sym fits)))
+  update_left r m = on_ok r (λ is. ap (with_parts b) is ∙ update_by (stray_update u (table.get b.parts u.entity)))
 
 -- ---- an order that stays
 

@@ -1,5 +1,5 @@
 -- What contracts see of a base part, and what it gets ready before it executes a call.
-use Rattle.std.specs.Prelude.{◌≡◌, ℕ, ◌+◌, ◌<◌, true, List, [], ◌∷◌, ◌++◌, Option, None, Some, option_map, box_value, vec_len, vec_capacity}
+use Rattle.std.specs.Prelude.{◌≡◌, if◌then◌else◌, ℕ, ◌+◌, ◌<◌, true, List, [], ◌∷◌, ◌++◌, Option, None, Some, option_map, box_value, vec_len, vec_capacity}
 use Rattle.std.specs.Ordering.{nat_cmp}
 use Rattle.std.specs.FinMap as table
 use Rattle.std.specs.FinSet as set
@@ -13,7 +13,7 @@ use Rattle.seam_entity.specs.Orders.{Orders, order_of}
 use Rattle.seam_entity.specs.Calls.{ready_order}
 use Rattle.seam_steps.specs.Maps.{Map, set_at}
 use Rattle.seam_steps.specs.Bases.{PartView, ProxyView, with_line}
-use Rattle.seam_steps.specs.BaseCases.{offered, offered_update, after_ready, after_showing}
+use Rattle.seam_steps.specs.BaseCases.{stray_update, offered, offered_update, after_ready, after_showing}
 use Rattle.std.specs.declared.boxed.Box.{Box}
 use Rattle.seam_base.specs.declared.part.Proxy.{Proxy}
 use Rattle.seam_base.specs.declared.part.Body.{Body}
@@ -97,6 +97,10 @@ client_with_update u x = offered_update x u (nat_cmp u.number x.updates.next)
 -- the part after its client, if it has one, was offered the update
 abbrev pub with_update : Update → PartView → PartView
 with_update u p = record p { proxy = option_map (client_with_update u) p.proxy }
+
+-- the parts after the update was offered to the client that it is for, if that may be offered it
+abbrev pub parts_with_update : Update → Map PartView → Map PartView
+parts_with_update u m = if stray_update u (table.get m u.entity) then m else changed_at (with_update u) m u.entity
 
 -- the part after its client was shown the ready update
 abbrev pub with_shown : PartView → PartView

@@ -176,12 +176,6 @@ impl Base {
         ensures err { OnErr result (self.new ≡ self.old) }
         ensures err_item { IfErr result (λ e. e.item ≡ update) }
     {
-        let Some(part) = self.parts.get(update.entity) else {
-            return Ok(());
-        };
-        if part.refuses(&update) {
-            return Ok(());
-        }
         self.parts.offer_update(update)
     }
 

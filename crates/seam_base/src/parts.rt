@@ -4,13 +4,14 @@ ghost use Rattle.std.specs.Prelude.{◌≡◌, ◌<◌, ◌≤◌, ◌^◌, if�
 ghost use Rattle.std.specs.Prelude.{false, find, OnOk, OnErr, IfErr, Some, option_copied, option_map, is_some};
 ghost use Rattle.std.specs.FinMap as table;
 ghost use Rattle.std.specs.FinSet as set;
-ghost use Rattle.seam_steps.specs.Maps.{number_of, each_value};
+ghost use Rattle.seam_steps.specs.Maps.{Map, number_of, each_value};
+ghost use Rattle.seam_steps.specs.Bases.{PartView};
 ghost use Rattle.seam_defs.specs.declared.settings.Settings.{Settings as AllSettings};
 ghost use Rattle.seam_entity.specs.Preparing.{node_with};
 ghost use Rattle.seam_steps.specs.Loads.{with_proxy, new_part, part_begins};
-ghost use Rattle.seam_steps.specs.BaseCases.{stray_base_call, stray_update, may_execute, is_base_node_of};
+ghost use Rattle.seam_steps.specs.BaseCases.{stray_base_call, stray_proxy_update, may_execute, is_base_node_of};
 ghost use Rattle.seam_base.specs.Nodes.{here_in, has_call, has_update, has_client, may_be_shown};
-ghost use Rattle.seam_base.specs.Parts.{changed_at, with_call, with_ready_call, with_update, with_shown};
+ghost use Rattle.seam_base.specs.Parts.{changed_at, with_call, with_ready_call, with_update, parts_with_update, with_shown};
 ghost use Rattle.seam_base.specs.Marks.{AreMarked, PassAlike, passes, marked, any_mark, least};
 
 use crate::known::Known;
@@ -72,39 +73,51 @@ fn least_of(marks: &Table<()>) -> Option<u32>
     }
 }
 
-// Offers the update to the client of the entity's part, which is here. Most leave it as ready as it was, and need no
-// other mark.
+// Offers the update to the client of its part. Most leave it as ready as it was, and need no other mark.
+fn update_part(
+    part: &mut BasePart,
+    updates: &mut Table<()>,
+    update: Update,
+) -> Result<(), NoMemoryFor<Update>>
+    requires fits { stray_proxy_update update part.old.proxy ≡ false }
+    ensures after { OnOk result (part.new ≡ with_update update part.old) }
+    ensures err { OnErr result (part.new ≡ part.old) }
+    ensures err_item { IfErr result (λ e. e.item ≡ update) }
+    ensures marks { (parts : Map PartView) → Some part.old ≡ table.get parts update.entity →
+        AreMarked has_update updates.old.items parts → AreMarked has_update updates.new.items (table.insert parts update.entity part.new) }
+{
+    if part.stays_as_ready(&update) {
+        return part.offer_update(update);
+    }
+    let e = update.entity;
+    if updates.reserve(e).is_err() {
+        return Err(NoMemoryFor { item: update });
+    }
+    let done = part.offer_update(update);
+    mark(updates, e, part.is_client_ready());
+    done
+}
+
+// Offers the update to the client of the entity's part, if it is here and may be offered it.
 fn update_in(
     items: &mut Table<BasePart>,
     updates: &mut Table<()>,
     update: Update,
 ) -> Result<(), NoMemoryFor<Update>>
-    requires there { is_some (table.get items.old.items update.entity) ≡ true }
-    requires fits { stray_update update (table.get items.old.items update.entity) ≡ false }
     requires marks { AreMarked has_update updates.old.items items.old.items }
-    ensures after { OnOk result (items.new.items ≡ changed_at (with_update update) items.old.items update.entity) }
+    ensures after { OnOk result (items.new.items ≡ parts_with_update update items.old.items) }
     ensures err { OnErr result (items.new.items ≡ items.old.items) }
     ensures err_item { IfErr result (λ e. e.item ≡ update) }
     ensures marks { AreMarked has_update updates.new.items items.new.items }
     ensures others { PassAlike has_call items.old.items items.new.items }
 {
-    let e = update.entity;
-    let Some(part) = items.get(e) else {
-        unreachable!()
+    let Some(part) = items.get_mut(update.entity) else {
+        return Ok(());
     };
-    let stays = part.stays_as_ready(&update);
-    if !stays && updates.reserve(e).is_err() {
-        return Err(NoMemoryFor { item: update });
+    if part.refuses(&update) {
+        return Ok(());
     }
-    let Some(mut part) = items.take(e) else {
-        unreachable!()
-    };
-    let done = part.offer_update(update);
-    if !stays {
-        mark(updates, e, part.is_client_ready());
-    }
-    let _none = items.put_reserved(e, part);
-    done
+    update_part(part, updates, update)
 }
 
 // Offers the call to the entity's part, which may be offered it.
@@ -126,12 +139,11 @@ fn call_in(
     if calls.reserve(e).is_err() {
         return Err(NoMemoryFor { item: call });
     }
-    let Some(mut part) = items.take(e) else {
+    let Some(part) = items.get_mut(e) else {
         unreachable!()
     };
     let done = part.offer(&known.defs, call);
     mark(calls, e, part.is_ready());
-    let _none = items.put_reserved(e, part);
     done
 }
 
@@ -150,12 +162,11 @@ fn ready_in(
     ensures others { PassAlike has_update items.old.items items.new.items }
 {
     calls.reserve(e)?;
-    let Some(mut part) = items.take(e) else {
+    let Some(part) = items.get_mut(e) else {
         unreachable!()
     };
     let done = part.execute_ready(&known.defs);
     mark(calls, e, part.is_ready());
-    let _none = items.put_reserved(e, part);
     done
 }
 
@@ -169,12 +180,11 @@ fn show_in(items: &mut Table<BasePart>, updates: &mut Table<()>, e: u32) -> Resu
     ensures others { PassAlike has_call items.old.items items.new.items }
 {
     updates.reserve(e)?;
-    let Some(mut part) = items.take(e) else {
+    let Some(part) = items.get_mut(e) else {
         unreachable!()
     };
     let done = part.show_next();
     mark(updates, e, part.is_client_ready());
-    let _none = items.put_reserved(e, part);
     done
 }
 
@@ -192,11 +202,10 @@ fn attach_in(
     ensures calls { PassAlike has_call items.old.items items.new.items }
     ensures updates { PassAlike has_update items.old.items items.new.items }
 {
-    let Some(mut part) = items.take(e) else {
+    let Some(part) = items.get_mut(e) else {
         return Ok(());
     };
     let done = part.attach(alloc, defs);
-    let _none = items.put_reserved(e, part);
     done
 }
 
@@ -206,11 +215,10 @@ fn begin(items: &mut Table<BasePart>, e: u32)
     ensures after { items.new.items ≡ changed_at part_begins items.old.items e }
     ensures small { e < 2 ^ 32 }
 {
-    let Some(mut part) = items.take(e) else {
+    let Some(part) = items.get_mut(e) else {
         unreachable!()
     };
     part.start_round();
-    let _none = items.put_reserved(e, part);
 }
 
 // The same, but for a part that did nothing since a round began, which stays as it is.
@@ -315,11 +323,9 @@ impl Parts {
         ready_in(&mut self.items, &mut self.calls, known, e)
     }
 
-    /// Offers the update to the client, if there is one, of the entity's part, which is here.
+    /// Offers the update to the client, if there is one, of the entity's part, if it is here and may be offered it.
     pub fn offer_update(&mut self, update: Update) -> Result<(), NoMemoryFor<Update>>
-        requires there { is_some (table.get self.old update.entity) ≡ true }
-        requires fits { stray_update update (table.get self.old update.entity) ≡ false }
-        ensures after { OnOk result (self.new ≡ changed_at (with_update update) self.old update.entity) }
+        ensures after { OnOk result (self.new ≡ parts_with_update update self.old) }
 
         // If allocation fails, the update comes back and nothing has changed.
         ensures err { OnErr result (self.new ≡ self.old) }

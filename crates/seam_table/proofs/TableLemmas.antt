@@ -105,6 +105,24 @@ table-written m n e g o p h =
     let b = room-written m n e (Some g) h in
     λ i. record { items = a i; room = b i }
 
+as_it_was : {G : Type 0} (b : Bool) (s r : G) → (b ≡ true → s ≡ r) → cond b s r ≡ r
+as_it_was true s r h = h refl
+as_it_was false s r h = refl
+
+-- an entry written as it was leaves the table
+pub table-rewritten : {T : Type 0} (m n : BTreeMap ℕ (Option T)) (e : ℕ) (slot : Option T) → IsOrdered nat_cmp m → IsOrdered nat_cmp n →
+    Some slot ≡ get nat_cmp m e → Writes m n e slot → table_of n.entries ≡ table_of m.entries
+table-rewritten m n e slot o p there h =
+    let same : (q : ℕ) → get nat_cmp n q ≡ get nat_cmp m q =
+    λ q. h q ∙ as_it_was (is_at (nat_cmp e) q) (Some slot) (get nat_cmp m q) (λ t. there ∙ ap (get nat_cmp m) (sym (key_is e q t))) in
+    let a =
+    map.same_map nat_cmp_total map.nat_cmp-IsAntisymmetric (table_of n.entries).items (table_of m.entries).items (λ q.
+    item-slot n q p ∙ ap option_flatten (same q) ∙ sym (item-slot m q o)) in
+    let b =
+    set.same_set nat_cmp_total set.nat_cmp-IsAntisymmetric (table_of n.entries).room (table_of m.entries).room (λ q.
+    room-slot n q ∙ ap is_some (same q) ∙ sym (room-slot m q)) in
+    λ i. record { items = a i; room = b i }
+
 same_or_none : {T : Type 0} (b : Bool) (r : Option (Option T)) → (b ≡ true → r ≡ None) →
     option_flatten (cond b (Some None) r) ≡ option_flatten r
 same_or_none true r none = sym (ap option_flatten (none refl))

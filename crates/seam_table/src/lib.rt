@@ -49,6 +49,10 @@ impl<T> Model for Table<T> {
 }
 
 impl<T: Drop> Table<T> {
+    ghost use Rattle.std.specs.Borrow.{LendsIf, sem};
+    ghost use Rattle.std.specs.Option.{option_copied_mut};
+    ghost use Rattle.seam_table.specs.contracts.Table.{the_row};
+
     /// A table with no item and room for none.
     pub fn new(alloc: Global) -> Self
         ensures { result ≡ record { items = map.empty; room = set.empty } }
@@ -65,6 +69,17 @@ impl<T: Drop> Table<T> {
     {
         match self.entries.get(&n) {
             Some(slot) => slot.as_ref(),
+            None => None,
+        }
+    }
+
+    /// The item of the number, to be changed. The rest of the table stays as it is.
+    pub fn get_mut(&mut self, n: u32) -> Option<&mut T>
+        ensures* writes_back { sem 𝓛 (LendsIf (the_row T.row) T.row self.entry result (with_item self.old n) self.old) }
+        ensures item { option_copied_mut result ≡ map.get self.old.items n }
+    {
+        match self.entries.get_mut(&n) {
+            Some(slot) => slot.as_mut(),
             None => None,
         }
     }

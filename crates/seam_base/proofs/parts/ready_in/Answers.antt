@@ -1,5 +1,4 @@
-use Rattle.std.proofs.Common.{◌≡◌, ap, ◌∙◌}
-use Rattle.std.specs.FinMap as table
+use Rattle.std.proofs.Common.{refl, ◌∙◌}
 use Rattle.seam_base.specs.Nodes.{here_in, has_call, has_update}
 use Rattle.seam_base.specs.Parts.{with_ready_call}
 use Rattle.seam_base.specs.Marks.{marked}
@@ -7,32 +6,25 @@ use Rattle.seam_base.proofs.Marks.{changed, unchanged, pass_alike, marks_put}
 use Rattle.seam_base.proofs.PartLemmas.{on_ok, on_err, either_way, ready_same}
 use Rattle.seam_base.proofs.parts.ready_in.Goals as goal
 
-module _ (c : goal.Joined-none) where
-  put_is : c.put_reserved-none.new.self.items
-      ≡ table.insert (table.remove c.args.items.now.items c.args.e) c.args.e c.execute_ready-done.new.self
-  put_is =
-      ap (λ w. w.items) c.put_reserved-none.ensures.after
-      ∙ ap (λ w. table.insert w.items c.args.e c.execute_ready-done.new.self) c.in-Some.ensures.after
-
 pub returns-clause-after : goal.returns-clause-after
 returns-clause-after c = on_ok c.execute_ready-done.result
-    (changed c.args.items.now.items c.args.e c.in-Some.part c.execute_ready-done.new.self _ c.in-Some.ensures.item (put_is c)
+    (changed c.args.items.now.items c.args.e c.in-Some.part.now c.execute_ready-done.new.self _ c.in-Some.ensures.item refl
     (with_ready_call (here_in c.args.known.now))) (c.execute_ready-done.ensures.after c.args.known.now.me c.args.known.now.settings)
 
 pub returns-clause-err : goal.returns-clause-err
 returns-clause-err c = on_err c.execute_ready-done.result
-    (unchanged c.args.items.now.items c.args.e c.in-Some.part c.execute_ready-done.new.self _ c.in-Some.ensures.item (put_is c))
+    (unchanged c.args.items.now.items c.args.e c.in-Some.part.now c.execute_ready-done.new.self _ c.in-Some.ensures.item refl)
     c.execute_ready-done.ensures.err
 
 pub returns-clause-marks : goal.returns-clause-marks
 returns-clause-marks c =
-    marks_put c.args.items.now.items c.args.e c.in-Some.part c.execute_ready-done.new.self _ c.in-Some.ensures.item (put_is c) has_call
+    marks_put c.args.items.now.items c.args.e c.in-Some.part.now c.execute_ready-done.new.self _ c.in-Some.ensures.item refl has_call
     c.args.calls.now.items c.mark.new.marks.items tt c.requires.marks
     (c.mark.ensures ∙ (λ i. marked (c.is_ready.ensures i) (c.reserve.ensures.same i) c.args.e tt))
 
 pub returns-clause-others : goal.returns-clause-others
 returns-clause-others c =
-    pass_alike c.args.items.now.items c.args.e c.in-Some.part c.execute_ready-done.new.self _ c.in-Some.ensures.item (put_is c) has_update
-    (either_way has_update (with_ready_call (here_in c.args.known.now)) c.in-Some.part c.execute_ready-done.new.self
-    c.execute_ready-done.result (ready_same (here_in c.args.known.now) c.in-Some.part)
+    pass_alike c.args.items.now.items c.args.e c.in-Some.part.now c.execute_ready-done.new.self _ c.in-Some.ensures.item refl has_update
+    (either_way has_update (with_ready_call (here_in c.args.known.now)) c.in-Some.part.now c.execute_ready-done.new.self
+    c.execute_ready-done.result (ready_same (here_in c.args.known.now) c.in-Some.part.now)
     (c.execute_ready-done.ensures.after c.args.known.now.me c.args.known.now.settings) c.execute_ready-done.ensures.err)

@@ -1,5 +1,4 @@
-use Rattle.std.proofs.Common.{◌≡◌, ap, ◌∙◌}
-use Rattle.std.specs.FinMap as table
+use Rattle.std.proofs.Common.{refl, ◌∙◌}
 use Rattle.seam_base.specs.Nodes.{has_call, has_update}
 use Rattle.seam_base.specs.Parts.{with_shown}
 use Rattle.seam_base.specs.Marks.{marked}
@@ -7,31 +6,24 @@ use Rattle.seam_base.proofs.Marks.{changed, unchanged, pass_alike, marks_put}
 use Rattle.seam_base.proofs.PartLemmas.{on_ok, on_err, either_way, shown_call}
 use Rattle.seam_base.proofs.parts.show_in.Goals as goal
 
-module _ (c : goal.Joined-none) where
-  put_is : c.put_reserved-none.new.self.items
-      ≡ table.insert (table.remove c.args.items.now.items c.args.e) c.args.e c.show_next-done.new.self
-  put_is =
-      ap (λ w. w.items) c.put_reserved-none.ensures.after
-      ∙ ap (λ w. table.insert w.items c.args.e c.show_next-done.new.self) c.in-Some.ensures.after
-
 pub returns-clause-after : goal.returns-clause-after
 returns-clause-after c = on_ok c.show_next-done.result
-    (changed c.args.items.now.items c.args.e c.in-Some.part c.show_next-done.new.self _ c.in-Some.ensures.item (put_is c) with_shown)
+    (changed c.args.items.now.items c.args.e c.in-Some.part.now c.show_next-done.new.self _ c.in-Some.ensures.item refl with_shown)
     c.show_next-done.ensures.after
 
 pub returns-clause-err : goal.returns-clause-err
 returns-clause-err c = on_err c.show_next-done.result
-    (unchanged c.args.items.now.items c.args.e c.in-Some.part c.show_next-done.new.self _ c.in-Some.ensures.item (put_is c))
+    (unchanged c.args.items.now.items c.args.e c.in-Some.part.now c.show_next-done.new.self _ c.in-Some.ensures.item refl)
     c.show_next-done.ensures.err
 
 pub returns-clause-marks : goal.returns-clause-marks
 returns-clause-marks c =
-    marks_put c.args.items.now.items c.args.e c.in-Some.part c.show_next-done.new.self _ c.in-Some.ensures.item (put_is c) has_update
+    marks_put c.args.items.now.items c.args.e c.in-Some.part.now c.show_next-done.new.self _ c.in-Some.ensures.item refl has_update
     c.args.updates.now.items c.mark.new.marks.items tt c.requires.marks
     (c.mark.ensures ∙ (λ i. marked (c.is_client_ready.ensures i) (c.reserve.ensures.same i) c.args.e tt))
 
 pub returns-clause-others : goal.returns-clause-others
 returns-clause-others c =
-    pass_alike c.args.items.now.items c.args.e c.in-Some.part c.show_next-done.new.self _ c.in-Some.ensures.item (put_is c) has_call
-    (either_way has_call with_shown c.in-Some.part c.show_next-done.new.self c.show_next-done.result (shown_call c.in-Some.part)
+    pass_alike c.args.items.now.items c.args.e c.in-Some.part.now c.show_next-done.new.self _ c.in-Some.ensures.item refl has_call
+    (either_way has_call with_shown c.in-Some.part.now c.show_next-done.new.self c.show_next-done.result (shown_call c.in-Some.part.now)
     c.show_next-done.ensures.after c.show_next-done.ensures.err)

@@ -1,65 +1,46 @@
-use Rattle.std.proofs.Common.{◌≡◌, Some, is_some, ap, refl, sym, ◌∙◌}
+use Rattle.std.proofs.Common.{◌≡◌, if◌then◌else◌, ap, refl, sym, ◌∙◌}
 use Rattle.std.specs.FinMap as table
+use Rattle.seam_steps.specs.BaseCases.{stray_update}
 use Rattle.seam_base.specs.Nodes.{has_call, has_update}
-use Rattle.seam_base.specs.Parts.{with_update}
-use Rattle.seam_base.specs.Marks.{PassAlike, marked}
-use Rattle.seam_base.proofs.Marks.{changed, unchanged, pass_alike, marks_put}
-use Rattle.seam_base.proofs.PartLemmas.{on_ok, on_err, either_way}
+use Rattle.seam_base.specs.Parts.{changed_at, with_update}
+use Rattle.seam_base.specs.Marks.{passes}
+use Rattle.seam_base.proofs.Marks.{unchanged, changed_none, pass_alike}
+use Rattle.seam_base.proofs.PartLemmas.{on_err, either_way}
 use Rattle.seam_base.proofs.parts.update_in.Goals as goal
-use Rattle.seam_base.proofs.parts.update_in.Goals.{else-not-stays-via-then-not-stays+else-is_err, else-not-stays-via-else-not-stays}
-use Rattle.seam_base.proofs.parts.update_in.Goals.{then-not-stays-2, else-not-stays-2}
+use Rattle.seam_base.proofs.parts.update_in.Goals.{Joined-update-2}
 
-module _ (c : goal.Joined-none) where
-  put_is : c.put_reserved-none.new.self.items
-      ≡ table.insert (table.remove c.args.items.now.items c.args.update.entity) c.args.update.entity c.offer_update-done.new.self
-  put_is =
-      ap (λ w. w.items) c.put_reserved-none.ensures.after
-      ∙ ap (λ w. table.insert w.items c.args.update.entity c.offer_update-done.new.self) c.in-Some-take.ensures.after
+pub returns-in_default-clause-after : goal.returns-in_default-clause-after
+returns-in_default-clause-after c =
+    let m = c.args.items.now.items in
+    let e = c.args.update.entity in
+    sym (changed_none m e (with_update c.args.update) c.in_default.ensures.item)
+    ∙ ap (λ o. if (stray_update c.args.update o) then m else changed_at (with_update c.args.update) m e) c.in_default.ensures.item
 
-  -- room for a mark changes none
-  same_marks : c.else-not-stays.updates.items ≡ c.args.updates.now.items
-  same_marks = elim c.else-not-stays.branch [
-    | else-not-stays-via-then-not-stays+else-is_err w ↦ ap (λ m. m.items) w.updates-is ∙ w.reserve.ensures.same
-    | else-not-stays-via-else-not-stays w ↦ ap (λ m. m.items) w.updates-is
-  ]
+module _ (c : Joined-update-2) where
+  stays : table.insert c.args.items.now.items c.args.update.entity c.in-Some.part.now ≡ c.args.items.now.items
+  stays = unchanged c.args.items.now.items c.args.update.entity c.in-Some.part.now c.in-Some.part.now _ c.in-Some.ensures.item refl refl
 
-  same_part : c.in-Some.part.now ≡ c.in-Some-take.part
-  same_part = one (c.in-Some.ensures.item ∙ sym c.in-Some-take.ensures.item)
-    where
-      one : Some c.in-Some.part.now ≡ Some c.in-Some-take.part → c.in-Some.part.now ≡ c.in-Some-take.part
-      one same = cc
+pub returns-then-refuses-clause-after : goal.returns-then-refuses-clause-after
+returns-then-refuses-clause-after c =
+    let m = c.args.items.now.items in
+    let e = c.args.update.entity in
+    stays c
+    ∙ ap (λ b. if b then m else changed_at (with_update c.args.update) m e)
+    (c.if-refuses.ensures ∙ ap (stray_update c.args.update) c.in-Some.ensures.item)
 
-pub returns-clause-after : goal.returns-clause-after
-returns-clause-after c = on_ok c.offer_update-done.result
-    (changed c.args.items.now.items c.args.update.entity c.in-Some-take.part c.offer_update-done.new.self _ c.in-Some-take.ensures.item (put_is c)
-    (with_update c.args.update)) c.offer_update-done.ensures.after
+pub returns-then-refuses-clause-marks : goal.returns-then-refuses-clause-marks
+returns-then-refuses-clause-marks c = λ q. c.requires.marks q ∙ ap (λ n. passes has_update (table.get n q)) (sym (stays c))
+
+pub returns-then-refuses-clause-others : goal.returns-then-refuses-clause-others
+returns-then-refuses-clause-others c = λ q. ap (λ n. passes has_call (table.get n q)) (stays c)
 
 pub returns-clause-err : goal.returns-clause-err
-returns-clause-err c = on_err c.offer_update-done.result
-    (unchanged c.args.items.now.items c.args.update.entity c.in-Some-take.part c.offer_update-done.new.self _ c.in-Some-take.ensures.item (put_is c))
-    c.offer_update-done.ensures.err
-
-pub returns-clause-marks : goal.returns-clause-marks
-returns-clause-marks c = elim c.if-not-stays-2.branch [
-  | then-not-stays-2 w ↦
-      marks_put c.args.items.now.items c.args.update.entity c.in-Some-take.part c.offer_update-done.new.self _ c.in-Some-take.ensures.item
-      (put_is c) has_update c.args.updates.now.items c.if-not-stays-2.updates.items tt c.requires.marks
-      (ap (λ m. m.items) w.updates-is ∙ w.mark.ensures
-      ∙ (λ i. marked (w.is_client_ready.ensures i) (same_marks c i) c.args.update.entity tt))
-  | else-not-stays-2 w ↦
-      let stays : has_update (with_update c.args.update c.in-Some-take.part) ≡ has_update c.in-Some-take.part =
-      rw (same_part c) at (c.stays_as_ready-stays.ensures.0 w.if-not-stays-2.false) in
-      let alike : PassAlike has_update c.args.items.now.items c.put_reserved-none.new.self.items =
-      pass_alike c.args.items.now.items c.args.update.entity c.in-Some-take.part c.offer_update-done.new.self _ c.in-Some-take.ensures.item
-      (put_is c) has_update
-      (either_way has_update (with_update c.args.update) c.in-Some-take.part c.offer_update-done.new.self c.offer_update-done.result stays
-      c.offer_update-done.ensures.after c.offer_update-done.ensures.err) in
-      λ e. ap (λ m. is_some (table.get m e)) (ap (λ m. m.items) w.updates-is ∙ same_marks c) ∙ c.requires.marks e ∙ sym (alike e)
-]
+returns-clause-err c = on_err c.update_part.result
+    (unchanged c.args.items.now.items c.args.update.entity c.in-Some.part.now c.update_part.new.part _ c.in-Some.ensures.item refl)
+    c.update_part.ensures.err
 
 pub returns-clause-others : goal.returns-clause-others
 returns-clause-others c =
-    pass_alike c.args.items.now.items c.args.update.entity c.in-Some-take.part c.offer_update-done.new.self _ c.in-Some-take.ensures.item (put_is c)
-    has_call
-    (either_way has_call (with_update c.args.update) c.in-Some-take.part c.offer_update-done.new.self c.offer_update-done.result refl
-    c.offer_update-done.ensures.after c.offer_update-done.ensures.err)
+    pass_alike c.args.items.now.items c.args.update.entity c.in-Some.part.now c.update_part.new.part _ c.in-Some.ensures.item refl has_call
+    (either_way has_call (with_update c.args.update) c.in-Some.part.now c.update_part.new.part c.update_part.result refl
+    c.update_part.ensures.after c.update_part.ensures.err)

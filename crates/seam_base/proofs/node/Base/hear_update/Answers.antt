@@ -1,4 +1,4 @@
-use Rattle.std.proofs.Common.{◌≡◌, sym, ap, ◌∙◌, subst, OnOk}
+use Rattle.std.proofs.Common.{◌≡◌, subst, OnOk}
 use Rattle.std.specs.FinMap as table
 use Rattle.seam_steps.specs.BaseCases.{unless_stray, sends_none, stray_update, update}
 use Rattle.seam_base.specs.Nodes.{node_of}
@@ -13,5 +13,4 @@ returns-clause-after c =
     ≡ (unless_stray (stray_update c.args.update (table.get b.parts c.args.update.entity)) b
     (sends_none (update b c.args.update (table.get b.parts c.args.update.entity)))).state)) c.self.view_is
     (update_left (node_of c.self.inside.known c.self.inside.orders.items c.self.inside.routes.items c.self.inside.parts) c.args.update
-    c.offer_update.result c.offer_update.new.self
-    (ap (stray_update c.args.update) (sym c.in-Some.ensures) ∙ sym c.if-refuses.ensures) c.offer_update.ensures.after)
+    c.offer_update.result c.offer_update.new.self c.offer_update.ensures.after)

@@ -1,6 +1,6 @@
-use Rattle.std.proofs.Common.{◌≡◌, sym, ap, ◌∙◌, subst, OnOk}
+use Rattle.std.proofs.Common.{◌≡◌, ap, ◌∙◌, subst, OnOk}
 use Rattle.seam_steps.specs.BaseCases.{task_without_orders, ready_part}
-use Rattle.seam_base.specs.Nodes.{node_of, has_call, has_update}
+use Rattle.seam_base.specs.Nodes.{node_of, has_call}
 use Rattle.seam_base.specs.Marks.{least}
 use Rattle.seam_base.proofs.NodeLemmas.{least_is_there, call_waits, call_is_executed}
 use Rattle.seam_base.proofs.node.Base.ready_call_task.Goals as goal

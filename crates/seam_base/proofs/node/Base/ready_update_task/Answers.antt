@@ -1,4 +1,4 @@
-use Rattle.std.proofs.Common.{◌≡◌, sym, ap, ◌∙◌, subst, OnOk}
+use Rattle.std.proofs.Common.{◌≡◌, ap, ◌∙◌, subst, OnOk}
 use Rattle.seam_steps.specs.BaseCases.{task_without_orders, ready_part}
 use Rattle.seam_base.specs.Nodes.{node_of, has_call, has_update}
 use Rattle.seam_base.specs.Marks.{least}
