@@ -3,7 +3,7 @@ use Rattle.std.proofs.Common.{◌≡◌, ℕ, Bool, true, false, cond, ◌||◌,
 use Rattle.std.proofs.Common.{refl, sym, ap, ◌∙◌}
 use Rattle.std.proofs.Common.{unwrap_or, Result, Ok, Err}
 use Rattle.std.specs.declared.alloc.AllocError.{AllocError}
-use Rattle.std.specs.Prelude.{OnOk, OnErr}
+use Rattle.std.specs.Prelude.{OnOk, OnErr, if◌then◌else◌}
 use Rattle.std.proofs.lemmas.Bool.{false≢true}
 use Rattle.std.specs.Ordering.{nat_cmp, eq_by_cmp}
 use Rattle.std.specs.Cmp.{nat_cmp_total}
@@ -207,3 +207,44 @@ book_reserved beats beats' copies copies' e (Ok u) book items room items' made s
 book_reserved beats beats' copies copies' e (Err u) book items room items' made same =
     with_room_made beats beats' copies copies' e book items room items'
     (λ q there. room_more beats.room copies.room e book.room q (sym (ap (λ s. set.contains s q) same) ∙ there))
+
+-- ---- what is written over a beat that is known
+
+module _ {P : Type 0} (beats : TableView ℕ) (copies : TableView P) (e known : ℕ) (at : Some known ≡ map.get beats.items e) where
+  -- the beat that is known
+  pub known_beat : beat_in (map.get (joined beats.items copies.items) e) ≡ known
+  known_beat = beat_joined beats.items copies.items e ∙ ap (λ b. unwrap_or b 0) (sym at)
+
+  same_beats : map.insert beats.items e known ≡ beats.items
+  same_beats =
+      map.same_map nat_cmp_total map.nat_cmp-IsAntisymmetric _ _ (λ q.
+      map.get-insert nat_cmp_total beats.items e known q ∙ by q (eq_by_cmp nat_cmp q e) refl)
+    where
+      by : (q : ℕ) (t : Bool) → eq_by_cmp nat_cmp q e ≡ t → cond t (Some known) (map.get beats.items q) ≡ map.get beats.items q
+      by q true is = at ∙ ap (map.get beats.items) (key_is q e is)
+      by q false is = refl
+
+  -- a beat written as it was leaves the book
+  pub book_same : book_of (with_item beats e known) copies ≡ book_of beats copies
+  book_same = let ghosts = ap (λ m. joined m copies.items) same_beats in λ i. record { ghosts = ghosts i; room = copies.room }
+
+  pub is_book_same : IsBook beats copies → IsBook (with_item beats e known) copies
+  is_book_same book = record {
+    beat = λ q there. ap (λ m. map.contains_key m q) same_beats ∙ book.beat q there;
+    room = room_more beats.room copies.room e book.room;
+  }
+
+  abbrev over : Bool → ℕ → ℕ
+  over t beat = if t then beat else known
+
+  abbrev copied_over : Bool → P → TableView P
+  copied_over t p = if t then with_item copies e p else copies
+
+  pub book_over : (t : Bool) (beat : ℕ) (p : P) → book_of (with_item beats e (over t beat)) (copied_over t p)
+      ≡ (if t then with_ghost (book_of beats copies) e (record { beat = beat; copy = Some p }) else book_of beats copies)
+  book_over true beat p = book_with_copy beats beats copies e beat p refl
+  book_over false beat p = book_same
+
+  pub is_book_over : (t : Bool) (beat : ℕ) (p : P) → IsBook beats copies → IsBook (with_item beats e (over t beat)) (copied_over t p)
+  is_book_over true beat p book = book_put beats copies e beat p book
+  is_book_over false beat p book = is_book_same book

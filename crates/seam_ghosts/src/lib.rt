@@ -9,8 +9,9 @@ ghost use Rattle.std.specs.Prelude.{max, nat_lt, if◌then◌else◌, ◌≡◌,
 ghost use Rattle.std.specs.Prelude.{option_map, option_copied, Some, None};
 ghost use Rattle.std.specs.FinMap as map;
 ghost use Rattle.std.specs.FinSet as set;
-ghost use Rattle.seam_table.specs.Tables.{is_after};
+ghost use Rattle.seam_table.specs.Tables.{is_after, with_item};
 ghost use Rattle.seam_ghosts.specs.declared.Ghost.{Ghost};
+ghost use Rattle.seam_ghosts.specs.Joined.{book_of, IsBook};
 ghost use Rattle.seam_ghosts.specs.Book.{BookView, beat_of, copy_of, copies, answer, after_message, ghost_after};
 
 pub use seam_memory::NoMemoryFor;
@@ -49,6 +50,7 @@ pub struct GhostBook<P> {
 }
 
 impl<P> Model for GhostBook<P> {
+    ghost use Rattle.seam_ghosts.specs.Joined.{book_of, IsBook};
     ghost use Rattle.seam_ghosts.specs.Book.{BookView, book_code};
 
     ghost Value = { BookView P };
@@ -112,17 +114,7 @@ impl<P: Drop> GhostBook<P> {
         ensures err_item { IfErr result (λ r. r.item ≡ copy) }
         ensures err_only_first { OnErr result (set.contains self.old.room e ≡ false) }
     {
-        if beat <= self.beat(e) {
-            return Ok(Kept::Ignored);
-        }
-        let Ok(()) = self.beats.reserve(e) else {
-            return Err(NoMemoryFor { item: copy });
-        };
-        if let Err(refused) = self.copies.put(e, copy) {
-            return Err(refused);
-        }
-        let _ = self.beats.put_reserved(e, beat);
-        Ok(Kept::Taken)
+        set_copy(&mut self.beats, &mut self.copies, e, beat, copy)
     }
 
     /// Drops the entity's copy at this beat, which is known from then on. It is ignored exactly where the beat is not
@@ -151,6 +143,81 @@ impl<P: Drop> GhostBook<P> {
         ensures { option_map (λ p. (p.0, p.1.now)) result ≡ find (λ p. is_after after p.0) (copies self.now) }
     {
         self.copies.next_after(after)
+    }
+}
+
+// Writes the copy and its beat over the beat that is known, where that is lower.
+fn write_over<P: Drop>(
+    known: &mut u64,
+    copies: &mut Table<P>,
+    e: u32,
+    beat: u64,
+    copy: P,
+) -> Result<Kept, NoMemoryFor<P>>
+    ensures answer { IfOk result (λ k. k ≡ answer known.old beat) }
+    ensures beat { OnOk result (known.new ≡ (if nat_lt known.old beat then beat else known.old)) }
+    ensures after { OnOk result (copies.new ≡ (if nat_lt known.old beat then with_item copies.old e copy else copies.old)) }
+    ensures err { OnErr result ((known.new ≡ known.old) × (copies.new ≡ copies.old)) }
+    ensures err_item { IfErr result (λ r. r.item ≡ copy) }
+    ensures err_only_first { OnErr result (set.contains copies.old.room e ≡ false) }
+{
+    if beat <= *known {
+        return Ok(Kept::Ignored);
+    }
+    copies.put(e, copy)?;
+    *known = beat;
+    Ok(Kept::Taken)
+}
+
+// Writes the copy and its beat where no beat is known.
+fn write_first<P: Drop>(
+    beats: &mut Table<u64>,
+    copies: &mut Table<P>,
+    e: u32,
+    beat: u64,
+    copy: P,
+) -> Result<Kept, NoMemoryFor<P>>
+    requires book { IsBook beats.old copies.old }
+    requires first { map.get beats.old.items e ≡ None }
+    ensures answer { IfOk result (λ k. k ≡ answer 0 beat) }
+    ensures after { OnOk result (book_of beats.new copies.new
+        ≡ after_message (book_of beats.old copies.old) e (record { beat = beat; copy = Some copy })) }
+    ensures book { IsBook beats.new copies.new }
+    ensures err { OnErr result (book_of beats.new copies.new ≡ book_of beats.old copies.old) }
+    ensures err_item { IfErr result (λ r. r.item ≡ copy) }
+    ensures err_only_first { OnErr result (set.contains copies.old.room e ≡ false) }
+{
+    if beat == 0 {
+        return Ok(Kept::Ignored);
+    }
+    let Ok(()) = beats.reserve(e) else {
+        return Err(NoMemoryFor { item: copy });
+    };
+    copies.put(e, copy)?;
+    let _ = beats.put_reserved(e, beat);
+    Ok(Kept::Taken)
+}
+
+// Writes the copy and its beat, where a lower beat is known or none. A beat that is known is found and written by one search.
+fn set_copy<P: Drop>(
+    beats: &mut Table<u64>,
+    copies: &mut Table<P>,
+    e: u32,
+    beat: u64,
+    copy: P,
+) -> Result<Kept, NoMemoryFor<P>>
+    requires { IsBook beats.old copies.old }
+    ensures answer { IfOk result (λ k. k ≡ answer (beat_of (book_of beats.old copies.old) e) beat) }
+    ensures after { OnOk result (book_of beats.new copies.new
+        ≡ after_message (book_of beats.old copies.old) e (record { beat = beat; copy = Some copy })) }
+    ensures book { IsBook beats.new copies.new }
+    ensures err { OnErr result (book_of beats.new copies.new ≡ book_of beats.old copies.old) }
+    ensures err_item { IfErr result (λ r. r.item ≡ copy) }
+    ensures err_only_first { OnErr result (set.contains copies.old.room e ≡ false) }
+{
+    match beats.get_mut(e) {
+        Some(known) => write_over(known, copies, e, beat, copy),
+        None => write_first(beats, copies, e, beat, copy),
     }
 }
 
