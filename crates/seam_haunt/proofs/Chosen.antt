@@ -1,6 +1,6 @@
 -- Sets of the numbers of a range that pass a test.
 use Rattle.std.proofs.Common.{◌≡◌, ◌≢◌, ◌⊎◌, ◌<◌, ◌≤◌, ℕ, zero, suc, ◌+◌, ◌==◌, Bool, true, false, not, cond, ◌&&◌, ◌||◌, nat_le, nat_lt}
-use Rattle.std.proofs.Common.{refl, sym, ap, ◌∙◌, arith, inl, inr, IsTrue, filter, ◌↔◌, List, ◌∷◌}
+use Rattle.std.proofs.Common.{refl, sym, ap, ◌∙◌, arith, inl, inr, IsTrue, filter, ◌↔◌, List, ◌∷◌, max}
 use Rattle.std.specs.List.{range_with_len}
 use Rattle.std.specs.Ordering.{nat_cmp}
 use Rattle.std.proofs.lemmas.Bool.{cases_eq}
@@ -142,3 +142,8 @@ pub home_is_none : (p : Pos) (home : ℕ) (old : Cells) (t : Division) (near far
 home_is_none p home old t near far cell is =
     ap (λ (b : Bool). b && is_close (area t cell) p (set.contains old cell) near far)
     (let e : not (cell == home) ≡ false = grind (arith, nat_tests) in e)
+
+-- an area beyond both distances is near enough for no ghost
+pub beyond_is_not_close : (a : Area) (p : Pos) (was : Bool) (near far : ℕ) → nat_le (distance_to a p) (max near far) ≡ false
+    → is_close a p was near far ≡ false
+beyond_is_not_close a p was near far beyond = grind (arith, nat_tests, beyond)

@@ -5,8 +5,12 @@
 //! and of one that is settled already) are for callers.
 #![tactic(auto)]
 
-ghost use Rattle.std.specs.Prelude.{◌≡◌, ℕ, ◌↔◌, ◌⊎◌, IsTrue};
+ghost use Rattle.std.specs.Prelude.{◌≡◌, ℕ, ◌+◌, ◌-◌, ◌<◌, ◌≤◌, ◌↔◌, ◌⊎◌, nat_le, IsTrue};
 ghost use Rattle.std.specs.FinSet as set;
+ghost use Rattle.seam_geo.specs.declared.pos.Pos.{Pos};
+ghost use Rattle.seam_geo.specs.Pos.{distance};
+ghost use Rattle.seam_geo.specs.Rect.{Holds, distance_to, distance_along};
+ghost use Rattle.seam_tree.specs.Division.{area, cells_of};
 ghost use Rattle.seam_haunt.specs.Places.{Place, home_at, settled};
 ghost use Rattle.seam_haunt.specs.Haunts.{haunts_of, is_close, IsHaunt};
 
@@ -26,15 +30,42 @@ pub fn haunts_after(pos: Pos, home: u8, old: CellSet, tree: &Tree, near: u32, fa
         → (old ≡ set.insert was.ghosts was.home) ⊎ ((home ≡ was.home) × (old ≡ was.ghosts))
         → result ≡ (settled (record { kept = kept; near = near; far = far }) tree.now was pos).ghosts }
 {
-    let areas = tree.areas();
     let mut haunts = CellSet::none();
-    for cell in 0..tree.cells() {
-        let area = areas[usize::from(cell)];
-        if cell != home && is_close(area, pos, old.holds(cell), near, far) {
+    let cells = tree.cells();
+    let reach = near.max(far);
+    if is_deep_inside(home, tree, pos, reach) {
+        return haunts;
+    }
+    for cell in 0..cells {
+        let Some(area) = tree.area(cell) else {
+            unreachable!()
+        };
+        if cell != home
+            && is_within(area, pos, reach)
+            && is_close(area, pos, old.holds(cell), near, far)
+        {
             haunts = haunts.with(cell);
         }
     }
     haunts
+}
+
+// Whether all that lies within `reach` of the position is in the home's area, so that no other cell is that near.
+fn is_deep_inside(home: u8, tree: &Tree, pos: Pos, reach: u32) -> bool
+    ensures { IsTrue result ↔ ((home < cells_of tree.now) × ((p : Pos) → distance pos p ≤ reach → Holds (area tree.now home) p)) }
+{
+    let Some(area) = tree.area(home) else {
+        return false;
+    };
+    let (low, high) = (area.low(), area.high());
+    is_deep_along(low.x, high.x, pos.x, reach) && is_deep_along(low.z, high.z, pos.z, reach)
+}
+
+// Whether all places within `reach` are among those from `low` up to, but without, `high`.
+fn is_deep_along(low: u32, high: u32, at: u32, reach: u32) -> bool
+    ensures { IsTrue result ↔ ((low ≤ at - reach) × (at + reach < high)) }
+{
+    low <= at.saturating_sub(reach) && at.saturating_add(reach) < high
 }
 
 // Whether the area is near enough for a ghost, by whether there was one.
@@ -43,4 +74,20 @@ fn is_close(area: Rect, pos: Pos, was_haunt: bool, near: u32, far: u32) -> bool
 {
     let distance = area.dist(pos);
     distance <= near || (was_haunt && distance <= far)
+}
+
+// Whether the area is at distance at most `reach`. Most areas are not, which one of the first comparisons tells.
+fn is_within(area: Rect, pos: Pos, reach: u32) -> bool
+    ensures { result ≡ nat_le (distance_to area pos) reach }
+{
+    let (low, high) = (area.low(), area.high());
+    is_within_along(low.x, high.x, pos.x, reach) && is_within_along(low.z, high.z, pos.z, reach)
+}
+
+// Whether the places from `low` up to, but without, `high` are at distance at most `reach`.
+fn is_within_along(low: u32, high: u32, at: u32, reach: u32) -> bool
+    requires { low < high }
+    ensures { IsTrue result ↔ (distance_along low high at ≤ reach) }
+{
+    low <= at.saturating_add(reach) && at.saturating_sub(reach) < high
 }
