@@ -1,12 +1,12 @@
 -- The looks at what is near are the looks at all that is known, but for early leaves; and what they leave of a view is the same.
 use Rattle.std.proofs.Common.{◌≡◌, ◌≤◌, ◌+◌, ℕ, Bool, true, false, cond, not, ◌&&◌, eqb, List, [], ◌∷◌, ◌++◌, map, Option, None, Some}
-use Rattle.std.proofs.Common.{refl, sym, ap, ◌∙◌, subst, arith}
+use Rattle.std.proofs.Common.{refl, sym, ap, ◌∙◌, subst, arith, ◌<◌, ◌||◌, length, get_or, drop, add-one, drop-cons}
 use Rattle.std.specs.Prelude.{nat_lt, nat_le}
 use Rattle.std.specs.Ordering.{nat_cmp}
 use Rattle.std.specs.declared.cmp.Ordering.TheVariants.{Less}
 use Rattle.std.specs.List.Sorted.{IsStrictlySortedBy}
 use Rattle.std.proofs.lemmas.Map.Keys.{sorted_head, sorted_tail}
-use Rattle.std.specs.List.{AllByRecursion, filter}
+use Rattle.std.specs.List.{AllByRecursion, filter, list_any}
 use Rattle.std.specs.FinMap as versions
 use Rattle.std.proofs.lemmas.Bool.Decides.{nat_tests}
 use Rattle.seam_geo.specs.declared.pos.Pos.{Pos}
@@ -25,6 +25,10 @@ same_again : (a : ℕ) → eqb a a ≡ true
 same_again a = grind (arith, nat_tests)
 
 -- ---- filters
+
+neither : (a b : Bool) → (a || b) ≡ false → (a ≡ false) × (b ≡ false)
+neither false b h = (refl, h)
+neither true b h = cc
 
 module _ {A : Type 0} where
   filter_step : (x : A) (xs ys : List A) (p : A → Bool) (b c : Bool) → p x ≡ b → (b ≡ true → c ≡ true) → xs ≡ filter p ys →
@@ -53,6 +57,18 @@ module _ {A : Type 0} where
   filter_agree : (t u : A → Bool) (xs : List A) → AllByRecursion (λ x. t x ≡ u x) xs → filter t xs ≡ filter u xs
   filter_agree t u [] h = refl
   filter_agree t u (x ∷ xs) h = λ i. cond (h.0 i) (x ∷ filter_agree t u xs h.1 i) (filter_agree t u xs h.1 i)
+
+  -- where none passes a test, those that do not pass it are all
+  pub all_left : (t : A → Bool) (xs : List A) → list_any t xs ≡ false → filter (λ x. not (t x)) xs ≡ xs
+  all_left t [] h = refl
+  all_left t (x ∷ xs) h =
+      let no = neither (t x) (list_any t xs) h in
+      λ i. cond (not (no.0 i)) (x ∷ all_left t xs no.1 i) (all_left t xs no.1 i)
+
+  -- whether any passes the test from a place on
+  pub any_from : (t : A → Bool) (xs : List A) (i : ℕ) (d : A) → i < length xs →
+      list_any t (drop i xs) ≡ (t (get_or xs i d) || list_any t (drop (i + 1) xs))
+  any_from t xs i d lt = rw (add-one, drop-cons xs i d) refl
 
   filter_of_both : (t : A → Bool) (xs ys : List A) → filter t (xs ++ ys) ≡ filter t xs ++ filter t ys
   filter_of_both t [] ys = refl

@@ -307,7 +307,7 @@ impl Sight<'_> {
         let own = real.state().pos;
         let seen = self.seen(own, &witness.view)?;
         let planned = witness.view.plan(own, &seen)?;
-        let looks = self.without_early(&witness.view, &planned)?;
+        let looks = self.in_time(&witness.view, planned)?;
         let shown = self.show(real, witness, &looks, told)?;
         Ok(Glance { seen, looks, shown })
     }

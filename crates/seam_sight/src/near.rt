@@ -3,6 +3,7 @@
 ghost use Rattle.std.specs.Prelude.{◌≡◌, ◌<◌, ◌+◌, ◌++◌, [], ◌∷◌, length, map, filter, not, IfOk, OnOk, IfSome, IfNone, option_map};
 ghost use Rattle.std.specs.Prelude.{if◌then◌else◌};
 ghost use Rattle.std.specs.List.Sorted.{IsStrictlySortedBy};
+ghost use Rattle.std.specs.List.{list_any};
 ghost use Rattle.std.specs.Ordering.{nat_cmp};
 ghost use Rattle.seam_view.specs.Replica.{IsView, seen_of};
 ghost use Rattle.seam_steps.specs.Looks.{seen_as};
@@ -222,6 +223,35 @@ impl Sight<'_> {
             return false;
         };
         was_newer(view.shown(*e), self.seen_of(*e))
+    }
+
+    // Whether any of the looks is an early leave.
+    fn has_early(&self, view: &View, looks: &[Look]) -> bool
+        ensures { (c : CellView) → let d = seeing c (here_in self.now.known.now) self.now.reals.now.items self.now.copies.now.ghosts in
+            result ≡ list_any (is_early view.now.core (map seen_as (known_to d self.now.own))) looks.now }
+    {
+        for look in looks {
+            if self.is_early(view, look) {
+                return true;
+            }
+        }
+        false
+    }
+
+    /// The looks without early leaves. Where none is early, as mostly, they are given back as they came.
+    pub(crate) fn in_time(&self, view: &View, looks: Vec<Look>) -> Result<Vec<Look>, AllocError>
+        ensures looks { (c : CellView) →
+            let d = seeing c (here_in self.now.known.now) self.now.reals.now.items self.now.copies.now.ghosts in
+            IfOk result (λ v. v.items
+            ≡ filter (λ look. not (is_early view.now.core (map seen_as (known_to d self.now.own)) look)) looks.items) }
+        ensures view { IsView view.now.core }
+    {
+        // `len` is called for its clause that each version in view is the one last shown.
+        let _ = view.len();
+        if self.has_early(view, &looks) {
+            return self.without_early(view, &looks);
+        }
+        Ok(looks)
     }
 
     /// The looks without early leaves. A plan by what is near alone lets all leave that are not near; those stay that are known, and

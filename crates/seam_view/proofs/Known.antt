@@ -68,3 +68,13 @@ seen_missing e (s ∷ xs) (suc at) o b a ne =
     rw (differs s.entity e (λ q. omega (arith, q, first)))
     (seen_missing e xs at (sorted_tail nat_cmp s.entity (entities xs) o) (λ k d l h. b (suc k) d (omega arith) (omega (arith, h)))
     (λ k d l h. a (suc k) d (omega (arith, l)) (omega (arith, h))) (λ d lt. ne d (omega (arith, lt))))
+
+-- among entities in rising number one with the number is the one that is known of the entity
+pub seen_at : (e : ℕ) (xs : List Seen) (at : ℕ) (d : Seen) → IsStrictlySortedBy nat_cmp (entities xs) → at < length xs →
+    (get_or xs at d).entity ≡ e → seen_of e xs ≡ Some (get_or xs at d)
+seen_at e [] at d o lt q = absurd (omega (arith, lt))
+seen_at e (s ∷ xs) zero d o lt q = rw (is_same s.entity e q) refl
+seen_at e (s ∷ xs) (suc at) d o lt q =
+    let first = at_above s.entity xs at d (sorted_head nat_cmp s.entity (entities xs) o) (omega (arith, lt)) in
+    rw (differs s.entity e (λ same. omega (arith, same, q, first)))
+    (seen_at e xs at d (sorted_tail nat_cmp s.entity (entities xs) o) (omega (arith, lt)) q)

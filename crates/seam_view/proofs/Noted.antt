@@ -1,10 +1,10 @@
 -- The notes of a view as those known are looked up one by one, and the looks that they give.
 use Rattle.std.proofs.Common.{◌≡◌, ◌<◌, ◌+◌, ℕ, zero, suc, Bool, true, false, cond, not, ◌&&◌, ◌||◌, eqb, List, [], ◌∷◌, ◌++◌, map, take}
-use Rattle.std.proofs.Common.{drop, length, get_or, slice_get, slice_set, Option, None, Some, is_some, refl, sym, ap, ◌∙◌, subst, arith}
+use Rattle.std.proofs.Common.{drop, length, get_or, slice_get, slice_set, Option, None, Some, refl, sym, ap, ◌∙◌, subst, arith}
 use Rattle.std.proofs.Common.{unwrap_or}
 use Rattle.std.specs.Prelude.{nat_lt, nat_le, replicate}
 use Rattle.std.specs.Ordering.{nat_cmp}
-use Rattle.std.specs.Map.{keys_of, lookup, lookup_key}
+use Rattle.std.specs.Map.{keys_of, lookup_key}
 use Rattle.std.specs.List.{IsDistinct, AllByRecursion, filter, list_any}
 use Rattle.std.specs.List.Sorted.{IsStrictlySortedBy}
 use Rattle.std.specs.declared.cmp.Ordering.TheVariants.{Less}
@@ -173,18 +173,14 @@ pub key_found : (e k : ℕ) (es : List (ℕ × ℕ)) → lookup_key (eqb e) es �
 key_found e k [] h = cc
 key_found e k (p ∷ es) h = key_by e p.0 k (eqb e p.0) (lookup_key (eqb e) es) refl h (key_found e k es)
 
-missing_by : (e : ℕ) (p : ℕ × ℕ) (b : Bool) (o : Option ℕ) → cond b (Some p.1) o ≡ None → (b ≡ false) × (o ≡ None)
-missing_by e p true o h = let f : is_some (Some p.1) ≡ false = ap is_some h in cc
-missing_by e p false o h = (refl, h)
+neither : (a b : Bool) → (a || b) ≡ false → (a ≡ false) × (b ≡ false)
+neither false b h = (refl, h)
+neither true b h = cc
 
--- an entity that a look-up does not find is in no entry
-pub missing : (e : ℕ) (es : List (ℕ × ℕ)) → lookup (eqb e) es ≡ None → AllByRecursion (λ y. eqb e y ≡ false) (keys_of es)
+-- an entity that is not in view is in no entry
+pub missing : (e : ℕ) (es : List (ℕ × ℕ)) → list_any (λ p. eqb e p.0) es ≡ false → AllByRecursion (λ y. eqb e y ≡ false) (keys_of es)
 missing e [] h = tt
-missing e (p ∷ es) h = let k = missing_by e p (eqb e p.0) (lookup (eqb e) es) h in (k.0, missing e es k.1)
-
-pub not_in_view : (e : ℕ) (es : List (ℕ × ℕ)) → AllByRecursion (λ y. eqb e y ≡ false) (keys_of es) → list_any (λ p. eqb e p.0) es ≡ false
-not_in_view e [] h = refl
-not_in_view e (p ∷ es) h = λ i. h.0 i || not_in_view e es h.1 i
+missing e (p ∷ es) h = let no = neither (eqb e p.0) (list_any (λ p. eqb e p.0) es) h in (no.0, missing e es no.1)
 
 pub notes_of_none : (r : Replica) (own : Pos) (es : List (ℕ × ℕ)) →
     replicate (length es) Leaves ≡ map (λ p. note_of r own p.1 (seen_of p.0 [])) es

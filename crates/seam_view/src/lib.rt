@@ -7,7 +7,7 @@
 #![tactic(auto)]
 
 ghost use Rattle.std.specs.Prelude.{◌≡◌, ◌≤◌, ◌++◌, ℕ, List, [], filter, map, length, slice_get, option_copied, IfOk, OnOk, is_some};
-ghost use Rattle.std.specs.Prelude.{false, not, IfSome, drop, Some};
+ghost use Rattle.std.specs.Prelude.{false, not, IfSome, IfNone, drop, Some};
 ghost use Rattle.std.specs.Ordering.{nat_cmp};
 ghost use Rattle.std.specs.List.Sorted.{IsStrictlySortedBy};
 ghost use Rattle.std.specs.Prelude.{◌<◌, ◌+◌, nat_eq};
@@ -51,6 +51,9 @@ pub enum Look {
     /// The entity enters the view.
     Enter(u32),
 }
+
+// How many of those known are tried before all are searched.
+const TRIED: usize = 8;
 
 // What a look makes of an entity in view.
 #[derive(Clone, Copy)]
@@ -217,7 +220,22 @@ impl View {
         }
     }
 
-    // What a look makes of each entity in view, in enter order, and the enters, in rising number. Each of those known is looked up once.
+    // The place of an entity in view, and the version that it was shown at. The place `next` is tried before all are searched.
+    fn place_in_view(&self, e: u32, next: usize) -> Option<(usize, u64)>
+        ensures there { IfSome result (λ r. slice_get self.now.core.entries r.0 ≡ Some (e, r.1)) }
+        ensures none { IfNone result (in_view self.now.core e ≡ false) }
+    {
+        match self.view.get_index(next) {
+            Some((entity, version)) if *entity == e => Some((next, *version)),
+            _ => match self.view.get_full(&e) {
+                Some((i, _, version)) => Some((i, *version)),
+                None => None,
+            },
+        }
+    }
+
+    // What a look makes of each entity in view, in enter order, and the enters, in rising number. Each of those known is looked up
+    // once: entities have mostly entered in rising number, so the one after the last that was found is the first guess.
     fn note_known(&self, own: Pos, known: &[Seen]) -> Result<(Vec<Note>, Vec<Look>), AllocError>
         requires { IsStrictlySortedBy nat_cmp (map (λ s. s.entity) known.now) }
         ensures notes { IfOk result (λ r. r.0.items ≡ notes_of self.now.core own known.now) }
@@ -225,9 +243,13 @@ impl View {
     {
         let mut notes = vec![in self.alloc; Note::Leaves; self.view.len()]?;
         let mut enters = Vec::new(self.alloc);
+        let mut next = 0;
         for seen in known {
-            match self.view.get_full(&seen.entity) {
-                Some((i, _, version)) => notes[i] = self.note(own, *version, seen),
+            match self.place_in_view(seen.entity, next) {
+                Some((i, version)) => {
+                    notes[i] = self.note(own, version, seen);
+                    next = i + 1;
+                }
                 None => {
                     if self.is_entering(own, seen) {
                         enters.push(Look::Enter(seen.entity))?;
@@ -335,8 +357,8 @@ impl View {
         }
     }
 
-    // Keeps one look.
-    fn keep_look(&mut self, known: &[Seen], look: &Look)
+    // Keeps one look. What is known of its entity is looked for from the place on, which then goes on past it.
+    fn keep_look(&mut self, known: &[Seen], look: &Look, from: &mut usize)
         requires rising { IsStrictlySortedBy nat_cmp (map (λ s. s.entity) known.now) }
         requires place { 0 < self.old.places }
         ensures core { self.new.core ≡ after_look known.now self.old.core look.now }
@@ -344,8 +366,8 @@ impl View {
     {
         match look {
             Look::Leave(e) => self.leave(*e),
-            Look::Set(e) => self.show_known(*e, find_seen(known, *e)),
-            Look::Enter(e) => self.show_known(*e, find_seen(known, *e)),
+            Look::Set(e) => self.show_known(*e, find_seen(known, *e, from)),
+            Look::Enter(e) => self.show_known(*e, find_seen(known, *e, from)),
         }
     }
 
@@ -384,8 +406,9 @@ impl View {
         ensures { self.new.core ≡ after_looks known.now self.old.core looks.now }
     {
         self.leave_together(looks);
+        let mut from = 0;
         for look in looks {
-            self.keep_look(known, look);
+            self.keep_look(known, look, &mut from);
         }
     }
 }
@@ -423,12 +446,24 @@ fn place_of(known: &[Seen], e: u32) -> usize
     known.partition_point(|seen| seen.entity < e)
 }
 
-// What is known of the entity.
-fn find_seen(known: &[Seen], e: u32) -> Option<&Seen>
+// What is known of the entity. The looks come mostly in rising number, as those known do, so the few from the place on are tried
+// before all are searched, and the place goes on past the entity.
+fn find_seen<'a>(known: &'a [Seen], e: u32, from: &mut usize) -> Option<&'a Seen>
     requires { IsStrictlySortedBy nat_cmp (map (λ s. s.entity) known.now) }
     ensures { option_copied result ≡ seen_of e known.now }
 {
+    for at in *from..known.len().min(from.saturating_add(TRIED)) {
+        let seen = &known[at];
+        if seen.entity == e {
+            *from = at + 1;
+            return Some(seen);
+        }
+        if e < seen.entity {
+            break;
+        }
+    }
     let at = place_of(known, e);
+    *from = at;
     let Some(seen) = known.get(at) else {
         return None;
     };

@@ -1,13 +1,13 @@
-use Rattle.std.proofs.Common.{◌≡◌, ◌∙◌, ◌++◌, sym, ap, length, subst, slice_get, slice_set, arith, rules, replicate, [], eqb, drop}
-use Rattle.std.proofs.Common.{get_or, ◌+◌, false, Some}
-use Rattle.std.specs.List.{IsDistinct, AllByRecursion}
+use Rattle.std.proofs.Common.{◌≡◌, ◌∙◌, ◌++◌, sym, ap, length, subst, slice_set, arith, rules, replicate, [], eqb, drop}
+use Rattle.std.proofs.Common.{get_or, ◌+◌, refl}
+use Rattle.std.specs.List.{IsDistinct}
 use Rattle.std.specs.Map.{keys_of}
 use Rattle.std.proofs.lemmas.List.{length-map}
 use Rattle.seam_view.specs.declared.Seen.{Seen}
 use Rattle.seam_view.specs.declared.Note.TheVariants.{Leaves}
-use Rattle.seam_view.specs.Looks.{in_view, entering}
+use Rattle.seam_view.specs.Looks.{entering}
 use Rattle.seam_view.specs.Notes.{notes_of}
-use Rattle.seam_view.proofs.Noted.{notes_of_none, notes_when_found, notes_when_missing, missing, not_in_view, key_found, place_below}
+use Rattle.seam_view.proofs.Noted.{notes_of_none, notes_when_found, notes_when_missing, missing, place_below}
 use Rattle.seam_view.proofs.Noted.{viewed_at, entering_with_next, entering_past, entering_past_viewed}
 use Rattle.seam_view.proofs.View.note_known.Goals as goal
 use Rattle.seam_view.proofs.View.note_known.Goals.{in-Some, in-None+then-is_entering+in_ok-push-in-None, in-None+else-is_entering}
@@ -26,21 +26,11 @@ loop-seen-init c =
 
 pub index_mut-requires : goal.index_mut-requires
 index_mut-requires c =
-    let many =
-    ap length c.loop-seen.invariant.notes
-    ∙ (length-map c.args.self.now.core.entries _ ∙ ap (λ w. length w.core.entries) (sym c.self.view_is)) in
-    let below =
-    place_below (length c.loop-seen.notes.items) c.self.inside.view.entries c.in-Some.i (c.in-Some.field-0-1.now, c.in-Some.version.now)
-    many c.in-Some.ensures.entry in
+    let r = c.args.self.now.core in
+    let many = ap length c.loop-seen.invariant.notes ∙ length-map r.entries _ in
+    let below = place_below (length c.loop-seen.notes.items) r.entries c.in-Some.i _ many c.in-Some.ensures.there in
     let len = c.loop-seen.notes.ok.0 in
     omega (arith, below, len)
-
-pub is_entering-requires : goal.is_entering-requires
-is_entering-requires c =
-    let d : Seen = record { entity = 0; version = 0; pos = record { x = 0; z = 0 } } in
-    let e = (get_or c.args.known.now c.loop-seen.seen-index d).entity in
-    ap (λ w. in_view w.core e) (sym c.self.view_is)
-    ∙ not_in_view e c.self.inside.view.entries (missing e c.self.inside.view.entries (sym c.in-None.ensures.value))
 
 pub loop-seen-preserved : goal.loop-seen-preserved
 loop-seen-preserved c =
@@ -49,27 +39,22 @@ loop-seen-preserved c =
     let known = c.args.known.now in
     let d : Seen = record { entity = 0; version = 0; pos = record { x = 0; z = 0 } } in
     let e = (get_or known k d).entity in
-    elim c.match-get_full.branch [
+    elim c.match-place_in_view.branch [
       | in-Some w ↦
-          let at : slice_get r.entries w.in-Some.i ≡ Some (w.in-Some.field-0-1.now, w.in-Some.version.now) =
-          ap (λ v. slice_get v.core.entries w.in-Some.i) (sym c.self.view_is) ∙ w.in-Some.ensures.entry in
-          let same = key_found _ _ c.self.inside.view.entries (sym w.in-Some.ensures.key) in
           let once = subst (λ v. IsDistinct eqb (keys_of v.core.entries)) c.self.view_is c.self.invariant.once in
-          let written : c.match-get_full.notes.items ≡ slice_set c.loop-seen.notes.items w.in-Some.i w.note.result =
+          let written : c.match-place_in_view.notes.items ≡ slice_set c.loop-seen.notes.items w.in-Some.i w.note.result =
           ap (λ v. v.items) w.notes-is in
           record {
             notes = written ∙ ((λ j. slice_set (c.loop-seen.invariant.notes j) w.in-Some.i (w.note.ensures j))
-                ∙ notes_when_found r c.args.own known k d c.requires c.loop-seen-test.true w.in-Some.i
-                (w.in-Some.field-0-1.now, w.in-Some.version.now) once at same);
+                ∙ notes_when_found r c.args.own known k d c.requires c.loop-seen-test.true w.in-Some.i (e, w.in-Some.version) once
+                w.in-Some.ensures.there refl);
             enters =
                 (λ j. (w.enters-is j).items ++ entering_past_viewed r c.args.own known k d c.loop-seen-test.true
-                (viewed_at r.entries w.in-Some.i _ _ at same) j)
+                (viewed_at r.entries w.in-Some.i e _ w.in-Some.ensures.there refl) j)
                 ∙ c.loop-seen.invariant.enters;
           }
       | in-None+then-is_entering+in_ok-push-in-None w ↦
-          let none =
-          subst (λ v. AllByRecursion (λ y. eqb e y ≡ false) (keys_of v.core.entries)) c.self.view_is
-          (missing e c.self.inside.view.entries (sym w.in-None.ensures.value)) in
+          let none = missing e r.entries w.in-None.ensures.none in
           record {
             notes =
                 ap (λ v. v.items) w.notes-is ∙ (c.loop-seen.invariant.notes
@@ -81,9 +66,7 @@ loop-seen-preserved c =
                 ∙ c.loop-seen.invariant.enters));
           }
       | in-None+else-is_entering w ↦
-          let none =
-          subst (λ v. AllByRecursion (λ y. eqb e y ≡ false) (keys_of v.core.entries)) c.self.view_is
-          (missing e c.self.inside.view.entries (sym w.in-None.ensures.value)) in
+          let none = missing e r.entries w.in-None.ensures.none in
           record {
             notes =
                 ap (λ v. v.items) w.notes-is ∙ (c.loop-seen.invariant.notes

@@ -33,7 +33,7 @@ returns-clause-looks c = λ k.
     let core = c.args.witness.now.view.core in
     c.in_ok-looks.ensures.looks k
     ∙ ((λ i. filter (λ look. not (is_early (c.in_ok-planned.ensures.same i) known look))
-    ((c.deref-2.ensures.value ∙ c.in_ok-planned.ensures.looks) i))
+    (c.in_ok-planned.ensures.looks i))
     ∙ ((λ i. filter (λ look. not (is_early core known look)) (one_look core c.state.result.now.pos (c.deref.ensures.value i)))
     ∙ (looks_same core c.state.result.now.pos known c.in_ok-seen.seen.items (known_in_order d c.args.self.now.own)
     (c.in_ok-seen.ensures.near k) (subst IsView c.in_ok-planned.ensures.same c.in_ok-looks.ensures.view)
@@ -47,7 +47,7 @@ returns-clause-shown c = λ k.
     let looks =
     c.in_ok-looks.ensures.looks k
     ∙ ((λ i. filter (λ look. not (is_early (c.in_ok-planned.ensures.same i) known look))
-    ((c.deref-2.ensures.value ∙ c.in_ok-planned.ensures.looks) i))
+    (c.in_ok-planned.ensures.looks i))
     ∙ ((λ i. filter (λ look. not (is_early core known look)) (one_look core c.state.result.now.pos (c.deref.ensures.value i)))
     ∙ (looks_same core c.state.result.now.pos known c.in_ok-seen.seen.items (known_in_order d c.args.self.now.own)
     (c.in_ok-seen.ensures.near k) (subst IsView c.in_ok-planned.ensures.same c.in_ok-looks.ensures.view)
@@ -55,7 +55,7 @@ returns-clause-shown c = λ k.
     c.in_ok-shown.ensures k
     ∙ λ i. all_shown (here_in c.args.self.now.known.now) c.args.real.now.core
     (record { view = c.in_ok-planned.ensures.same i; told = c.args.witness.now.told; sent = c.args.witness.now.sent })
-    (known_to d c.args.self.now.own) ((c.deref-3.ensures.value ∙ looks) i)
+    (known_to d c.args.self.now.own) ((c.deref-2.ensures.value ∙ looks) i)
 
 pub returns-clause-room : goal.returns-clause-room
 returns-clause-room c =
@@ -69,6 +69,6 @@ returns-clause-room c =
       looks = [];
     } in
     let t = λ (look : Look). not (is_early c.plan.new.self.core (map seen_as (known_to d c.args.self.now.own)) look) in
-    let left = ap length (c.in_ok-looks.ensures.looks d ∙ ap (filter t) c.deref-2.ensures.value) in
+    let left = ap length (c.in_ok-looks.ensures.looks d) in
     let parted = length-filter_both t (λ look. not (t look)) (λ _. refl) c.in_ok-planned.planned.items in
     omega (arith, left, parted, c.in_ok-planned.ensures.room)
