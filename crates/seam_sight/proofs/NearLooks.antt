@@ -8,6 +8,7 @@ use Rattle.std.specs.List.Sorted.{IsStrictlySortedBy}
 use Rattle.std.proofs.lemmas.Map.Keys.{sorted_head, sorted_tail}
 use Rattle.std.specs.List.{AllByRecursion, filter, list_any}
 use Rattle.std.specs.FinMap as versions
+use Rattle.std.proofs.lemmas.Bool.{or_parts}
 use Rattle.std.proofs.lemmas.Bool.Decides.{nat_tests}
 use Rattle.seam_geo.specs.declared.pos.Pos.{Pos}
 use Rattle.seam_geo.specs.Pos.{distance}
@@ -25,10 +26,6 @@ same_again : (a : ℕ) → eqb a a ≡ true
 same_again a = grind (arith, nat_tests)
 
 -- ---- filters
-
-neither : (a b : Bool) → (a || b) ≡ false → (a ≡ false) × (b ≡ false)
-neither false b h = (refl, h)
-neither true b h = cc
 
 module _ {A : Type 0} where
   filter_step : (x : A) (xs ys : List A) (p : A → Bool) (b c : Bool) → p x ≡ b → (b ≡ true → c ≡ true) → xs ≡ filter p ys →
@@ -62,7 +59,7 @@ module _ {A : Type 0} where
   pub all_left : (t : A → Bool) (xs : List A) → list_any t xs ≡ false → filter (λ x. not (t x)) xs ≡ xs
   all_left t [] h = refl
   all_left t (x ∷ xs) h =
-      let no = neither (t x) (list_any t xs) h in
+      let no = or_parts (t x) (list_any t xs) h in
       λ i. cond (not (no.0 i)) (x ∷ all_left t xs no.1 i) (all_left t xs no.1 i)
 
   -- whether any passes the test from a place on

@@ -9,6 +9,7 @@ use Rattle.std.specs.List.{IsDistinct, AllByRecursion, filter, list_any}
 use Rattle.std.specs.List.Sorted.{IsStrictlySortedBy}
 use Rattle.std.specs.declared.cmp.Ordering.TheVariants.{Less}
 use Rattle.std.proofs.lemmas.Map.Keys.{IsDistinct-head, IsDistinct-tail, sorted_head, sorted_tail}
+use Rattle.std.proofs.lemmas.Bool.{or_parts}
 use Rattle.std.proofs.lemmas.Bool.Decides.{nat_tests}
 use Rattle.std.specs.FinMap as versions
 use Rattle.seam_geo.specs.declared.pos.Pos.{Pos}
@@ -173,14 +174,10 @@ pub key_found : (e k : ℕ) (es : List (ℕ × ℕ)) → lookup_key (eqb e) es �
 key_found e k [] h = cc
 key_found e k (p ∷ es) h = key_by e p.0 k (eqb e p.0) (lookup_key (eqb e) es) refl h (key_found e k es)
 
-neither : (a b : Bool) → (a || b) ≡ false → (a ≡ false) × (b ≡ false)
-neither false b h = (refl, h)
-neither true b h = cc
-
 -- an entity that is not in view is in no entry
 pub missing : (e : ℕ) (es : List (ℕ × ℕ)) → list_any (λ p. eqb e p.0) es ≡ false → AllByRecursion (λ y. eqb e y ≡ false) (keys_of es)
 missing e [] h = tt
-missing e (p ∷ es) h = let no = neither (eqb e p.0) (list_any (λ p. eqb e p.0) es) h in (no.0, missing e es no.1)
+missing e (p ∷ es) h = let no = or_parts (eqb e p.0) (list_any (λ p. eqb e p.0) es) h in (no.0, missing e es no.1)
 
 pub notes_of_none : (r : Replica) (own : Pos) (es : List (ℕ × ℕ)) →
     replicate (length es) Leaves ≡ map (λ p. note_of r own p.1 (seen_of p.0 [])) es
