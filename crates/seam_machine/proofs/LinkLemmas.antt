@@ -147,6 +147,9 @@ module _ {M : Type 0} where
       let two = either_none (eqb a sender) (items_to b out) (nothing_to (items_to b out) n) in
       link-view rows busy sender out q a b ∙ (ap (λ l. l ++ link_added sender out a b) one ∙ two)
 
+  pub none_sent : (b : ℕ) (out : List (ℕ × M)) → is_empty out ≡ true → length (items_to b out) ≡ 0
+  none_sent b out e = ap (λ o. length (items_to b o)) (empty_is out e)
+
   none_filled : (b : ℕ) (rows : List (List (List M))) → ((a : ℕ) → link rows a b ≡ []) → filled_to b rows ≡ 0
   none_filled b [] none = refl
   none_filled b (r ∷ rs) none =

@@ -92,46 +92,38 @@ pub length-happens : {N M : Type 0} (steps : N → Input M → Stepped N M) (w :
     length (happens steps w e).nodes ≡ length w.nodes
 length-happens steps w e o = ap length (nodes-happens steps w e o) ∙ length-set w.nodes e.node (steps o.node o.input).state
 
-works : {N M : Type 0} (has_work : N → Bool) (rows : List (List (List M))) (k : ℕ) (from : Option ℕ) (s : N) →
+-- a node that is ready for its task has it, and one that is ready for a message of a link finds it there
+pub works : {N M : Type 0} (has_work : N → Bool) (rows : List (List (List M))) (k : ℕ) (from : Option ℕ) (s : N) →
     is_ready has_work (Some s) (input_from rows k from) ≡ true → from ≡ None → has_work s ≡ true
 works has_work rows k None s h f = h
 works has_work rows k (Some a) s h f = cc
 
-pub enabled_works : {N M : Type 0} (has_work : N → Bool) (w : NetView N M) (e : Event) (s : N) → enabled has_work w e ≡ true →
-    e.from ≡ None → slice_get w.nodes e.node ≡ Some s → has_work s ≡ true
-enabled_works has_work w e s h f n = works has_work w.rows e.node e.from s (rw n at h) f
-
-holds : {N M : Type 0} (has_work : N → Bool) (s : N) (a : ℕ) (ms : List M) → is_ready has_work (Some s) (letter a ms) ≡ true → 0 < length ms
+pub holds : {N M : Type 0} (has_work : N → Bool) (s : N) (a : ℕ) (ms : List M) → is_ready has_work (Some s) (letter a ms) ≡ true → 0 < length ms
 holds has_work s a [] h = cc
 holds has_work s a (m ∷ ms) h = omega arith
 
--- the link of an enabled event that feeds a message holds it
-pub enabled_holds : {N M : Type 0} (has_work : N → Bool) (w : NetView N M) (e : Event) (a : ℕ) (s : N) → enabled has_work w e ≡ true →
-    e.from ≡ Some a → slice_get w.nodes e.node ≡ Some s → 0 < length (link w.rows a e.node)
-enabled_holds has_work w e a s h f n = holds has_work s a (link w.rows a e.node) (rw (n, f) at h)
-
 -- a net whose node was fed its input is the net after the event
-pub fed_happens : {N M : Type 0} (steps : N → Input M → Stepped N M) (w : NetView N M) (e : Event) (from : Option ℕ) (nodes : List N)
-    (rows rows' : List (List (List M))) (s s' : N) → e.from ≡ from → nodes ≡ w.nodes → rows ≡ w.rows → slice_get w.nodes e.node ≡ Some s →
-    Feeds steps e.node from rows s rows' s' →
+pub fed_happens : {N M : Type 0} (steps : N → Input M → Stepped N M) (w : NetView N M) (e : Event) (nodes : List N)
+    (rows rows' : List (List (List M))) (s s' : N) → nodes ≡ w.nodes → rows ≡ w.rows → slice_get w.nodes e.node ≡ Some s →
+    Feeds steps e.node e.from rows s rows' s' →
     ◌≡◌ {A = NetView N M} (record { nodes = set nodes e.node s'; rows = rows' }) (happens steps w e)
-fed_happens steps w e from nodes rows rows' s s' f same_nodes same_rows n d =
+fed_happens steps w e nodes rows rows' s s' same_nodes same_rows n d =
     let fed : input_from w.rows e.node e.from ≡ Some d.input =
-    ap (λ r. input_from r e.node e.from) (sym same_rows) ∙ (ap (input_from rows e.node) f ∙ d.is_fed) in
+    ap (λ r. input_from r e.node e.from) (sym same_rows) ∙ d.is_fed in
     let o : Occurs w e = record { node = s; input = d.input; is_node = n; is_fed = fed } in
-    rw (happens-is steps w e o, d.state_is, d.rows_is, same_rows, same_nodes, f) refl
+    rw (happens-is steps w e o, d.state_is, d.rows_is, same_rows, same_nodes) refl
 
-pub net_fed : {N M : Type 0} (steps : N → Input M → Stepped N M) (w : NetView N M) (e : Event) (from : Option ℕ) (nodes : List N)
-    (rows rows' : List (List (List M))) (s s' : N) → e.from ≡ from → nodes ≡ w.nodes → rows ≡ w.rows → slice_get w.nodes e.node ≡ Some s →
-    Feeds steps e.node from rows s rows' s' → IsNet w → IsNet (record { nodes = set nodes e.node s'; rows = rows' })
-net_fed steps w e from nodes rows rows' s s' f same_nodes same_rows n d q =
+pub net_fed : {N M : Type 0} (steps : N → Input M → Stepped N M) (w : NetView N M) (e : Event) (nodes : List N)
+    (rows rows' : List (List (List M))) (s s' : N) → nodes ≡ w.nodes → rows ≡ w.rows → slice_get w.nodes e.node ≡ Some s →
+    Feeds steps e.node e.from rows s rows' s' → IsNet w → IsNet (record { nodes = set nodes e.node s'; rows = rows' })
+net_fed steps w e nodes rows rows' s s' same_nodes same_rows n d q =
     let fed : input_from w.rows e.node e.from ≡ Some d.input =
-    ap (λ r. input_from r e.node e.from) (sym same_rows) ∙ (ap (input_from rows e.node) f ∙ d.is_fed) in
+    ap (λ r. input_from r e.node e.from) (sym same_rows) ∙ d.is_fed in
     let o : Occurs w e = record { node = s; input = d.input; is_node = n; is_fed = fed } in
     let few = q.few in
     let len = length-happens steps w e o in
     let there : IsNet (happens steps w e) = record { few = omega (arith, few, len); square = square-happens steps w e o q.square } in
-    subst IsNet (sym (fed_happens steps w e from nodes rows rows' s s' f same_nodes same_rows n d)) there
+    subst IsNet (sym (fed_happens steps w e nodes rows rows' s s' same_nodes same_rows n d)) there
 
 -- a net whose node is put back as it was
 pub with_node_same : {N M : Type 0} (w : NetView N M) (k : ℕ) (s : N) → slice_get w.nodes k ≡ Some s → with_node w k s ≡ w

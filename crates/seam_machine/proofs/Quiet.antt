@@ -1,8 +1,9 @@
 -- A quiet net: every link is empty and no node has a task.
 use Rattle.std.proofs.Common.{◌≡◌, ℕ, zero, suc, ◌<◌, Bool, true, false, List, [], ◌∷◌, length, Option, None, Some, refl, sym, ap, ◌∙◌}
-use Rattle.std.proofs.Common.{arith}
-use Rattle.std.specs.Prelude.{slice_get, map, option_map}
-use Rattle.std.proofs.lemmas.Option.{slice_get-map}
+use Rattle.std.proofs.Common.{arith, inl, inr}
+use Rattle.std.specs.Prelude.{slice_get, map, option_map, IfSome, IfNone}
+use Rattle.std.proofs.lemmas.Bool.{cases_lt}
+use Rattle.std.proofs.lemmas.Option.{slice_get-map, slice_get_past}
 use Rattle.seam_machine.specs.Views.{NetView}
 use Rattle.seam_machine.specs.Nets.{link, letter, input_from, is_ready, enabled, IsQuiet, IsSquare}
 use Rattle.seam_machine.specs.Events.{EachNode, EachLink}
@@ -54,3 +55,27 @@ module _ {N M : Type 0} (has_work : N → Bool) (w : NetView N M) where
       let there = slice_get-map has_work w.nodes e.node in
       let mapped = ap (option_map has_work) h in
       cc)
+
+  -- a net whose nodes have no enabled event
+  pub quiet_below : ((e : Event) → e.node < length w.nodes → enabled has_work w e ≡ false) → IsQuiet has_work w
+  quiet_below none e = elim (cases_lt e.node (length w.nodes)) [
+    | inl within ↦ none e within
+    | inr past ↦ ap (λ o. is_ready has_work o (input_from w.rows e.node e.from)) (slice_get_past w.nodes e.node past)
+  ]
+
+  holds_letter : (k a : ℕ) (l : List M) → k < length w.nodes → 0 < length l → is_ready has_work (slice_get w.nodes k) (letter a l) ≡ true
+  holds_letter k a [] lt h = absurd (omega (arith, h))
+  holds_letter k a (m ∷ ms) lt h = let node = some_at w.nodes k lt in rw node.1 refl
+
+  -- the event of a node that is marked where no link to it holds a message, by its first link that holds one, or else its task
+  pub first_enabled : (k : ℕ) (from : Option ℕ) → k < length w.nodes → IfSome from (λ a. 0 < length (link w.rows a k)) →
+      IfNone from ((a : ℕ) → link w.rows a k ≡ []) →
+      (((a : ℕ) → link w.rows a k ≡ []) → slice_get (map has_work w.nodes) k ≡ Some true) →
+      enabled has_work w (record { node = k; from = from }) ≡ true
+  first_enabled k (Some a) lt holds none marked = holds_letter k a (link w.rows a k) lt holds
+  first_enabled k None lt holds none marked =
+      let node = some_at w.nodes k lt in
+      let there = slice_get-map has_work w.nodes k in
+      let mapped = ap (option_map has_work) node.1 in
+      let yes = marked none in
+      rw node.1 (let works : has_work node.0 ≡ true = cc in works)

@@ -4,10 +4,10 @@ ghost use Rattle.std.specs.Prelude.{◌≡◌, ◌≢◌, ℕ, ◌+◌, ◌-◌,
 ghost use Rattle.std.specs.Prelude.{IfSome, IfNone, option_copied, slice_get, slice_index, slice_index_or, slice_set, vec_len, false};
 ghost use Rattle.std.specs.List.{All};
 ghost use Rattle.seam_machine.specs.Sends.{AllBelow};
-ghost use Rattle.seam_machine.specs.Nets.{link};
+ghost use Rattle.seam_machine.specs.Nets.{link, input_from, is_ready};
 ghost use Rattle.seam_machine.specs.Inside.{CountsFit, Delivers, Feeds, filled_to};
 
-use crate::machines::{Input, Machine};
+use crate::machines::{Event, Input, Machine};
 use crate::rows::Row;
 use crate::sends::Out;
 use std::alloc::{AllocError, Global};
@@ -84,6 +84,37 @@ fn count_all<T>(alloc: Global, rows: &Vec<Row<T>>) -> Result<Vec<u8>, AllocError
     Ok(busy)
 }
 
+// The first node that is marked or has a count; the number of nodes where there is none.
+fn first_counted(busy: &Vec<u8>, marks: &[bool]) -> usize
+    requires { length marks.now ≡ length busy.now.items }
+    ensures within { result ≤ length busy.now.items }
+    ensures unmarked { (k : ℕ) → k < result → slice_get marks.now k ≡ Some false }
+    ensures uncounted { (k : ℕ) → k < result → slice_index busy.now.items k ≡ 0 }
+    ensures found { result < length busy.now.items → slice_index busy.now.items result ≡ 0 → slice_get marks.now result ≡ Some true }
+{
+    for k in 0..busy.len() {
+        if marks[k] || busy[k] > 0 {
+            return k;
+        }
+    }
+    busy.len()
+}
+
+// The first of the rows whose link to that node holds something.
+fn first_filled<T>(rows: &Vec<Row<T>>, to: usize) -> Option<u8>
+    requires { length rows.now.items < 256 }
+    ensures some { IfSome result (λ a. 0 < length (link rows.now.items a to)) }
+    ensures first { IfSome result (λ a. (c : ℕ) → c < a → link rows.now.items c to ≡ []) }
+    ensures none { IfNone result ((a : ℕ) → link rows.now.items a to ≡ []) }
+{
+    for a in 0..rows.len() {
+        if rows[a].len(to) > 0 {
+            return Some(a as u8);
+        }
+    }
+    None
+}
+
 // Moves what waits in `out` to the links of its sender.
 fn deliver<T>(row: &mut Row<T>, busy: &mut Vec<u8>, out: &mut Out<T>) -> Result<(), AllocError>
     requires targets { AllBelow (length row.old) out.old.items }
@@ -144,14 +175,12 @@ impl<T> Links<T> {
         if at >= self.busy.len() {
             return false;
         }
-        if self.out.is_empty() {
-            return self.busy[at] == 0;
-        }
         self.busy[at] == 0 && self.out.count_to(to) == 0
     }
 
-    /// The first node that is marked, or to which a link holds a message; the number of nodes where there is none.
-    pub fn first_busy(&self, marks: &[bool]) -> usize
+    // `first_busy` where items wait for room.
+    #[cold]
+    fn first_not_idle(&self, marks: &[bool]) -> usize
         requires { length marks.now ≡ length self.now.rows }
         ensures within { result ≤ length self.now.rows }
         ensures unmarked { (k : ℕ) → k < result → slice_get marks.now k ≡ Some false }
@@ -164,6 +193,20 @@ impl<T> Links<T> {
             }
         }
         self.busy.len()
+    }
+
+    /// The first node that is marked, or to which a link holds a message; the number of nodes where there is none.
+    pub fn first_busy(&self, marks: &[bool]) -> usize
+        requires { length marks.now ≡ length self.now.rows }
+        ensures within { result ≤ length self.now.rows }
+        ensures unmarked { (k : ℕ) → k < result → slice_get marks.now k ≡ Some false }
+        ensures idle { (k a : ℕ) → k < result → link self.now.rows a k ≡ [] }
+        ensures busy { result < length self.now.rows → ((a : ℕ) → link self.now.rows a result ≡ []) → slice_get marks.now result ≡ Some true }
+    {
+        if self.out.is_empty() {
+            return first_counted(&self.busy, marks);
+        }
+        self.first_not_idle(marks)
     }
 
     // The node that sent last, where its link to that node is the only one that holds a message.
@@ -184,24 +227,37 @@ impl<T> Links<T> {
         Some(self.sender as u8)
     }
 
-    /// The least node whose link to that node holds a message.
-    pub fn first_from(&self, to: u8) -> Option<u8>
+    // `first_from` where items wait for room.
+    #[cold]
+    fn first_waiting(&self, to: u8) -> Option<u8>
         ensures some { IfSome result (λ a. 0 < length (link self.now.rows a to)) }
         ensures first { IfSome result (λ a. (c : ℕ) → c < a → link self.now.rows c to ≡ []) }
         ensures none { IfNone result ((a : ℕ) → link self.now.rows a to ≡ []) }
     {
-        if self.is_idle(to) {
-            return None;
-        }
-        if let Some(from) = self.only_from(to) {
-            return Some(from);
-        }
         for a in 0..self.rows.len() {
             if self.waiting(a, to) > 0 {
                 return Some(a as u8);
             }
         }
         None
+    }
+
+    /// The least node whose link to that node holds a message.
+    pub fn first_from(&self, to: u8) -> Option<u8>
+        ensures some { IfSome result (λ a. 0 < length (link self.now.rows a to)) }
+        ensures first { IfSome result (λ a. (c : ℕ) → c < a → link self.now.rows c to ≡ []) }
+        ensures none { IfNone result ((a : ℕ) → link self.now.rows a to ≡ []) }
+    {
+        if !self.out.is_empty() {
+            return self.first_waiting(to);
+        }
+        if self.is_idle(to) {
+            return None;
+        }
+        if let Some(from) = self.only_from(to) {
+            return Some(from);
+        }
+        first_filled(&self.rows, to as usize)
     }
 
     /// Moves what waits to the links.
@@ -216,8 +272,8 @@ impl<T> Links<T> {
         deliver(row, &mut self.busy, &mut self.out)
     }
 
-    /// Feeds the first message of the link to its node.
-    pub fn serve<M: Machine<Msg = T>>(
+    // Feeds the first message of the link to its node.
+    fn serve<M: Machine<Msg = T>>(
         &mut self,
         alloc: Global,
         from: u8,
@@ -245,8 +301,8 @@ impl<T> Links<T> {
         Ok(())
     }
 
-    /// Lets the node do its task.
-    pub fn work<M: Machine<Msg = T>>(
+    // Lets the node do its task.
+    fn work<M: Machine<Msg = T>>(
         &mut self,
         alloc: Global,
         at: u8,
@@ -269,6 +325,28 @@ impl<T> Links<T> {
                 return Ok(());
             }
             Err(_) => return Err(AllocError),
+        }
+    }
+
+    /// Feeds the node what the event feeds it.
+    pub fn feed<M: Machine<Msg = T>>(
+        &mut self,
+        alloc: Global,
+        event: Event,
+        node: &mut M,
+    ) -> Result<(), AllocError>
+        requires clear { self.old.clear ≡ true }
+        requires is_node { event.node < length self.old.rows }
+        requires ready { is_ready M.has_work (Some node.old) (input_from self.old.rows event.node event.from) ≡ true }
+        requires peers { M.peer_count node.old ≡ length self.old.rows }
+        ensures fed { OnOk result (Feeds M.steps event.node event.from self.old.rows node.old self.new.rows node.new) }
+        ensures err_rows { OnErr result (self.new.rows ≡ self.old.rows) }
+        ensures err_node { OnErr result (node.new ≡ node.old) }
+        ensures same_peers { M.peer_count node.new ≡ M.peer_count node.old }
+    {
+        match event.from {
+            Some(from) => self.serve(alloc, from, event.node, node),
+            None => self.work(alloc, event.node, node),
         }
     }
 }

@@ -217,34 +217,17 @@ impl<M: Machine> Net<M> {
         }
     }
 
-    // Whether the task of the node is there.
-    fn is_to_work(&self, node: u8) -> bool
-        requires { node < length self.now.nodes }
-        ensures { result ≡ enabled M.has_work self.now (record { node = node; from = None }) }
-    {
-        if self.asked {
-            return self.tasks[node as usize];
-        }
-        self.nodes[node as usize].has_task()
-    }
-
-    // The first enabled event, where none is enabled of the nodes before `first`.
-    fn next_from(&self, first: usize) -> Option<Event>
-        requires { (d : Event) → d.node < first → enabled M.has_work self.now d ≡ false }
+    // The first enabled event, where not all nodes were asked for their tasks.
+    fn next_unasked(&self) -> Option<Event>
         ensures enabled { IfSome result (λ e. enabled M.has_work self.now e ≡ true) }
         ensures first { IfSome result (λ e. (d : Event) → IsBefore d e → enabled M.has_work self.now d ≡ false) }
         ensures none { IfNone result (IsQuiet M.has_work self.now) }
     {
-        for k in first..self.nodes.len() {
+        for k in 0..self.nodes.len() {
             let node = k as u8;
-            if let Some(from) = self.links.first_from(node) {
-                return Some(Event {
-                    node,
-                    from: Some(from),
-                });
-            }
-            if self.is_to_work(node) {
-                return Some(Event { node, from: None });
+            let from = self.links.first_from(node);
+            if from.is_some() || self.nodes[k].has_task() {
+                return Some(Event { node, from });
             }
         }
         None
@@ -257,10 +240,16 @@ impl<M: Machine> Net<M> {
         ensures first { IfSome result (λ e. (d : Event) → IsBefore d e → enabled M.has_work self.now d ≡ false) }
         ensures none { IfNone result (IsQuiet M.has_work self.now) }
     {
-        if self.asked {
-            return self.next_from(self.links.first_busy(self.tasks.as_slice()));
+        if !self.asked {
+            return self.next_unasked();
         }
-        self.next_from(0)
+        let first = self.links.first_busy(self.tasks.as_slice());
+        if first == self.nodes.len() {
+            return None;
+        }
+        let node = first as u8;
+        let from = self.links.first_from(node);
+        Some(Event { node, from })
     }
 
     /// Whether no event is enabled.
@@ -283,22 +272,9 @@ impl<M: Machine> Net<M> {
         ask(&self.nodes, &mut self.tasks, &mut self.asked);
         let at = event.node as usize;
         let node = &mut self.nodes[at];
-        match event.from {
-            Some(from) => match self.links.serve(alloc, from, event.node, node) {
-                Ok(()) => {
-                    self.tasks[at] = node.has_task();
-                    return Ok(());
-                }
-                Err(refused) => return Err(refused),
-            },
-            None => match self.links.work(alloc, event.node, node) {
-                Ok(()) => {
-                    self.tasks[at] = node.has_task();
-                    return Ok(());
-                }
-                Err(refused) => return Err(refused),
-            },
-        }
+        self.links.feed(alloc, event, node)?;
+        self.tasks[at] = node.has_task();
+        Ok(())
     }
 }
 

@@ -1,9 +1,12 @@
-use Rattle.std.proofs.Common.{◌≡◌, ◌<◌, ◌∙◌, refl, sym, ap, length, arith, subst, Some, None}
+use Rattle.std.proofs.Common.{◌≡◌, ◌<◌, ◌∙◌, ℕ, set, refl, sym, ap, length, arith, subst, Some}
 use Rattle.std.specs.Prelude.{slice_get}
+use Rattle.std.specs.List.{All}
+use Rattle.std.proofs.lemmas.List.{length-set}
+use Rattle.std.proofs.lemmas.List.Elements.{All-set}
 use Rattle.std.proofs.lemmas.Option.{slice_get_read}
-use Rattle.seam_machine.specs.Nets.{ArePeers}
+use Rattle.seam_machine.specs.Nets.{input_from, is_ready, ArePeers}
 use Rattle.seam_machine.specs.Inside.{IsNet}
-use Rattle.seam_machine.proofs.Occurring.{occurs, node_within, enabled_works, fed_happens, net_fed}
+use Rattle.seam_machine.proofs.Occurring.{occurs, node_within, fed_happens, net_fed}
 use Rattle.seam_machine.proofs.Known.{knows_after}
 use Rattle.seam_machine.proofs.nets.Net.step.Goals as goal
 use Rattle.seam_machine.proofs.nets.Net.step.Goals.{In_ok-settle, After-index_mut-node}
@@ -25,57 +28,38 @@ rows_are g c = c.settle.ensures.rows ∙ ap (λ w. w.rows) c.self.view_is
 is_net : (g : _) (c : In_ok-settle g) → IsNet c.args.self.now
 is_net g c = subst IsNet c.self.view_is c.self.invariant.0
 
-pub work-requires-clause-is_node : goal.work-requires-clause-is_node
-work-requires-clause-is_node g c =
-    let i = (goal.at.work-requires-clause-is_node g c).In_ok-settle in
-    let n = is_net g i in
-    let lt = node_in g i in
-    omega (arith, lt, ap length (rows_are g i), ap (λ w. length w.nodes) c.self.view_is, n.square.rows)
+pub feed-requires-clause-ready : goal.feed-requires-clause-ready
+feed-requires-clause-ready g c =
+    let i = (goal.at.feed-requires-clause-ready g c).In_ok-settle in
+    let e = c.args.event in
+    let node = node_is g ((goal.at.feed-requires-clause-ready g c).After-index_mut-node) in
+    ap (λ r. is_ready g.M.Machine.has_work (Some c.index_mut-node.result.now) (input_from r e.node e.from)) (rows_are g i)
+    ∙ (ap (λ s. is_ready g.M.Machine.has_work s (input_from c.args.self.now.rows e.node e.from)) (sym node) ∙ c.requires.enabled)
 
-pub work-requires-clause-task : goal.work-requires-clause-task
-work-requires-clause-task g c =
-    enabled_works g.M.Machine.has_work c.args.self.now c.args.event c.index_mut-node.result.now c.requires.enabled c.in-None.is
-    (node_is g ((goal.at.work-requires-clause-task g c).After-index_mut-node))
-
-pub work-requires-clause-peers : goal.work-requires-clause-peers
-work-requires-clause-peers g c =
-    let i = (goal.at.work-requires-clause-peers g c).In_ok-settle in
-    let n = is_net g i in
-    let node = c.index_mut-node.result.now in
-    let all = subst (λ w. ArePeers g.M.Machine.peer_count w) (sym c.self.view_is) c.requires.peers in
-    let peers = ap g.M.Machine.peer_count c.index_mut-node.ensures.value ∙ all c.args.event.node node (node_in g i) in
-    omega (arith, peers, ap length (rows_are g i), ap (λ w. length w.nodes) c.self.view_is, n.square.rows)
-
-pub invariant_of-self-in-Ok : goal.invariant_of-self-in-Ok
-invariant_of-self-in-Ok g c =
-    let i = (goal.at.invariant_of-self-in-Ok g c).In_ok-settle in (
-      net_fed g.M.Machine.steps c.args.self.now c.args.event (Some c.in-Some.from) c.self.inside.nodes.items c.settle.new.self.rows
-          c.serve.new.self.rows c.index_mut-node.result.now c.serve.new.node c.in-Some.is (ap (λ w. w.nodes) c.self.view_is) (rows_are g i)
-          (node_is g ((goal.at.invariant_of-self-in-Ok g c).After-index_mut-node)) c.in-Ok.ensures.fed (is_net g i),
-      knows_after g.M.Machine.has_work c.self.inside.nodes.items c.ask.new.asked c.ask.new.tasks.items c.args.event.node c.serve.new.node
+pub invariant_of-self-2 : goal.invariant_of-self-2
+invariant_of-self-2 g c =
+    let i = (goal.at.invariant_of-self-2 g c).In_ok-settle in (
+      net_fed g.M.Machine.steps c.args.self.now c.args.event c.self.inside.nodes.items c.settle.new.self.rows
+          c.feed.new.self.rows c.index_mut-node.result.now c.feed.new.node (ap (λ w. w.nodes) c.self.view_is) (rows_are g i)
+          (node_is g ((goal.at.invariant_of-self-2 g c).After-index_mut-node)) c.in_ok-feed.ensures.fed (is_net g i),
+      knows_after g.M.Machine.has_work c.self.inside.nodes.items c.ask.new.asked c.ask.new.tasks.items c.args.event.node c.feed.new.node
           c.has_task.result c.has_task.ensures c.ask.ensures,
     )
 
-pub returns-in-Ok-clause-happens : goal.returns-in-Ok-clause-happens
-returns-in-Ok-clause-happens g c =
-    let i = (goal.at.returns-in-Ok-clause-happens g c).In_ok-settle in
-    fed_happens g.M.Machine.steps c.args.self.now c.args.event (Some c.in-Some.from) c.self.inside.nodes.items c.settle.new.self.rows
-    c.serve.new.self.rows c.index_mut-node.result.now c.serve.new.node c.in-Some.is (ap (λ w. w.nodes) c.self.view_is) (rows_are g i)
-    (node_is g ((goal.at.returns-in-Ok-clause-happens g c).After-index_mut-node)) c.in-Ok.ensures.fed
+pub returns-clause-happens : goal.returns-clause-happens
+returns-clause-happens g c =
+    let i = (goal.at.returns-clause-happens g c).In_ok-settle in
+    fed_happens g.M.Machine.steps c.args.self.now c.args.event c.self.inside.nodes.items c.settle.new.self.rows
+    c.feed.new.self.rows c.index_mut-node.result.now c.feed.new.node (ap (λ w. w.nodes) c.self.view_is) (rows_are g i)
+    (node_is g ((goal.at.returns-clause-happens g c).After-index_mut-node)) c.in_ok-feed.ensures.fed
 
-pub invariant_of-self-in-Ok-work : goal.invariant_of-self-in-Ok-work
-invariant_of-self-in-Ok-work g c =
-    let i = (goal.at.invariant_of-self-in-Ok-work g c).In_ok-settle in (
-      net_fed g.M.Machine.steps c.args.self.now c.args.event None c.self.inside.nodes.items c.settle.new.self.rows c.work.new.self.rows
-          c.index_mut-node.result.now c.work.new.node c.in-None.is (ap (λ w. w.nodes) c.self.view_is) (rows_are g i)
-          (node_is g ((goal.at.invariant_of-self-in-Ok-work g c).After-index_mut-node)) c.in-Ok-work.ensures.fed (is_net g i),
-      knows_after g.M.Machine.has_work c.self.inside.nodes.items c.ask.new.asked c.ask.new.tasks.items c.args.event.node c.work.new.node
-          c.has_task-in-Ok-work.result c.has_task-in-Ok-work.ensures c.ask.ensures,
-    )
-
-pub returns-in-Ok-work-clause-happens : goal.returns-in-Ok-work-clause-happens
-returns-in-Ok-work-clause-happens g c =
-    let i = (goal.at.returns-in-Ok-work-clause-happens g c).In_ok-settle in
-    fed_happens g.M.Machine.steps c.args.self.now c.args.event None c.self.inside.nodes.items c.settle.new.self.rows c.work.new.self.rows
-    c.index_mut-node.result.now c.work.new.node c.in-None.is (ap (λ w. w.nodes) c.self.view_is) (rows_are g i)
-    (node_is g ((goal.at.returns-in-Ok-work-clause-happens g c).After-index_mut-node)) c.in-Ok-work.ensures.fed
+pub returns-clause-peers : goal.returns-clause-peers
+returns-clause-peers g c =
+    let i = (goal.at.returns-clause-peers g c).In_ok-settle in
+    let nodes = c.self.inside.nodes.items in
+    let k = c.args.event.node in
+    let all = subst (λ w. ArePeers g.M.Machine.peer_count w) (sym c.self.view_is) c.requires.peers in
+    let old = ap g.M.Machine.peer_count c.index_mut-node.ensures.value ∙ all k c.index_mut-node.result.now (node_in g i) in
+    let P : ℕ → Type 0 = λ n. All (λ s. g.M.Machine.peer_count s ≡ n) (set nodes k c.feed.new.node) in
+    subst P (sym (length-set nodes k c.feed.new.node))
+    (All-set (λ s. g.M.Machine.peer_count s ≡ length nodes) nodes k c.feed.new.node (c.feed.ensures.same_peers ∙ old) all)

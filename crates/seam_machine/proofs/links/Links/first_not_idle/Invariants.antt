@@ -1,6 +1,6 @@
 use Rattle.std.proofs.Common.{◌≡◌, ℕ, ◌<◌, [], Some, false, slice_get}
 use Rattle.seam_machine.specs.Nets.{link}
-use Rattle.seam_machine.proofs.links.Links.first_busy.Given as goal
+use Rattle.seam_machine.proofs.links.Links.first_not_idle.Given as goal
 
 abbrev pub invariant-loop-k : goal.invariant-loop-k
 invariant-loop-k g l = record {
