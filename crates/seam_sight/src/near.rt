@@ -238,8 +238,23 @@ impl Sight<'_> {
         false
     }
 
-    /// The looks without early leaves. Where none is early, as mostly, they are given back as they came.
-    pub(crate) fn in_time(&self, view: &View, looks: Vec<Look>) -> Result<Vec<Look>, AllocError>
+    // The looks that are no early leaves, in a list of their own.
+    fn without_early(&self, view: &View, looks: &[Look]) -> Result<Vec<Look>, AllocError>
+        ensures { (c : CellView) →
+            let d = seeing c (here_in self.now.known.now) self.now.reals.now.items self.now.copies.now.ghosts in
+            IfOk result (λ v. v.items
+            ≡ filter (λ look. not (is_early view.now.core (map seen_as (known_to d self.now.own)) look)) looks.now) }
+    {
+        let mut left = Vec::new(self.alloc);
+        for look in looks {
+            keep(&mut left, *look, !self.is_early(view, look))?;
+        }
+        Ok(left)
+    }
+
+    /// The looks without early leaves. A plan by what is near alone lets all leave that are not near; those stay that are known, and
+    /// were shown at a greater version. Mostly none is early, and the looks are given back as they came.
+    pub fn in_time(&self, view: &View, looks: Vec<Look>) -> Result<Vec<Look>, AllocError>
         ensures looks { (c : CellView) →
             let d = seeing c (here_in self.now.known.now) self.now.reals.now.items self.now.copies.now.ghosts in
             IfOk result (λ v. v.items
@@ -252,23 +267,5 @@ impl Sight<'_> {
             return self.without_early(view, &looks);
         }
         Ok(looks)
-    }
-
-    /// The looks without early leaves. A plan by what is near alone lets all leave that are not near; those stay that are known, and
-    /// were shown at a greater version.
-    pub fn without_early(&self, view: &View, looks: &[Look]) -> Result<Vec<Look>, AllocError>
-        ensures looks { (c : CellView) →
-            let d = seeing c (here_in self.now.known.now) self.now.reals.now.items self.now.copies.now.ghosts in
-            IfOk result (λ v. v.items
-            ≡ filter (λ look. not (is_early view.now.core (map seen_as (known_to d self.now.own)) look)) looks.now) }
-        ensures view { IsView view.now.core }
-    {
-        // `len` is called for its clause that each version in view is the one last shown.
-        let _ = view.len();
-        let mut left = Vec::new(self.alloc);
-        for look in looks {
-            keep(&mut left, *look, !self.is_early(view, look))?;
-        }
-        Ok(left)
     }
 }

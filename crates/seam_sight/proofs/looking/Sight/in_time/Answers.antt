@@ -14,7 +14,7 @@ returns-then-has_early-clause-looks c = λ k.
     let d : CellView = seeing k (here_in c.args.self.now.known.now) c.args.self.now.reals.now.items c.args.self.now.copies.now.ghosts in
     let early = is_early c.args.view.now.core (map seen_as (known_to d c.args.self.now.own)) in
     subst (λ l. IfOk c.without_early.result (λ v. v.items ≡ filter (λ look. not (early look)) l)) c.deref-then-has_early.ensures.value
-    (c.without_early.ensures.looks k)
+    (c.without_early.ensures k)
 
 pub returns-clause-looks : goal.returns-clause-looks
 returns-clause-looks c = λ k.

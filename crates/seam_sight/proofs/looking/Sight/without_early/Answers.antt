@@ -22,8 +22,8 @@ loop-look-preserved c = λ k.
     ∙ ((λ j. filter (λ x. not (early x)) (take i c.args.looks.now) ++ cond (not (c.is_early.ensures k j)) (look ∷ []) [])
     ∙ sym (filter_more (λ x. not (early x)) c.args.looks.now i (Leave 0) c.loop-look-test.true)))
 
-pub returns-clause-looks : goal.returns-clause-looks
-returns-clause-looks c = λ k.
+pub returns : goal.returns
+returns c = λ k.
     let d : CellView = seeing k (here_in c.args.self.now.known.now) c.args.self.now.reals.now.items c.args.self.now.copies.now.ghosts in
     c.loop-look.invariant k
     ∙ ap (filter (λ x. not (is_early c.args.view.now.core (map seen_as (known_to d c.args.self.now.own)) x)))
