@@ -8,5 +8,6 @@ pub mod Puts
 pub mod Quiet
 pub mod RowLemmas
 pub mod SendLemmas
+pub mod Starts
 pub mod Totals
 pub mod Writes

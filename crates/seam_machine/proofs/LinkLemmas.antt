@@ -104,31 +104,6 @@ module _ {M : Type 0} where
   filled_none b (r ∷ rs) e zero = filled_zero (get_or r b []) (filled_to b rs) e
   filled_none b (r ∷ rs) e (suc a) = filled_none b rs (omega (arith, e)) a
 
-  filled_some : (l : List M) (n : ℕ) → 0 < length l → 0 < filled l + n
-  filled_some [] n h = absurd (omega (arith, h))
-  filled_some (x ∷ xs) n h = omega arith
-
-  counts_some : (b : ℕ) (rows : List (List (List M))) (s : ℕ) → 0 < length (link rows s b) → 0 < filled_to b rows
-  counts_some b [] s h = absurd (omega (arith, h))
-  counts_some b (r ∷ rs) zero h = filled_some (get_or r b []) (filled_to b rs) h
-  counts_some b (r ∷ rs) (suc s) h = let k = counts_some b rs s h in omega (arith, k)
-
-  -- where one link to the node holds something, no other does
-  filled_only : (b : ℕ) (rows : List (List (List M))) (s : ℕ) → filled_to b rows ≡ 1 → 0 < length (link rows s b) → (a : ℕ) → a ≢ s →
-      link rows a b ≡ []
-  filled_only b [] s e h a n = refl
-  filled_only b (r ∷ rs) zero e h zero n = absurd (n refl)
-  filled_only b (r ∷ rs) zero e h (suc a) n =
-      let k = filled_some (get_or r b []) 0 h in
-      filled_none b rs (omega (arith, e, k)) a
-  filled_only b (r ∷ rs) (suc s) e h zero n =
-      let k = counts_some b rs s h in
-      filled_zero (get_or r b []) 0 (omega (arith, e, k))
-  filled_only b (r ∷ rs) (suc s) e h (suc a) n =
-      let k = counts_some b rs s h in
-      let one = filled_one (get_or r b []) in
-      filled_only b rs s (omega (arith, e, k, one)) h a (λ q. n (ap suc q))
-
   nothing_to : (l : List M) → length l ≡ 0 → l ≡ []
   nothing_to [] e = refl
   nothing_to (x ∷ xs) e = absurd (omega (arith, e))
@@ -170,15 +145,6 @@ module _ {M : Type 0} where
       λ a. both_none (link rows a b) (link_added sender out a b) (sym (link-view rows busy sender out q a b) ∙ none a) in
       let own : link_added sender out sender b ≡ items_to b out = ap (λ t. cond t (items_to b out) []) (equal_is sender sender refl) in
       (q.busy_is b within ∙ none_filled b rows (λ a. (parts a).0), sym own ∙ (parts sender).1)
-
-  -- with a count of one and nothing that waits, the last sender's link alone holds something, where it does
-  pub alone : (rows : List (List (List M))) (busy : List ℕ) (sender : ℕ) (out : List (ℕ × M)) → IsLinks rows busy sender out → (b : ℕ) →
-      b < length busy → get_or busy b 0 ≡ 1 → is_empty out ≡ true → 0 < length (link rows sender b) → (a : ℕ) → a ≢ sender →
-      link (send_all rows sender out) a b ≡ []
-  alone rows busy sender out q b lt one none h a n =
-      let n_rows = q.busy_len in
-      let within : b < length rows = omega (arith, lt, n_rows) in
-      ap (λ r. link r a b) (clear_rows rows sender out none) ∙ filled_only b rows sender (sym (q.busy_is b within) ∙ one) h a n
 
   -- the counts leave room for the links of one row
   pub counts_fit : (rows : List (List (List M))) (busy : List ℕ) (sender : ℕ) (out : List (ℕ × M)) → IsLinks rows busy sender out →

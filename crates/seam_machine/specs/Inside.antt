@@ -4,7 +4,7 @@ use Rattle.std.specs.Prelude.{slice_set}
 use Rattle.std.specs.List.{All}
 use Rattle.seam_machine.specs.Views.{Stepped, NetView}
 use Rattle.seam_machine.specs.Sends.{AllBelow}
-use Rattle.seam_machine.specs.Nets.{letter, input_from, row_less, rows_after_feeding, put_all, send_all, IsSquare}
+use Rattle.seam_machine.specs.Nets.{link, letter, input_from, row_less, rows_after_feeding, put_all, send_all, IsSquare}
 use Rattle.seam_machine.specs.Totals.{total}
 use Rattle.seam_machine.specs.declared.machines.Input.{Input}
 
@@ -49,6 +49,17 @@ pub record IsLinks {M : Type 0} (rows : List (List (List M))) (busy : List ℕ) 
   pub busy_is : (b : ℕ) → b < length rows → slice_index_or busy b 0 ≡ filled_to b rows
   pub targets : AllBelow (length rows) out
   pub sender_in : 0 < length rows → sender < length rows
+
+-- no node below a node's start has a message for it
+pub record StartsAt {M : Type 0} (starts : List ℕ) (rows : List (List (List M))) : Type 0 where
+  pub len : length starts ≡ length rows
+  pub empty : (a b : ℕ) → a < slice_index_or starts b 0 → link rows a b ≡ []
+
+-- no start rose, and where one is above node a, the link of this row, which is a's, is empty
+pub record Lowers {M : Type 0} (a : ℕ) (starts starts' : List ℕ) (row' : List (List M)) : Type 0 where
+  pub len : length starts' ≡ length starts
+  pub less : (b : ℕ) → slice_index_or starts' b 0 ≤ slice_index_or starts b 0
+  pub own : (b : ℕ) → a < slice_index_or starts' b 0 → slice_index_or row' b [] ≡ []
 
 -- the first of the items, which goes to node `to`, is at the end of its link
 pub record PutsFirst {M : Type 0} (to : ℕ) (row : List (List M)) (items : List (ℕ × M)) (row' : List (List M))

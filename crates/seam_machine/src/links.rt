@@ -1,11 +1,11 @@
 //! The links of a net, and what waits for room in them.
 
-ghost use Rattle.std.specs.Prelude.{◌≡◌, ◌≢◌, ℕ, ◌+◌, ◌-◌, ◌<◌, ◌≤◌, ◌^◌, List, [], ◌∷◌, ◌++◌, length, true, Some, None, OnOk, OnErr, IfOk};
-ghost use Rattle.std.specs.Prelude.{IfSome, IfNone, option_copied, slice_get, slice_index, slice_index_or, slice_set, vec_len, false};
+ghost use Rattle.std.specs.Prelude.{◌≡◌, ℕ, ◌+◌, ◌-◌, ◌<◌, ◌≤◌, ◌^◌, List, [], ◌∷◌, ◌++◌, length, true, Some, None, OnOk, OnErr, IfOk};
+ghost use Rattle.std.specs.Prelude.{IfSome, IfNone, option_copied, slice_get, slice_index, slice_index_or, slice_set, vec_len, false, replicate};
 ghost use Rattle.std.specs.List.{All};
 ghost use Rattle.seam_machine.specs.Sends.{AllBelow};
 ghost use Rattle.seam_machine.specs.Nets.{link, input_from, is_ready};
-ghost use Rattle.seam_machine.specs.Inside.{CountsFit, Delivers, Feeds, filled_to};
+ghost use Rattle.seam_machine.specs.Inside.{CountsFit, Delivers, StartsAt, Lowers, Feeds, filled_to};
 
 use crate::machines::{Event, Input, Machine};
 use crate::rows::Row;
@@ -19,6 +19,8 @@ pub struct Links<T> {
     rows: Vec<Row<T>>,
     // How many of the links to each node hold something, without what waits.
     busy: Vec<u8>,
+    // For each node, a number below which no node's link to it holds something, without what waits.
+    starts: Vec<u8>,
     // What node `sender` sent last and no link had room for yet.
     out: Out<T>,
     sender: usize,
@@ -26,13 +28,14 @@ pub struct Links<T> {
 
 impl<T> Model for Links<T> {
     ghost use Rattle.seam_machine.specs.Nets.{send_all};
-    ghost use Rattle.seam_machine.specs.Inside.{LinksView, IsLinks, is_empty};
+    ghost use Rattle.seam_machine.specs.Inside.{LinksView, IsLinks, StartsAt, is_empty};
 
     ghost Value = { LinksView T };
 
     ghost view = { λ l. record { rows = send_all l.rows.items l.sender l.out.items; clear = is_empty l.out.items } };
 
-    ghost invariant = { λ l. IsLinks l.rows.items l.busy.items l.sender l.out.items };
+    ghost invariant = { λ l. IsLinks l.rows.items l.busy.items l.sender l.out.items
+        × StartsAt l.starts.items l.rows.items };
 }
 
 // One link more holds something where it held nothing before.
@@ -54,6 +57,28 @@ fn lower(busy: &mut Vec<u8>, at: usize, left: usize)
 {
     if left == 0 {
         busy[at] -= 1;
+    }
+}
+
+// A start for each of n nodes, before anything is known of the links to it.
+fn unknown_starts(alloc: Global, n: usize) -> Result<Vec<u8>, AllocError>
+    ensures { IfOk result (λ v. v.items ≡ replicate n 0) }
+{
+    let mut starts = Vec::new(alloc);
+    for _i in 0..n {
+        starts.push(0)?;
+    }
+    Ok(starts)
+}
+
+// The start of that node; 0 where it does not exist.
+fn start_of(starts: &Vec<u8>, to: usize) -> usize
+    ensures { result ≡ slice_index_or starts.now.items to 0 }
+{
+    if to < starts.len() {
+        starts[to] as usize
+    } else {
+        0
     }
 }
 
@@ -100,14 +125,15 @@ fn first_counted(busy: &Vec<u8>, marks: &[bool]) -> usize
     busy.len()
 }
 
-// The first of the rows whose link to that node holds something.
-fn first_filled<T>(rows: &Vec<Row<T>>, to: usize) -> Option<u8>
-    requires { length rows.now.items < 256 }
+// The first of the rows whose link to that node holds something, where none before `start` does.
+fn first_filled<T>(rows: &Vec<Row<T>>, to: usize, start: usize) -> Option<u8>
+    requires few { length rows.now.items < 256 }
+    requires empty { (a : ℕ) → a < start → link rows.now.items a to ≡ [] }
     ensures some { IfSome result (λ a. 0 < length (link rows.now.items a to)) }
     ensures first { IfSome result (λ a. (c : ℕ) → c < a → link rows.now.items c to ≡ []) }
     ensures none { IfNone result ((a : ℕ) → link rows.now.items a to ≡ []) }
 {
-    for a in 0..rows.len() {
+    for a in start..rows.len() {
         if rows[a].len(to) > 0 {
             return Some(a as u8);
         }
@@ -115,11 +141,36 @@ fn first_filled<T>(rows: &Vec<Row<T>>, to: usize) -> Option<u8>
     None
 }
 
+// The start of that node, where it is not below `start`, and `count` links to it hold something.
+fn next_start<T>(rows: &Vec<Row<T>>, to: usize, start: u8, count: u8) -> u8
+    requires few { length rows.now.items < 256 }
+    requires empty { (a : ℕ) → a < start → link rows.now.items a to ≡ [] }
+    requires none { count ≡ 0 → (a : ℕ) → link rows.now.items a to ≡ [] }
+    ensures { (a : ℕ) → a < result → link rows.now.items a to ≡ [] }
+{
+    if count == 0 {
+        return 255;
+    }
+    match first_filled(rows, to, start as usize) {
+        Some(first) => first,
+        None => 255,
+    }
+}
+
 // Moves what waits in `out` to the links of its sender.
-fn deliver<T>(row: &mut Row<T>, busy: &mut Vec<u8>, out: &mut Out<T>) -> Result<(), AllocError>
+fn deliver<T>(
+    row: &mut Row<T>,
+    busy: &mut Vec<u8>,
+    starts: &mut Vec<u8>,
+    out: &mut Out<T>,
+    sender: u8,
+) -> Result<(), AllocError>
     requires targets { AllBelow (length row.old) out.old.items }
     requires wide { length busy.old.items ≡ length row.old }
     requires fits { CountsFit busy.old.items row.old }
+    requires starts { length starts.old.items ≡ length row.old }
+    requires own { (b : ℕ) → sender < slice_index_or starts.old.items b 0 → slice_index_or row.old b [] ≡ [] }
+    ensures lowered { Lowers sender starts.old.items starts.new.items row.new }
     ensures moved { Delivers row.old out.old.items busy.old.items row.new out.new.items busy.new.items }
     ensures ok { OnOk result (out.new.items ≡ []) }
 {
@@ -128,6 +179,7 @@ fn deliver<T>(row: &mut Row<T>, busy: &mut Vec<u8>, out: &mut Out<T>) -> Result<
         let held = row.len(at);
         row.put_first(at, out)?;
         raise(busy, at, held);
+        starts[at] = starts[at].min(sender);
     }
     Ok(())
 }
@@ -209,24 +261,6 @@ impl<T> Links<T> {
         self.first_not_idle(marks)
     }
 
-    // The node that sent last, where its link to that node is the only one that holds a message.
-    fn only_from(&self, to: u8) -> Option<u8>
-        ensures some { IfSome result (λ a. 0 < length (link self.now.rows a to)) }
-        ensures only { IfSome result (λ a. (c : ℕ) → c ≢ a → link self.now.rows c to ≡ []) }
-    {
-        let at = to as usize;
-        if at >= self.busy.len() {
-            return None;
-        }
-        if !self.out.is_empty() || self.busy[at] != 1 {
-            return None;
-        }
-        if self.rows[self.sender].len(at) == 0 {
-            return None;
-        }
-        Some(self.sender as u8)
-    }
-
     // `first_from` where items wait for room.
     #[cold]
     fn first_waiting(&self, to: u8) -> Option<u8>
@@ -251,13 +285,9 @@ impl<T> Links<T> {
         if !self.out.is_empty() {
             return self.first_waiting(to);
         }
-        if self.is_idle(to) {
-            return None;
-        }
-        if let Some(from) = self.only_from(to) {
-            return Some(from);
-        }
-        first_filled(&self.rows, to as usize)
+        let at = to as usize;
+        let start = start_of(&self.starts, at);
+        first_filled(&self.rows, at, start)
     }
 
     /// Moves what waits to the links.
@@ -269,7 +299,13 @@ impl<T> Links<T> {
             return Ok(());
         }
         let row = &mut self.rows[self.sender];
-        deliver(row, &mut self.busy, &mut self.out)
+        deliver(
+            row,
+            &mut self.busy,
+            &mut self.starts,
+            &mut self.out,
+            self.sender as u8,
+        )
     }
 
     // Feeds the first message of the link to its node.
@@ -296,6 +332,9 @@ impl<T> Links<T> {
         }
         let left = row.len(at);
         lower(&mut self.busy, at, left);
+        let count = self.busy[at];
+        let start = self.starts[at];
+        self.starts[at] = next_start(&self.rows, at, start, count);
         self.sender = at;
         let _ = self.settle();
         Ok(())
@@ -352,6 +391,7 @@ impl<T> Links<T> {
 }
 
 impl<T: Drop> Links<T> {
+    #[tactic(auto, using(crate::proofs::Starts::starts_unknown))]
     /// The links of these rows.
     pub fn of_rows(alloc: Global, rows: Vec<Row<T>>) -> Result<Links<T>, AllocError>
         requires few { length rows.items < 256 }
@@ -359,9 +399,11 @@ impl<T: Drop> Links<T> {
         ensures { IfOk result (λ l. l ≡ record { rows = rows.items; clear = true }) }
     {
         let busy = count_all(alloc, &rows)?;
+        let starts = unknown_starts(alloc, rows.len())?;
         Ok(Links {
             rows,
             busy,
+            starts,
             out: Out::new(alloc),
             sender: 0,
         })
@@ -375,6 +417,7 @@ impl<T: Drop> Links<T> {
         let Links {
             rows,
             busy: _,
+            starts: _,
             out: _,
             sender: _,
         } = self;
