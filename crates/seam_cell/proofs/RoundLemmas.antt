@@ -1,11 +1,11 @@
 -- A walk over all reals, in which each begins a round, and one that gathers their entities.
 use Rattle.std.proofs.Common.{◌≡◌, ◌++◌, ℕ, ◌<◌, ◌-◌, Bool, true, false, cond, ◌&&◌}
 use Rattle.std.proofs.Common.{T, is_some, map, find, List, [], ◌∷◌, Option, None, Some}
-use Rattle.std.proofs.Common.{refl, sym, ap, subst, ◌∙◌, append_assoc, arith}
+use Rattle.std.proofs.Common.{refl, sym, ap, ◌∙◌, append_assoc, arith}
 use Rattle.std.specs.Prelude.{option_map, nat_lt}
 use Rattle.std.specs.List.{AllByRecursion}
 use Rattle.std.specs.List.Sorted.{IsStrictlySortedBy}
-use Rattle.std.specs.Ordering.{nat_cmp, eq_by_cmp, is_eq, is_lt, match_ordering, ordering_reverse}
+use Rattle.std.specs.Ordering.{nat_cmp, eq_by_cmp, is_eq, is_lt}
 use Rattle.std.specs.declared.cmp.Ordering.{Ordering}
 use Rattle.std.specs.declared.cmp.Ordering.TheVariants.{Less, Equal, Greater}
 use Rattle.std.specs.Cmp.{nat_cmp_total}
@@ -18,7 +18,6 @@ use Rattle.seam_entity.specs.Reals.{RealView}
 use Rattle.seam_entity.specs.Executing.{real_begins}
 use Rattle.seam_steps.specs.Maps.{Map, number_of, set_at, with_value, each_value}
 use Rattle.seam_known.proofs.Walks.{comes_after, left_after, IsBefore, nothing_before, all_left, none_left, one_left}
-use Rattle.seam_parts.specs.Sets.{with_entity}
 pub use Rattle.seam_parts.proofs.SpotLemmas.{left, fewer_left}
 use Rattle.seam_parts.specs.Kept.{marked, with_mark}
 use Rattle.seam_cell.specs.Beginning.{changed_at}
@@ -110,21 +109,6 @@ module _ (last : Option ℕ) (old now : Map RealView) (are : AreBegun last old n
 
 -- ---- the entities of all
 
--- a number above all goes to the end
-greater_of : (x e : ℕ) → nat_cmp x e ≡ Less → nat_cmp e x ≡ Greater
-greater_of x e is = nat_cmp_total.antisymm e x ∙ ap ordering_reverse is
-
-pub above_last : (e : ℕ) (xs ys : List ℕ) → IsStrictlySortedBy nat_cmp (xs ++ e ∷ ys) → with_entity e xs ≡ xs ++ e ∷ []
-unfolding IsStrictlySortedBy
-above_last e [] ys h = refl
-above_last e (x ∷ xs) ys h =
-    ap (λ o. match_ordering o (e ∷ x ∷ xs) (x ∷ xs) (x ∷ with_entity e xs)) (greater_of x e (at_end xs h.0))
-    ∙ ap (λ l. x ∷ l) (above_last e xs ys h.1)
-  where
-    at_end : (zs : List ℕ) → AllByRecursion (λ y. nat_cmp x y ≡ Less) (zs ++ e ∷ ys) → nat_cmp x e ≡ Less
-    at_end [] k = k.0
-    at_end (z ∷ zs) k = at_end zs k.1
-
 first : (a b : Bool) → T (a && b) → T a
 first true b p = tt
 first false b p = p
@@ -167,13 +151,10 @@ module _ {X : Type 0} (m : Map X) where
       ∙ (ap (λ l. so_far ++ map number_of l) (sym (none_left last (table.entries m) (sym none))) ∙ are)
 
   pub gathered_more : (last : Option ℕ) (so_far : List ℕ) (e : ℕ) (p : X) → AreGathered last so_far m →
-      Some (e, p) ≡ find (comes_after last) (table.entries m) → AreGathered (Some e) (with_entity e so_far) m
+      Some (e, p) ≡ find (comes_after last) (table.entries m) → AreGathered (Some e) (so_far ++ e ∷ []) m
   gathered_more last so_far e p are is =
-      let rest = map number_of (left_after (Some e) (table.entries m)) in
-      let all : so_far ++ e ∷ rest ≡ table.keys m =
-      ap (λ l. so_far ++ map number_of l) (sym (one_left last (table.entries m) (e, p) (table.entries_sorted m) (sym is))) ∙ are in
-      let rises = subst (IsStrictlySortedBy nat_cmp) (sym all) (keys_rise (table.entries m) (table.entries_sorted m)) in
-      ap (λ l. l ++ rest) (above_last e so_far rest rises) ∙ (append_assoc so_far (e ∷ []) rest ∙ all)
+      append_assoc so_far (e ∷ []) (map number_of (left_after (Some e) (table.entries m)))
+      ∙ (ap (λ l. so_far ++ map number_of l) (sym (one_left last (table.entries m) (e, p) (table.entries_sorted m) (sym is))) ∙ are)
 
   pub comes_next : (last : Option ℕ) (e : ℕ) (p : X) → Some (e, p) ≡ find (comes_after last) (table.entries m) → is_after last e ≡ true
   comes_next last e p is = (found (comes_after last) m (e, p) (sym is)).1

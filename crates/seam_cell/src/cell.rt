@@ -32,8 +32,8 @@ use seam_ghosts::GhostBook;
 use seam_machine::{Input, Machine, Out};
 use seam_memory::NoMemoryFor;
 use seam_parts::{
-    CopyBook, EntitySet, Known, Lists, Places, RealTable, Reals, first_ready, put_after, put_in,
-    take_out,
+    CopyBook, EntityQueue, EntitySet, Known, Lists, Places, RealTable, Reals, first_ready,
+    put_after, put_in, take_out,
 };
 use seam_sight::{ToldCopies, look_task};
 use seam_table::Table;
@@ -112,8 +112,8 @@ impl Cell {
                 copies: CopyBook::new(alloc),
             },
             lists: Lists {
-                survey: EntitySet::new(alloc),
-                looks: EntitySet::new(alloc),
+                survey: EntityQueue::new(alloc),
+                looks: EntityQueue::new(alloc),
             },
             told: ToldCopies::new(alloc),
         }
@@ -147,7 +147,7 @@ impl Cell {
         ensures after { OnOk result (self.new ≡ cell_begins tree self.old) }
         ensures err { OnErr result (self.new ≡ self.old) }
     {
-        begin_round(alloc, &mut self.reals, &mut self.lists.survey)?;
+        begin_round(&mut self.reals, &mut self.lists.survey)?;
         // `size` is called for its clause that it is a tree.
         let _ = tree.size();
         self.known.tree = tree;
@@ -195,7 +195,7 @@ impl Cell {
         ensures sent { (from : ℕ) → (cell_steps self.old (From from msg.Tick)).sent ≡ [] }
         ensures err { OnErr result (self.new ≡ self.old) }
     {
-        self.lists.looks = self.reals.witnesses.copy()?;
+        self.lists.looks.refill(&self.reals.witnesses)?;
         self.told.clear();
         Ok(())
     }

@@ -1,18 +1,19 @@
 //! What the loads do to the reals of a cell.
 
-ghost use Rattle.std.specs.Prelude.{◌≡◌, ◌<◌, ◌^◌, true, OnOk, OnErr, IfOk, None, Some, is_some, option_map};
+ghost use Rattle.std.specs.Prelude.{◌≡◌, ◌<◌, ◌^◌, ◌++◌, [], ◌∷◌, true, OnOk, OnErr, IfOk, None, Some, is_some, option_map};
 ghost use Rattle.std.specs.FinMap as table;
+ghost use Rattle.std.specs.List.Sorted.{IsStrictlySortedBy};
+ghost use Rattle.std.specs.Ordering.{nat_cmp};
 ghost use Rattle.seam_entity.specs.Executing.{created, real_begins};
 ghost use Rattle.seam_entity.specs.Looks.{with_witness};
 ghost use Rattle.seam_steps.specs.Maps.{Map, set_at, each_value};
 ghost use Rattle.seam_parts.specs.Kept.{here_in, AreKept, marked};
 ghost use Rattle.seam_steps.specs.Cells.{real_is_ready, has_witness};
-ghost use Rattle.seam_parts.specs.Sets.{with_entity};
 ghost use Rattle.seam_cell.specs.Beginning.{changed_at};
 
 use seam_entity::{Parcel, Real, Witness};
 use seam_geo::Pos;
-use seam_parts::{EntitySet, Known, RealTable, Reals, make_place, put_in, take_out};
+use seam_parts::{EntityQueue, EntityRow, Known, RealTable, Reals, make_place, put_in, take_out};
 use std::alloc::{AllocError, Global};
 
 /// A real that is to be made.
@@ -71,18 +72,19 @@ pub fn give_witness(
 }
 
 // Adds an entity to those so far.
-fn add(all: &mut EntitySet, e: u32) -> Result<(), AllocError>
-    ensures after { OnOk result (all.new ≡ with_entity e all.old) }
+fn add(all: &mut EntityRow, e: u32) -> Result<(), AllocError>
+    ensures after { OnOk result (all.new ≡ all.old ++ e ∷ []) }
     ensures small { e < 2 ^ 32 }
 {
-    all.insert(e)
+    all.push(e)
 }
 
-// The entities of all reals.
-fn all_entities(alloc: Global, items: &RealTable) -> Result<EntitySet, AllocError>
-    ensures { IfOk result (λ s. s ≡ table.keys items.now.items) }
+// The entities of all reals, in a row that has none yet.
+fn all_entities(mut all: EntityRow, items: &RealTable) -> Result<EntityRow, AllocError>
+    requires { all ≡ [] }
+    ensures all { IfOk result (λ s. s ≡ table.keys items.now.items) }
+    ensures rising { IsStrictlySortedBy nat_cmp (table.keys items.now.items) }
 {
-    let mut all = EntitySet::new(alloc);
     let mut last = None;
     while let Some((e, _)) = items.next_after(last) {
         add(&mut all, e)?;
@@ -133,11 +135,7 @@ fn begin_all(items: &mut RealTable)
 }
 
 /// Begins a round, in which no real has done anything yet and all are to settle.
-pub fn begin_round(
-    alloc: Global,
-    reals: &mut Reals,
-    survey: &mut EntitySet,
-) -> Result<(), AllocError>
+pub fn begin_round(reals: &mut Reals, survey: &mut EntityQueue) -> Result<(), AllocError>
     requires { AreKept reals.old }
     ensures reals { OnOk result (reals.new.items.items ≡ each_value real_begins reals.old.items.items) }
     ensures survey { OnOk result (survey.new ≡ table.keys reals.old.items.items) }
@@ -145,8 +143,8 @@ pub fn begin_round(
     ensures err { OnErr result (reals.new.items.items ≡ reals.old.items.items) }
     ensures err_survey { OnErr result (survey.new ≡ survey.old) }
 {
-    let all = all_entities(alloc, &reals.items)?;
+    let all = all_entities(survey.spare(), &reals.items)?;
     begin_all(&mut reals.items);
-    *survey = all;
+    *survey = EntityQueue::of(all);
     Ok(())
 }

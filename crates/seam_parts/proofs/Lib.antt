@@ -1,5 +1,6 @@
 pub mod SpotLemmas
 pub mod SetLemmas
+mod QueueLemmas
 pub mod MarkLemmas
 pub mod RealLemmas
 pub mod NewsLemmas

@@ -31,13 +31,13 @@ less_other : (e x : ℕ) → nat_cmp e x ≡ Less → eqb x e ≡ false
 less_other e x t = grind (arith, nat_tests)
 
 -- nothing goes where all are greater
-none_goes : (e : ℕ) (xs : List ℕ) → AllByRecursion (λ y. nat_cmp e y ≡ Less) xs → without e xs ≡ xs
+pub none_goes : (e : ℕ) (xs : List ℕ) → AllByRecursion (λ y. nat_cmp e y ≡ Less) xs → without e xs ≡ xs
 none_goes e [] h = refl
 none_goes e (x ∷ xs) h =
     ap (λ b. cond (not b) (x ∷ without e xs) (without e xs)) (less_other e x h.0) ∙ ap (λ l. x ∷ l) (none_goes e xs h.1)
 
 -- the first goes, and the others stay
-first_goes : (e : ℕ) (xs : List ℕ) → AllByRecursion (λ y. nat_cmp e y ≡ Less) xs → without e (e ∷ xs) ≡ xs
+pub first_goes : (e : ℕ) (xs : List ℕ) → AllByRecursion (λ y. nat_cmp e y ≡ Less) xs → without e (e ∷ xs) ≡ xs
 first_goes e xs h = ap (λ b. cond (not b) (e ∷ without e xs) (without e xs)) (itself e) ∙ none_goes e xs h
 
 removed_step : (e x : ℕ) (xs : List ℕ) (b : Bool) → is_eq (nat_cmp e x) ≡ b → AllByRecursion (λ y. nat_cmp x y ≡ Less) xs →
@@ -83,7 +83,7 @@ alone_goes e (Some x) xs is alone =
     let same : e ≡ x = cc in
     alone ∙ sym (subst (λ y. without e (y ∷ []) ≡ []) same (first_goes e [] tt))
 
-apart : (e x : ℕ) → (x ≡ e → ⊥) → eqb x e ≡ false
+pub apart : (e x : ℕ) → (x ≡ e → ⊥) → eqb x e ≡ false
 apart e x other = grind (arith, nat_tests, other)
 
 pub another_stays : (e x : ℕ) (one : Option ℕ) (xs : List ℕ) → one ≡ Some x → (x ≡ e → ⊥) → members one xs ≡ without e (members one xs)

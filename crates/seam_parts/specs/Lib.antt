@@ -1,4 +1,5 @@
 pub mod Sets
+pub mod Queues
 pub mod Spots
 pub mod Kept
 pub mod News

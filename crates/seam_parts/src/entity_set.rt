@@ -1,12 +1,13 @@
 //! An ordered set of entities.
 
-ghost use Rattle.std.specs.Prelude.{◌≡◌, ℕ, List, [], ◌∷◌, length, IfOk, OnOk, OnErr, IfSome, IfNone, not};
+ghost use Rattle.std.specs.Prelude.{◌≡◌, ℕ, List, [], ◌∷◌, ◌++◌, length, OnOk, OnErr, IfSome, IfNone, not};
 ghost use Rattle.std.specs.List.Sorted.{IsStrictlySortedBy};
 ghost use Rattle.std.specs.Ordering.{nat_cmp};
 ghost use Rattle.seam_steps.specs.Cells.{without};
 ghost use Rattle.seam_parts.specs.Sets.{with_entity, first_of};
 ghost use Rattle.seam_steps.specs.Maps.{has_any};
 
+use crate::entity_queue::EntityRow;
 use std::alloc::{AllocError, Global};
 use std::collections::BTreeSet;
 use std::marker::Model;
@@ -129,13 +130,17 @@ impl EntitySet {
         }
     }
 
-    /// The same entities once more.
-    pub fn copy(&self) -> Result<EntitySet, AllocError>
-        ensures { IfOk result (λ s. s ≡ self.now) }
+    /// Adds them at the end of the row.
+    pub fn add_to(&self, row: &mut EntityRow) -> Result<(), AllocError>
+        ensures ok { OnOk result (row.new ≡ row.old ++ self.now) }
+        ensures rising { IsStrictlySortedBy nat_cmp self.now }
     {
-        Ok(EntitySet {
-            one: self.one,
-            numbers: self.numbers.clone()?,
-        })
+        if let Some(e) = self.one {
+            return row.push(e);
+        }
+        for e in self.numbers.iter() {
+            row.push(*e)?;
+        }
+        Ok(())
     }
 }

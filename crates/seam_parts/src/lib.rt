@@ -7,6 +7,7 @@
 #![tactic(auto)]
 
 mod copy_book;
+mod entity_queue;
 mod entity_set;
 mod known;
 mod lists;
@@ -19,6 +20,7 @@ mod settle;
 mod spots;
 
 pub use copy_book::CopyBook;
+pub use entity_queue::{EntityQueue, EntityRow};
 pub use entity_set::EntitySet;
 pub use known::Known;
 pub use lists::{Lists, unlist};

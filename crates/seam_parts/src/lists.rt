@@ -3,13 +3,13 @@
 ghost use Rattle.std.specs.Prelude.{◌≡◌};
 ghost use Rattle.seam_steps.specs.Cells.{without};
 
-use crate::entity_set::EntitySet;
+use crate::entity_queue::EntityQueue;
 
 /// The entities whose reals are to settle, and those whose witnesses are to look.
 #[derive(Drop)]
 pub struct Lists {
-    pub survey: EntitySet,
-    pub looks: EntitySet,
+    pub survey: EntityQueue,
+    pub looks: EntityQueue,
 }
 
 /// Takes the entity off both lists.
