@@ -1,4 +1,5 @@
 pub mod Counting
+pub mod Firsts
 pub mod Flats
 pub mod Known
 pub mod LinkLemmas

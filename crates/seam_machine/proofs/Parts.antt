@@ -1,8 +1,9 @@
 -- The parts of a net, and the net that they are the parts of.
-use Rattle.std.proofs.Common.{◌≡◌, ℕ, ◌+◌, ◌*◌, ◌<◌, [], length, get_or, sym, ap, ◌∙◌, subst, arith}
+use Rattle.std.proofs.Common.{◌≡◌, ℕ, ◌+◌, ◌*◌, ◌<◌, List, [], length, get_or, sym, ap, ◌∙◌, subst, arith}
 use Rattle.std.specs.List.{All}
 use Rattle.seam_machine.specs.Views.{NetView, PartsView}
 use Rattle.seam_machine.specs.Nets.{link, flat, AreParts}
+use Rattle.seam_machine.specs.Inside.{IsNet}
 use Rattle.seam_machine.proofs.Flats.{length-flat, flat-place, flat-same}
 
 pub same_net : {N M : Type 0} (p : PartsView N M) (w v : NetView N M) → AreParts p w → AreParts p v → w ≡ v
@@ -29,3 +30,10 @@ parts_place p w a b q la lb =
     ap (λ l. get_or l (a * length p.nodes + b) []) q.links
     ∙ (ap (λ k. get_or (flat w.rows) (a * k + b) []) n
     ∙ flat-place (length w.nodes) w.rows a b [] q.square.links (omega (arith, la, n, q.square.rows)) (omega (arith, lb, n)))
+
+pub net_of_rows : {N M : Type 0} (nodes : List N) (rows rows' : List (List (List M))) (n : ℕ) → n ≡ length nodes → length nodes < 256 →
+    length rows ≡ n → All (λ r. length r ≡ n) rows → rows' ≡ rows → IsNet (record { nodes = nodes; rows = rows' })
+net_of_rows nodes rows rows' n many few count wide same = record {
+  few = few;
+  square = rw same (record { rows = count ∙ many; links = subst (λ k. All (λ r. length r ≡ k) rows) many wide });
+}

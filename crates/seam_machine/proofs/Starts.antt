@@ -44,6 +44,20 @@ lowers_more a to v starts0 starts starts' row row' l here d r s low own =
       ];
     }
 
+-- a link of node a that holds something was changed
+pub lowers_kept : {M : Type 0} (a to : ℕ) (starts0 starts : List ℕ) (row row' : List (List M)) (l : List M) →
+    Lowers a starts0 starts row → row' ≡ set row to l → 0 < length (get_or row to []) → Lowers a starts0 starts row'
+lowers_kept a to starts0 starts row row' l d r some = record {
+  len = d.len;
+  less = d.less;
+  own = λ b lt. elim (cases_eq b to) [
+    | inl e ↦
+        let none : length (get_or row to []) ≡ 0 = ap length (ap (λ k. get_or row k []) (sym e) ∙ d.own b lt) in
+        absurd (omega (arith, none, some))
+    | inr n ↦ ap (λ k. get_or k b []) r ∙ (get_or-set_other row to b l [] n ∙ d.own b lt)
+  ];
+}
+
 -- what waited was delivered to the links of node s
 pub starts_lowered : {M : Type 0} (rows : List (List (List M))) (starts starts' : List ℕ) (s : ℕ) (row' : List (List M)) →
     StartsAt starts rows → s < length rows → Lowers s starts starts' row' → StartsAt starts' (set rows s row')
@@ -80,17 +94,22 @@ module _ {M : Type 0} where
     ]
 
     -- the first message of the link from a to b was fed
-    pub starts_served : (starts : List ℕ) (v : ℕ) → StartsAt starts rows → b < length rows →
-        ((x : ℕ) → x < v → link (set rows a row') x b ≡ []) → StartsAt (set starts b v) (set rows a row')
-    starts_served starts v q to fed = record {
-      len = length-set starts b v ∙ (q.len ∙ sym (length-set rows a row'));
-      empty = λ x y lt. elim (cases_eq y b) [
-        | inl e ↦
-            let at : get_or (set starts b v) b 0 ≡ v = get_or-set_same starts b v 0 (omega (arith, to, q.len)) in
-            let same : get_or (set starts b v) y 0 ≡ get_or (set starts b v) b 0 = ap (λ k. get_or (set starts b v) k 0) e in
-            ap (λ k. link (set rows a row') x k) e ∙ fed x (omega (arith, lt, same, at))
-        | inr n ↦
-            let same = get_or-set_other starts b y v 0 n in
-            stays_empty x y (q.empty x y (omega (arith, lt, same)))
-      ];
+    pub starts_served : (starts : List ℕ) → StartsAt starts rows → StartsAt starts (set rows a row')
+    starts_served starts q = record {
+      len = q.len ∙ sym (length-set rows a row');
+      empty = λ x y lt. stays_empty x y (q.empty x y lt);
     }
+
+  -- a node's start was moved to where the links to it are known to be empty
+  pub starts_moved : (rows : List (List (List M))) (starts : List ℕ) (b v : ℕ) → StartsAt starts rows → b < length rows →
+      ((a : ℕ) → a < v → link rows a b ≡ []) → StartsAt (set starts b v) rows
+  starts_moved rows starts b v q within known = record {
+    len = length-set starts b v ∙ q.len;
+    empty = λ x y lt. elim (cases_eq y b) [
+      | inl e ↦
+          let at : get_or (set starts b v) b 0 ≡ v = get_or-set_same starts b v 0 (omega (arith, within, q.len)) in
+          let same : get_or (set starts b v) y 0 ≡ get_or (set starts b v) b 0 = ap (λ k. get_or (set starts b v) k 0) e in
+          ap (λ k. link rows x k) e ∙ known x (omega (arith, lt, same, at))
+      | inr n ↦ let same = get_or-set_other starts b y v 0 n in q.empty x y (omega (arith, lt, same))
+    ];
+  }

@@ -1,6 +1,6 @@
 -- What a net keeps of its fields.
 use Rattle.std.specs.Prelude.{◌≡◌, ℕ, ◌+◌, ◌<◌, ◌≤◌, Bool, true, false, List, [], ◌∷◌, ◌++◌, length, map, Option, Some, slice_index_or}
-use Rattle.std.specs.Prelude.{slice_set}
+use Rattle.std.specs.Prelude.{slice_get, slice_set}
 use Rattle.std.specs.List.{All}
 use Rattle.seam_machine.specs.Views.{Stepped, NetView}
 use Rattle.seam_machine.specs.Sends.{AllBelow}
@@ -8,10 +8,15 @@ use Rattle.seam_machine.specs.Nets.{link, letter, input_from, row_less, rows_aft
 use Rattle.seam_machine.specs.Totals.{total}
 use Rattle.seam_machine.specs.declared.machines.Input.{Input}
 
--- the links, and whether none of their messages waits for room
+-- the links, whether none of their messages waits for room, and where the pass for the first busy node begins
 pub record LinksView (M : Type 0) : Type 0 where
   pub rows : List (List (List M))
   pub clear : Bool
+  pub low : ℕ
+
+-- there are n elements, and each of the first n is d
+abbrev pub FirstAre : {X : Type 0} → X → ℕ → List X → Type 0
+FirstAre d n xs = (k : ℕ) → k < n → slice_get xs k ≡ Some d
 
 abbrev pub is_empty : {X : Type 0} → List X → Bool
 is_empty [] = true

@@ -1,11 +1,11 @@
 //! The links of a net, and what waits for room in them.
 
 ghost use Rattle.std.specs.Prelude.{◌≡◌, ℕ, ◌+◌, ◌-◌, ◌<◌, ◌≤◌, ◌^◌, List, [], ◌∷◌, ◌++◌, length, true, Some, None, OnOk, OnErr, IfOk};
-ghost use Rattle.std.specs.Prelude.{IfSome, IfNone, option_copied, slice_get, slice_index, slice_index_or, slice_set, vec_len, false, replicate};
+ghost use Rattle.std.specs.Prelude.{IfSome, IfNone, option_copied, slice_get, slice_index, slice_index_or, slice_set, vec_len, false, replicate, min};
 ghost use Rattle.std.specs.List.{All};
 ghost use Rattle.seam_machine.specs.Sends.{AllBelow};
 ghost use Rattle.seam_machine.specs.Nets.{link, input_from, is_ready};
-ghost use Rattle.seam_machine.specs.Inside.{CountsFit, Delivers, StartsAt, Lowers, Feeds, filled_to};
+ghost use Rattle.seam_machine.specs.Inside.{CountsFit, Delivers, FirstAre, StartsAt, Lowers, Feeds, filled_to};
 
 use crate::machines::{Event, Input, Machine};
 use crate::rows::Row;
@@ -13,14 +13,22 @@ use crate::sends::Out;
 use std::alloc::{AllocError, Global};
 use std::marker::Model;
 
+// What is kept of all links, without what waits, so that the next event is found in a few instructions.
+#[derive(Drop)]
+struct Kept {
+    // How many of the links to each node hold something.
+    busy: Vec<u8>,
+    // For each node, a number below which no node's link to it holds something.
+    starts: Vec<u8>,
+    // A number below which no link to a node holds something.
+    low: usize,
+}
+
 /// The links of a net, by sender.
 #[derive(Drop)]
 pub struct Links<T> {
     rows: Vec<Row<T>>,
-    // How many of the links to each node hold something, without what waits.
-    busy: Vec<u8>,
-    // For each node, a number below which no node's link to it holds something, without what waits.
-    starts: Vec<u8>,
+    kept: Kept,
     // What node `sender` sent last and no link had room for yet.
     out: Out<T>,
     sender: usize,
@@ -28,35 +36,33 @@ pub struct Links<T> {
 
 impl<T> Model for Links<T> {
     ghost use Rattle.seam_machine.specs.Nets.{send_all};
-    ghost use Rattle.seam_machine.specs.Inside.{LinksView, IsLinks, StartsAt, is_empty};
+    ghost use Rattle.seam_machine.specs.Inside.{LinksView, IsLinks, FirstAre, StartsAt, is_empty};
 
     ghost Value = { LinksView T };
 
-    ghost view = { λ l. record { rows = send_all l.rows.items l.sender l.out.items; clear = is_empty l.out.items } };
+    ghost view = { λ l. record {
+      rows = send_all l.rows.items l.sender l.out.items;
+      clear = is_empty l.out.items;
+      low = l.kept.low;
+    } };
 
-    ghost invariant = { λ l. IsLinks l.rows.items l.busy.items l.sender l.out.items
-        × StartsAt l.starts.items l.rows.items };
+    ghost invariant = { λ l. IsLinks l.rows.items l.kept.busy.items l.sender l.out.items
+        × StartsAt l.kept.starts.items l.rows.items × FirstAre 0 l.kept.low l.kept.busy.items };
 }
 
-// One link more holds something where it held nothing before.
-fn raise(busy: &mut Vec<u8>, at: usize, held: usize)
-    requires within { at < length busy.old.items }
-    requires fits { held ≡ 0 → slice_index busy.old.items at < 255 }
-    ensures { busy.new.items ≡ slice_set busy.old.items at (slice_index busy.old.items at + (1 - held)) }
-{
-    if held == 0 {
-        busy[at] += 1;
-    }
-}
-
-// One link less holds something where nothing is left in it.
-fn lower(busy: &mut Vec<u8>, at: usize, left: usize)
-    requires within { at < length busy.old.items }
-    requires some { 0 < slice_index busy.old.items at }
-    ensures { busy.new.items ≡ slice_set busy.old.items at (slice_index busy.old.items at - (1 - left)) }
-{
-    if left == 0 {
-        busy[at] -= 1;
+impl Kept {
+    // The link from `sender` to node `at` holds something now, where it held nothing before.
+    fn fill(&mut self, at: usize, sender: u8)
+        requires counted { at < length self.old.busy.items }
+        requires fits { slice_index self.old.busy.items at < 255 }
+        requires starts { at < length self.old.starts.items }
+        ensures busy { self.new.busy.items ≡ slice_set self.old.busy.items at (slice_index self.old.busy.items at + 1) }
+        ensures starts { self.new.starts.items ≡ slice_set self.old.starts.items at (min (slice_index self.old.starts.items at) sender) }
+        ensures low { self.new.low ≡ min self.old.low at }
+    {
+        self.busy[at] += 1;
+        self.starts[at] = self.starts[at].min(sender);
+        self.low = self.low.min(at);
     }
 }
 
@@ -109,15 +115,17 @@ fn count_all<T>(alloc: Global, rows: &Vec<Row<T>>) -> Result<Vec<u8>, AllocError
     Ok(busy)
 }
 
-// The first node that is marked or has a count; the number of nodes where there is none.
-fn first_counted(busy: &Vec<u8>, marks: &[bool]) -> usize
-    requires { length marks.now ≡ length busy.now.items }
+// The first node that is marked or has a count, where none below `start` is; the number of nodes where there is none.
+fn first_counted(busy: &Vec<u8>, marks: &[bool], start: usize) -> usize
+    requires len { length marks.now ≡ length busy.now.items }
+    requires unmarked { FirstAre false start marks.now }
+    requires uncounted { FirstAre 0 start busy.now.items }
     ensures within { result ≤ length busy.now.items }
-    ensures unmarked { (k : ℕ) → k < result → slice_get marks.now k ≡ Some false }
-    ensures uncounted { (k : ℕ) → k < result → slice_index busy.now.items k ≡ 0 }
+    ensures unmarked { FirstAre false result marks.now }
+    ensures uncounted { FirstAre 0 result busy.now.items }
     ensures found { result < length busy.now.items → slice_index busy.now.items result ≡ 0 → slice_get marks.now result ≡ Some true }
 {
-    for k in 0..busy.len() {
+    for k in start..busy.len() {
         if marks[k] || busy[k] > 0 {
             return k;
         }
@@ -157,29 +165,53 @@ fn next_start<T>(rows: &Vec<Row<T>>, to: usize, start: u8, count: u8) -> u8
     }
 }
 
+// A message of a link to node `at` was fed, and `left` are left in that link: where none is, one link less holds something.
+fn lower<T>(kept: &mut Kept, rows: &Vec<Row<T>>, at: usize, left: usize)
+    requires few { length rows.now.items < 256 }
+    requires counted { at < length kept.old.busy.items }
+    requires some { 0 < slice_index kept.old.busy.items at }
+    requires within { at < length rows.now.items }
+    requires starts { StartsAt kept.old.starts.items rows.now.items }
+    requires none { slice_index kept.old.busy.items at - (1 - left) ≡ 0 → (a : ℕ) → link rows.now.items a at ≡ [] }
+    ensures busy { kept.new.busy.items ≡ slice_set kept.old.busy.items at (slice_index kept.old.busy.items at - (1 - left)) }
+    ensures starts { StartsAt kept.new.starts.items rows.now.items }
+    ensures low { kept.new.low ≡ kept.old.low }
+{
+    if left > 0 {
+        return;
+    }
+    kept.busy[at] -= 1;
+    let count = kept.busy[at];
+    let start = kept.starts[at];
+    kept.starts[at] = next_start(rows, at, start, count);
+}
+
 // Moves what waits in `out` to the links of its sender.
 fn deliver<T>(
     row: &mut Row<T>,
-    busy: &mut Vec<u8>,
-    starts: &mut Vec<u8>,
+    kept: &mut Kept,
     out: &mut Out<T>,
     sender: u8,
 ) -> Result<(), AllocError>
     requires targets { AllBelow (length row.old) out.old.items }
-    requires wide { length busy.old.items ≡ length row.old }
-    requires fits { CountsFit busy.old.items row.old }
-    requires starts { length starts.old.items ≡ length row.old }
-    requires own { (b : ℕ) → sender < slice_index_or starts.old.items b 0 → slice_index_or row.old b [] ≡ [] }
-    ensures lowered { Lowers sender starts.old.items starts.new.items row.new }
-    ensures moved { Delivers row.old out.old.items busy.old.items row.new out.new.items busy.new.items }
+    requires wide { length kept.old.busy.items ≡ length row.old }
+    requires fits { CountsFit kept.old.busy.items row.old }
+    requires starts { length kept.old.starts.items ≡ length row.old }
+    requires own { (b : ℕ) → sender < slice_index_or kept.old.starts.items b 0 → slice_index_or row.old b [] ≡ [] }
+    requires low { FirstAre 0 kept.old.low kept.old.busy.items }
+    ensures lowered { Lowers sender kept.old.starts.items kept.new.starts.items row.new }
+    ensures moved { Delivers row.old out.old.items kept.old.busy.items row.new out.new.items kept.new.busy.items }
+    ensures low { FirstAre 0 kept.new.low kept.new.busy.items }
+    ensures less { kept.new.low ≤ kept.old.low }
     ensures ok { OnOk result (out.new.items ≡ []) }
 {
     while let Some(to) = out.next_target() {
         let at = to as usize;
         let held = row.len(at);
         row.put_first(at, out)?;
-        raise(busy, at, held);
-        starts[at] = starts[at].min(sender);
+        if held == 0 {
+            kept.fill(at, sender);
+        }
     }
     Ok(())
 }
@@ -224,10 +256,10 @@ impl<T> Links<T> {
         ensures only_idle { to < length self.now.rows → ((a : ℕ) → link self.now.rows a to ≡ []) → result ≡ true }
     {
         let at = to as usize;
-        if at >= self.busy.len() {
+        if at >= self.kept.busy.len() {
             return false;
         }
-        self.busy[at] == 0 && self.out.count_to(to) == 0
+        self.kept.busy[at] == 0 && self.out.count_to(to) == 0
     }
 
     // `first_busy` where items wait for room.
@@ -239,24 +271,25 @@ impl<T> Links<T> {
         ensures idle { (k a : ℕ) → k < result → link self.now.rows a k ≡ [] }
         ensures busy { result < length self.now.rows → ((a : ℕ) → link self.now.rows a result ≡ []) → slice_get marks.now result ≡ Some true }
     {
-        for k in 0..self.busy.len() {
+        for k in 0..self.rows.len() {
             if marks[k] || !self.is_idle(k as u8) {
                 return k;
             }
         }
-        self.busy.len()
+        self.rows.len()
     }
 
     /// The first node that is marked, or to which a link holds a message; the number of nodes where there is none.
     pub fn first_busy(&self, marks: &[bool]) -> usize
-        requires { length marks.now ≡ length self.now.rows }
+        requires len { length marks.now ≡ length self.now.rows }
+        requires low { FirstAre false self.now.low marks.now }
         ensures within { result ≤ length self.now.rows }
         ensures unmarked { (k : ℕ) → k < result → slice_get marks.now k ≡ Some false }
         ensures idle { (k a : ℕ) → k < result → link self.now.rows a k ≡ [] }
         ensures busy { result < length self.now.rows → ((a : ℕ) → link self.now.rows a result ≡ []) → slice_get marks.now result ≡ Some true }
     {
         if self.out.is_empty() {
-            return first_counted(&self.busy, marks);
+            return first_counted(&self.kept.busy, marks, self.kept.low);
         }
         self.first_not_idle(marks)
     }
@@ -286,26 +319,34 @@ impl<T> Links<T> {
             return self.first_waiting(to);
         }
         let at = to as usize;
-        let start = start_of(&self.starts, at);
+        let start = start_of(&self.kept.starts, at);
         first_filled(&self.rows, at, start)
+    }
+
+    /// From here on, the pass for the first busy node begins past those that are neither marked nor busy. The mark of node `at`
+    /// may have changed.
+    pub fn move_on(&mut self, at: u8, marks: &[bool])
+        requires len { length marks.now ≡ length self.old.rows }
+        requires low { FirstAre false (min self.old.low at) marks.now }
+        ensures rows { self.new.rows ≡ self.old.rows }
+        ensures clear { self.new.clear ≡ self.old.clear }
+        ensures low { FirstAre false self.new.low marks.now }
+    {
+        let start = self.kept.low.min(at as usize);
+        self.kept.low = first_counted(&self.kept.busy, marks, start);
     }
 
     /// Moves what waits to the links.
     pub fn settle(&mut self) -> Result<(), AllocError>
         ensures rows { self.new.rows ≡ self.old.rows }
+        ensures low { self.new.low ≤ self.old.low }
         ensures ok { OnOk result (self.new.clear ≡ true) }
     {
         if self.out.is_empty() {
             return Ok(());
         }
         let row = &mut self.rows[self.sender];
-        deliver(
-            row,
-            &mut self.busy,
-            &mut self.starts,
-            &mut self.out,
-            self.sender as u8,
-        )
+        deliver(row, &mut self.kept, &mut self.out, self.sender as u8)
     }
 
     // Feeds the first message of the link to its node.
@@ -321,6 +362,7 @@ impl<T> Links<T> {
         requires peers { M.peer_count node.old ≡ length self.old.rows }
         ensures fed { OnOk result (Feeds M.steps to (Some from) self.old.rows node.old self.new.rows node.new) }
         ensures err_rows { OnErr result (self.new.rows ≡ self.old.rows) }
+        ensures low { self.new.low ≤ self.old.low }
         ensures err_node { OnErr result (node.new ≡ node.old) }
         ensures same_peers { M.peer_count node.new ≡ M.peer_count node.old }
     {
@@ -331,10 +373,7 @@ impl<T> Links<T> {
             Ok(()) => {}
         }
         let left = row.len(at);
-        lower(&mut self.busy, at, left);
-        let count = self.busy[at];
-        let start = self.starts[at];
-        self.starts[at] = next_start(&self.rows, at, start, count);
+        lower(&mut self.kept, &self.rows, at, left);
         self.sender = at;
         let _ = self.settle();
         Ok(())
@@ -353,6 +392,7 @@ impl<T> Links<T> {
         requires peers { M.peer_count node.old ≡ length self.old.rows }
         ensures fed { OnOk result (Feeds M.steps at None self.old.rows node.old self.new.rows node.new) }
         ensures err_rows { OnErr result (self.new.rows ≡ self.old.rows) }
+        ensures low { self.new.low ≤ self.old.low }
         ensures err_node { OnErr result (node.new ≡ node.old) }
         ensures same_peers { M.peer_count node.new ≡ M.peer_count node.old }
     {
@@ -380,6 +420,7 @@ impl<T> Links<T> {
         requires peers { M.peer_count node.old ≡ length self.old.rows }
         ensures fed { OnOk result (Feeds M.steps event.node event.from self.old.rows node.old self.new.rows node.new) }
         ensures err_rows { OnErr result (self.new.rows ≡ self.old.rows) }
+        ensures low { self.new.low ≤ self.old.low }
         ensures err_node { OnErr result (node.new ≡ node.old) }
         ensures same_peers { M.peer_count node.new ≡ M.peer_count node.old }
     {
@@ -396,14 +437,17 @@ impl<T: Drop> Links<T> {
     pub fn of_rows(alloc: Global, rows: Vec<Row<T>>) -> Result<Links<T>, AllocError>
         requires few { length rows.items < 256 }
         requires square { All (λ r. length r ≡ length rows.items) rows.items }
-        ensures { IfOk result (λ l. l ≡ record { rows = rows.items; clear = true }) }
+        ensures { IfOk result (λ l. l ≡ record { rows = rows.items; clear = true; low = 0 }) }
     {
         let busy = count_all(alloc, &rows)?;
         let starts = unknown_starts(alloc, rows.len())?;
         Ok(Links {
             rows,
-            busy,
-            starts,
+            kept: Kept {
+                busy,
+                starts,
+                low: 0,
+            },
             out: Out::new(alloc),
             sender: 0,
         })
@@ -416,8 +460,7 @@ impl<T: Drop> Links<T> {
     {
         let Links {
             rows,
-            busy: _,
-            starts: _,
+            kept: _,
             out: _,
             sender: _,
         } = self;

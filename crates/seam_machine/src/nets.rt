@@ -6,7 +6,7 @@ ghost use Rattle.std.specs.List.{All};
 ghost use Rattle.seam_machine.specs.Views.{NetView, PartsView};
 ghost use Rattle.seam_machine.specs.Nets.{link, flat, enabled, happens, with_node, IsQuiet, IsSquare, ArePeers, AreParts};
 ghost use Rattle.seam_machine.specs.Orders.{IsBefore};
-ghost use Rattle.seam_machine.specs.Inside.{IsNet, KnowsTasks};
+ghost use Rattle.seam_machine.specs.Inside.{FirstAre, IsNet, KnowsTasks};
 
 use crate::links::Links;
 use crate::machines::{Event, Machine};
@@ -45,14 +45,15 @@ pub struct Net<M: Machine> {
 
 impl<M: Machine> Model for Net<M> {
     ghost use Rattle.seam_machine.specs.Views.{NetView};
-    ghost use Rattle.seam_machine.specs.Inside.{IsNet, KnowsTasks};
+    ghost use Rattle.std.specs.Prelude.{false};
+    ghost use Rattle.seam_machine.specs.Inside.{FirstAre, IsNet, KnowsTasks};
 
     ghost Value = { NetView M M.Msg };
 
     ghost view = { λ n. record { nodes = n.nodes.items; rows = n.links.rows } };
 
     ghost invariant = { λ n. IsNet (record { nodes = n.nodes.items; rows = n.links.rows })
-        × KnowsTasks M.has_work n.nodes.items n.asked n.tasks.items };
+        × KnowsTasks M.has_work n.nodes.items n.asked n.tasks.items × FirstAre false n.links.low n.tasks.items };
 }
 
 // n rows of n empty links.
@@ -104,9 +105,19 @@ fn unasked(alloc: Global, n: usize) -> Result<Vec<bool>, AllocError>
 }
 
 // Asks each node whether its task is there, where not all were asked.
-fn ask<M: Machine>(nodes: &Vec<M>, tasks: &mut Vec<bool>, asked: &mut bool)
-    requires { KnowsTasks M.has_work nodes.now.items asked.old tasks.old.items }
-    ensures { KnowsTasks M.has_work nodes.now.items asked.new tasks.new.items }
+fn ask<M: Machine>(
+    nodes: &Vec<M>,
+    tasks: &mut Vec<bool>,
+    asked: &mut bool,
+    links: &mut Links<M::Msg>,
+)
+    requires len { length links.old.rows ≡ length nodes.now.items }
+    requires known { KnowsTasks M.has_work nodes.now.items asked.old tasks.old.items }
+    requires low { FirstAre false links.old.low tasks.old.items }
+    ensures known { KnowsTasks M.has_work nodes.now.items asked.new tasks.new.items }
+    ensures low { FirstAre false links.new.low tasks.new.items }
+    ensures rows { links.new.rows ≡ links.old.rows }
+    ensures clear { links.new.clear ≡ links.old.clear }
 {
     if *asked {
         return;
@@ -115,12 +126,14 @@ fn ask<M: Machine>(nodes: &Vec<M>, tasks: &mut Vec<bool>, asked: &mut bool)
         tasks[k] = nodes[k].has_task();
     }
     *asked = true;
+    links.move_on(0, tasks.as_slice());
 }
 
 impl<M: Machine> Net<M> {
     // The net of these nodes and links.
     fn over(alloc: Global, nodes: Vec<M>, links: Links<M::Msg>) -> Result<Net<M>, AllocError>
-        requires { IsNet (record { nodes = nodes.items; rows = links.rows }) }
+        requires net { IsNet (record { nodes = nodes.items; rows = links.rows }) }
+        requires low { links.low ≡ 0 }
         ensures { IfOk result (λ w. w ≡ record { nodes = nodes.items; rows = links.rows }) }
     {
         let tasks = unasked(alloc, nodes.len())?;
@@ -269,11 +282,17 @@ impl<M: Machine> Net<M> {
         ensures peers { ArePeers M.peer_count self.new }
     {
         self.links.settle()?;
-        ask(&self.nodes, &mut self.tasks, &mut self.asked);
+        ask(
+            &self.nodes,
+            &mut self.tasks,
+            &mut self.asked,
+            &mut self.links,
+        );
         let at = event.node as usize;
         let node = &mut self.nodes[at];
         self.links.feed(alloc, event, node)?;
         self.tasks[at] = node.has_task();
+        self.links.move_on(event.node, self.tasks.as_slice());
         Ok(())
     }
 }

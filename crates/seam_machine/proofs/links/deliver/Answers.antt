@@ -1,9 +1,10 @@
-use Rattle.std.proofs.Common.{set, get_or, ◌+◌, ◌-◌, ◌<◌, [], ◌∷◌, ◌++◌, length, refl, ap, ◌∙◌, sym, arith}
+use Rattle.std.proofs.Common.{get_or, min, ◌+◌, ◌<◌, [], ◌∷◌, ◌++◌, length, refl, ap, ◌∙◌, sym, arith}
 use Rattle.std.proofs.Math.Nat.{min-le_left, min-le_right}
-use Rattle.std.proofs.lemmas.List.{get_or_read}
-use Rattle.seam_machine.proofs.Counting.{delivers_more}
+use Rattle.std.proofs.lemmas.List.{length-set}
+use Rattle.seam_machine.proofs.Counting.{counts_filled, counts_kept, delivers_more}
+use Rattle.seam_machine.proofs.Firsts.{first_set}
 use Rattle.seam_machine.proofs.SendLemmas.{target_fits}
-use Rattle.seam_machine.proofs.Starts.{lowers_more}
+use Rattle.seam_machine.proofs.Starts.{lowers_more, lowers_kept}
 use Rattle.seam_machine.proofs.links.deliver.Goals as goal
 use Rattle.seam_machine.proofs.links.deliver.Goals.{In-Some}
 
@@ -18,23 +19,50 @@ to_fits g c =
 pub put_first-requires-clause-fits : goal.put_first-requires-clause-fits
 put_first-requires-clause-fits g c = to_fits g ((goal.at.put_first-requires-clause-fits g c).In-Some)
 
-pub loop-to-preserved : goal.loop-to-preserved
-loop-to-preserved g c =
-    let here = to_fits g ((goal.at.loop-to-preserved g c).In-Some) in
-    let low = c.loop-to.invariant.lowered in
+pub loop-to-preserved-then-held-eq0 : goal.loop-to-preserved-then-held-eq0
+loop-to-preserved-then-held-eq0 g c =
+    let here = to_fits g ((goal.at.loop-to-preserved-then-held-eq0 g c).In-Some) in
+    let to = c.in-Some.to in
+    let i = c.loop-to.invariant in
+    let busy = c.loop-to.kept.busy.items in
+    let starts = c.loop-to.kept.starts.items in
+    let low = c.loop-to.kept.low in
     let p = c.in_ok-put_first.ensures.moved in
-    let starts = c.loop-to.starts.items in
-    let within : c.in-Some.to < length starts = omega (arith, here, low.len, c.requires.starts, c.loop-to.invariant.delivered.wide) in
-    let read = get_or_read starts c.in-Some.to c.index.result.now within c.index.ensures 0 in
+    let counted : to < length busy = omega (arith, here, c.requires.wide, i.delivered.busy_len, i.delivered.wide) in
+    let within : to < length starts = omega (arith, here, i.lowered.len, c.requires.starts, i.delivered.wide) in
     record {
       delivered =
           delivers_more c.args.row.now c.loop-to.row c.put_first.new.self c.args.out.now.items c.loop-to.out.items c.put_first.new.out.items
-          c.args.busy.now.items c.loop-to.busy.items c.raise.new.busy.items c.in-Some.to c.requires.wide
-          here c.loop-to.invariant.delivered c.in_ok-put_first.ensures.moved (c.raise.ensures
-          ∙ ap (λ k. set c.loop-to.busy.items c.in-Some.to (get_or c.loop-to.busy.items c.in-Some.to 0 + (1 - k))) c.len-held.ensures.len);
+          c.args.kept.now.busy.items busy c.fill.new.self.busy.items to i.delivered p
+          (ap length c.fill.ensures.busy ∙ length-set busy to (get_or busy to 0 + 1))
+          (counts_filled to c.loop-to.row c.put_first.new.self p.item [] here p.row_is busy c.fill.new.self.busy.items counted
+          (sym c.len-held.ensures.len ∙ c.if-held-eq0.true) c.fill.ensures.busy);
       lowered =
-          lowers_more c.args.sender c.in-Some.to c.min.result c.args.starts.now.items starts (set starts c.in-Some.to c.min.result)
-          c.loop-to.row c.put_first.new.self (get_or c.loop-to.row c.in-Some.to [] ++ p.item ∷ []) within low p.row_is refl
-          (omega (arith, c.min.ensures, min-le_left c.index.result.now c.args.sender, read))
-          (omega (arith, c.min.ensures, min-le_right c.index.result.now c.args.sender));
+          lowers_more c.args.sender to (min (get_or starts to 0) c.args.sender) c.args.kept.now.starts.items starts
+          c.fill.new.self.starts.items c.loop-to.row c.put_first.new.self (get_or c.loop-to.row to [] ++ p.item ∷ []) within i.lowered
+          p.row_is c.fill.ensures.starts (min-le_left (get_or starts to 0) c.args.sender) (min-le_right (get_or starts to 0) c.args.sender);
+      low =
+          rw (c.fill.ensures.low, c.fill.ensures.busy)
+          (first_set 0 busy low (min low to) to (get_or busy to 0 + 1) counted (min-le_left low to) (min-le_right low to) i.low);
+      less = omega (arith, c.fill.ensures.low, min-le_left low to, i.less);
+    }
+
+pub loop-to-preserved : goal.loop-to-preserved
+loop-to-preserved g c =
+    let here = to_fits g ((goal.at.loop-to-preserved g c).In-Some) in
+    let to = c.in-Some.to in
+    let i = c.loop-to.invariant in
+    let busy = c.loop-to.kept.busy.items in
+    let p = c.in_ok-put_first.ensures.moved in
+    let some : 0 < length (get_or c.loop-to.row to []) = omega (arith, c.len-held.ensures.len, c.if-held-eq0.false) in
+    record {
+      delivered =
+          delivers_more c.args.row.now c.loop-to.row c.put_first.new.self c.args.out.now.items c.loop-to.out.items c.put_first.new.out.items
+          c.args.kept.now.busy.items busy busy to i.delivered p refl
+          (counts_kept to c.loop-to.row c.put_first.new.self p.item [] here p.row_is busy some);
+      lowered =
+          lowers_kept c.args.sender to c.args.kept.now.starts.items c.loop-to.kept.starts.items c.loop-to.row c.put_first.new.self
+          (get_or c.loop-to.row to [] ++ p.item ∷ []) i.lowered p.row_is some;
+      low = i.low;
+      less = i.less;
     }

@@ -1,11 +1,13 @@
-use Rattle.std.proofs.Common.{length}
-use Rattle.seam_machine.specs.Inside.{Delivers, Lowers}
+use Rattle.std.proofs.Common.{◌≤◌, length}
+use Rattle.seam_machine.specs.Inside.{Delivers, FirstAre, Lowers}
 use Rattle.seam_machine.proofs.links.deliver.Given as goal
 
 abbrev pub invariant-loop-to : goal.invariant-loop-to
 invariant-loop-to g l = record {
-  delivered : Delivers l.fn.row l.fn.out.items l.fn.busy.items l.row l.out.items l.busy.items;
-  lowered : Lowers l.sender l.fn.starts.items l.starts.items l.row;
+  delivered : Delivers l.fn.row l.fn.out.items l.fn.kept.busy.items l.row l.out.items l.kept.busy.items;
+  lowered : Lowers l.sender l.fn.kept.starts.items l.kept.starts.items l.row;
+  low : FirstAre 0 l.kept.low l.kept.busy.items;
+  less : l.kept.low ≤ l.fn.kept.low;
 }
 
 abbrev pub decreases-loop-to : goal.decreases-loop-to

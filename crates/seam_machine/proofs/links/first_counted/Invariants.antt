@@ -1,9 +1,9 @@
-use Rattle.std.proofs.Common.{◌≡◌, ℕ, ◌<◌, Some, false, slice_get}
-use Rattle.std.specs.Prelude.{slice_index}
+use Rattle.std.proofs.Common.{false}
+use Rattle.seam_machine.specs.Inside.{FirstAre}
 use Rattle.seam_machine.proofs.links.first_counted.Given as goal
 
 abbrev pub invariant-loop-k : goal.invariant-loop-k
 invariant-loop-k l = record {
-  unmarked : (k : ℕ) → k < l.k → slice_get l.marks k ≡ Some false;
-  uncounted : (k : ℕ) → k < l.k → slice_index l.busy.items k ≡ 0;
+  unmarked : FirstAre false l.k l.marks;
+  uncounted : FirstAre 0 l.k l.busy.items;
 }

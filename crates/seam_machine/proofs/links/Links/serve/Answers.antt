@@ -1,10 +1,11 @@
-use Rattle.std.proofs.Common.{◌≡◌, ◌<◌, ◌∙◌, sym, ap, length, get_or, set, refl, arith, []}
-use Rattle.std.proofs.lemmas.List.{length-set, get_or_read}
+use Rattle.std.proofs.Common.{◌≡◌, ◌<◌, ◌-◌, ◌∙◌, sym, ap, length, get_or, set, refl, arith, []}
+use Rattle.std.proofs.lemmas.List.{length-set, get_or-set_same}
 use Rattle.seam_machine.specs.Nets.{link, letter, row_less}
 use Rattle.seam_machine.proofs.LinkLemmas.{empty_is, clear_rows, counted_some, filled_none, sends_in, takes_in, links_served, below_none, below_peers, read_row, served_rows}
-use Rattle.seam_machine.proofs.Starts.{starts_served, stays_empty}
+use Rattle.seam_machine.proofs.Firsts.{first_set, first_before}
+use Rattle.seam_machine.proofs.Starts.{starts_served}
 use Rattle.seam_machine.proofs.links.Links.serve.Goals as goal
-use Rattle.seam_machine.proofs.links.Links.serve.Goals.{After-index_mut-row}
+use Rattle.seam_machine.proofs.links.Links.serve.Goals.{After-index_mut-row, In-Ok}
 
 none_waits : (g : _) (c : After-index_mut-row g) → c.self.inside.out.items ≡ []
 none_waits g c = empty_is c.self.inside.out.items (ap (λ l. l.clear) c.self.view_is ∙ c.requires.clear)
@@ -30,50 +31,46 @@ pub lower-requires-clause-some : goal.lower-requires-clause-some
 lower-requires-clause-some g c =
     let n = c.self.inside in
     let i = (goal.at.lower-requires-clause-some g c).After-index_mut-row in
-    counted_some n.rows.items n.busy.items n.sender n.out.items c.self.invariant.0 c.args.from c.args.to c.index_mut-row.result.now
+    counted_some n.rows.items n.kept.busy.items n.sender n.out.items c.self.invariant.0 c.args.from c.args.to c.index_mut-row.result.now
     (row_is g i) (row_holds g i)
 
 from_in : (g : _) (c : After-index_mut-row g) → c.args.from < length c.self.inside.rows.items
 from_in g c =
     let n = c.self.inside in
-    sends_in n.rows.items n.busy.items n.sender n.out.items c.self.invariant.0 c.args.from c.args.to c.index_mut-row.result.now (row_is g c)
+    sends_in n.rows.items n.kept.busy.items n.sender n.out.items c.self.invariant.0 c.args.from c.args.to c.index_mut-row.result.now (row_is g c)
     (row_holds g c)
 
 to_in : (g : _) (c : After-index_mut-row g) → c.args.to < length c.self.inside.rows.items
 to_in g c =
     let n = c.self.inside in
-    takes_in n.rows.items n.busy.items n.sender n.out.items c.self.invariant.0 c.args.from c.args.to c.index_mut-row.result.now (row_is g c)
+    takes_in n.rows.items n.kept.busy.items n.sender n.out.items c.self.invariant.0 c.args.from c.args.to c.index_mut-row.result.now (row_is g c)
     (row_holds g c)
 
-pub next_start-requires-clause-few : goal.next_start-requires-clause-few
-next_start-requires-clause-few g c =
-    omega (arith, length-set c.self.inside.rows.items c.args.from c.serve.new.self, c.self.invariant.0.few)
+less_is : (g : _) (c : In-Ok g) → c.serve.new.self ≡ row_less (get_or c.self.inside.rows.items c.args.from []) c.args.to
+less_is g c = c.in-Ok.ensures.served.row_is ∙ ap (λ r. row_less r c.args.to) (row_is g ((goal.at.In-Ok g c).After-index_mut-row))
 
-pub next_start-requires-clause-empty : goal.next_start-requires-clause-empty
-next_start-requires-clause-empty g c = λ x lt.
+pub lower-requires-clause-starts : goal.lower-requires-clause-starts
+lower-requires-clause-starts g c =
     let n = c.self.inside in
-    let i = (goal.at.next_start-requires-clause-empty g c).After-index_mut-row in
-    let s = c.in-Ok.ensures.served in
-    let to = to_in g i in
-    let start =
-    get_or_read n.starts.items c.args.to c.index-start.result.now (omega (arith, to, c.self.invariant.1.len)) c.index-start.ensures 0 in
-    stays_empty n.rows.items c.args.from c.args.to c.serve.new.self (s.row_is ∙ ap (λ r. row_less r c.args.to) (row_is g i)) (from_in g i)
-    x c.args.to (c.self.invariant.1.empty x c.args.to (omega (arith, lt, start)))
+    let i = (goal.at.lower-requires-clause-starts g c).After-index_mut-row in
+    starts_served n.rows.items c.args.from c.args.to c.serve.new.self (less_is g ((goal.at.lower-requires-clause-starts g c).In-Ok))
+    (from_in g i) n.kept.starts.items c.self.invariant.1
 
-pub next_start-requires-clause-none : goal.next_start-requires-clause-none
-next_start-requires-clause-none g c = λ none.
+pub lower-requires-clause-none : goal.lower-requires-clause-none
+lower-requires-clause-none g c = λ none.
     let n = c.self.inside in
-    let i = (goal.at.next_start-requires-clause-none g c).After-index_mut-row in
+    let i = (goal.at.lower-requires-clause-none g c).After-index_mut-row in
     let to = to_in g i in
+    let busy = n.kept.busy.items in
+    let count = get_or busy c.args.to 0 - (1 - c.len-left.result) in
     let links =
-    links_served n.rows.items n.busy.items n.sender n.out.items c.self.invariant.0 c.args.from c.args.to c.index_mut-row.result.now
-    (row_is g i) (row_holds g i) c.serve.new.self c.lower.new.busy.items c.len-left.result [] c.in-Ok.ensures.served.row_is
-    c.len-left.ensures.len c.lower.ensures (below_none (length n.rows.items) [] refl) in
+    links_served n.rows.items busy n.sender n.out.items c.self.invariant.0 c.args.from c.args.to c.index_mut-row.result.now
+    (row_is g i) (row_holds g i) c.serve.new.self (set busy c.args.to count) c.len-left.result [] c.in-Ok.ensures.served.row_is
+    c.len-left.ensures.len refl (below_none (length n.rows.items) [] refl) in
     let many = length-set n.rows.items c.args.from c.serve.new.self in
-    let count =
-    get_or_read c.lower.new.busy.items c.args.to c.index-count.result.now (omega (arith, to, many, links.busy_len)) c.index-count.ensures 0 in
+    let at = get_or-set_same busy c.args.to count 0 (omega (arith, to, c.self.invariant.0.busy_len)) in
     filled_none c.args.to (set n.rows.items c.args.from c.serve.new.self)
-    (sym (links.busy_is c.args.to (omega (arith, to, many))) ∙ (sym count ∙ none))
+    (sym (links.busy_is c.args.to (omega (arith, to, many))) ∙ (at ∙ none))
 
 pub invariant_of-self-2 : goal.invariant_of-self-2
 invariant_of-self-2 g c =
@@ -82,14 +79,22 @@ invariant_of-self-2 g c =
     let s = c.in-Ok.ensures.served in
     let rows = ap length (all_there g i) in
     let peers = g.M.Machine.peer_count c.args.node.now in
+    let busy = n.kept.busy.items in
+    let low = n.kept.low in
+    let some =
+    counted_some n.rows.items busy n.sender n.out.items c.self.invariant.0 c.args.from c.args.to c.index_mut-row.result.now
+    (row_is g i) (row_holds g i) in
     let below =
     below_peers (length n.rows.items) peers c.serve.new.out.items (c.requires.peers ∙ rows)
     (c.serve.ensures.to_peers (below_none peers n.out.items (none_waits g i))) in (
-      links_served n.rows.items n.busy.items n.sender n.out.items c.self.invariant.0 c.args.from c.args.to c.index_mut-row.result.now
-          (row_is g i) (row_holds g i) c.serve.new.self c.lower.new.busy.items c.len-left.result c.serve.new.out.items s.row_is
-          c.len-left.ensures.len c.lower.ensures below,
-      starts_served n.rows.items c.args.from c.args.to c.serve.new.self (s.row_is ∙ ap (λ r. row_less r c.args.to) (row_is g i))
-          (from_in g i) n.starts.items c.next_start.result c.self.invariant.1 (to_in g i) c.next_start.ensures,
+      links_served n.rows.items busy n.sender n.out.items c.self.invariant.0 c.args.from c.args.to c.index_mut-row.result.now
+          (row_is g i) (row_holds g i) c.serve.new.self c.lower.new.kept.busy.items c.len-left.result c.serve.new.out.items s.row_is
+          c.len-left.ensures.len c.lower.ensures.busy below,
+      c.lower.ensures.starts,
+      rw (c.lower.ensures.low, c.lower.ensures.busy)
+          (first_set 0 busy low low c.args.to (get_or busy c.args.to 0 - (1 - c.len-left.result))
+          (omega (arith, to_in g i, c.self.invariant.0.busy_len)) (omega arith) (first_before low c.args.to busy some c.self.invariant.2)
+          c.self.invariant.2),
     )
 
 pub returns-clause-fed : goal.returns-clause-fed

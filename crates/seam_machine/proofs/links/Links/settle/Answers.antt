@@ -8,7 +8,7 @@ use Rattle.seam_machine.proofs.links.Links.settle.Goals.{Else-is_empty, After-in
 
 sender_in : (g : _) (c : Else-is_empty g) → c.self.inside.sender < length c.self.inside.rows.items
 sender_in g c =
-    sender_within c.self.inside.rows.items c.self.inside.busy.items c.self.inside.sender c.self.inside.out.items c.self.invariant.0
+    sender_within c.self.inside.rows.items c.self.inside.kept.busy.items c.self.inside.sender c.self.inside.out.items c.self.invariant.0
     (sym c.is_empty.ensures ∙ c.if-is_empty.false)
 
 row_is : (g : _) (c : After-index_mut-row g) → c.index_mut-row.result.now ≡ get_or c.self.inside.rows.items c.self.inside.sender []
@@ -45,18 +45,19 @@ pub deliver-requires-clause-fits : goal.deliver-requires-clause-fits
 deliver-requires-clause-fits g c =
     let lt = sender_in g ((goal.at.deliver-requires-clause-fits g c).Else-is_empty) in
     let row = row_is g ((goal.at.deliver-requires-clause-fits g c).After-index_mut-row) in
-    subst (CountsFit c.self.inside.busy.items) (sym row)
-    (counts_fit c.self.inside.rows.items c.self.inside.busy.items c.self.inside.sender c.self.inside.out.items c.self.invariant.0
+    subst (CountsFit c.self.inside.kept.busy.items) (sym row)
+    (counts_fit c.self.inside.rows.items c.self.inside.kept.busy.items c.self.inside.sender c.self.inside.out.items c.self.invariant.0
     c.self.inside.sender lt)
 
 pub invariant_of-self : goal.invariant_of-self
 invariant_of-self g c =
     let lt = sender_in g ((goal.at.invariant_of-self g c).Else-is_empty) in
     let n = c.self.inside in (
-      links_delivered n.rows.items n.busy.items c.deliver.new.busy.items n.sender n.out.items c.deliver.new.out.items
+      links_delivered n.rows.items n.kept.busy.items c.deliver.new.kept.busy.items n.sender n.out.items c.deliver.new.out.items
           c.index_mut-row.result.now c.deliver.new.row c.self.invariant.0 lt c.index_mut-row.ensures.value c.deliver.ensures.moved,
-      starts_lowered n.rows.items n.starts.items c.deliver.new.starts.items n.sender c.deliver.new.row c.self.invariant.1 lt
+      starts_lowered n.rows.items n.kept.starts.items c.deliver.new.kept.starts.items n.sender c.deliver.new.row c.self.invariant.1 lt
           c.deliver.ensures.lowered,
+      c.deliver.ensures.low,
     )
 
 pub returns-clause-rows : goal.returns-clause-rows
