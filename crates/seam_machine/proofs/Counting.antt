@@ -1,12 +1,11 @@
 -- How many links to each node hold something, as items are put and fed.
-use Rattle.std.proofs.Common.{◌≡◌, ◌≢◌, ℕ, ◌+◌, ◌-◌, ◌<◌, ◌≤◌, List, [], ◌∷◌, ◌++◌, length, get_or, set, take, refl, sym, ap, ◌∙◌, arith, inl}
+use Rattle.std.proofs.Common.{◌≡◌, ◌≢◌, ℕ, ◌+◌, ◌-◌, ◌<◌, ◌≤◌, List, [], ◌∷◌, length, get_or, set, take, refl, ap, ◌∙◌, arith, inl}
 use Rattle.std.proofs.Common.{inr}
 use Rattle.std.proofs.lemmas.Bool.{cases_eq}
 use Rattle.std.proofs.lemmas.List.{length-set, get_or-set_same, get_or-set_other}
-use Rattle.std.proofs.lemmas.List.Elements.{All-rest}
 use Rattle.seam_machine.specs.Sends.{AllBelow}
-use Rattle.seam_machine.specs.Nets.{put_all}
-use Rattle.seam_machine.specs.Inside.{filled, filled_to, CountsFit, Delivers, PutsFirst}
+use Rattle.seam_machine.specs.Inside.{filled, filled_to, CountsFit, Delivers, PutsRun}
+use Rattle.seam_machine.proofs.Runs.{run_put, run_rest}
 use Rattle.seam_machine.proofs.Totals.{total-take}
 
 pub filled_one : {X : Type 0} (xs : List X) → filled xs ≤ 1
@@ -17,10 +16,6 @@ pub filled-length : {X : Type 0} (xs : List X) → filled xs + (1 - length xs) �
 filled-length [] = omega arith
 filled-length (x ∷ xs) = omega arith
 
-pub filled-push : {X : Type 0} (xs : List X) (y : X) (ys : List X) → filled (xs ++ y ∷ ys) ≡ 1
-filled-push [] y ys = refl
-filled-push (x ∷ xs) y ys = refl
-
 -- one more row is looked at
 pub filled_more : {M : Type 0} (b : ℕ) (rows : List (List (List M))) (i : ℕ) (r : List (List M)) → i < length rows → r ≡ get_or rows i r →
     filled_to b (take (i + 1) rows) ≡ filled_to b (take i rows) + (1 - (1 - length (get_or r b [])))
@@ -30,16 +25,11 @@ filled_more b rows i r h e =
     let three = filled-length (get_or r b []) in
     omega (arith, one, two, three)
 
--- items were put at the end of one link
-module _ {M : Type 0} (to : ℕ) (row row' : List (List M)) (m : M) (ms : List M) (here : to < length row)
-    (row_is : row' ≡ set row to (get_or row to [] ++ m ∷ ms)) where
-  filled_now : filled (get_or row' to []) ≡ 1
-  filled_now =
-      ap (λ r. filled (get_or r to [])) row_is
-      ∙ (ap filled (get_or-set_same row to (get_or row to [] ++ m ∷ ms) [] here) ∙ filled-push (get_or row to []) m ms)
-
+-- one link was changed, and holds something now
+module _ {M : Type 0} (to : ℕ) (row row' : List (List M)) (row_is : row' ≡ set row to (get_or row' to []))
+    (holds : 0 < length (get_or row' to [])) where
   filled_other : (b : ℕ) → b ≢ to → filled (get_or row' b []) ≡ filled (get_or row b [])
-  filled_other b n = ap (λ r. filled (get_or r b [])) row_is ∙ ap filled (get_or-set_other row to b (get_or row to [] ++ m ∷ ms) [] n)
+  filled_other b n = ap (λ r. filled (get_or r b [])) row_is ∙ ap filled (get_or-set_other row to b (get_or row' to []) [] n)
 
   -- the link held nothing before
   pub counts_filled : (busy busy' : List ℕ) → to < length busy → length (get_or row to []) ≡ 0 →
@@ -47,10 +37,10 @@ module _ {M : Type 0} (to : ℕ) (row row' : List (List M)) (m : M) (ms : List M
       get_or busy' b 0 + filled (get_or row b []) ≡ get_or busy b 0 + filled (get_or row' b [])
   counts_filled busy busy' counted none busy_is b = elim (cases_eq b to) [
     | inl e ↦
-        let now = filled_now in
         let new = ap (λ r. get_or r to 0) busy_is ∙ get_or-set_same busy to (get_or busy to 0 + 1) 0 counted in
         let before = filled-length (get_or row to []) in
-        rw e (omega (arith, now, new, before, none))
+        let now = filled-length (get_or row' to []) in
+        rw e (omega (arith, now, new, before, none, holds))
     | inr ne ↦
         let one = ap (λ r. get_or r b 0) busy_is ∙ get_or-set_other busy to b (get_or busy to 0 + 1) 0 ne in
         let two = filled_other b ne in
@@ -61,20 +51,24 @@ module _ {M : Type 0} (to : ℕ) (row row' : List (List M)) (m : M) (ms : List M
   pub counts_kept : (busy : List ℕ) → 0 < length (get_or row to []) → (b : ℕ) →
       get_or busy b 0 + filled (get_or row b []) ≡ get_or busy b 0 + filled (get_or row' b [])
   counts_kept busy some b = elim (cases_eq b to) [
-    | inl e ↦ let now = filled_now in let before = filled-length (get_or row to []) in rw e (omega (arith, now, before, some))
+    | inl e ↦
+        let before = filled-length (get_or row to []) in
+        let now = filled-length (get_or row' to []) in
+        rw e (omega (arith, now, before, some, holds))
     | inr ne ↦ let two = filled_other b ne in omega (arith, two)
   ]
 
--- one more item was delivered
+-- one more run of items was delivered
 pub delivers_more : {M : Type 0} (row0 row row' : List (List M)) (out0 out out' : List (ℕ × M)) (busy0 busy busy' : List ℕ) (to : ℕ) →
-    Delivers row0 out0 busy0 row out busy → PutsFirst to row out row' out' → length busy' ≡ length busy →
+    Delivers row0 out0 busy0 row out busy → to < length row → PutsRun to (get_or row to []) out (get_or row' to []) out' →
+    row' ≡ set row to (get_or row' to []) → length busy' ≡ length busy →
     ((b : ℕ) → get_or busy' b 0 + filled (get_or row b []) ≡ get_or busy b 0 + filled (get_or row' b [])) →
     Delivers row0 out0 busy0 row' out' busy'
-delivers_more row0 row row' out0 out out' busy0 busy busy' to d p len count = record {
-  moved = ap (λ r. put_all r out') p.row_is ∙ (ap (put_all row) (sym p.items_are) ∙ d.moved);
-  wide = ap length p.row_is ∙ (length-set row to (get_or row to [] ++ p.item ∷ []) ∙ d.wide);
+delivers_more row0 row row' out0 out out' busy0 busy busy' to d here p r len count = record {
+  moved = run_put to row row' out out' here p r ∙ d.moved;
+  wide = ap length r ∙ (length-set row to (get_or row' to []) ∙ d.wide);
   busy_len = len ∙ d.busy_len;
-  targets = All-rest (λ q. q.0 < length row0) (to, p.item) out' out p.items_are d.targets;
+  targets = run_rest to (get_or row to []) (get_or row' to []) out out' p (length row0) d.targets;
   counts = λ k. let one = count k in let two = d.counts k in omega (arith, one, two);
   fits = λ k. let one = count k in let two = d.fits k in let three = filled_one (get_or row k []) in omega (arith, one, two, three);
 }

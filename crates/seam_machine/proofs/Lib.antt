@@ -8,6 +8,7 @@ pub mod Parts
 pub mod Puts
 pub mod Quiet
 pub mod RowLemmas
+pub mod Runs
 pub mod SendLemmas
 pub mod Starts
 pub mod Totals

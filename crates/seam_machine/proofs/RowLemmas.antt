@@ -1,12 +1,10 @@
 -- Queues in a vector, seen as a list of lists.
-use Rattle.std.proofs.Common.{◌≡◌, ℕ, zero, suc, ◌<◌, ◌≤◌, List, [], ◌∷◌, ◌++◌, length, Some, get_or, set, drop, map, refl, sym, ap, ◌∙◌}
+use Rattle.std.proofs.Common.{◌≡◌, ℕ, zero, suc, ◌<◌, ◌≤◌, List, [], ◌∷◌, length, Some, get_or, set, drop, map, refl, sym, ap, ◌∙◌}
 use Rattle.std.proofs.Common.{arith}
-use Rattle.std.proofs.lemmas.List.{map-set, length-map}
+use Rattle.std.proofs.lemmas.List.{map-set, length-map, length-set, get_or-set_same}
 use Rattle.std.proofs.Math.Seq.{map-set_same}
 use Rattle.seam_machine.specs.declared.machines.Input.TheVariants.{From}
-use Rattle.seam_machine.specs.Sends.{first_target}
 use Rattle.seam_machine.specs.Nets.{row_less, letter}
-use Rattle.seam_machine.specs.Inside.{PutsFirst}
 
 -- a queue is replaced by one with the same items
 pub view-same : {Q M : Type 0} (qs : List Q) (f : Q → List M) (i : ℕ) (q d : Q) → f q ≡ f d → d ≡ get_or qs i d →
@@ -30,20 +28,14 @@ past_view [] f row i v le = ap (λ r. get_or r i []) (sym v)
 past_view (q ∷ qs) f row zero v le = absurd (omega (arith, le))
 past_view (q ∷ qs) f row (suc i) v le = ap (λ r. get_or r (suc i) []) (sym v) ∙ past_view qs f (map f qs) i refl (omega (arith, le))
 
-target_is : {M : Type 0} (to to' : ℕ) (m : M) (ps items : List (ℕ × M)) → first_target items ≡ Some to → items ≡ (to', m) ∷ ps → to' ≡ to
-target_is to to' m ps items t e = let h : first_target ((to', m) ∷ ps) ≡ Some to = sym (ap first_target e) ∙ t in cc
+-- a queue was replaced: its link, and the row
+pub link_replaced : {Q M : Type 0} (qs : List Q) (f : Q → List M) (i : ℕ) (q : Q) → i < length qs → get_or (map f (set qs i q)) i [] ≡ f q
+link_replaced qs f i q lt = get_or-map_in (set qs i q) f i q (omega (arith, lt, length-set qs i q)) ∙ ap f (get_or-set_same qs i q q lt)
 
--- the first of the items moves to the end of its queue
-pub puts_first : {Q M : Type 0} (qs : List Q) (f : Q → List M) (row : List (List M)) (to to' : ℕ) (m : M) (q d : Q)
-    (ps items : List (ℕ × M)) → map f qs ≡ row → first_target items ≡ Some to → items ≡ (to', m) ∷ ps → to < length qs →
-    f q ≡ f d ++ m ∷ [] → d ≡ get_or qs to d → PutsFirst to row items (map f (set qs to q)) ps
-puts_first qs f row to to' m q d ps items v t e lt push h = record {
-  item = m;
-  items_are = e ∙ ap (λ k. (k, m) ∷ ps) (target_is to to' m ps items t e);
-  row_is =
-      map-set f qs to q ∙ (ap (λ l. set (map f qs) to l) (push ∙ ap (λ l. l ++ m ∷ []) (sym (link_read qs f row to d v lt h)))
-      ∙ ap (λ r. set r to (get_or row to [] ++ m ∷ [])) v);
-}
+pub row_replaced : {Q M : Type 0} (qs : List Q) (f : Q → List M) (row : List (List M)) (i : ℕ) (q : Q) → map f qs ≡ row → i < length qs →
+    map f (set qs i q) ≡ set row i (get_or (map f (set qs i q)) i [])
+row_replaced qs f row i q v lt = map-set f qs i q ∙ (ap (λ l. set (map f qs) i l) (sym (link_replaced qs f i q lt))
+    ∙ ap (λ r. set r i (get_or (map f (set qs i q)) i [])) v)
 
 -- the first item of a queue leaves
 pub take_first : {Q M : Type 0} (qs : List Q) (f : Q → List M) (i : ℕ) (q d : Q) → i < length qs → f q ≡ drop 1 (f d) → d ≡ get_or qs i d →

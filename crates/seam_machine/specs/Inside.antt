@@ -1,6 +1,6 @@
 -- What a net keeps of its fields.
 use Rattle.std.specs.Prelude.{◌≡◌, ℕ, ◌+◌, ◌<◌, ◌≤◌, Bool, true, false, List, [], ◌∷◌, ◌++◌, length, map, Option, Some, slice_index_or}
-use Rattle.std.specs.Prelude.{slice_get, slice_set}
+use Rattle.std.specs.Prelude.{slice_get}
 use Rattle.std.specs.List.{All}
 use Rattle.seam_machine.specs.Views.{Stepped, NetView}
 use Rattle.seam_machine.specs.Sends.{AllBelow}
@@ -66,12 +66,11 @@ pub record Lowers {M : Type 0} (a : ℕ) (starts starts' : List ℕ) (row' : Lis
   pub less : (b : ℕ) → slice_index_or starts' b 0 ≤ slice_index_or starts b 0
   pub own : (b : ℕ) → a < slice_index_or starts' b 0 → slice_index_or row' b [] ≡ []
 
--- the first of the items, which goes to node `to`, is at the end of its link
-pub record PutsFirst {M : Type 0} (to : ℕ) (row : List (List M)) (items : List (ℕ × M)) (row' : List (List M))
-    (items' : List (ℕ × M)) : Type 0 where
-  pub item : M
-  pub items_are : items ≡ (to, item) ∷ items'
-  pub row_is : row' ≡ slice_set row to (slice_index_or row to [] ++ item ∷ [])
+-- the first of the items, which all go to node `to`, are at the end of its link
+pub record PutsRun {M : Type 0} (to : ℕ) (link : List M) (items : List (ℕ × M)) (link' : List M) (items' : List (ℕ × M)) : Type 0 where
+  pub run : List M
+  pub items_are : items ≡ map (λ m. (to, m)) run ++ items'
+  pub link_is : link' ≡ link ++ run
 
 -- the node was fed the first item of its link, and sent what its step sends
 pub record Serves {N M : Type 0} (steps : N → Input M → Stepped N M) (from to : ℕ) (row : List (List M)) (s : N) (out : List (ℕ × M))

@@ -205,10 +205,11 @@ fn deliver<T>(
     ensures less { kept.new.low ≤ kept.old.low }
     ensures ok { OnOk result (out.new.items ≡ []) }
 {
-    while let Some(to) = out.next_target() {
+    let mut next = out.next_target();
+    while let Some(to) = next {
         let at = to as usize;
         let held = row.len(at);
-        row.put_first(at, out)?;
+        next = row.put_run(to, out)?;
         if held == 0 {
             kept.fill(at, sender);
         }

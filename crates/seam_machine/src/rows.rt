@@ -2,9 +2,9 @@
 
 ghost use Rattle.std.specs.Prelude.{◌≡◌, ◌+◌, ◌<◌, ◌≤◌, ◌^◌, List, [], ◌∷◌, ◌++◌, length, replicate, OnOk, OnErr, IfOk, option_copied};
 ghost use Rattle.std.specs.Prelude.{slice_get, slice_index_or, slice_set, map, drop, Some};
-ghost use Rattle.std.specs.VecDeque.{deque_len};
+ghost use Rattle.std.specs.VecDeque.{deque_len, deque_capacity};
 ghost use Rattle.seam_machine.specs.Sends.{first_target, AllBelow};
-ghost use Rattle.seam_machine.specs.Inside.{Serves, PutsFirst};
+ghost use Rattle.seam_machine.specs.Inside.{Serves, PutsRun};
 
 use crate::machines::{Input, Machine};
 use crate::sends::Out;
@@ -71,6 +71,27 @@ impl<T: Drop> Row<T> {
     }
 }
 
+// Moves the first item of `out`, which goes to that node, and those after it that go there too, to its link, as far as there is
+// room. It is answered to whom the first of the others goes.
+fn move_run<T>(link: &mut VecDeque<T>, to: u8, out: &mut Out<T>) -> Option<u8>
+    requires target { first_target out.old.items ≡ Some to }
+    requires room { deque_len link.old < deque_capacity link.old }
+    ensures moved { PutsRun to link.old.items out.old.items link.new.items out.new.items }
+    ensures some { length out.new.items < length out.old.items }
+    ensures next { result ≡ first_target out.new.items }
+{
+    loop {
+        let Some((_, item)) = out.take() else {
+            unreachable!()
+        };
+        link.push_back_reserved(item);
+        let next = out.next_target();
+        if next != Some(to) || link.reserve(1).is_err() {
+            return next;
+        }
+    }
+}
+
 impl<T> Row<T> {
     /// How many messages the link to that node holds.
     pub fn len(&self, to: usize) -> usize
@@ -94,23 +115,23 @@ impl<T> Row<T> {
         None
     }
 
-    /// Moves the first item of `out`, which goes to that node, to the end of its link.
-    pub fn put_first(&mut self, to: usize, out: &mut Out<T>) -> Result<(), AllocError>
+    /// Moves the first item of `out`, which goes to that node, and those after it that go there too, to the end of their link. It is
+    /// answered to whom the first of the others goes. If allocation fails for one that is not the first, it is among the others.
+    pub fn put_run(&mut self, to: u8, out: &mut Out<T>) -> Result<Option<u8>, AllocError>
         requires target { first_target out.old.items ≡ Some to }
         requires fits { to < length self.old }
-        ensures moved { OnOk result (PutsFirst to self.old out.old.items self.new out.new.items) }
+        ensures moved { OnOk result (PutsRun to (slice_index_or self.old to []) out.old.items (slice_index_or self.new to []) out.new.items) }
+        ensures others { OnOk result (self.new ≡ slice_set self.old to (slice_index_or self.new to [])) }
+        ensures some { OnOk result (length out.new.items < length out.old.items) }
+        ensures next { IfOk result (λ n. n ≡ first_target out.new.items) }
         ensures err_row { OnErr result (self.new ≡ self.old) }
         ensures err_out { OnErr result (out.new.items ≡ out.old.items) }
     {
-        let link = &mut self.links[to];
+        let link = &mut self.links[to as usize];
         if let Err(refused) = link.reserve(1) {
             return Err(refused);
         }
-        let Some((_, item)) = out.take() else {
-            unreachable!()
-        };
-        link.push_back_reserved(item);
-        Ok(())
+        Ok(move_run(link, to, out))
     }
 
     /// Feeds the first message of the link to that node to it.
