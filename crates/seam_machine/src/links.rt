@@ -77,17 +77,6 @@ fn unknown_starts(alloc: Global, n: usize) -> Result<Vec<u8>, AllocError>
     Ok(starts)
 }
 
-// The start of that node; 0 where it does not exist.
-fn start_of(starts: &Vec<u8>, to: usize) -> usize
-    ensures { result ≡ slice_index_or starts.now.items to 0 }
-{
-    if to < starts.len() {
-        starts[to] as usize
-    } else {
-        0
-    }
-}
-
 // How many of the links to that node hold something.
 fn count_filled<T>(rows: &Vec<Row<T>>, to: usize) -> u8
     requires { length rows.now.items < 256 }
@@ -136,13 +125,15 @@ fn first_counted(busy: &Vec<u8>, marks: &[bool], start: usize) -> usize
 // The first of the rows whose link to that node holds something, where none before `start` does.
 fn first_filled<T>(rows: &Vec<Row<T>>, to: usize, start: usize) -> Option<u8>
     requires few { length rows.now.items < 256 }
+    requires square { All (λ r. length r ≡ length rows.now.items) rows.now.items }
+    requires is_node { to < length rows.now.items }
     requires empty { (a : ℕ) → a < start → link rows.now.items a to ≡ [] }
     ensures some { IfSome result (λ a. 0 < length (link rows.now.items a to)) }
     ensures first { IfSome result (λ a. (c : ℕ) → c < a → link rows.now.items c to ≡ []) }
     ensures none { IfNone result ((a : ℕ) → link rows.now.items a to ≡ []) }
 {
     for a in start..rows.len() {
-        if rows[a].len(to) > 0 {
+        if rows[a].link_len(to) > 0 {
             return Some(a as u8);
         }
     }
@@ -152,6 +143,8 @@ fn first_filled<T>(rows: &Vec<Row<T>>, to: usize, start: usize) -> Option<u8>
 // The start of that node, where it is not below `start`, and `count` links to it hold something.
 fn next_start<T>(rows: &Vec<Row<T>>, to: usize, start: u8, count: u8) -> u8
     requires few { length rows.now.items < 256 }
+    requires square { All (λ r. length r ≡ length rows.now.items) rows.now.items }
+    requires is_node { to < length rows.now.items }
     requires empty { (a : ℕ) → a < start → link rows.now.items a to ≡ [] }
     requires none { count ≡ 0 → (a : ℕ) → link rows.now.items a to ≡ [] }
     ensures { (a : ℕ) → a < result → link rows.now.items a to ≡ [] }
@@ -168,6 +161,7 @@ fn next_start<T>(rows: &Vec<Row<T>>, to: usize, start: u8, count: u8) -> u8
 // A message of a link to node `at` was fed, and `left` are left in that link: where none is, one link less holds something.
 fn lower<T>(kept: &mut Kept, rows: &Vec<Row<T>>, at: usize, left: usize)
     requires few { length rows.now.items < 256 }
+    requires square { All (λ r. length r ≡ length rows.now.items) rows.now.items }
     requires counted { at < length kept.old.busy.items }
     requires some { 0 < slice_index kept.old.busy.items at }
     requires within { at < length rows.now.items }
@@ -208,7 +202,7 @@ fn deliver<T>(
     let mut next = out.next_target();
     while let Some(to) = next {
         let at = to as usize;
-        let held = row.len(at);
+        let held = row.link_len(at);
         next = row.put_run(to, out)?;
         if held == 0 {
             kept.fill(at, sender);
@@ -251,37 +245,16 @@ impl<T> Links<T> {
         None
     }
 
-    // Whether no link to that node holds a message.
-    fn is_idle(&self, to: u8) -> bool
-        ensures idle { result ≡ true → (a : ℕ) → link self.now.rows a to ≡ [] }
-        ensures only_idle { to < length self.now.rows → ((a : ℕ) → link self.now.rows a to ≡ []) → result ≡ true }
+    /// Whether no message waits for room.
+    pub fn is_clear(&self) -> bool
+        ensures { result ≡ self.now.clear }
     {
-        let at = to as usize;
-        if at >= self.kept.busy.len() {
-            return false;
-        }
-        self.kept.busy[at] == 0 && self.out.count_to(to) == 0
-    }
-
-    // `first_busy` where items wait for room.
-    #[cold]
-    fn first_not_idle(&self, marks: &[bool]) -> usize
-        requires { length marks.now ≡ length self.now.rows }
-        ensures within { result ≤ length self.now.rows }
-        ensures unmarked { (k : ℕ) → k < result → slice_get marks.now k ≡ Some false }
-        ensures idle { (k a : ℕ) → k < result → link self.now.rows a k ≡ [] }
-        ensures busy { result < length self.now.rows → ((a : ℕ) → link self.now.rows a result ≡ []) → slice_get marks.now result ≡ Some true }
-    {
-        for k in 0..self.rows.len() {
-            if marks[k] || !self.is_idle(k as u8) {
-                return k;
-            }
-        }
-        self.rows.len()
+        self.out.is_empty()
     }
 
     /// The first node that is marked, or to which a link holds a message; the number of nodes where there is none.
     pub fn first_busy(&self, marks: &[bool]) -> usize
+        requires clear { self.now.clear ≡ true }
         requires len { length marks.now ≡ length self.now.rows }
         requires low { FirstAre false self.now.low marks.now }
         ensures within { result ≤ length self.now.rows }
@@ -289,15 +262,24 @@ impl<T> Links<T> {
         ensures idle { (k a : ℕ) → k < result → link self.now.rows a k ≡ [] }
         ensures busy { result < length self.now.rows → ((a : ℕ) → link self.now.rows a result ≡ []) → slice_get marks.now result ≡ Some true }
     {
-        if self.out.is_empty() {
-            return first_counted(&self.kept.busy, marks, self.kept.low);
-        }
-        self.first_not_idle(marks)
+        first_counted(&self.kept.busy, marks, self.kept.low)
     }
 
-    // `first_from` where items wait for room.
-    #[cold]
-    fn first_waiting(&self, to: u8) -> Option<u8>
+    /// The least node whose link to that node holds a message, where no message waits for room.
+    pub fn first_sender(&self, to: u8) -> Option<u8>
+        requires clear { self.now.clear ≡ true }
+        requires is_node { to < length self.now.rows }
+        ensures some { IfSome result (λ a. 0 < length (link self.now.rows a to)) }
+        ensures first { IfSome result (λ a. (c : ℕ) → c < a → link self.now.rows c to ≡ []) }
+        ensures none { IfNone result ((a : ℕ) → link self.now.rows a to ≡ []) }
+    {
+        let at = to as usize;
+        let start = self.kept.starts[at];
+        first_filled(&self.rows, at, start as usize)
+    }
+
+    /// The least node whose link to that node holds a message.
+    pub fn first_from(&self, to: u8) -> Option<u8>
         ensures some { IfSome result (λ a. 0 < length (link self.now.rows a to)) }
         ensures first { IfSome result (λ a. (c : ℕ) → c < a → link self.now.rows c to ≡ []) }
         ensures none { IfNone result ((a : ℕ) → link self.now.rows a to ≡ []) }
@@ -308,20 +290,6 @@ impl<T> Links<T> {
             }
         }
         None
-    }
-
-    /// The least node whose link to that node holds a message.
-    pub fn first_from(&self, to: u8) -> Option<u8>
-        ensures some { IfSome result (λ a. 0 < length (link self.now.rows a to)) }
-        ensures first { IfSome result (λ a. (c : ℕ) → c < a → link self.now.rows c to ≡ []) }
-        ensures none { IfNone result ((a : ℕ) → link self.now.rows a to ≡ []) }
-    {
-        if !self.out.is_empty() {
-            return self.first_waiting(to);
-        }
-        let at = to as usize;
-        let start = start_of(&self.kept.starts, at);
-        first_filled(&self.rows, at, start)
     }
 
     /// From here on, the pass for the first busy node begins past those that are neither marked nor busy. The mark of node `at`
@@ -373,7 +341,7 @@ impl<T> Links<T> {
             Err(refused) => return Err(refused),
             Ok(()) => {}
         }
-        let left = row.len(at);
+        let left = row.link_len(at);
         lower(&mut self.kept, &self.rows, at, left);
         self.sender = at;
         let _ = self.settle();

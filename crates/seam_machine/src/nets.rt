@@ -230,7 +230,8 @@ impl<M: Machine> Net<M> {
         }
     }
 
-    // The first enabled event, where not all nodes were asked for their tasks.
+    // `next_event` where not all nodes were asked for their tasks, or messages wait for room.
+    #[cold]
     fn next_unasked(&self) -> Option<Event>
         ensures enabled { IfSome result (λ e. enabled M.has_work self.now e ≡ true) }
         ensures first { IfSome result (λ e. (d : Event) → IsBefore d e → enabled M.has_work self.now d ≡ false) }
@@ -253,7 +254,7 @@ impl<M: Machine> Net<M> {
         ensures first { IfSome result (λ e. (d : Event) → IsBefore d e → enabled M.has_work self.now d ≡ false) }
         ensures none { IfNone result (IsQuiet M.has_work self.now) }
     {
-        if !self.asked {
+        if !self.asked || !self.links.is_clear() {
             return self.next_unasked();
         }
         let first = self.links.first_busy(self.tasks.as_slice());
@@ -261,7 +262,7 @@ impl<M: Machine> Net<M> {
             return None;
         }
         let node = first as u8;
-        let from = self.links.first_from(node);
+        let from = self.links.first_sender(node);
         Some(Event { node, from })
     }
 

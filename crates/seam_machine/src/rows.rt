@@ -105,6 +105,14 @@ impl<T> Row<T> {
         }
     }
 
+    /// How many messages the link to that node, which there is, holds.
+    pub fn link_len(&self, to: usize) -> usize
+        requires { to < length self.now }
+        ensures { result ≡ length (slice_index_or self.now to []) }
+    {
+        self.links[to].len()
+    }
+
     /// The message at place i of the link to that node.
     pub fn get(&self, to: usize, i: usize) -> Option<&T>
         ensures { option_copied result ≡ slice_get (slice_index_or self.now to []) i }

@@ -17,6 +17,9 @@ to_fits g c =
     let wide = c.loop-next.invariant.delivered.wide in
     omega (arith, t, wide)
 
+pub link_len-held-requires : goal.link_len-held-requires
+link_len-held-requires g c = to_fits g ((goal.at.link_len-held-requires g c).In-Some)
+
 pub put_run-requires-clause-fits : goal.put_run-requires-clause-fits
 put_run-requires-clause-fits g c = to_fits g ((goal.at.put_run-requires-clause-fits g c).In-Some)
 
@@ -43,7 +46,7 @@ loop-next-preserved-then-held-eq0 g c =
           c.args.kept.now.busy.items busy c.fill.new.self.busy.items to i.delivered here p.moved p.others
           (ap length c.fill.ensures.busy ∙ length-set busy to (get_or busy to 0 + 1))
           (counts_filled to c.loop-next.row c.put_run.new.self p.others filled busy c.fill.new.self.busy.items counted
-          (sym c.len-held.ensures.len ∙ c.if-held-eq0.true) c.fill.ensures.busy);
+          (sym c.link_len-held.ensures ∙ c.if-held-eq0.true) c.fill.ensures.busy);
       lowered =
           lowers_more c.args.sender to (min (get_or starts to 0) c.args.sender) c.args.kept.now.starts.items starts
           c.fill.new.self.starts.items c.loop-next.row c.put_run.new.self (get_or c.put_run.new.self to []) within i.lowered
@@ -63,7 +66,7 @@ loop-next-preserved g c =
     let i = c.loop-next.invariant in
     let busy = c.loop-next.kept.busy.items in
     let p = c.in_ok-next.ensures in
-    let some : 0 < length (get_or c.loop-next.row to []) = omega (arith, c.len-held.ensures.len, c.if-held-eq0.false) in
+    let some : 0 < length (get_or c.loop-next.row to []) = omega (arith, c.link_len-held.ensures, c.if-held-eq0.false) in
     record {
       delivered =
           delivers_more c.args.row.now c.loop-next.row c.put_run.new.self c.args.out.now.items c.loop-next.out.items c.put_run.new.out.items

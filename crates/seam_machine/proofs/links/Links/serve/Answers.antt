@@ -62,11 +62,11 @@ lower-requires-clause-none g c = λ none.
     let i = (goal.at.lower-requires-clause-none g c).After-index_mut-row in
     let to = to_in g i in
     let busy = n.kept.busy.items in
-    let count = get_or busy c.args.to 0 - (1 - c.len-left.result) in
+    let count = get_or busy c.args.to 0 - (1 - c.link_len-left.result) in
     let links =
     links_served n.rows.items busy n.sender n.out.items c.self.invariant.0 c.args.from c.args.to c.index_mut-row.result.now
-    (row_is g i) (row_holds g i) c.serve.new.self (set busy c.args.to count) c.len-left.result [] c.in-Ok.ensures.served.row_is
-    c.len-left.ensures.len refl (below_none (length n.rows.items) [] refl) in
+    (row_is g i) (row_holds g i) c.serve.new.self (set busy c.args.to count) c.link_len-left.result [] c.in-Ok.ensures.served.row_is
+    c.link_len-left.ensures refl (below_none (length n.rows.items) [] refl) in
     let many = length-set n.rows.items c.args.from c.serve.new.self in
     let at = get_or-set_same busy c.args.to count 0 (omega (arith, to, c.self.invariant.0.busy_len)) in
     filled_none c.args.to (set n.rows.items c.args.from c.serve.new.self)
@@ -88,11 +88,11 @@ invariant_of-self-2 g c =
     below_peers (length n.rows.items) peers c.serve.new.out.items (c.requires.peers ∙ rows)
     (c.serve.ensures.to_peers (below_none peers n.out.items (none_waits g i))) in (
       links_served n.rows.items busy n.sender n.out.items c.self.invariant.0 c.args.from c.args.to c.index_mut-row.result.now
-          (row_is g i) (row_holds g i) c.serve.new.self c.lower.new.kept.busy.items c.len-left.result c.serve.new.out.items s.row_is
-          c.len-left.ensures.len c.lower.ensures.busy below,
+          (row_is g i) (row_holds g i) c.serve.new.self c.lower.new.kept.busy.items c.link_len-left.result c.serve.new.out.items s.row_is
+          c.link_len-left.ensures c.lower.ensures.busy below,
       c.lower.ensures.starts,
       rw (c.lower.ensures.low, c.lower.ensures.busy)
-          (first_set 0 busy low low c.args.to (get_or busy c.args.to 0 - (1 - c.len-left.result))
+          (first_set 0 busy low low c.args.to (get_or busy c.args.to 0 - (1 - c.link_len-left.result))
           (omega (arith, to_in g i, c.self.invariant.0.busy_len)) (omega arith) (first_before low c.args.to busy some c.self.invariant.2)
           c.self.invariant.2),
     )

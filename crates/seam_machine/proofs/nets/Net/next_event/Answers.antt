@@ -29,9 +29,9 @@ returns-clause-enabled g c =
     let k = c.first_busy-first.result in
     let rows = c.self.invariant.0.square.rows in
     let lt : k < length n.nodes.items = omega (arith, c.first_busy-first.ensures.within, c.if-first-len.false, rows) in
-    ap (λ w. enabled g.M.Machine.has_work w (record { node = k; from = c.first_from-from.result })) (sym c.self.view_is)
-    ∙ first_enabled g.M.Machine.has_work (record { nodes = n.nodes.items; rows = n.links.rows }) k c.first_from-from.result lt
-    c.first_from-from.ensures.some c.first_from-from.ensures.none
+    ap (λ w. enabled g.M.Machine.has_work w (record { node = k; from = c.first_sender-from.result })) (sym c.self.view_is)
+    ∙ first_enabled g.M.Machine.has_work (record { nodes = n.nodes.items; rows = n.links.rows }) k c.first_sender-from.result lt
+    c.first_sender-from.ensures.some c.first_sender-from.ensures.none
     (λ idle. ap (λ l. slice_get l k) (sym asked ∙ sym c.as_slice.ensures.value) ∙ c.first_busy-first.ensures.busy (omega (arith, lt, rows)) idle)
 
 pub returns-clause-first : goal.returns-clause-first
