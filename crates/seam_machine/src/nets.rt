@@ -104,6 +104,22 @@ fn unasked(alloc: Global, n: usize) -> Result<Vec<bool>, AllocError>
     Ok(tasks)
 }
 
+// Asks each node whether its task is there.
+#[cold]
+fn ask_all<M: Machine>(nodes: &Vec<M>, tasks: &mut Vec<bool>, links: &mut Links<M::Msg>)
+    requires len { length links.old.rows ≡ length nodes.now.items }
+    requires places { length tasks.old.items ≡ length nodes.now.items }
+    ensures known { tasks.new.items ≡ map M.has_work nodes.now.items }
+    ensures low { FirstAre false links.new.low tasks.new.items }
+    ensures rows { links.new.rows ≡ links.old.rows }
+    ensures clear { links.new.clear ≡ links.old.clear }
+{
+    for k in 0..nodes.len() {
+        tasks[k] = nodes[k].has_task();
+    }
+    links.move_on(0, tasks.as_slice());
+}
+
 // Asks each node whether its task is there, where not all were asked.
 fn ask<M: Machine>(
     nodes: &Vec<M>,
@@ -122,11 +138,8 @@ fn ask<M: Machine>(
     if *asked {
         return;
     }
-    for k in 0..nodes.len() {
-        tasks[k] = nodes[k].has_task();
-    }
+    ask_all(nodes, tasks, links);
     *asked = true;
-    links.move_on(0, tasks.as_slice());
 }
 
 impl<M: Machine> Net<M> {
