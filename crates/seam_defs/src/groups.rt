@@ -142,32 +142,13 @@ fn push_group(
     ensures ok { OnOk result (out.new.items ≡ out.old.items ++ values_text properties.now group values.now) }
     ensures kept { take (length out.old.items) out.new.items ≡ out.old.items }
 {
-    let mut left = values;
-    for property in properties {
-        if property.flag.in_group(group) {
-            left = push_first(property, left, out)?;
-        }
+    let of_group = properties
+        .iter()
+        .filter(|property| property.flag.in_group(group));
+    for (property, value) in of_group.zip(values) {
+        push_property(property, value, out)?;
     }
     Ok(())
-}
-
-// Appends the text of a property with the first value, where there is one, and returns the others.
-fn push_first<'a>(
-    property: &Property,
-    values: &'a [Value],
-    out: &mut Vec<u8>,
-) -> Result<&'a [Value], AllocError>
-    ensures others { IfOk result (λ others. others.now ≡ drop 1 values.now) }
-    ensures ok { OnOk result (out.new.items ≡ out.old.items ++ flat_map property_text (zip (property.now ∷ []) values.now)) }
-    ensures kept { take (length out.old.items) out.new.items ≡ out.old.items }
-{
-    match values.split_first() {
-        Some((value, others)) => {
-            push_property(property, value, out)?;
-            Ok(others)
-        }
-        None => Ok(values),
-    }
 }
 
 fn push_property(property: &Property, value: &Value, out: &mut Vec<u8>) -> Result<(), AllocError>
