@@ -1,14 +1,13 @@
--- Lists beside each other, and the text of one property more.
+-- Lists beside each other, and the values of one property more.
 use Rattle.std.proofs.Common.{◌≡◌, ℕ, ◌+◌, ◌<◌, refl, ap, List, [], ◌∷◌, ◌++◌, length, drop, take, get_or, map, ◌∙◌, true, false}
-use Rattle.std.specs.List.{zip, flat_map, filter}
+use Rattle.std.specs.List.{zip, filter}
 use Rattle.std.proofs.lemmas.List.{append-nil, map-append}
-use Rattle.std.proofs.lemmas.List.Concat.{flat_map-append}
 use Rattle.std.proofs.lemmas.List.Elements.{filter_more, filter-append}
 use Rattle.seam_defs.specs.Groups.{in_group}
 use Rattle.seam_defs.specs.declared.flags.Group.{Group}
 use Rattle.seam_defs.specs.declared.types.Property.{Property}
 use Rattle.seam_value.specs.declared.values.Value.{Value}
-use Rattle.seam_defs.specs.Deeds.{properties_of, property_text, values_text, projected}
+use Rattle.seam_defs.specs.Deeds.{properties_of, projected}
 
 pub zip-append : {A B : Type 0} (xs ys : List A) (vs : List B) → zip (xs ++ ys) vs ≡ zip xs vs ++ zip ys (drop (length xs) vs)
 zip-append [] ys vs = refl
@@ -24,16 +23,6 @@ module _ (ps : List Property) (g : Group) (i : ℕ) (p : Property) (within : i <
   -- one of another group changes nothing
   pub properties-same : in_group p.flag g ≡ false → properties_of (take (i + 1) ps) g ≡ properties_of (take i ps) g
   properties-same other = rw (filter_more (λ q. in_group q.flag g) ps i p within, ← here, other) (append-nil (properties_of (take i ps) g))
-
-  pub text-more : (vs : List Value) → in_group p.flag g ≡ true →
-      values_text (take (i + 1) ps) g vs ≡ values_text (take i ps) g vs
-      ++ flat_map property_text (zip (p ∷ []) (drop (length (properties_of (take i ps) g)) vs))
-  text-more vs held =
-      rw (properties-more held, zip-append (properties_of (take i ps) g) (p ∷ []) vs)
-      (flat_map-append property_text (zip (properties_of (take i ps) g) vs) (zip (p ∷ []) (drop (length (properties_of (take i ps) g)) vs)))
-
-  pub text-same : (vs : List Value) → in_group p.flag g ≡ false → values_text (take (i + 1) ps) g vs ≡ values_text (take i ps) g vs
-  text-same vs other = ap (λ qs. flat_map property_text (zip qs vs)) (properties-same other)
 
 one-projected : (p : Property) (g : Group) (ws : List Value) → in_group p.flag g ≡ true →
     map (λ e. e.1) (filter (λ e. in_group e.0.flag g) (zip (p ∷ []) ws)) ≡ take 1 ws

@@ -106,11 +106,13 @@ impl TypeDef {
 
     // How many properties the group has.
     fn count_of(&self, group: Group) -> usize {
-        self.properties
-            .as_slice()
-            .iter()
-            .filter(|property| property.flag.in_group(group))
-            .count()
+        let mut count = 0;
+        for property in self.properties.as_slice() {
+            if property.flag.in_group(group) {
+                count += 1;
+            }
+        }
+        count
     }
 }
 
@@ -140,30 +142,13 @@ fn push_group(
     ensures ok { OnOk result (out.new.items ≡ out.old.items ++ values_text properties.now group values.now) }
     ensures kept { take (length out.old.items) out.new.items ≡ out.old.items }
 {
-    let mut place = 0;
-    for property in properties {
-        if property.flag.in_group(group) {
-            push_at(property, values, place, out)?;
-            place += 1;
-        }
+    let of_group = properties
+        .iter()
+        .filter(|property| property.flag.in_group(group));
+    for (property, value) in of_group.zip(values) {
+        push_property(property, value, out)?;
     }
     Ok(())
-}
-
-// Appends the text of a property with the value at a place, where there is one.
-fn push_at(
-    property: &Property,
-    values: &[Value],
-    place: usize,
-    out: &mut Vec<u8>,
-) -> Result<(), AllocError>
-    ensures ok { OnOk result (out.new.items ≡ out.old.items ++ flat_map property_text (zip (property.now ∷ []) (drop place values.now))) }
-    ensures kept { take (length out.old.items) out.new.items ≡ out.old.items }
-{
-    match values.get(place) {
-        Some(value) => push_property(property, value, out),
-        None => Ok(()),
-    }
 }
 
 fn push_property(property: &Property, value: &Value, out: &mut Vec<u8>) -> Result<(), AllocError>
