@@ -1,17 +1,15 @@
 -- What a real that may be offered a call has room for, and what a call makes of it.
 use Rattle.std.proofs.Common.{◌≡◌, ◌+◌, ◌<◌, ◌≤◌, ◌^◌, ℕ, Bool, true, false, not, ◌&&◌, nat_lt, is_some, refl, ap, sym, subst, ◌∙◌, arith}
 use Rattle.std.proofs.lemmas.Bool.Decides.{nat_tests}
-use Rattle.seam_tree.specs.Division.{Division, IsInSpace}
-use Rattle.seam_defs.specs.declared.states.State.{State}
 use Rattle.seam_order.specs.Held.{item_at}
 use Rattle.seam_call.specs.declared.call.Call.{Call as CallData}
 use Rattle.seam_entity.specs.Here.{Here}
-use Rattle.seam_entity.specs.Numbers.{is_small, may_rise, limit}
+use Rattle.seam_entity.specs.Numbers.{may_rise}
 use Rattle.seam_entity.specs.Orders.{order_of}
 use Rattle.seam_entity.specs.Reals.{RealView}
 use Rattle.seam_entity.specs.Calls.{may_offer}
 use Rattle.seam_entity.specs.Executing.{fits_cell_part, may_settle, may_execute, may_call}
-use Rattle.seam_entity.specs.Executing.{public_after, with_deed, with_offer, executed, shows}
+use Rattle.seam_entity.specs.Executing.{public_after, with_deed, executed, shows}
 use Rattle.seam_entity.specs.Preparing.{with_after}
 use Rattle.seam_entity.specs.declared.real.After.{After}
 use Rattle.seam_parts.specs.Stepping.{IsLater}

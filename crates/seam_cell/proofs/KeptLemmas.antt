@@ -1,14 +1,13 @@
 -- A cell's step keeps its reals, and the places to which calls that they hold move them, in the space.
 use Rattle.std.proofs.Common.{◌≡◌, ◌<◌, ℕ, Bool, true, false, cond, not, ◌&&◌, nat_lt, List, [], ◌∷◌, Option, None, Some}
 use Rattle.std.proofs.Common.{refl, sym, ap, subst, ◌∙◌, arith}
-use Rattle.std.specs.Prelude.{find}
 use Rattle.std.specs.Ordering.{nat_cmp, eq_by_cmp}
 use Rattle.std.specs.declared.cmp.Ordering.{Ordering}
 use Rattle.std.specs.declared.cmp.Ordering.TheVariants.{Less, Equal, Greater}
 use Rattle.std.specs.FinMap as table
 use Rattle.std.proofs.lemmas.Bool.Decides.{nat_tests}
 use Rattle.seam_geo.specs.declared.pos.Pos.{Pos}
-use Rattle.seam_tree.specs.Division.{Division, IsInSpace, cells_of}
+use Rattle.seam_tree.specs.Division.{Division, IsInSpace}
 use Rattle.seam_table.proofs.Found.{found}
 use Rattle.seam_order.specs.Held.{OrderView}
 use Rattle.seam_order.specs.Offers.{next_item}
@@ -27,7 +26,7 @@ use Rattle.seam_call.specs.declared.call.Call.{Call as CallData}
 use Rattle.seam_call.specs.declared.shown.GhostCopy.{GhostCopy}
 use Rattle.seam_call.specs.Calls.{is_for}
 use Rattle.seam_call.specs.Senders.{rank_of}
-use Rattle.seam_entity.specs.Orders.{Orders, order_of}
+use Rattle.seam_entity.specs.Orders.{order_of}
 use Rattle.seam_entity.specs.Reals.{RealView, WitnessView}
 use Rattle.seam_entity.specs.declared.message.Msg.{Msg}
 use Rattle.seam_entity.specs.declared.message.Msg.TheVariants.{Call, BaseCall, Hand, Current, GhostSet, GhostDrop, Tick, Reap, Update}
@@ -41,10 +40,9 @@ use Rattle.seam_steps.specs.CellCases
 use Rattle.seam_steps.specs.CellCases.{about, slot_steps}
 use Rattle.seam_steps.specs.Looks
 use Rattle.seam_steps.specs.Looks.{Known, look_by, look_task}
-use Rattle.seam_steps.specs.Cells
 use Rattle.seam_steps.specs.Cells.{CellView, slot_of, after_slot, unlisted_by, stepped}
 use Rattle.seam_steps.specs.Cells.{cell_steps, cell_task, ready_next, look_next, cell_hears}
-use Rattle.seam_steps.specs.Cells.{known_to, ready_entity, surveys, calls_ready, looks_around, witnesses}
+use Rattle.seam_steps.specs.Cells.{known_to, ready_entity, surveys, calls_ready, looks_around}
 use Rattle.seam_steps.specs.Maps.{Map, set_at}
 use Rattle.seam_steps.proofs.Slots.{get-set_at}
 use Rattle.seam_steps.proofs.Peers.{cell_frame}

@@ -1,5 +1,5 @@
 -- A step of one entity's slot, from what was done to the parts of the cell.
-use Rattle.std.proofs.Common.{◌≡◌, ◌+◌, ◌++◌, ◌&&◌, ℕ, Bool, true, false, cond, not, List, [], Option, None, Some, is_none}
+use Rattle.std.proofs.Common.{◌≡◌, ◌++◌, ◌&&◌, ℕ, Bool, true, false, not, List, [], Option, None, Some, is_none}
 use Rattle.std.proofs.Common.{refl, ap, sym, subst, Result, Ok, Err, OnOk, OnErr, ◌∙◌}
 use Rattle.std.specs.Prelude.{find, option_map}
 use Rattle.std.specs.FinMap as table
@@ -8,7 +8,7 @@ use Rattle.std.specs.Ordering.{nat_cmp, match_ordering}
 use Rattle.std.specs.declared.cmp.Ordering.{Ordering}
 use Rattle.std.specs.declared.cmp.Ordering.TheVariants.{Less, Equal, Greater}
 use Rattle.std.specs.Cmp.{nat_cmp_total, tied_itself}
-use Rattle.seam_machine.specs.Views.{OutView, Stepped}
+use Rattle.seam_machine.specs.Views.{OutView}
 use Rattle.seam_machine.specs.declared.machines.Input.{Input}
 use Rattle.seam_machine.specs.declared.machines.Input.TheVariants.{Task, From}
 use Rattle.seam_call.specs.declared.call.Call.{Call as CallData}
@@ -19,8 +19,8 @@ use Rattle.seam_entity.specs.declared.message.Msg.{Msg}
 use Rattle.seam_entity.specs.declared.message.Msg.TheVariants.{Call}
 use Rattle.seam_entity.specs.Calls.{has_ready}
 use Rattle.seam_entity.specs.Executing.{may_call, may_execute, executed, shows, with_offer}
-use Rattle.seam_steps.specs.Maps.{Map, set_at, number_of}
-use Rattle.seam_steps.specs.Slots.{Slot, NextPlace, SlotStep, slot_after, unless_stray, becomes, rests}
+use Rattle.seam_steps.specs.Maps.{set_at, number_of}
+use Rattle.seam_steps.specs.Slots.{Slot, SlotStep, slot_after, unless_stray}
 use Rattle.seam_steps.specs.Settle.{settled}
 use Rattle.seam_steps.specs.CellCases
 use Rattle.seam_steps.specs.Cells.{CellView, slot_of, with_slot, after_slot, unlisted_by, stepped, cell_steps, cell_task}

@@ -1,12 +1,33 @@
-use Rattle.std.proofs.Common.{ap, option_map, ◌∙◌}
+use Rattle.std.proofs.Common.{refl, ap, option_map, ◌∙◌}
 use Rattle.seam_steps.specs.Maps.{set_at}
 use Rattle.seam_parts.specs.Stepping.{core_of}
 use Rattle.seam_parts.proofs.SetLemmas.{first_taken}
-use Rattle.seam_cell.proofs.SurveyLemmas.{from_ok, from_err, surveyed, survey_told, survey_undone}
+use Rattle.seam_cell.proofs.SurveyLemmas.{from_ok, from_err, moot_done, surveyed, survey_told, survey_undone}
 use Rattle.seam_cell.proofs.surveying.survey_task.Goals as goal
 
 pub settle_again-left-requires-clause-there : goal.settle_again-left-requires-clause-there
 settle_again-left-requires-clause-there c = c.requires.whole.cell.there c.in-Some.e c.in_ok-real.real.core c.in_ok-real.ensures.real
+
+pub is_moot-requires-clause-there : goal.is_moot-requires-clause-there
+is_moot-requires-clause-there c = c.requires.whole.cell.there c.in-Some.e
+
+pub returns-then-is_moot-clause-state : goal.returns-then-is_moot-clause-state
+returns-then-is_moot-clause-state c =
+    let e = c.in-Some.e in
+    let es = c.take_first.new.self in
+    let lists = c.args.lists.now in
+    (moot_done c.args.known.now c.args.reals.now c.args.places.now lists (record { survey = es; looks = lists.looks }) c.args.out.now e es
+    (c.is_moot.ensures.moot c.if-is_moot.true) (c.requires.whole.cell.cell.keys e)
+    (first_taken c.take_first.result lists.survey es e c.take_first.ensures.some c.take_first.ensures.none c.in-Some.ensures) refl refl).0
+
+pub returns-then-is_moot-clause-sent : goal.returns-then-is_moot-clause-sent
+returns-then-is_moot-clause-sent c =
+    let e = c.in-Some.e in
+    let es = c.take_first.new.self in
+    let lists = c.args.lists.now in
+    (moot_done c.args.known.now c.args.reals.now c.args.places.now lists (record { survey = es; looks = lists.looks }) c.args.out.now e es
+    (c.is_moot.ensures.moot c.if-is_moot.true) (c.requires.whole.cell.cell.keys e)
+    (first_taken c.take_first.result lists.survey es e c.take_first.ensures.some c.take_first.ensures.none c.in-Some.ensures) refl refl).1
 
 pub returns-in-Ok-clause-state : goal.returns-in-Ok-clause-state
 returns-in-Ok-clause-state c =
@@ -18,7 +39,7 @@ returns-in-Ok-clause-state c =
     let is = first_taken c.take_first-in-Ok.result c.args.lists.now.survey c.take_first-in-Ok.new.self e
     c.take_first-in-Ok.ensures.some c.take_first-in-Ok.ensures.none c.in-Some.ensures in
     surveyed c.args.known.now c.args.reals.now c.put_after.new.reals c.args.places.now did.new.places c.args.lists.now
-    c.put_after.new.lists c.args.out.now did.new.out e c.take_first-in-Ok.new.self x left at c.if-not-is_due.ensures
+    c.put_after.new.lists c.args.out.now did.new.out e c.take_first-in-Ok.new.self x left at (c.is_moot.ensures.due c.if-is_moot.false)
     (c.requires.whole.cell.cell.keys e x at) is (from_ok _ did.result.result c.in-Ok.field-0 c.in-Ok.is did.ensures.done)
     (c.put_after.ensures.items ∙ ap (λ w. set_at w e left) c.in_ok-real.ensures.items) c.put_after.ensures.survey
     c.put_after.ensures.looks
@@ -33,7 +54,7 @@ returns-in-Ok-clause-sent c =
     let is = first_taken c.take_first-in-Ok.result c.args.lists.now.survey c.take_first-in-Ok.new.self e
     c.take_first-in-Ok.ensures.some c.take_first-in-Ok.ensures.none c.in-Some.ensures in
     survey_told c.args.known.now c.args.reals.now c.put_after.new.reals c.args.places.now did.new.places c.args.lists.now
-    c.put_after.new.lists c.args.out.now did.new.out e c.take_first-in-Ok.new.self x left at c.if-not-is_due.ensures
+    c.put_after.new.lists c.args.out.now did.new.out e c.take_first-in-Ok.new.self x left at (c.is_moot.ensures.due c.if-is_moot.false)
     (c.requires.whole.cell.cell.keys e x at) is (from_ok _ did.result.result c.in-Ok.field-0 c.in-Ok.is did.ensures.done)
 
 pub returns-in-Err-clause-err : goal.returns-in-Err-clause-err
