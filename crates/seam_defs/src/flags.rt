@@ -38,6 +38,17 @@ pub enum Group {
     BaseClient,
 }
 
+// Whether properties of a flag are in a group: a row for each group, with a column for each flag. A table, since each property
+// is asked for its flag whenever values of a group are gone through, and a look-up is cheaper than the jumps of a `match`.
+const ARE_IN_GROUPS: [[bool; 8]; 6] = [
+    [false, false, true, true, true, true, true, true], // Real
+    [false, false, false, true, true, false, true, true], // Ghost
+    [false, false, false, false, true, true, false, true], // Own
+    [false, false, false, false, false, false, true, true], // Other
+    [true, true, false, false, false, false, false, false], // Base
+    [false, true, false, false, false, false, false, false], // BaseClient
+];
+
 impl Part {
     /// The part of this name: `cell` or `base`. `None` for every other text.
     pub fn named(name: &str) -> Option<Part>
@@ -73,28 +84,6 @@ impl Flag {
     pub fn in_group(self, group: Group) -> bool
         ensures { result ≡ in_group_of self group }
     {
-        // By the group first, which is the same for all properties of a type that is gone through.
-        match group {
-            Group::Real => matches!(
-                self,
-                Flag::CellPrivate
-                    | Flag::CellPublic
-                    | Flag::CellPublicAndOwn
-                    | Flag::OwnClient
-                    | Flag::OtherClients
-                    | Flag::AllClients
-            ),
-            Group::Ghost => matches!(
-                self,
-                Flag::CellPublic | Flag::CellPublicAndOwn | Flag::OtherClients | Flag::AllClients
-            ),
-            Group::Own => matches!(
-                self,
-                Flag::CellPublicAndOwn | Flag::OwnClient | Flag::AllClients
-            ),
-            Group::Other => matches!(self, Flag::OtherClients | Flag::AllClients),
-            Group::Base => matches!(self, Flag::Base | Flag::BaseAndClient),
-            Group::BaseClient => matches!(self, Flag::BaseAndClient),
-        }
+        ARE_IN_GROUPS[group as usize][self as usize]
     }
 }

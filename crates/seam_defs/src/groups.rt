@@ -106,11 +106,13 @@ impl TypeDef {
 
     // How many properties the group has.
     fn count_of(&self, group: Group) -> usize {
-        self.properties
-            .as_slice()
-            .iter()
-            .filter(|property| property.flag.in_group(group))
-            .count()
+        let mut count = 0;
+        for property in self.properties.as_slice() {
+            if property.flag.in_group(group) {
+                count += 1;
+            }
+        }
+        count
     }
 }
 
@@ -140,29 +142,31 @@ fn push_group(
     ensures ok { OnOk result (out.new.items ≡ out.old.items ++ values_text properties.now group values.now) }
     ensures kept { take (length out.old.items) out.new.items ≡ out.old.items }
 {
-    let mut place = 0;
+    let mut left = values;
     for property in properties {
         if property.flag.in_group(group) {
-            push_at(property, values, place, out)?;
-            place += 1;
+            left = push_first(property, left, out)?;
         }
     }
     Ok(())
 }
 
-// Appends the text of a property with the value at a place, where there is one.
-fn push_at(
+// Appends the text of a property with the first value, where there is one, and returns the others.
+fn push_first<'a>(
     property: &Property,
-    values: &[Value],
-    place: usize,
+    values: &'a [Value],
     out: &mut Vec<u8>,
-) -> Result<(), AllocError>
-    ensures ok { OnOk result (out.new.items ≡ out.old.items ++ flat_map property_text (zip (property.now ∷ []) (drop place values.now))) }
+) -> Result<&'a [Value], AllocError>
+    ensures others { IfOk result (λ others. others.now ≡ drop 1 values.now) }
+    ensures ok { OnOk result (out.new.items ≡ out.old.items ++ flat_map property_text (zip (property.now ∷ []) values.now)) }
     ensures kept { take (length out.old.items) out.new.items ≡ out.old.items }
 {
-    match values.get(place) {
-        Some(value) => push_property(property, value, out),
-        None => Ok(()),
+    match values.split_first() {
+        Some((value, others)) => {
+            push_property(property, value, out)?;
+            Ok(others)
+        }
+        None => Ok(values),
     }
 }
 

@@ -42,6 +42,14 @@ decimal_of_digit (suc m) h =
     let same : suc m % 10 ≡ suc m = omega arith in
     decimal_of_pos (suc m) above ∙ ap glyphs (digits_of_step 10 (suc m) (omega arith) above) ∙ rw (none, same) refl
 
+pub decimal_of_two : (n : ℕ) → 10 ≤ n → n < 100 → decimal_of n ≡ (48 + n / 10) ∷ (48 + n % 10) ∷ []
+decimal_of_two n least most = rw (decimal_of_step n least, decimal_of_digit (n / 10) (omega arith)) refl
+
+pub decimal_of_three : (n : ℕ) → 100 ≤ n → n < 1000 → decimal_of n ≡ (48 + n / 100) ∷ (48 + n / 10 % 10) ∷ (48 + n % 10) ∷ []
+decimal_of_three n least most =
+    let hundreds : n / 10 / 10 ≡ n / 100 = omega arith in
+    rw (decimal_of_step n (omega arith), decimal_of_two (n / 10) (omega arith) (omega arith), hundreds) refl
+
 -- what `{}` prints of a number is its decimal
 pub decimal_of_is : (n : ℕ) → n < 10 ^ 64 → decimal_of n ≡ decimal n
 decimal_of_is n h =

@@ -40,9 +40,20 @@ pub fn push_number(out: &mut Vec<u8>, number: u64) -> Result<(), AllocError>
     ensures ok { OnOk result (out.new.items ≡ out.old.items ++ decimal_of number) }
     ensures err { OnErr result (out.new.items ≡ out.old.items) }
 {
+    // Most numbers of a text have few digits, which take no buffer: a copy of known length is one or two stores.
     if number < 10 {
         out.push(b'0' + number as u8)?;
         return Ok(());
+    }
+    if number < 100 {
+        return out.extend_from_slice(&[b'0' + (number / 10) as u8, b'0' + (number % 10) as u8]);
+    }
+    if number < 1000 {
+        return out.extend_from_slice(&[
+            b'0' + (number / 100) as u8,
+            b'0' + (number / 10 % 10) as u8,
+            b'0' + (number % 10) as u8,
+        ]);
     }
     let mut buffer = Buffer::new();
     out.extend_from_slice(buffer.format(number).as_bytes())
