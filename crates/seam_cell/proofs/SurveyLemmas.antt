@@ -1,6 +1,6 @@
 -- A real that settles where it is due: what is left is that of the cell's step.
 use Rattle.std.proofs.Common.{◌≡◌, ◌<◌, ◌^◌, ◌++◌, ℕ, Bool, true, false, not, List, [], ◌∷◌, Option, None, Some, is_none, is_some}
-use Rattle.std.proofs.Common.{Result, Ok, Err, OnOk, OnErr, refl, sym, ap, subst, ◌∙◌}
+use Rattle.std.proofs.Common.{Result, Ok, Err, OnOk, OnErr, refl, sym, ap, subst, ◌∙◌, append-nil}
 use Rattle.std.specs.FinMap as table
 use Rattle.seam_machine.specs.Views.{OutView}
 use Rattle.seam_entity.specs.Numbers.{may_rise}
@@ -19,7 +19,9 @@ use Rattle.seam_parts.specs.declared.lists.Lists.{Lists}
 use Rattle.seam_parts.specs.Kept.{here_in, cell_of}
 use Rattle.seam_parts.specs.Stepping.{parts_of, slot_in, IsDone, list_after}
 use Rattle.seam_parts.proofs.MarkLemmas.{put_back}
+use Rattle.seam_parts.proofs.SettleLemmas.{rest_done}
 use Rattle.seam_entity.proofs.HeldLemmas.{both}
+use Rattle.seam_cell.specs.Surveying.{IsMoot}
 use Rattle.seam_cell.proofs.CallLemmas.{rises}
 use Rattle.seam_cell.proofs.StepLemmas.{done_stepped}
 
@@ -95,6 +97,49 @@ module _ (k : Known) (r s : Reals) (p q : Places) (l m : Lists) (o n : OutView M
 
       pub survey_told : n.items ≡ o.items ++ (cell_task (cell_of k r p l) l.survey).sent
       survey_told = here.sent ∙ ap (λ t. o.items ++ t.sent) (sym survey_is)
+
+-- where there is nothing to do, the entry alone goes
+module _ (k : Known) (r : Reals) (p : Places) (l m : Lists) (o : OutView Msg) (e : ℕ) (es : List ℕ)
+    (moot : IsMoot (here_in k) k.tree (table.get r.items.items e))
+    (keys : (x : RealView) → table.get r.items.items e ≡ Some x → x.entity ≡ e) (is : l.survey ≡ e ∷ es) (survey : m.survey ≡ es)
+    (looks : m.looks ≡ l.looks) where
+  abbrev Leaves : Type 0
+  Leaves = (cell_of k r p m ≡ (cell_task (cell_of k r p l) l.survey).state)
+      × (o.items ≡ o.items ++ (cell_task (cell_of k r p l) l.survey).sent)
+
+  entry_goes : false ≡ not (stray_survey (table.get r.items.items e)) → Leaves
+  entry_goes stray =
+      let goes = not_due (cell_of k r p l) e es is stray in
+      let left : cell_of k r p m ≡ record (cell_of k r p l) { survey = es } = λ i. record {
+        here = here_in k;
+        tree = k.tree;
+        reals = r.items.items;
+        nexts = p.nexts.items;
+        ghosts = p.copies.ghosts;
+        survey = survey i;
+        looks = looks i;
+      } in (left ∙ sym (ap (λ t. t.state) goes), sym (append-nil o.items) ∙ ap (λ t. o.items ++ t.sent) (sym goes))
+
+  at_rest : (x : RealView) → table.get r.items.items e ≡ Some x → may_settle x ≡ true → Leaves
+  at_rest x at may =
+      let due : true ≡ not (stray_survey (table.get r.items.items e)) = sym (ap (λ v. not (stray_survey v)) at ∙ ap (λ b. not (not b)) may) in
+      let entity = keys x at in
+      let done = rest_done (here_in k) x k.tree (parts_of p o) (moot x at may) in
+      (
+        surveyed k r r p p l m o o e es x (Some x) at due entity is done (sym (put_back r.items.items e x at)) survey looks,
+        survey_told k r r p p l m o o e es x (Some x) at due entity is done,
+      )
+
+  by_rights : (x : RealView) → table.get r.items.items e ≡ Some x → (b : Bool) → may_settle x ≡ b → Leaves
+  by_rights x at true may = at_rest x at may
+  by_rights x at false may = entry_goes (sym (ap (λ v. not (stray_survey v)) at ∙ ap (λ b. not (not b)) may))
+
+  by_real : (v : Option RealView) → table.get r.items.items e ≡ v → Leaves
+  by_real None at = entry_goes (sym (ap (λ v. not (stray_survey v)) at))
+  by_real (Some x) at = by_rights x at (may_settle x) refl
+
+  pub moot_done : Leaves
+  moot_done = by_real (table.get r.items.items e) refl
 
 module _ (k : Known) (r s : Reals) (p q : Places) (l m : Lists) (o n : OutView Msg) (e : ℕ) (x : RealView) (left : Option RealView)
     (at : table.get r.items.items e ≡ Some x) where

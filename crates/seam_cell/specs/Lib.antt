@@ -2,3 +2,4 @@ pub mod Calling
 pub mod Machines
 pub mod Arriving
 pub mod Beginning
+pub mod Surveying

@@ -1,9 +1,10 @@
 //! A real settles where it is due, without a call.
 
-ghost use Rattle.std.specs.Prelude.{◌≡◌, ◌<◌, ◌++◌, not, true, false, OnOk, OnErr, IfOk, IfSome, Some, option_map};
+ghost use Rattle.std.specs.Prelude.{◌≡◌, ◌<◌, ◌++◌, not, true, false, IsTrue, OnOk, OnErr, IfOk, IfSome, Some, option_map};
 ghost use Rattle.std.specs.FinMap as table;
 ghost use Rattle.seam_defs.specs.Settings.{AreLegal};
 ghost use Rattle.seam_entity.specs.Here.{cell_count};
+ghost use Rattle.seam_entity.specs.Reals.{RealView};
 ghost use Rattle.seam_entity.specs.Executing.{may_settle as real_may_settle};
 ghost use Rattle.seam_steps.specs.Settle.{settled};
 ghost use Rattle.seam_steps.specs.CellCases.{stray_survey};
@@ -11,14 +12,15 @@ ghost use Rattle.seam_steps.specs.Cells.{cell_task};
 ghost use Rattle.seam_steps.specs.Maps.{has_any};
 ghost use Rattle.seam_parts.specs.Kept.{here_in, cell_of, AreKept, AreWhole, IsThere};
 ghost use Rattle.seam_parts.specs.Stepping.{IsReadyFor, IsDone, parts_of, slot_in, core_of};
+ghost use Rattle.seam_cell.specs.Surveying.{IsMoot};
 
 use crate::calls::may_settle;
 use crate::tasks::Tasked;
 use seam_entity::{Msg, Real};
 use seam_machine::Out;
 use seam_parts::{
-    Known, Lists, Places, Ready, Reals, Subject, make_room, put_after, ready_for, settle_real,
-    take_out,
+    Known, Lists, Places, Ready, Reals, Subject, is_at_rest, make_room, put_after, ready_for,
+    settle_real, take_out,
 };
 use std::alloc::{AllocError, Global};
 
@@ -40,13 +42,17 @@ fn make_ready(alloc: Global, known: &Known, real: &Real) -> Result<Ready, AllocE
     Ok(ready)
 }
 
-// Whether the entity's real is here and may settle.
-fn is_due(reals: &Reals, e: u32) -> bool
-    ensures { result ≡ not (stray_survey (table.get reals.now.items.items e)) }
+// Whether there is nothing to do for the entity: its real is not here, may not settle, or is at rest, as most are.
+fn is_moot(known: &Known, reals: &Reals, e: u32) -> bool
+    requires me { known.now.me < cell_count }
+    requires legal { AreLegal known.now.settings }
+    requires there { (r : RealView) → table.get reals.now.items.items e ≡ Some r → IsThere (here_in known.now) known.now.tree r }
+    ensures moot { IsTrue result → IsMoot (here_in known.now) known.now.tree (table.get reals.now.items.items e) }
+    ensures due { result ≡ false → true ≡ not (stray_survey (table.get reals.now.items.items e)) }
 {
     match reals.items.get(e) {
-        Some(parcel) => may_settle(&parcel.real),
-        None => false,
+        Some(parcel) => !may_settle(&parcel.real) || is_at_rest(known, &parcel.real),
+        None => true,
     }
 }
 
@@ -111,7 +117,7 @@ pub fn survey_task(
     let Some(e) = lists.survey.first() else {
         unreachable!()
     };
-    if !is_due(reals, e) {
+    if is_moot(known, reals, e) {
         let _ = lists.survey.take_first();
         return Ok(());
     }

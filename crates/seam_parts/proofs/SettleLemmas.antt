@@ -1,15 +1,18 @@
 -- What is ready for a real that settles, and what its settling leaves.
 use Rattle.std.proofs.Common.{◌≡◌, ◌≢◌, ◌+◌, ◌++◌, ℕ, Bool, true, false, cond, eqb, List, [], ◌∷◌, Option, None, Some, is_none}
-use Rattle.std.proofs.Common.{refl, ap, sym, subst, ◌∙◌, append_assoc, nat_lt, arith}
+use Rattle.std.proofs.Common.{refl, ap, sym, subst, ◌∙◌, append_assoc, append-nil, nat_lt, arith}
+use Rattle.std.specs.Prelude.{◌==◌, ◌||◌}
+use Rattle.std.specs.List.{filter_map, cons_option}
 use Rattle.std.specs.FinMap as table
 use Rattle.std.specs.FinSet as set
 use Rattle.std.proofs.lemmas.Bool.Decides.{nat_tests}
 use Rattle.seam_geo.specs.declared.pos.Pos.{Pos}
 use Rattle.seam_tree.specs.Division.{Division}
+use Rattle.seam_tree.specs.Cells.{Cells}
 use Rattle.seam_ghosts.specs.declared.Ghost.{Ghost}
 use Rattle.seam_ghosts.specs.Book.{BookView, beat_of, with_ghost, after_message, ghost_after}
 use Rattle.seam_call.specs.declared.shown.GhostCopy.{GhostCopy}
-use Rattle.seam_entity.specs.Here.{Here}
+use Rattle.seam_entity.specs.Here.{Here, cell_numbers}
 use Rattle.seam_entity.specs.Reals.{RealView}
 use Rattle.seam_defs.specs.declared.types.TypeDef.{TypeDef}
 use Rattle.seam_defs.specs.declared.states.State.{State}
@@ -18,12 +21,13 @@ use Rattle.seam_entity.specs.Preparing.{node_with}
 use Rattle.seam_entity.specs.declared.message.Msg.TheVariants.{Hand}
 use Rattle.seam_steps.specs.Maps.{set_at}
 use Rattle.seam_steps.specs.Slots.{Slot}
-use Rattle.seam_steps.specs.Settle.{home_after, haunts_at, ghost_messages, copy_if, stayed, gone_to, settled_by, settled}
+use Rattle.seam_steps.specs.Settle.{home_after, haunts_at, told, told_unless, ghost_message}
+use Rattle.seam_steps.specs.Settle.{ghost_messages, copy_if, stayed, gone_to, settled_by, settled}
 use Rattle.seam_steps.proofs.Slots.{set_at-same}
 use Rattle.seam_parts.specs.declared.news.Telling.{Telling}
 use Rattle.seam_parts.specs.declared.settle.Ready.{Ready}
 use Rattle.seam_parts.specs.News.{Tells}
-use Rattle.seam_parts.specs.Settling.{former, staying, going, IsGone}
+use Rattle.seam_parts.specs.Settling.{former, staying, going, IsGone, IsAtRest}
 use Rattle.seam_parts.specs.Stepping.{telling_at, IsReadyFor, IsLater, PartsView, slot_in, IsDone}
 
 same_number : (a b : ℕ) → eqb a b ≡ true → a ≡ b
@@ -166,6 +170,51 @@ module _ (h : Here) (t : Division) (r was : RealView) (changed : Bool) (y : Read
             (is.own ∙ ap (λ k. copy_if (set.contains y.telling.haunts k) (copy_of_real h r)) (ap (λ x. x.me) is.telling));
         sent = gone.sent ∙ append_assoc before.sent y.news.items ((y.telling.home, Hand (going r y)) ∷ []);
         unlisted = ap is_none (sym none);
+      })
+
+-- ---- a real that is at rest
+
+-- by a plan that keeps home and haunts
+pub rest_planned : (h : Here) (t : Division) (r : RealView) (p : Pos) (old : Cells) (home : ℕ) (haunts : Cells) → p ≡ r.state.pos →
+    old ≡ r.haunts → home ≡ home_after h t p → haunts ≡ haunts_at h t p (home_after h t p) (former h.me (home_after h t p) old) →
+    home ≡ h.me → haunts ≡ old → IsAtRest h t r
+rest_planned h t r p old home haunts pos was home_is haunts_is stays kept =
+    let j : home_after h t p ≡ h.me = sym home_is ∙ stays in
+    let same : former h.me h.me old ≡ old = ap (λ b. cond b old (set.insert old h.me)) (equal_test h.me h.me refl) in record {
+      home = ap (home_after h t) (sym pos) ∙ j;
+      haunts =
+          (λ i. haunts_at h t (sym pos i) h.me (sym was i))
+          ∙ (ap (haunts_at h t p h.me) (sym same)
+          ∙ ((λ i. haunts_at h t p (sym j i) (former h.me (sym j i) old)) ∙ (sym haunts_is ∙ (kept ∙ was))));
+    }
+
+module _ (h : Here) (r : RealView) where
+  not_told : (k : ℕ) (mine was : Bool) →
+      told_unless mine k (told r.entity (r.beat + 1) (copy_of_real h r) was was false) ≡ None
+  not_told k true was = refl
+  not_told k false true = refl
+  not_told k false false = refl
+
+  none_told : (ks : List ℕ) → filter_map (ghost_message h r h.me r.haunts false) ks ≡ []
+  none_told [] = refl
+  none_told (k ∷ ks) =
+      ap (λ o. cons_option o (filter_map (ghost_message h r h.me r.haunts false) ks))
+      (not_told k ((k == h.me) || (k == h.me)) (set.contains r.haunts k))
+      ∙ none_told ks
+
+  pub rest_done : (t : Division) (w : PartsView) → IsAtRest h t r →
+      IsDone (settled h t (slot_in w r.entity r) r false) r.entity r (Some r) w w
+  rest_done t w rest =
+      let s = slot_in w r.entity r in
+      let stays : settled h t s r false ≡ stayed s r r.haunts [] =
+      ap (λ b. settled_by b h t s r false (home_after h t r.state.pos)) (equal_test _ _ rest.home)
+      ∙ (ap (λ x. stayed s r x (ghost_messages h r h.me x false)) rest.haunts ∙ ap (stayed s r r.haunts) (none_told cell_numbers)) in
+      subst (λ x. IsDone x r.entity r (Some r) w w) (sym stays) (record {
+        real = refl;
+        nexts = sym (set_at-same w.nexts r.entity);
+        ghosts = sym (set_at-same w.ghosts r.entity);
+        sent = sym (append-nil w.sent);
+        unlisted = refl;
       })
 
 -- what the book has after a message

@@ -4,21 +4,28 @@ use Rattle.std.specs.Ordering.{nat_cmp}
 use Rattle.std.specs.FinMap as table
 use Rattle.std.specs.FinSet as set
 use Rattle.seam_tree.specs.Cells.{Cells}
+use Rattle.seam_tree.specs.Division.{Division}
 use Rattle.seam_ghosts.specs.declared.Ghost.{Ghost}
 use Rattle.seam_ghosts.specs.Book.{ghost_after}
 use Rattle.seam_call.specs.declared.shown.GhostCopy.{GhostCopy}
+use Rattle.seam_entity.specs.Here.{Here}
 use Rattle.seam_entity.specs.Reals.{RealView}
 use Rattle.seam_entity.specs.declared.message.Msg.{Msg}
 use Rattle.seam_entity.specs.declared.message.Msg.TheVariants.{Hand}
 use Rattle.seam_entity.specs.Executing.{settled_to}
 use Rattle.seam_steps.specs.Maps.{Map, set_at}
 use Rattle.seam_steps.specs.Slots.{NextPlace}
-use Rattle.seam_steps.specs.Settle.{beat_after}
+use Rattle.seam_steps.specs.Settle.{beat_after, home_after, haunts_at}
 use Rattle.seam_parts.specs.declared.settle.Ready.{Ready}
 
 -- at a hand-over the cell counts as a former haunt
 abbrev pub former : ℕ → ℕ → Cells → Cells
 former me home old = if home == me then old else set.insert old me
+
+-- a real of cell h that would stay and keep its haunts if it settled as it is
+pub record IsAtRest (h : Here) (t : Division) (r : RealView) : Type 0 where
+  pub home : home_after h t r.state.pos ≡ h.me
+  pub haunts : haunts_at h t r.state.pos h.me r.haunts ≡ r.haunts
 
 -- there is room for all messages, and where the real goes, for its next place and its ghost
 pub record HasRoomFor (r : Ready) (nexts book : set.FinSet nat_cmp) (spare : ℕ) : Type 0 where

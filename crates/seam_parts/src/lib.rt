@@ -30,7 +30,8 @@ pub use places::Places;
 pub use real_table::RealTable;
 pub use reals::{Reals, close, first_ready, make_place, put_after, put_in, take_out};
 pub use settle::{
-    Plan, Ready, get_ready, leave, make_plan, make_room, ready_for, settle_real, stay, tell_own,
+    Plan, Ready, get_ready, is_at_rest, leave, make_plan, make_room, ready_for, settle_real, stay,
+    tell_own,
 };
 
 #[cfg(test)]

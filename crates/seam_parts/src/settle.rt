@@ -3,7 +3,7 @@
 //! First comes the plan, then what may want memory, and last what cannot fail.
 
 ghost use Rattle.std.specs.Prelude.{◌≡◌, ℕ, ◌<◌, ◌≤◌, ◌^◌, ◌+◌, ◌++◌, ◌==◌};
-ghost use Rattle.std.specs.Prelude.{true, false, length, IfOk, OnOk, IfSome, List, Bool, option_map};
+ghost use Rattle.std.specs.Prelude.{true, false, length, IsTrue, IfOk, OnOk, IfSome, List, Bool, option_map};
 ghost use Rattle.std.specs.FinMap as table;
 ghost use Rattle.std.specs.FinSet as set;
 ghost use Rattle.seam_ghosts.specs.Book.{ghost_after};
@@ -18,7 +18,7 @@ ghost use Rattle.seam_steps.specs.Settle.{home_after, haunts_at, copy_if, ghost_
 ghost use Rattle.seam_entity.specs.Here.{Here, cell_count};
 ghost use Rattle.seam_entity.specs.Reals.{RealView};
 ghost use Rattle.seam_parts.specs.News.{Tells};
-ghost use Rattle.seam_parts.specs.Settling.{former, staying, HasRoomFor, IsGone};
+ghost use Rattle.seam_parts.specs.Settling.{former, staying, HasRoomFor, IsGone, IsAtRest};
 ghost use Rattle.seam_parts.specs.Kept.{here_in};
 ghost use Rattle.seam_parts.specs.Stepping.{telling_at, IsReadyFor, IsLater, IsDone, parts_of, slot_in, core_of};
 
@@ -239,6 +239,24 @@ pub fn ready_for(
     let telling = tell_from(known, real, of.state.pos, changed);
     let ready = get_ready(alloc, telling, of)?;
     Ok(ready)
+}
+
+/// Whether the real would stay and keep its haunts if it settled as it is: nothing would change then, and no cell would be told anything.
+pub fn is_at_rest(known: &Known, real: &Real) -> bool
+    requires me { known.now.me < cell_count }
+    requires inside { IsInSpace known.now.tree real.now.core.state.pos }
+    requires legal { AreLegal known.now.settings }
+    ensures { IsTrue result → IsAtRest (here_in known.now) known.now.tree real.now.core }
+{
+    let old = real.haunts();
+    let plan = make_plan(
+        known.me,
+        &known.settings,
+        &known.tree,
+        old,
+        real.state().pos,
+    );
+    plan.home == known.me && plan.haunts.is(&old)
 }
 
 /// The real settles as was made ready, and is given back where it stays. It takes no memory.

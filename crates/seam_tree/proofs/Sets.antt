@@ -1,7 +1,10 @@
 -- Sets of cells and writes to their marks.
 use Rattle.std.proofs.Common.{◌≡◌, ◌<◌, ◌≤◌, ℕ, zero, suc, ◌+◌, ◌==◌, Bool, true, false, ◌||◌, ◌&&◌, not, cond, List, [], ◌∷◌, length, set}
 use Rattle.std.proofs.Common.{get_or, refl, sym, ap, ◌∙◌, arith, inl, inr, get_or-set_other}
+use Rattle.std.specs.Prelude.{IsTrue}
 use Rattle.std.specs.Cmp.{nat_cmp_total, unsigned_tied}
+use Rattle.std.specs.Cmp.Lexicographic.{pointwise}
+use Rattle.std.proofs.Math.Bool.{beq}
 use Rattle.std.proofs.lemmas.Bool.Decides.{nat_tests}
 use Rattle.std.proofs.lemmas.Grind.{common_steps}
 use Rattle.std.specs.FinSet as cells
@@ -11,6 +14,16 @@ use Rattle.seam_tree.specs.Inverse.{contains_marked, contains_insert_nat}
 
 pub contains_marks : (marks : List Bool) (k : ℕ) → cells.contains (marked_from 0 marks) k ≡ get_or marks k false
 contains_marks marks k = let e : k ≡ 0 + k = omega arith in ap (cells.contains (marked_from 0 marks)) e ∙ contains_marked 0 marks k
+
+-- marks that a test finds equal
+pub same_marks : (xs ys : List Bool) → IsTrue (pointwise beq xs ys) → xs ≡ ys
+same_marks [] [] h = refl
+same_marks [] (y ∷ ys) h = cc
+same_marks (x ∷ xs) [] h = cc
+same_marks (true ∷ xs) (true ∷ ys) h = ap (λ l. true ∷ l) (same_marks xs ys h)
+same_marks (true ∷ xs) (false ∷ ys) h = cc
+same_marks (false ∷ xs) (true ∷ ys) h = cc
+same_marks (false ∷ xs) (false ∷ ys) h = ap (λ l. false ∷ l) (same_marks xs ys h)
 
 pub get_or_past : (marks : List Bool) (k : ℕ) → length marks ≤ k → get_or marks k false ≡ false
 get_or_past [] k past = refl

@@ -46,6 +46,13 @@ impl CellSet {
         cell < 16 && self.marks[usize::from(cell)]
     }
 
+    /// Whether both sets have the same cells.
+    pub fn is(&self, other: &CellSet) -> bool
+        ensures { IsTrue result → self.now ≡ other.now }
+    {
+        self.marks == other.marks
+    }
+
     /// The set with the cell.
     pub fn with(self, cell: u8) -> CellSet
         requires { cell < 16 }
