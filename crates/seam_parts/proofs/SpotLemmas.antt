@@ -1,14 +1,12 @@
 -- Where reals and copies are, as it is kept beside them: after a change of one entity, and after a walk over all.
-use Rattle.std.proofs.Common.{◌≡◌, ℕ, ◌<◌, ◌-◌, Bool, true, false, cond, T, find, List, Option, None, Some, refl, sym, ap, subst, ◌∙◌}
+use Rattle.std.proofs.Common.{◌≡◌, ℕ, ◌<◌, ◌-◌, Bool, true, false, cond, T, List, [], ◌∷◌, ◌++◌, append-nil, append_assoc, Option, None, Some, refl, sym, ap, subst, ◌∙◌}
 use Rattle.std.proofs.Common.{arith}
 use Rattle.std.proofs.Common.{IfSome, is_some, eqb, Bor, option_copied}
 use Rattle.std.specs.Prelude.{option_map, nat_lt}
-use Rattle.std.specs.Ordering.{nat_cmp, eq_by_cmp, is_eq}
-use Rattle.std.specs.declared.cmp.Ordering.{Ordering}
-use Rattle.std.specs.declared.cmp.Ordering.TheVariants.{Less, Equal, Greater}
+use Rattle.std.specs.Ordering.{nat_cmp, eq_by_cmp, is_eq, is_lt}
 use Rattle.std.specs.Cmp.{nat_cmp_total}
 use Rattle.std.specs.FinMap as map
-use Rattle.std.specs.FinMap.Entries.{is_sorted}
+use Rattle.std.specs.FinMap.Entries.{is_sorted, below_all, find-append}
 use Rattle.std.proofs.lemmas.Bool.Decides.{nat_tests}
 use Rattle.seam_table.specs.Tables.{is_after}
 use Rattle.seam_range.specs.declared.Place.{Place}
@@ -20,8 +18,8 @@ use Rattle.seam_call.specs.declared.shown.GhostCopy.{GhostCopy}
 use Rattle.seam_entity.specs.Reals.{RealView}
 use Rattle.seam_steps.specs.Maps.{Map, set_at}
 use Rattle.seam_steps.proofs.Slots.{get-set_at}
-use Rattle.seam_known.proofs.Walks.{comes_after, IsBefore, nothing_before, there}
-use Rattle.seam_known.proofs.Knowing.{find_copied, copies_rise}
+use Rattle.seam_known.proofs.Sorted.{first, second}
+use Rattle.seam_known.proofs.Knowing.{find_copied}
 use Rattle.seam_parts.specs.Spots.{is_out, is_none_else_out, still_out, AreNoted, AreListed, IsNoted, IsChanged, place_of_real}
 use Rattle.seam_parts.specs.Spots.{place_of_copy, real_places}
 use Rattle.seam_parts.specs.Spots.{copy_places}
@@ -145,67 +143,65 @@ pub fewer_left : (last : Option ℕ) (e : ℕ) → is_after last e ≡ true → 
 fewer_left None e after small = omega (arith, small)
 fewer_left (Some low) e after small = let lt : low < e = grind (arith, nat_tests, after) in omega (arith, small, lt)
 
-module _ {X : Type 0} (f : X → Place) (es : List (ℕ × X)) (h : T (is_sorted nat_cmp es)) where
-  -- just those are noted that do not come after the last one
-  abbrev pub AreNotedSoFar : Option ℕ → Places → Type 0
-  AreNotedSoFar last l = (q : ℕ) → map.get l q ≡ cond (is_after last q) None (option_map f (map.find nat_cmp q es))
+-- no entry before another has its number
+below_further : {X : Type 0} (k e : ℕ) (x : X) (passed rest : List (ℕ × X)) → T (below_all nat_cmp k (passed ++ (e, x) ∷ rest)) →
+    T (is_lt (nat_cmp k e))
+below_further k e x [] rest h = first _ _ h
+below_further k e x (p ∷ passed) rest h = below_further k e x passed rest (second _ _ h)
 
-  pub none_noted : (l : Places) → l ≡ map.empty → AreNotedSoFar None l
-  none_noted l is q = ap (λ m. map.get m q) is ∙ map.get-empty nat_cmp q
+not_passed : {X : Type 0} (e : ℕ) (x : X) (passed rest : List (ℕ × X)) → T (is_sorted nat_cmp (passed ++ (e, x) ∷ rest)) →
+    map.find nat_cmp e passed ≡ None
+not_passed e x [] rest h = refl
+not_passed e x (p ∷ passed) rest h =
+    let below = below_further p.0 e x passed rest (first _ _ h) in
+    let apart : is_eq (nat_cmp e p.0) ≡ false = grind (arith, nat_tests, below) in
+    ap (λ b. cond b (Some p.1) (map.find nat_cmp e passed)) apart ∙ not_passed e x passed rest (second _ _ h)
 
-  -- one that comes before what the walk finds is noted
-  noted_before : (last : Option ℕ) (l : Places) (o : Option (ℕ × X)) → AreNotedSoFar last l → find (comes_after last) es ≡ o → (q : ℕ) →
-      IsBefore q o → map.get l q ≡ option_map f (map.find nat_cmp q es)
-  noted_before last l o are is q before = are q ∙ by (is_after last q) refl
-    where
-      by : (b : Bool) → is_after last q ≡ b → cond b None (option_map f (map.find nat_cmp q es)) ≡ option_map f (map.find nat_cmp q es)
-      by true after = sym (ap (option_map f) (nothing_before last es o h is q after before))
-      by false after = refl
+module _ {X : Type 0} (f : X → Place) (es : List (ℕ × X)) where
+  -- just those are noted that the walk has passed
+  pub record AreNotedSoFar (rest : List (ℕ × X)) (l : Places) : Type 0 where
+    pub passed : List (ℕ × X)
+    pub parts : es ≡ passed ++ rest
+    pub noted : (q : ℕ) → map.get l q ≡ option_map f (map.find nat_cmp q passed)
 
-  after_later : (last : Option ℕ) (e q : ℕ) → is_after last e ≡ true → nat_lt e q ≡ true → is_after last q ≡ true
-  after_later None e q first second = refl
-  after_later (Some low) e q first second = grind (arith, nat_tests, first, second)
+  pub none_noted : (rest : List (ℕ × X)) (l : Places) → rest ≡ es → l ≡ map.empty → AreNotedSoFar rest l
+  none_noted rest l all is = record {
+    passed = [];
+    parts = sym all;
+    noted = λ q. ap (λ m. map.get m q) is ∙ map.get-empty nat_cmp q;
+  }
 
-  pub noted_more : (last : Option ℕ) (l now : Places) (e : ℕ) (x : X) → Some (e, x) ≡ find (comes_after last) es →
-      now ≡ map.insert l e (f x) →
-      AreNotedSoFar last l → AreNotedSoFar (Some e) now
-  noted_more last l now e x is put are q =
-      ap (λ m. map.get m q) put ∙ (map.get-insert nat_cmp_total l e (f x) q ∙ by (nat_cmp q e) refl)
-    where
-      here : (map.find nat_cmp e es ≡ Some x) × (is_after last e ≡ true)
-      here = there last es (e, x) h (sym is)
+  pub noted_more : T (is_sorted nat_cmp es) → (e : ℕ) (x : X) (before rest : List (ℕ × X)) (l now : Places) → before ≡ (e, x) ∷ rest →
+      now ≡ map.insert l e (f x) → AreNotedSoFar before l → AreNotedSoFar rest now
+  noted_more sorted e x before rest l now next put so_far =
+      let passed = so_far.passed in
+      let parts : es ≡ passed ++ (e, x) ∷ rest = so_far.parts ∙ ap (λ r. passed ++ r) next in
+      let new_to_it = not_passed e x passed rest (subst (λ l. T (is_sorted nat_cmp l)) parts sorted) in
+      record {
+        passed = passed ++ (e, x) ∷ [];
+        parts = parts ∙ sym (append_assoc passed ((e, x) ∷ []) rest);
+        noted = λ q.
+          ap (λ m. map.get m q) put
+          ∙ (map.get-insert nat_cmp_total l e (f x) q
+          ∙ (ap (cond (eq_by_cmp nat_cmp q e) (Some (f x))) (so_far.noted q)
+          ∙ sym (ap (option_map f) (find-append nat_cmp nat_cmp_total passed e x q new_to_it)
+          ∙ map_cond f (eq_by_cmp nat_cmp q e) (Some x) (map.find nat_cmp q passed))));
+      }
 
-      by : (r : Ordering) → nat_cmp q e ≡ r →
-          cond (is_eq r) (Some (f x)) (map.get l q) ≡ cond (nat_lt e q) None (option_map f (map.find nat_cmp q es))
-      by Less less =
-          let not : nat_lt e q ≡ false = grind (arith, nat_tests, less) in
-          noted_before last l (Some (e, x)) are (sym is) q less
-          ∙ sym (ap (λ b. cond b None (option_map f (map.find nat_cmp q es))) not)
-      by Equal same =
-          let key : q ≡ e = map.nat_cmp-IsAntisymmetric q e same in
-          let not : nat_lt e q ≡ false = grind (arith, nat_tests, key) in
-          sym (ap (λ b. cond b None (option_map f (map.find nat_cmp q es))) not
-          ∙ ap (option_map f) (ap (λ k. map.find nat_cmp k es) key ∙ here.0))
-      by Greater more =
-          let later : nat_lt e q ≡ true = grind (arith, nat_tests, more) in
-          are q
-          ∙ (ap (λ b. cond b None (option_map f (map.find nat_cmp q es))) (after_later last e q here.1 later)
-          ∙ sym (ap (λ b. cond b None (option_map f (map.find nat_cmp q es))) later))
-
-  pub all_noted : (last : Option ℕ) (l : Places) → None ≡ find (comes_after last) es → AreNotedSoFar last l → (q : ℕ) →
+  pub all_noted : (rest : List (ℕ × X)) (l : Places) → rest ≡ [] → AreNotedSoFar rest l → (q : ℕ) →
       map.get l q ≡ option_map f (map.find nat_cmp q es)
-  all_noted last l none are q = noted_before last l None are (sym none) q tt
+  all_noted rest l none so_far q =
+      so_far.noted q
+      ∙ ap (λ ps. option_map f (map.find nat_cmp q ps)) (sym (append-nil so_far.passed) ∙ ap (λ r. so_far.passed ++ r) (sym none) ∙ sym so_far.parts)
 
 -- after a walk over all reals, or all copies, all of them are noted
-pub reals_noted : (m : Map RealView) (last : Option ℕ) (l : Places) → None ≡ find (comes_after last) (map.entries m) →
-    AreNotedSoFar place_of_real (map.entries m) (map.entries_sorted m) last l → AreNoted l None (real_places m)
-reals_noted m last l none are q not =
-    all_noted place_of_real (map.entries m) (map.entries_sorted m) last l none are q
-    ∙ ap (option_map place_of_real) (sym (map.get-entries m q))
+pub reals_noted : (m : Map RealView) (rest : List (ℕ × RealView)) (l : Places) → rest ≡ [] →
+    AreNotedSoFar place_of_real (map.entries m) rest l → AreNoted l None (real_places m)
+reals_noted m rest l none so_far q not =
+    all_noted place_of_real (map.entries m) rest l none so_far q ∙ ap (option_map place_of_real) (sym (map.get-entries m q))
 
-pub copies_noted : (m : Map (Ghost GhostCopy)) (last : Option ℕ) (l : Places) → None ≡ find (comes_after last) (copied (map.entries m)) →
-    AreNotedSoFar place_of_copy (copied (map.entries m)) (copies_rise (map.entries m) (map.entries_sorted m)) last l →
-    AreNoted l None (copy_places m)
-copies_noted m last l none are q not =
-    all_noted place_of_copy (copied (map.entries m)) (copies_rise (map.entries m) (map.entries_sorted m)) last l none are q
+pub copies_noted : (m : Map (Ghost GhostCopy)) (rest : List (ℕ × GhostCopy)) (l : Places) → rest ≡ [] →
+    AreNotedSoFar place_of_copy (copied (map.entries m)) rest l → AreNoted l None (copy_places m)
+copies_noted m rest l none so_far q not =
+    all_noted place_of_copy (copied (map.entries m)) rest l none so_far q
     ∙ ap (option_map place_of_copy) (find_copied q (map.entries m) (map.entries_sorted m) ∙ ap copy_in (sym (map.get-entries m q)))

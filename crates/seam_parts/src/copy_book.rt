@@ -1,6 +1,6 @@
 //! The copies of a cell by entity, and where they are.
 
-ghost use Rattle.std.specs.Prelude.{◌≡◌, Some, None, true, false, OnOk, OnErr, IfOk, IfErr, IfSome, find, option_map};
+ghost use Rattle.std.specs.Prelude.{◌≡◌, ℕ, Some, None, true, false, OnOk, OnErr, IfOk, IfErr, IfSome, find, option_map};
 ghost use Rattle.std.specs.Prelude.{option_copied};
 ghost use Rattle.std.specs.FinMap as map;
 ghost use Rattle.std.specs.FinSet as set;
@@ -14,6 +14,7 @@ use seam_call::GhostCopy;
 use seam_ghosts::{GhostBook, Kept};
 use seam_memory::NoMemoryFor;
 use seam_range::{Place, RangeList};
+use seam_table::{Finder, Items};
 use std::alloc::{AllocError, Global};
 use std::marker::Model;
 
@@ -56,10 +57,8 @@ fn places_of(alloc: Global, book: &GhostBook<GhostCopy>) -> Result<RangeList, Al
     ensures { IfOk result (λ l. AreNoted l None (copy_places book.now.ghosts)) }
 {
     let mut list = RangeList::new(alloc);
-    let mut last = None;
-    while let Some((e, copy)) = book.next_after(last) {
+    for (e, copy) in book.iter() {
         put(&mut list, e, place_of(copy))?;
-        last = Some(e);
     }
     Ok(list)
 }
@@ -134,6 +133,20 @@ impl CopyBook {
             Ok(Kept::Ignored) => Ok(()),
             Err(refused) => Err(refused),
         }
+    }
+
+    /// The copies, with their entities' numbers, in rising number.
+    pub fn iter(&self) -> Items<'_, GhostCopy>
+        ensures { result ≡ copies self.now }
+    {
+        self.book.iter()
+    }
+
+    /// A finder of many copies, of which mostly each has a greater entity number than the last.
+    pub fn finder(&self) -> Finder<'_, GhostCopy>
+        ensures { (e : ℕ) → map.get result e ≡ copy_of self.now e }
+    {
+        self.book.finder()
     }
 
     /// The first copy, in rising entity number, of those whose number is greater than the given one, or of all where none is given.

@@ -9,7 +9,7 @@ ghost use Rattle.seam_parts.specs.Spots.{AreNoted, place_of_real, real_places};
 use crate::spots::{Spots, beside, forget, let_out, note, put};
 use seam_entity::{Parcel, Real};
 use seam_range::{Place, RangeList};
-use seam_table::Table;
+use seam_table::{Finder, Items, Table};
 use std::alloc::{AllocError, Global};
 use std::marker::Model;
 
@@ -52,10 +52,9 @@ fn places_of(alloc: Global, items: &Table<Parcel>) -> Result<RangeList, AllocErr
     ensures { IfOk result (λ l. AreNoted l None (real_places items.now.items)) }
 {
     let mut list = RangeList::new(alloc);
-    let mut last = None;
-    while let Some((e, parcel)) = items.next_after(last) {
+    let mut walk = items.iter();
+    while let Some((e, parcel)) = walk.next() {
         put(&mut list, e, place_of(&parcel.real))?;
-        last = Some(e);
     }
     Ok(list)
 }
@@ -118,6 +117,20 @@ impl RealTable {
     {
         forget(&mut self.spots, e);
         self.items.remove(e)
+    }
+
+    /// The reals, with their entities' numbers, in rising number.
+    pub fn iter(&self) -> Items<'_, Parcel>
+        ensures { result ≡ map.entries self.now.items }
+    {
+        self.items.iter()
+    }
+
+    /// A finder of many reals, of which mostly each has a greater number than the last.
+    pub fn finder(&self) -> Finder<'_, Parcel>
+        ensures { result ≡ self.now.items }
+    {
+        self.items.finder()
     }
 
     /// The first real, in rising number, of those whose entity's number is greater than the given one, or of all where none is given.

@@ -260,6 +260,15 @@ entries-kept [] o = entries-empty
 entries-kept (s ∷ ss) o =
     entries-slot s.0 s.1 ss (sorted_head nat_cmp s.0 (keys_of ss) o) (entries-kept ss (sorted_tail nat_cmp s.0 (keys_of ss) o))
 
+-- a search of a table without an entry
+pub nothing_found : {T : Type 0} (t : ℕ × T → Bool) (ss : List (ℕ × Option T)) → length ss ≡ 0 →
+    find t (map.entries (table_of ss).items) ≡ None
+nothing_found t ss e = ap (λ l. find t (map.entries (table_of l).items)) (no_length ss e) ∙ ap (find t) entries-empty
+
+pub all_in_range : {X : Type 0} (es : List (ℕ × X)) → filter (λ e. range_contains nat_cmp Unbounded Unbounded e.0) es ≡ es
+all_in_range [] = refl
+all_in_range (e ∷ es) = ap (λ l. e ∷ l) (all_in_range es)
+
 -- the first item of the entries that pass a test of their numbers
 first_with : {T : Type 0} (t u : ℕ → Bool) (s : ℕ) (o : Option T) (ss rest : List (ℕ × T)) → t s ≡ u s →
     slice_get ss 0 ≡ find (λ p. u p.0) rest → slice_get (cond (t s) (kept_before s o ss) ss) 0 ≡ find (λ p. u p.0) (kept_before s o rest)
@@ -270,7 +279,7 @@ first_with t u s (Some p) ss rest same h =
       | false ↦ h
     ])
 
-kept_cond : {T : Type 0} (b : Bool) (s : ℕ) (slot : Option T) (ss : List (ℕ × Option T)) →
+pub kept_cond : {T : Type 0} (b : Bool) (s : ℕ) (slot : Option T) (ss : List (ℕ × Option T)) →
     kept (cond b ((s, slot) ∷ ss) ss) ≡ cond b (kept_before s slot (kept ss)) (kept ss)
 kept_cond true s slot ss = refl
 kept_cond false s slot ss = refl

@@ -3,10 +3,15 @@
 //! Contracts see a table as a finite map, and beside it the numbers for which there is room. A call that is to change several tables, or
 //! all or none of them, makes room first and changes what cannot fail then.
 //!
+//! A call that goes over all items takes [`Table::iter`], and one that asks for many numbers, mostly each above the last, takes
+//! [`Table::finder`]: neither begins a search for each item.
+//!
 //! Of `proofs/`, `Found` (what a search of a table's entries finds) is for callers.
 #![tactic(auto)]
 
-ghost use Rattle.std.specs.Prelude.{◌≡◌, ℕ, Bool, Some, find, true, false, OnOk, OnErr, IfOk, IfErr, IfSome, option_map, option_copied};
+ghost use Rattle.std.specs.Prelude.{◌≡◌, ℕ, Bool, Some, find, true, false, OnOk, OnErr, IfOk, IfErr, IfSome};
+ghost use Rattle.std.specs.Prelude.{option_map, option_copied, nat_le};
+ghost use Rattle.std.specs.List.{filter};
 ghost use Rattle.std.specs.FinMap as map;
 ghost use Rattle.std.specs.FinSet as set;
 ghost use Rattle.std.specs.Ordering.{nat_cmp};
@@ -20,8 +25,13 @@ use std::collections::BTreeMap;
 use std::marker::Model;
 use std::ops::Bound;
 
+mod finder;
+mod items;
 #[cfg(test)]
 mod tests;
+
+pub use finder::Finder;
+pub use items::Items;
 
 /// An item for some of the numbers.
 ///
@@ -145,10 +155,38 @@ impl<T: Drop> Table<T> {
         remove_entry(&mut self.entries, n)
     }
 
+    /// The items, with their numbers, in rising number.
+    pub fn iter(&self) -> Items<'_, T>
+        ensures { result ≡ map.entries self.now.items }
+    {
+        Items {
+            entries: self.entries.range(..),
+        }
+    }
+
+    // The items of the number and of those above it.
+    fn items_from(&self, n: u32) -> Items<'_, T>
+        ensures { result ≡ filter (λ p. nat_le n p.0) (map.entries self.now.items) }
+    {
+        Items {
+            entries: self.entries.range((Bound::Included(n), Bound::Unbounded)),
+        }
+    }
+
+    /// A finder of many items, of which mostly each has a greater number than the last.
+    pub fn finder(&self) -> Finder<'_, T>
+        ensures { result ≡ self.now.items }
+    {
+        Finder::new(self)
+    }
+
     /// The first item, in rising number, of those whose number is greater than the given one, or of all where none is given.
     pub fn next_after(&self, after: Option<u32>) -> Option<(u32, &T)>
         ensures { option_map (λ p. (p.0, p.1.now)) result ≡ find (λ p. is_after after p.0) (map.entries self.now.items) }
     {
+        if self.entries.is_empty() {
+            return None;
+        }
         for (n, slot) in self.entries.range((bound_after(after), Bound::Unbounded)) {
             if let Some(item) = slot {
                 return Some((*n, item));

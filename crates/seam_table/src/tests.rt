@@ -34,3 +34,54 @@ fn an_item_is_changed_in_the_room_that_it_left(rt: HostRuntime) -> Result<(), Fa
     assert_eq!(rt; table.remove(2), None);
     Ok(())
 }
+
+#[test]
+fn the_items_come_in_rising_number(rt: HostRuntime) -> Result<(), Fail> {
+    let mut table = Table::new(rt.alloc());
+    assert_eq!(rt; table.iter().next(), None);
+    for n in [9, 2, 7, 4] {
+        assert_eq!(rt; table.put(n, 10 * n).is_ok(), true);
+    }
+    assert_eq!(rt; table.take(7), Some(70));
+    let mut items = table.iter();
+    assert_eq!(rt; items.next(), Some((2, &20)));
+    assert_eq!(rt; items.next(), Some((4, &40)));
+    assert_eq!(rt; items.next(), Some((9, &90)));
+    assert_eq!(rt; items.next(), None);
+    Ok(())
+}
+
+#[test]
+fn numbers_are_found_in_any_order(rt: HostRuntime) -> Result<(), Fail> {
+    let mut table = Table::new(rt.alloc());
+    assert_eq!(rt; table.finder().find(0), None);
+    for n in 1..100 {
+        assert_eq!(rt; table.put(3 * n, n).is_ok(), true);
+    }
+    table.reserve(10)?;
+    let mut finder = table.finder();
+    for (number, item) in [
+        // Rising, and absent between two items.
+        (0, None),
+        (3, Some(&1)),
+        (3, Some(&1)),
+        (6, Some(&2)),
+        (10, None),
+        (11, None),
+        (12, Some(&4)),
+        // Further than the walk goes item by item.
+        (240, Some(&80)),
+        (292, None),
+        (297, Some(&99)),
+        (298, None),
+        (4000, None),
+        // Falling.
+        (297, Some(&99)),
+        (9, Some(&3)),
+        (8, None),
+        (4001, None),
+    ] {
+        assert_eq!(rt; finder.find(number), item);
+    }
+    Ok(())
+}

@@ -1,10 +1,7 @@
 use Rattle.std.specs.FinMap as map
 use Rattle.seam_parts.specs.Spots.{place_of_real}
-use Rattle.seam_parts.proofs.SpotLemmas.{AreNotedSoFar, left}
+use Rattle.seam_parts.proofs.SpotLemmas.{AreNotedSoFar}
 use Rattle.seam_parts.proofs.real_table.places_of.Given as goal
 
 abbrev pub invariant-loop-e : goal.invariant-loop-e
-invariant-loop-e l = AreNotedSoFar place_of_real (map.entries l.items.items) (map.entries_sorted l.items.items) l.last l.list
-
-abbrev pub decreases-loop-e : goal.decreases-loop-e
-decreases-loop-e l = left l.last
+invariant-loop-e l = AreNotedSoFar place_of_real (map.entries l.items.items) l.walk l.list

@@ -6,7 +6,7 @@ use Rattle.std.specs.BTreeMap.Range.{range_contains}
 use Rattle.std.specs.declared.ops.Bound.TheVariants.{Unbounded}
 use Rattle.seam_table.specs.Tables.{is_after}
 use Rattle.seam_table.specs.Entries.{kept, low_bound}
-use Rattle.seam_table.proofs.TableLemmas.{entries-kept, first-after, from_low}
+use Rattle.seam_table.proofs.TableLemmas.{entries-kept, first-after, from_low, nothing_found}
 use Rattle.seam_table.proofs.Table.next_after.Goals as goal
 
 pub loop-n-init : goal.loop-n-init
@@ -21,3 +21,8 @@ loop-n-init g c = (
       ∙ (ap (find (λ p. is_after c.args.after p.0)) (sym (entries-kept c.self.inside.entries.entries c.self.invariant))
       ∙ ap (λ w. find (λ p. is_after c.args.after p.0) (map.entries w.items)) c.self.view_is))),
 )
+
+pub returns-then-is_empty : goal.returns-then-is_empty
+returns-then-is_empty g c =
+    sym (nothing_found (λ p. is_after c.args.after p.0) c.self.inside.entries.entries (c.is_empty.ensures.0 c.if-is_empty.true))
+    ∙ ap (λ w. find (λ p. is_after c.args.after p.0) (map.entries w.items)) c.self.view_is
