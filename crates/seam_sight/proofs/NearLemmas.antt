@@ -23,7 +23,7 @@ use Rattle.seam_known.proofs.Sorted.{passing, find_filter, sorted_filter, find_m
 use Rattle.seam_known.proofs.Knowing.{known_rises, known_to_is, known_of_others}
 use Rattle.seam_parts.specs.Spots.{AreNoted, place_of_real, place_of_copy, real_places, copy_places}
 use Rattle.seam_sight.specs.Looking.{seen_if}
-use Rattle.seam_sight.specs.Near.{seen_at_place, is_other, unlisted, merged, is_near, HasNear, seen_of_entity}
+use Rattle.seam_sight.specs.Near.{seen_at_place, is_other, without_reals, merged, is_near, HasNear, seen_of_entity}
 use Rattle.seam_sight.proofs.Merges.{rising_merged, find_merged, same_places}
 
 -- ---- what is known, by places
@@ -62,7 +62,7 @@ module _ (d : CellView) (own : ℕ) (r : Replica) (p : Pos) (reach : ℕ) (is_re
   near_reals = within reals p reach
 
   abbrev near_copies : List (ℕ × Place)
-  near_copies = unlisted reals (within copies p reach)
+  near_copies = without_reals d.reals (within copies p reach)
 
   test_is : (q : ℕ) (x : Place) → is_within p reach x ≡ test (q, x)
   test_is q x = within_near r.radius r.hysteresis reach (distance p x.pos) is_reach
@@ -82,23 +82,23 @@ module _ (d : CellView) (own : ℕ) (r : Replica) (p : Pos) (reach : ℕ) (is_re
   where_none b (Some x) = cond (not b) (Some x) None
 
   passing_none : (q : ℕ) (o : Option Place) →
-      passing (λ x. not (is_some (table.get reals x.0))) q o ≡ where_none (is_some (table.get reals q)) o
+      passing (λ x. not (is_some (table.get d.reals x.0))) q o ≡ where_none (is_some (table.get d.reals q)) o
   passing_none q None = refl
   passing_none q (Some x) = refl
 
-  found_copy : (q : ℕ) → table.find nat_cmp q near_copies ≡ where_none (is_some (table.get reals q)) (passing test q (table.get copies q))
+  found_copy : (q : ℕ) → table.find nat_cmp q near_copies ≡ where_none (is_some (table.get d.reals q)) (passing test q (table.get copies q))
   found_copy q =
-      find_filter (λ x. not (is_some (table.get reals x.0))) q (within copies p reach)
+      find_filter (λ x. not (is_some (table.get d.reals x.0))) q (within copies p reach)
       (sorted_filter (λ e. is_within p reach e.1) (table.entries copies) (table.entries_sorted copies))
       ∙ (passing_none q (table.find nat_cmp q (within copies p reach))
-      ∙ ap (where_none (is_some (table.get reals q)))
+      ∙ ap (where_none (is_some (table.get d.reals q)))
       (find_filter (λ e. is_within p reach e.1) q (table.entries copies) (table.entries_sorted copies)
       ∙ (passing_is q (table.find nat_cmp q (table.entries copies)) ∙ ap (passing test q) (sym (table.get-entries copies q)))))
 
   -- what is known of another one
   known_place : (q : ℕ) (x : Option RealView) (c : Option GhostCopy) →
       or_else (passing test q (option_map place_of_real x))
-      (where_none (is_some (option_map place_of_real x)) (passing test q (option_map place_of_copy c)))
+      (where_none (is_some x) (passing test q (option_map place_of_copy c)))
       ≡ passing test q (option_map (place_of q) (known_by d.here x c))
   known_place q (Some x) c = by (test (q, place_of_real x)) (passing test q (option_map place_of_copy c))
     where
@@ -150,7 +150,7 @@ module _ (d : CellView) (own : ℕ) (r : Replica) (p : Pos) (reach : ℕ) (is_re
 
   rising_copies : T (is_sorted nat_cmp near_copies)
   rising_copies =
-      sorted_filter (λ x. not (is_some (table.get reals x.0))) (within copies p reach)
+      sorted_filter (λ x. not (is_some (table.get d.reals x.0))) (within copies p reach)
       (sorted_filter (λ e. is_within p reach e.1) (table.entries copies) (table.entries_sorted copies))
 
   same_near : filter (is_other own) (merged near_reals near_copies) ≡ filter test (map with_place (known_to d own))
@@ -164,9 +164,9 @@ module _ (d : CellView) (own : ℕ) (r : Replica) (p : Pos) (reach : ℕ) (is_re
       ∙ (ap (passing (is_other own) q)
       (find_merged q near_reals near_copies rising_reals ∙ λ i. or_else (found_real q i) (found_copy q i))
       ∙ (apart_or_own q (passing test q (table.get reals q))
-      (where_none (is_some (table.get reals q)) (passing test q (table.get copies q))) (known_at d q)
+      (where_none (is_some (table.get d.reals q)) (passing test q (table.get copies q))) (known_at d q)
       (λ apart. (λ i. or_else (passing test q (reals_are q apart i))
-      (where_none (is_some (reals_are q apart i)) (passing test q (copies_are q apart i))))
+      (where_none (is_some (table.get d.reals q)) (passing test q (copies_are q apart i))))
       ∙ known_place q (table.get d.reals q) (copy_in (table.get d.ghosts q)))
       ∙ sym (find_filter test q (map with_place (known_to d own)) places
       ∙ ap (passing test q) (find_mapped place_of q (known_to d own) ∙ ap (option_map (place_of q)) (known_to_is d own q))))))

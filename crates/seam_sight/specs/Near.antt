@@ -4,13 +4,14 @@ use Rattle.std.specs.Ordering.{nat_cmp, match_ordering}
 use Rattle.std.specs.FinMap as table
 use Rattle.seam_geo.specs.declared.pos.Pos.{Pos}
 use Rattle.seam_range.specs.declared.Place.{Place}
-use Rattle.seam_range.specs.Places.{Places}
 use Rattle.seam_call.specs.declared.shown.GhostCopy.{GhostCopy}
 use Rattle.seam_view.specs.declared.Seen.{Seen}
 use Rattle.seam_view.specs.declared.Look.{Look}
 use Rattle.seam_view.specs.declared.Look.TheVariants.{Leave, Set, Enter}
 use Rattle.seam_view.specs.Replica.{Replica, seen_of}
 use Rattle.seam_view.specs.Looks.{is_far}
+use Rattle.seam_entity.specs.Reals.{RealView}
+use Rattle.seam_steps.specs.Maps.{Map}
 use Rattle.seam_steps.specs.Looks.{Known, seen_as}
 use Rattle.seam_steps.specs.Cells.{is_another}
 
@@ -31,9 +32,9 @@ seen_at_place x = record { entity = x.0; version = x.1.version; pos = x.1.pos }
 abbrev pub is_other : ℕ → ℕ × Place → Bool
 is_other own x = is_another own x.0
 
--- those of whose entities the list has no place
-abbrev pub unlisted : Places → List (ℕ × Place) → List (ℕ × Place)
-unlisted places xs = filter (λ x. not (is_some (table.get places x.0))) xs
+-- those of whose entities no real is here
+abbrev pub without_reals : Map RealView → List (ℕ × Place) → List (ℕ × Place)
+without_reals reals xs = filter (λ x. not (is_some (table.get reals x.0))) xs
 
 -- one before the rest of its list, and those of another list, as they come in rising number
 abbrev pub merged_with : ℕ × Place → (List (ℕ × Place) → List (ℕ × Place)) → List (ℕ × Place) → List (ℕ × Place)

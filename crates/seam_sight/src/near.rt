@@ -11,11 +11,12 @@ ghost use Rattle.seam_steps.specs.Cells.{CellView, known_to};
 ghost use Rattle.seam_known.specs.Knowing.{known_at};
 ghost use Rattle.seam_parts.specs.Kept.{here_in};
 ghost use Rattle.seam_sight.specs.Looking.{seeing};
-ghost use Rattle.seam_sight.specs.Near.{seen_at_place, is_other, unlisted, merged, is_near, HasNear, was_newer, is_early, seen_of_entity};
+ghost use Rattle.seam_sight.specs.Near.{seen_at_place, is_other, without_reals, merged, is_near, HasNear, was_newer, is_early, seen_of_entity};
 
 use crate::looking::{Sight, see, seen_copy, seen_real};
 use seam_geo::Pos;
-use seam_range::{Place, RangeList};
+use seam_parts::RealTable;
+use seam_range::Place;
 use seam_view::{Look, Seen, View};
 use std::alloc::{AllocError, Global};
 
@@ -92,17 +93,18 @@ fn seen_at(entity: u32, place: Place) -> Seen
     }
 }
 
-// Those of whose entities the list has no place.
-fn unlisted(
+// Those of whose entities no real is here. They come in rising number.
+fn without_reals(
     alloc: Global,
-    places: &RangeList,
+    reals: &RealTable,
     entities: &[(u32, Place)],
 ) -> Result<Vec<(u32, Place)>, AllocError>
-    ensures { IfOk result (λ v. v.items ≡ unlisted places.now entities.now) }
+    ensures { IfOk result (λ v. v.items ≡ without_reals reals.now.items entities.now) }
 {
     let mut left = Vec::new(alloc);
+    let mut finder = reals.finder();
     for (e, place) in entities {
-        if places.get(*e).is_none() {
+        if finder.find(*e).is_none() {
             left.push((*e, *place))?;
         }
     }
@@ -169,7 +171,7 @@ impl Sight<'_> {
         };
         let near_reals = reals.within(own, reach)?;
         let near_copies = copies.within(own, reach)?;
-        let only_copies = unlisted(self.alloc, reals, &near_copies)?;
+        let only_copies = without_reals(self.alloc, self.reals, &near_copies)?;
         let seen = self.merged(&near_reals, &only_copies)?;
         Ok(Some(seen))
     }

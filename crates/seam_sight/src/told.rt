@@ -1,6 +1,6 @@
 //! What witnesses were told of others, kept so that all who are told of one state share its values.
 
-ghost use Rattle.std.specs.Prelude.{◌≡◌, ℕ, IfOk};
+ghost use Rattle.std.specs.Prelude.{◌≡◌, ℕ, IfOk, IfSome};
 ghost use Rattle.seam_defs.specs.declared.settings.Settings.{Settings as AllSettings};
 ghost use Rattle.seam_entity.specs.Looks.{shown_to_others};
 ghost use Rattle.seam_entity.specs.Preparing.{node_with};
@@ -18,6 +18,9 @@ use std::marker::Model;
 #[derive(Drop)]
 pub struct ToldCopies {
     copies: IndexMap<u32, GhostCopy>,
+    // The place after that of the copy that was asked for last: witnesses are told of entities in mostly the same order, so the entity
+    // asked for next is looked for there before it is searched.
+    next: usize,
 }
 
 impl Model for ToldCopies {
@@ -36,6 +39,7 @@ impl ToldCopies {
     {
         ToldCopies {
             copies: IndexMap::new(alloc),
+            next: 0,
         }
     }
 
@@ -56,20 +60,56 @@ impl ToldCopies {
         ensures { (me : ℕ) (settings : AllSettings) → IfOk result (λ c. c
             ≡ shown_to_others (node_with defs.now me settings) entity.now.held entity.now.ty entity.now.version entity.now.state.now) }
     {
-        if let Some(told) = self.copies.get(&e) {
-            if entity.is_shown_as(defs, told) {
+        let place = self.place_of(e);
+        if let Some(place) = place {
+            // A place of the map is below the greatest number, so that nothing wraps.
+            self.next = place.wrapping_add(1);
+            if let Some(told) = self.told_at(place, defs, entity) {
                 return told.copy();
             }
         }
         let copy = entity.copy_for_others(defs)?;
-        self.keep(e, &copy);
+        self.keep(e, place, &copy);
         Ok(copy)
     }
 
-    // Keeps the copy, where there is memory for it.
-    fn keep(&mut self, e: u32, copy: &GhostCopy) {
-        if let Ok(kept) = copy.copy() {
-            let _ = self.copies.insert(e, kept);
+    // The place of the entity's copy.
+    fn place_of(&self, e: u32) -> Option<usize> {
+        match self.copies.get_index(self.next) {
+            Some((told, _)) if *told == e => Some(self.next),
+            _ => self.copies.get_index_of(&e),
+        }
+    }
+
+    // The copy at the place, where the entity is still to be shown as that.
+    fn told_at(&self, place: usize, defs: &Defs, entity: &Observed<'_>) -> Option<&GhostCopy>
+        ensures { (me : ℕ) (settings : AllSettings) → IfSome result (λ c. c.now
+            ≡ shown_to_others (node_with defs.now me settings) entity.now.held entity.now.ty entity.now.version entity.now.state.now) }
+    {
+        match self.copies.get_index(place) {
+            Some((_, told)) if entity.is_shown_as(defs, told) => Some(told),
+            _ => None,
+        }
+    }
+
+    // Keeps the entity's copy, at the place where there was one before, if there is memory for it.
+    fn keep(&mut self, e: u32, place: Option<usize>, copy: &GhostCopy) {
+        let Ok(kept) = copy.copy() else {
+            return;
+        };
+        match place {
+            Some(place) => self.keep_at(place, kept),
+            None => {
+                let _ = self.copies.insert(e, kept);
+                self.next = self.copies.len();
+            }
+        }
+    }
+
+    // Keeps the copy in place of the one that is there.
+    fn keep_at(&mut self, place: usize, copy: GhostCopy) {
+        if let Some(told) = self.copies.get_index_mut(place) {
+            *told = copy;
         }
     }
 }

@@ -3,7 +3,7 @@ use Rattle.std.specs.List.{filter}
 use Rattle.seam_steps.specs.Cells.{CellView}
 use Rattle.seam_parts.specs.Kept.{here_in}
 use Rattle.seam_sight.specs.Looking.{seeing}
-use Rattle.seam_sight.specs.Near.{seen_at_place, is_other, unlisted, merged}
+use Rattle.seam_sight.specs.Near.{seen_at_place, is_other, without_reals, merged}
 use Rattle.seam_sight.proofs.NearLemmas.{near_are}
 use Rattle.seam_sight.proofs.looking.Sight.near.Goals as goal
 
@@ -14,7 +14,7 @@ returns c = λ k.
     let l = c.in-Some-spots_beside.reals.now in
     let reals = c.deref-2.ensures.value ∙ c.in_ok-near_reals.ensures in
     let copies = c.deref.ensures.value ∙ c.in_ok-near_copies.ensures in
-    let left = c.deref-3.ensures.value ∙ (c.in_ok-only_copies.ensures ∙ ap (unlisted l) copies) in
+    let left = c.deref-3.ensures.value ∙ (c.in_ok-only_copies.ensures ∙ ap (without_reals d.reals) copies) in
     c.in_ok-seen.ensures
     ∙ ((λ i. map seen_at_place (filter (is_other own) (merged (reals i) (left i))))
     ∙ near_are d own c.args.view.now.core c.args.own c.in-Some.reach c.in-Some.ensures l c.in-Some-spots_beside-2.copies.now
