@@ -8,3 +8,5 @@ pub mod Kept
 pub mod Falls
 pub mod PlainLooks
 pub mod Noted
+pub mod Passed
+pub mod Room

@@ -1,0 +1,33 @@
+use Rattle.std.proofs.Common.{◌∙◌, ap, refl}
+use Rattle.seam_view.specs.Replica.{with_version_shown}
+use Rattle.seam_view.proofs.Places.{placed_of_insert}
+use Rattle.seam_view.proofs.Shown.{shown_when_entered, view_of_lists}
+use Rattle.seam_view.proofs.View.enter.Goals as goal
+
+pub returns-then-not-is_empty-clause-core : goal.returns-then-not-is_empty-clause-core
+returns-then-not-is_empty-clause-core c =
+    let e = c.in-Ok.ensures.entries ∙ placed_of_insert c.args.e c.args.version c.self.inside.view.entries in
+    let v =
+    shown_when_entered c.self.inside.view.entries c.insert.new.self.entries c.self.inside.left.entries c.swap_remove.new.self.entries
+    c.args.e c.args.version c.in-Ok.ensures.updates.0 c.swap_remove.ensures.updates.2 in
+    (λ i. record { radius = c.self.inside.radius; hysteresis = c.self.inside.hysteresis; entries = e i; shown = v i })
+    ∙ ap (λ w. with_version_shown w.core c.args.e c.args.version) c.self.view_is
+
+pub returns-else-not-is_empty-clause-core : goal.returns-else-not-is_empty-clause-core
+returns-else-not-is_empty-clause-core c =
+    let left = c.self.inside.left.entries in
+    let e = c.in-Ok.ensures.entries ∙ placed_of_insert c.args.e c.args.version c.self.inside.view.entries in
+    let v =
+    shown_when_entered c.self.inside.view.entries c.insert.new.self.entries left left c.args.e c.args.version c.in-Ok.ensures.updates.0
+    (λ q other. refl) in
+    (λ i. record { radius = c.self.inside.radius; hysteresis = c.self.inside.hysteresis; entries = e i; shown = v i })
+    ∙ ap (λ w. with_version_shown w.core c.args.e c.args.version) c.self.view_is
+
+pub invariant_of-self : goal.invariant_of-self
+invariant_of-self c =
+    view_of_lists c.self.inside.radius c.self.inside.hysteresis c.insert.new.self.entries c.swap_remove.new.self.entries
+    c.in-Ok.ensures.unique
+
+pub invariant_of-self-else-not-is_empty : goal.invariant_of-self-else-not-is_empty
+invariant_of-self-else-not-is_empty c =
+    view_of_lists c.self.inside.radius c.self.inside.hysteresis c.insert.new.self.entries c.self.inside.left.entries c.in-Ok.ensures.unique
