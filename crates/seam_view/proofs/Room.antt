@@ -14,10 +14,9 @@ use Rattle.seam_view.specs.declared.Look.TheVariants.{Leave, Set, Enter}
 use Rattle.seam_view.specs.Replica.{Replica, ViewValue, HasRoom, SetsAreIn, enters_in, leaves_in, seen_of, placed, without, after_showing}
 use Rattle.seam_view.specs.Replica.{after_look}
 use Rattle.seam_view.specs.Looks.{leaves, has_changed, enters as enters_view, leaving, entering, one_look}
-use Rattle.seam_view.specs.Together.{leaves_next, looks_past, looks_past_all}
+use Rattle.seam_view.specs.Together.{leaves_next, looks_past, looks_past_all, kept_past_all}
 use Rattle.seam_view.proofs.Numbers.{number_is, or_second, same_again}
 use Rattle.seam_view.proofs.Noted.{left_or_changed}
-use Rattle.seam_view.proofs.Together.{walked}
 
 -- whether the entity is one of these
 abbrev In : List (ℕ × ℕ) → ℕ → Bool
@@ -102,18 +101,18 @@ in_without_by e q true p es t rest h =
       | true ↦ λ same out. cc
       | false ↦ λ other is_in. others (eqb q p.0) refl other is_in
     ] refl h
-    where
-      others : (c : Bool) → eqb q p.0 ≡ c → eqb e q ≡ false → (c || In es q) ≡ true → In es q ≡ true
-      others true s other is_in = let here = number_is q p.0 s in
-          let there : eqb e q ≡ true = ap (eqb e) here ∙ t in
-          cc
-      others false s other is_in = is_in
+  where
+    others : (c : Bool) → eqb q p.0 ≡ c → eqb e q ≡ false → (c || In es q) ≡ true → In es q ≡ true
+    others true s other is_in = let here = number_is q p.0 s in
+        let there : eqb e q ≡ true = ap (eqb e) here ∙ t in
+        cc
+    others false s other is_in = is_in
 in_without_by e q false p es t rest h = past (eqb q p.0) (eqb e q) rest h
-    where
-      past : (c x : Bool) → ((not x && In es q) ≡ true → In (without e es) q ≡ true) → (not x && (c || In es q)) ≡ true →
-          (c || In (without e es) q) ≡ true
-      past true x rest is_in = refl
-      past false x rest is_in = rest is_in
+  where
+    past : (c x : Bool) → ((not x && In es q) ≡ true → In (without e es) q ≡ true) → (not x && (c || In es q)) ≡ true →
+        (c || In (without e es) q) ≡ true
+    past true x rest is_in = refl
+    past false x rest is_in = rest is_in
 
 in_without : (e q : ℕ) (es : List (ℕ × ℕ)) → (not (eqb e q) && In es q) ≡ true → In (without e es) q ≡ true
 in_without e q [] h = and_second (not (eqb e q)) false h
@@ -206,6 +205,7 @@ module _ (p : ℕ × ℕ) (es : List (ℕ × ℕ)) (a : ℕ → Bool) where
       apart : (u y : Bool) → (not y && (u || In (p ∷ es) q)) ≡ true → (u || (not y && In (p ∷ es) q)) ≡ true
       apart true y h = refl
       apart false y h = h
+
       others : (y c : Bool) → eqb x q ≡ y → eqb q p.0 ≡ c → (not y && (c || In es q)) ≡ true → In es q ≡ true
       others true c s u h = cc
       others false true s u h =
@@ -217,9 +217,9 @@ module _ (p : ℕ × ℕ) (es : List (ℕ × ℕ)) (a : ℕ → Bool) where
 
   sets_turn : (looks : List Look) (b : Bool) → leaves_next p.0 looks ≡ b →
       ((d : ℕ → Bool) (more : List Look) → SetsAreIn (λ q. d q || In es q) more →
-      SetsAreIn (λ q. d q || In (walked more es) q) (looks_past_all more es)) →
+      SetsAreIn (λ q. d q || In (kept_past_all more es) q) (looks_past_all more es)) →
       SetsAreIn (λ q. a q || In (p ∷ es) q) looks →
-      SetsAreIn (λ q. a q || In (cond (not b) (p ∷ walked (cond b (drop 1 looks) looks) es) (walked (cond b (drop 1 looks) looks) es)) q)
+      SetsAreIn (λ q. a q || In (cond (not b) (p ∷ kept_past_all (cond b (drop 1 looks) looks) es) (kept_past_all (cond b (drop 1 looks) looks) es)) q)
       (looks_past_all (cond b (drop 1 looks) looks) es)
   sets_turn [] true t rest h = cc
   sets_turn (Set x ∷ looks) true t rest h = cc
@@ -227,19 +227,19 @@ module _ (p : ℕ × ℕ) (es : List (ℕ × ℕ)) (a : ℕ → Bool) where
   sets_turn (Leave x ∷ looks) true t rest h =
       rest a looks (sets_when_more (λ q. not (eqb x q) && (a q || In (p ∷ es) q)) (λ q. a q || In es q) (λ q. not_first x q t) looks h)
   sets_turn looks false t rest h =
-      sets_when_more (λ q. (a q || eqb q p.0) || In (walked looks es) q) (λ q. a q || In (p ∷ walked looks es) q)
-      (λ q is_in. or_apart (a q) (eqb q p.0) (In (walked looks es) q) ∙ is_in) (looks_past_all looks es)
+      sets_when_more (λ q. (a q || eqb q p.0) || In (kept_past_all looks es) q) (λ q. a q || In (p ∷ kept_past_all looks es) q)
+      (λ q is_in. or_apart (a q) (eqb q p.0) (In (kept_past_all looks es) q) ∙ is_in) (looks_past_all looks es)
       (rest (λ q. a q || eqb q p.0) looks
       (sets_when_more (λ q. a q || In (p ∷ es) q) (λ q. (a q || eqb q p.0) || In es q)
       (λ q is_in. sym (or_apart (a q) (eqb q p.0) (In es q)) ∙ is_in) looks h))
 
 sets_together : (es : List (ℕ × ℕ)) (a : ℕ → Bool) (looks : List Look) → SetsAreIn (λ q. a q || In es q) looks →
-    SetsAreIn (λ q. a q || In (walked looks es) q) (looks_past_all looks es)
+    SetsAreIn (λ q. a q || In (kept_past_all looks es) q) (looks_past_all looks es)
 sets_together [] a looks h = h
 sets_together (p ∷ es) a looks h = sets_turn p es a looks (leaves_next p.0 looks) refl (sets_together es) h
 
 pub sets_past_all : (es : List (ℕ × ℕ)) (looks : List Look) → SetsAreIn (In es) looks →
-    SetsAreIn (In (walked looks es)) (looks_past_all looks es)
+    SetsAreIn (In (kept_past_all looks es)) (looks_past_all looks es)
 sets_past_all es looks h = sets_together es (λ _. false) looks h
 
 -- ---- the looks of a plan

@@ -27,7 +27,7 @@ pub sought : (q : ℕ) (view left : List (ℕ × ℕ)) →
 sought q [] left = refl
 sought q (p ∷ view) left =
     elim (eqb q p.0) as (λ b. cond b (Some p.1) (lookup (eqb q) (view ++ left))
-        ≡ option_or (cond b (Some p.1) (lookup (eqb q) view)) (lookup (eqb q) left)) [
+    ≡ option_or (cond b (Some p.1) (lookup (eqb q) view)) (lookup (eqb q) left)) [
       | true ↦ refl
       | false ↦ sought q view left
     ]

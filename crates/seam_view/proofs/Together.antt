@@ -10,22 +10,17 @@ use Rattle.seam_view.specs.declared.Seen.{Seen}
 use Rattle.seam_view.specs.declared.Look.{Look}
 use Rattle.seam_view.specs.declared.Look.TheVariants.{Leave, Set, Enter}
 use Rattle.seam_view.specs.Replica.{Replica, without, after_look}
-use Rattle.seam_view.specs.Together.{leaves_next, looks_past, looks_past_all, left_past_all}
+use Rattle.seam_view.specs.Together.{leaves_next, looks_past, looks_past_all, left_past_all, kept_past_all}
 use Rattle.seam_view.proofs.Numbers.{number_is, differs_too, either_way}
-
--- what a pass leaves of the entries
-abbrev pub walked : List Look → List (ℕ × ℕ) → List (ℕ × ℕ)
-walked looks [] = []
-walked looks (p ∷ es) = cond (not (leaves_next p.0 looks)) (p ∷ walked (looks_past p.0 looks) es) (walked (looks_past p.0 looks) es)
 
 module _ {F : Type 0} (T : F → ℕ → ℕ → Bool → ℕ → F → Type 0) (next : F → List Look)
     (says : (f : F) (k v : ℕ) (b : Bool) (w : ℕ) (g : F) → T f k v b w g →
     (b ≡ not (leaves_next k (next f))) × (w ≡ v) × (next g ≡ looks_past k (next f))) where
-  pub walked_when_retained : (es left : List (ℕ × ℕ)) (f : F) → RetainsPairs T f es left → left ≡ walked (next f) es
-  walked_when_retained [] left f h = h
-  walked_when_retained (e ∷ es) left f h =
+  pub kept_when_retained : (es left : List (ℕ × ℕ)) (f : F) → RetainsPairs T f es left → left ≡ kept_past_all (next f) es
+  kept_when_retained [] left f h = h
+  kept_when_retained (e ∷ es) left f h =
       let s = says f e.0 e.1 h.0 h.1 h.2 h.4 in
-      let rest = walked_when_retained es h.3 h.2 h.5 ∙ ap (λ looks. walked looks es) s.2 in
+      let rest = kept_when_retained es h.3 h.2 h.5 ∙ ap (λ looks. kept_past_all looks es) s.2 in
       h.6 ∙ (λ j. cond (s.0 j) ((e.0, s.1 j) ∷ rest j) (rest j))
 
 abbrev Absent : ℕ → List (ℕ × ℕ) → Type 0
@@ -63,12 +58,12 @@ module _ (known : List Seen) (r : Replica) where
   seen_with looks es = fold (after_look known) (record r { entries = es }) looks
 
   abbrev Same : List (ℕ × ℕ) → List (ℕ × ℕ) → List Look → Type 0
-  Same earlier es looks = seen_with (looks_past_all looks es) (earlier ++ walked looks es) ≡ seen_with looks (earlier ++ es)
+  Same earlier es looks = seen_with (looks_past_all looks es) (earlier ++ kept_past_all looks es) ≡ seen_with looks (earlier ++ es)
 
   -- its turn has come
   left_now : (earlier : List (ℕ × ℕ)) (p : ℕ × ℕ) (es : List (ℕ × ℕ)) (looks : List Look) → leaves_next p.0 looks ≡ true →
       Absent p.0 earlier → ((looks : List Look) → Same earlier es looks) →
-      seen_with (looks_past_all (drop 1 looks) es) (earlier ++ walked (drop 1 looks) es) ≡ seen_with looks (earlier ++ p ∷ es)
+      seen_with (looks_past_all (drop 1 looks) es) (earlier ++ kept_past_all (drop 1 looks) es) ≡ seen_with looks (earlier ++ p ∷ es)
   left_now earlier p es [] t f rest = cc
   left_now earlier p es (Set x ∷ looks) t f rest = cc
   left_now earlier p es (Enter x ∷ looks) t f rest = cc
@@ -82,11 +77,11 @@ module _ (known : List Seen) (r : Replica) where
   turn : (earlier : List (ℕ × ℕ)) (p : ℕ × ℕ) (es : List (ℕ × ℕ)) (looks : List Look) (b : Bool) → leaves_next p.0 looks ≡ b →
       Absent p.0 earlier → ((looks : List Look) → Same earlier es looks) → ((looks : List Look) → Same (earlier ++ p ∷ []) es looks) →
       seen_with (looks_past_all (cond b (drop 1 looks) looks) es)
-      (earlier ++ cond (not b) (p ∷ walked (cond b (drop 1 looks) looks) es) (walked (cond b (drop 1 looks) looks) es))
+      (earlier ++ cond (not b) (p ∷ kept_past_all (cond b (drop 1 looks) looks) es) (kept_past_all (cond b (drop 1 looks) looks) es))
       ≡ seen_with looks (earlier ++ p ∷ es)
   turn earlier p es looks true t f rest past = left_now earlier p es looks t f rest
   turn earlier p es looks false t f rest past =
-      ap (seen_with (looks_past_all looks es)) (sym (push_append earlier p (walked looks es)))
+      ap (seen_with (looks_past_all looks es)) (sym (push_append earlier p (kept_past_all looks es)))
       ∙ (past looks ∙ ap (seen_with looks) (push_append earlier p es))
 
   same_past : (earlier es : List (ℕ × ℕ)) (looks : List Look) → Apart earlier es → IsDistinct eqb (keys_of es) → Same earlier es looks
@@ -103,7 +98,7 @@ module _ (known : List Seen) (r : Replica) where
 
   -- the looks past those of the pass bring what it leaves to what all looks bring the view to
   pub same_together : (es : List (ℕ × ℕ)) (looks : List Look) → IsDistinct eqb (keys_of es) →
-      fold (after_look known) (record r { entries = walked looks es }) (looks_past_all looks es)
+      fold (after_look known) (record r { entries = kept_past_all looks es }) (looks_past_all looks es)
       ≡ fold (after_look known) (record r { entries = es }) looks
   same_together es looks u = same_past [] es looks (none_in_front es) u
 
@@ -115,25 +110,25 @@ none_of q (p ∷ es) h = rw h.0 (none_of q es h.1)
 
 sought_by : (q : ℕ) (b l : Bool) (p : ℕ × ℕ) (looks more : List Look) (es : List (ℕ × ℕ)) (m : ℕ → Option ℕ) → eqb q p.0 ≡ b →
     eqb p.0 q ≡ b → Absent p.0 es →
-    option_or (lookup (eqb q) (walked more es)) (left_past_all more es (λ x. cond (l && eqb p.0 x) (Some p.1) (m x)) q)
+    option_or (lookup (eqb q) (kept_past_all more es)) (left_past_all more es (λ x. cond (l && eqb p.0 x) (Some p.1) (m x)) q)
     ≡ option_or (lookup (eqb q) es) (cond (l && eqb p.0 q) (Some p.1) (m q)) →
-    option_or (lookup (eqb q) (cond (not l) (p ∷ walked more es) (walked more es)))
+    option_or (lookup (eqb q) (cond (not l) (p ∷ kept_past_all more es) (kept_past_all more es)))
     (left_past_all more es (λ x. cond (l && eqb p.0 x) (Some p.1) (m x)) q)
     ≡ option_or (cond b (Some p.1) (lookup (eqb q) es)) (m q)
 sought_by q true true p looks more es m t u h rest =
     rest ∙ λ i. option_or (none_here i) (cond (u i) (Some p.1) (m q))
-    where
-      none_here : lookup (eqb q) es ≡ None
-      none_here = none_of q es (subst (λ x. Absent x es) (sym (number_is q p.0 t)) h)
+  where
+    none_here : lookup (eqb q) es ≡ None
+    none_here = none_of q es (subst (λ x. Absent x es) (sym (number_is q p.0 t)) h)
 sought_by q false true p looks more es m t u h rest = rest ∙ ap (λ b. option_or (lookup (eqb q) es) (cond b (Some p.1) (m q))) u
 sought_by q true false p looks more es m t u h rest =
-    ap (λ b. option_or (cond b (Some p.1) (lookup (eqb q) (walked more es))) (left_past_all more es m q)) t
+    ap (λ b. option_or (cond b (Some p.1) (lookup (eqb q) (kept_past_all more es))) (left_past_all more es m q)) t
 sought_by q false false p looks more es m t u h rest =
-    ap (λ b. option_or (cond b (Some p.1) (lookup (eqb q) (walked more es))) (left_past_all more es m q)) t ∙ rest
+    ap (λ b. option_or (cond b (Some p.1) (lookup (eqb q) (kept_past_all more es))) (left_past_all more es m q)) t ∙ rest
 
 -- each entity is shown at the version that it was shown at
 pub shown_together : (q : ℕ) (looks : List Look) (es : List (ℕ × ℕ)) (m : ℕ → Option ℕ) → IsDistinct eqb (keys_of es) →
-    option_or (lookup (eqb q) (walked looks es)) (left_past_all looks es m q) ≡ option_or (lookup (eqb q) es) (m q)
+    option_or (lookup (eqb q) (kept_past_all looks es)) (left_past_all looks es m q) ≡ option_or (lookup (eqb q) es) (m q)
 shown_together q looks [] m u = refl
 shown_together q looks (p ∷ es) m u =
     sought_by q (eqb q p.0) (leaves_next p.0 looks) p looks (looks_past p.0 looks) es m refl (either_way p.0 q)

@@ -21,7 +21,7 @@ ghost use Rattle.seam_view.specs.declared.Look.TheVariants.{Leave, Set};
 ghost use Rattle.std.specs.FinMap as versions;
 ghost use Rattle.seam_view.specs.Replica.{Replica, IsView, AreShown, NeverFalls, HasRoom, without, seen_of, with_version_shown};
 ghost use Rattle.seam_view.specs.Replica.{after_showing, after_look, after_looks, enters_in, leaves_in};
-ghost use Rattle.seam_view.specs.Together.{leaves_next, looks_past, looks_past_all, left_past_all};
+ghost use Rattle.seam_view.specs.Together.{leaves_next, looks_past, looks_past_all, left_past_all, kept_past_all};
 ghost use Rattle.seam_view.specs.Looks.{is_far, in_view, not_older, enters, entering, one_look, matters};
 ghost use Rattle.seam_view.specs.Notes.{note_of, notes_of, is_leave, is_change, noted};
 ghost use Rattle.seam_view.specs.Plain.{plain_look, AreNotOlder};
@@ -82,6 +82,7 @@ pub struct View {
 
 impl Model for View {
     ghost use Rattle.seam_view.specs.Replica.{ViewValue, IsView, view_code};
+    ghost use Rattle.seam_view.specs.Together.{AreApart};
 
     ghost Value = { ViewValue };
 
@@ -91,7 +92,6 @@ impl Model for View {
     ghost use Rattle.std.specs.FinMap.{from_entries};
     ghost use Rattle.indexmap.specs.IndexMap.{spare};
 
-    // An entity in view has the version that stands there.
     ghost view = { λ v. record {
       core = record {
         radius = v.radius;
@@ -103,12 +103,13 @@ impl Model for View {
       leaves = spare v.left;
     } };
 
+    // No entity in view is among those that left.
     ghost invariant = { λ v. IsView (record {
       radius = v.radius;
       hysteresis = v.hysteresis;
       entries = v.view.entries;
       shown = from_entries (v.view.entries ++ v.left.entries);
-    }) };
+    }) × AreApart v.view.entries v.left.entries };
 }
 
 impl View {
@@ -450,21 +451,7 @@ impl View {
             return looks;
         };
         let rest = note_left(&self.view, &mut self.left, looks);
-        let mut next = looks;
-        self.view.retain(
-            |e: &u32, version: &mut u64| -> bool
-                ensures { (result ≡ not (leaves_next e.now next.entry.now)) × (next.exit.now ≡ looks_past e.now next.entry.now)
-                    × (version.new ≡ version.old) }
-            {
-                match past_leave(next, *e) {
-                    Some(rest) => {
-                        next = rest;
-                        false
-                    }
-                    None => true,
-                }
-            },
-        );
+        leave_in_turn(&mut self.view, looks);
         rest
     }
 
@@ -546,6 +533,29 @@ fn place_from(view: &IndexMap<u32, u64>, e: u32, from: usize) -> Option<(usize, 
         Some((i, _, version)) if from <= i => Some((i, *version)),
         _ => None,
     }
+}
+
+// Takes the entities whose leaves come first among the looks, in enter order, out of those in view, in one pass over them.
+fn leave_in_turn(view: &mut IndexMap<u32, u64>, looks: &[Look])
+    ensures kept { view.new.entries ≡ kept_past_all looks.now view.old.entries }
+    ensures room { spare view.old ≤ spare view.new }
+    ensures once { IsDistinct nat_eq (keys_of view.new.entries) }
+{
+    let mut next = looks;
+    view.retain(
+        |e: &u32, version: &mut u64| -> bool
+            ensures { (result ≡ not (leaves_next e.now next.entry.now)) × (next.exit.now ≡ looks_past e.now next.entry.now)
+                × (version.new ≡ version.old) }
+        {
+            match past_leave(next, *e) {
+                Some(rest) => {
+                    next = rest;
+                    false
+                }
+                None => true,
+            }
+        },
+    );
 }
 
 // The entity of the first of the looks, where that is a leave, and the looks past it.

@@ -1,8 +1,10 @@
-use Rattle.std.proofs.Common.{◌∙◌, ◌++◌, ap, sym}
+use Rattle.std.proofs.Common.{◌∙◌, ◌++◌, ap, sym, subst}
 use Rattle.std.specs.FinMap as versions
 use Rattle.seam_view.specs.Replica.{without}
 use Rattle.seam_view.proofs.Places.{without_of_remove}
 use Rattle.seam_view.proofs.Shown.{shown_when_left, view_of_lists}
+use Rattle.seam_view.specs.Together.{AreApart}
+use Rattle.seam_view.proofs.Apart.{apart_when_left}
 use Rattle.seam_view.proofs.View.leave.Goals as goal
 
 pub returns-in_default-clause-core : goal.returns-in_default-clause-core
@@ -19,8 +21,14 @@ returns-in_default-clause-core c =
 
 pub invariant_of-self-2 : goal.invariant_of-self-2
 invariant_of-self-2 c =
-    view_of_lists c.self.inside.radius c.self.inside.hysteresis c.shift_remove.new.self.entries c.insert.new.self.entries
-    c.shift_remove.ensures.unique
+    let es = c.self.inside.view.entries in
+    let left = c.insert.new.self.entries in
+    let e = c.shift_remove.ensures.entries ∙ without_of_remove c.args.e es in (
+      view_of_lists c.self.inside.radius c.self.inside.hysteresis c.shift_remove.new.self.entries left c.shift_remove.ensures.unique,
+      subst (λ l. AreApart l left) (sym e)
+          (apart_when_left c.args.e c.in-Some.version c.self.inside.left.entries left c.in-Ok.ensures.updates.0 es c.self.invariant.0.once
+          c.self.invariant.1),
+    )
 
 pub returns-clause-core : goal.returns-clause-core
 returns-clause-core c =

@@ -7,14 +7,17 @@ use Rattle.indexmap.proofs.CallerLemmas.{keys-with_value_at, updates-with_value_
 use Rattle.seam_view.specs.Replica.{with_version_shown}
 use Rattle.seam_view.proofs.Places.{placed_at}
 use Rattle.seam_view.proofs.Shown.{shown_when_entered, view_of_lists}
+use Rattle.seam_view.proofs.Apart.{apart_when_set}
 use Rattle.seam_view.proofs.View.set.Goals as goal
 
 pub invariant_of-self : goal.invariant_of-self
 invariant_of-self c =
     let view = c.self.inside.view in
-    view_of_lists c.self.inside.radius c.self.inside.hysteresis (set_value_at view.entries c.in-Some.i c.args.version)
-    c.self.inside.left.entries
-    (subst (λ ks. IsDistinct nat_eq ks) (sym (keys-with_value_at view c.in-Some.i c.args.version)) c.get_index_mut.ensures.unique)
+    let left = c.self.inside.left.entries in (
+      view_of_lists c.self.inside.radius c.self.inside.hysteresis (set_value_at view.entries c.in-Some.i c.args.version) left
+          (subst (λ ks. IsDistinct nat_eq ks) (sym (keys-with_value_at view c.in-Some.i c.args.version)) c.get_index_mut.ensures.unique),
+      apart_when_set view.entries left c.in-Some.i c.args.version c.self.invariant.1,
+    )
 
 pub returns-clause-core : goal.returns-clause-core
 returns-clause-core c =
