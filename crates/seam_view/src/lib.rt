@@ -3,7 +3,8 @@
 //! An entity enters a view within a radius, and leaves it beyond the radius and a hysteresis. (After the area of interest
 //! of the BigWorld Server Overview.)
 //!
-//! Of `proofs/`, `Only` (looks at two lists that agree on all that matters) is for callers.
+//! Of `proofs/`, `Only` (looks at two lists that agree on all that matters) and `Room` (what has room for looks has room for
+//! fewer) are for callers.
 #![tactic(auto)]
 
 ghost use Rattle.std.specs.Prelude.{◌≡◌, ◌≤◌, ◌++◌, ◌∷◌, ℕ, List, [], filter, map, length, slice_get, option_copied, IfOk, OnOk, is_some};
