@@ -1,5 +1,5 @@
 -- What a look leaves of a view is a view.
-use Rattle.std.proofs.Common.{◌≡◌, ℕ, Bool, true, false, cond, not, eqb, List, [], ◌∷◌, Option, None, Some, refl, sym, ap, ◌∙◌, subst}
+use Rattle.std.proofs.Common.{◌≡◌, ℕ, Bool, true, false, cond, eqb, List, [], ◌∷◌, Option, None, Some, refl, sym, ap, ◌∙◌, subst}
 use Rattle.std.proofs.Common.{arith}
 use Rattle.std.specs.Ordering.{nat_cmp, is_eq}
 use Rattle.std.specs.Cmp.{nat_cmp_total}
@@ -13,8 +13,6 @@ use Rattle.seam_view.specs.declared.Look.{Look}
 use Rattle.seam_view.specs.declared.Look.TheVariants.{Leave, Set, Enter}
 use Rattle.seam_view.specs.Replica.{Replica, AreShown, IsView, seen_of, placed, without, with_version_shown, after_showing, after_look}
 use Rattle.seam_view.specs.Replica.{after_looks}
-use Rattle.seam_view.specs.Together.{leaves_next, looks_past}
-use Rattle.seam_view.proofs.Together.{walked}
 use Rattle.seam_view.proofs.Numbers.{number_is, same_again, differs_too}
 
 -- ---- the version of an entity
@@ -86,7 +84,7 @@ shown_without : (m : versions.FinMap nat_cmp ℕ) (e : ℕ) (es : List (ℕ × �
 shown_without m e [] h = tt
 shown_without m e (p ∷ es) h = shown_without_by m e p es (eqb e p.0) h (shown_without m e es h.1)
 
-others_shown : (m : versions.FinMap nat_cmp ℕ) (e v : ℕ) (es : List (ℕ × ℕ)) → Absent e es → AreShown m es →
+pub others_shown : (m : versions.FinMap nat_cmp ℕ) (e v : ℕ) (es : List (ℕ × ℕ)) → Absent e es → AreShown m es →
     AreShown (versions.insert m e v) es
 others_shown m e v [] a h = tt
 others_shown m e v (p ∷ es) a h = (get_by_shown m e v p.0 false a.0 ∙ h.0, others_shown m e v es a.1 h.1)
@@ -107,17 +105,6 @@ shown_placed : (m : versions.FinMap nat_cmp ℕ) (e v : ℕ) (es : List (ℕ × 
 shown_placed m e v [] u h = (get_by_shown m e v e true (same_again e), tt)
 shown_placed m e v (p ∷ es) u h =
     shown_placed_by m e v p es (eqb e p.0) refl u h (shown_placed m e v es (IsDistinct-tail eqb p.0 (keys_of es) u) h.1)
-
-shown_walked_by : (m : versions.FinMap nat_cmp ℕ) (b : Bool) (p : ℕ × ℕ) (es : List (ℕ × ℕ)) → versions.get m p.0 ≡ Some p.1 →
-    AreShown m es → AreShown m (cond b (p ∷ es) es)
-shown_walked_by m true p es h k = (h, k)
-shown_walked_by m false p es h k = k
-
--- what a pass over the view leaves
-pub shown_walked : (m : versions.FinMap nat_cmp ℕ) (looks : List Look) (es : List (ℕ × ℕ)) → AreShown m es → AreShown m (walked looks es)
-shown_walked m looks [] h = tt
-shown_walked m looks (p ∷ es) h =
-    shown_walked_by m (not (leaves_next p.0 looks)) p (walked (looks_past p.0 looks) es) h.0 (shown_walked m (looks_past p.0 looks) es h.1)
 
 -- ---- views
 

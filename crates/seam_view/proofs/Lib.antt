@@ -8,3 +8,6 @@ pub mod Kept
 pub mod Falls
 pub mod PlainLooks
 pub mod Noted
+pub mod Apart
+pub mod Passed
+pub mod Room

@@ -47,7 +47,7 @@ not_both true b c h = refl
 not_both false b c h = cc
 
 module _ (r : Replica) (own : Pos) (known : List Seen) where
-  left_or_changed : (v : ℕ) (o : Option Seen) → leaves r own v o ≡ true → has_changed r own v o ≡ false
+  pub left_or_changed : (v : ℕ) (o : Option Seen) → leaves r own v o ≡ true → has_changed r own v o ≡ false
   left_or_changed v None h = refl
   left_or_changed v (Some s) h = not_both (is_far r own s.pos) (nat_le v s.version) (nat_lt v s.version) h
 

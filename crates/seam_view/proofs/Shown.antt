@@ -1,13 +1,17 @@
--- The versions shown, as the map of the pairs that are kept of them.
-use Rattle.std.proofs.Common.{◌≡◌, ℕ, cond, eqb, List, [], ◌∷◌, Some, refl, sym, ap, subst, ◌∙◌}
+-- The versions shown, as the map of the pairs that are kept of them: of those in view, and of those that left.
+use Rattle.std.proofs.Common.{◌≡◌, ℕ, Bool, true, false, cond, ◌||◌, eqb, List, [], ◌∷◌, ◌++◌, None, Some, refl, sym, ap, subst, ◌∙◌}
+use Rattle.std.proofs.Common.{length, arith}
 use Rattle.std.specs.Ordering.{nat_cmp}
 use Rattle.std.specs.Cmp.{nat_cmp_total, unsigned_tied}
-use Rattle.std.specs.Map.{lookup}
-use Rattle.std.specs.List.{IsDistinct}
+use Rattle.std.specs.Map.{keys_of, lookup}
+use Rattle.std.specs.Option.{option_or}
+use Rattle.std.specs.List.{IsDistinct, list_any}
 use Rattle.std.specs.List.Sorted.{IsStrictlySortedBy}
-use Rattle.std.proofs.lemmas.Map.Keys.{IsDistinct-from_sorted}
+use Rattle.std.proofs.lemmas.Map.Keys.{IsDistinct-from_sorted, IsDistinct-head, IsDistinct-tail}
 use Rattle.std.specs.FinMap as versions
-use Rattle.seam_view.proofs.Kept.{get_by_shown}
+use Rattle.seam_view.specs.Replica.{AreShown, IsView}
+use Rattle.seam_view.proofs.Kept.{get_by_shown, others_shown}
+use Rattle.seam_view.proofs.Numbers.{number_is, same_again}
 
 found_by_number : (q : ℕ) (es : List (ℕ × ℕ)) → versions.find nat_cmp q es ≡ lookup (eqb q) es
 found_by_number q [] = refl
@@ -17,14 +21,118 @@ found_by_number q (p ∷ es) = λ i. cond (unsigned_tied q p.0 i) (Some p.1) (fo
 pub shown_of_lookup : (es : List (ℕ × ℕ)) (q : ℕ) → lookup (eqb q) es ≡ versions.get (versions.from_entries {R = nat_cmp} es) q
 shown_of_lookup es q = sym (versions.get-from_entries nat_cmp_total es q ∙ found_by_number q es)
 
+-- those in view are asked first
+pub sought : (q : ℕ) (view left : List (ℕ × ℕ)) →
+    lookup (eqb q) (view ++ left) ≡ option_or (lookup (eqb q) view) (lookup (eqb q) left)
+sought q [] left = refl
+sought q (p ∷ view) left =
+    elim (eqb q p.0) as (λ b. cond b (Some p.1) (lookup (eqb q) (view ++ left))
+    ≡ option_or (cond b (Some p.1) (lookup (eqb q) view)) (lookup (eqb q) left)) [
+      | true ↦ refl
+      | false ↦ sought q view left
+    ]
+
+not_by : (q : ℕ) (b : Bool) (p : ℕ × ℕ) (view : List (ℕ × ℕ)) → (b || list_any (λ p. eqb q p.0) view) ≡ false →
+    (list_any (λ p. eqb q p.0) view ≡ false → lookup (eqb q) view ≡ None) → cond b (Some p.1) (lookup (eqb q) view) ≡ None
+not_by q true p view h rest = cc
+not_by q false p view h rest = rest h
+
+-- one that is not in view has no version there
+pub not_in_view : (q : ℕ) (view : List (ℕ × ℕ)) → list_any (λ p. eqb q p.0) view ≡ false → lookup (eqb q) view ≡ None
+not_in_view q [] h = refl
+not_in_view q (p ∷ view) h = not_by q (eqb q p.0) p view h (not_in_view q view)
+
+pub none_when_empty : (es : List (ℕ × ℕ)) → length es ≡ 0 → es ≡ []
+none_when_empty [] h = refl
+none_when_empty (p ∷ es) h = absurd (omega (arith, h))
+
+-- pairs among which each look-up finds the same show the same
+pub same_shown : (old new : List (ℕ × ℕ)) → ((q : ℕ) → lookup (eqb q) new ≡ lookup (eqb q) old) →
+    versions.from_entries {R = nat_cmp} new ≡ versions.from_entries old
+same_shown old new found =
+    versions.same_map nat_cmp_total versions.nat_cmp-IsAntisymmetric _ _ (λ q.
+    sym (shown_of_lookup new q) ∙ (found q ∙ shown_of_lookup old q))
+
 -- pairs among which each look-up finds what it found, but for one entity, have that one's version in place of the former one
-pub shown_of_insert : (old new : List (ℕ × ℕ)) (e v : ℕ) →
+shown_of_insert : (old new : List (ℕ × ℕ)) (e v : ℕ) →
     ((q : ℕ) → lookup (eqb q) new ≡ cond (eqb e q) (Some v) (lookup (eqb q) old)) →
     versions.from_entries {R = nat_cmp} new ≡ versions.insert (versions.from_entries old) e v
 shown_of_insert old new e v found =
     versions.same_map nat_cmp_total versions.nat_cmp-IsAntisymmetric _ _ (λ q.
     sym (shown_of_lookup new q) ∙ (found q ∙ (ap (cond (eqb e q) (Some v)) (shown_of_lookup old q)
     ∙ sym (get_by_shown (versions.from_entries old) e v q (eqb e q) refl))))
+
+-- ---- what a look changes
+
+module _ (es new ls left : List (ℕ × ℕ)) (e v : ℕ) where
+  entered_by : (q : ℕ) (b : Bool) → eqb e q ≡ b → lookup (eqb q) new ≡ cond b (Some v) (lookup (eqb q) es) →
+      (b ≡ false → lookup (eqb q) left ≡ lookup (eqb q) ls) →
+      option_or (lookup (eqb q) new) (lookup (eqb q) left) ≡ cond b (Some v) (option_or (lookup (eqb q) es) (lookup (eqb q) ls))
+  entered_by q true t h k = ap (λ o. option_or o (lookup (eqb q) left)) h
+  entered_by q false t h k = λ i. option_or (h i) (k refl i)
+
+  -- the entity is in view at this version, and of the others nothing is changed
+  pub shown_when_entered : ((q : ℕ) → lookup (eqb q) new ≡ cond (eqb e q) (Some v) (lookup (eqb q) es)) →
+      ((q : ℕ) → eqb e q ≡ false → lookup (eqb q) left ≡ lookup (eqb q) ls) →
+      versions.from_entries {R = nat_cmp} (new ++ left) ≡ versions.insert (versions.from_entries (es ++ ls)) e v
+  shown_when_entered here others =
+      shown_of_insert (es ++ ls) (new ++ left) e v (λ q. sought q new left
+      ∙ (entered_by q (eqb e q) refl (here q) (others q)
+      ∙ ap (cond (eqb e q) (Some v)) (sym (sought q es ls))))
+
+  left_by : (q : ℕ) (b : Bool) → eqb e q ≡ b → lookup (eqb e) es ≡ Some v → lookup (eqb q) new ≡ cond b None (lookup (eqb q) es) →
+      lookup (eqb q) left ≡ cond b (Some v) (lookup (eqb q) ls) →
+      option_or (lookup (eqb q) new) (lookup (eqb q) left) ≡ option_or (lookup (eqb q) es) (lookup (eqb q) ls)
+  left_by q true t at h k =
+      (λ i. option_or (h i) (k i)) ∙ ap (λ o. option_or o (lookup (eqb q) ls)) (sym at ∙ ap (λ x. lookup (eqb x) es) (number_is e q t))
+  left_by q false t at h k = λ i. option_or (h i) (k i)
+
+  -- the entity has left at the version that it had in view
+  pub shown_when_left : lookup (eqb e) es ≡ Some v → ((q : ℕ) → lookup (eqb q) new ≡ cond (eqb e q) None (lookup (eqb q) es)) →
+      ((q : ℕ) → lookup (eqb q) left ≡ cond (eqb e q) (Some v) (lookup (eqb q) ls)) →
+      versions.from_entries {R = nat_cmp} (new ++ left) ≡ versions.from_entries (es ++ ls)
+  shown_when_left at gone there =
+      same_shown (es ++ ls) (new ++ left) (λ q. sought q new left ∙ (left_by q (eqb e q) refl at (gone q) (there q)
+      ∙ sym (sought q es ls)))
+
+-- ---- pairs that are given
+
+given_by : (q : ℕ) (b : Bool) (p : ℕ × ℕ) (view shown : List (ℕ × ℕ)) → eqb q p.0 ≡ b →
+    versions.get (versions.from_entries {R = nat_cmp} shown) p.0 ≡ Some p.1 →
+    option_or (lookup (eqb q) view) (cond (list_any (eqb q) (keys_of view)) None (lookup (eqb q) shown)) ≡ lookup (eqb q) shown →
+    option_or (cond b (Some p.1) (lookup (eqb q) view)) (cond (b || list_any (eqb q) (keys_of view)) None (lookup (eqb q) shown))
+    ≡ lookup (eqb q) shown
+given_by q true p view shown t h rest =
+    sym (shown_of_lookup shown q ∙ (ap (versions.get (versions.from_entries shown)) (number_is q p.0 t) ∙ h))
+given_by q false p view shown t h rest = rest
+
+shown_given : (q : ℕ) (view shown : List (ℕ × ℕ)) → AreShown (versions.from_entries shown) view →
+    option_or (lookup (eqb q) view) (cond (list_any (eqb q) (keys_of view)) None (lookup (eqb q) shown)) ≡ lookup (eqb q) shown
+shown_given q [] shown h = refl
+shown_given q (p ∷ view) shown h = given_by q (eqb q p.0) p view shown refl h.0 (shown_given q view shown h.1)
+
+-- what was shown is what is in view, and what else was shown
+pub shown_of_lists : (view left shown : List (ℕ × ℕ)) → AreShown (versions.from_entries shown) view →
+    ((q : ℕ) → lookup (eqb q) left ≡ cond (list_any (eqb q) (keys_of view)) None (lookup (eqb q) shown)) →
+    versions.from_entries {R = nat_cmp} (view ++ left) ≡ versions.from_entries shown
+shown_of_lists view left shown are is =
+    same_shown shown (view ++ left) (λ q. sought q view left ∙ (ap (option_or (lookup (eqb q) view)) (is q)
+    ∙ shown_given q view shown are))
+
+-- ---- a view
+
+each_shown : (es ls : List (ℕ × ℕ)) → IsDistinct eqb (keys_of es) → AreShown (versions.from_entries (es ++ ls)) es
+each_shown [] ls u = tt
+each_shown (p ∷ es) ls u = (
+  get_by_shown (versions.from_entries (es ++ ls)) p.0 p.1 p.0 true (same_again p.0),
+  others_shown (versions.from_entries (es ++ ls)) p.0 p.1 es (IsDistinct-head eqb p.0 (keys_of es) u)
+      (each_shown es ls (IsDistinct-tail eqb p.0 (keys_of es) u)),
+)
+
+-- entities that are each in view once are a view, whatever left
+pub view_of_lists : (radius hysteresis : ℕ) (es ls : List (ℕ × ℕ)) → IsDistinct eqb (keys_of es) →
+    IsView (record { radius = radius; hysteresis = hysteresis; entries = es; shown = versions.from_entries (es ++ ls) })
+view_of_lists radius hysteresis es ls u = record { once = u; shown = each_shown es ls u }
 
 -- entities in rising number are each there once
 pub once_when_rising : (es : List ℕ) → IsStrictlySortedBy nat_cmp es → IsDistinct eqb es

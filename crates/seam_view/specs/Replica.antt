@@ -1,7 +1,8 @@
 -- What a client was shown, and what each look changes in it.
-use Rattle.std.specs.Prelude.{◌≡◌, ℕ, ◌≤◌, nat_eq, List, [], ◌∷◌, length, fold, find, Option, None, Some, if◌then◌else◌}
+use Rattle.std.specs.Prelude.{◌≡◌, ℕ, ◌≤◌, ◌+◌, nat_eq, Bool, true, not, ◌&&◌, List, [], ◌∷◌, fold, find, Option, None, Some}
+use Rattle.std.specs.Prelude.{if◌then◌else◌}
 use Rattle.std.specs.Ordering.{nat_cmp}
-use Rattle.std.specs.List.{AllByRecursion, IsDistinct}
+use Rattle.std.specs.List.{AllByRecursion, IsDistinct, list_any}
 use Rattle.std.specs.Map.{keys_of}
 use Rattle.std.specs.FinMap as versions
 use Rattle.std.specs.Coded.{Coded, code_by, coded×, coded_ℕ, coded_list}
@@ -31,10 +32,11 @@ pub record IsView (r : Replica) : Type 0 where
 abbrev pub NeverFalls : Replica → Replica → Type 0
 NeverFalls old new = (e v : ℕ) → versions.get old.shown e ≡ Some v → (w : ℕ) × (versions.get new.shown e ≡ Some w) × (v ≤ w)
 
--- beside it: for so many looks there are places
+-- beside it: there are places in view for so many that enter, and places beside it for so many that leave
 pub record ViewValue : Type 0 where
   pub core : Replica
-  pub places : ℕ
+  pub enters : ℕ
+  pub leaves : ℕ
 
 abbrev pub replica_code : Coded Replica
 replica_code =
@@ -45,7 +47,8 @@ replica_code =
 
 abbrev pub view_code : Coded ViewValue
 view_code =
-    code_by (Replica × ℕ) (coded× replica_code coded_ℕ) (λ w. (w.core, w.places)) (λ q. record { core = q.0; places = q.1 }) (λ _. refl)
+    code_by (Replica × (ℕ × ℕ)) (coded× replica_code (coded× coded_ℕ coded_ℕ)) (λ w. (w.core, (w.enters, w.leaves)))
+    (λ q. record { core = q.0; enters = q.1.0; leaves = q.1.1 }) (λ _. refl)
 
 -- what is known of the entity
 abbrev pub seen_of : ℕ → List Seen → Option Seen
@@ -85,6 +88,29 @@ entity_of (Leave e) = e
 entity_of (Set e) = e
 entity_of (Enter e) = e
 
--- the looks can be kept without memory
-abbrev pub HasRoom : ViewValue → List Look → Type 0
-HasRoom w looks = length looks ≤ w.places
+-- how many enter by the looks
+abbrev pub enters_in : List Look → ℕ
+enters_in [] = 0
+enters_in (Leave e ∷ looks) = enters_in looks
+enters_in (Set e ∷ looks) = enters_in looks
+enters_in (Enter e ∷ looks) = enters_in looks + 1
+
+-- how many leave by them
+abbrev pub leaves_in : List Look → ℕ
+leaves_in [] = 0
+leaves_in (Leave e ∷ looks) = leaves_in looks + 1
+leaves_in (Set e ∷ looks) = leaves_in looks
+leaves_in (Enter e ∷ looks) = leaves_in looks
+
+-- where the entities that pass the test are in view, each that is set is one of them that has not left before
+abbrev pub SetsAreIn : (ℕ → Bool) → List Look → Type 0
+SetsAreIn t [] = Unit {0}
+SetsAreIn t (Leave e ∷ looks) = SetsAreIn (λ q. not (nat_eq e q) && t q) looks
+SetsAreIn t (Set e ∷ looks) = (t e ≡ true) × SetsAreIn t looks
+SetsAreIn t (Enter e ∷ looks) = SetsAreIn t looks
+
+-- the looks can be kept without memory: there is a place for each that enters and for each that leaves, and a set takes none
+pub record HasRoom (w : ViewValue) (looks : List Look) : Type 0 where
+  pub enters : enters_in looks ≤ w.enters
+  pub leaves : leaves_in looks ≤ w.leaves
+  pub sets : SetsAreIn (λ q. list_any (λ p. nat_eq q p.0) w.core.entries) looks

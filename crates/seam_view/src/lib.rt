@@ -3,24 +3,26 @@
 //! An entity enters a view within a radius, and leaves it beyond the radius and a hysteresis. (After the area of interest
 //! of the BigWorld Server Overview.)
 //!
-//! Of `proofs/`, `Only` (looks at two lists that agree on all that matters) is for callers.
+//! Of `proofs/`, `Only` (looks at two lists that agree on all that matters) and `Room` (what has room for looks has room for
+//! fewer) are for callers.
 #![tactic(auto)]
 
-ghost use Rattle.std.specs.Prelude.{◌≡◌, ◌≤◌, ◌++◌, ℕ, List, [], filter, map, length, slice_get, option_copied, IfOk, OnOk, is_some};
-ghost use Rattle.std.specs.Prelude.{false, not, IfSome, IfNone, drop, Some};
+ghost use Rattle.std.specs.Prelude.{◌≡◌, ◌≤◌, ◌++◌, ◌∷◌, ℕ, List, [], filter, map, length, slice_get, option_copied, IfOk, OnOk, is_some};
+ghost use Rattle.std.specs.Prelude.{true, false, not, IfSome, IfNone, drop, None, Some, if◌then◌else◌};
 ghost use Rattle.std.specs.Ordering.{nat_cmp};
 ghost use Rattle.std.specs.List.Sorted.{IsStrictlySortedBy};
 ghost use Rattle.std.specs.Prelude.{◌<◌, ◌+◌, nat_eq};
-ghost use Rattle.std.specs.List.{AllWithin, IsDistinct};
-ghost use Rattle.std.specs.Map.{keys_of};
+ghost use Rattle.std.specs.List.{AllWithin, IsDistinct, list_any};
+ghost use Rattle.std.specs.Map.{keys_of, lookup};
+ghost use Rattle.indexmap.specs.IndexMap.{spare};
 ghost use Rattle.seam_geo.specs.declared.pos.Pos.{Pos};
 ghost use Rattle.seam_view.specs.declared.Seen.{Seen};
 ghost use Rattle.seam_view.specs.declared.Look.{Look};
 ghost use Rattle.seam_view.specs.declared.Look.TheVariants.{Leave, Set};
 ghost use Rattle.std.specs.FinMap as versions;
 ghost use Rattle.seam_view.specs.Replica.{Replica, IsView, AreShown, NeverFalls, HasRoom, without, seen_of, with_version_shown};
-ghost use Rattle.seam_view.specs.Replica.{after_showing, after_look, after_looks};
-ghost use Rattle.seam_view.specs.Together.{leaves_next, looks_past};
+ghost use Rattle.seam_view.specs.Replica.{after_showing, after_look, after_looks, enters_in, leaves_in};
+ghost use Rattle.seam_view.specs.Together.{leaves_next, looks_past, looks_past_all, left_past_all, kept_past_all};
 ghost use Rattle.seam_view.specs.Looks.{is_far, in_view, not_older, enters, entering, one_look, matters};
 ghost use Rattle.seam_view.specs.Notes.{note_of, notes_of, is_leave, is_change, noted};
 ghost use Rattle.seam_view.specs.Plain.{plain_look, AreNotOlder};
@@ -66,40 +68,49 @@ enum Note {
     Changed,
 }
 
-/// The entities in view, in enter order, and what was shown of each entity ever shown.
+/// The entities in view, in enter order, and those that left and are not back, each with the version last shown.
 ///
-/// Contracts see these as a replica of what the client was shown, and beside it the number of looks that it has places for.
+/// Contracts see these as a replica of what the client was shown, and beside it how many more can enter, and how many leave, without
+/// memory.
 #[derive(Drop)]
 pub struct View {
     alloc: Global,
     radius: u32,
     hysteresis: u32,
     view: IndexMap<u32, u64>,
-    shown: IndexMap<u32, u64>,
+    left: IndexMap<u32, u64>,
 }
 
 impl Model for View {
     ghost use Rattle.seam_view.specs.Replica.{ViewValue, IsView, view_code};
+    ghost use Rattle.seam_view.specs.Together.{AreApart};
 
     ghost Value = { ViewValue };
 
     ghost coded = { view_code };
 
-    ghost use Rattle.std.specs.Prelude.{min};
+    ghost use Rattle.std.specs.Prelude.{◌++◌};
     ghost use Rattle.std.specs.FinMap.{from_entries};
     ghost use Rattle.indexmap.specs.IndexMap.{spare};
 
     ghost view = { λ v. record {
-      core = record { radius = v.radius; hysteresis = v.hysteresis; entries = v.view.entries; shown = from_entries v.shown.entries };
-      places = min (spare v.view) (spare v.shown);
+      core = record {
+        radius = v.radius;
+        hysteresis = v.hysteresis;
+        entries = v.view.entries;
+        shown = from_entries (v.view.entries ++ v.left.entries);
+      };
+      enters = spare v.view;
+      leaves = spare v.left;
     } };
 
+    // No entity in view is among those that left.
     ghost invariant = { λ v. IsView (record {
       radius = v.radius;
       hysteresis = v.hysteresis;
       entries = v.view.entries;
-      shown = from_entries v.shown.entries;
-    }) };
+      shown = from_entries (v.view.entries ++ v.left.entries);
+    }) × AreApart v.view.entries v.left.entries };
 }
 
 impl View {
@@ -112,7 +123,7 @@ impl View {
             radius,
             hysteresis,
             view: IndexMap::new(alloc),
-            shown: IndexMap::new(alloc),
+            left: IndexMap::new(alloc),
         }
     }
 
@@ -135,14 +146,15 @@ impl View {
           shown = versions.from_entries shown.now;
         }) }
     {
+        let mut left = map_of(alloc, shown)?;
+        take_out(&mut left, view);
         let view = map_of(alloc, view)?;
-        let shown = map_of(alloc, shown)?;
         Ok(View {
             alloc,
             radius,
             hysteresis,
             view,
-            shown,
+            left,
         })
     }
 
@@ -168,7 +180,21 @@ impl View {
     pub fn shown(&self, e: u32) -> Option<u64>
         ensures { result ≡ versions.get self.now.core.shown e }
     {
-        self.shown.get(&e).copied()
+        match self.view.get(&e) {
+            Some(version) => Some(*version),
+            None => self.shown_before(e),
+        }
+    }
+
+    // The version last shown of an entity that is not in view. Mostly none has left, and then nothing is looked up.
+    fn shown_before(&self, e: u32) -> Option<u64>
+        requires { in_view self.now.core e ≡ false }
+        ensures { result ≡ versions.get self.now.core.shown e }
+    {
+        if self.left.is_empty() {
+            return None;
+        }
+        self.left.get(&e).copied()
     }
 
     /// The radius and the hysteresis together: beyond it nothing matters that is not in view. None where a `u32` does not hold it.
@@ -185,11 +211,12 @@ impl View {
         u64::from(dist(own, p)) > u64::from(self.radius) + u64::from(self.hysteresis)
     }
 
-    // Whether the version is not older than the one shown of the entity, if any was.
+    // Whether the version is not older than the one shown of an entity that is not in view, if any was.
     fn may_show(&self, e: u32, version: u64) -> bool
+        requires { in_view self.now.core e ≡ false }
         ensures { result ≡ not_older (versions.get self.now.core.shown e) version }
     {
-        match self.shown(e) {
+        match self.shown_before(e) {
             Some(shown) => shown <= version,
             None => true,
         }
@@ -294,13 +321,14 @@ impl View {
         Ok(())
     }
 
-    // Makes places for so many looks.
-    fn reserve(&mut self, looks: usize) -> Result<(), AllocError>
+    // Makes places in view for as many as enter, and beside it for as many as leave.
+    fn reserve(&mut self, enters: usize, leaves: usize) -> Result<(), AllocError>
         ensures same { self.new.core ≡ self.old.core }
-        ensures places { OnOk result (looks ≤ self.new.places) }
+        ensures enters { OnOk result (enters ≤ self.new.enters) }
+        ensures leaves { OnOk result (leaves ≤ self.new.leaves) }
     {
-        self.view.reserve(looks)?;
-        self.shown.reserve(looks)
+        self.view.reserve(enters)?;
+        self.left.reserve(leaves)
     }
 
     /// The looks that bring the view up to what is known, for a witness at `own`: the leaves in enter order, the sets
@@ -317,86 +345,115 @@ impl View {
         let mut looks = Vec::new(self.alloc);
         let mut sets = Vec::new(self.alloc);
         self.push_noted(&notes, &mut looks, &mut sets)?;
+        self.reserve(enters.len(), looks.len())?;
         looks.append(&mut sets)?;
         looks.append(&mut enters)?;
-        self.reserve(looks.len())?;
         Ok(looks)
     }
 
-    // Takes the entity out of the view.
+    // Takes the entity out of the view. The version last shown is kept beside it.
     fn leave(&mut self, e: u32)
+        requires place { 0 < self.old.leaves }
         ensures core { self.new.core ≡ record self.old.core { entries = without e self.old.core.entries } }
-        ensures places { self.old.places ≤ self.new.places }
+        ensures enters { self.old.enters ≤ self.new.enters }
+        ensures leaves { self.old.leaves ≤ self.new.leaves + 1 }
     {
-        let _ = self.view.shift_remove(&e);
+        let Some(version) = self.view.shift_remove(&e) else {
+            return;
+        };
+        let Ok(_) = self.left.insert(e, version) else {
+            unreachable!()
+        };
     }
 
-    // Shows the entity at this version.
-    fn show(&mut self, e: u32, version: u64)
-        requires place { 0 < self.old.places }
+    // Shows an entity in view at this version. The place `next` is tried first, and is then the one past the entity's.
+    fn set(&mut self, e: u32, version: u64, next: &mut usize)
+        requires { in_view self.old.core e ≡ true }
         ensures core { self.new.core ≡ with_version_shown self.old.core e version }
-        ensures places { self.old.places ≤ self.new.places + 1 }
+        ensures enters { self.old.enters ≤ self.new.enters }
+        ensures leaves { self.old.leaves ≤ self.new.leaves }
     {
-        let Ok(_) = self.view.insert(e, version) else {
+        let Some((i, _)) = self.place_in_view(e, *next) else {
             unreachable!()
         };
-        let Ok(_) = self.shown.insert(e, version) else {
+        *next = i.saturating_add(1);
+        let Some(shown) = self.view.get_index_mut(i) else {
             unreachable!()
         };
+        *shown = version;
     }
 
-    // Shows the entity as it is known.
-    fn show_known(&mut self, e: u32, seen: Option<&Seen>)
-        requires place { 0 < self.old.places }
+    // Sets an entity as it is known.
+    fn set_known(&mut self, e: u32, seen: Option<&Seen>, next: &mut usize)
+        requires { in_view self.old.core e ≡ true }
         ensures core { self.new.core ≡ after_showing self.old.core e (option_copied seen.entry) }
-        ensures places { self.old.places ≤ self.new.places + 1 }
+        ensures enters { self.old.enters ≤ self.new.enters }
+        ensures leaves { self.old.leaves ≤ self.new.leaves }
     {
         match seen {
-            Some(seen) => self.show(e, seen.version),
+            Some(seen) => self.set(e, seen.version, next),
             None => return,
         }
     }
 
-    // Keeps one look. What is known of its entity is looked for from the place on, which then goes on past it.
-    fn keep_look(&mut self, known: &[Seen], look: &Look, from: &mut usize)
+    // Shows an entity that enters at this version.
+    fn enter(&mut self, e: u32, version: u64)
+        requires place { 0 < self.old.enters }
+        ensures core { self.new.core ≡ with_version_shown self.old.core e version }
+        ensures enters { self.old.enters ≤ self.new.enters + 1 }
+        ensures leaves { self.old.leaves ≤ self.new.leaves }
+    {
+        let Ok(_) = self.view.insert(e, version) else {
+            unreachable!()
+        };
+        if !self.left.is_empty() {
+            let _ = self.left.swap_remove(&e);
+        }
+    }
+
+    // Lets an entity enter as it is known.
+    fn enter_known(&mut self, e: u32, seen: Option<&Seen>)
+        requires place { 0 < self.old.enters }
+        ensures core { self.new.core ≡ after_showing self.old.core e (option_copied seen.entry) }
+        ensures enters { self.old.enters ≤ self.new.enters + 1 }
+        ensures leaves { self.old.leaves ≤ self.new.leaves }
+    {
+        match seen {
+            Some(seen) => self.enter(e, seen.version),
+            None => return,
+        }
+    }
+
+    // Keeps one look. What is known of its entity is looked for from the place `from` on, and its place in view at `next`; both then
+    // go on past it.
+    fn keep_look(&mut self, known: &[Seen], look: &Look, from: &mut usize, next: &mut usize)
         requires rising { IsStrictlySortedBy nat_cmp (map (λ s. s.entity) known.now) }
-        requires place { 0 < self.old.places }
+        requires room { HasRoom self.old (look.now ∷ []) }
         ensures core { self.new.core ≡ after_look known.now self.old.core look.now }
-        ensures places { self.old.places ≤ self.new.places + 1 }
+        ensures enters { self.old.enters ≤ self.new.enters + enters_in (look.now ∷ []) }
+        ensures leaves { self.old.leaves ≤ self.new.leaves + leaves_in (look.now ∷ []) }
     {
         match look {
             Look::Leave(e) => self.leave(*e),
-            Look::Set(e) => self.show_known(*e, find_seen(known, *e, from)),
-            Look::Enter(e) => self.show_known(*e, find_seen(known, *e, from)),
+            Look::Set(e) => self.set_known(*e, find_seen(known, *e, from), next),
+            Look::Enter(e) => self.enter_known(*e, find_seen(known, *e, from)),
         }
     }
 
     // Takes the entities whose leaves come first among the looks, in enter order as `plan` gives them, out of the view in one
-    // pass: one by one, each leave would move all entries after it. To keep these leaves afterwards changes nothing.
-    fn leave_together(&mut self, looks: &[Look])
-        ensures same_after { (known : List Seen) → after_looks known self.new.core looks.now ≡ after_looks known self.old.core looks.now }
-        ensures places { self.old.places ≤ self.new.places }
+    // pass: one by one, each leave would move all entries after it. The looks past these leaves remain.
+    fn leave_together<'a>(&mut self, looks: &'a [Look]) -> &'a [Look]
+        requires room { HasRoom self.old looks.now }
+        ensures same_after { (known : List Seen) →
+            after_looks known self.new.core result.now ≡ after_looks known self.old.core looks.now }
+        ensures room { HasRoom self.new result.now }
     {
         let Some(Look::Leave(_)) = looks.first() else {
-            return;
+            return looks;
         };
-        // `len` is called for its clause that each entity is in view once.
-        let _ = self.view.len();
-        let mut next = looks;
-        self.view.retain(
-            |e: &u32, version: &mut u64| -> bool
-                ensures { (result ≡ not (leaves_next e.now next.entry.now)) × (next.exit.now ≡ looks_past e.now next.entry.now)
-                    × (version.new ≡ version.old) }
-            {
-                match past_leave(next, *e) {
-                    Some(rest) => {
-                        next = rest;
-                        false
-                    }
-                    None => true,
-                }
-            },
-        );
+        let rest = note_left(&self.view, &mut self.left, looks);
+        leave_in_turn(&mut self.view, looks);
+        rest
     }
 
     /// Keeps the looks that `plan` gave for what is known: they have been shown from now on. It takes no memory.
@@ -405,10 +462,11 @@ impl View {
         requires room { HasRoom self.old looks.now }
         ensures { self.new.core ≡ after_looks known.now self.old.core looks.now }
     {
-        self.leave_together(looks);
+        let rest = self.leave_together(looks);
         let mut from = 0;
-        for look in looks {
-            self.keep_look(known, look, &mut from);
+        let mut next = 0;
+        for look in rest {
+            self.keep_look(known, look, &mut from, &mut next);
         }
     }
 }
@@ -425,13 +483,100 @@ fn map_of(alloc: Global, pairs: &[(u32, u64)]) -> Result<IndexMap<u32, u64>, All
     Ok(made)
 }
 
+// Takes the entities of these pairs out of the map.
+fn take_out(from: &mut IndexMap<u32, u64>, pairs: &[(u32, u64)])
+    ensures { (q : ℕ) → lookup (nat_eq q) from.new.entries
+        ≡ if list_any (nat_eq q) (keys_of pairs.now) then None else lookup (nat_eq q) from.old.entries }
+{
+    for (e, _) in pairs {
+        let _ = from.swap_remove(e);
+    }
+}
+
+// Puts the entities whose leaves come first among the looks, in enter order, among those that left, with the versions that they have
+// in view. The looks past these leaves remain.
+fn note_left<'a>(
+    view: &IndexMap<u32, u64>,
+    left: &mut IndexMap<u32, u64>,
+    looks: &'a [Look],
+) -> &'a [Look]
+    requires room { leaves_in looks.now ≤ spare left.old }
+    ensures rest { result.now ≡ looks_past_all looks.now view.now.entries }
+    ensures left { (q : ℕ) → lookup (nat_eq q) left.new.entries
+        ≡ left_past_all looks.now view.now.entries (λ x. lookup (nat_eq x) left.old.entries) q }
+    ensures room { leaves_in result.now ≤ spare left.new }
+    ensures once { IsDistinct nat_eq (keys_of view.now.entries) }
+{
+    // `len` is called for its clause that each entity is in view once.
+    let _ = view.len();
+    let mut rest = looks;
+    let mut from = 0;
+    while let Some((e, after)) = first_leave(rest) {
+        let Some((i, version)) = place_from(view, e, from) else {
+            return rest;
+        };
+        let Ok(_) = left.insert(e, version) else {
+            unreachable!()
+        };
+        from = i + 1;
+        rest = after;
+    }
+    rest
+}
+
+// The place of the entity in view, from this one on, and its version.
+fn place_from(view: &IndexMap<u32, u64>, e: u32, from: usize) -> Option<(usize, u64)>
+    requires { IsDistinct nat_eq (keys_of view.now.entries) }
+    ensures there { IfSome result (λ r. (from ≤ r.0) × (slice_get view.now.entries r.0 ≡ Some (e, r.1))) }
+    ensures none { IfNone result (list_any (λ p. nat_eq e p.0) (drop from view.now.entries) ≡ false) }
+{
+    match view.get_full(&e) {
+        Some((i, _, version)) if from <= i => Some((i, *version)),
+        _ => None,
+    }
+}
+
+// Takes the entities whose leaves come first among the looks, in enter order, out of those in view, in one pass over them.
+fn leave_in_turn(view: &mut IndexMap<u32, u64>, looks: &[Look])
+    ensures kept { view.new.entries ≡ kept_past_all looks.now view.old.entries }
+    ensures room { spare view.old ≤ spare view.new }
+    ensures once { IsDistinct nat_eq (keys_of view.new.entries) }
+{
+    let mut next = looks;
+    view.retain(
+        |e: &u32, version: &mut u64| -> bool
+            ensures { (result ≡ not (leaves_next e.now next.entry.now)) × (next.exit.now ≡ looks_past e.now next.entry.now)
+                × (version.new ≡ version.old) }
+        {
+            match past_leave(next, *e) {
+                Some(rest) => {
+                    next = rest;
+                    false
+                }
+                None => true,
+            }
+        },
+    );
+}
+
+// The entity of the first of the looks, where that is a leave, and the looks past it.
+fn first_leave(looks: &[Look]) -> Option<(u32, &[Look])>
+    ensures some { IfSome result (λ r. looks.now ≡ Leave r.0 ∷ r.1.now) }
+    ensures none { IfNone result ((e : ℕ) → leaves_next e looks.now ≡ false) }
+{
+    match looks.split_first() {
+        Some((Look::Leave(e), rest)) => Some((*e, rest)),
+        _ => None,
+    }
+}
+
 // The looks past the first, where that is the leave of the entity.
 fn past_leave(looks: &[Look], e: u32) -> Option<&[Look]>
     ensures leaves { is_some result ≡ leaves_next e looks.now }
     ensures past { IfSome result (λ rest. rest.now ≡ drop 1 looks.now) }
 {
-    match looks.split_first() {
-        Some((Look::Leave(first), rest)) if *first == e => Some(rest),
+    match first_leave(looks) {
+        Some((first, rest)) if first == e => Some(rest),
         _ => None,
     }
 }

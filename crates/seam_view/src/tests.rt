@@ -40,6 +40,12 @@ fn enters_at_the_radius_and_leaves_past_the_hysteresis(rt: HostRuntime) -> Resul
     view.keep(&far, &looks);
     assert_eq!(rt; view.len(), 0);
     assert_eq!(rt; view.shown(2), Some(0));
+    let back = seen(2, 3, 299);
+    let looks = view.plan(OWN, &back)?;
+    assert_eq!(rt; looks.as_slice(), [Look::Enter(2)].as_slice());
+    view.keep(&back, &looks);
+    assert_eq!(rt; view.at(0), Some((2, 3)));
+    assert_eq!(rt; view.shown(2), Some(3));
     Ok(())
 }
 

@@ -1,40 +1,73 @@
-use Rattle.std.proofs.Common.{◌∙◌, ap, sym, subst, rules}
+use Rattle.std.proofs.Common.{◌≤◌, ◌++◌, ◌∙◌, ap, sym, subst, eqb, arith}
+use Rattle.std.specs.List.{list_any}
+use Rattle.std.specs.Map.{lookup}
+use Rattle.std.specs.Option.{option_or}
 use Rattle.std.specs.FinMap as versions
-use Rattle.seam_view.specs.Replica.{AreShown, after_looks}
-use Rattle.seam_view.proofs.Kept.{shown_walked}
-use Rattle.seam_view.specs.contracts.fn.View.leave_together.retain as closure
-use Rattle.seam_view.proofs.Together.{walked_when_retained, same_together}
+use Rattle.indexmap.specs.IndexMap.{spare}
+use Rattle.seam_view.specs.Replica.{after_looks, SetsAreIn, enters_in}
+use Rattle.seam_view.specs.Together.{looks_past_all, AreApart}
+use Rattle.seam_view.proofs.Room.{enters_past_all, sets_past_all}
+use Rattle.seam_view.proofs.Shown.{sought, same_shown, view_of_lists}
+use Rattle.seam_view.proofs.Together.{same_together, shown_together}
+use Rattle.seam_view.proofs.Apart.{apart_together}
 use Rattle.seam_view.proofs.View.leave_together.Goals as goal
 
 pub returns-clause-same_after : goal.returns-clause-same_after
 returns-clause-same_after c = λ known.
     let es = c.self.inside.view.entries in
-    let walk =
-    walked_when_retained _ (λ f. (closure.captures f).next.now) (λ f k v b w g call. search rules) es c.retain.new.self.entries _
-    c.retain.ensures.filtered in
-    ap (λ xs. after_looks known (record {
+    let ls = c.self.inside.left.entries in
+    let new = c.leave_in_turn.new.view.entries in
+    let left = c.note_left-rest.new.left.entries in
+    let looks = c.args.looks.now in
+    let once = c.note_left-rest.ensures.once in
+    let kept = c.leave_in_turn.ensures.kept in
+    let shown =
+    same_shown (es ++ ls) (new ++ left) (λ q. sought q new left
+    ∙ ((λ i. option_or (lookup (eqb q) (kept i)) (c.note_left-rest.ensures.left q i))
+    ∙ (shown_together q looks es (λ x. lookup (eqb x) ls) once ∙ sym (sought q es ls)))) in
+    (λ i. after_looks known (record {
       radius = c.self.inside.radius;
       hysteresis = c.self.inside.hysteresis;
-      entries = xs;
-      shown = versions.from_entries c.self.inside.shown.entries;
-    }) c.args.looks.now) walk
+      entries = kept i;
+      shown = shown i;
+    }) (c.note_left-rest.ensures.rest i))
     ∙ (same_together known (record {
       radius = c.self.inside.radius;
       hysteresis = c.self.inside.hysteresis;
       entries = es;
-      shown = versions.from_entries c.self.inside.shown.entries;
-    }) es c.args.looks.now c.len.ensures.unique
-    ∙ ap (λ w. after_looks known w.core c.args.looks.now) c.self.view_is)
+      shown = versions.from_entries (es ++ ls);
+    }) es looks once
+    ∙ ap (λ w. after_looks known w.core looks) c.self.view_is)
+
+pub returns-clause-room : goal.returns-clause-room
+returns-clause-room c =
+    let es = c.self.inside.view.entries in
+    let new = c.leave_in_turn.new.view.entries in
+    let looks = c.args.looks.now in
+    let kept = c.leave_in_turn.ensures.kept in
+    let rest = c.note_left-rest.ensures.rest in
+    let sets = subst (λ w. SetsAreIn (λ q. list_any (λ p. eqb q p.0) w.core.entries) looks) (sym c.self.view_is) c.requires.room.sets in
+    let enters : enters_in looks ≤ spare c.self.inside.view =
+    subst (λ w. enters_in looks ≤ w.enters) (sym c.self.view_is) c.requires.room.enters in
+    let same = ap enters_in rest ∙ enters_past_all looks es in
+    let places = c.leave_in_turn.ensures.room in
+    record {
+      enters = omega (arith, enters, same, places);
+      leaves = c.note_left-rest.ensures.room;
+      sets =
+          subst (λ l. SetsAreIn (λ q. list_any (λ p. eqb q p.0) new) l) (sym rest)
+          (subst (λ ks. SetsAreIn (λ q. list_any (λ p. eqb q p.0) ks) (looks_past_all looks es)) (sym kept)
+          (sets_past_all es looks sets));
+    }
 
 pub invariant_of-self : goal.invariant_of-self
 invariant_of-self c =
     let es = c.self.inside.view.entries in
-    let walk =
-    walked_when_retained _ (λ f. (closure.captures f).next.now) (λ f k v b w g call. search rules) es c.retain.new.self.entries _
-    c.retain.ensures.filtered in
-    record {
-      once = c.retain.ensures.unique;
-      shown =
-          subst (AreShown (versions.from_entries c.self.inside.shown.entries)) (sym walk)
-          (shown_walked (versions.from_entries c.self.inside.shown.entries) c.args.looks.now es c.self.invariant.shown);
-    }
+    let ls = c.self.inside.left.entries in
+    let new = c.leave_in_turn.new.view.entries in
+    let left = c.note_left-rest.new.left.entries in
+    let kept = c.leave_in_turn.ensures.kept in (
+      view_of_lists c.self.inside.radius c.self.inside.hysteresis new left c.leave_in_turn.ensures.once,
+      subst (λ l. AreApart l left) (sym kept)
+          (apart_together c.args.looks.now es ls left c.note_left-rest.ensures.once c.note_left-rest.ensures.left c.self.invariant.1),
+    )

@@ -1,12 +1,12 @@
-use Rattle.std.proofs.Common.{◌∙◌, [], ap, sym, subst, map, not, length, refl, arith}
+use Rattle.std.proofs.Common.{◌∙◌, [], ap, sym, subst, map, not}
 use Rattle.std.specs.List.{filter}
 use Rattle.std.specs.Ordering.{nat_cmp}
 use Rattle.std.specs.List.Sorted.{IsStrictlySortedBy}
 use Rattle.std.specs.FinMap as table
-use Rattle.std.proofs.lemmas.List.Filters.{length-filter_both}
 use Rattle.seam_view.specs.declared.Look.{Look}
 use Rattle.seam_view.specs.Looks.{one_look}
-use Rattle.seam_view.specs.Replica.{IsView}
+use Rattle.seam_view.specs.Replica.{IsView, HasRoom}
+use Rattle.seam_view.proofs.Room.{room_for_fewer}
 use Rattle.seam_steps.specs.Looks.{seen_as, all_shown}
 use Rattle.seam_steps.specs.Cells.{CellView, known_to}
 use Rattle.seam_known.proofs.Knowing.{known_in_order}
@@ -69,6 +69,5 @@ returns-clause-room c =
       looks = [];
     } in
     let t = λ (look : Look). not (is_early c.plan.new.self.core (map seen_as (known_to d c.args.self.now.own)) look) in
-    let left = ap length (c.in_ok-looks.ensures.looks d) in
-    let parted = length-filter_both t (λ look. not (t look)) (λ _. refl) c.in_ok-planned.planned.items in
-    omega (arith, left, parted, c.in_ok-planned.ensures.room)
+    subst (HasRoom c.plan.new.self) (sym (c.in_ok-looks.ensures.looks d))
+    (room_for_fewer t c.plan.new.self c.in_ok-planned.planned.items c.in_ok-planned.ensures.room)
