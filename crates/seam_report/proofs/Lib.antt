@@ -1,2 +1,3 @@
 mod Numbered
 mod Parts
+mod Spelled

@@ -7,6 +7,7 @@ mod journal;
 mod lines;
 mod refusals;
 mod round;
+mod spellings;
 mod told;
 mod values;
 
@@ -17,4 +18,5 @@ pub use lines::{
 };
 pub use refusals::push_refusal;
 pub use round::{write_round, write_traced_round};
+pub use spellings::Spellings;
 pub use told::push_client;

@@ -1,53 +1,70 @@
 // The lines of clients.
 ghost use Rattle.std.specs.Prelude.{◌≡◌, ◌++◌, OnOk};
-ghost use Rattle.seam_defs.specs.Types.{type_of};
-ghost use Rattle.seam_defs.specs.declared.flags.Group.TheVariants as group;
 ghost use Rattle.seam_transcript.specs.Texts.{field};
 ghost use Rattle.seam_rules.specs.Texts.{state_text, shown_text, told_text, client_text};
+ghost use Rattle.seam_report.specs.Spelled.{copy_text};
 
+use crate::spellings::Spellings;
 use crate::values::{LONGEST_FIELD, push_field, write_field};
 use seam_call::{ClientText, GhostCopy, Line, Shown};
 use seam_defs::{Defs, Group, State, TypeDef};
 use std::alloc::AllocError;
 
 /// Appends a line that the client of an entity of a type is shown.
-pub fn push_client(
+pub fn push_client<'a>(
     out: &mut Vec<u8>,
-    defs: &Defs,
+    spellings: &mut Spellings<'a>,
     entity: u32,
     ty: u16,
-    line: &Line,
+    line: &'a Line,
 ) -> Result<(), AllocError>
-    ensures { OnOk result (out.new.items ≡ out.old.items
-        ++ client_text defs.now (record { entity = entity; ty = ty; line = line.now })) }
+    ensures text { OnOk result (out.new.items ≡ out.old.items
+        ++ client_text spellings.old (record { entity = entity; ty = ty; line = line.now })) }
+    ensures same { spellings.new ≡ spellings.old }
 {
     let mut text = [0; 2 * LONGEST_FIELD];
     let at = write_field(line.number, &mut text, 2 * LONGEST_FIELD);
     let at = write_field(u64::from(entity), &mut text, at);
     out.extend_from_slice(b"to")?;
     out.extend_from_slice(&text[at..])?;
-    push_told(out, defs, ty, &line.text)?;
+    push_told(out, spellings, ty, &line.text)?;
     out.extend_from_slice(b"\n")
 }
 
 // What the client of an entity of a type is shown.
-fn push_told(out: &mut Vec<u8>, defs: &Defs, ty: u16, text: &ClientText) -> Result<(), AllocError>
-    ensures { OnOk result (out.new.items ≡ out.old.items ++ told_text defs.now ty text.now) }
+fn push_told<'a>(
+    out: &mut Vec<u8>,
+    spellings: &mut Spellings<'a>,
+    ty: u16,
+    text: &'a ClientText,
+) -> Result<(), AllocError>
+    ensures text { OnOk result (out.new.items ≡ out.old.items ++ told_text spellings.old ty text.now) }
+    ensures same { spellings.new ≡ spellings.old }
 {
     match text {
-        ClientText::Shown(shown) => push_shown(out, defs, ty, shown),
+        ClientText::Shown(shown) => push_shown(out, spellings, ty, shown),
         ClientText::Base(version, props) => {
             out.extend_from_slice(b" base")?;
             push_field(out, *version)?;
-            defs.type_at(ty).write_props(Group::BaseClient, props, out)
+            spellings
+                .defs()
+                .type_at(ty)
+                .write_props(Group::BaseClient, props, out)
         }
     }
 }
 
 // What it is shown of cell parts.
-fn push_shown(out: &mut Vec<u8>, defs: &Defs, ty: u16, shown: &Shown) -> Result<(), AllocError>
-    ensures { OnOk result (out.new.items ≡ out.old.items ++ shown_text defs.now ty shown.now) }
+fn push_shown<'a>(
+    out: &mut Vec<u8>,
+    spellings: &mut Spellings<'a>,
+    ty: u16,
+    shown: &'a Shown,
+) -> Result<(), AllocError>
+    ensures text { OnOk result (out.new.items ≡ out.old.items ++ shown_text spellings.old ty shown.now) }
+    ensures same { spellings.new ≡ spellings.old }
 {
+    let defs = spellings.defs();
     match shown {
         Shown::Own(version, state) => {
             out.extend_from_slice(b" own")?;
@@ -58,12 +75,12 @@ fn push_shown(out: &mut Vec<u8>, defs: &Defs, ty: u16, shown: &Shown) -> Result<
             push_field(out, u64::from(*entity))?;
             out.extend_from_slice(b" ")?;
             out.extend_from_slice(defs.type_at(copy.ty).name.bytes())?;
-            push_copy(out, defs, copy)
+            spellings.push(out, *entity, copy)
         }
         Shown::Set(entity, copy) => {
             out.extend_from_slice(b" set")?;
             push_field(out, u64::from(*entity))?;
-            push_copy(out, defs, copy)
+            spellings.push(out, *entity, copy)
         }
         Shown::Leave(entity) => {
             out.extend_from_slice(b" leave")?;
@@ -72,10 +89,13 @@ fn push_shown(out: &mut Vec<u8>, defs: &Defs, ty: u16, shown: &Shown) -> Result<
     }
 }
 
-// The version of a copy, and its state.
-fn push_copy(out: &mut Vec<u8>, defs: &Defs, copy: &GhostCopy) -> Result<(), AllocError>
-    ensures { OnOk result (out.new.items ≡ out.old.items
-        ++ field copy.now.version ++ state_text (type_of defs.now copy.now.ty) group.Other copy.now.state) }
+/// Appends the version of a copy, and its state.
+pub(crate) fn push_copy(
+    out: &mut Vec<u8>,
+    defs: &Defs,
+    copy: &GhostCopy,
+) -> Result<(), AllocError>
+    ensures { OnOk result (out.new.items ≡ out.old.items ++ copy_text defs.now copy.now) }
 {
     push_state(
         out,
