@@ -181,11 +181,11 @@ module _ {X : Type 0} (f : X → Place) (es : List (ℕ × X)) where
         passed = passed ++ (e, x) ∷ [];
         parts = parts ∙ sym (append_assoc passed ((e, x) ∷ []) rest);
         noted = λ q.
-          ap (λ m. map.get m q) put
-          ∙ (map.get-insert nat_cmp_total l e (f x) q
-          ∙ (ap (cond (eq_by_cmp nat_cmp q e) (Some (f x))) (so_far.noted q)
-          ∙ sym (ap (option_map f) (find-append nat_cmp nat_cmp_total passed e x q new_to_it)
-          ∙ map_cond f (eq_by_cmp nat_cmp q e) (Some x) (map.find nat_cmp q passed))));
+            ap (λ m. map.get m q) put
+            ∙ (map.get-insert nat_cmp_total l e (f x) q
+            ∙ (ap (cond (eq_by_cmp nat_cmp q e) (Some (f x))) (so_far.noted q)
+            ∙ sym (ap (option_map f) (find-append nat_cmp nat_cmp_total passed e x q new_to_it)
+            ∙ map_cond f (eq_by_cmp nat_cmp q e) (Some x) (map.find nat_cmp q passed))));
       }
 
   pub all_noted : (rest : List (ℕ × X)) (l : Places) → rest ≡ [] → AreNotedSoFar rest l → (q : ℕ) →

@@ -98,9 +98,9 @@ module _ {X : Type 0} where
     finds_from_number = record {
       rises = is_sorted-where_key nat_cmp (nat_le n) (map.entries items) (map.entries_sorted items);
       finds = λ q le.
-        map.get-entries items q
-        ∙ sym (find-where_key nat_cmp (nat_le n) q (λ x tied. ap (nat_le n) (sym (map.nat_cmp-IsAntisymmetric q x tied))) (map.entries items)
-        ∙ ap (λ b. cond b (map.find nat_cmp q (map.entries items)) None) (le-leb n q le));
+          map.get-entries items q
+          ∙ sym (find-where_key nat_cmp (nat_le n) q (λ x tied. ap (nat_le n) (sym (map.nat_cmp-IsAntisymmetric q x tied))) (map.entries items)
+          ∙ ap (λ b. cond b (map.find nat_cmp q (map.entries items)) None) (le-leb n q le));
     }
 
     -- its first item, where it has another number than the one asked for

@@ -25,7 +25,6 @@ impl<'a, T> Model for Finder<'a, T> {
     ghost use Rattle.std.specs.FinMap as map;
     ghost use Rattle.std.specs.Ordering.{nat_cmp};
     ghost use Rattle.seam_table.specs.Walks.{walk_left, FindsFrom};
-
     ghost use Rattle.std.specs.Coded.{coded_ℕ};
 
     ghost Value = { map.FinMap nat_cmp T };

@@ -24,16 +24,16 @@ returns-clause-item g c =
     let viewed : map.get items n ≡ map.get c.args.self.now n = ap (λ m. map.get m n) c.self.view_is in
     elim c.match-self.branch [
       | in-Some w ↦
-        let here = subst (λ o. FindsFrom n items (walk_left o rest)) w.in-Some.is walk in
-        let at_it = subst (λ k. FindsFrom n items ((k, w.in-Some.item.now) ∷ rest)) w.if-number-n.true here in
-        ap option_copied w.result-is ∙ sym (found_next n w.in-Some.item.now rest (omega arith) at_it) ∙ viewed
+          let here = subst (λ o. FindsFrom n items (walk_left o rest)) w.in-Some.is walk in
+          let at_it = subst (λ k. FindsFrom n items ((k, w.in-Some.item.now) ∷ rest)) w.if-number-n.true here in
+          ap option_copied w.result-is ∙ sym (found_next n w.in-Some.item.now rest (omega arith) at_it) ∙ viewed
       | in_default w ↦ ap option_copied w.result-is ∙ elim w.in_default.branch [
         | in_default-via-in-Some+else-number-n v ↦
-          let here = subst (λ o. FindsFrom n items (walk_left o rest)) v.in-Some.is walk in
-          let above = first_is_above n items (v.in-Some.number, v.in-Some.item.now) rest
-          (ap (λ o. walk_left o rest) (sym v.in-Some.is) ∙ taken) v.if-number-n.false in
-          sym (absent_below n (v.in-Some.number, v.in-Some.item.now) rest (omega arith) above here) ∙ viewed
+            let here = subst (λ o. FindsFrom n items (walk_left o rest)) v.in-Some.is walk in
+            let above = first_is_above n items (v.in-Some.number, v.in-Some.item.now) rest
+            (ap (λ o. walk_left o rest) (sym v.in-Some.is) ∙ taken) v.if-number-n.false in
+            sym (absent_below n (v.in-Some.number, v.in-Some.item.now) rest (omega arith) above here) ∙ viewed
         | in_default-via-in_default v ↦
-          sym (absent_at_end n (omega arith) (subst (λ o. FindsFrom n items (walk_left o rest)) v.in_default.is walk)) ∙ viewed
+            sym (absent_at_end n (omega arith) (subst (λ o. FindsFrom n items (walk_left o rest)) v.in_default.is walk)) ∙ viewed
       ]
     ]
