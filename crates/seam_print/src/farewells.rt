@@ -18,7 +18,7 @@ use crate::round::PrintedRound;
 use seam_call::{Create, Line};
 use seam_core::World;
 use seam_defs::{Defs, Listed};
-use seam_report::push_client;
+use seam_report::{Spellings, push_client};
 use seam_table::Table;
 use std::alloc::{AllocError, Global};
 use std::collections::BTreeMap;
@@ -140,8 +140,9 @@ pub(crate) fn push_lines(
 fn push_all(out: &mut Vec<u8>, defs: &Defs, made: &Create, lines: &[Line]) -> Result<(), AllocError>
     ensures { OnOk result (out.new.items ≡ out.old.items ++ lines_text defs.now made.now lines.now) }
 {
+    let mut spellings = Spellings::new(*out.allocator(), defs);
     for line in lines {
-        push_client(out, defs, made.entity, made.ty, line)?;
+        push_client(out, &mut spellings, made.entity, made.ty, line)?;
     }
     Ok(())
 }
