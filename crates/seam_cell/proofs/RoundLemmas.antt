@@ -1,7 +1,7 @@
 -- A walk over all reals, in which each begins a round, and one that gathers their entities.
-use Rattle.std.proofs.Common.{◌≡◌, ◌++◌, ℕ, ◌<◌, ◌-◌, Bool, true, false, cond, ◌&&◌}
-use Rattle.std.proofs.Common.{T, is_some, map, find, List, [], ◌∷◌, Option, None, Some}
-use Rattle.std.proofs.Common.{refl, sym, ap, ◌∙◌, append_assoc, arith}
+use Rattle.std.proofs.Common.{◌≡◌, ℕ, ◌<◌, Bool, true, false, cond, ◌&&◌}
+use Rattle.std.proofs.Common.{T, map, find, List, [], ◌∷◌, Option, None, Some}
+use Rattle.std.proofs.Common.{refl, sym, ap, ◌∙◌, arith}
 use Rattle.std.specs.Prelude.{option_map, nat_lt}
 use Rattle.std.specs.List.{AllByRecursion}
 use Rattle.std.specs.List.Sorted.{IsStrictlySortedBy}
@@ -17,7 +17,7 @@ use Rattle.seam_table.proofs.Found.{found}
 use Rattle.seam_entity.specs.Reals.{RealView}
 use Rattle.seam_entity.specs.Executing.{real_begins}
 use Rattle.seam_steps.specs.Maps.{Map, number_of, set_at, with_value, each_value}
-use Rattle.seam_known.proofs.Walks.{comes_after, left_after, IsBefore, nothing_before, all_left, none_left, one_left}
+use Rattle.seam_known.proofs.Walks.{comes_after, IsBefore, nothing_before}
 pub use Rattle.seam_parts.proofs.SpotLemmas.{left, fewer_left}
 use Rattle.seam_parts.specs.Kept.{marked, with_mark}
 use Rattle.seam_cell.specs.Beginning.{changed_at}
@@ -131,30 +131,3 @@ module _ {X : Type 0} where
   unfolding IsStrictlySortedBy
   keys_rise [] h = tt
   keys_rise (p ∷ es) h = (all_above p.0 es (first _ _ h), keys_rise es (second _ _ h))
-
--- those so far and those that are left are all
-abbrev pub AreGathered : {X : Type 0} → Option ℕ → List ℕ → Map X → Type 0
-AreGathered last so_far m = so_far ++ map number_of (left_after last (table.entries m)) ≡ table.keys m
-
-append_none : {A : Type 0} (xs : List A) → xs ++ [] ≡ xs
-append_none [] = refl
-append_none (x ∷ xs) = ap (λ l. x ∷ l) (append_none xs)
-
-module _ {X : Type 0} (m : Map X) where
-  pub none_gathered : AreGathered None [] m
-  none_gathered = ap (map number_of) (all_left (table.entries m))
-
-  pub all_gathered : (last : Option ℕ) (so_far : List ℕ) → AreGathered last so_far m →
-      None ≡ find (comes_after last) (table.entries m) → so_far ≡ table.keys m
-  all_gathered last so_far are none =
-      sym (append_none so_far)
-      ∙ (ap (λ l. so_far ++ map number_of l) (sym (none_left last (table.entries m) (sym none))) ∙ are)
-
-  pub gathered_more : (last : Option ℕ) (so_far : List ℕ) (e : ℕ) (p : X) → AreGathered last so_far m →
-      Some (e, p) ≡ find (comes_after last) (table.entries m) → AreGathered (Some e) (so_far ++ e ∷ []) m
-  gathered_more last so_far e p are is =
-      append_assoc so_far (e ∷ []) (map number_of (left_after (Some e) (table.entries m)))
-      ∙ (ap (λ l. so_far ++ map number_of l) (sym (one_left last (table.entries m) (e, p) (table.entries_sorted m) (sym is))) ∙ are)
-
-  pub comes_next : (last : Option ℕ) (e : ℕ) (p : X) → Some (e, p) ≡ find (comes_after last) (table.entries m) → is_after last e ≡ true
-  comes_next last e p is = (found (comes_after last) m (e, p) (sym is)).1

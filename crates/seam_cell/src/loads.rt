@@ -85,10 +85,9 @@ fn all_entities(mut all: EntityRow, items: &RealTable) -> Result<EntityRow, Allo
     ensures all { IfOk result (λ s. s ≡ table.keys items.now.items) }
     ensures rising { IsStrictlySortedBy nat_cmp (table.keys items.now.items) }
 {
-    let mut last = None;
-    while let Some((e, _)) = items.next_after(last) {
+    let mut walk = items.iter();
+    while let Some((e, _)) = walk.next() {
         add(&mut all, e)?;
-        last = Some(e);
     }
     Ok(all)
 }

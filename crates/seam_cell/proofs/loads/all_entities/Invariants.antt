@@ -1,8 +1,7 @@
-use Rattle.seam_cell.proofs.RoundLemmas.{AreGathered, left}
+use Rattle.std.proofs.Common.{◌≡◌, ◌++◌, map}
+use Rattle.std.specs.FinMap as table
+use Rattle.seam_steps.specs.Maps.{number_of}
 use Rattle.seam_cell.proofs.loads.all_entities.Given as goal
 
 abbrev pub invariant-loop-e : goal.invariant-loop-e
-invariant-loop-e l = AreGathered l.last l.all l.items.items
-
-abbrev pub decreases-loop-e : goal.decreases-loop-e
-decreases-loop-e l = left l.last
+invariant-loop-e l = l.all ++ map number_of l.walk ≡ table.keys l.items.items
