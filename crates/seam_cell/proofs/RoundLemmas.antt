@@ -1,7 +1,7 @@
 -- A walk over all reals, in which each begins a round, and one that gathers their entities.
-use Rattle.std.proofs.Common.{◌≡◌, ◌++◌, ℕ, ◌<◌, ◌-◌, Bool, true, false, cond, ◌&&◌}
-use Rattle.std.proofs.Common.{T, is_some, map, find, List, [], ◌∷◌, Option, None, Some}
-use Rattle.std.proofs.Common.{refl, sym, ap, ◌∙◌, append_assoc, arith}
+use Rattle.std.proofs.Common.{◌≡◌, ℕ, ◌<◌, Bool, true, false, cond, ◌&&◌}
+use Rattle.std.proofs.Common.{T, map, find, List, [], ◌∷◌, Option, None, Some}
+use Rattle.std.proofs.Common.{refl, sym, ap, ◌∙◌, arith}
 use Rattle.std.specs.Prelude.{option_map, nat_lt}
 use Rattle.std.specs.List.{AllByRecursion}
 use Rattle.std.specs.List.Sorted.{IsStrictlySortedBy}
@@ -17,7 +17,7 @@ use Rattle.seam_table.proofs.Found.{found}
 use Rattle.seam_entity.specs.Reals.{RealView}
 use Rattle.seam_entity.specs.Executing.{real_begins}
 use Rattle.seam_steps.specs.Maps.{Map, number_of, set_at, with_value, each_value}
-use Rattle.seam_known.proofs.Walks.{comes_after, left_after, IsBefore, nothing_before, all_left, none_left, one_left}
+use Rattle.seam_known.proofs.Walks.{comes_after, IsBefore, nothing_before}
 pub use Rattle.seam_parts.proofs.SpotLemmas.{left, fewer_left}
 use Rattle.seam_parts.specs.Kept.{marked, with_mark}
 use Rattle.seam_cell.specs.Beginning.{changed_at}
