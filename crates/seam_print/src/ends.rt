@@ -27,7 +27,7 @@ use seam_defs::Defs;
 use seam_entity::Real;
 use seam_geo::Pos;
 use seam_report::{
-    BaseLine, HomeLine, push_base, push_bounds, push_ghost, push_home, push_number_line,
+    BaseLine, HomeLine, Spellings, push_base, push_bounds, push_ghost, push_home, push_number_line,
 };
 use seam_tree::{CellSet, MOST_CELLS, Tree};
 use std::alloc::{AllocError, Global};
@@ -204,21 +204,22 @@ fn push_bases(
 
 // ---- clients
 
-fn push_client_of(
+fn push_client_of<'a>(
     out: &mut Vec<u8>,
-    defs: &Defs,
+    spellings: &mut Spellings<'a>,
     resident: &Resident,
     kept: &Farewells,
-    world: &World,
+    world: &'a World,
 ) -> Result<(), AllocError>
-    ensures { OnOk result (out.new.items ≡ out.old.items ++ shown_of defs.now kept.now world.now resident.now) }
+    ensures shown { OnOk result (out.new.items ≡ out.old.items ++ shown_of spellings.old kept.now world.now resident.now) }
+    ensures same { spellings.new ≡ spellings.old }
 {
     if !resident.client {
         return Ok(());
     }
     match kept.of(resident.made.entity) {
         Some(farewell) => out.extend_from_slice(farewell.text.as_slice()),
-        None => push_lines(out, defs, &resident.made, world),
+        None => push_lines(out, spellings, &resident.made, world),
     }
 }
 
@@ -232,8 +233,9 @@ fn push_clients(
     ensures { OnOk result (out.new.items
         ≡ out.old.items ++ flat_map (λ e. shown_of defs.now kept.now world.now e.1) residents.now.entries) }
 {
+    let mut spellings = Spellings::new(*out.allocator(), defs);
     for (_, resident) in residents {
-        push_client_of(out, defs, resident, kept, world)?;
+        push_client_of(out, &mut spellings, resident, kept, world)?;
     }
     Ok(())
 }

@@ -96,7 +96,8 @@ fn farewell_to(
         return Ok(None);
     }
     let mut text = Vec::new(alloc);
-    push_lines(&mut text, defs, &resident.made, called)?;
+    let mut spellings = Spellings::new(alloc, defs);
+    push_lines(&mut text, &mut spellings, &resident.made, called)?;
     Ok(Some(Farewell {
         text: Listed::of(text),
         lines: count_lines(resident.made.entity, called),
@@ -123,26 +124,32 @@ pub(crate) fn count_lines(e: u32, world: &World) -> u64
 }
 
 /// Appends the lines that an entity's client was shown in the round so far.
-pub(crate) fn push_lines(
+pub(crate) fn push_lines<'a>(
     out: &mut Vec<u8>,
-    defs: &Defs,
+    spellings: &mut Spellings<'a>,
     made: &Create,
-    world: &World,
+    world: &'a World,
 ) -> Result<(), AllocError>
-    ensures { OnOk result (out.new.items ≡ out.old.items ++ shown_so_far defs.now world.now made.now) }
+    ensures lines { OnOk result (out.new.items ≡ out.old.items ++ shown_so_far spellings.old world.now made.now) }
+    ensures same { spellings.new ≡ spellings.old }
 {
     match part(world, made.entity) {
-        Some(part) => push_all(out, defs, made, part.lines()),
+        Some(part) => push_all(out, spellings, made, part.lines()),
         None => Ok(()),
     }
 }
 
-fn push_all(out: &mut Vec<u8>, defs: &Defs, made: &Create, lines: &[Line]) -> Result<(), AllocError>
-    ensures { OnOk result (out.new.items ≡ out.old.items ++ lines_text defs.now made.now lines.now) }
+fn push_all<'a>(
+    out: &mut Vec<u8>,
+    spellings: &mut Spellings<'a>,
+    made: &Create,
+    lines: &'a [Line],
+) -> Result<(), AllocError>
+    ensures lines { OnOk result (out.new.items ≡ out.old.items ++ lines_text spellings.old made.now lines.now) }
+    ensures same { spellings.new ≡ spellings.old }
 {
-    let mut spellings = Spellings::new(*out.allocator(), defs);
     for line in lines {
-        push_client(out, &mut spellings, made.entity, made.ty, line)?;
+        push_client(out, spellings, made.entity, made.ty, line)?;
     }
     Ok(())
 }
