@@ -90,11 +90,7 @@ fn push_shown<'a>(
 }
 
 /// Appends the version of a copy, and its state.
-pub(crate) fn push_copy(
-    out: &mut Vec<u8>,
-    defs: &Defs,
-    copy: &GhostCopy,
-) -> Result<(), AllocError>
+pub(crate) fn push_copy(out: &mut Vec<u8>, defs: &Defs, copy: &GhostCopy) -> Result<(), AllocError>
     ensures { OnOk result (out.new.items ≡ out.old.items ++ copy_text defs.now copy.now) }
 {
     push_state(
