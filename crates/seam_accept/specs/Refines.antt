@@ -15,7 +15,7 @@ use Rattle.seam_accept.specs.declared.answers.Refusal.TheVariants as refusal
 use Rattle.seam_accept.specs.Entities.{EntitiesRefine, ClientsRefine}
 use Rattle.seam_accept.specs.Judging.{Accepts}
 use Rattle.seam_accept.specs.Batches.{ordered, joined, destroyed}
-use Rattle.seam_accept.specs.BookView.{BookView}
+use Rattle.seam_accept.specs.BookView.{BookView, counted}
 
 -- the book in code holds what the book of a transcript holds, after this header
 pub record Refines (h : Header) (b : Book) (book : BookView) : Type 0 where
@@ -47,3 +47,9 @@ abbrev pub CommandAccepted : Header → Book → Command → Accepted → BookVi
 CommandAccepted h b c answer.Kept after = (x : Entry) × Accepts h b c x × Refines h (with_entry b x) after
 CommandAccepted h b c answer.Synced after = (c ≡ Sync) × Refines h b after
 CommandAccepted h b c answer.Skipped after = ⊥
+
+-- the same before the line is counted
+abbrev pub CommandTaken : Header → Book → Command → Accepted → BookView → Type 0
+CommandTaken h b c answer.Kept after = (x : Entry) × Accepts h b c x × Refines h (with_entry b x) (counted after)
+CommandTaken h b c answer.Synced after = (c ≡ Sync) × Refines h b after
+CommandTaken h b c answer.Skipped after = ⊥

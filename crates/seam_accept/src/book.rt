@@ -7,11 +7,11 @@ ghost use Rattle.seam_transcript.specs.Book.{Book as Books, empty_book, open_lin
 ghost use Rattle.seam_transcript.specs.Book.{created_as, live_as};
 ghost use Rattle.seam_defs.specs.declared.limits.TheConstants.{MOST_BASE_NODES};
 ghost use Rattle.seam_accept.specs.Commands.{command_of};
-ghost use Rattle.seam_accept.specs.Entities.{IsNext, IsNextCall, LivesAlone};
-ghost use Rattle.seam_accept.specs.Judging.{Judged, Refuses};
+ghost use Rattle.seam_accept.specs.Entities.{IsNextCall, LivesAlone};
+ghost use Rattle.seam_accept.specs.Judging.{Refuses};
 ghost use Rattle.seam_accept.specs.Batches.{batch_of, passes_to, node_of as node_of_sender};
 ghost use Rattle.seam_accept.specs.BookView.{counted};
-ghost use Rattle.seam_accept.specs.Refines.{Refines, LineAccepted, LineRefused, CommandAccepted};
+ghost use Rattle.seam_accept.specs.Refines.{Refines, LineAccepted, LineRefused, CommandAccepted, CommandTaken};
 
 use crate::answers::{Accepted, Refusal};
 use crate::command::{Command, Form, read_line};
@@ -125,76 +125,49 @@ impl Book {
             → Refuses h b command.now r) }
         ensures unchanged { OnErr result (self.new ≡ self.old) }
     {
-        match self.judge(command.form())? {
-            Some(entry) => {
-                self.keep(entry)?;
-                Ok(Accepted::Kept)
-            }
-            None => Ok(Accepted::Synced),
-        }
-    }
-
-    // What a command adds; nothing where it ends the round.
-    fn judge(&self, form: &Form) -> Result<Option<Entry>, Refusal>
-        ensures judged { IfOk result (λ x. (h : Headers) (b : Books) → Refines h b self.now
-            → Judged h b (command_of form.now) x) }
-        ensures refused { IfErr result (λ r. (h : Headers) (b : Books) → Refines h b self.now
-            → Refuses h b (command_of form.now) r) }
-    {
-        let (entities, clients) = (&self.entities, &self.clients);
-        let entry = match form {
-            Form::Create(words) => Entry::Created(judge_create(&self.header, entities, words)?),
-            Form::Call(words) => Entry::Called(judge_call(
-                self.alloc,
-                &self.header,
-                entities,
-                clients,
-                words,
-            )?),
-            Form::Sync => return Ok(None),
-            Form::Client(word) => Entry::Joined(judge_client(entities, clients, word)?),
-            Form::Tick => Entry::Ticked,
-            Form::Cut(words) => Entry::Divided(judge_cut(&self.tree, words)?),
-            Form::Shift(words) => Entry::Divided(judge_shift(&self.tree, words)?),
-            Form::Balance => Entry::Balanced,
-            Form::Destroy(word) => Entry::Destroyed(judge_destroy(entities, word)?),
-        };
-        Ok(Some(entry))
-    }
-
-    // Keeps an entry that may come next.
-    fn keep(&mut self, entry: Entry) -> Result<(), AllocError>
-        ensures kept { OnOk result ((h : Headers) (b : Books) → Refines h b self.old → IsNext b entry
-            → Refines h (with_entry b entry) self.new) }
-        ensures unchanged { OnErr result (self.new ≡ self.old) }
-    {
         let count = next_len(self.count)?;
-        self.add(entry)?;
-        self.count = count;
-        Ok(())
+        let accepted = self.take(command.form())?;
+        match accepted {
+            Accepted::Kept => self.count = count,
+            Accepted::Synced => {}
+            Accepted::Skipped => {}
+        }
+        Ok(accepted)
     }
 
-    // Keeps an entry, in all but the count.
-    fn add(&mut self, entry: Entry) -> Result<(), AllocError>
-        ensures kept { OnOk result ((h : Headers) (b : Books) → Refines h b self.old → IsNext b entry
-            → Refines h (with_entry b entry) (counted self.new)) }
+    // Judges a command and keeps what it adds, in all but the count.
+    fn take(&mut self, form: &Form) -> Result<Accepted, Refusal>
+        ensures accepted { IfOk result (λ a. (h : Headers) (b : Books) → Refines h b self.old
+            → CommandTaken h b (command_of form.now) a self.new) }
+        ensures refused { IfErr result (λ r. (h : Headers) (b : Books) → Refines h b self.old
+            → Refuses h b (command_of form.now) r) }
         ensures unchanged { OnErr result (self.new ≡ self.old) }
     {
-        match entry {
-            Entry::Created(create) => self.add_create(create),
-            Entry::Called(call) => self.add_call(call),
-            Entry::Joined(entity) => self.add_client(entity),
-            Entry::Ticked => self.add_tick(),
-            Entry::Divided(tree) => {
-                self.tree = tree;
-                Ok(())
+        match form {
+            Form::Create(words) => {
+                let create = judge_create(&self.header, &self.entities, words)?;
+                self.add_create(create)?;
             }
-            Entry::Balanced => {
-                self.balance = true;
-                Ok(())
+            Form::Call(words) => {
+                let (entities, clients) = (&self.entities, &self.clients);
+                let call = judge_call(self.alloc, &self.header, entities, clients, words)?;
+                self.add_call(call)?;
             }
-            Entry::Destroyed(entity) => self.add_death(entity),
+            Form::Sync => return Ok(Accepted::Synced),
+            Form::Client(word) => {
+                let entity = judge_client(&self.entities, &self.clients, word)?;
+                self.add_client(entity)?;
+            }
+            Form::Tick => self.add_tick()?,
+            Form::Cut(words) => self.tree = judge_cut(&self.tree, words)?,
+            Form::Shift(words) => self.tree = judge_shift(&self.tree, words)?,
+            Form::Balance => self.balance = true,
+            Form::Destroy(word) => {
+                let entity = judge_destroy(&self.entities, word)?;
+                self.add_death(entity)?;
+            }
         }
+        Ok(Accepted::Kept)
     }
 
     // Keeps a new entity.

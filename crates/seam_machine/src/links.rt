@@ -284,6 +284,9 @@ impl<T> Links<T> {
         ensures first { IfSome result (λ a. (c : ℕ) → c < a → link self.now.rows c to ≡ []) }
         ensures none { IfNone result ((a : ℕ) → link self.now.rows a to ≡ []) }
     {
+        if self.out.is_empty() && (to as usize) < self.rows.len() {
+            return self.first_sender(to);
+        }
         for a in 0..self.rows.len() {
             if self.waiting(a, to) > 0 {
                 return Some(a as u8);
