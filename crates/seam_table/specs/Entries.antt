@@ -1,6 +1,11 @@
--- What table the entries of an ordered map are. An entry without an item is room for one.
-use Rattle.std.specs.Prelude.{ℕ, List, [], ◌∷◌, Option, None, Some}
-use Rattle.std.specs.Map.{keys_of}
+-- What table the entries of a hashed map are, and their numbers in order beside them. An entry without an item is room for one.
+use Rattle.std.specs.Prelude.{◌≡◌, ℕ, cond, nat_eq, is_some, map as each, List, [], ◌∷◌, Option, None, Some}
+use Rattle.std.specs.Option.{option_flatten}
+use Rattle.std.specs.Ordering.{nat_cmp}
+use Rattle.std.specs.Map.{keys_of, lookup}
+use Rattle.std.specs.List.{list_any, IsDistinct}
+use Rattle.std.specs.List.Sorted.{IsStrictlySortedBy}
+use Rattle.std.specs.BTreeMap.{is_at}
 use Rattle.std.specs.FinMap as map
 use Rattle.std.specs.FinSet as set
 use Rattle.std.specs.declared.ops.Bound.{Bound}
@@ -23,3 +28,17 @@ table_of ss = record { items = map.from_entries (kept ss); room = set.from_list 
 abbrev pub low_bound : Option ℕ → Bound ℕ
 low_bound None = Unbounded
 low_bound (Some n) = Excluded n
+
+-- the numbers of the entries, in order, each once
+pub record IsIndexed {T : Type 0} (entries : List (ℕ × Option T)) (order : List ℕ) : Type 0 where
+  pub distinct : IsDistinct nat_eq (keys_of entries)
+  pub rises : IsStrictlySortedBy nat_cmp order
+  pub same : (q : ℕ) → list_any (is_at (nat_cmp q)) order ≡ is_some (lookup (nat_eq q) entries)
+
+-- an entry more, or an entry written
+abbrev pub Writes : {T : Type 0} → ℕ → Option T → List (ℕ × Option T) → List (ℕ × Option T) → Type 0
+Writes n slot old new = (q : ℕ) → lookup (nat_eq q) new ≡ cond (nat_eq n q) (Some slot) (lookup (nat_eq q) old)
+
+-- the items that the entries of these numbers have
+abbrev pub items_of : {T : Type 0} → List (ℕ × Option T) → List ℕ → List (ℕ × T)
+items_of entries numbers = kept (each (λ n. (n, option_flatten (lookup (nat_eq n) entries))) numbers)

@@ -3,25 +3,28 @@
 //! Contracts see a table as a finite map, and beside it the numbers for which there is room. A call that is to change several tables, or
 //! all or none of them, makes room first and changes what cannot fail then.
 //!
-//! A call that goes over all items takes [`Table::iter`], and one that asks for many numbers, mostly each above the last, takes
-//! [`Table::finder`]: neither begins a search for each item.
+//! An item is found by the hash of its number. The numbers are kept in order beside the items, so that [`Table::iter`] goes over these in
+//! rising number; only a number that comes or goes costs a search of that order. [`Table::change_each`] changes all items where they lie.
 //!
-//! Of `proofs/`, `Found` (what a search of a table's entries finds) is for callers.
+//! Of `proofs/`, `Found` (what a search of a table's entries finds) and `Changed` (what a table has after `change_each`) are for callers.
 #![tactic(auto)]
 
 ghost use Rattle.std.specs.Prelude.{◌≡◌, ℕ, Bool, Some, find, true, false, OnOk, OnErr, IfOk, IfErr, IfSome};
-ghost use Rattle.std.specs.Prelude.{option_map, option_copied, nat_le};
-ghost use Rattle.std.specs.List.{filter};
+ghost use Rattle.std.specs.Prelude.{None, nat_eq, option_map, option_copied, map as each};
+ghost use Rattle.std.specs.Option.{option_flatten};
+ghost use Rattle.std.specs.List.{filter, IsDistinct};
+ghost use Rattle.std.specs.Map.{keys_of, lookup};
 ghost use Rattle.std.specs.FinMap as map;
 ghost use Rattle.std.specs.FinSet as set;
 ghost use Rattle.std.specs.Ordering.{nat_cmp};
-ghost use Rattle.std.specs.BTreeMap.{IsOrdered};
-ghost use Rattle.seam_table.specs.Tables.{with_item, without_item, without_room, is_after};
-ghost use Rattle.seam_table.specs.Entries.{table_of, low_bound};
+ghost use Rattle.seam_table.specs.Tables.{with_item, without_item, without_room, with_each, is_after};
+ghost use Rattle.seam_table.specs.Changes.{Leaves};
+ghost use Rattle.seam_table.specs.Entries.{table_of, low_bound, IsIndexed, Writes};
 
+use indexmap::IndexMap;
 use seam_memory::NoMemoryFor;
 use std::alloc::{AllocError, Global};
-use std::collections::BTreeMap;
+use std::collections::BTreeSet;
 use std::marker::Model;
 use std::ops::Bound;
 
@@ -39,7 +42,9 @@ pub use items::Items;
 #[derive(Drop)]
 pub struct Table<T> {
     // An entry without an item is room for one.
-    entries: BTreeMap<u32, Option<T>>,
+    entries: IndexMap<u32, Option<T>>,
+    // The numbers of the entries.
+    order: BTreeSet<u32>,
 }
 
 impl<T> Model for Table<T> {
@@ -49,13 +54,11 @@ impl<T> Model for Table<T> {
 
     ghost coded = { table_code T.code };
 
-    ghost use Rattle.std.specs.Ordering.{nat_cmp};
-    ghost use Rattle.std.specs.BTreeMap.{IsOrdered};
-    ghost use Rattle.seam_table.specs.Entries.{table_of};
+    ghost use Rattle.seam_table.specs.Entries.{table_of, IsIndexed};
 
     ghost view = { λ t. table_of t.entries.entries };
 
-    ghost invariant = { λ t. IsOrdered nat_cmp t.entries };
+    ghost invariant = { λ t. IsIndexed t.entries.entries t.order.keys };
 }
 
 impl<T: Drop> Table<T> {
@@ -68,7 +71,8 @@ impl<T: Drop> Table<T> {
         ensures { result ≡ record { items = map.empty; room = set.empty } }
     {
         Table {
-            entries: BTreeMap::new(alloc),
+            entries: IndexMap::new(alloc),
+            order: BTreeSet::new(alloc),
         }
     }
 
@@ -109,7 +113,7 @@ impl<T: Drop> Table<T> {
         ensures err { OnErr result (self.new.room ≡ self.old.room) }
         ensures err_only_first { OnErr result (set.contains self.old.room n ≡ false) }
     {
-        make_entry(&mut self.entries, n)
+        make_entry(&mut self.entries, &mut self.order, n)
     }
 
     /// Puts the item in place of the one that the number had, if any, and gives that one.
@@ -122,7 +126,7 @@ impl<T: Drop> Table<T> {
         ensures err_item { IfErr result (λ r. r.item ≡ item) }
         ensures err_only_first { OnErr result (set.contains self.old.room n ≡ false) }
     {
-        write_entry(&mut self.entries, n, item)
+        write_entry(&mut self.entries, &mut self.order, n, item)
     }
 
     /// Puts the item in place of the one that the number had, if any, and gives that one. There is room for it, so no memory is needed.
@@ -152,24 +156,32 @@ impl<T: Drop> Table<T> {
         ensures item { result ≡ map.get self.old.items n }
         ensures after { self.new ≡ without_room self.old n }
     {
-        remove_entry(&mut self.entries, n)
+        remove_entry(&mut self.entries, &mut self.order, n)
+    }
+
+    /// Changes each item where it lies.
+    pub fn change_each<F: Fn(&mut T)>(&mut self, change: F)
+        requires { F.IsAlwaysCallable change }
+        ensures after { (f : T → T) → Leaves F.Fn change f → self.new ≡ with_each f self.old }
+        ensures room { self.new.room ≡ self.old.room }
+    {
+        change_entries(&mut self.entries, &change);
     }
 
     /// The items, with their numbers, in rising number.
     pub fn iter(&self) -> Items<'_, T>
         ensures { result ≡ map.entries self.now.items }
     {
-        Items {
-            entries: self.entries.range(..),
-        }
+        self.items_after(None)
     }
 
-    // The items of the number and of those above it.
-    fn items_from(&self, n: u32) -> Items<'_, T>
-        ensures { result ≡ filter (λ p. nat_le n p.0) (map.entries self.now.items) }
+    // The items whose numbers are greater than the given one, or all where none is given.
+    fn items_after(&self, after: Option<u32>) -> Items<'_, T>
+        ensures { result ≡ filter (λ p. is_after after p.0) (map.entries self.now.items) }
     {
         Items {
-            entries: self.entries.range((Bound::Included(n), Bound::Unbounded)),
+            numbers: self.order.range((bound_after(after), Bound::Unbounded)),
+            entries: &self.entries,
         }
     }
 
@@ -177,7 +189,7 @@ impl<T: Drop> Table<T> {
     pub fn finder(&self) -> Finder<'_, T>
         ensures { result ≡ self.now.items }
     {
-        Finder::new(self)
+        Finder { table: self }
     }
 
     /// The first item, in rising number, of those whose number is greater than the given one, or of all where none is given.
@@ -187,12 +199,8 @@ impl<T: Drop> Table<T> {
         if self.entries.is_empty() {
             return None;
         }
-        for (n, slot) in self.entries.range((bound_after(after), Bound::Unbounded)) {
-            if let Some(item) = slot {
-                return Some((*n, item));
-            }
-        }
-        None
+        let mut items = self.items_after(after);
+        items.next()
     }
 }
 
@@ -206,43 +214,99 @@ fn bound_after(after: Option<u32>) -> Bound<u32>
     }
 }
 
+// Adds an entry of a number that has none.
+fn add_entry<T: Drop>(
+    entries: &mut IndexMap<u32, Option<T>>,
+    order: &mut BTreeSet<u32>,
+    n: u32,
+    slot: Option<T>,
+) -> Result<(), NoMemoryFor<Option<T>>>
+    requires indexed { IsIndexed entries.old.entries order.old.keys }
+    requires absent { lookup (nat_eq n) entries.old.entries ≡ None }
+    ensures indexed { IsIndexed entries.new.entries order.new.keys }
+    ensures added { OnOk result (Writes n slot entries.old.entries entries.new.entries) }
+    ensures err { OnErr result (entries.new.entries ≡ entries.old.entries) }
+    ensures err_item { IfErr result (λ r. r.item ≡ slot) }
+{
+    if order.insert(n).is_err() {
+        return Err(NoMemoryFor { item: slot });
+    }
+    match entries.insert(n, slot) {
+        Ok(_) => Ok(()),
+        Err(refused) => {
+            order.remove(&n);
+            Err(NoMemoryFor {
+                item: refused.value.1,
+            })
+        }
+    }
+}
+
 // Makes an entry without an item, where there is none.
-fn make_entry<T: Drop>(entries: &mut BTreeMap<u32, Option<T>>, n: u32) -> Result<(), AllocError>
+fn make_entry<T: Drop>(
+    entries: &mut IndexMap<u32, Option<T>>,
+    order: &mut BTreeSet<u32>,
+    n: u32,
+) -> Result<(), AllocError>
+    requires indexed { IsIndexed entries.old.entries order.old.keys }
+    ensures indexed { IsIndexed entries.new.entries order.new.keys }
     ensures same { (table_of entries.new.entries).items ≡ (table_of entries.old.entries).items }
     ensures room { OnOk result ((table_of entries.new.entries).room ≡ set.insert (table_of entries.old.entries).room n) }
     ensures there { OnOk result (set.contains (table_of entries.new.entries).room n ≡ true) }
     ensures err { OnErr result ((table_of entries.new.entries).room ≡ (table_of entries.old.entries).room) }
     ensures err_only_first { OnErr result (set.contains (table_of entries.old.entries).room n ≡ false) }
-    ensures ordered { IsOrdered nat_cmp entries.new }
 {
     if entries.contains_key(&n) {
-        // `len` is called for its clause that the entries are in order.
-        let _ = entries.len();
         return Ok(());
     }
-    match entries.insert(n, None) {
-        Ok(_) => Ok(()),
-        Err(_) => Err(AllocError),
+    match add_entry(entries, order, n, None) {
+        Ok(()) => return Ok(()),
+        Err(_) => return Err(AllocError),
+    }
+}
+
+// Writes an item over what the entry of the number had.
+fn write_over<T: Drop>(
+    entries: &mut IndexMap<u32, Option<T>>,
+    n: u32,
+    item: T,
+) -> Result<Option<T>, T>
+    ensures old { IfOk result (λ old. old ≡ option_flatten (lookup (nat_eq n) entries.old.entries)) }
+    ensures written { OnOk result (Writes n (Some item) entries.old.entries entries.new.entries) }
+    ensures numbers { keys_of entries.new.entries ≡ keys_of entries.old.entries }
+    ensures absent { OnErr result (lookup (nat_eq n) entries.old.entries ≡ None) }
+    ensures err { OnErr result (entries.new.entries ≡ entries.old.entries) }
+    ensures err_item { IfErr result (λ back. back ≡ item) }
+{
+    match entries.get_mut(&n) {
+        Some(slot) => Ok(std::mem::replace(slot, Some(item))),
+        None => Err(item),
     }
 }
 
 // Writes an item over what the number had.
 fn write_entry<T: Drop>(
-    entries: &mut BTreeMap<u32, Option<T>>,
+    entries: &mut IndexMap<u32, Option<T>>,
+    order: &mut BTreeSet<u32>,
     n: u32,
     item: T,
 ) -> Result<Option<T>, NoMemoryFor<T>>
+    requires indexed { IsIndexed entries.old.entries order.old.keys }
+    ensures indexed { IsIndexed entries.new.entries order.new.keys }
     ensures old { IfOk result (λ old. old ≡ map.get (table_of entries.old.entries).items n) }
     ensures after { OnOk result (table_of entries.new.entries ≡ with_item (table_of entries.old.entries) n item) }
     ensures err { OnErr result (entries.new.entries ≡ entries.old.entries) }
     ensures err_item { IfErr result (λ r. r.item ≡ item) }
     ensures err_only_first { OnErr result (set.contains (table_of entries.old.entries).room n ≡ false) }
-    ensures ordered { IsOrdered nat_cmp entries.new }
 {
-    match entries.insert(n, Some(item)) {
-        Ok(old) => Ok(old.flatten()),
+    let item = match write_over(entries, n, item) {
+        Ok(old) => return Ok(old),
+        Err(item) => item,
+    };
+    match add_entry(entries, order, n, Some(item)) {
+        Ok(()) => Ok(None),
         Err(refused) => {
-            let Some(item) = refused.value.1 else {
+            let Some(item) = refused.item else {
                 unreachable!()
             };
             Err(NoMemoryFor { item })
@@ -251,12 +315,12 @@ fn write_entry<T: Drop>(
 }
 
 // Leaves the entry of the number without an item.
-fn empty_entry<T: Drop>(entries: &mut BTreeMap<u32, Option<T>>, n: u32) -> Option<T>
-    requires { IsOrdered nat_cmp entries.old }
+fn empty_entry<T: Drop>(entries: &mut IndexMap<u32, Option<T>>, n: u32) -> Option<T>
+    requires { IsDistinct nat_eq (keys_of entries.old.entries) }
     ensures item { result ≡ map.get (table_of entries.old.entries).items n }
     ensures after { table_of entries.new.entries ≡ without_item (table_of entries.old.entries) n }
     ensures room { IfSome result (λ _. set.contains (table_of entries.new.entries).room n ≡ true) }
-    ensures ordered { IsOrdered nat_cmp entries.new }
+    ensures numbers { keys_of entries.new.entries ≡ keys_of entries.old.entries }
 {
     match entries.get_mut(&n) {
         Some(slot) => std::mem::replace(slot, None),
@@ -265,13 +329,46 @@ fn empty_entry<T: Drop>(entries: &mut BTreeMap<u32, Option<T>>, n: u32) -> Optio
 }
 
 // Removes the entry of the number.
-fn remove_entry<T: Drop>(entries: &mut BTreeMap<u32, Option<T>>, n: u32) -> Option<T>
-    requires { IsOrdered nat_cmp entries.old }
+fn remove_entry<T: Drop>(
+    entries: &mut IndexMap<u32, Option<T>>,
+    order: &mut BTreeSet<u32>,
+    n: u32,
+) -> Option<T>
+    requires indexed { IsIndexed entries.old.entries order.old.keys }
+    ensures indexed { IsIndexed entries.new.entries order.new.keys }
     ensures item { result ≡ map.get (table_of entries.old.entries).items n }
     ensures after { table_of entries.new.entries ≡ without_room (table_of entries.old.entries) n }
-    ensures ordered { IsOrdered nat_cmp entries.new }
 {
-    entries.remove(&n).flatten()
+    match entries.swap_remove(&n) {
+        Some(slot) => {
+            order.remove(&n);
+            slot
+        }
+        None => None,
+    }
+}
+
+// Changes the entry's item, if it has one.
+#[inline]
+fn change_slot<T, F: Fn(&mut T)>(slot: &mut Option<T>, change: &F)
+    requires { F.IsAlwaysCallable change.now }
+    ensures { (f : T → T) → Leaves F.Fn change.now f → slot.new ≡ option_map f slot.old }
+{
+    if let Some(item) = slot {
+        change(item);
+    }
+}
+
+// Changes the item of each entry that has one.
+fn change_entries<T: Drop, F: Fn(&mut T)>(entries: &mut IndexMap<u32, Option<T>>, change: &F)
+    requires { F.IsAlwaysCallable change.now }
+    ensures after { (f : T → T) → Leaves F.Fn change.now f → entries.new.entries ≡ each (λ s. (s.0, option_map f s.1)) entries.old.entries }
+    ensures keys { keys_of entries.new.entries ≡ keys_of entries.old.entries }
+{
+    entries.retain(|_, slot| {
+        change_slot(slot, change);
+        true
+    });
 }
 
 /// An item that a search of a table's entries finds is the table's item of that number, and passes the test.

@@ -1,11 +1,10 @@
-use Rattle.std.proofs.Common.{sym, ap, ◌∙◌, rules}
-use Rattle.std.specs.FinMap as map
-use Rattle.seam_table.specs.Entries.{kept}
-use Rattle.seam_table.proofs.TableLemmas.{entries-kept, all_in_range}
+use Rattle.std.proofs.Common.{◌≡◌, List, [], ◌∷◌, true, refl, ap, ◌∙◌}
+use Rattle.std.specs.List.{filter}
 use Rattle.seam_table.proofs.Table.iter.Goals as goal
 
+all_pass : {A : Type 0} (xs : List A) → filter (λ x. true) xs ≡ xs
+all_pass [] = refl
+all_pass (x ∷ xs) = ap (λ l. x ∷ l) (all_pass xs)
+
 pub returns : goal.returns
-returns g c =
-    ap kept (c.range.ensures.between (search rules) ∙ all_in_range c.self.inside.entries.entries)
-    ∙ (sym (entries-kept c.self.inside.entries.entries c.self.invariant)
-    ∙ ap (λ w. map.entries w.items) c.self.view_is)
+returns g c = c.items_after.ensures ∙ all_pass _
