@@ -1,3 +1,4 @@
+pub mod Changes
 pub mod Entries
 pub mod Tables
 pub mod Walks

@@ -1,5 +1,5 @@
 -- What contracts see of a table.
-use Rattle.std.specs.Prelude.{ℕ, Bool, true, nat_lt}
+use Rattle.std.specs.Prelude.{ℕ, Bool, true, nat_lt, map as each}
 use Rattle.std.specs.Prelude.{Option, None, Some}
 use Rattle.std.specs.Ordering.{nat_cmp}
 use Rattle.std.specs.FinMap as map
@@ -33,3 +33,7 @@ without_room w n = record { items = map.remove w.items n; room = set.remove w.ro
 abbrev pub is_after : Option ℕ → ℕ → Bool
 is_after None n = true
 is_after (Some low) n = nat_lt low n
+
+-- the table with each item changed; the room stays
+abbrev pub with_each : {T : Type 0} → (T → T) → TableView T → TableView T
+with_each f w = record { items = map.from_entries (each (λ p. (p.0, f p.1)) (map.entries w.items)); room = w.room }

@@ -4,19 +4,21 @@
 //! all or none of them, makes room first and changes what cannot fail then.
 //!
 //! A call that goes over all items takes [`Table::iter`], and one that asks for many numbers, mostly each above the last, takes
-//! [`Table::finder`]: neither begins a search for each item.
+//! [`Table::finder`]: neither begins a search for each item. [`Table::change_each`] changes all items where they lie.
 //!
-//! Of `proofs/`, `Found` (what a search of a table's entries finds) is for callers.
+//! Of `proofs/`, `Found` (what a search of a table's entries finds) and `Changed` (what a table has after `change_each`) are for callers.
 #![tactic(auto)]
 
 ghost use Rattle.std.specs.Prelude.{◌≡◌, ℕ, Bool, Some, find, true, false, OnOk, OnErr, IfOk, IfErr, IfSome};
-ghost use Rattle.std.specs.Prelude.{option_map, option_copied, nat_le};
+ghost use Rattle.std.specs.Prelude.{option_map, option_copied, nat_le, map as each};
 ghost use Rattle.std.specs.List.{filter};
+ghost use Rattle.std.specs.Map.{keys_of};
 ghost use Rattle.std.specs.FinMap as map;
 ghost use Rattle.std.specs.FinSet as set;
 ghost use Rattle.std.specs.Ordering.{nat_cmp};
 ghost use Rattle.std.specs.BTreeMap.{IsOrdered};
-ghost use Rattle.seam_table.specs.Tables.{with_item, without_item, without_room, is_after};
+ghost use Rattle.seam_table.specs.Tables.{with_item, without_item, without_room, with_each, is_after};
+ghost use Rattle.seam_table.specs.Changes.{Leaves};
 ghost use Rattle.seam_table.specs.Entries.{table_of, low_bound};
 
 use seam_memory::NoMemoryFor;
@@ -155,6 +157,15 @@ impl<T: Drop> Table<T> {
         remove_entry(&mut self.entries, n)
     }
 
+    /// Changes each item where it lies.
+    pub fn change_each<F: Fn(&mut T)>(&mut self, change: F)
+        requires { F.IsAlwaysCallable change }
+        ensures after { (f : T → T) → Leaves F.Fn change f → self.new ≡ with_each f self.old }
+        ensures room { self.new.room ≡ self.old.room }
+    {
+        change_entries(&mut self.entries, &change);
+    }
+
     /// The items, with their numbers, in rising number.
     pub fn iter(&self) -> Items<'_, T>
         ensures { result ≡ map.entries self.now.items }
@@ -272,6 +283,30 @@ fn remove_entry<T: Drop>(entries: &mut BTreeMap<u32, Option<T>>, n: u32) -> Opti
     ensures ordered { IsOrdered nat_cmp entries.new }
 {
     entries.remove(&n).flatten()
+}
+
+// Changes the entry's item, if it has one.
+#[inline]
+fn change_slot<T, F: Fn(&mut T)>(slot: &mut Option<T>, change: &F)
+    requires { F.IsAlwaysCallable change.now }
+    ensures { (f : T → T) → Leaves F.Fn change.now f → slot.new ≡ option_map f slot.old }
+{
+    if let Some(item) = slot {
+        change(item);
+    }
+}
+
+// Changes the item of each entry that has one.
+fn change_entries<T: Drop, F: Fn(&mut T)>(entries: &mut BTreeMap<u32, Option<T>>, change: &F)
+    requires { F.IsAlwaysCallable change.now }
+    ensures after { (f : T → T) → Leaves F.Fn change.now f → entries.new.entries ≡ each (λ s. (s.0, option_map f s.1)) entries.old.entries }
+    ensures keys { keys_of entries.new.entries ≡ keys_of entries.old.entries }
+    ensures ordered { IsOrdered nat_cmp entries.new }
+{
+    entries.retain(|_, slot| {
+        change_slot(slot, change);
+        true
+    });
 }
 
 /// An item that a search of a table's entries finds is the table's item of that number, and passes the test.

@@ -52,6 +52,23 @@ fn the_items_come_in_rising_number(rt: HostRuntime) -> Result<(), Fail> {
 }
 
 #[test]
+fn each_item_is_changed_where_it_lies(rt: HostRuntime) -> Result<(), Fail> {
+    let mut table = Table::new(rt.alloc());
+    for n in [9, 2, 7] {
+        assert_eq!(rt; table.put(n, 10 * n).is_ok(), true);
+    }
+    table.reserve(4)?;
+    assert_eq!(rt; table.take(7), Some(70));
+    table.change_each(|item| *item /= 2);
+    assert!(rt; table.has_room(4) && table.has_room(7));
+    let mut items = table.iter();
+    assert_eq!(rt; items.next(), Some((2, &10)));
+    assert_eq!(rt; items.next(), Some((9, &45)));
+    assert_eq!(rt; items.next(), None);
+    Ok(())
+}
+
+#[test]
 fn numbers_are_found_in_any_order(rt: HostRuntime) -> Result<(), Fail> {
     let mut table = Table::new(rt.alloc());
     assert_eq!(rt; table.finder().find(0), None);
