@@ -45,7 +45,7 @@ module _ {X : Type 0} where
       ap (λ b. cond b (Some p.1) (key_find nat_cmp q es)) (apart_below q k p.0 less (first _ _ h)) ∙ none_below q k es less (second _ _ h)
 
   -- the number comes before what was found
-  abbrev pub IsBefore : ℕ → Option (ℕ × X) → Type 0
+  abbrev IsBefore : ℕ → Option (ℕ × X) → Type 0
   IsBefore q None = Unit {0}
   IsBefore q (Some p) = nat_cmp q p.0 ≡ Less
 
@@ -79,7 +79,7 @@ module _ {X : Type 0} where
     fails_in (p ∷ es) o q x h is before at = fails_by p es o q x (first _ _ h) before at
         (λ found_is there. fails_in es o q x (second _ _ h) found_is before there) (t p) refl is
 
-    pub fails_before : (m : Map X) (o : Option (ℕ × X)) (q : ℕ) (x : X) → find t (table.entries m) ≡ o → IsBefore q o →
+    fails_before : (m : Map X) (o : Option (ℕ × X)) (q : ℕ) (x : X) → find t (table.entries m) ≡ o → IsBefore q o →
         table.get m q ≡ Some x → t (q, x) ≡ false
     fails_before m o q x is before at =
         fails_in (table.entries m) o q x (table.entries_sorted m) is before (sym (table.get-entries m q) ∙ at)

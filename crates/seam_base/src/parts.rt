@@ -1,7 +1,7 @@
 //! The base parts of a node, and marks of those that are ready.
 
-ghost use Rattle.std.specs.Prelude.{◌≡◌, ◌<◌, ◌≤◌, ◌^◌, if◌then◌else◌, ℕ, true};
-ghost use Rattle.std.specs.Prelude.{false, find, OnOk, OnErr, IfErr, Some, option_copied, option_map, is_some};
+ghost use Rattle.std.specs.Prelude.{◌≡◌, ◌≤◌, if◌then◌else◌, ℕ, true};
+ghost use Rattle.std.specs.Prelude.{false, find, OnOk, OnErr, IfErr, Some, option_copied, option_map};
 ghost use Rattle.std.specs.FinMap as table;
 ghost use Rattle.std.specs.FinSet as set;
 ghost use Rattle.seam_steps.specs.Maps.{Map, number_of, each_value};
@@ -209,40 +209,12 @@ fn attach_in(
     done
 }
 
-// Begins a round for the entity's part, which is here.
-fn begin(items: &mut Table<BasePart>, e: u32)
-    requires { is_some (table.get items.old.items e) ≡ true }
-    ensures after { items.new.items ≡ changed_at part_begins items.old.items e }
-    ensures small { e < 2 ^ 32 }
+// Begins a round for a part. One that did nothing since one began, as most did, stays as it is.
+fn begin(part: &mut BasePart)
+    ensures { part.new ≡ part_begins part.old }
 {
-    let Some(part) = items.get_mut(e) else {
-        unreachable!()
-    };
-    part.start_round();
-}
-
-// The same, but for a part that did nothing since a round began, which stays as it is.
-fn begin_again(items: &mut Table<BasePart>, e: u32, has_begun: bool)
-    requires there { is_some (table.get items.old.items e) ≡ true }
-    requires same { has_begun ≡ true → option_map part_begins (table.get items.old.items e) ≡ table.get items.old.items e }
-    ensures after { items.new.items ≡ changed_at part_begins items.old.items e }
-    ensures small { e < 2 ^ 32 }
-{
-    if has_begun {
-        return;
-    }
-    begin(items, e);
-}
-
-// Begins a round for every part.
-fn begin_all(items: &mut Table<BasePart>)
-    ensures { items.new.items ≡ each_value part_begins items.old.items }
-{
-    let mut last = None;
-    while let Some((e, part)) = items.next_after(last) {
-        let has_begun = part.has_begun();
-        begin_again(items, e, has_begun);
-        last = Some(e);
+    if !part.has_begun() {
+        part.start_round();
     }
 }
 
@@ -382,7 +354,7 @@ impl Parts {
     pub fn start_round(&mut self)
         ensures { self.new ≡ each_value part_begins self.old }
     {
-        begin_all(&mut self.items);
+        self.items.change_each(begin);
     }
 
     /// Removes the entity's part.

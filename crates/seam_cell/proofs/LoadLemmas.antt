@@ -8,11 +8,9 @@ use Rattle.std.specs.FinMap as table
 use Rattle.std.proofs.lemmas.Bool.Decides.{nat_tests}
 use Rattle.seam_geo.specs.declared.pos.Pos.{Pos}
 use Rattle.seam_tree.specs.Division.{Division, IsInSpace, IsTree}
-use Rattle.seam_order.specs.Held.{OrderView}
-use Rattle.seam_call.specs.declared.call.Call.{Call}
 use Rattle.seam_entity.specs.Here.{Here}
 use Rattle.seam_entity.specs.Reals.{RealView}
-use Rattle.seam_entity.specs.Calls.{all_held, order_passes}
+use Rattle.seam_entity.specs.Calls.{order_passes}
 use Rattle.seam_entity.specs.Executing.{created, fits_cell_part, real_begins}
 use Rattle.seam_entity.specs.Looks.{with_witness}
 use Rattle.seam_steps.specs.Maps.{Map, set_at, each_value}
@@ -25,9 +23,9 @@ use Rattle.seam_parts.specs.declared.reals.Reals.{Reals}
 use Rattle.seam_parts.specs.declared.places.Places.{Places}
 use Rattle.seam_parts.specs.declared.lists.Lists.{Lists}
 use Rattle.seam_parts.specs.Kept.{here_in, cell_of, AreKept, IsThere, IsKept, AreWhole}
-use Rattle.seam_cell.proofs.RoundLemmas.{got_each}
+use Rattle.seam_table.proofs.Changed.{got_changed}
 
-pub no_length : {A : Type 0} (xs : List A) → length xs ≡ 0 → xs ≡ []
+no_length : {A : Type 0} (xs : List A) → length xs ≡ 0 → xs ≡ []
 no_length [] e = refl
 no_length (x ∷ xs) e = absurd (omega arith)
 
@@ -130,7 +128,7 @@ pub round_whole : (k : Known) (t : Division) (r s : Reals) (p q : Places) (l m :
 round_whole k t r s p q l m is kept tree size items none =
     let begins = λ (e : ℕ) (x : RealView) (at : table.get s.items.items e ≡ Some x).
     began (table.get r.items.items e) x
-    (sym (got_each real_begins r.items.items e) ∙ (sym (ap (λ w. table.get w e) items) ∙ at)) in
+    (sym (got_changed real_begins r.items.items e) ∙ (sym (ap (λ w. table.get w e) items) ∙ at)) in
     record {
       cell = record {
         cell = record {

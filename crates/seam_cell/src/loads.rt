@@ -1,17 +1,16 @@
 //! What the loads do to the reals of a cell.
 
-ghost use Rattle.std.specs.Prelude.{◌≡◌, ◌<◌, ◌^◌, ◌++◌, [], ◌∷◌, true, OnOk, OnErr, IfOk, None, Some, is_some, option_map};
+ghost use Rattle.std.specs.Prelude.{◌≡◌, ◌<◌, ◌^◌, ◌++◌, [], ◌∷◌, OnOk, OnErr, IfOk, None};
 ghost use Rattle.std.specs.FinMap as table;
 ghost use Rattle.std.specs.List.Sorted.{IsStrictlySortedBy};
 ghost use Rattle.std.specs.Ordering.{nat_cmp};
 ghost use Rattle.seam_entity.specs.Executing.{created, real_begins};
 ghost use Rattle.seam_entity.specs.Looks.{with_witness};
-ghost use Rattle.seam_steps.specs.Maps.{Map, set_at, each_value};
-ghost use Rattle.seam_parts.specs.Kept.{here_in, AreKept, marked};
-ghost use Rattle.seam_steps.specs.Cells.{real_is_ready, has_witness};
+ghost use Rattle.seam_steps.specs.Maps.{each_value};
+ghost use Rattle.seam_parts.specs.Kept.{here_in, AreKept};
 ghost use Rattle.seam_cell.specs.Beginning.{changed_at};
 
-use seam_entity::{Parcel, Real, Witness};
+use seam_entity::{Real, Witness};
 use seam_geo::Pos;
 use seam_parts::{EntityQueue, EntityRow, Known, RealTable, Reals, make_place, put_in, take_out};
 use std::alloc::{AllocError, Global};
@@ -92,47 +91,6 @@ fn all_entities(mut all: EntityRow, items: &RealTable) -> Result<EntityRow, Allo
     Ok(all)
 }
 
-// Begins a round for the entity's real, which is here.
-fn begin(items: &mut RealTable, e: u32)
-    requires { is_some (table.get items.old.items e) ≡ true }
-    ensures after { items.new.items ≡ changed_at real_begins items.old.items e }
-    ensures small { e < 2 ^ 32 }
-{
-    let Some(parcel) = items.take(e) else {
-        unreachable!()
-    };
-    let Parcel { mut real } = parcel;
-    real.start_round();
-    let _none = items.put_reserved(e, Parcel { real });
-}
-
-// The same, but for a real that did nothing since a round began, which stays as it is.
-fn begin_again(items: &mut RealTable, e: u32, has_begun: bool)
-    requires there { is_some (table.get items.old.items e) ≡ true }
-    requires same { has_begun ≡ true → option_map real_begins (table.get items.old.items e) ≡ table.get items.old.items e }
-    ensures after { items.new.items ≡ changed_at real_begins items.old.items e }
-    ensures small { e < 2 ^ 32 }
-{
-    if has_begun {
-        return;
-    }
-    begin(items, e);
-}
-
-// Begins a round for every real.
-fn begin_all(items: &mut RealTable)
-    ensures after { items.new.items ≡ each_value real_begins items.old.items }
-    ensures ready { marked real_is_ready items.new.items ≡ marked real_is_ready items.old.items }
-    ensures witnesses { marked has_witness items.new.items ≡ marked has_witness items.old.items }
-{
-    let mut last = None;
-    while let Some((e, parcel)) = items.next_after(last) {
-        let has_begun = parcel.real.done().is_empty();
-        begin_again(items, e, has_begun);
-        last = Some(e);
-    }
-}
-
 /// Begins a round, in which no real has done anything yet and all are to settle.
 pub fn begin_round(reals: &mut Reals, survey: &mut EntityQueue) -> Result<(), AllocError>
     requires { AreKept reals.old }
@@ -143,7 +101,7 @@ pub fn begin_round(reals: &mut Reals, survey: &mut EntityQueue) -> Result<(), Al
     ensures err_survey { OnErr result (survey.new ≡ survey.old) }
 {
     let all = all_entities(survey.spare(), &reals.items)?;
-    begin_all(&mut reals.items);
+    reals.items.start_round();
     *survey = EntityQueue::of(all);
     Ok(())
 }

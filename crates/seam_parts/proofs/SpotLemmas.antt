@@ -8,7 +8,8 @@ use Rattle.std.specs.Cmp.{nat_cmp_total}
 use Rattle.std.specs.FinMap as map
 use Rattle.std.specs.FinMap.Entries.{is_sorted, below_all, find-append}
 use Rattle.std.proofs.lemmas.Bool.Decides.{nat_tests}
-use Rattle.seam_table.specs.Tables.{is_after}
+use Rattle.seam_table.specs.Tables.{TableView, with_each, is_after}
+use Rattle.seam_table.proofs.Changed.{got_changed}
 use Rattle.seam_range.specs.declared.Place.{Place}
 use Rattle.seam_range.specs.Places.{Places}
 use Rattle.seam_ghosts.specs.declared.Ghost.{Ghost}
@@ -16,6 +17,7 @@ use Rattle.seam_ghosts.specs.declared.Kept.TheVariants.{Taken, Ignored}
 use Rattle.seam_ghosts.specs.Book.{BookView, copy_in, copied, answer, beat_of, with_ghost, after_message}
 use Rattle.seam_call.specs.declared.shown.GhostCopy.{GhostCopy}
 use Rattle.seam_entity.specs.Reals.{RealView}
+use Rattle.seam_entity.specs.Executing.{real_begins}
 use Rattle.seam_steps.specs.Maps.{Map, set_at}
 use Rattle.seam_steps.proofs.Slots.{get-set_at}
 use Rattle.seam_known.proofs.Sorted.{first, second}
@@ -106,6 +108,14 @@ pub real_set : (m : Map RealView) (e : ℕ) (o : Option RealView) (q : ℕ) →
     real_places (set_at m e o) q ≡ cond (eq_by_cmp nat_cmp q e) (option_map place_of_real o) (real_places m q)
 real_set m e o q =
     ap (option_map place_of_real) (get-set_at m e q o) ∙ map_cond place_of_real (eq_by_cmp nat_cmp q e) o (map.get m q)
+
+-- a round that begins moves no real
+pub reals_stay : (w : TableView RealView) → real_places (with_each real_begins w).items ≡ real_places w.items
+reals_stay w = λ i q. (ap (option_map place_of_real) (got_changed real_begins w.items q) ∙ by (map.get w.items q)) i
+  where
+    by : (o : Option RealView) → option_map place_of_real (option_map real_begins o) ≡ option_map place_of_real o
+    by None = refl
+    by (Some r) = refl
 
 -- the places of copies after a message about the entity that is taken
 pub copy_changed : (w : BookView GhostCopy) (e : ℕ) (g : Ghost GhostCopy) → Taken ≡ answer (beat_of w e) g.beat → (q : ℕ) →

@@ -1,6 +1,6 @@
 //! An ordered set of entities.
 
-ghost use Rattle.std.specs.Prelude.{◌≡◌, ℕ, List, [], ◌∷◌, ◌++◌, length, OnOk, OnErr, IfSome, IfNone, not};
+ghost use Rattle.std.specs.Prelude.{◌≡◌, ℕ, List, [], ◌++◌, OnOk, OnErr, not};
 ghost use Rattle.std.specs.List.Sorted.{IsStrictlySortedBy};
 ghost use Rattle.std.specs.Ordering.{nat_cmp};
 ghost use Rattle.seam_steps.specs.Cells.{without};
@@ -62,29 +62,6 @@ impl EntitySet {
         match self.one {
             Some(e) => Some(e),
             None => self.numbers.first().copied(),
-        }
-    }
-
-    /// Takes out the first.
-    pub fn take_first(&mut self) -> Option<u32>
-        ensures some { IfSome result (λ e. self.old ≡ e ∷ self.new) }
-        ensures none { IfNone result (self.old ≡ []) }
-        ensures unchanged { IfNone result (self.new ≡ self.old) }
-    {
-        match self.one.take() {
-            Some(e) => Some(e),
-            None => self.numbers.pop_first(),
-        }
-    }
-
-    /// How many there are. They are in rising number.
-    pub fn len(&self) -> usize
-        ensures count { result ≡ length self.now }
-        ensures rising { IsStrictlySortedBy nat_cmp self.now }
-    {
-        match self.one {
-            Some(_) => 1,
-            None => self.numbers.len(),
         }
     }
 

@@ -3,7 +3,8 @@
 ghost use Rattle.std.specs.Prelude.{◌≡◌, Some, None, true, false, OnOk, OnErr, IfOk, IfSome, find, option_map, option_copied};
 ghost use Rattle.std.specs.FinMap as map;
 ghost use Rattle.std.specs.FinSet as set;
-ghost use Rattle.seam_table.specs.Tables.{with_item, without_item, without_room, is_after};
+ghost use Rattle.seam_table.specs.Tables.{with_item, without_item, without_room, with_each, is_after};
+ghost use Rattle.seam_entity.specs.Executing.{real_begins};
 ghost use Rattle.seam_parts.specs.Spots.{AreNoted, place_of_real, real_places};
 
 use crate::spots::{Spots, beside, forget, let_out, note, put};
@@ -44,6 +45,15 @@ fn place_of(real: &Real) -> Place
     Place {
         version: real.public_version(),
         pos: real.state().pos,
+    }
+}
+
+// Begins a round for a real. One that has done nothing, as most have, stays as it is.
+fn begin(parcel: &mut Parcel)
+    ensures { parcel.new ≡ real_begins parcel.old }
+{
+    if !parcel.real.done().is_empty() {
+        parcel.real.start_round();
     }
 }
 
@@ -117,6 +127,13 @@ impl RealTable {
     {
         forget(&mut self.spots, e);
         self.items.remove(e)
+    }
+
+    /// Begins a round, in which no real has done anything yet.
+    pub fn start_round(&mut self)
+        ensures { self.new ≡ with_each real_begins self.old }
+    {
+        self.items.change_each(begin);
     }
 
     /// The reals, with their entities' numbers, in rising number.

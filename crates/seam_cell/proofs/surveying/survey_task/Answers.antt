@@ -1,4 +1,4 @@
-use Rattle.std.proofs.Common.{refl, ap, option_map, ◌∙◌}
+use Rattle.std.proofs.Common.{rules, refl, ap, option_map, ◌∙◌}
 use Rattle.seam_steps.specs.Maps.{set_at}
 use Rattle.seam_parts.specs.Stepping.{core_of}
 use Rattle.seam_parts.proofs.SetLemmas.{first_taken}
@@ -11,23 +11,16 @@ settle_again-left-requires-clause-there c = c.requires.whole.cell.there c.in-Som
 pub is_moot-requires-clause-there : goal.is_moot-requires-clause-there
 is_moot-requires-clause-there c = c.requires.whole.cell.there c.in-Some.e
 
-pub returns-then-is_moot-clause-state : goal.returns-then-is_moot-clause-state
-returns-then-is_moot-clause-state c =
+pub returns-then-is_moot : goal.returns-then-is_moot
+returns-then-is_moot c =
     let e = c.in-Some.e in
     let es = c.take_first.new.self in
     let lists = c.args.lists.now in
-    (moot_done c.args.known.now c.args.reals.now c.args.places.now lists (record { survey = es; looks = lists.looks }) c.args.out.now e es
+    let done =
+    moot_done c.args.known.now c.args.reals.now c.args.places.now lists (record { survey = es; looks = lists.looks }) c.args.out.now e es
     (c.is_moot.ensures.moot c.if-is_moot.true) (c.requires.whole.cell.cell.keys e)
-    (first_taken c.take_first.result lists.survey es e c.take_first.ensures.some c.take_first.ensures.none c.in-Some.ensures) refl refl).0
-
-pub returns-then-is_moot-clause-sent : goal.returns-then-is_moot-clause-sent
-returns-then-is_moot-clause-sent c =
-    let e = c.in-Some.e in
-    let es = c.take_first.new.self in
-    let lists = c.args.lists.now in
-    (moot_done c.args.known.now c.args.reals.now c.args.places.now lists (record { survey = es; looks = lists.looks }) c.args.out.now e es
-    (c.is_moot.ensures.moot c.if-is_moot.true) (c.requires.whole.cell.cell.keys e)
-    (first_taken c.take_first.result lists.survey es e c.take_first.ensures.some c.take_first.ensures.none c.in-Some.ensures) refl refl).1
+    (first_taken c.take_first.result lists.survey es e c.take_first.ensures.some c.take_first.ensures.none c.in-Some.ensures) refl refl in
+    record { state = done.0; sent = done.1; err = search rules; err_out = search rules; marks = search rules }
 
 pub returns-in-Ok-clause-state : goal.returns-in-Ok-clause-state
 returns-in-Ok-clause-state c =
