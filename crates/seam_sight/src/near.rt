@@ -93,7 +93,7 @@ fn seen_at(entity: u32, place: Place) -> Seen
     }
 }
 
-// Those of whose entities no real is here. They come in rising number.
+// Those of whose entities no real is here.
 fn without_reals(
     alloc: Global,
     reals: &RealTable,
@@ -102,9 +102,8 @@ fn without_reals(
     ensures { IfOk result (λ v. v.items ≡ without_reals reals.now.items entities.now) }
 {
     let mut left = Vec::new(alloc);
-    let mut finder = reals.finder();
     for (e, place) in entities {
-        if finder.find(*e).is_none() {
+        if reals.get(*e).is_none() {
             left.push((*e, *place))?;
         }
     }
