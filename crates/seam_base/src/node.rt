@@ -26,7 +26,7 @@ use seam_defs::{Defs, MOST_BASE_NODES, Settings};
 use seam_entity::Msg;
 use seam_machine::{Input, Machine, Out};
 use seam_memory::NoMemoryFor;
-use seam_table::{Finder, Table};
+use seam_table::Table;
 use std::alloc::{AllocError, Global};
 use std::collections::VecDeque;
 use std::marker::Model;
@@ -90,13 +90,6 @@ impl Base {
         ensures { option_copied result ≡ table.get self.now.parts e }
     {
         self.parts.get(e)
-    }
-
-    /// A finder of many base parts that are here, of which mostly each has a greater number than the last.
-    pub fn parts(&self) -> Finder<'_, BasePart>
-        ensures { result ≡ self.now.parts }
-    {
-        self.parts.finder()
     }
 
     /// Whether the entity's base part is here and has a client.

@@ -19,7 +19,7 @@ use crate::part::BasePart;
 use seam_call::{Call, Update};
 use seam_defs::{Defs, MOST_BASE_NODES};
 use seam_memory::NoMemoryFor;
-use seam_table::{Finder, Table};
+use seam_table::Table;
 use std::alloc::{AllocError, Global};
 use std::marker::Model;
 
@@ -235,13 +235,6 @@ impl Parts {
         ensures { option_copied result ≡ table.get self.now e }
     {
         self.items.get(e)
-    }
-
-    /// A finder of many parts, of which mostly each has a greater number than the last.
-    pub fn finder(&self) -> Finder<'_, BasePart>
-        ensures { result ≡ self.now }
-    {
-        self.items.finder()
     }
 
     /// Puts a part that is not ready for anything.

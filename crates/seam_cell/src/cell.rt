@@ -36,7 +36,7 @@ use seam_parts::{
     put_after, put_in, take_out,
 };
 use seam_sight::{ToldCopies, look_task};
-use seam_table::{Finder, Table};
+use seam_table::Table;
 use seam_tree::{MOST_CELLS, Tree};
 use std::alloc::{AllocError, Global};
 use std::marker::Model;
@@ -212,13 +212,6 @@ impl Cell {
         ensures { option_copied result ≡ table.get self.now.reals e }
     {
         self.reals.items.get(e)
-    }
-
-    /// A finder of many reals that are here, of which mostly each has a greater number than the last.
-    pub fn reals(&self) -> Finder<'_, Parcel>
-        ensures { result ≡ self.now.reals }
-    {
-        self.reals.items.finder()
     }
 
     /// Call: where the real is here and may be offered the call, it executes it in its turn and settles, or holds it where it is

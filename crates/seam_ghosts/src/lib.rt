@@ -15,7 +15,7 @@ ghost use Rattle.seam_ghosts.specs.Joined.{book_of, IsBook};
 ghost use Rattle.seam_ghosts.specs.Book.{BookView, beat_of, copy_of, copies, answer, after_message, ghost_after};
 
 pub use seam_memory::NoMemoryFor;
-use seam_table::{Finder, Items, Table};
+use seam_table::{Items, Table};
 use std::alloc::{AllocError, Global};
 use std::marker::Model;
 
@@ -142,13 +142,6 @@ impl<P: Drop> GhostBook<P> {
         ensures { result ≡ copies self.now }
     {
         self.copies.iter()
-    }
-
-    /// A finder of many copies, of which mostly each has a greater entity number than the last.
-    pub fn finder(&self) -> Finder<'_, P>
-        ensures { (e : ℕ) → map.get result e ≡ copy_of self.now e }
-    {
-        self.copies.finder()
     }
 
     /// The first copy, in rising entity number, of those whose number is greater than the given one, or of all where none

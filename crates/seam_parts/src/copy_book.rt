@@ -14,7 +14,7 @@ use seam_call::GhostCopy;
 use seam_ghosts::{GhostBook, Kept};
 use seam_memory::NoMemoryFor;
 use seam_range::{Place, RangeList};
-use seam_table::{Finder, Items};
+use seam_table::Items;
 use std::alloc::{AllocError, Global};
 use std::marker::Model;
 
@@ -140,13 +140,6 @@ impl CopyBook {
         ensures { result ≡ copies self.now }
     {
         self.book.iter()
-    }
-
-    /// A finder of many copies, of which mostly each has a greater entity number than the last.
-    pub fn finder(&self) -> Finder<'_, GhostCopy>
-        ensures { (e : ℕ) → map.get result e ≡ copy_of self.now e }
-    {
-        self.book.finder()
     }
 
     /// The first copy, in rising entity number, of those whose number is greater than the given one, or of all where none is given.

@@ -10,7 +10,7 @@ ghost use Rattle.seam_parts.specs.Spots.{AreNoted, place_of_real, real_places};
 use crate::spots::{Spots, beside, forget, let_out, note, put};
 use seam_entity::{Parcel, Real};
 use seam_range::{Place, RangeList};
-use seam_table::{Finder, Items, Table};
+use seam_table::{Items, Table};
 use std::alloc::{AllocError, Global};
 use std::marker::Model;
 
@@ -141,13 +141,6 @@ impl RealTable {
         ensures { result ≡ map.entries self.now.items }
     {
         self.items.iter()
-    }
-
-    /// A finder of many reals, of which mostly each has a greater number than the last.
-    pub fn finder(&self) -> Finder<'_, Parcel>
-        ensures { result ≡ self.now.items }
-    {
-        self.items.finder()
     }
 
     /// The first real, in rising number, of those whose entity's number is greater than the given one, or of all where none is given.

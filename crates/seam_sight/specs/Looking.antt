@@ -1,8 +1,6 @@
 -- What a witness of a cell sees and tells.
-use Rattle.std.specs.Prelude.{◌≡◌, ℕ, ◌+◌, Bool, true, false, cond, nat_le, List, [], ◌∷◌, length, is_some, Option, None, Some}
-use Rattle.std.specs.FinMap as table
+use Rattle.std.specs.Prelude.{ℕ, ◌+◌, Bool, true, false, cond, nat_le, List, [], ◌∷◌, length, is_some, Option, None, Some}
 use Rattle.seam_ghosts.specs.declared.Ghost.{Ghost}
-use Rattle.seam_ghosts.specs.Book.{BookView, copy_of}
 use Rattle.seam_call.specs.declared.shown.GhostCopy.{GhostCopy}
 use Rattle.seam_entity.specs.declared.message.Msg.{Msg}
 use Rattle.seam_call.specs.declared.shown.Shown.{Shown}
@@ -38,10 +36,6 @@ abbrev pub earlier_seen : Option Seen → Option Seen → Option Seen
 earlier_seen None o = o
 earlier_seen (Some s) None = Some s
 earlier_seen (Some s) (Some t) = cond (nat_le s.entity t.entity) (Some s) (Some t)
-
--- these are the copies of the book, as a finder has them
-abbrev pub FindsCopies : Map GhostCopy → BookView GhostCopy → Type 0
-FindsCopies found book = (e : ℕ) → table.get found e ≡ copy_of book e
 
 -- ---- what the witness does
 

@@ -18,15 +18,13 @@ ghost use Rattle.seam_parts.specs.Kept.{here_in, cell_of, AreKept};
 ghost use Rattle.seam_parts.specs.News.{listed};
 ghost use Rattle.seam_sight.specs.Looking.{seeing, looked, told_at_look, own_told, told_these, real_has_witness};
 ghost use Rattle.seam_sight.specs.Looking.{comes_after, seen_if, seen_real_of, seen_copy_of, earlier_seen};
-ghost use Rattle.seam_sight.specs.Looking.{FindsCopies};
 ghost use Rattle.seam_sight.specs.Near.{HasNear};
 
 use crate::told::ToldCopies;
 use seam_call::{GhostCopy, Shown, Update};
-use seam_entity::{Msg, Observed, Parcel, Real, Witness, is_small};
+use seam_entity::{Msg, Observed, Real, Witness, is_small};
 use seam_machine::Out;
 use seam_parts::{CopyBook, Known, Lists, Places, RealTable, Reals, put_in, take_out};
-use seam_table::Finder;
 use seam_tree::MOST_CELLS;
 use seam_view::{Look, Seen};
 use std::alloc::{AllocError, Global};
@@ -185,28 +183,18 @@ impl Sight<'_> {
     }
 
     // What is known of an entity: its real or, where that is not here, its copy.
-    fn copy_of(
-        &self,
-        e: u32,
-        reals: &mut Finder<'_, Parcel>,
-        copies: &mut Finder<'_, GhostCopy>,
-        told: &mut ToldCopies,
-    ) -> Result<Option<GhostCopy>, AllocError>
-        requires reals { reals.old ≡ self.now.reals.now.items }
-        requires copies { FindsCopies copies.old self.now.copies.now }
-        ensures known { (c : CellView) → let d = seeing c (here_in self.now.known.now) self.now.reals.now.items self.now.copies.now.ghosts in
+    fn copy_of(&self, e: u32, told: &mut ToldCopies) -> Result<Option<GhostCopy>, AllocError>
+        ensures { (c : CellView) → let d = seeing c (here_in self.now.known.now) self.now.reals.now.items self.now.copies.now.ghosts in
             IfOk result (λ o. o ≡ known_of e (known_to d self.now.own)) }
-        ensures reals { reals.new ≡ reals.old }
-        ensures copies { copies.new ≡ copies.old }
     {
         if e == self.own {
             return Ok(None);
         }
-        if let Some(parcel) = reals.find(e) {
+        if let Some(parcel) = self.reals.get(e) {
             let copy = told.copy_for_others(&self.known.defs, e, &parcel.real.observed())?;
             return Ok(Some(copy));
         }
-        let Some(copy) = copies.find(e) else {
+        let Some(copy) = self.copies.get(e) else {
             return Ok(None);
         };
         let shown = told.copy_for_others(&self.known.defs, e, &Observed::of_copy(copy))?;
@@ -214,34 +202,24 @@ impl Sight<'_> {
     }
 
     // What is shown for a look, if anything is.
-    fn shown_for(
-        &self,
-        look: &Look,
-        reals: &mut Finder<'_, Parcel>,
-        copies: &mut Finder<'_, GhostCopy>,
-        told: &mut ToldCopies,
-    ) -> Result<Option<Shown>, AllocError>
-        requires reals { reals.old ≡ self.now.reals.now.items }
-        requires copies { FindsCopies copies.old self.now.copies.now }
-        ensures shown { (c : CellView) → let d = seeing c (here_in self.now.known.now) self.now.reals.now.items self.now.copies.now.ghosts in
+    fn shown_for(&self, look: &Look, told: &mut ToldCopies) -> Result<Option<Shown>, AllocError>
+        ensures { (c : CellView) → let d = seeing c (here_in self.now.known.now) self.now.reals.now.items self.now.copies.now.ghosts in
             IfOk result (λ o. o ≡ shown_for (known_to d self.now.own) look.now) }
-        ensures reals { reals.new ≡ reals.old }
-        ensures copies { copies.new ≡ copies.old }
     {
         match look {
             Look::Leave(e) => Ok(Some(Shown::Leave(*e))),
             Look::Set(e) => {
-                let copy = self.copy_of(*e, reals, copies, told)?;
+                let copy = self.copy_of(*e, told)?;
                 Ok(set_of(*e, copy))
             }
             Look::Enter(e) => {
-                let copy = self.copy_of(*e, reals, copies, told)?;
+                let copy = self.copy_of(*e, told)?;
                 Ok(enter_of(*e, copy))
             }
         }
     }
 
-    // Adds what is shown for the looks, in their order, which is mostly that of the entities' numbers.
+    // Adds what is shown for the looks, in their order.
     fn add_all(
         &self,
         looks: &[Look],
@@ -251,10 +229,8 @@ impl Sight<'_> {
         ensures { (c : CellView) → let d = seeing c (here_in self.now.known.now) self.now.reals.now.items self.now.copies.now.ghosts in
             OnOk result (shown.new.items ≡ shown.old.items ++ filter_map (shown_for (known_to d self.now.own)) looks.now) }
     {
-        let mut reals = self.reals.finder();
-        let mut copies = self.copies.finder();
         for look in looks {
-            let item = self.shown_for(look, &mut reals, &mut copies, told)?;
+            let item = self.shown_for(look, told)?;
             push_if(shown, item)?;
         }
         Ok(())
@@ -289,7 +265,8 @@ impl Sight<'_> {
             let d = seeing c h self.now.reals.now.items self.now.copies.now.ghosts in
             IfOk result (λ q. q.items ≡ all_shown h real.now.core (witness_of witness.now) (known_to d self.now.own) looks.now) }
     {
-        let mut shown = VecDeque::new(self.alloc);
+        // Besides the looks there is the own state.
+        let mut shown = VecDeque::with_capacity(self.alloc, looks.len().saturating_add(1))?;
         self.add_own(real, witness, &mut shown)?;
         self.add_all(looks, told, &mut shown)?;
         Ok(shown)

@@ -93,7 +93,7 @@ fn seen_at(entity: u32, place: Place) -> Seen
     }
 }
 
-// Those of whose entities no real is here. They come in rising number.
+// Those of whose entities no real is here.
 fn without_reals(
     alloc: Global,
     reals: &RealTable,
@@ -101,10 +101,9 @@ fn without_reals(
 ) -> Result<Vec<(u32, Place)>, AllocError>
     ensures { IfOk result (λ v. v.items ≡ without_reals reals.now.items entities.now) }
 {
-    let mut left = Vec::new(alloc);
-    let mut finder = reals.finder();
+    let mut left = Vec::with_capacity(alloc, entities.len())?;
     for (e, place) in entities {
-        if finder.find(*e).is_none() {
+        if reals.get(*e).is_none() {
             left.push((*e, *place))?;
         }
     }
@@ -143,7 +142,8 @@ impl Sight<'_> {
     ) -> Result<Vec<Seen>, AllocError>
         ensures { IfOk result (λ v. v.items ≡ map seen_at_place (filter (is_other self.now.own) (merged reals.now copies.now))) }
     {
-        let mut seen = Vec::new(self.alloc);
+        let most = reals.len().saturating_add(copies.len());
+        let mut seen = Vec::with_capacity(self.alloc, most)?;
         let mut first = reals;
         let mut second = copies;
         while let Some(next) = next_of(first, second) {

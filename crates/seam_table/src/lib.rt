@@ -28,12 +28,10 @@ use std::collections::BTreeSet;
 use std::marker::Model;
 use std::ops::Bound;
 
-mod finder;
 mod items;
 #[cfg(test)]
 mod tests;
 
-pub use finder::Finder;
 pub use items::Items;
 
 /// An item for some of the numbers.
@@ -183,13 +181,6 @@ impl<T: Drop> Table<T> {
             numbers: self.order.range((bound_after(after), Bound::Unbounded)),
             entries: &self.entries,
         }
-    }
-
-    /// A finder of many items, of which mostly each has a greater number than the last.
-    pub fn finder(&self) -> Finder<'_, T>
-        ensures { result ≡ self.now.items }
-    {
-        Finder { table: self }
     }
 
     /// The first item, in rising number, of those whose number is greater than the given one, or of all where none is given.

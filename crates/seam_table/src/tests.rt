@@ -71,22 +71,19 @@ fn each_item_is_changed_where_it_lies(rt: HostRuntime) -> Result<(), Fail> {
 #[test]
 fn numbers_are_found_in_any_order(rt: HostRuntime) -> Result<(), Fail> {
     let mut table = Table::new(rt.alloc());
-    assert_eq!(rt; table.finder().find(0), None);
+    assert_eq!(rt; table.get(0), None);
     for n in 1..100 {
         assert_eq!(rt; table.put(3 * n, n).is_ok(), true);
     }
     table.reserve(10)?;
-    let mut finder = table.finder();
     for (number, item) in [
         // Rising, and absent between two items.
         (0, None),
-        (3, Some(&1)),
         (3, Some(&1)),
         (6, Some(&2)),
         (10, None),
         (11, None),
         (12, Some(&4)),
-        // Further than the walk goes item by item.
         (240, Some(&80)),
         (292, None),
         (297, Some(&99)),
@@ -98,7 +95,7 @@ fn numbers_are_found_in_any_order(rt: HostRuntime) -> Result<(), Fail> {
         (8, None),
         (4001, None),
     ] {
-        assert_eq!(rt; finder.find(number), item);
+        assert_eq!(rt; table.get(number), item);
     }
     Ok(())
 }

@@ -1,6 +1,5 @@
 use Rattle.std.proofs.Common.{◌++◌, get_or, take, ap, sym, ◌∙◌, append_assoc}
 use Rattle.std.specs.List.{filter_map}
-use Rattle.std.specs.FinMap as table
 use Rattle.std.proofs.lemmas.List.{take_all}
 use Rattle.seam_view.specs.declared.Look.TheVariants.{Leave}
 use Rattle.seam_steps.specs.Looks.{shown_for}
@@ -12,24 +11,20 @@ use Rattle.seam_sight.proofs.LookLemmas.{shown_more}
 use Rattle.seam_sight.proofs.looking.Sight.add_all.Goals as goal
 
 pub loop-look-preserved : goal.loop-look-preserved
-loop-look-preserved c = record {
-  shown = λ k.
-      let d : CellView = seeing k (here_in c.args.self.now.known.now) c.args.self.now.reals.now.items c.args.self.now.copies.now.ghosts in
-      let f = shown_for (known_to d c.args.self.now.own) in
-      let i = c.loop-look.look-index in
-      let look = get_or c.args.looks.now i (Leave 0) in
-      c.in_ok-push_if.ensures
-      ∙ (ap (λ o. c.loop-look.shown.items ++ listed o) (c.in_ok-item.ensures.shown k)
-      ∙ (ap (λ l. l ++ listed (f look)) (c.loop-look.invariant.shown k)
-      ∙ (append_assoc c.args.shown.now.items (filter_map f (take i c.args.looks.now)) (listed (f look))
-      ∙ ap (λ l. c.args.shown.now.items ++ l) (sym (shown_more f c.args.looks.now i (Leave 0) c.loop-look-test.true)))));
-  reals = c.in_ok-item.ensures.reals ∙ c.loop-look.invariant.reals;
-  copies = λ e. ap (λ m. table.get m e) c.in_ok-item.ensures.copies ∙ c.loop-look.invariant.copies e;
-}
+loop-look-preserved c = λ k.
+    let d : CellView = seeing k (here_in c.args.self.now.known.now) c.args.self.now.reals.now.items c.args.self.now.copies.now.ghosts in
+    let f = shown_for (known_to d c.args.self.now.own) in
+    let i = c.loop-look.look-index in
+    let look = get_or c.args.looks.now i (Leave 0) in
+    c.in_ok-push_if.ensures
+    ∙ (ap (λ o. c.loop-look.shown.items ++ listed o) (c.in_ok-item.ensures k)
+    ∙ (ap (λ l. l ++ listed (f look)) (c.loop-look.invariant k)
+    ∙ (append_assoc c.args.shown.now.items (filter_map f (take i c.args.looks.now)) (listed (f look))
+    ∙ ap (λ l. c.args.shown.now.items ++ l) (sym (shown_more f c.args.looks.now i (Leave 0) c.loop-look-test.true)))))
 
 pub returns : goal.returns
 returns c = λ k.
     let d : CellView = seeing k (here_in c.args.self.now.known.now) c.args.self.now.reals.now.items c.args.self.now.copies.now.ghosts in
     let f = shown_for (known_to d c.args.self.now.own) in
-    c.loop-look.invariant.shown k
+    c.loop-look.invariant k
     ∙ ap (λ l. c.args.shown.now.items ++ l) (ap (filter_map f) (take_all c.loop-look.look-index c.args.looks.now c.loop-look-test.false))

@@ -3,14 +3,11 @@ use Rattle.std.specs.List.{filter_map}
 use Rattle.seam_steps.specs.Looks.{shown_for}
 use Rattle.seam_steps.specs.Cells.{CellView, known_to}
 use Rattle.seam_parts.specs.Kept.{here_in}
-use Rattle.seam_sight.specs.Looking.{seeing, FindsCopies}
+use Rattle.seam_sight.specs.Looking.{seeing}
 use Rattle.seam_sight.proofs.looking.Sight.add_all.Given as goal
 
 abbrev pub invariant-loop-look : goal.invariant-loop-look
-invariant-loop-look l = record {
-  shown : (c : CellView) →
-      let d : CellView = seeing c (here_in l.self.known.now) l.self.reals.now.items l.self.copies.now.ghosts in
-      l.shown.items ≡ l.fn.shown.items ++ filter_map (shown_for (known_to d l.self.own)) (take l.look-index l.looks);
-  reals : l.reals ≡ l.self.reals.now.items;
-  copies : FindsCopies l.copies l.self.copies.now;
-}
+invariant-loop-look l =
+    (c : CellView) →
+    let d : CellView = seeing c (here_in l.self.known.now) l.self.reals.now.items l.self.copies.now.ghosts in
+    l.shown.items ≡ l.fn.shown.items ++ filter_map (shown_for (known_to d l.self.own)) (take l.look-index l.looks)
