@@ -309,6 +309,7 @@ impl<T> Links<T> {
     }
 
     /// Moves what waits to the links.
+    #[inline]
     pub fn settle(&mut self) -> Result<(), AllocError>
         ensures rows { self.new.rows ≡ self.old.rows }
         ensures low { self.new.low ≤ self.old.low }
@@ -317,6 +318,17 @@ impl<T> Links<T> {
         if self.out.is_empty() {
             return Ok(());
         }
+        self.settle_all()
+    }
+
+    // The same where something waits.
+    #[inline(never)]
+    fn settle_all(&mut self) -> Result<(), AllocError>
+        requires { self.old.clear ≡ false }
+        ensures rows { self.new.rows ≡ self.old.rows }
+        ensures low { self.new.low ≤ self.old.low }
+        ensures ok { OnOk result (self.new.clear ≡ true) }
+    {
         let row = &mut self.rows[self.sender];
         deliver(row, &mut self.kept, &mut self.out, self.sender as u8)
     }

@@ -1,7 +1,7 @@
 //! Entities by their positions, for queries of those that are near. Each has its version beside the position, which a query gives too.
 #![tactic(auto)]
 
-ghost use Rattle.std.specs.Prelude.{◌≡◌, ◌≤◌, ℕ, ◌+◌, is_some, Some, None, IfOk, OnOk, OnErr};
+ghost use Rattle.std.specs.Prelude.{◌≡◌, ◌≤◌, ℕ, ◌+◌, true, is_some, Some, None, IfOk, IfSome, OnOk, OnErr};
 ghost use Rattle.std.specs.BTreeMap.{BTreeMap as AnyMap, get, IsOrdered, Updates};
 ghost use Rattle.std.specs.FinMap as map;
 ghost use Rattle.std.specs.Ordering.{nat_cmp};
@@ -134,10 +134,9 @@ impl RangeList {
         if self.places.len() as u64 <= strips {
             return self.near_by_entity(p, d);
         }
-        let mut found = self.near_by_strip(p, d)?;
-        if found.len() >= self.places.len() / MANY {
+        let Some(mut found) = self.near_by_strip(p, d, self.places.len() / MANY)? else {
             return self.near_by_entity(p, d);
-        }
+        };
         found.sort_unstable_by_key(|(e, _)| *e);
         Ok(found)
     }
@@ -146,7 +145,7 @@ impl RangeList {
     fn near_by_entity(&self, p: Pos, d: u32) -> Result<Vec<(u32, Place)>, AllocError>
         ensures { IfOk result (λ v. v.items ≡ within self.now p d) }
     {
-        let mut found = Vec::new(self.alloc);
+        let mut found = Vec::with_capacity(self.alloc, self.places.len())?;
         for (e, place) in &self.places {
             if is_near(*place, p, d) {
                 found.push((*e, *place))?;
@@ -155,28 +154,37 @@ impl RangeList {
         Ok(found)
     }
 
-    // The near entities, strip after strip.
-    fn near_by_strip(&self, p: Pos, d: u32) -> Result<Vec<(u32, Place)>, AllocError>
-        ensures near { IfOk result (λ v. (q : ℕ) → count_of q v.items ≡ one_if (is_within p d) (map.get self.now q)) }
-        ensures places { IfOk result (λ v. AreInPlace self.now v.items) }
+    // The near entities, strip after strip; nothing where they are more than `most`.
+    fn near_by_strip(
+        &self,
+        p: Pos,
+        d: u32,
+        most: usize,
+    ) -> Result<Option<Vec<(u32, Place)>>, AllocError>
+        ensures near { IfOk result (λ o. IfSome o (λ v. (q : ℕ) →
+            count_of q v.items ≡ one_if (is_within p d) (map.get self.now q))) }
+        ensures places { IfOk result (λ o. IfSome o (λ v. AreInPlace self.now v.items)) }
     {
         let mut found = Vec::new(self.alloc);
         for strip in strip_from(p, d)..strip_after(p, d) {
-            self.push_near(strip, p, d, &mut found)?;
+            if !self.push_near(strip, p, d, most, &mut found)? {
+                return Ok(None);
+            }
         }
-        Ok(found)
+        Ok(Some(found))
     }
 
-    // Appends the near entities of the strip.
+    // Appends the near entities of the strip, unless there are more than `most` with them; it answers whether it did.
     fn push_near(
         &self,
         strip: u64,
         p: Pos,
         d: u32,
+        most: usize,
         found: &mut Vec<(u32, Place)>,
-    ) -> Result<(), AllocError>
+    ) -> Result<bool, AllocError>
         requires { AreInPlace self.now found.old.items }
-        ensures near { OnOk result ((q : ℕ) → count_of q found.new.items
+        ensures near { IfOk result (λ whole. whole ≡ true → (q : ℕ) → count_of q found.new.items
             ≡ count_of q found.old.items + one_if (is_in_strip strip p d) (map.get self.now q)) }
         ensures places { OnOk result (AreInPlace self.now found.new.items) }
     {
@@ -184,10 +192,13 @@ impl RangeList {
         let end = (u64::from(p.z) + u64::from(d)) / ROW_WIDTH + 1;
         for ((_, e), place) in self.by_spot.range(((strip, low), 0)..((strip, end), 0)) {
             if is_near(*place, p, d) {
+                if found.len() >= most {
+                    return Ok(false);
+                }
                 found.push((*e, *place))?;
             }
         }
-        Ok(())
+        Ok(true)
     }
 }
 

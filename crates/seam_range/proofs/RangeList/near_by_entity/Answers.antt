@@ -7,7 +7,7 @@ use Rattle.seam_range.proofs.RangeList.near_by_entity.Goals as goal
 pub loop-e-init : goal.loop-e-init
 loop-e-init c =
     let given : c.into_iter-e-iterator.result ≡ c.self.inside.places.entries = c.into_iter-e-iterator.ensures.into_iter_gives.0 in
-    let none : c.new-found.result.items ≡ [] = c.new-found.ensures.items in (
+    let none : c.in_ok-found.found.items ≡ [] = c.in_ok-found.ensures.items in (
       tt,
       tt,
       ap (λ items. items ++ filter (λ e. is_within c.args.p c.args.d e.1) c.into_iter-e-iterator.result) none
