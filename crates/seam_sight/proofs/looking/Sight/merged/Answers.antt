@@ -9,7 +9,7 @@ use Rattle.seam_sight.proofs.looking.Sight.merged.Goals as goal
 pub loop-next-init : goal.loop-next-init
 loop-next-init c =
     ap (λ (l : List Seen). l ++ map seen_at_place (filter (is_other c.args.self.now.own) (merged c.args.reals.now c.args.copies.now)))
-    c.new-seen.ensures.items
+    c.in_ok-seen.ensures.items
 
 pub loop-next-preserved : goal.loop-next-preserved
 loop-next-preserved c =

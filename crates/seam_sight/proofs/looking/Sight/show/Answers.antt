@@ -17,5 +17,5 @@ returns c = λ k.
     c.in_ok-add_all.ensures k
     ∙ (ap (λ (l : List Shown). l ++ filter_map (shown_for known) c.args.looks.now)
     (c.in_ok-add_own.ensures
-    ∙ ap (λ (l : List Shown). l ++ own_told h c.args.real.now.core c.args.witness.now.told) c.new-shown.ensures.items)
+    ∙ ap (λ (l : List Shown). l ++ own_told h c.args.real.now.core c.args.witness.now.told) c.in_ok-shown.ensures.items)
     ∙ all_is_shown h c.args.real.now.core (witness_of c.args.witness.now) known c.args.looks.now)
