@@ -1,8 +1,9 @@
 // The texts of copies that many clients are shown.
-ghost use Rattle.std.specs.Prelude.{◌≡◌, ◌<◌, ◌^◌, ◌++◌, OnOk, IfSome};
-ghost use Rattle.seam_report.specs.Spelled.{copy_text};
+ghost use Rattle.std.specs.Prelude.{◌≡◌, ◌<◌, ◌^◌, ◌++◌, OnOk, IfOk, IfSome};
+ghost use Rattle.seam_report.specs.Spelled.{copy_text, enter_text, IsSpelling};
 
 use crate::told::push_copy;
+use crate::values::push_field;
 use indexmap::IndexMap;
 use seam_call::GhostCopy;
 use seam_defs::Defs;
@@ -10,11 +11,12 @@ use seam_same::Same;
 use std::alloc::{AllocError, Global};
 use std::marker::Model;
 
-// A copy and its text.
+// A copy, and the text of its entering: from `start` on that of its version and state.
 #[derive(Drop)]
 struct Spelling<'a> {
     copy: &'a GhostCopy,
     text: Vec<u8>,
+    start: usize,
 }
 
 /// The texts of the copies that clients were shown last, by entity: what many of them are shown of one state is spelled once.
@@ -72,35 +74,76 @@ impl<'a> Spellings<'a> {
         }
     }
 
-    // The text at the place, if it is that of the copy.
-    fn text_at(&self, place: usize, copy: &GhostCopy) -> Option<&[u8]>
-        ensures { IfSome result (λ text. text.now ≡ copy_text self.now copy.now) }
+    // The place of the text of an entity's copy, past which the next one is looked for first.
+    fn go_to(&mut self, entity: u32) -> Option<usize>
+        ensures { self.new ≡ self.old }
     {
-        match self.copies.get_index(place) {
-            Some((_, spelling)) if spelling.copy.is(copy) => Some(&spelling.text),
+        let place = self.place_of(entity)?;
+        self.next = place + 1;
+        Some(place)
+    }
+
+    // What is kept at the place, if it is of the entity and the copy.
+    fn kept_at(&self, place: Option<usize>, entity: u32, copy: &GhostCopy) -> Option<&Spelling<'a>>
+        ensures { IfSome result (λ s. IsSpelling self.now entity copy.now s.now) }
+    {
+        match self.copies.get_index(place?) {
+            Some((spelled, spelling)) if *spelled == entity && spelling.copy.is(copy) => {
+                Some(spelling)
+            }
             _ => None,
         }
     }
 
-    // Spells the copy of an entity, appends its text, and keeps it for others.
+    // Spells the copy of an entity.
     fn spell(
-        &mut self,
-        out: &mut Vec<u8>,
+        &self,
+        alloc: Global,
         entity: u32,
         copy: &'a GhostCopy,
-    ) -> Result<(), AllocError>
-        ensures text { OnOk result (out.new.items ≡ out.old.items ++ copy_text self.old copy.now) }
-        ensures same { self.new ≡ self.old }
+    ) -> Result<Spelling<'a>, AllocError>
+        ensures { IfOk result (λ s. IsSpelling self.now entity copy.now s) }
     {
-        let mut text = Vec::new(*out.allocator());
+        let mut text = Vec::new(alloc);
+        text.extend_from_slice(b" enter")?;
+        push_field(&mut text, u64::from(entity))?;
+        text.extend_from_slice(b" ")?;
+        text.extend_from_slice(self.defs.type_at(copy.ty).name.bytes())?;
+        let start = text.len();
         push_copy(&mut text, self.defs, copy)?;
-        out.extend_from_slice(&text)?;
-        match self.copies.insert(entity, Spelling { copy, text }) {
+        Ok(Spelling { copy, text, start })
+    }
+
+    // Keeps what was spelled of the copy of an entity, for others.
+    fn keep(&mut self, entity: u32, spelling: Spelling<'a>) -> Result<(), AllocError>
+        requires { IsSpelling self.old entity spelling.copy.now spelling }
+        ensures { self.new ≡ self.old }
+    {
+        match self.copies.insert(entity, spelling) {
             Ok(_) => {}
             Err(_) => return Err(AllocError),
         }
         self.next = self.copies.len();
         Ok(())
+    }
+
+    /// Appends that an entity enters, of which there is this copy.
+    pub(crate) fn push_enter(
+        &mut self,
+        out: &mut Vec<u8>,
+        entity: u32,
+        copy: &'a GhostCopy,
+    ) -> Result<(), AllocError>
+        ensures text { OnOk result (out.new.items ≡ out.old.items ++ enter_text self.old entity copy.now ++ copy_text self.old copy.now) }
+        ensures same { self.new ≡ self.old }
+    {
+        let place = self.go_to(entity);
+        if let Some(spelling) = self.kept_at(place, entity, copy) {
+            return out.extend_from_slice(&spelling.text);
+        }
+        let spelling = self.spell(*out.allocator(), entity, copy)?;
+        out.extend_from_slice(&spelling.text)?;
+        self.keep(entity, spelling)
     }
 
     /// Appends the version of a copy of an entity, and its state.
@@ -113,12 +156,12 @@ impl<'a> Spellings<'a> {
         ensures text { OnOk result (out.new.items ≡ out.old.items ++ copy_text self.old copy.now) }
         ensures same { self.new ≡ self.old }
     {
-        if let Some(place) = self.place_of(entity) {
-            self.next = place + 1;
-            if let Some(text) = self.text_at(place, copy) {
-                return out.extend_from_slice(text);
-            }
+        let place = self.go_to(entity);
+        if let Some(spelling) = self.kept_at(place, entity, copy) {
+            return out.extend_from_slice(&spelling.text[spelling.start..]);
         }
-        self.spell(out, entity, copy)
+        let spelling = self.spell(*out.allocator(), entity, copy)?;
+        out.extend_from_slice(&spelling.text[spelling.start..])?;
+        self.keep(entity, spelling)
     }
 }

@@ -70,13 +70,7 @@ fn push_shown<'a>(
             out.extend_from_slice(b" own")?;
             push_state(out, *version, defs.type_at(ty), Group::Own, state)
         }
-        Shown::Enter(entity, copy) => {
-            out.extend_from_slice(b" enter")?;
-            push_field(out, u64::from(*entity))?;
-            out.extend_from_slice(b" ")?;
-            out.extend_from_slice(defs.type_at(copy.ty).name.bytes())?;
-            spellings.push(out, *entity, copy)
-        }
+        Shown::Enter(entity, copy) => spellings.push_enter(out, *entity, copy),
         Shown::Set(entity, copy) => {
             out.extend_from_slice(b" set")?;
             push_field(out, u64::from(*entity))?;
