@@ -1,8 +1,8 @@
 -- What is counted of pieces.
-use Rattle.std.proofs.Common.{◌≡◌, ℕ, List, [], ◌∷◌, ◌++◌, refl, sym, ap, ◌∙◌, append_assoc, append-nil}
+use Rattle.std.proofs.Common.{◌≡◌, ℕ, List, [], ◌∷◌, ◌++◌, refl, sym, ap, ◌∙◌, append-nil}
 use Rattle.seam_transcript.specs.declared.verdict.Cause.{Cause}
 use Rattle.seam_rules.specs.Transcript.{Piece, Refusal}
-use Rattle.seam_summary.specs.Summary.{totals_of, all_sums}
+use Rattle.seam_summary.specs.Summary.{totals_of}
 use Rattle.seam_summary.specs.declared.totals.Sums.{Sums}
 use Rattle.seam_summary.specs.declared.totals.Totals.{Totals}
 use Rattle.seam_summary.proofs.Pieces.{sums_of_append}

@@ -1,5 +1,5 @@
 -- What a played round leaves.
-use Rattle.std.proofs.Common.{◌≡◌, ℕ, ◌+◌, ◌<◌, Bool, true, false, List, [], ◌∷◌, ◌++◌, Option, None, Some, map, refl, sym, ap, ◌∙◌, subst, arith}
+use Rattle.std.proofs.Common.{◌≡◌, ℕ, ◌+◌, ◌<◌, Bool, true, false, List, [], ◌∷◌, Option, None, Some, map, refl, sym, ap, ◌∙◌, subst, arith}
 use Rattle.std.specs.Prelude.{IsTrue, IsFalse}
 use Rattle.seam_geo.specs.declared.pos.Pos.{Pos}
 use Rattle.seam_tree.specs.Division.{Division, IsTree}
@@ -15,7 +15,6 @@ use Rattle.seam_rules.specs.Lines.{RoundData}
 use Rattle.seam_rules.specs.Round.{IsRound, with_bounds}
 use Rattle.seam_rules.specs.Standing.{Standing}
 use Rattle.seam_rules.specs.Transcript.{Ended}
-use Rattle.seam_summary.specs.Summary.{totals_of}
 use Rattle.seam_summary.specs.declared.totals.Sums.{Sums}
 use Rattle.seam_summary.specs.declared.totals.Totals.{Totals}
 use Rattle.seam_played.specs.Playing.{IsPlayed, data_of, standing_of}

@@ -1,5 +1,5 @@
 -- How a run of a generated input ends, of which nothing but the summary is written.
-use Rattle.std.specs.Prelude.{◌≡◌, ◌⊎◌, ℕ, ◌≤◌, false, List, [], ◌++◌}
+use Rattle.std.specs.Prelude.{◌≡◌, ◌⊎◌, ℕ, false, List, [], ◌++◌}
 use Rattle.std.specs.Io.KnownBytes.{Appends}
 use Rattle.seam_io.specs.States.{SourceState, SinkState}
 use Rattle.seam_io.specs.Lines.{Line, lines_of}

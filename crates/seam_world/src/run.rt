@@ -308,8 +308,8 @@ impl Runner {
         }
     }
 
-    // One line, before which all that was printed is written where the line may have to be waited for. Answers the status where
-    // the run ends.
+    // One line: all that was printed is written first where the line may have to be waited for; then it is read, the script follows it,
+    // and what the script prints is pending. Answers the status where the run ends.
     fn turn<S: Source, K: Sink, G: Gate + Sync, W: Watch, R: Threads + Wait + Sync>(
         &mut self,
         rt: &R,
@@ -332,33 +332,9 @@ impl Runner {
         ensures ready { IfNone result ((h : Headers) × (t : Standing) × ScriptRefines h t self.new.script) }
     {
         match write_before_wait(&self.lines, &mut self.pending, out) {
-            Ok(()) => self.follow(rt, playing, input, out, watch),
-            Err(Failed) => Some(Status::WriteFault),
+            Ok(()) => {}
+            Err(Failed) => return Some(Status::WriteFault),
         }
-    }
-
-    // The next line: it is read, the script follows it, and what the script prints is pending.
-    fn follow<S: Source, K: Sink, G: Gate + Sync, W: Watch, R: Threads + Wait + Sync>(
-        &mut self,
-        rt: &R,
-        playing: &Playing<G>,
-        input: &mut S,
-        out: &mut K,
-        watch: &mut W,
-    ) -> Option<Status>
-        requires ready { (h : Headers) × (t : Standing) × ScriptRefines h t self.old.script }
-        ensures history { (began : SourceState) (sink : SinkState) (told : Told) →
-            Going playing.now.output began (S.state input.old) self.old.lines sink (K.state out.old) told (W.told watch.old)
-            self.old.pending self.old.script →
-            MatchOption result
-            (Going playing.now.output began (S.state input.new) self.new.lines sink (K.state out.new) told (W.told watch.new)
-            self.new.pending self.new.script)
-            (λ s. Stopped playing.now.output self.new.script.totals s began (S.state input.new) sink (K.state out.new) told
-            (W.told watch.new)) }
-        ensures later { (S.state input.old).faults ≤ (S.state input.new).faults }
-        ensures falls { IfNone result (budget self.new.lines < budget self.old.lines) }
-        ensures ready { IfNone result ((h : Headers) × (t : Standing) × ScriptRefines h t self.new.script) }
-    {
         match self.lines.next(input) {
             Next::Line => self.print_line(rt, playing, out, watch),
             Next::Long => self.print_long(playing.output, out),

@@ -1,8 +1,6 @@
-use Rattle.std.proofs.Common.{◌∙◌, ◌≡◌, rules, SFits}
+use Rattle.std.proofs.Common.{◌∙◌, rules, SFits}
 use Rattle.std.specs.Int.{w64}
 use Rattle.std.proofs.lemmas.Int.{to_z-of_z}
-use Rattle.seam_summary.specs.Summary.{sums_of}
-use Rattle.seam_played.specs.Playing.{data_of}
 use Rattle.seam_world.proofs.round.sum_up.Goals as goal
 
 pub returns : goal.returns

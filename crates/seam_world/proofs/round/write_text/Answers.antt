@@ -1,4 +1,4 @@
-use Rattle.std.proofs.Common.{◌≡◌, ◌++◌, ap, ◌∙◌}
+use Rattle.std.proofs.Common.{◌++◌, ap, ◌∙◌}
 use Rattle.seam_played.specs.Playing.{data_of}
 use Rattle.seam_print.specs.Texts.{calls_text, ends_text}
 use Rattle.seam_world.specs.Rounds.{start_text}

@@ -1,1 +1,0 @@
-use Rattle.seam_world.proofs.run.run_asked.Goals as goal

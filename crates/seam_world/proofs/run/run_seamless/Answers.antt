@@ -1,8 +1,6 @@
-use Rattle.std.proofs.Common.{inl, inr, subst}
-use Rattle.std.specs.Prelude.{◌⊎◌, map}
-use Rattle.std.specs.String.{string_bytes}
-use Rattle.seam_world.specs.Words.{asks_for_trace, storm_asked}
-use Rattle.seam_world.proofs.RunLemmas.{StopsAsAsked, ends_as_asked, ends_unasked, completes_as_asked}
+use Rattle.std.proofs.Common.{inl, inr}
+use Rattle.std.specs.Prelude.{◌⊎◌}
+use Rattle.seam_world.proofs.RunLemmas.{ends_as_asked, ends_unasked, completes_as_asked}
 use Rattle.seam_world.proofs.run.run_seamless.Goals as goal
 
 pub returns-clause-ends : goal.returns-clause-ends

@@ -1,12 +1,5 @@
-use Rattle.std.proofs.Common.{◌≡◌, ◌≢◌, ◌⊎◌, inl, inr, Some, ap, subst, arith}
-use Rattle.std.specs.Prelude.{MatchBool}
-use Rattle.seam_io.specs.States.{SourceState, SinkState}
+use Rattle.std.proofs.Common.{Some, ap, arith}
 use Rattle.seam_storm.specs.Views.{StormView}
-use Rattle.seam_watch.specs.Watching.{Told}
-use Rattle.seam_world.specs.Histories.{Stopped, StormStopped}
-use Rattle.seam_world.specs.declared.status.Status.{Status}
-use Rattle.seam_world.specs.declared.status.Status.TheVariants as status
-use Rattle.seam_world.specs.declared.round.Output.TheVariants as output
 use Rattle.seam_world.proofs.StormRuns.{nothing_run, not_done, storm_written}
 use Rattle.seam_world.proofs.storm.run_storm.Goals as goal
 
