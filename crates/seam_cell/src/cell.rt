@@ -48,6 +48,7 @@ pub struct Cell {
     reals: Reals,
     places: Places,
     lists: Lists,
+    // Forgotten before the reals or the copies change.
     told: ToldCopies,
 }
 
@@ -56,7 +57,9 @@ impl Model for Cell {
     ghost use Rattle.std.specs.FinMap as table;
     ghost use Rattle.std.specs.FinSet as set;
     ghost use Rattle.seam_steps.specs.Cells.{CellView};
+    ghost use Rattle.seam_known.specs.Knowing.{known_at};
     ghost use Rattle.seam_parts.specs.Kept.{cell_of, AreWhole};
+    ghost use Rattle.seam_sight.specs.Told.{AreTold};
 
     ghost Value = { CellView };
 
@@ -64,7 +67,8 @@ impl Model for Cell {
 
     ghost view = { λ c. cell_of c.known c.reals c.places c.lists };
 
-    ghost invariant = { λ c. AreWhole c.known c.reals c.places c.lists };
+    ghost invariant = { λ c.
+        AreWhole c.known c.reals c.places c.lists × AreTold (known_at (cell_of c.known c.reals c.places c.lists)) c.told };
 }
 
 // Whether a copy that comes at that beat does not fit, or a number is not small.
@@ -129,6 +133,7 @@ impl Cell {
         // If allocation fails, nothing has changed.
         ensures err { OnErr result (self.new ≡ self.old) }
     {
+        self.told.clear();
         make_real(alloc, &self.known, making, &mut self.reals)
     }
 
@@ -137,6 +142,7 @@ impl Cell {
         ensures after { OnOk result (CellNode self.new ≡ attached e (CellNode self.old)) }
         ensures err { OnErr result (self.new ≡ self.old) }
     {
+        self.told.clear();
         give_witness(alloc, &self.known, e, &mut self.reals)
     }
 
@@ -147,6 +153,7 @@ impl Cell {
         ensures after { OnOk result (self.new ≡ cell_begins tree self.old) }
         ensures err { OnErr result (self.new ≡ self.old) }
     {
+        self.told.clear();
         begin_round(&mut self.reals, &mut self.lists.survey)?;
         // `size` is called for its clause that it is a tree.
         let _ = tree.size();
@@ -174,6 +181,7 @@ impl Cell {
         if is_stray_set(&self.known.defs, &self.known.settings, beat, &copy) {
             return Ok(());
         }
+        self.told.clear();
         self.places.copies.set(e, beat, copy)
     }
 
@@ -186,6 +194,7 @@ impl Cell {
         if !is_small(beat) {
             return Ok(());
         }
+        self.told.clear();
         self.places.copies.drop_copy(e, beat)
     }
 
@@ -195,9 +204,7 @@ impl Cell {
         ensures sent { (from : ℕ) → (cell_steps self.old (From from msg.Tick)).sent ≡ [] }
         ensures err { OnErr result (self.new ≡ self.old) }
     {
-        self.lists.looks.refill(&self.reals.witnesses)?;
-        self.told.clear();
-        Ok(())
+        self.lists.looks.refill(&self.reals.witnesses)
     }
 
     /// Whether the entity's real is here.
@@ -259,6 +266,7 @@ impl Cell {
         ensures err_out { OnErr result (out.new.items ≡ out.old.items) }
         ensures err_item { IfErr result (λ r. r.item ≡ call) }
     {
+        self.told.clear();
         let e = call.entity;
         let Ok(real) = take_out(&mut self.reals, e) else {
             return Err(NoMemoryFor { item: call });
@@ -278,6 +286,7 @@ impl Cell {
         ensures err { OnErr result (self.new ≡ self.old) }
         ensures err_item { IfErr result (λ r. r.item ≡ call) }
     {
+        self.told.clear();
         let e = call.entity;
         let Ok(real) = take_out(&mut self.reals, e) else {
             return Err(NoMemoryFor { item: call });
@@ -315,6 +324,7 @@ impl Cell {
         ensures err { OnErr result (self.new ≡ self.old) }
         ensures err_out { OnErr result (out.new.items ≡ out.old.items) }
     {
+        self.told.clear();
         let real = take_out(&mut self.reals, e)?;
         let tasked = execute_ready(alloc, &self.known, real, &mut self.places, out);
         put_after(&mut self.reals, &mut self.lists, e, tasked.left);
@@ -330,6 +340,7 @@ impl Cell {
         ensures err_out { OnErr result (out.new.items ≡ out.old.items) }
         ensures err_item { IfErr result (λ r. r.item ≡ parcel) }
     {
+        self.told.clear();
         arrive(&self.known, parcel, &mut self.reals, &mut self.places, out)
     }
 
@@ -341,6 +352,7 @@ impl Cell {
         ensures err { OnErr result (self.new ≡ self.old) }
         ensures err_out { OnErr result (out.new.items ≡ out.old.items) }
     {
+        self.told.clear();
         reap(e, &mut self.reals, &mut self.places, &mut self.lists, out)
     }
 
@@ -372,6 +384,7 @@ impl Cell {
         ensures err { OnErr result (self.new ≡ self.old) }
         ensures err_out { OnErr result (out.new.items ≡ out.old.items) }
     {
+        self.told.clear();
         survey_task(
             alloc,
             &self.known,

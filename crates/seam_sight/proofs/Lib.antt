@@ -2,3 +2,4 @@ pub mod LookLemmas
 pub mod NearLooks
 pub mod Merges
 pub mod NearLemmas
+pub mod ToldLemmas

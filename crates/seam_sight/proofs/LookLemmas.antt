@@ -9,7 +9,7 @@ use Rattle.std.proofs.lemmas.List.{take_more}
 use Rattle.std.proofs.lemmas.List.Elements.{filter_map-append}
 use Rattle.std.proofs.lemmas.Bool.Decides.{nat_tests}
 use Rattle.seam_table.specs.Tables.{is_after}
-use Rattle.seam_ghosts.specs.Book.{copy_in, copied}
+use Rattle.seam_ghosts.specs.Book.{copied}
 use Rattle.seam_view.specs.declared.Seen.{Seen}
 use Rattle.seam_view.specs.declared.Look.{Look}
 use Rattle.seam_call.specs.declared.shown.GhostCopy.{GhostCopy}
@@ -23,7 +23,7 @@ use Rattle.seam_steps.specs.Looks.{stray_look_by, looks_with, look_by, own_due, 
 use Rattle.seam_steps.specs.Cells.{CellView, slot_of, known_in, known_to, is_another, is_of_another, stepped, looks_around}
 use Rattle.seam_steps.specs.Cells.{look_next, cell_rests}
 use Rattle.seam_steps.proofs.Slots.{set_at-same}
-use Rattle.seam_known.specs.Knowing.{known_by, known_at}
+use Rattle.seam_known.specs.Knowing.{known_at}
 use Rattle.seam_known.proofs.Walks.{earlier, left_after, all_left, none_left, one_left, there}
 use Rattle.seam_parts.proofs.SpotLemmas.{left, fewer_left}
 use Rattle.seam_known.proofs.Knowing.{known_of_others, next_known, known_without_own}
@@ -44,19 +44,10 @@ module _ (d : CellView) (own e : ℕ) where
       same_yes = grind (arith, nat_tests, same)
 
   module _ (apart : e ≢ own) where
-    known_here : known_of e (known_to d own) ≡ known_at d e
+    pub known_here : known_of e (known_to d own) ≡ known_at d e
     known_here =
         let no : eqb e own ≡ false = grind (arith, nat_tests, apart) in
         known_of_others d own e ∙ ap (λ b. cond (not b) (known_at d e) None) no
-
-    pub real_known : (r : RealView) → Some r ≡ table.get d.reals e → Some (other_of_real d.here r) ≡ known_of e (known_to d own)
-    real_known r at = sym (known_here ∙ ap (λ o. known_by d.here o (copy_in (table.get d.ghosts e))) (sym at))
-
-    pub copy_known : (o : Option GhostCopy) → None ≡ table.get d.reals e → o ≡ copy_in (table.get d.ghosts e) →
-        option_map (other_of_copy d.here) o ≡ known_of e (known_to d own)
-    copy_known o none at =
-        sym (known_here ∙ (ap (λ q. known_by d.here q (copy_in (table.get d.ghosts e))) (sym none)
-        ∙ ap (λ q. option_map (other_of_copy d.here) q) (sym at)))
 
 -- ---- the next that is known
 

@@ -1,8 +1,8 @@
 //! The look of a witness: what it sees of the reals and copies that its cell knows, and what it tells its client.
 //!
-//! A look goes over those alone that are near, where it is kept where reals and copies are, and searches for those that it shows or that
-//! leave. `look_task` is the look task of a
-//! cell's step (`seam_steps`), over the parts of the cell; if allocation fails, nothing has changed.
+//! A look goes over those alone that are near, where it is kept where reals and copies are. It searches for those that leave, and for those
+//! that it shows and that no witness of the cell was told of since reals or copies changed. `look_task` is the look task of a cell's step
+//! (`seam_steps`), over the parts of the cell; if allocation fails, nothing has changed.
 #![tactic(auto)]
 
 mod looking;

@@ -14,11 +14,13 @@ ghost use Rattle.seam_entity.specs.Numbers.{is_small as is_small_number};
 ghost use Rattle.seam_entity.specs.Witnesses.{witness_of};
 ghost use Rattle.seam_steps.specs.Looks.{seen_as, known_of, shown_for, all_shown, numbered, looks_of, shown_of};
 ghost use Rattle.seam_steps.specs.Cells.{CellView, known_in, known_to, is_another, stepped, looks_around, look_next};
+ghost use Rattle.seam_known.specs.Knowing.{known_at};
 ghost use Rattle.seam_parts.specs.Kept.{here_in, cell_of, AreKept};
 ghost use Rattle.seam_parts.specs.News.{listed};
 ghost use Rattle.seam_sight.specs.Looking.{seeing, looked, told_at_look, own_told, told_these, real_has_witness};
 ghost use Rattle.seam_sight.specs.Looking.{comes_after, seen_if, seen_real_of, seen_copy_of, earlier_seen};
 ghost use Rattle.seam_sight.specs.Near.{HasNear};
+ghost use Rattle.seam_sight.specs.Told.{known_with, AreTold, AreToldBut, AreStillTold};
 
 use crate::told::ToldCopies;
 use seam_call::{GhostCopy, Shown, Update};
@@ -182,29 +184,54 @@ impl Sight<'_> {
         Ok(seen)
     }
 
-    // What is known of an entity: its real or, where that is not here, its copy.
-    fn copy_of(&self, e: u32, told: &mut ToldCopies) -> Result<Option<GhostCopy>, AllocError>
-        ensures { (c : CellView) → let d = seeing c (here_in self.now.known.now) self.now.reals.now.items self.now.copies.now.ghosts in
-            IfOk result (λ o. o ≡ known_of e (known_to d self.now.own)) }
+    // What is known of an entity: its real as others see it or, where that is not here, its copy.
+    fn known_copy(&self, e: u32) -> Result<Option<GhostCopy>, AllocError>
+        ensures { let h = here_in self.now.known.now in
+            IfOk result (λ o. o ≡ known_with h self.now.reals.now.items self.now.copies.now.ghosts e) }
     {
-        if e == self.own {
-            return Ok(None);
-        }
         if let Some(parcel) = self.reals.get(e) {
-            let copy = told.copy_for_others(&self.known.defs, e, &parcel.real.observed())?;
-            return Ok(Some(copy));
+            let shown = parcel.real.observed().copy_for_others(&self.known.defs)?;
+            return Ok(Some(shown));
         }
         let Some(copy) = self.copies.get(e) else {
             return Ok(None);
         };
-        let shown = told.copy_for_others(&self.known.defs, e, &Observed::of_copy(copy))?;
+        let shown = Observed::of_copy(copy).copy_for_others(&self.known.defs)?;
         Ok(Some(shown))
+    }
+
+    // What is known of another entity: what was told of it, or else what is found of it, which is kept.
+    fn copy_of(&self, e: u32, told: &mut ToldCopies) -> Result<Option<GhostCopy>, AllocError>
+        requires told { let h = here_in self.now.known.now in
+            AreToldBut self.now.own (known_with h self.now.reals.now.items self.now.copies.now.ghosts) told.old }
+        ensures copy { (c : CellView) →
+            let d = seeing c (here_in self.now.known.now) self.now.reals.now.items self.now.copies.now.ghosts in
+            IfOk result (λ o. o ≡ known_of e (known_to d self.now.own)) }
+        ensures told { let h = here_in self.now.known.now in
+            AreStillTold self.now.own (known_with h self.now.reals.now.items self.now.copies.now.ghosts) told.old told.new }
+    {
+        if e == self.own {
+            return Ok(None);
+        }
+        if let Some(copy) = told.copy_of(e)? {
+            return Ok(Some(copy));
+        }
+        let Some(copy) = self.known_copy(e)? else {
+            return Ok(None);
+        };
+        told.keep(e, &copy);
+        Ok(Some(copy))
     }
 
     // What is shown for a look, if anything is.
     fn shown_for(&self, look: &Look, told: &mut ToldCopies) -> Result<Option<Shown>, AllocError>
-        ensures { (c : CellView) → let d = seeing c (here_in self.now.known.now) self.now.reals.now.items self.now.copies.now.ghosts in
+        requires told { let h = here_in self.now.known.now in
+            AreToldBut self.now.own (known_with h self.now.reals.now.items self.now.copies.now.ghosts) told.old }
+        ensures shown { (c : CellView) →
+            let d = seeing c (here_in self.now.known.now) self.now.reals.now.items self.now.copies.now.ghosts in
             IfOk result (λ o. o ≡ shown_for (known_to d self.now.own) look.now) }
+        ensures told { let h = here_in self.now.known.now in
+            AreStillTold self.now.own (known_with h self.now.reals.now.items self.now.copies.now.ghosts) told.old told.new }
     {
         match look {
             Look::Leave(e) => Ok(Some(Shown::Leave(*e))),
@@ -226,8 +253,13 @@ impl Sight<'_> {
         told: &mut ToldCopies,
         shown: &mut VecDeque<Shown>,
     ) -> Result<(), AllocError>
-        ensures { (c : CellView) → let d = seeing c (here_in self.now.known.now) self.now.reals.now.items self.now.copies.now.ghosts in
+        requires told { let h = here_in self.now.known.now in
+            AreToldBut self.now.own (known_with h self.now.reals.now.items self.now.copies.now.ghosts) told.old }
+        ensures shown { (c : CellView) →
+            let d = seeing c (here_in self.now.known.now) self.now.reals.now.items self.now.copies.now.ghosts in
             OnOk result (shown.new.items ≡ shown.old.items ++ filter_map (shown_for (known_to d self.now.own)) looks.now) }
+        ensures told { let h = here_in self.now.known.now in
+            AreStillTold self.now.own (known_with h self.now.reals.now.items self.now.copies.now.ghosts) told.old told.new }
     {
         for look in looks {
             let item = self.shown_for(look, told)?;
@@ -261,9 +293,13 @@ impl Sight<'_> {
         looks: &[Look],
         told: &mut ToldCopies,
     ) -> Result<VecDeque<Shown>, AllocError>
-        ensures { (c : CellView) → let h = here_in self.now.known.now in
+        requires told { let h = here_in self.now.known.now in
+            AreToldBut self.now.own (known_with h self.now.reals.now.items self.now.copies.now.ghosts) told.old }
+        ensures shown { (c : CellView) → let h = here_in self.now.known.now in
             let d = seeing c h self.now.reals.now.items self.now.copies.now.ghosts in
             IfOk result (λ q. q.items ≡ all_shown h real.now.core (witness_of witness.now) (known_to d self.now.own) looks.now) }
+        ensures told { let h = here_in self.now.known.now in
+            AreStillTold self.now.own (known_with h self.now.reals.now.items self.now.copies.now.ghosts) told.old told.new }
     {
         // Besides the looks there is the own state.
         let mut shown = VecDeque::with_capacity(self.alloc, looks.len().saturating_add(1))?;
@@ -279,6 +315,8 @@ impl Sight<'_> {
         witness: &mut Witness,
         told: &mut ToldCopies,
     ) -> Result<Glance, AllocError>
+        requires told { let h = here_in self.now.known.now in
+            AreToldBut self.now.own (known_with h self.now.reals.now.items self.now.copies.now.ghosts) told.old }
         ensures same { witness_of witness.new ≡ witness_of witness.old }
         ensures rising { IfOk result (λ g. IsStrictlySortedBy nat_cmp (map (λ s. s.entity) g.seen.items)) }
         ensures near { (c : CellView) → let h = here_in self.now.known.now in let own = real.now.core.state.pos in
@@ -291,6 +329,8 @@ impl Sight<'_> {
             let d = seeing c h self.now.reals.now.items self.now.copies.now.ghosts in
             IfOk result (λ g. g.shown.items ≡ shown_of h real.now.core (witness_of witness.old) (known_to d self.now.own)) }
         ensures room { IfOk result (λ g. HasRoom witness.new.view g.looks.items) }
+        ensures told { let h = here_in self.now.known.now in
+            AreStillTold self.now.own (known_with h self.now.reals.now.items self.now.copies.now.ghosts) told.old told.new }
     {
         let own = real.state().pos;
         let seen = self.seen(own, &witness.view)?;
@@ -310,6 +350,8 @@ impl Sight<'_> {
     ) -> Result<(), AllocError>
         requires bases { 1 ≤ self.now.known.now.settings.bases }
         requires most { self.now.known.now.settings.bases ≤ MOST_BASE_NODES }
+        requires told { let h = here_in self.now.known.now in
+            AreToldBut self.now.own (known_with h self.now.reals.now.items self.now.copies.now.ghosts) told.old }
         ensures witness { (c : CellView) → let h = here_in self.now.known.now in
             let d = seeing c h self.now.reals.now.items self.now.copies.now.ghosts in
             OnOk result (witness_of witness.new ≡ looked h real.now.core (witness_of witness.old) (known_to d self.now.own)) }
@@ -319,6 +361,8 @@ impl Sight<'_> {
             ≡ out.old.items ++ told_at_look h real.now.core (witness_of witness.old) (known_to d self.now.own)) }
         ensures err { OnErr result (witness_of witness.new ≡ witness_of witness.old) }
         ensures err_out { OnErr result (out.new.items ≡ out.old.items) }
+        ensures told { let h = here_in self.now.known.now in
+            AreStillTold self.now.own (known_with h self.now.reals.now.items self.now.copies.now.ghosts) told.old told.new }
     {
         let glance = self.get_ready(real, witness, told)?;
         let updates = count(&glance.shown);
@@ -415,6 +459,7 @@ fn look_around(
     requires marks { AreKept reals.old }
     requires bases { 1 ≤ known.now.settings.bases }
     requires most { known.now.settings.bases ≤ MOST_BASE_NODES }
+    requires told { AreTold (known_with (here_in known.now) reals.old.items.items copies.now.ghosts) told.old }
     ensures reals { (c : CellView) → let d = seeing c (here_in known.now) reals.old.items.items copies.now.ghosts in
         OnOk result (record d { reals = reals.new.items.items }
         ≡ (stepped d e (looks_around d e (table.get d.reals e) (known_to d e))).state) }
@@ -423,6 +468,7 @@ fn look_around(
     ensures err { OnErr result (reals.new.items.items ≡ reals.old.items.items) }
     ensures err_out { OnErr result (out.new.items ≡ out.old.items) }
     ensures marks { AreKept reals.new }
+    ensures told { AreTold (known_with (here_in known.now) reals.new.items.items copies.now.ghosts) told.new }
 {
     if !has_witness(reals, e) {
         return Ok(());
@@ -458,6 +504,7 @@ pub fn look_task(
     requires marks { AreKept reals.old }
     requires bases { 1 ≤ known.now.settings.bases }
     requires most { known.now.settings.bases ≤ MOST_BASE_NODES }
+    requires told { AreTold (known_at (cell_of known.now reals.old places.old lists.old)) told.old }
     ensures state { let c = cell_of known.now reals.old places.old lists.old in
         OnOk result (cell_of known.now reals.new places.new lists.new ≡ (look_next c lists.old.looks).state) }
     ensures sent { let c = cell_of known.now reals.old places.old lists.old in
@@ -465,6 +512,7 @@ pub fn look_task(
     ensures err { OnErr result (cell_of known.now reals.new places.new lists.new ≡ cell_of known.now reals.old places.old lists.old) }
     ensures err_out { OnErr result (out.new.items ≡ out.old.items) }
     ensures marks { AreKept reals.new }
+    ensures told { AreTold (known_at (cell_of known.now reals.new places.new lists.new)) told.new }
 {
     let Some(e) = lists.looks.first() else {
         return Ok(());

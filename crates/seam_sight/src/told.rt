@@ -1,20 +1,15 @@
 //! What witnesses were told of others, kept so that all who are told of one state share its values.
 
-ghost use Rattle.std.specs.Prelude.{◌≡◌, ℕ, IfOk, IfSome};
-ghost use Rattle.seam_defs.specs.declared.settings.Settings.{Settings as AllSettings};
-ghost use Rattle.seam_entity.specs.Looks.{shown_to_others};
-ghost use Rattle.seam_entity.specs.Preparing.{node_with};
+ghost use Rattle.std.specs.Prelude.{◌≡◌, ◌≢◌, ℕ, [], IfOk, Option, Some, option_map};
+ghost use Rattle.seam_call.specs.declared.shown.GhostCopy.{GhostCopy as AnyCopy};
+ghost use Rattle.seam_sight.specs.Told.{told_of, AreToldBut, AreStillTold};
 
 use indexmap::IndexMap;
 use seam_call::GhostCopy;
-use seam_defs::Defs;
-use seam_entity::Observed;
 use std::alloc::{AllocError, Global};
 use std::marker::Model;
 
-/// The copies that witnesses of a cell were told last, by entity.
-///
-/// Contracts see how many there are, and claim nothing else of them: each is compared with what is known before it is told again.
+/// The copies that witnesses of a cell were told, by entity, since what is known of entities changed last.
 #[derive(Drop)]
 pub struct ToldCopies {
     copies: IndexMap<u32, GhostCopy>,
@@ -24,18 +19,17 @@ pub struct ToldCopies {
 }
 
 impl Model for ToldCopies {
-    ghost use Rattle.std.specs.Prelude.{ℕ};
-    ghost use Rattle.indexmap.specs.IndexMap.{index_map_len};
+    ghost use Rattle.seam_sight.specs.Told.{Told};
 
-    ghost Value = { ℕ };
+    ghost Value = { Told };
 
-    ghost view = { λ t. index_map_len t.copies };
+    ghost view = { λ t. t.copies.entries };
 }
 
 impl ToldCopies {
     /// No copy.
     pub fn new(alloc: Global) -> ToldCopies
-        ensures { result ≡ 0 }
+        ensures { result ≡ [] }
     {
         ToldCopies {
             copies: IndexMap::new(alloc),
@@ -43,73 +37,53 @@ impl ToldCopies {
         }
     }
 
-    /// Forgets the copies, whose values may be shared by nothing else any more.
+    /// Forgets the copies, before what is known of entities changes.
     pub fn clear(&mut self)
-        ensures { self.new ≡ 0 }
+        ensures { self.new ≡ [] }
     {
-        self.copies.clear();
+        if !self.copies.is_empty() {
+            self.copies.clear();
+        }
     }
 
-    /// What other clients are shown of the entity.
-    pub fn copy_for_others(
-        &mut self,
-        defs: &Defs,
-        e: u32,
-        entity: &Observed<'_>,
-    ) -> Result<GhostCopy, AllocError>
-        ensures { (me : ℕ) (settings : AllSettings) → IfOk result (λ c. c
-            ≡ shown_to_others (node_with defs.now me settings) entity.now.held entity.now.ty entity.now.version entity.now.state.now) }
+    /// The copy that was told of the entity, if one was.
+    pub fn copy_of(&mut self, e: u32) -> Result<Option<GhostCopy>, AllocError>
+        ensures same { self.new ≡ self.old }
+        ensures copy { IfOk result (λ o. o ≡ told_of e self.old) }
     {
-        let place = self.place_of(e);
-        if let Some(place) = place {
-            // A place of the map is below the greatest number, so that nothing wraps.
-            self.next = place.wrapping_add(1);
-            if let Some(told) = self.told_at(place, defs, entity) {
-                return told.copy();
+        let Some((place, told)) = self.told(e) else {
+            return Ok(None);
+        };
+        let copy = told.copy()?;
+        // A place of the map is below the greatest number, so that nothing wraps.
+        self.next = place.wrapping_add(1);
+        Ok(Some(copy))
+    }
+
+    // The copy that was told of the entity, if one was, and its place.
+    fn told(&self, e: u32) -> Option<(usize, &GhostCopy)>
+        ensures { option_map (λ p. p.1.now) result ≡ told_of e self.now }
+    {
+        if let Some((entity, copy)) = self.copies.get_index(self.next) {
+            if *entity == e {
+                return Some((self.next, copy));
             }
         }
-        let copy = entity.copy_for_others(defs)?;
-        self.keep(e, place, &copy);
-        Ok(copy)
-    }
-
-    // The place of the entity's copy.
-    fn place_of(&self, e: u32) -> Option<usize> {
-        match self.copies.get_index(self.next) {
-            Some((told, _)) if *told == e => Some(self.next),
-            _ => self.copies.get_index_of(&e),
+        match self.copies.get_full(&e) {
+            Some((place, _, copy)) => Some((place, copy)),
+            None => None,
         }
     }
 
-    // The copy at the place, where the entity is still to be shown as that.
-    fn told_at(&self, place: usize, defs: &Defs, entity: &Observed<'_>) -> Option<&GhostCopy>
-        ensures { (me : ℕ) (settings : AllSettings) → IfSome result (λ c. c.now
-            ≡ shown_to_others (node_with defs.now me settings) entity.now.held entity.now.ty entity.now.version entity.now.state.now) }
+    /// Keeps the copy that is told of the entity, if there is memory for it.
+    pub fn keep(&mut self, e: u32, copy: &GhostCopy)
+        ensures { (own : ℕ) (known : ℕ → Option AnyCopy) → e ≢ own → known e ≡ Some copy.now → AreToldBut own known self.old →
+            AreStillTold own known self.old self.new }
     {
-        match self.copies.get_index(place) {
-            Some((_, told)) if entity.is_shown_as(defs, told) => Some(told),
-            _ => None,
-        }
-    }
-
-    // Keeps the entity's copy, at the place where there was one before, if there is memory for it.
-    fn keep(&mut self, e: u32, place: Option<usize>, copy: &GhostCopy) {
         let Ok(kept) = copy.copy() else {
             return;
         };
-        match place {
-            Some(place) => self.keep_at(place, kept),
-            None => {
-                let _ = self.copies.insert(e, kept);
-                self.next = self.copies.len();
-            }
-        }
-    }
-
-    // Keeps the copy in place of the one that is there.
-    fn keep_at(&mut self, place: usize, copy: GhostCopy) {
-        if let Some(told) = self.copies.get_index_mut(place) {
-            *told = copy;
-        }
+        let _ = self.copies.insert(e, kept);
+        self.next = self.copies.len();
     }
 }

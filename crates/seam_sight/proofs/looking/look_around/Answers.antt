@@ -2,10 +2,12 @@ use Rattle.std.proofs.Common.{◌∙◌, ◌++◌, [], Some, ap, sym}
 use Rattle.std.specs.FinMap as table
 use Rattle.std.proofs.lemmas.Result.{on_ok_weaker, on_err_weaker}
 use Rattle.seam_entity.specs.Witnesses.{witness_of}
+use Rattle.seam_entity.specs.Looks.{other_of_real}
 use Rattle.seam_steps.specs.Cells.{CellView}
 use Rattle.seam_parts.specs.Kept.{here_in}
 use Rattle.seam_sight.specs.Looking.{seeing}
 use Rattle.seam_sight.proofs.LookLemmas.{looked_around, told_around, put_as_it_was}
+use Rattle.seam_sight.proofs.ToldLemmas.{told_of_others, told_after_look}
 use Rattle.seam_sight.proofs.looking.look_around.Goals as goal
 
 pub returns-clause-reals : goal.returns-clause-reals
@@ -42,3 +44,17 @@ returns-clause-err c =
     c.in_ok-real.ensures.real at c.take_out.new.reals.items.items c.take_witness.new.self.core
     c.in_ok-real.ensures.items c.in-Some.ensures.after c.put_in.new.reals.items.items c.put_witness.new.self.core
     (witness_of c.look-result.new.witness) same c.put_witness.ensures c.put_in.ensures.items) c.look-result.ensures.err
+
+pub look-result-requires-clause-told : goal.look-result-requires-clause-told
+look-result-requires-clause-told c =
+    told_of_others (here_in c.args.known.now) c.args.reals.now.items.items c.args.copies.now.ghosts c.args.e c.args.told.now c.requires.told
+    c.take_out.new.reals.items.items c.in_ok-real.ensures.items
+
+pub returns-clause-told : goal.returns-clause-told
+returns-clause-told c =
+    let h = here_in c.args.known.now in
+    told_after_look h c.args.reals.now.items.items c.args.copies.now.ghosts c.args.e c.args.told.now c.look-result.new.told
+    c.take_out.new.reals.items.items c.in_ok-real.ensures.items c.requires.told c.look-result.ensures.told c.in_ok-real.real.core
+    c.put_witness.new.self.core c.in_ok-real.ensures.real
+    (ap (other_of_real h) c.put_witness.ensures ∙ ap (other_of_real h) c.in-Some.ensures.after) c.put_in.new.reals.items.items
+    c.put_in.ensures.items

@@ -1,16 +1,19 @@
-use Rattle.std.proofs.Common.{Some, ap, sym, subst}
+use Rattle.std.proofs.Common.{Some, sym, subst}
 use Rattle.seam_tree.specs.Division.{IsInSpace}
 use Rattle.seam_entity.specs.Executing.{created}
 use Rattle.seam_parts.specs.Kept.{here_in}
 use Rattle.seam_cell.proofs.LoadLemmas.{whole_or, created_fits}
+use Rattle.seam_sight.proofs.ToldLemmas.{none_told}
 use Rattle.seam_cell.proofs.cell.Cell.add_entity.Goals as goal
 
 pub invariant_of-self : goal.invariant_of-self
 invariant_of-self c =
     let old = c.self.inside in
     let made = c.args.making in
-    let h = here_in old.known in
-    whole_or old.known old.reals c.make_real.new.reals old.places old.lists made.entity (Some (created h made.entity made.ty made.pos))
-    c.make_real.result c.self.invariant c.make_real.ensures.kept c.make_real.ensures.after c.make_real.ensures.err
-    (created_fits h old.known.tree made.entity made.ty made.pos
-    (subst (λ v. IsInSpace v.tree made.pos) (sym c.self.view_is) c.requires.inside))
+    let h = here_in old.known in (
+      whole_or old.known old.reals c.make_real.new.reals old.places old.lists made.entity (Some (created h made.entity made.ty made.pos))
+          c.make_real.result c.self.invariant.0 c.make_real.ensures.kept c.make_real.ensures.after c.make_real.ensures.err
+          (created_fits h old.known.tree made.entity made.ty made.pos
+          (subst (λ v. IsInSpace v.tree made.pos) (sym c.self.view_is) c.requires.inside)),
+      none_told _ c.clear.new.self c.clear.ensures,
+    )

@@ -3,6 +3,7 @@ use Rattle.std.specs.FinMap as table
 use Rattle.seam_entity.specs.Looks.{with_witness}
 use Rattle.seam_parts.specs.Kept.{here_in}
 use Rattle.seam_cell.proofs.LoadLemmas.{whole_or, witness_fits}
+use Rattle.seam_sight.proofs.ToldLemmas.{none_told}
 use Rattle.seam_cell.proofs.cell.Cell.attach.Goals as goal
 
 pub invariant_of-self : goal.invariant_of-self
@@ -10,8 +11,10 @@ invariant_of-self c =
     let old = c.self.inside in
     let h = here_in old.known in
     let e = c.args.e in
-    let was = table.get old.reals.items.items e in
-    whole_or old.known old.reals c.give_witness.new.reals old.places old.lists e (option_map (with_witness h) was) c.give_witness.result
-    c.self.invariant c.give_witness.ensures.kept c.give_witness.ensures.after c.give_witness.ensures.err
-    (witness_fits h old.known.tree e was
-    (λ r at. (c.self.invariant.cell.cell.keys e r at, c.self.invariant.cell.there e r at)))
+    let was = table.get old.reals.items.items e in (
+      whole_or old.known old.reals c.give_witness.new.reals old.places old.lists e (option_map (with_witness h) was) c.give_witness.result
+          c.self.invariant.0 c.give_witness.ensures.kept c.give_witness.ensures.after c.give_witness.ensures.err
+          (witness_fits h old.known.tree e was
+          (λ r at. (c.self.invariant.0.cell.cell.keys e r at, c.self.invariant.0.cell.there e r at))),
+      none_told _ c.clear.new.self c.clear.ensures,
+    )

@@ -4,13 +4,16 @@ use Rattle.seam_machine.specs.declared.machines.Input.TheVariants.{From}
 use Rattle.seam_entity.specs.declared.message.Msg.TheVariants.{Hand}
 use Rattle.seam_steps.specs.Cells.{cell_steps}
 use Rattle.seam_cell.proofs.StepLemmas.{whole_either}
+use Rattle.seam_sight.proofs.ToldLemmas.{none_told}
 use Rattle.seam_cell.proofs.cell.Cell.hear_hand.Goals as goal
 
 pub invariant_of-self : goal.invariant_of-self
 invariant_of-self c =
-    let old = c.self.inside in
-    whole_either old.known old.reals c.arrive.new.reals old.places c.arrive.new.places old.lists old.lists (From 0 (Hand c.args.parcel))
-    c.arrive.result c.self.invariant c.arrive.ensures.marks (c.arrive.ensures.state old.lists 0) (c.arrive.ensures.err old.lists)
+    let old = c.self.inside in (
+      whole_either old.known old.reals c.arrive.new.reals old.places c.arrive.new.places old.lists old.lists (From 0 (Hand c.args.parcel))
+          c.arrive.result c.self.invariant.0 c.arrive.ensures.marks (c.arrive.ensures.state old.lists 0) (c.arrive.ensures.err old.lists),
+      none_told _ c.clear.new.self c.clear.ensures,
+    )
 
 pub returns-clause-state : goal.returns-clause-state
 returns-clause-state c from =

@@ -4,13 +4,16 @@ use Rattle.seam_machine.specs.declared.machines.Input.TheVariants.{From}
 use Rattle.seam_entity.specs.declared.message.Msg.TheVariants.{Reap}
 use Rattle.seam_steps.specs.Cells.{cell_steps}
 use Rattle.seam_cell.proofs.StepLemmas.{whole_either}
+use Rattle.seam_sight.proofs.ToldLemmas.{none_told}
 use Rattle.seam_cell.proofs.cell.Cell.hear_reap.Goals as goal
 
 pub invariant_of-self : goal.invariant_of-self
 invariant_of-self c =
-    let old = c.self.inside in
-    whole_either old.known old.reals c.reap.new.reals old.places c.reap.new.places old.lists c.reap.new.lists (From 0 (Reap c.args.e))
-    c.reap.result c.self.invariant c.reap.ensures.marks (c.reap.ensures.state old.known 0) (c.reap.ensures.err old.known)
+    let old = c.self.inside in (
+      whole_either old.known old.reals c.reap.new.reals old.places c.reap.new.places old.lists c.reap.new.lists (From 0 (Reap c.args.e))
+          c.reap.result c.self.invariant.0 c.reap.ensures.marks (c.reap.ensures.state old.known 0) (c.reap.ensures.err old.known),
+      none_told _ c.clear.new.self c.clear.ensures,
+    )
 
 pub returns-clause-state : goal.returns-clause-state
 returns-clause-state c from =

@@ -4,9 +4,10 @@ use Rattle.std.proofs.lemmas.Result.{on_ok_weaker, on_err_weaker}
 use Rattle.seam_machine.specs.declared.machines.Input.TheVariants.{From}
 use Rattle.seam_entity.specs.declared.message.Msg.TheVariants.{Call}
 use Rattle.seam_steps.specs.Cells.{cell_steps}
-use Rattle.seam_parts.specs.Kept.{cell_of, AreWhole}
+use Rattle.seam_parts.specs.Kept.{AreWhole}
 use Rattle.seam_cell.specs.Calling.{is_called, IsTurn}
 use Rattle.seam_cell.proofs.StepLemmas.{by_result, whole_after, whole_again, held_sends, held_left, held_not}
+use Rattle.seam_sight.proofs.ToldLemmas.{none_told}
 use Rattle.seam_cell.proofs.cell.Cell.hold_call.Goals as goal
 
 pub returns-in_default-clause-sent : goal.returns-in_default-clause-sent
@@ -24,17 +25,20 @@ invariant_of-self-2 c =
     let items =
     c.put_in.ensures.items ∙ ap (λ w. table.insert w k.entity held.real.core) c.in-Ok.ensures.items in
     let may = subst (λ v. is_called v k ≡ true) (sym c.self.view_is) c.requires.may in
-    let not_turn = subst (λ v. IsTurn v k → ⊥) (sym c.self.view_is) c.requires.not_turn in
-    by_result held.result (AreWhole old.known s old.places old.lists)
-    (on_ok_weaker held.result
-    (λ is. whole_after old.known old.reals s old.places old.places old.lists old.lists (From 0 (Call k)) c.self.invariant
-    c.put_in.ensures.kept
-    (held_left old.known old.reals s old.places old.lists k c.in-Ok.real.core held.real.core c.in-Ok.ensures.real items may not_turn is 0))
-    c.hold-held.ensures.after)
-    (on_err_weaker held.result
-    (λ is. whole_again old.known old.reals s old.places old.places old.lists old.lists c.self.invariant c.put_in.ensures.kept
-    (held_not old.known old.reals s old.places old.lists k.entity c.in-Ok.real.core held.real.core c.in-Ok.ensures.real items is))
-    c.hold-held.ensures.err)
+    let not_turn = subst (λ v. IsTurn v k → ⊥) (sym c.self.view_is) c.requires.not_turn in (
+      by_result held.result (AreWhole old.known s old.places old.lists)
+          (on_ok_weaker held.result
+          (λ is. whole_after old.known old.reals s old.places old.places old.lists old.lists (From 0 (Call k)) c.self.invariant.0
+          c.put_in.ensures.kept
+          (held_left old.known old.reals s old.places old.lists k c.in-Ok.real.core held.real.core c.in-Ok.ensures.real items may
+          not_turn is 0))
+          c.hold-held.ensures.after)
+          (on_err_weaker held.result
+          (λ is. whole_again old.known old.reals s old.places old.places old.lists old.lists c.self.invariant.0 c.put_in.ensures.kept
+          (held_not old.known old.reals s old.places old.lists k.entity c.in-Ok.real.core held.real.core c.in-Ok.ensures.real items is))
+          c.hold-held.ensures.err),
+      none_told _ c.clear.new.self c.clear.ensures,
+    )
 
 pub returns-clause-state : goal.returns-clause-state
 returns-clause-state c from =

@@ -15,10 +15,13 @@ module _ (c : goal.After-look_task) where
 
 pub invariant_of-self : goal.invariant_of-self
 invariant_of-self c =
-    let old = c.self.inside in
-    whole_either old.known old.reals c.look_task.new.reals old.places c.look_task.new.places old.lists c.look_task.new.lists Task c.look_task.result
-    c.self.invariant c.look_task.ensures.marks
-    (on_ok_weaker c.look_task.result (λ e. e ∙ ap (λ w. w.state) (sym (looks c))) c.look_task.ensures.state) c.look_task.ensures.err
+    let old = c.self.inside in (
+      whole_either old.known old.reals c.look_task.new.reals old.places c.look_task.new.places old.lists c.look_task.new.lists
+          Task c.look_task.result
+          c.self.invariant.0 c.look_task.ensures.marks
+          (on_ok_weaker c.look_task.result (λ e. e ∙ ap (λ w. w.state) (sym (looks c))) c.look_task.ensures.state) c.look_task.ensures.err,
+      c.look_task.ensures.told,
+    )
 
 pub returns-clause-state : goal.returns-clause-state
 returns-clause-state c =

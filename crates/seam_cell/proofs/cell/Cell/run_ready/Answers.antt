@@ -1,4 +1,4 @@
-use Rattle.std.proofs.Common.{◌≡◌, ◌++◌, ◌&&◌, true, Some, OnOk, OnErr, ap, sym, option_map, ◌∙◌}
+use Rattle.std.proofs.Common.{◌≡◌, ◌++◌, true, Some, OnOk, OnErr, ap, sym, option_map, ◌∙◌}
 use Rattle.std.specs.FinMap as table
 use Rattle.std.proofs.lemmas.Result.{on_ok_weaker, on_err_weaker}
 use Rattle.seam_machine.specs.declared.machines.Input.TheVariants.{Task}
@@ -11,11 +11,12 @@ use Rattle.seam_cell.specs.Calling.{may_run}
 use Rattle.seam_parts.specs.Stepping.{core_of}
 use Rattle.seam_entity.proofs.HeldLemmas.{both}
 use Rattle.seam_cell.proofs.StepLemmas.{by_result, both_err, whole_after, whole_again, undone, ready_left, TaskLeaves}
+use Rattle.seam_sight.proofs.ToldLemmas.{none_told}
 use Rattle.seam_cell.proofs.cell.Cell.run_ready.Goals as goal
 
 pub execute_ready-tasked-requires-clause-there : goal.execute_ready-tasked-requires-clause-there
 execute_ready-tasked-requires-clause-there c =
-    c.self.invariant.cell.there c.args.e c.in_ok-real.real.core c.in_ok-real.ensures.real
+    c.self.invariant.0.cell.there c.args.e c.in_ok-real.real.core c.in_ok-real.ensures.real
 
 module _ (c : goal.After-put_after) where
   abbrev items : c.put_after.new.reals.items.items
@@ -48,7 +49,7 @@ module _ (c : goal.After-put_after) where
       (λ done. ready_left was.known was.reals c.put_after.new.reals was.places c.execute_ready-tasked.new.places was.lists
       c.put_after.new.lists c.args.out.now c.execute_ready-tasked.new.out c.args.e c.in_ok-real.real.core
       (option_map core_of c.execute_ready-tasked.result.left) c.in_ok-real.ensures.real items c.put_after.ensures.survey
-      c.put_after.ensures.looks c.self.invariant surveyed ready may done)
+      c.put_after.ensures.looks c.self.invariant.0 surveyed ready may done)
       c.execute_ready-tasked.ensures.done
 
   rests : OnErr c.execute_ready-tasked.result.result (new ≡ old)
@@ -67,12 +68,14 @@ invariant_of-self-2 c =
     let s = c.put_after.new.reals in
     let q = c.execute_ready-tasked.new.places in
     let m = c.put_after.new.lists in
-    let kept = c.put_after.ensures.kept in
-    by_result c.execute_ready-tasked.result.result (AreWhole was.known s q m)
-    (on_ok_weaker c.execute_ready-tasked.result.result
-    (λ is. whole_after was.known was.reals s was.places q was.lists m Task c.self.invariant kept is.state) (leaves c))
-    (on_err_weaker c.execute_ready-tasked.result.result
-    (λ is. whole_again was.known was.reals s was.places q was.lists m c.self.invariant kept is) (rests c))
+    let kept = c.put_after.ensures.kept in (
+      by_result c.execute_ready-tasked.result.result (AreWhole was.known s q m)
+          (on_ok_weaker c.execute_ready-tasked.result.result
+          (λ is. whole_after was.known was.reals s was.places q was.lists m Task c.self.invariant.0 kept is.state) (leaves c))
+          (on_err_weaker c.execute_ready-tasked.result.result
+          (λ is. whole_again was.known was.reals s was.places q was.lists m c.self.invariant.0 kept is) (rests c)),
+      none_told _ c.clear.new.self c.clear.ensures,
+    )
 
 pub returns-clause-state : goal.returns-clause-state
 returns-clause-state c =

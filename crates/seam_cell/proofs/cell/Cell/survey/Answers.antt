@@ -3,14 +3,17 @@ use Rattle.std.proofs.lemmas.Result.{on_ok_weaker, on_err_weaker}
 use Rattle.seam_machine.specs.declared.machines.Input.TheVariants.{Task}
 use Rattle.seam_steps.specs.Cells.{cell_steps}
 use Rattle.seam_cell.proofs.StepLemmas.{whole_either}
+use Rattle.seam_sight.proofs.ToldLemmas.{none_told}
 use Rattle.seam_cell.proofs.cell.Cell.survey.Goals as goal
 
 pub invariant_of-self : goal.invariant_of-self
 invariant_of-self c =
     let old = c.self.inside in
-    let new = c.survey_task.new in
-    whole_either old.known old.reals new.reals old.places new.places old.lists new.lists Task c.survey_task.result c.self.invariant
-    c.survey_task.ensures.marks c.survey_task.ensures.state c.survey_task.ensures.err
+    let new = c.survey_task.new in (
+      whole_either old.known old.reals new.reals old.places new.places old.lists new.lists Task c.survey_task.result c.self.invariant.0
+          c.survey_task.ensures.marks c.survey_task.ensures.state c.survey_task.ensures.err,
+      none_told _ c.clear.new.self c.clear.ensures,
+    )
 
 pub returns-clause-state : goal.returns-clause-state
 returns-clause-state c =

@@ -7,24 +7,32 @@ use Rattle.seam_steps.specs.Cells.{CellView, known_to}
 use Rattle.seam_parts.specs.Kept.{here_in}
 use Rattle.seam_parts.specs.News.{listed}
 use Rattle.seam_sight.specs.Looking.{seeing}
+use Rattle.seam_sight.specs.Told.{known_with}
+use Rattle.seam_sight.proofs.ToldLemmas.{told_again}
 use Rattle.seam_sight.proofs.LookLemmas.{shown_more}
 use Rattle.seam_sight.proofs.looking.Sight.add_all.Goals as goal
 
 pub loop-look-preserved : goal.loop-look-preserved
-loop-look-preserved c = λ k.
-    let d : CellView = seeing k (here_in c.args.self.now.known.now) c.args.self.now.reals.now.items c.args.self.now.copies.now.ghosts in
-    let f = shown_for (known_to d c.args.self.now.own) in
-    let i = c.loop-look.look-index in
-    let look = get_or c.args.looks.now i (Leave 0) in
-    c.in_ok-push_if.ensures
-    ∙ (ap (λ o. c.loop-look.shown.items ++ listed o) (c.in_ok-item.ensures k)
-    ∙ (ap (λ l. l ++ listed (f look)) (c.loop-look.invariant k)
-    ∙ (append_assoc c.args.shown.now.items (filter_map f (take i c.args.looks.now)) (listed (f look))
-    ∙ ap (λ l. c.args.shown.now.items ++ l) (sym (shown_more f c.args.looks.now i (Leave 0) c.loop-look-test.true)))))
+loop-look-preserved c =
+    let known = known_with (here_in c.args.self.now.known.now) c.args.self.now.reals.now.items c.args.self.now.copies.now.ghosts in (
+      λ k.
+          let d : CellView =
+          seeing k (here_in c.args.self.now.known.now) c.args.self.now.reals.now.items c.args.self.now.copies.now.ghosts in
+          let f = shown_for (known_to d c.args.self.now.own) in
+          let i = c.loop-look.look-index in
+          let look = get_or c.args.looks.now i (Leave 0) in
+          c.in_ok-push_if.ensures
+          ∙ (ap (λ o. c.loop-look.shown.items ++ listed o) (c.in_ok-item.ensures.shown k)
+          ∙ (ap (λ l. l ++ listed (f look)) (c.loop-look.invariant.0 k)
+          ∙ (append_assoc c.args.shown.now.items (filter_map f (take i c.args.looks.now)) (listed (f look))
+          ∙ ap (λ l. c.args.shown.now.items ++ l) (sym (shown_more f c.args.looks.now i (Leave 0) c.loop-look-test.true))))),
+      told_again c.args.self.now.own known c.args.told.now c.loop-look.told c.shown_for.new.told c.loop-look.invariant.1
+          c.shown_for.ensures.told,
+    )
 
-pub returns : goal.returns
-returns c = λ k.
+pub returns-clause-shown : goal.returns-clause-shown
+returns-clause-shown c = λ k.
     let d : CellView = seeing k (here_in c.args.self.now.known.now) c.args.self.now.reals.now.items c.args.self.now.copies.now.ghosts in
     let f = shown_for (known_to d c.args.self.now.own) in
-    c.loop-look.invariant k
+    c.loop-look.invariant.0 k
     ∙ ap (λ l. c.args.shown.now.items ++ l) (ap (filter_map f) (take_all c.loop-look.look-index c.args.looks.now c.loop-look-test.false))

@@ -1,4 +1,4 @@
-use Rattle.std.proofs.Common.{◌∙◌, [], ap, sym, subst, map, not}
+use Rattle.std.proofs.Common.{◌∙◌, [], sym, subst, map, not}
 use Rattle.std.specs.List.{filter}
 use Rattle.std.specs.Ordering.{nat_cmp}
 use Rattle.std.specs.List.Sorted.{IsStrictlySortedBy}
@@ -52,7 +52,7 @@ returns-clause-shown c = λ k.
     ∙ (looks_same core c.state.result.now.pos known c.in_ok-seen.seen.items (known_in_order d c.args.self.now.own)
     (c.in_ok-seen.ensures.near k) (subst IsView c.in_ok-planned.ensures.same c.in_ok-looks.ensures.view)
     ∙ λ i. one_look core (c.state.ensures i).pos known))) in
-    c.in_ok-shown.ensures k
+    c.in_ok-shown.ensures.shown k
     ∙ λ i. all_shown (here_in c.args.self.now.known.now) c.args.real.now.core
     (record { view = c.in_ok-planned.ensures.same i; told = c.args.witness.now.told; sent = c.args.witness.now.sent })
     (known_to d c.args.self.now.own) ((c.deref-2.ensures.value ∙ looks) i)
