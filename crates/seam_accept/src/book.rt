@@ -17,9 +17,7 @@ use crate::answers::{Accepted, Refusal};
 use crate::command::{Command, Form, read_line};
 use crate::count::next_len;
 use crate::entity::{Entity, keep_destroyed, keep_last};
-use crate::judging::{
-    judge_call, judge_client, judge_create, judge_cut, judge_destroy, judge_shift,
-};
+use crate::judging::{judge_call, judge_client, judge_create, judge_destroy, make_cut, make_shift};
 use indexmap::IndexMap;
 use seam_call::{Batch, Call, Create, Order, Sender};
 use seam_defs::{Listed, Part};
@@ -159,8 +157,8 @@ impl Book {
                 self.add_client(entity)?;
             }
             Form::Tick => self.add_tick()?,
-            Form::Cut(words) => self.tree = judge_cut(&self.tree, words)?,
-            Form::Shift(words) => self.tree = judge_shift(&self.tree, words)?,
+            Form::Cut(words) => make_cut(&mut self.tree, words)?,
+            Form::Shift(words) => make_shift(&mut self.tree, words)?,
             Form::Balance => self.balance = true,
             Form::Destroy(word) => {
                 let entity = judge_destroy(&self.entities, word)?;

@@ -1,5 +1,5 @@
 // The judging of commands: the first cause that holds against one, or what it adds.
-ghost use Rattle.std.specs.Prelude.{◌≡◌, Some, IfOk, IfErr};
+ghost use Rattle.std.specs.Prelude.{◌≡◌, Some, IfOk, IfErr, OnOk, OnErr};
 ghost use Rattle.seam_toml.specs.declared.header.Header.{Header as Headers};
 ghost use Rattle.seam_transcript.specs.Language.{Client, Destroy};
 ghost use Rattle.seam_transcript.specs.Book.{Book, tree_of};
@@ -101,12 +101,13 @@ pub fn judge_destroy(entities: &IndexMap<u32, Entity>, word: &[u8]) -> Result<u3
     }
 }
 
-/// The tree that a `cut` makes of this one.
-pub fn judge_cut(tree: &Tree, words: &CutWords) -> Result<Tree, Cause>
-    ensures judged { IfOk result (λ t. (h : Headers) (b : Book) → tree.now ≡ tree_of b
-        → Judged h b (cut_of words.now) (Some (Entry.Divided t))) }
-    ensures refused { IfErr result (λ k. (h : Headers) (b : Book) → tree.now ≡ tree_of b
+/// Cuts the tree as a `cut` asks.
+pub fn make_cut(tree: &mut Tree, words: &CutWords) -> Result<(), Cause>
+    ensures judged { OnOk result ((h : Headers) (b : Book) → tree.old ≡ tree_of b
+        → Judged h b (cut_of words.now) (Some (Entry.Divided tree.new))) }
+    ensures refused { IfErr result (λ k. (h : Headers) (b : Book) → tree.old ≡ tree_of b
         → IsFirst (HoldsAgainst h b (cut_of words.now)) k) }
+    ensures unchanged { OnErr result (tree.new ≡ tree.old) }
 {
     let Some(cell) = whole_number(words.cell) else {
         return Err(Cause::BadNumber);
@@ -117,19 +118,19 @@ pub fn judge_cut(tree: &Tree, words: &CutWords) -> Result<Tree, Cause>
     let Some(at) = whole_number(words.at) else {
         return Err(Cause::BadNumber);
     };
-    let mut after = *tree;
-    match after.cut(cell, axis, at) {
-        Ok(_) => Ok(after),
+    match tree.cut(cell, axis, at) {
+        Ok(_) => Ok(()),
         Err(error) => Err(Cause::CutRefused(error)),
     }
 }
 
-/// The tree that a `shift` makes of this one.
-pub fn judge_shift(tree: &Tree, words: &ShiftWords) -> Result<Tree, Cause>
-    ensures judged { IfOk result (λ t. (h : Headers) (b : Book) → tree.now ≡ tree_of b
-        → Judged h b (shift_of words.now) (Some (Entry.Divided t))) }
-    ensures refused { IfErr result (λ k. (h : Headers) (b : Book) → tree.now ≡ tree_of b
+/// Moves the boundary of the tree that a `shift` asks for.
+pub fn make_shift(tree: &mut Tree, words: &ShiftWords) -> Result<(), Cause>
+    ensures judged { OnOk result ((h : Headers) (b : Book) → tree.old ≡ tree_of b
+        → Judged h b (shift_of words.now) (Some (Entry.Divided tree.new))) }
+    ensures refused { IfErr result (λ k. (h : Headers) (b : Book) → tree.old ≡ tree_of b
         → IsFirst (HoldsAgainst h b (shift_of words.now)) k) }
+    ensures unchanged { OnErr result (tree.new ≡ tree.old) }
 {
     let Some(boundary) = whole_number(words.boundary) else {
         return Err(Cause::BadNumber);
@@ -137,9 +138,8 @@ pub fn judge_shift(tree: &Tree, words: &ShiftWords) -> Result<Tree, Cause>
     let Some(at) = whole_number(words.at) else {
         return Err(Cause::BadNumber);
     };
-    let mut after = *tree;
-    match after.shift(boundary, at) {
-        Ok(()) => Ok(after),
+    match tree.shift(boundary, at) {
+        Ok(()) => Ok(()),
         Err(error) => Err(Cause::ShiftRefused(error)),
     }
 }

@@ -17,7 +17,7 @@ ghost use Rattle.seam_steps.specs.BaseCases.{may_show, may_execute, with_deed, w
 ghost use Rattle.seam_base.specs.Parts.{part_of, client_in, shows, told, with_state};
 ghost use Rattle.seam_base.specs.Parts.{with_orders, with_call, with_ready_call, HasLine, HasRoom};
 
-use crate::part::{BasePart, Body, Proxy};
+use crate::part::{BasePart, Body, Proxy, reserve_line};
 use seam_call::{Call, ClientText, Sender};
 use seam_defs::{Defs, Group, State, TypeDef};
 use seam_entity::reserve_one;
@@ -32,13 +32,13 @@ struct After {
     text: Option<ClientText>,
 }
 
-// Makes room for a line.
-fn reserve_line(proxy: &mut Option<Box<Proxy>>) -> Result<(), AllocError>
+// Makes room for a line of the client, if there is one.
+fn reserve_client(proxy: &mut Option<Box<Proxy>>) -> Result<(), AllocError>
     ensures same { option_map client_in proxy.new ≡ option_map client_in proxy.old }
     ensures room { OnOk result (HasLine proxy.new) }
 {
     match proxy {
-        Some(proxy) => return reserve_one(&mut proxy.lines),
+        Some(proxy) => return reserve_line(&mut proxy.lines),
         None => return Ok(()),
     }
 }
@@ -51,7 +51,7 @@ fn make_place(body: &mut Body) -> Result<(), AllocError>
     ensures line { OnOk result (HasLine body.new.proxy) }
 {
     reserve_one(&mut body.done)?;
-    reserve_line(&mut body.proxy)
+    reserve_client(&mut body.proxy)
 }
 
 // Makes room for a call of the sender whose turn it is, and for a line.

@@ -169,12 +169,12 @@ impl Base {
         self.parts.offer(&self.known, call)
     }
 
-    // Update: it is offered to the client, if there is one, and shown in its turn.
-    fn hear_update(&mut self, update: Update) -> Result<(), NoMemoryFor<Update>>
-        ensures after { OnOk result (self.new ≡ (unless_stray (stray_update update (table.get self.old.parts update.entity)) self.old
-            (sends_none (update_case self.old update (table.get self.old.parts update.entity)))).state) }
+    // Update: it is offered to the client, if there is one, and shown in its turn. It is used up then.
+    fn hear_update(&mut self, update: &mut Update) -> Result<(), AllocError>
+        ensures after { OnOk result (self.new ≡ (unless_stray (stray_update update.old (table.get self.old.parts update.old.entity)) self.old
+            (sends_none (update_case self.old update.old (table.get self.old.parts update.old.entity)))).state) }
         ensures err { OnErr result (self.new ≡ self.old) }
-        ensures err_item { IfErr result (λ e. e.item ≡ update) }
+        ensures err_update { OnErr result (update.new ≡ update.old) }
     {
         self.parts.offer_update(update)
     }
@@ -209,11 +209,11 @@ impl Base {
                 self.hear_current(e, Route { cell, generation });
                 return Ok(());
             }
-            Msg::Update(update) => match self.hear_update(update) {
+            Msg::Update(mut update) => match self.hear_update(&mut update) {
                 Ok(()) => return Ok(()),
-                Err(refused) => {
+                Err(_) => {
                     return Err(NoMemoryFor {
-                        item: Msg::Update(refused.item),
+                        item: Msg::Update(update),
                     });
                 }
             },

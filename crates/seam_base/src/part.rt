@@ -1,6 +1,6 @@
 //! The base part of an entity.
 
-ghost use Rattle.std.specs.Prelude.{◌≡◌, ◌<◌, ℕ, IfOk, true, false, is_some, Some, vec_len, vec_capacity};
+ghost use Rattle.std.specs.Prelude.{◌≡◌, ◌<◌, ℕ, IfOk, OnOk, true, false, is_some, Some, vec_len, vec_capacity};
 ghost use Rattle.seam_defs.specs.declared.settings.Settings.{Settings as AllSettings};
 ghost use Rattle.seam_entity.specs.Numbers.{may_rise as number_may_rise};
 ghost use Rattle.seam_steps.specs.Bases.{with_line};
@@ -20,6 +20,18 @@ use seam_geo::Pos;
 use seam_order::InOrder;
 use std::alloc::{AllocError, Global};
 use std::marker::Model;
+
+/// Makes room for one more line. A client that is shown a line is most often shown many, so a full list gets room for three times as
+/// many as it has.
+pub(crate) fn reserve_line(lines: &mut Vec<Line>) -> Result<(), AllocError>
+    ensures same { lines.new.items ≡ lines.old.items }
+    ensures room { OnOk result (vec_len lines.new < vec_capacity lines.new) }
+{
+    if lines.len() < lines.capacity() {
+        return Ok(());
+    }
+    lines.reserve_exact(lines.len().saturating_mul(3).max(4))
+}
 
 #[derive(Drop)]
 pub(crate) struct Proxy {

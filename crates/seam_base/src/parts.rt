@@ -77,22 +77,20 @@ fn least_of(marks: &Table<()>) -> Option<u32>
 fn update_part(
     part: &mut BasePart,
     updates: &mut Table<()>,
-    update: Update,
-) -> Result<(), NoMemoryFor<Update>>
-    requires fits { stray_proxy_update update part.old.proxy ≡ false }
-    ensures after { OnOk result (part.new ≡ with_update update part.old) }
+    update: &mut Update,
+) -> Result<(), AllocError>
+    requires fits { stray_proxy_update update.old part.old.proxy ≡ false }
+    ensures after { OnOk result (part.new ≡ with_update update.old part.old) }
     ensures err { OnErr result (part.new ≡ part.old) }
-    ensures err_item { IfErr result (λ e. e.item ≡ update) }
-    ensures marks { (parts : Map PartView) → Some part.old ≡ table.get parts update.entity →
-        AreMarked has_update updates.old.items parts → AreMarked has_update updates.new.items (table.insert parts update.entity part.new) }
+    ensures err_update { OnErr result (update.new ≡ update.old) }
+    ensures marks { (parts : Map PartView) → Some part.old ≡ table.get parts update.old.entity →
+        AreMarked has_update updates.old.items parts → AreMarked has_update updates.new.items (table.insert parts update.old.entity part.new) }
 {
-    if part.stays_as_ready(&update) {
+    if part.stays_as_ready(update) {
         return part.offer_update(update);
     }
     let e = update.entity;
-    if updates.reserve(e).is_err() {
-        return Err(NoMemoryFor { item: update });
-    }
+    updates.reserve(e)?;
     let done = part.offer_update(update);
     mark(updates, e, part.is_client_ready());
     done
@@ -102,19 +100,19 @@ fn update_part(
 fn update_in(
     items: &mut Table<BasePart>,
     updates: &mut Table<()>,
-    update: Update,
-) -> Result<(), NoMemoryFor<Update>>
+    update: &mut Update,
+) -> Result<(), AllocError>
     requires marks { AreMarked has_update updates.old.items items.old.items }
-    ensures after { OnOk result (items.new.items ≡ parts_with_update update items.old.items) }
+    ensures after { OnOk result (items.new.items ≡ parts_with_update update.old items.old.items) }
     ensures err { OnErr result (items.new.items ≡ items.old.items) }
-    ensures err_item { IfErr result (λ e. e.item ≡ update) }
+    ensures err_update { OnErr result (update.new ≡ update.old) }
     ensures marks { AreMarked has_update updates.new.items items.new.items }
     ensures others { PassAlike has_call items.old.items items.new.items }
 {
     let Some(part) = items.get_mut(update.entity) else {
         return Ok(());
     };
-    if part.refuses(&update) {
+    if part.refuses(update) {
         return Ok(());
     }
     update_part(part, updates, update)
@@ -295,13 +293,14 @@ impl Parts {
         ready_in(&mut self.items, &mut self.calls, known, e)
     }
 
-    /// Offers the update to the client, if there is one, of the entity's part, if it is here and may be offered it.
-    pub fn offer_update(&mut self, update: Update) -> Result<(), NoMemoryFor<Update>>
-        ensures after { OnOk result (self.new ≡ parts_with_update update self.old) }
+    /// Offers the update to the client, if there is one, of the entity's part, if it is here and may be offered it. The update is
+    /// used up then.
+    pub fn offer_update(&mut self, update: &mut Update) -> Result<(), AllocError>
+        ensures after { OnOk result (self.new ≡ parts_with_update update.old self.old) }
 
-        // If allocation fails, the update comes back and nothing has changed.
+        // If allocation fails, nothing has changed.
         ensures err { OnErr result (self.new ≡ self.old) }
-        ensures err_item { IfErr result (λ e. e.item ≡ update) }
+        ensures err_update { OnErr result (update.new ≡ update.old) }
     {
         update_in(&mut self.items, &mut self.updates, update)
     }

@@ -18,10 +18,10 @@ ghost use Rattle.seam_base.specs.Nodes.{has_update};
 ghost use Rattle.seam_base.specs.Parts.{proxy_of, client_with_update, with_update, with_shown};
 
 use crate::calls::text_of;
-use crate::part::{BasePart, Proxy};
-use seam_call::{ClientText, Update};
+use crate::part::{BasePart, Proxy, reserve_line};
+use seam_call::{ClientText, Shown, Update};
 use seam_defs::{Defs, Group, Property, TypeDef};
-use seam_entity::{may_rise as number_may_rise, reserve_one};
+use seam_entity::may_rise as number_may_rise;
 use seam_memory::NoMemoryFor;
 use seam_order::{InOrder, Offer};
 use std::alloc::{AllocError, Global};
@@ -43,24 +43,18 @@ fn stays_as_ready(proxy: &Proxy, update: &Update) -> bool
     update.number != proxy.updates.next_number() || !proxy.updates.holds(update.number + 1)
 }
 
-// Offers the update to the client's order. In its turn it is shown.
-fn offer_update(proxy: &mut Proxy, update: Update) -> Result<(), NoMemoryFor<Update>>
-    requires may { may_offer proxy.old.updates update.number ≡ true }
+// Offers the update to the client's order. In its turn it is shown. What it shows is taken out of it, so that it is moved once.
+fn offer_update(proxy: &mut Proxy, update: &mut Update) -> Result<(), AllocError>
+    requires may { may_offer proxy.old.updates update.old.number ≡ true }
     requires small { may_rise proxy.old.last ≡ true }
     ensures after { OnOk result (proxy_of proxy.new
-        ≡ offered_update (proxy_of proxy.old) update (nat_cmp update.number proxy.old.updates.next)) }
+        ≡ offered_update (proxy_of proxy.old) update.old (nat_cmp update.old.number proxy.old.updates.next)) }
     ensures err { OnErr result (proxy_of proxy.new ≡ proxy_of proxy.old) }
-    ensures err_item { IfErr result (λ e. e.item ≡ update) }
+    ensures err_update { OnErr result (update.new ≡ update.old) }
 {
-    if reserve_one(&mut proxy.lines).is_err() {
-        return Err(NoMemoryFor { item: update });
-    }
-    let Update {
-        entity,
-        number,
-        shown,
-    } = update;
-    match proxy.updates.offer(number, shown) {
+    reserve_line(&mut proxy.lines)?;
+    let shown = std::mem::replace(&mut update.shown, Shown::Leave(update.entity));
+    match proxy.updates.offer(update.number, shown) {
         Ok(Offer::Next(shown)) => {
             proxy.show(ClientText::Shown(shown));
             return Ok(());
@@ -68,13 +62,8 @@ fn offer_update(proxy: &mut Proxy, update: Update) -> Result<(), NoMemoryFor<Upd
         Ok(_) => return Ok(()),
         Err(refused) => {
             let shown = refused.item;
-            return Err(NoMemoryFor {
-                item: Update {
-                    entity,
-                    number,
-                    shown,
-                },
-            });
+            update.shown = shown;
+            return Err(AllocError);
         }
     }
 }
@@ -85,7 +74,7 @@ fn show_next(proxy: &mut Proxy) -> Result<(), AllocError>
     ensures after { OnOk result (proxy_of proxy.new ≡ shows_next (proxy_of proxy.old) (next_item proxy.old.updates)) }
     ensures err { OnErr result (proxy_of proxy.new ≡ proxy_of proxy.old) }
 {
-    reserve_one(&mut proxy.lines)?;
+    reserve_line(&mut proxy.lines)?;
     let Some(shown) = proxy.updates.take_next() else {
         return Ok(());
     };
@@ -152,14 +141,14 @@ impl BasePart {
         }
     }
 
-    /// Offers the update to the client, if there is one.
-    pub fn offer_update(&mut self, update: Update) -> Result<(), NoMemoryFor<Update>>
-        requires { stray_proxy_update update self.old.proxy ≡ false }
-        ensures after { OnOk result (self.new ≡ with_update update self.old) }
+    /// Offers the update to the client, if there is one. The update is used up then.
+    pub fn offer_update(&mut self, update: &mut Update) -> Result<(), AllocError>
+        requires { stray_proxy_update update.old self.old.proxy ≡ false }
+        ensures after { OnOk result (self.new ≡ with_update update.old self.old) }
 
-        // If allocation fails, the update comes back and nothing has changed.
+        // If allocation fails, nothing has changed.
         ensures err { OnErr result (self.new ≡ self.old) }
-        ensures err_item { IfErr result (λ e. e.item ≡ update) }
+        ensures err_update { OnErr result (update.new ≡ update.old) }
     {
         match &mut self.body.proxy {
             Some(proxy) => return offer_update(proxy, update),
@@ -187,7 +176,7 @@ impl BasePart {
         let t = defs.type_at(self.body.ty);
         let text = text_of(t, self.body.version, &self.body.state, has_for_clients(t))?;
         let mut proxy = new_proxy(alloc);
-        reserve_one(&mut proxy.lines)?;
+        reserve_line(&mut proxy.lines)?;
         if let Some(text) = text {
             proxy.show(text);
         }

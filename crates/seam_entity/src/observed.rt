@@ -52,20 +52,4 @@ impl Observed<'_> {
             },
         })
     }
-
-    /// Whether the copy is what other clients are shown of it, which takes no memory to find out.
-    pub fn is_shown_as(&self, defs: &Defs, copy: &GhostCopy) -> bool
-        ensures { (me : ℕ) (settings : AllSettings) → IsTrue result ↔ copy.now
-            ≡ shown_to_others (node_with defs.now me settings) self.now.held self.now.ty self.now.version self.now.state.now }
-    {
-        copy.ty == self.ty
-            && copy.version == self.version
-            && copy.state.pos == self.state.pos
-            && defs.type_at(self.ty).is_projection(
-                self.held,
-                &self.state.props,
-                Group::Other,
-                &copy.state.props,
-            )
-    }
 }

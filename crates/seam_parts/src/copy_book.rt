@@ -18,7 +18,8 @@ use seam_table::Items;
 use std::alloc::{AllocError, Global};
 use std::marker::Model;
 
-/// The cell's own book of ghosts. Contracts see it as the book; where the copies are is kept beside it from the first `locate` on.
+/// The cell's own book of ghosts. Contracts see it as the book; where the copies are is kept beside it from a `locate` on, as long as
+/// that pays.
 #[derive(Drop)]
 pub struct CopyBook {
     book: GhostBook<GhostCopy>,
@@ -52,15 +53,17 @@ fn place_of(copy: &GhostCopy) -> Place
     }
 }
 
-// Where all the copies are.
-fn places_of(alloc: Global, book: &GhostBook<GhostCopy>) -> Result<RangeList, AllocError>
-    ensures { IfOk result (λ l. AreNoted l None (copy_places book.now.ghosts)) }
+// Where all the copies are, and how many.
+fn places_of(alloc: Global, book: &GhostBook<GhostCopy>) -> Result<(RangeList, usize), AllocError>
+    ensures { IfOk result (λ r. AreNoted r.0 None (copy_places book.now.ghosts)) }
 {
     let mut list = RangeList::new(alloc);
+    let mut size = 0usize;
     for (e, copy) in book.iter() {
         put(&mut list, e, place_of(copy))?;
+        size = size.saturating_add(1);
     }
-    Ok(list)
+    Ok((list, size))
 }
 
 impl CopyBook {
@@ -149,16 +152,17 @@ impl CopyBook {
         self.book.next_after(after)
     }
 
-    /// Keeps where the copies are from now on, where there is memory for that.
+    /// Keeps where the copies are from now on, where there is memory for that, and as long as they do not change much more often than
+    /// it is asked for.
     pub fn locate(&mut self, alloc: Global)
         ensures { self.new ≡ self.old }
     {
         if self.spots.list.is_none() {
-            self.spots = Spots {
-                list: places_of(alloc, &self.book).ok(),
-                out: None,
-            };
+            if let Ok((list, size)) = places_of(alloc, &self.book) {
+                self.spots = Spots::of(list, size);
+            }
         }
+        self.spots.renew();
     }
 
     /// Where the copies of other entities are, and at which version, if it is kept.

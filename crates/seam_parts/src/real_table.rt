@@ -14,7 +14,7 @@ use seam_table::{Items, Table};
 use std::alloc::{AllocError, Global};
 use std::marker::Model;
 
-/// The reals by entity. Contracts see them as a table; where they are is kept beside it from the first `locate` on.
+/// The reals by entity. Contracts see them as a table; where they are is kept beside it from a `locate` on, as long as that pays.
 #[derive(Drop)]
 pub struct RealTable {
     items: Table<Parcel>,
@@ -57,16 +57,18 @@ fn begin(parcel: &mut Parcel)
     }
 }
 
-// Where all the reals are.
-fn places_of(alloc: Global, items: &Table<Parcel>) -> Result<RangeList, AllocError>
-    ensures { IfOk result (λ l. AreNoted l None (real_places items.now.items)) }
+// Where all the reals are, and how many.
+fn places_of(alloc: Global, items: &Table<Parcel>) -> Result<(RangeList, usize), AllocError>
+    ensures { IfOk result (λ r. AreNoted r.0 None (real_places items.now.items)) }
 {
     let mut list = RangeList::new(alloc);
+    let mut size = 0usize;
     let mut walk = items.iter();
     while let Some((e, parcel)) = walk.next() {
         put(&mut list, e, place_of(&parcel.real))?;
+        size = size.saturating_add(1);
     }
-    Ok(list)
+    Ok((list, size))
 }
 
 impl RealTable {
@@ -150,16 +152,17 @@ impl RealTable {
         self.items.next_after(after)
     }
 
-    /// Keeps where the reals are from now on, where there is memory for that.
+    /// Keeps where the reals are from now on, where there is memory for that, and as long as they do not change much more often than
+    /// it is asked for.
     pub fn locate(&mut self, alloc: Global)
         ensures { self.new ≡ self.old }
     {
         if self.spots.list.is_none() {
-            self.spots = Spots {
-                list: places_of(alloc, &self.items).ok(),
-                out: None,
-            };
+            if let Ok((list, size)) = places_of(alloc, &self.items) {
+                self.spots = Spots::of(list, size);
+            }
         }
+        self.spots.renew();
     }
 
     /// Where the reals of other entities are, and at which public version, if it is kept.

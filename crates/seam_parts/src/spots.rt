@@ -9,28 +9,63 @@ use seam_range::{Place, RangeList};
 use std::alloc::AllocError;
 
 /// A list of entities with their places, if it is kept. An entity that is taken out to change is still in the list: it is out.
+///
+/// A list that changed much more often, since it was asked for last, than it has entities is given up: it takes less to make it anew
+/// once it is asked for again.
 #[derive(Drop)]
 pub struct Spots {
     pub list: Option<RangeList>,
     pub out: Option<u32>,
+    // How many entities the list had when it was made, and how many more changes it is kept for.
+    size: usize,
+    left: usize,
 }
 
 impl Spots {
     /// No list.
     pub fn none() -> Spots
-        ensures { result ≡ record { list = None; out = None } }
+        ensures list { result.list ≡ None }
+        ensures out { result.out ≡ None }
     {
         Spots {
             list: None,
             out: None,
+            size: 0,
+            left: 0,
         }
+    }
+
+    /// A list of so many entities, none of which is out.
+    pub fn of(list: RangeList, size: usize) -> Spots
+        ensures list { result.list ≡ Some list }
+        ensures out { result.out ≡ None }
+    {
+        Spots {
+            list: Some(list),
+            out: None,
+            size,
+            left: 0,
+        }
+    }
+
+    /// The list is asked for: from now on it is kept for twice as many changes as it had entities when it was made.
+    pub fn renew(&mut self)
+        ensures list { self.new.list ≡ self.old.list }
+        ensures out { self.new.out ≡ self.old.out }
+    {
+        self.left = self.size.saturating_mul(2);
     }
 }
 
-// The list with the entity at the place. Without memory for that the list is given up.
-fn set(list: &mut Option<RangeList>, e: u32, p: Place)
+// The list with the entity at the place. Without memory for that the list is given up, and after its last change.
+fn set(list: &mut Option<RangeList>, left: &mut usize, e: u32, p: Place)
     ensures { IsNoted list.old list.new e (Some p) }
 {
+    if *left == 0 {
+        *list = None;
+        return;
+    }
+    *left -= 1;
     if let Some(kept) = list {
         match kept.put(e, p) {
             Ok(()) => {}
@@ -39,10 +74,15 @@ fn set(list: &mut Option<RangeList>, e: u32, p: Place)
     }
 }
 
-// The list without the entity.
-fn remove(list: &mut Option<RangeList>, e: u32)
+// The list without the entity. After its last change the list is given up.
+fn remove(list: &mut Option<RangeList>, left: &mut usize, e: u32)
     ensures { IsNoted list.old list.new e None }
 {
+    if *left == 0 {
+        *list = None;
+        return;
+    }
+    *left -= 1;
     if let Some(list) = list {
         list.remove(e);
     }
@@ -73,7 +113,7 @@ pub fn note(spots: &mut Spots, e: u32, p: Place)
     ensures { (before after : ℕ → Option AnyPlace) → AreKeptNoted spots.old before → IsChanged before after e (Some p) →
         AreKeptNoted spots.new after }
 {
-    set(&mut spots.list, e, p);
+    set(&mut spots.list, &mut spots.left, e, p);
     spots.out = still_out(spots.out, e);
 }
 
@@ -82,7 +122,7 @@ pub fn forget(spots: &mut Spots, e: u32)
     ensures { (before after : ℕ → Option AnyPlace) → AreKeptNoted spots.old before → IsChanged before after e None →
         AreKeptNoted spots.new after }
 {
-    remove(&mut spots.list, e);
+    remove(&mut spots.list, &mut spots.left, e);
     spots.out = still_out(spots.out, e);
 }
 
@@ -95,7 +135,7 @@ pub fn let_out(spots: &mut Spots, e: u32)
         spots.out = Some(e);
         return;
     }
-    remove(&mut spots.list, e);
+    remove(&mut spots.list, &mut spots.left, e);
 }
 
 /// The places of all entities other than e, if they are kept.

@@ -142,6 +142,7 @@ pub fn see(seen: &mut Vec<Seen>, next: Seen, own: u32) -> Result<(), AllocError>
 }
 
 // Adds what is shown.
+#[inline]
 fn push(shown: &mut VecDeque<Shown>, item: Shown) -> Result<(), AllocError>
     ensures { OnOk result (shown.new.items ≡ shown.old.items ++ item ∷ []) }
 {
@@ -152,6 +153,7 @@ fn push(shown: &mut VecDeque<Shown>, item: Shown) -> Result<(), AllocError>
 }
 
 // Adds what is shown, if anything is.
+#[inline]
 fn push_if(shown: &mut VecDeque<Shown>, item: Option<Shown>) -> Result<(), AllocError>
     ensures { OnOk result (shown.new.items ≡ shown.old.items ++ listed item) }
 {

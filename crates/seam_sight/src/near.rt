@@ -217,6 +217,7 @@ impl Sight<'_> {
     }
 
     // Whether the look is the leave of an entity that is known after all, and was shown at a greater version.
+    #[inline]
     fn is_early(&self, view: &View, look: &Look) -> bool
         ensures { (c : CellView) → let d = seeing c (here_in self.now.known.now) self.now.reals.now.items self.now.copies.now.ghosts in
             result ≡ is_early view.now.core (map seen_as (known_to d self.now.own)) look.now }

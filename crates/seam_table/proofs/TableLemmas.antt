@@ -6,7 +6,7 @@ use Rattle.std.specs.Ordering.{nat_cmp, eq_by_cmp, is_eq}
 use Rattle.std.specs.Cmp.{nat_cmp_total}
 use Rattle.std.specs.Map.{lookup, keys_of}
 use Rattle.std.specs.BTreeMap.{is_at}
-use Rattle.std.specs.List.{list_any, IsDistinct, AllByRecursion}
+use Rattle.std.specs.List.{filter, list_any, IsDistinct, AllByRecursion}
 use Rattle.std.specs.List.Sorted.{IsStrictlySortedBy}
 use Rattle.std.specs.declared.cmp.Ordering.TheVariants.{Less}
 use Rattle.std.proofs.lemmas.Cmp.{nat_eq_equiv}
@@ -14,6 +14,7 @@ use Rattle.std.proofs.lemmas.Map.{lookup-none}
 use Rattle.std.proofs.lemmas.Map.Entries.{none_past_head}
 use Rattle.std.proofs.lemmas.Map.Keys.{IsDistinct-tail, sorted_head, sorted_tail}
 use Rattle.std.proofs.lemmas.Map.Made.{is_some-lookup}
+use Rattle.std.proofs.lemmas.Map.Views.{any-filter_same}
 use Rattle.std.proofs.lemmas.Bool.Decides.{nat_tests}
 use Rattle.std.specs.BTreeMap.Range.{range_contains}
 use Rattle.std.specs.declared.ops.Bound.TheVariants.{Unbounded}
@@ -268,8 +269,23 @@ pub indexed_still : {T : Type 0} (old new : List (ℕ × Option T)) (order : Lis
 indexed_still old new order keys was = record {
   distinct = subst (IsDistinct nat_eq) (sym keys) was.distinct;
   rises = was.rises;
-  same = λ q.
-      was.same q ∙ is_some-lookup (nat_eq q) old ∙ ap (list_any (nat_eq q)) (sym keys) ∙ sym (is_some-lookup (nat_eq q) new);
+  covers = λ q there. was.covers q
+      (is_some-lookup (nat_eq q) old ∙ ap (list_any (nat_eq q)) (sym keys) ∙ sym (is_some-lookup (nat_eq q) new) ∙ there);
+}
+
+-- those of entries alone
+pub indexed_kept : {T : Type 0} (ss : List (ℕ × Option T)) (order rest : List ℕ) → IsIndexed ss order → IsStrictlySortedBy nat_cmp rest →
+    rest ≡ filter (λ n. is_some (lookup (nat_eq n) ss)) order → IsIndexed ss rest
+indexed_kept ss order rest was rises is = record {
+  distinct = was.distinct;
+  rises = rises;
+  covers = λ q there.
+      any_same q rest
+      ∙ ap (list_any (nat_eq q)) is
+      ∙ any-filter_same (nat_eq q) (λ n. is_some (lookup (nat_eq n) ss)) true
+      (λ n same. ap (λ k. is_some (lookup (nat_eq k) ss)) (number_is q n same) ∙ there) order
+      ∙ sym (any_same q order)
+      ∙ was.covers q there;
 }
 
 -- ---- the entries in rising number

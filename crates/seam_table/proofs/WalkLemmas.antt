@@ -67,9 +67,12 @@ module _ {X : Type 0} where
         by true same rest = ap (λ k. Some (option_flatten (lookup (nat_eq k) ss))) (same refl)
         by false same rest = rest
 
-    item_listed : (r : Option (Option X)) → option_flatten (cond (is_some r) (Some (option_flatten r)) None) ≡ option_flatten r
-    item_listed None = refl
-    item_listed (Some x) = refl
+    item_listed : (r : Option (Option X)) (b : Bool) → (is_some r ≡ true → b ≡ true) →
+        option_flatten (cond b (Some (option_flatten r)) None) ≡ option_flatten r
+    item_listed None true there = refl
+    item_listed None false there = refl
+    item_listed (Some x) true there = refl
+    item_listed (Some x) false there = let f : false ≡ true = there refl in cc
 
     distinct_from_rising : (ns : List ℕ) → IsStrictlySortedBy nat_cmp ns → IsDistinct nat_eq ns
     distinct_from_rising ns rises =
@@ -85,8 +88,7 @@ module _ {X : Type 0} where
         map.same_map nat_cmp_total map.nat_cmp-IsAntisymmetric _ _ (λ q.
         item-slot ls q (distinct_from_rising (keys_of ls) rises)
         ∙ ap option_flatten (lookup_listed q order)
-        ∙ ap (λ b. option_flatten (cond b (Some (option_flatten (lookup (nat_eq q) ss))) None)) (sym (any_same q order) ∙ is.same q)
-        ∙ item_listed (lookup (nat_eq q) ss)
+        ∙ item_listed (lookup (nat_eq q) ss) (list_any (nat_eq q) order) (λ there. sym (any_same q order) ∙ is.covers q there)
         ∙ sym (item-slot ss q is.distinct)) in
         sym (entries-kept ls rises) ∙ ap map.entries same
 

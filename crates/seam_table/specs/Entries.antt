@@ -1,5 +1,5 @@
 -- What table the entries of a hashed map are, and their numbers in order beside them. An entry without an item is room for one.
-use Rattle.std.specs.Prelude.{◌≡◌, ℕ, cond, nat_eq, is_some, map as each, List, [], ◌∷◌, Option, None, Some}
+use Rattle.std.specs.Prelude.{◌≡◌, ℕ, cond, nat_eq, is_some, true, map as each, List, [], ◌∷◌, Option, None, Some}
 use Rattle.std.specs.Option.{option_flatten}
 use Rattle.std.specs.Ordering.{nat_cmp}
 use Rattle.std.specs.Map.{keys_of, lookup}
@@ -29,11 +29,11 @@ abbrev pub low_bound : Option ℕ → Bound ℕ
 low_bound None = Unbounded
 low_bound (Some n) = Excluded n
 
--- the numbers of the entries, in order, each once
+-- each number once, in order those of all entries, and of entries that are gone
 pub record IsIndexed {T : Type 0} (entries : List (ℕ × Option T)) (order : List ℕ) : Type 0 where
   pub distinct : IsDistinct nat_eq (keys_of entries)
   pub rises : IsStrictlySortedBy nat_cmp order
-  pub same : (q : ℕ) → list_any (is_at (nat_cmp q)) order ≡ is_some (lookup (nat_eq q) entries)
+  pub covers : (q : ℕ) → is_some (lookup (nat_eq q) entries) ≡ true → list_any (is_at (nat_cmp q)) order ≡ true
 
 -- an entry more, or an entry written
 abbrev pub Writes : {T : Type 0} → ℕ → Option T → List (ℕ × Option T) → List (ℕ × Option T) → Type 0

@@ -1,16 +1,16 @@
-//! A table by number: an item for some of the numbers, kept in rising number.
+//! A table by number: an item for some of the numbers.
 //!
 //! Contracts see a table as a finite map, and beside it the numbers for which there is room. A call that is to change several tables, or
 //! all or none of them, makes room first and changes what cannot fail then.
 //!
 //! An item is found by the hash of its number. The numbers are kept in order beside the items, so that [`Table::iter`] goes over these in
-//! rising number; only a number that comes or goes costs a search of that order. [`Table::change_each`] changes all items where they lie.
+//! rising number; only a number that comes costs a search of that order. [`Table::change_each`] changes all items where they lie.
 //!
 //! Of `proofs/`, `Found` (what a search of a table's entries finds) and `Changed` (what a table has after `change_each`) are for callers.
 #![tactic(auto)]
 
 ghost use Rattle.std.specs.Prelude.{◌≡◌, ℕ, Bool, Some, find, true, false, OnOk, OnErr, IfOk, IfErr, IfSome};
-ghost use Rattle.std.specs.Prelude.{None, nat_eq, option_map, option_copied, map as each};
+ghost use Rattle.std.specs.Prelude.{None, nat_eq, is_some, option_map, option_copied, map as each};
 ghost use Rattle.std.specs.Option.{option_flatten};
 ghost use Rattle.std.specs.List.{filter, IsDistinct};
 ghost use Rattle.std.specs.Map.{keys_of, lookup};
@@ -34,6 +34,9 @@ mod tests;
 
 pub use items::Items;
 
+// So many numbers of entries that are gone may be in a table's order beside as many as there are entries.
+const MOST_GONE: usize = 16;
+
 /// An item for some of the numbers.
 ///
 /// Contracts see the item of each number, and beside them the numbers for which there is room: an item for one of those needs no memory.
@@ -41,7 +44,7 @@ pub use items::Items;
 pub struct Table<T> {
     // An entry without an item is room for one.
     entries: IndexMap<u32, Option<T>>,
-    // The numbers of the entries.
+    // The numbers of the entries, and some of entries that are gone, which most often come again.
     order: BTreeSet<u32>,
 }
 
@@ -224,12 +227,9 @@ fn add_entry<T: Drop>(
     }
     match entries.insert(n, slot) {
         Ok(_) => Ok(()),
-        Err(refused) => {
-            order.remove(&n);
-            Err(NoMemoryFor {
-                item: refused.value.1,
-            })
-        }
+        Err(refused) => Err(NoMemoryFor {
+            item: refused.value.1,
+        }),
     }
 }
 
@@ -332,11 +332,35 @@ fn remove_entry<T: Drop>(
 {
     match entries.swap_remove(&n) {
         Some(slot) => {
-            order.remove(&n);
+            tidy(entries, order);
             slot
         }
         None => None,
     }
+}
+
+// Takes the numbers of entries that are gone out of the order, once they are more than those that are there, and more than a few.
+#[inline]
+fn tidy<T: Drop>(entries: &IndexMap<u32, Option<T>>, order: &mut BTreeSet<u32>)
+    requires { IsIndexed entries.now.entries order.old.keys }
+    ensures { IsIndexed entries.now.entries order.new.keys }
+{
+    if order.len() / 2 > entries.len().saturating_add(MOST_GONE / 2) {
+        keep_numbers(entries, order);
+    }
+}
+
+// Keeps the numbers of entries alone.
+#[inline(never)]
+fn keep_numbers<T: Drop>(entries: &IndexMap<u32, Option<T>>, order: &mut BTreeSet<u32>)
+    requires { IsIndexed entries.now.entries order.old.keys }
+    ensures { IsIndexed entries.now.entries order.new.keys }
+{
+    order.retain(
+        |n: &u32| -> bool
+            ensures { result ≡ is_some (lookup (nat_eq n.now) entries.entry.now.entries) }
+        { entries.contains_key(n) },
+    );
 }
 
 // Changes the entry's item, if it has one.

@@ -25,6 +25,16 @@ same_marks (true ∷ xs) (false ∷ ys) h = cc
 same_marks (false ∷ xs) (true ∷ ys) h = cc
 same_marks (false ∷ xs) (false ∷ ys) h = ap (λ l. false ∷ l) (same_marks xs ys h)
 
+-- and the test finds equal marks equal
+pub marks_are_same : (xs ys : List Bool) → xs ≡ ys → IsTrue (pointwise beq xs ys)
+marks_are_same [] [] same = refl
+marks_are_same [] (y ∷ ys) same = cc
+marks_are_same (x ∷ xs) [] same = cc
+marks_are_same (true ∷ xs) (true ∷ ys) same = marks_are_same xs ys (cc)
+marks_are_same (true ∷ xs) (false ∷ ys) same = cc
+marks_are_same (false ∷ xs) (true ∷ ys) same = cc
+marks_are_same (false ∷ xs) (false ∷ ys) same = marks_are_same xs ys (cc)
+
 pub get_or_past : (marks : List Bool) (k : ℕ) → length marks ≤ k → get_or marks k false ≡ false
 get_or_past [] k past = refl
 get_or_past (m ∷ marks) zero past = absurd (omega arith)

@@ -11,7 +11,7 @@ ghost use Rattle.std.specs.Prelude.{◌≡◌, ◌≤◌, ◌++◌, ◌∷◌, �
 ghost use Rattle.std.specs.Prelude.{true, false, not, IfSome, IfNone, drop, None, Some, if◌then◌else◌};
 ghost use Rattle.std.specs.Ordering.{nat_cmp};
 ghost use Rattle.std.specs.List.Sorted.{IsStrictlySortedBy};
-ghost use Rattle.std.specs.Prelude.{◌<◌, ◌+◌, nat_eq};
+ghost use Rattle.std.specs.Prelude.{◌<◌, ◌+◌, ◌^◌, nat_eq};
 ghost use Rattle.std.specs.List.{AllWithin, IsDistinct, list_any};
 ghost use Rattle.std.specs.Map.{keys_of, lookup};
 ghost use Rattle.indexmap.specs.IndexMap.{spare};
@@ -199,7 +199,8 @@ impl View {
 
     /// The radius and the hysteresis together: beyond it nothing matters that is not in view. None where a `u32` does not hold it.
     pub fn reach(&self) -> Option<u32>
-        ensures { IfSome result (λ d. d ≡ self.now.core.radius + self.now.core.hysteresis) }
+        ensures sum { IfSome result (λ d. d ≡ self.now.core.radius + self.now.core.hysteresis) }
+        ensures none { IfNone result (2 ^ 32 ≤ self.now.core.radius + self.now.core.hysteresis) }
     {
         self.radius.checked_add(self.hysteresis)
     }

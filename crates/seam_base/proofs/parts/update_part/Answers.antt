@@ -9,15 +9,15 @@ use Rattle.seam_base.proofs.parts.update_part.Goals as goal
 
 pub returns-then-stays_as_ready-clause-marks : goal.returns-then-stays_as_ready-clause-marks
 returns-then-stays_as_ready-clause-marks c = λ parts at are e. are e
-    ∙ sym (pass_alike parts c.args.update.entity c.args.part.now c.offer_update.new.self _ at refl has_update
-    (either_way has_update (with_update c.args.update) c.args.part.now c.offer_update.new.self c.offer_update.result
+    ∙ sym (pass_alike parts c.args.update.now.entity c.args.part.now c.offer_update.new.self _ at refl has_update
+    (either_way has_update (with_update c.args.update.now) c.args.part.now c.offer_update.new.self c.offer_update.result
     (c.stays_as_ready.ensures.0 c.if-stays_as_ready.true) c.offer_update.ensures.after c.offer_update.ensures.err) e)
 
-pub returns-then-is_err-clause-marks : goal.returns-then-is_err-clause-marks
-returns-then-is_err-clause-marks c = λ parts at are e. ap (λ m. is_some (table.get m e)) c.reserve.ensures.same ∙ are e
-    ∙ sym (pass_alike parts c.args.update.entity c.args.part.now c.args.part.now _ at refl has_update refl e)
+pub returns-in_err-reserve-clause-marks : goal.returns-in_err-reserve-clause-marks
+returns-in_err-reserve-clause-marks c = λ parts at are e. ap (λ m. is_some (table.get m e)) c.reserve.ensures.same ∙ are e
+    ∙ sym (pass_alike parts c.args.update.now.entity c.args.part.now c.args.part.now _ at refl has_update refl e)
 
 pub returns-clause-marks : goal.returns-clause-marks
-returns-clause-marks c = λ parts at are. marks_put parts c.args.update.entity c.args.part.now c.offer_update-done.new.self _ at refl has_update
+returns-clause-marks c = λ parts at are. marks_put parts c.args.update.now.entity c.args.part.now c.offer_update-done.new.self _ at refl has_update
     c.args.updates.now.items c.mark.new.marks.items tt are
-    (c.mark.ensures ∙ (λ i. marked (c.is_client_ready.ensures i) (c.reserve.ensures.same i) c.args.update.entity tt))
+    (c.mark.ensures ∙ (λ i. marked (c.is_client_ready.ensures i) (c.reserve.ensures.same i) c.args.update.now.entity tt))

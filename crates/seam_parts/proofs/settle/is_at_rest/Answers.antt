@@ -9,4 +9,4 @@ returns-then-plan-known c same =
     let plan = c.make_plan-plan in
     rest_planned (here_in k) k.tree c.args.real.now.core c.state.result.now.pos c.haunts-old.result plan.result.home plan.result.haunts
     (ap (λ s. s.pos) c.state.ensures) c.haunts-old.ensures (plan.ensures.home k.defs) (plan.ensures.haunts k.defs) c.if-plan-known.true
-    (c.is.ensures same)
+    (c.is.ensures.0 same)

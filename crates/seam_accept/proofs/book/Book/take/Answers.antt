@@ -41,19 +41,19 @@ returns-in_err-entity-in-Client-clause-refused c =
     let is = subst (Refines h b) (sym c.self-in-Client.view_is) was in
     refused_as h _ b _ _ _ refl c.in-Client.is (c.in_err-entity-in-Client.ensures.refused h b is.entities is.clients))
 
-pub returns-in_err-self-inside-in-Cut-clause-refused : goal.returns-in_err-self-inside-in-Cut-clause-refused
-returns-in_err-self-inside-in-Cut-clause-refused c =
-    let p = err_from_is_err_and c.from_residual-in_err-self-inside-in-Cut.result c.from_residual-in_err-self-inside-in-Cut.ensures.1 in
+pub returns-in_err-make_cut-in-Cut-clause-refused : goal.returns-in_err-make_cut-in-Cut-clause-refused
+returns-in_err-make_cut-in-Cut-clause-refused c =
+    let p = err_from_is_err_and c.from_residual-in_err-make_cut-in-Cut.result c.from_residual-in_err-make_cut-in-Cut.ensures.1 in
     rw (p.1, p.2) (λ h b was.
     let is = subst (Refines h b) (sym c.self-in-Cut.view_is) was in
-    refused_as h _ b _ _ _ refl c.in-Cut.is (c.in_err-self-inside-in-Cut.ensures.refused h b is.tree))
+    refused_as h _ b _ _ _ refl c.in-Cut.is (c.in_err-make_cut-in-Cut.ensures.refused h b is.tree))
 
-pub returns-in_err-self-inside-in-Shift-clause-refused : goal.returns-in_err-self-inside-in-Shift-clause-refused
-returns-in_err-self-inside-in-Shift-clause-refused c =
-    let p = err_from_is_err_and c.from_residual-in_err-self-inside-in-Shift.result c.from_residual-in_err-self-inside-in-Shift.ensures.1 in
+pub returns-in_err-make_shift-in-Shift-clause-refused : goal.returns-in_err-make_shift-in-Shift-clause-refused
+returns-in_err-make_shift-in-Shift-clause-refused c =
+    let p = err_from_is_err_and c.from_residual-in_err-make_shift-in-Shift.result c.from_residual-in_err-make_shift-in-Shift.ensures.1 in
     rw (p.1, p.2) (λ h b was.
     let is = subst (Refines h b) (sym c.self-in-Shift.view_is) was in
-    refused_as h _ b _ _ _ refl c.in-Shift.is (c.in_err-self-inside-in-Shift.ensures.refused h b is.tree))
+    refused_as h _ b _ _ _ refl c.in-Shift.is (c.in_err-make_shift-in-Shift.ensures.refused h b is.tree))
 
 pub returns-in_err-entity-in-Destroy-clause-refused : goal.returns-in_err-entity-in-Destroy-clause-refused
 returns-in_err-entity-in-Destroy-clause-refused c =
@@ -85,16 +85,16 @@ returns-in_ok-add_tick-in-Tick-clause-accepted c = λ h b was.
     let j = judged_as h h b _ _ entry.Ticked refl c.in-Tick.is (record { none = none_against_tick h b; adds = refl }, tt) in
     (_, j.0, c.in_ok-add_tick-in-Tick.ensures.kept h b was)
 
-pub returns-in_ok-self-inside-in-Cut-clause-accepted : goal.returns-in_ok-self-inside-in-Cut-clause-accepted
-returns-in_ok-self-inside-in-Cut-clause-accepted c = λ h b was.
+pub returns-in_ok-make_cut-in-Cut-clause-accepted : goal.returns-in_ok-make_cut-in-Cut-clause-accepted
+returns-in_ok-make_cut-in-Cut-clause-accepted c = λ h b was.
     let is = subst (Refines h b) (sym c.self-in-Cut.view_is) was in
-    let j = judged_as h _ b _ _ _ refl c.in-Cut.is (c.in_ok-self-inside-in-Cut.ensures.judged h b is.tree) in
+    let j = judged_as h _ b _ _ _ refl c.in-Cut.is (c.in_ok-make_cut-in-Cut.ensures.judged h b is.tree) in
     (_, j.0, division_kept h b _ is _)
 
-pub returns-in_ok-self-inside-in-Shift-clause-accepted : goal.returns-in_ok-self-inside-in-Shift-clause-accepted
-returns-in_ok-self-inside-in-Shift-clause-accepted c = λ h b was.
+pub returns-in_ok-make_shift-in-Shift-clause-accepted : goal.returns-in_ok-make_shift-in-Shift-clause-accepted
+returns-in_ok-make_shift-in-Shift-clause-accepted c = λ h b was.
     let is = subst (Refines h b) (sym c.self-in-Shift.view_is) was in
-    let j = judged_as h _ b _ _ _ refl c.in-Shift.is (c.in_ok-self-inside-in-Shift.ensures.judged h b is.tree) in
+    let j = judged_as h _ b _ _ _ refl c.in-Shift.is (c.in_ok-make_shift-in-Shift.ensures.judged h b is.tree) in
     (_, j.0, division_kept h b _ is _)
 
 pub returns-in-Balance-clause-accepted : goal.returns-in-Balance-clause-accepted

@@ -10,7 +10,7 @@ returns-clause-after c =
     subst
     (λ b. OnOk c.offer_update.result
     (node_of c.self.inside.known c.self.inside.orders.items c.self.inside.routes.items c.offer_update.new.self
-    ≡ (unless_stray (stray_update c.args.update (table.get b.parts c.args.update.entity)) b
-    (sends_none (update b c.args.update (table.get b.parts c.args.update.entity)))).state)) c.self.view_is
-    (update_left (node_of c.self.inside.known c.self.inside.orders.items c.self.inside.routes.items c.self.inside.parts) c.args.update
+    ≡ (unless_stray (stray_update c.args.update.now (table.get b.parts c.args.update.now.entity)) b
+    (sends_none (update b c.args.update.now (table.get b.parts c.args.update.now.entity)))).state)) c.self.view_is
+    (update_left (node_of c.self.inside.known c.self.inside.orders.items c.self.inside.routes.items c.self.inside.parts) c.args.update.now
     c.offer_update.result c.offer_update.new.self c.offer_update.ensures.after)

@@ -1,4 +1,4 @@
-use Rattle.std.proofs.Common.{[], refl, sym, subst}
+use Rattle.std.proofs.Common.{sym, subst}
 use Rattle.seam_parts.specs.Queues.{IsQueue}
 use Rattle.seam_parts.proofs.QueueLemmas.{no_queue}
 use Rattle.seam_parts.proofs.entity_queue.EntityQueue.new.Goals as goal

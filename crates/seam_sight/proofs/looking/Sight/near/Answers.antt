@@ -17,5 +17,5 @@ returns c = λ k.
     let left = c.deref-3.ensures.value ∙ (c.in_ok-only_copies.ensures ∙ ap (without_reals d.reals) copies) in
     c.in_ok-seen.ensures
     ∙ ((λ i. map seen_at_place (filter (is_other own) (merged (reals i) (left i))))
-    ∙ near_are d own c.args.view.now.core c.args.own c.in-Some.reach c.in-Some.ensures l c.in-Some-spots_beside-2.copies.now
+    ∙ near_are d own c.args.view.now.core c.args.own c.in-Some.reach c.in-Some.ensures.sum l c.in-Some-spots_beside-2.copies.now
     c.in-Some-spots_beside.ensures c.in-Some-spots_beside-2.ensures)

@@ -6,7 +6,7 @@ use Rattle.seam_transcript.specs.Language.{Cut}
 use Rattle.seam_transcript.specs.declared.verdict.Entry.TheVariants.{Divided}
 use Rattle.seam_accept.specs.Judging.{Accepts}
 use Rattle.seam_accept.proofs.TreeLemmas.{cut_accepted}
-use Rattle.seam_accept.proofs.judging.judge_cut.Goals as goal
+use Rattle.seam_accept.proofs.judging.make_cut.Goals as goal
 
 pub returns-in-Ok-clause-judged : goal.returns-in-Ok-clause-judged
 returns-in-Ok-clause-judged c = λ h b is.

@@ -5,7 +5,7 @@ use Rattle.seam_transcript.specs.Language.{Shift}
 use Rattle.seam_transcript.specs.declared.verdict.Entry.TheVariants.{Divided}
 use Rattle.seam_accept.specs.Judging.{Accepts}
 use Rattle.seam_accept.proofs.TreeLemmas.{shift_accepted}
-use Rattle.seam_accept.proofs.judging.judge_shift.Goals as goal
+use Rattle.seam_accept.proofs.judging.make_shift.Goals as goal
 
 pub returns-in-Ok-clause-judged : goal.returns-in-Ok-clause-judged
 returns-in-Ok-clause-judged c = λ h b is. (
