@@ -1,6 +1,6 @@
 //! The base part of an entity.
 
-ghost use Rattle.std.specs.Prelude.{◌≡◌, ◌<◌, ℕ, IfOk, OnOk, true, false, is_some, Some, vec_len, vec_capacity};
+ghost use Rattle.std.specs.Prelude.{◌≡◌, ◌<◌, ◌↔◌, ℕ, IfOk, OnOk, IsTrue, true, false, is_some, Some, vec_len, vec_capacity};
 ghost use Rattle.seam_defs.specs.declared.settings.Settings.{Settings as AllSettings};
 ghost use Rattle.seam_entity.specs.Numbers.{may_rise as number_may_rise};
 ghost use Rattle.seam_steps.specs.Bases.{with_line};
@@ -150,7 +150,7 @@ impl BasePart {
 
     /// Whether it did nothing, and its client was shown nothing, since a round began.
     pub fn has_begun(&self) -> bool
-        ensures { result ≡ true → part_begins self.now ≡ self.now }
+        ensures { IsTrue result ↔ (part_begins self.now ≡ self.now) }
     {
         self.done().is_empty() && self.lines().is_empty()
     }

@@ -175,18 +175,28 @@ module _ (h : Here) (t : Division) (r was : RealView) (changed : Bool) (y : Read
 -- ---- a real that is at rest
 
 -- by a plan that keeps home and haunts
-pub rest_planned : (h : Here) (t : Division) (r : RealView) (p : Pos) (old : Cells) (home : ℕ) (haunts : Cells) → p ≡ r.state.pos →
-    old ≡ r.haunts → home ≡ home_after h t p → haunts ≡ haunts_at h t p (home_after h t p) (former h.me (home_after h t p) old) →
-    home ≡ h.me → haunts ≡ old → IsAtRest h t r
-rest_planned h t r p old home haunts pos was home_is haunts_is stays kept =
-    let j : home_after h t p ≡ h.me = sym home_is ∙ stays in
-    let same : former h.me h.me old ≡ old = ap (λ b. cond b old (set.insert old h.me)) (equal_test h.me h.me refl) in record {
-      home = ap (home_after h t) (sym pos) ∙ j;
-      haunts =
-          (λ i. haunts_at h t (sym pos i) h.me (sym was i))
-          ∙ (ap (haunts_at h t p h.me) (sym same)
-          ∙ ((λ i. haunts_at h t p (sym j i) (former h.me (sym j i) old)) ∙ (sym haunts_is ∙ (kept ∙ was))));
-    }
+module _ (h : Here) (t : Division) (r : RealView) (p : Pos) (old : Cells) (home : ℕ) (haunts : Cells) (pos : p ≡ r.state.pos)
+    (was : old ≡ r.haunts) (home_is : home ≡ home_after h t p)
+    (haunts_are : haunts ≡ haunts_at h t p (home_after h t p) (former h.me (home_after h t p) old)) where
+  -- the haunts of a real that stays
+  staying_haunts : home_after h t p ≡ h.me → haunts ≡ haunts_at h t r.state.pos h.me r.haunts
+  staying_haunts j =
+      haunts_are
+      ∙ ((λ i. haunts_at h t p (j i) (former h.me (j i) old))
+      ∙ (ap (haunts_at h t p h.me) (ap (λ b. cond b old (set.insert old h.me)) (equal_test h.me h.me refl))
+      ∙ (λ i. haunts_at h t (pos i) h.me (was i))))
+
+  pub rest_planned : home ≡ h.me → haunts ≡ old → IsAtRest h t r
+  rest_planned stays kept =
+      let j = sym home_is ∙ stays in record {
+        home = ap (home_after h t) (sym pos) ∙ j;
+        haunts = sym (staying_haunts j) ∙ (kept ∙ was);
+      }
+
+  pub plan_of_rest : IsAtRest h t r → (home ≡ h.me) × (haunts ≡ old)
+  plan_of_rest rest =
+      let j = ap (home_after h t) pos ∙ rest.home in
+      (home_is ∙ j, staying_haunts j ∙ (rest.haunts ∙ sym was))
 
 module _ (h : Here) (r : RealView) where
   not_told : (k : ℕ) (mine was : Bool) →

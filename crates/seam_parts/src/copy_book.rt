@@ -153,7 +153,7 @@ impl CopyBook {
     }
 
     /// Keeps where the copies are from now on, where there is memory for that, and as long as they do not change much more often than
-    /// it is asked for.
+    /// it is asked for. This is for speed alone, and no contract sees it.
     pub fn locate(&mut self, alloc: Global)
         ensures { self.new ≡ self.old }
     {
@@ -165,7 +165,7 @@ impl CopyBook {
         self.spots.renew();
     }
 
-    /// Where the copies of other entities are, and at which version, if it is kept.
+    /// Where the copies of other entities are, and at which version; or none, as no contract says whether it is kept.
     pub fn spots_beside(&self, e: u32) -> Option<&RangeList>
         ensures { IfSome result (λ l. AreNoted l.now (Some e) (copy_places self.now.ghosts)) }
     {

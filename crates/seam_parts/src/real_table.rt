@@ -153,7 +153,7 @@ impl RealTable {
     }
 
     /// Keeps where the reals are from now on, where there is memory for that, and as long as they do not change much more often than
-    /// it is asked for.
+    /// it is asked for. This is for speed alone, and no contract sees it.
     pub fn locate(&mut self, alloc: Global)
         ensures { self.new ≡ self.old }
     {
@@ -165,7 +165,7 @@ impl RealTable {
         self.spots.renew();
     }
 
-    /// Where the reals of other entities are, and at which public version, if it is kept.
+    /// Where the reals of other entities are, and at which public version; or none, as no contract says whether it is kept.
     pub fn spots_beside(&self, e: u32) -> Option<&RangeList>
         ensures { IfSome result (λ l. AreNoted l.now (Some e) (real_places self.now.items)) }
     {

@@ -2,7 +2,7 @@
 //!
 //! First comes the plan, then what may want memory, and last what cannot fail.
 
-ghost use Rattle.std.specs.Prelude.{◌≡◌, ℕ, ◌<◌, ◌≤◌, ◌^◌, ◌+◌, ◌++◌, ◌==◌};
+ghost use Rattle.std.specs.Prelude.{◌≡◌, ℕ, ◌<◌, ◌≤◌, ◌^◌, ◌+◌, ◌++◌, ◌==◌, ◌↔◌};
 ghost use Rattle.std.specs.Prelude.{true, false, length, IsTrue, IfOk, OnOk, IfSome, List, Bool, option_map};
 ghost use Rattle.std.specs.FinMap as table;
 ghost use Rattle.std.specs.FinSet as set;
@@ -246,7 +246,7 @@ pub fn is_at_rest(known: &Known, real: &Real) -> bool
     requires me { known.now.me < cell_count }
     requires inside { IsInSpace known.now.tree real.now.core.state.pos }
     requires legal { AreLegal known.now.settings }
-    ensures { IsTrue result → IsAtRest (here_in known.now) known.now.tree real.now.core }
+    ensures { IsTrue result ↔ IsAtRest (here_in known.now) known.now.tree real.now.core }
 {
     let old = real.haunts();
     let plan = make_plan(

@@ -1,6 +1,6 @@
 //! Where entities are, and at which version, as long as it is kept.
 
-ghost use Rattle.std.specs.Prelude.{◌≡◌, ℕ, ◌<◌, ◌^◌, Option, IfSome, OnOk, None, Some};
+ghost use Rattle.std.specs.Prelude.{◌≡◌, ℕ, ◌<◌, ◌^◌, ◌&&◌, Option, IfSome, OnOk, None, Some, is_some};
 ghost use Rattle.std.specs.FinMap as map;
 ghost use Rattle.seam_range.specs.declared.Place.{Place as AnyPlace};
 ghost use Rattle.seam_parts.specs.Spots.{is_none_else_out, still_out, AreNoted, AreKeptNoted, IsNoted, IsChanged};
@@ -11,7 +11,7 @@ use std::alloc::AllocError;
 /// A list of entities with their places, if it is kept. An entity that is taken out to change is still in the list: it is out.
 ///
 /// A list that changed much more often, since it was asked for last, than it has entities is given up: it takes less to make it anew
-/// once it is asked for again.
+/// once it is asked for again. When that is so is a matter of speed alone, and no contract tells it.
 #[derive(Drop)]
 pub struct Spots {
     pub list: Option<RangeList>,
@@ -140,7 +140,8 @@ pub fn let_out(spots: &mut Spots, e: u32)
 
 /// The places of all entities other than e, if they are kept.
 pub fn beside(spots: &Spots, e: u32) -> Option<&RangeList>
-    ensures { (place : ℕ → Option AnyPlace) → AreKeptNoted spots.now place → IfSome result (λ l. AreNoted l.now (Some e) place) }
+    ensures kept { is_some result ≡ (is_some spots.now.list && is_none_else_out spots.now.out e) }
+    ensures places { (place : ℕ → Option AnyPlace) → AreKeptNoted spots.now place → IfSome result (λ l. AreNoted l.now (Some e) place) }
 {
     if !is_none_else_out(spots.out, e) {
         return None;

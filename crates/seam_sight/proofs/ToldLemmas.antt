@@ -22,6 +22,9 @@ module _ (own : ℕ) (known : ℕ → Option GhostCopy) where
   pub told_again : (a b c : Told) → AreStillTold own known a b → AreStillTold own known b c → AreStillTold own known a c
   told_again a b c first second = (second.0, second.1 ∙ first.1)
 
+  pub still_told : (a b c : Told) → b ≡ a → AreStillTold own known b c → AreStillTold own known a c
+  still_told a b c same still = (still.0, still.1 ∙ ap (told_of own) same)
+
 -- ---- what is known of an entity
 
 module _ (h : Here) (reals : Map RealView) (ghosts : Map (Ghost GhostCopy)) (e : ℕ) where

@@ -221,7 +221,7 @@ impl Sight<'_> {
         let Some(copy) = self.known_copy(e)? else {
             return Ok(None);
         };
-        told.keep(e, &copy);
+        told.keep(e, &copy)?;
         Ok(Some(copy))
     }
 

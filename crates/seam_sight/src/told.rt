@@ -1,6 +1,6 @@
 //! What witnesses were told of others, kept so that all who are told of one state share its values.
 
-ghost use Rattle.std.specs.Prelude.{◌≡◌, ◌≢◌, ℕ, [], IfOk, Option, Some, option_map};
+ghost use Rattle.std.specs.Prelude.{◌≡◌, ◌≢◌, ℕ, [], IfOk, OnOk, Option, Some, option_map};
 ghost use Rattle.seam_call.specs.declared.shown.GhostCopy.{GhostCopy as AnyCopy};
 ghost use Rattle.seam_sight.specs.Told.{told_of, AreToldBut, AreStillTold};
 
@@ -75,15 +75,18 @@ impl ToldCopies {
         }
     }
 
-    /// Keeps the copy that is told of the entity, if there is memory for it.
-    pub fn keep(&mut self, e: u32, copy: &GhostCopy)
-        ensures { (own : ℕ) (known : ℕ → Option AnyCopy) → e ≢ own → known e ≡ Some copy.now → AreToldBut own known self.old →
+    /// Keeps the copy that is told of the entity.
+    pub fn keep(&mut self, e: u32, copy: &GhostCopy) -> Result<(), AllocError>
+        ensures kept { OnOk result (told_of e self.new ≡ Some copy.now) }
+        ensures told { (own : ℕ) (known : ℕ → Option AnyCopy) → e ≢ own → known e ≡ Some copy.now → AreToldBut own known self.old →
             AreStillTold own known self.old self.new }
     {
-        let Ok(kept) = copy.copy() else {
-            return;
-        };
-        let _ = self.copies.insert(e, kept);
+        let kept = copy.copy()?;
+        match self.copies.insert(e, kept) {
+            Ok(_) => {}
+            Err(_) => return Err(AllocError),
+        }
         self.next = self.copies.len();
+        Ok(())
     }
 }

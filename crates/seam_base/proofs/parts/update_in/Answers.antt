@@ -7,7 +7,6 @@ use Rattle.seam_base.specs.Marks.{passes}
 use Rattle.seam_base.proofs.Marks.{unchanged, changed_none, pass_alike}
 use Rattle.seam_base.proofs.PartLemmas.{on_err, either_way}
 use Rattle.seam_base.proofs.parts.update_in.Goals as goal
-use Rattle.seam_base.proofs.parts.update_in.Goals.{After-items-then-refuses-1}
 
 pub returns-in_default-clause-after : goal.returns-in_default-clause-after
 returns-in_default-clause-after c =
@@ -16,23 +15,23 @@ returns-in_default-clause-after c =
     sym (changed_none m e (with_update c.args.update.now) c.in_default.ensures.item)
     ∙ ap (λ o. if (stray_update c.args.update.now o) then m else changed_at (with_update c.args.update.now) m e) c.in_default.ensures.item
 
-module _ (c : After-items-then-refuses-1) where
-  stays : table.insert c.args.items.now.items c.args.update.now.entity c.in-Some.part.now ≡ c.args.items.now.items
-  stays = unchanged c.args.items.now.items c.args.update.now.entity c.in-Some.part.now c.in-Some.part.now _ c.in-Some.ensures.item refl refl
-
 pub returns-then-refuses-clause-after : goal.returns-then-refuses-clause-after
 returns-then-refuses-clause-after c =
     let m = c.args.items.now.items in
     let e = c.args.update.now.entity in
-    stays c
+    unchanged m e c.in-Some.part.now c.in-Some.part.now _ c.in-Some.ensures.item refl refl
     ∙ ap (λ b. if b then m else changed_at (with_update c.args.update.now) m e)
     (c.if-refuses.ensures ∙ ap (stray_update c.args.update.now) c.in-Some.ensures.item)
 
 pub returns-then-refuses-clause-marks : goal.returns-then-refuses-clause-marks
-returns-then-refuses-clause-marks c = λ q. c.requires.marks q ∙ ap (λ n. passes has_update (table.get n q)) (sym (stays c))
+returns-then-refuses-clause-marks c =
+    let stays = unchanged c.args.items.now.items c.args.update.now.entity c.in-Some.part.now c.in-Some.part.now _ c.in-Some.ensures.item refl refl in
+    λ q. c.requires.marks q ∙ ap (λ n. passes has_update (table.get n q)) (sym stays)
 
 pub returns-then-refuses-clause-others : goal.returns-then-refuses-clause-others
-returns-then-refuses-clause-others c = λ q. ap (λ n. passes has_call (table.get n q)) (stays c)
+returns-then-refuses-clause-others c =
+    let stays = unchanged c.args.items.now.items c.args.update.now.entity c.in-Some.part.now c.in-Some.part.now _ c.in-Some.ensures.item refl refl in
+    λ q. ap (λ n. passes has_call (table.get n q)) stays
 
 pub returns-clause-err : goal.returns-clause-err
 returns-clause-err c = on_err c.update_part.result

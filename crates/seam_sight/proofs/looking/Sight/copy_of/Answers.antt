@@ -1,9 +1,10 @@
-use Rattle.std.proofs.Common.{ap, sym, subst, ◌∙◌}
+use Rattle.std.proofs.Common.{sym, subst, ◌∙◌}
 use Rattle.seam_steps.specs.Cells.{CellView}
 use Rattle.seam_parts.specs.Kept.{here_in}
 use Rattle.seam_sight.specs.Looking.{seeing}
-use Rattle.seam_sight.specs.Told.{told_of, known_with, AreToldBut}
+use Rattle.seam_sight.specs.Told.{known_with, AreToldBut}
 use Rattle.seam_sight.proofs.LookLemmas.{self_unknown, known_here}
+use Rattle.seam_sight.proofs.ToldLemmas.{still_told}
 use Rattle.seam_sight.proofs.looking.Sight.copy_of.Goals as goal
 
 pub returns-then-e-self-clause-copy : goal.returns-then-e-self-clause-copy
@@ -32,6 +33,15 @@ returns-clause-told c =
     let own = c.args.self.now.own in
     let known = known_with (here_in c.args.self.now.known.now) c.args.self.now.reals.now.items c.args.self.now.copies.now.ghosts in
     let same = c.copy_of.ensures.same in
-    let still = c.keep.ensures own known c.if-e-self.false (sym c.in_ok-copy-2.ensures ∙ c.in-Some-2.is)
-    (subst (AreToldBut own known) (sym same) c.requires.told) in
-    (still.0, still.1 ∙ ap (told_of own) same)
+    still_told own known c.args.told.now c.copy_of.new.self c.keep.new.self same
+    (c.keep.ensures.told own known c.if-e-self.false (sym c.in_ok-copy-2.ensures ∙ c.in-Some-2.is)
+    (subst (AreToldBut own known) (sym same) c.requires.told))
+
+pub returns-in_err-keep-clause-told : goal.returns-in_err-keep-clause-told
+returns-in_err-keep-clause-told c =
+    let own = c.args.self.now.own in
+    let known = known_with (here_in c.args.self.now.known.now) c.args.self.now.reals.now.items c.args.self.now.copies.now.ghosts in
+    let same = c.copy_of.ensures.same in
+    still_told own known c.args.told.now c.copy_of.new.self c.keep.new.self same
+    (c.keep.ensures.told own known c.if-e-self.false (sym c.in_ok-copy-2.ensures ∙ c.in-Some-2.is)
+    (subst (AreToldBut own known) (sym same) c.requires.told))
