@@ -1,11 +1,15 @@
 -- Marks beside base parts: what they say of the parts, and how they follow them.
-use Rattle.std.proofs.Common.{◌≡◌, ℕ, Bool, true, false, cond, ◌&&◌, T, is_some, List}
+use Rattle.std.proofs.Common.{◌≡◌, ℕ, Bool, true, false, cond, ◌&&◌, ◌||◌, T, is_some, List, length, slice_get}
 use Rattle.std.proofs.Common.{[], ◌∷◌, find, Option, None, Some, refl, sym, ap, ◌∙◌, arith}
+use Rattle.std.specs.BTreeMap.{is_at}
+use Rattle.std.specs.List.{list_any, AllByRecursion}
+use Rattle.std.specs.List.Sorted.{IsStrictlySortedBy}
+use Rattle.std.proofs.lemmas.Map.Keys.{sorted_head, sorted_tail}
 use Rattle.std.specs.Prelude.{option_map}
 use Rattle.std.specs.Ordering.{nat_cmp, is_lt, is_eq, eq_by_cmp, ordering_reverse}
 use Rattle.std.specs.declared.cmp.Ordering.{Ordering}
 use Rattle.std.specs.declared.cmp.Ordering.TheVariants.{Less, Equal, Greater}
-use Rattle.std.specs.Cmp.{nat_cmp_total}
+use Rattle.std.specs.Cmp.{nat_cmp_total, tied_itself}
 use Rattle.std.specs.FinMap as table
 use Rattle.std.specs.FinMap.Entries.{is_sorted, below_all, find as key_find}
 use Rattle.std.proofs.lemmas.Bool.Decides.{nat_tests}
@@ -14,7 +18,7 @@ use Rattle.seam_steps.specs.Maps.{Map, number_of, set_at}
 use Rattle.seam_steps.specs.Bases.{PartView}
 use Rattle.seam_steps.proofs.Slots.{set_at-same}
 use Rattle.seam_base.specs.Parts.{changed_at}
-use Rattle.seam_base.specs.Marks.{passes, AreMarked, PassAlike, marked, any_mark, passes_in, least}
+use Rattle.seam_base.specs.Marks.{passes, AreMarked, PassAlike, marked, bare, marks_of, any_mark, passes_in, least}
 
 -- ---- below what a search of the entries finds, nothing passes
 
@@ -223,3 +227,91 @@ module _ (m : Map PartView) (e : ℕ) where
   pub changed_same : (f : PartView → PartView) (p : PartView) → Some p ≡ table.get m e → f p ≡ p → changed_at f m e ≡ m
   changed_same f p at same =
       changed_there f p at ∙ (ap (table.insert m e) same ∙ (ap (set_at m e) at ∙ set_at-same m e))
+
+-- ---- marks as the standard library keeps them
+
+abbrev mark_of : Bool → Option (Unit {0})
+mark_of b = cond b (Some tt) None
+
+got_mark : (q : ℕ) (es : List ℕ) → table.get (marks_of es) q ≡ mark_of (list_any (is_at (nat_cmp q)) es)
+got_mark q es = table.get-from_entries nat_cmp_total (bare es) q ∙ found_mark es
+  where
+    found_mark : (es : List ℕ) → key_find nat_cmp q (bare es) ≡ mark_of (list_any (is_at (nat_cmp q)) es)
+    found_mark [] = refl
+    found_mark (e ∷ es) = ap (cond (eq_by_cmp nat_cmp q e) (Some tt)) (found_mark es) ∙ by (eq_by_cmp nat_cmp q e)
+      where
+        by : (b : Bool) → cond b (Some tt) (mark_of (list_any (is_at (nat_cmp q)) es)) ≡ mark_of (b || list_any (is_at (nat_cmp q)) es)
+        by true = refl
+        by false = refl
+
+turned : (q e : ℕ) → is_eq (nat_cmp e q) ≡ eq_by_cmp nat_cmp q e
+turned q e = grind (arith, nat_tests)
+
+-- after an entity was put in, or taken out
+pub mark_changed : (old new : List ℕ) (e : ℕ) (b : Bool) →
+    ((q : ℕ) → list_any (is_at (nat_cmp q)) new ≡ cond (is_at (nat_cmp e) q) b (list_any (is_at (nat_cmp q)) old)) →
+    marks_of new ≡ marked b (marks_of old) e tt
+mark_changed old new e b updates =
+    table.same_map nat_cmp_total table.nat_cmp-IsAntisymmetric _ _ (λ q.
+    got_mark q new
+    ∙ (ap mark_of (updates q ∙ ap (λ t. cond t b (list_any (is_at (nat_cmp q)) old)) (turned q e))
+    ∙ (apart (eq_by_cmp nat_cmp q e) (list_any (is_at (nat_cmp q)) old)
+    ∙ (ap (cond (eq_by_cmp nat_cmp q e) (mark_of b)) (sym (got_mark q old)) ∙ sym (got b q)))))
+  where
+    apart : (t r : Bool) → mark_of (cond t b r) ≡ cond t (mark_of b) (mark_of r)
+    apart true r = refl
+    apart false r = refl
+
+    got : (b : Bool) (q : ℕ) → table.get (marked b (marks_of old) e tt) q ≡ cond (eq_by_cmp nat_cmp q e) (mark_of b) (table.get (marks_of old) q)
+    got true q = table.get-insert nat_cmp_total (marks_of old) e tt q
+    got false q = table.get-remove nat_cmp_total (marks_of old) e q
+
+pub marked_there : (m : Map (Unit {0})) (e : ℕ) → table.get (table.insert m e tt) e ≡ Some tt
+marked_there m e =
+    table.get-insert nat_cmp_total m e tt e ∙ ap (λ o. cond (is_eq o) (Some tt) (table.get m e)) (tied_itself nat_cmp_total e)
+
+-- a mark that is kept, or taken again
+pub marked_then : (b : Bool) (m : Map (Unit {0})) (e : ℕ) → marked b (table.insert m e tt) e tt ≡ marked b m e tt
+marked_then b m e =
+    table.same_map nat_cmp_total table.nat_cmp-IsAntisymmetric _ _ (λ q. by b q)
+  where
+    twice : {A : Type 0} (t : Bool) (x y r : A) → cond t x (cond t y r) ≡ cond t x r
+    twice true x y r = refl
+    twice false x y r = refl
+
+    by : (b : Bool) (q : ℕ) → table.get (marked b (table.insert m e tt) e tt) q ≡ table.get (marked b m e tt) q
+    by true q =
+        table.get-insert nat_cmp_total (table.insert m e tt) e tt q
+        ∙ (ap (cond (eq_by_cmp nat_cmp q e) (Some tt)) (table.get-insert nat_cmp_total m e tt q)
+        ∙ (twice (eq_by_cmp nat_cmp q e) (Some tt) (Some tt) (table.get m q) ∙ sym (table.get-insert nat_cmp_total m e tt q)))
+    by false q =
+        table.get-remove nat_cmp_total (table.insert m e tt) e q
+        ∙ (ap (cond (eq_by_cmp nat_cmp q e) None) (table.get-insert nat_cmp_total m e tt q)
+        ∙ (twice (eq_by_cmp nat_cmp q e) None (Some tt) (table.get m q) ∙ sym (table.get-remove nat_cmp_total m e q)))
+
+pub same_mark : (m : Map (Unit {0})) (e : ℕ) → table.get m e ≡ Some tt → m ≡ table.insert m e tt
+same_mark m e there = sym (ap (set_at m e) (sym there) ∙ set_at-same m e)
+
+put_below : (k : ℕ) (es : List ℕ) → AllByRecursion (λ y. nat_cmp k y ≡ Less) es →
+    table.put nat_cmp k tt (bare es) ≡ (k, tt) ∷ bare es
+put_below k [] h = refl
+put_below k (e ∷ es) h = rw h.0 refl
+
+no_length : {A : Type 0} (xs : List A) → length xs ≡ 0 → xs ≡ []
+no_length [] e = refl
+no_length (x ∷ xs) e = absurd (omega arith)
+
+marks_in_order : (es : List ℕ) → IsStrictlySortedBy nat_cmp es → table.entries (marks_of es) ≡ bare es
+marks_in_order [] rises = no_length _ (sym (table.len-entries table.empty) ∙ table.len-empty nat_cmp _)
+marks_in_order (e ∷ es) rises =
+    table.entries-insert nat_cmp_total (marks_of es) e tt
+    ∙ (ap (table.put nat_cmp e tt) (marks_in_order es (sorted_tail nat_cmp e es rises)) ∙ put_below e es (sorted_head nat_cmp e es rises))
+
+-- the first of them is the least
+pub first_is_least : (es : List ℕ) → IsStrictlySortedBy nat_cmp es →
+    slice_get es 0 ≡ option_map number_of (find any_mark (table.entries (marks_of es)))
+first_is_least es rises = by es ∙ sym (ap (λ l. option_map number_of (find any_mark l)) (marks_in_order es rises))
+  where
+    by : (es : List ℕ) → slice_get es 0 ≡ option_map number_of (find any_mark (bare es))
+    by [] = refl
+    by (e ∷ es) = refl

@@ -1,5 +1,5 @@
 -- Which base parts are marked, so that the next one is found without a search of all.
-use Rattle.std.specs.Prelude.{◌≡◌, ℕ, Bool, true, false, is_some, Option, None, Some, find, option_map}
+use Rattle.std.specs.Prelude.{◌≡◌, ℕ, Bool, true, false, is_some, List, Option, None, Some, find, option_map, map as each}
 use Rattle.std.specs.FinMap as table
 use Rattle.seam_steps.specs.Maps.{Map, number_of}
 use Rattle.seam_steps.specs.Bases.{PartView}
@@ -17,6 +17,14 @@ AreMarked test marks parts = (e : ℕ) → is_some (table.get marks e) ≡ passe
 abbrev pub marked : {M : Type 0} → Bool → Map M → ℕ → M → Map M
 marked true marks e m = table.insert marks e m
 marked false marks e m = table.remove marks e
+
+-- the entities, each with nothing
+abbrev pub bare : List ℕ → List (ℕ × Unit {0})
+bare es = each (λ e. (e, tt)) es
+
+-- the marks of these entities
+abbrev pub marks_of : List ℕ → Map (Unit {0})
+marks_of es = table.from_entries (bare es)
 
 abbrev pub any_mark : {M : Type 0} → ℕ × M → Bool
 any_mark p = true

@@ -9,6 +9,7 @@
 
 mod calls;
 mod known;
+mod mark_set;
 mod node;
 mod orders;
 mod part;

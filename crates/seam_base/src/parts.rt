@@ -1,10 +1,9 @@
 //! The base parts of a node, and marks of those that are ready.
 
 ghost use Rattle.std.specs.Prelude.{◌≡◌, ◌≤◌, if◌then◌else◌, ℕ, true};
-ghost use Rattle.std.specs.Prelude.{false, find, OnOk, OnErr, IfErr, Some, option_copied, option_map};
+ghost use Rattle.std.specs.Prelude.{false, OnOk, OnErr, IfErr, Some, option_copied};
 ghost use Rattle.std.specs.FinMap as table;
-ghost use Rattle.std.specs.FinSet as set;
-ghost use Rattle.seam_steps.specs.Maps.{Map, number_of, each_value};
+ghost use Rattle.seam_steps.specs.Maps.{Map, each_value};
 ghost use Rattle.seam_steps.specs.Bases.{PartView};
 ghost use Rattle.seam_defs.specs.declared.settings.Settings.{Settings as AllSettings};
 ghost use Rattle.seam_entity.specs.Preparing.{node_with};
@@ -12,9 +11,10 @@ ghost use Rattle.seam_steps.specs.Loads.{with_proxy, new_part, part_begins};
 ghost use Rattle.seam_steps.specs.BaseCases.{stray_base_call, stray_proxy_update, may_execute, is_base_node_of};
 ghost use Rattle.seam_base.specs.Nodes.{here_in, has_call, has_update, has_client, may_be_shown};
 ghost use Rattle.seam_base.specs.Parts.{changed_at, with_call, with_ready_call, with_update, parts_with_update, with_shown};
-ghost use Rattle.seam_base.specs.Marks.{AreMarked, PassAlike, passes, marked, any_mark, least};
+ghost use Rattle.seam_base.specs.Marks.{AreMarked, PassAlike, passes, marked, least};
 
 use crate::known::Known;
+use crate::mark_set::MarkSet;
 use crate::part::BasePart;
 use seam_call::{Call, Update};
 use seam_defs::{Defs, MOST_BASE_NODES};
@@ -29,8 +29,8 @@ use std::marker::Model;
 #[derive(Drop)]
 pub struct Parts {
     items: Table<BasePart>,
-    calls: Table<()>,
-    updates: Table<()>,
+    calls: MarkSet,
+    updates: MarkSet,
 }
 
 impl Model for Parts {
@@ -48,35 +48,24 @@ impl Model for Parts {
 
     ghost view = { λ p. p.items.items };
 
-    ghost invariant = { λ p. AreMarked has_call p.calls.items p.items.items × AreMarked has_update p.updates.items p.items.items };
+    ghost invariant = { λ p. AreMarked has_call p.calls p.items.items × AreMarked has_update p.updates p.items.items };
 }
 
-// Marks the entity, or takes the mark and its room.
-fn mark(marks: &mut Table<()>, e: u32, is_ready: bool)
-    requires { set.contains marks.old.room e ≡ true }
-    ensures { marks.new.items ≡ marked is_ready marks.old.items e tt }
+// Leaves the entity its mark where it is ready, and takes it away else.
+fn mark(marks: &mut MarkSet, e: u32, is_ready: bool)
+    requires { table.get marks.old e ≡ Some tt }
+    ensures { marks.new ≡ marked is_ready marks.old e tt }
 {
     if is_ready {
-        let _old = marks.put_reserved(e, ());
-    } else {
-        let _old = marks.remove(e);
+        return;
     }
-}
-
-// The least entity that is marked.
-fn least_of(marks: &Table<()>) -> Option<u32>
-    ensures { result ≡ option_map number_of (find any_mark (table.entries marks.now.items)) }
-{
-    match marks.next_after(None) {
-        Some((e, _)) => Some(e),
-        None => None,
-    }
+    marks.remove(e);
 }
 
 // Offers the update to the client of its part. Most leave it as ready as it was, and need no other mark.
 fn update_part(
     part: &mut BasePart,
-    updates: &mut Table<()>,
+    updates: &mut MarkSet,
     update: &mut Update,
 ) -> Result<(), AllocError>
     requires fits { stray_proxy_update update.old part.old.proxy ≡ false }
@@ -84,13 +73,13 @@ fn update_part(
     ensures err { OnErr result (part.new ≡ part.old) }
     ensures err_update { OnErr result (update.new ≡ update.old) }
     ensures marks { (parts : Map PartView) → Some part.old ≡ table.get parts update.old.entity →
-        AreMarked has_update updates.old.items parts → AreMarked has_update updates.new.items (table.insert parts update.old.entity part.new) }
+        AreMarked has_update updates.old parts → AreMarked has_update updates.new (table.insert parts update.old.entity part.new) }
 {
     if part.stays_as_ready(update) {
         return part.offer_update(update);
     }
     let e = update.entity;
-    updates.reserve(e)?;
+    updates.insert(e)?;
     let done = part.offer_update(update);
     mark(updates, e, part.is_client_ready());
     done
@@ -99,14 +88,14 @@ fn update_part(
 // Offers the update to the client of the entity's part, if it is here and may be offered it.
 fn update_in(
     items: &mut Table<BasePart>,
-    updates: &mut Table<()>,
+    updates: &mut MarkSet,
     update: &mut Update,
 ) -> Result<(), AllocError>
-    requires marks { AreMarked has_update updates.old.items items.old.items }
+    requires marks { AreMarked has_update updates.old items.old.items }
     ensures after { OnOk result (items.new.items ≡ parts_with_update update.old items.old.items) }
     ensures err { OnErr result (items.new.items ≡ items.old.items) }
     ensures err_update { OnErr result (update.new ≡ update.old) }
-    ensures marks { AreMarked has_update updates.new.items items.new.items }
+    ensures marks { AreMarked has_update updates.new items.new.items }
     ensures others { PassAlike has_call items.old.items items.new.items }
 {
     let Some(part) = items.get_mut(update.entity) else {
@@ -121,22 +110,22 @@ fn update_in(
 // Offers the call to the entity's part, which may be offered it.
 fn call_in(
     items: &mut Table<BasePart>,
-    calls: &mut Table<()>,
+    calls: &mut MarkSet,
     known: &Known,
     call: Call,
 ) -> Result<(), NoMemoryFor<Call>>
     requires fits { stray_base_call (here_in known.now) call (table.get items.old.items call.entity) ≡ false }
-    requires marks { AreMarked has_call calls.old.items items.old.items }
+    requires marks { AreMarked has_call calls.old items.old.items }
     ensures after { OnOk result (items.new.items ≡ changed_at (with_call (here_in known.now) call) items.old.items call.entity) }
     ensures err { OnErr result (items.new.items ≡ items.old.items) }
     ensures err_item { IfErr result (λ e. e.item ≡ call) }
-    ensures marks { AreMarked has_call calls.new.items items.new.items }
+    ensures marks { AreMarked has_call calls.new items.new.items }
     ensures others { PassAlike has_update items.old.items items.new.items }
 {
     let e = call.entity;
-    if calls.reserve(e).is_err() {
+    let Ok(()) = calls.insert(e) else {
         return Err(NoMemoryFor { item: call });
-    }
+    };
     let Some(part) = items.get_mut(e) else {
         unreachable!()
     };
@@ -148,18 +137,18 @@ fn call_in(
 // Executes a ready call of the entity's part.
 fn ready_in(
     items: &mut Table<BasePart>,
-    calls: &mut Table<()>,
+    calls: &mut MarkSet,
     known: &Known,
     e: u32,
 ) -> Result<(), AllocError>
     requires may { passes may_execute (table.get items.old.items e) ≡ true }
-    requires marks { AreMarked has_call calls.old.items items.old.items }
+    requires marks { AreMarked has_call calls.old items.old.items }
     ensures after { OnOk result (items.new.items ≡ changed_at (with_ready_call (here_in known.now)) items.old.items e) }
     ensures err { OnErr result (items.new.items ≡ items.old.items) }
-    ensures marks { AreMarked has_call calls.new.items items.new.items }
+    ensures marks { AreMarked has_call calls.new items.new.items }
     ensures others { PassAlike has_update items.old.items items.new.items }
 {
-    calls.reserve(e)?;
+    calls.insert(e)?;
     let Some(part) = items.get_mut(e) else {
         unreachable!()
     };
@@ -169,15 +158,15 @@ fn ready_in(
 }
 
 // Shows the client of the entity's part the ready update.
-fn show_in(items: &mut Table<BasePart>, updates: &mut Table<()>, e: u32) -> Result<(), AllocError>
+fn show_in(items: &mut Table<BasePart>, updates: &mut MarkSet, e: u32) -> Result<(), AllocError>
     requires may { passes may_be_shown (table.get items.old.items e) ≡ true }
-    requires marks { AreMarked has_update updates.old.items items.old.items }
+    requires marks { AreMarked has_update updates.old items.old.items }
     ensures after { OnOk result (items.new.items ≡ changed_at with_shown items.old.items e) }
     ensures err { OnErr result (items.new.items ≡ items.old.items) }
-    ensures marks { AreMarked has_update updates.new.items items.new.items }
+    ensures marks { AreMarked has_update updates.new items.new.items }
     ensures others { PassAlike has_call items.old.items items.new.items }
 {
-    updates.reserve(e)?;
+    updates.insert(e)?;
     let Some(part) = items.get_mut(e) else {
         unreachable!()
     };
@@ -223,8 +212,8 @@ impl Parts {
     {
         Parts {
             items: Table::new(alloc),
-            calls: Table::new(alloc),
-            updates: Table::new(alloc),
+            calls: MarkSet::new(alloc),
+            updates: MarkSet::new(alloc),
         }
     }
 
@@ -252,14 +241,14 @@ impl Parts {
     pub fn least_call(&self) -> Option<u32>
         ensures { result ≡ least has_call self.now }
     {
-        least_of(&self.calls)
+        self.calls.least()
     }
 
     /// The least entity whose part's client has a ready update.
     pub fn least_update(&self) -> Option<u32>
         ensures { result ≡ least has_update self.now }
     {
-        least_of(&self.updates)
+        self.updates.least()
     }
 
     /// Whether the entity's part is not here, or may not be offered the call.

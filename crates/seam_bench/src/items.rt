@@ -70,8 +70,8 @@ fn keep(book: &mut GhostBook<u64>, e: u32, beat: u64) -> Result<(), AllocError> 
     }
 }
 
-/// `GhostBook::next_after` over so many entities whose copies were dropped, and one copy behind them.
-pub fn walks(rt: &(impl Clock + Alloc<A = Global>), entities: u32, calls: u32) -> io::Result<Cost> {
+/// `GhostBook::entities` where the copies of so many entities were dropped, and one is left.
+pub fn lists(rt: &(impl Clock + Alloc<A = Global>), entities: u32, calls: u32) -> io::Result<Cost> {
     let mut book = GhostBook::new(rt.alloc());
     for e in 0..entities {
         let _kept = book.drop_copy(e, 1)?;
@@ -80,8 +80,8 @@ pub fn walks(rt: &(impl Clock + Alloc<A = Global>), entities: u32, calls: u32) -
     let mut sum = 0u64;
     let start = Instant::now(rt)?;
     for _ in 0..calls {
-        if let Some((e, _)) = book.next_after(None) {
-            sum = sum.wrapping_add(u64::from(e));
+        for e in &book.entities(rt.alloc())? {
+            sum = sum.wrapping_add(u64::from(*e));
         }
     }
     Cost::since(rt, start, calls, sum)

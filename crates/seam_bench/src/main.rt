@@ -26,7 +26,7 @@ const NAMES: [&str; LINES] = [
     "InOrder::offer, in order",
     "InOrder::offer, in mixed order",
     "GhostBook::set",
-    "GhostBook::next_after, one copy",
+    "GhostBook::entities, one copy",
 ];
 
 // How often each call is made, and of how many entities.
@@ -76,7 +76,7 @@ fn costs(rt: &HostRuntime, sizes: &Sizes) -> io::Result<[Cost; LINES]> {
         items::offers(rt, sizes.items)?,
         items::mixed_offers(rt, sizes.items)?,
         items::copies(rt, sizes.items)?,
-        items::walks(rt, sizes.items, sizes.slow)?,
+        items::lists(rt, sizes.items, sizes.slow)?,
     ])
 }
 

@@ -1,9 +1,15 @@
 -- A real that comes, and one that is reaped: what they leave is that of the cell's step.
-use Rattle.std.proofs.Common.{◌≡◌, ℕ, suc, ◌+◌, ◌++◌, Bool, true, false, not, ◌&&◌, List, [], ◌∷◌, Option, None, Some, is_some}
-use Rattle.std.proofs.Common.{refl, sym, ap, ◌∙◌, arith}
+use Rattle.std.proofs.Common.{◌≡◌, ◌<◌, ◌≤◌, ℕ, zero, suc, ◌+◌, ◌++◌, Bool, true, false, not, ◌&&◌}
+use Rattle.std.proofs.Common.{List, [], ◌∷◌, Option, None, Some, is_some}
+use Rattle.std.proofs.Common.{refl, sym, ap, subst, ◌∙◌, arith, nat_lt, get_or}
 use Rattle.std.specs.List.{list_all, range_with_len}
 use Rattle.std.specs.FinMap as table
-use Rattle.std.proofs.lemmas.List.Folds.{list_all-append}
+use Rattle.std.specs.FinSet as set
+use Rattle.std.proofs.lemmas.Bool.Decides.{nat_tests}
+use Rattle.std.proofs.lemmas.List.Folds.{list_all-append, list_all_at}
+use Rattle.std.proofs.lemmas.List.FromFn.{length-range_with_len, get_or-range_with_len}
+use Rattle.seam_tree.specs.Cells.{Cells}
+use Rattle.seam_tree.specs.Division.{Division, cells_of}
 use Rattle.seam_ghosts.specs.declared.Ghost.{Ghost}
 use Rattle.seam_ghosts.specs.Book.{ghost_after}
 use Rattle.seam_machine.specs.declared.machines.Input.TheVariants.{From}
@@ -13,10 +19,11 @@ use Rattle.seam_entity.specs.Reals.{RealView}
 use Rattle.seam_entity.specs.declared.message.Msg.TheVariants.{Hand, Reap}
 use Rattle.seam_steps.specs.Maps.{Map, set_at}
 use Rattle.seam_steps.specs.Slots.{NextPlace, unless_stray}
-use Rattle.seam_steps.specs.CellCases.{stray_reap, reap, may_come, stray_hand, hand_over_comes, currents, drops}
+use Rattle.seam_steps.specs.CellCases.{is_cell_if, stray_reap, reap, may_come, stray_hand, hand_over_comes, currents, drops}
 use Rattle.seam_steps.specs.Cells.{CellView, slot_of, stepped, cell_steps, without}
 use Rattle.seam_steps.proofs.Slots.{set_at-same}
 use Rattle.seam_parts.proofs.NewsLemmas.{range_more}
+use Rattle.seam_cell.specs.Arriving.{is_cell_in}
 
 -- ---- tests of all cells
 
@@ -24,14 +31,47 @@ and_true : (b : Bool) → (b && true) ≡ b
 and_true true = refl
 and_true false = refl
 
-pub all_more : (f : ℕ → Bool) (n : ℕ) (b : Bool) → b ≡ f n → (list_all f (range_with_len 0 n) && b) ≡ list_all f (range_with_len 0 (n + 1))
-all_more f n b is =
+-- the test of one more
+all_more : (f : ℕ → Bool) (n : ℕ) → list_all f (range_with_len 0 (n + 1)) ≡ (list_all f (range_with_len 0 n) && f n)
+all_more f n =
     let e : n + 1 ≡ suc n = omega arith in
     let z : 0 + n ≡ n = omega arith in
-    sym (ap (λ k. list_all f (range_with_len 0 k)) e
+    ap (λ k. list_all f (range_with_len 0 k)) e
     ∙ (ap (list_all f) (range_more 0 n ∙ ap (λ k. range_with_len 0 n ++ k ∷ []) z)
-    ∙ (list_all-append f (range_with_len 0 n) (n ∷ [])
-    ∙ (ap (λ c. list_all f (range_with_len 0 n) && c) (and_true (f n)) ∙ ap (λ c. list_all f (range_with_len 0 n) && c) (sym is)))))
+    ∙ (list_all-append f (range_with_len 0 n) (n ∷ []) ∙ ap (λ c. list_all f (range_with_len 0 n) && c) (and_true (f n))))
+
+module _ (cells : Cells) (t : Division) where
+  abbrev fits : ℕ → Bool
+  fits = is_cell_in cells t
+
+  fit_by : (b : Bool) (k : ℕ) → k < cells_of t → is_cell_if b t k ≡ true
+  fit_by true k below = grind (arith, nat_tests)
+  fit_by false k below = refl
+
+  not_below : (k : ℕ) → cells_of t ≤ k → nat_lt k (cells_of t) ≡ false
+  not_below k beyond = grind (arith, nat_tests)
+
+  -- the cells of the tree fit
+  pub all_fit : (n : ℕ) → n ≤ cells_of t → list_all fits (range_with_len 0 n) ≡ true
+  all_fit zero below = refl
+  all_fit (suc n) below =
+      let e : suc n ≡ n + 1 = omega arith in
+      ap (λ k. list_all fits (range_with_len 0 k)) e
+      ∙ (all_more fits n ∙ (ap (λ b. b && fits n) (all_fit n (omega arith)) ∙ fit_by (set.contains cells n) n (omega arith)))
+
+  -- and so does one that is not in the set
+  pub one_more_fits : (n : ℕ) → list_all fits (range_with_len 0 n) ≡ true → set.contains cells n ≡ false →
+      list_all fits (range_with_len 0 (n + 1)) ≡ true
+  one_more_fits n so_far out =
+      all_more fits n ∙ (ap (λ b. b && fits n) so_far ∙ ap (λ b. is_cell_if b t n) out)
+
+  -- one of the set that the tree has not does not fit
+  pub one_unfit : (n k : ℕ) → k < n → set.contains cells k ≡ true → cells_of t ≤ k → list_all fits (range_with_len 0 n) ≡ false
+  one_unfit n k below in_set beyond =
+      let unfit : fits k ≡ false = ap (λ b. is_cell_if b t k) in_set ∙ not_below k beyond in
+      let at : get_or (range_with_len 0 n) k 0 ≡ k =
+      get_or-range_with_len 0 n k 0 below ∙ (let z : 0 + k ≡ k = omega arith in z) in
+      list_all_at fits (range_with_len 0 n) k 0 (subst (λ m. k < m) (sym (length-range_with_len 0 n)) below) (ap fits at ∙ unfit)
 
 -- ---- a reap
 

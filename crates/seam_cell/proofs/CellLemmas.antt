@@ -1,20 +1,20 @@
 -- Cells after what they hear of ghosts, and a cell without entities.
-use Rattle.std.proofs.Common.{◌≡◌, ◌<◌, ◌≤◌, ℕ, Bool, true, false, cond, not, ◌&&◌, nat_lt, List, [], ◌∷◌, length, Option, None, Some}
+use Rattle.std.proofs.Common.{◌≡◌, ◌<◌, ℕ, Bool, true, false, not, ◌&&◌, List, [], ◌∷◌, length, Option, None, Some}
 use Rattle.std.proofs.Common.{refl, sym, ap}
 use Rattle.std.proofs.Common.{◌∙◌, arith, map, Bor, option_copied, is_some}
 use Rattle.std.specs.List.{filter}
 use Rattle.std.specs.Ordering.{nat_cmp}
 use Rattle.std.specs.FinMap as table
-use Rattle.seam_tree.specs.Division.{Division, IsTree}
+use Rattle.seam_tree.specs.Division.{IsTree}
 use Rattle.seam_ghosts.specs.declared.Ghost.{Ghost}
-use Rattle.seam_ghosts.specs.Book.{BookView, beat_of, with_ghost, after_message, ghost_after}
+use Rattle.seam_ghosts.specs.Book.{ghost_after}
 use Rattle.seam_machine.specs.declared.machines.Input.TheVariants.{From}
 use Rattle.seam_call.specs.declared.call.Call.{Call as CallData}
 use Rattle.seam_call.specs.declared.shown.GhostCopy.{GhostCopy}
 use Rattle.seam_entity.specs.Reals.{RealView}
 use Rattle.seam_entity.specs.declared.message.Msg.TheVariants.{GhostSet, GhostDrop, Call as CallTo}
 use Rattle.seam_entity.specs.Numbers.{is_small}
-use Rattle.seam_entity.specs.Here.{Here, cell_count}
+use Rattle.seam_entity.specs.Here.{cell_count}
 use Rattle.seam_steps.specs.Maps.{Map, set_at, number_of}
 use Rattle.seam_steps.specs.Slots.{NextPlace, SlotStep, unless_stray}
 use Rattle.seam_steps.specs.CellCases.{ghost_set, ghost_drop, stray_ghost_set, stray_call, call, call_next_place, slot_steps}

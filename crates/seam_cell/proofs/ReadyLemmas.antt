@@ -1,22 +1,20 @@
 -- A real that has a ready call, and what the call makes of it.
-use Rattle.std.proofs.Common.{◌≡◌, ◌+◌, ◌<◌, ◌^◌, ℕ, Bool, true, false, is_some, List, Option, None, Some, refl, ap, sym, subst, ◌∙◌}
-use Rattle.std.specs.FinMap as table
+use Rattle.std.proofs.Common.{◌≡◌, ℕ, true, false, is_some, Option, None, Some, refl, ap, sym, subst, ◌∙◌}
 use Rattle.seam_table.proofs.Found.{found}
 use Rattle.seam_tree.specs.Division.{Division}
 use Rattle.seam_order.specs.Held.{OrderView}
-use Rattle.seam_order.specs.Offers.{next_item, after_taking}
+use Rattle.seam_order.specs.Offers.{next_item}
 use Rattle.seam_call.specs.declared.call.Call.{Call as CallData}
 use Rattle.seam_entity.specs.Here.{Here}
 use Rattle.seam_entity.specs.Reals.{RealView}
 use Rattle.seam_entity.specs.Calls.{order_is_ready, ready_order, has_ready}
-use Rattle.seam_entity.specs.Executing.{may_execute, with_deed, with_order, executed_ready, shows}
-use Rattle.seam_entity.specs.Preparing.{with_after, HasReady}
-use Rattle.seam_entity.specs.declared.real.After.{After}
+use Rattle.seam_entity.specs.Executing.{may_execute, executed_ready, shows}
+use Rattle.seam_entity.specs.Preparing.{HasReady}
 use Rattle.seam_steps.specs.Slots.{Slot}
 use Rattle.seam_steps.specs.Settle.{settled}
 use Rattle.seam_steps.specs.CellCases.{ready_call_task, ready_in, executes_ready}
 use Rattle.seam_parts.specs.Stepping.{IsLater}
-use Rattle.seam_cell.proofs.CallLemmas.{CanSettle, RisesLater, can_settle, after_is}
+use Rattle.seam_cell.proofs.CallLemmas.{CanSettle, RisesLater, can_settle}
 
 -- the order and the call of the real's least sender that has a ready call
 pub record Readied (r : RealView) : Type 0 where

@@ -1,10 +1,8 @@
 //! A real comes to a cell.
 
-ghost use Rattle.std.specs.Prelude.{◌≡◌, ℕ, ◌<◌, ◌≤◌, ◌++◌, is_some, true, false, None, Some, IfErr, OnOk, OnErr, map};
+ghost use Rattle.std.specs.Prelude.{◌≡◌, ℕ, ◌<◌, ◌≤◌, ◌++◌, is_some, None, IfErr, OnOk, OnErr, map};
 ghost use Rattle.std.specs.List.{list_all, range_with_len};
 ghost use Rattle.std.specs.FinMap as table;
-ghost use Rattle.std.specs.FinSet as set;
-ghost use Rattle.seam_tree.specs.Division.{Division, cells_of};
 ghost use Rattle.seam_ghosts.specs.Book.{ghost_after};
 ghost use Rattle.seam_machine.specs.declared.machines.Input.TheVariants.{From};
 ghost use Rattle.seam_defs.specs.declared.limits.TheConstants.{MOST_BASE_NODES};
@@ -13,7 +11,7 @@ ghost use Rattle.seam_entity.specs.declared.message.Msg.TheVariants as msg;
 ghost use Rattle.seam_steps.specs.Maps.{set_at};
 ghost use Rattle.seam_steps.specs.CellCases.{may_come as real_may_come, is_in_tree as real_is_in_tree};
 ghost use Rattle.seam_steps.specs.CellCases.{has_small_numbers as numbers_are_small};
-ghost use Rattle.seam_steps.specs.CellCases.{is_cell_if, currents};
+ghost use Rattle.seam_steps.specs.CellCases.{currents};
 ghost use Rattle.seam_steps.specs.Cells.{cell_steps};
 ghost use Rattle.seam_parts.specs.Kept.{here_in, cell_of, AreKept, IsOpen};
 ghost use Rattle.seam_cell.specs.Arriving.{current_of, is_cell_in};
@@ -22,28 +20,21 @@ ghost use Rattle.seam_parts.specs.declared.lists.Lists.{Lists as AnyLists};
 use seam_entity::{Msg, Parcel, Real, is_small};
 use seam_machine::Out;
 use seam_memory::NoMemoryFor;
-use seam_parts::{Known, Places, Reals, make_place, put_in, tell_own};
+use seam_parts::{CopyBook, Known, Next, Places, Reals, close, make_place, put_in};
+use seam_table::Table;
 use seam_tree::{CellSet, MOST_CELLS, Tree};
 use std::alloc::AllocError;
 
-// Whether the cell is one of the tree where the first is true.
-fn is_cell(holds: bool, cells: u8, k: u8) -> bool
-    ensures { (t : Division) → cells_of t ≡ cells → result ≡ is_cell_if holds t k }
-{
-    !holds || k < cells
-}
-
-// Whether all cells of the set are in the tree.
+// Whether all cells of the set are in the tree, whose cells have the least numbers.
 fn are_cells(tree: &Tree, haunts: CellSet) -> bool
     ensures { result ≡ list_all (is_cell_in haunts tree.now) cell_numbers }
 {
-    let cells = tree.cells();
-    let mut all = true;
-    for k in 0..16 {
-        let fits = is_cell(haunts.holds(k), cells, k);
-        all = all && fits;
+    for k in tree.cells()..16 {
+        if haunts.holds(k) {
+            return false;
+        }
     }
-    all
+    true
 }
 
 // Whether this cell and the real's haunts are cells of the tree.
@@ -67,29 +58,33 @@ fn may_come(known: &Known, real: &Real) -> bool
     real.fits(&known.defs, &known.settings) && (is_in_tree(known, real) && has_small_numbers(real))
 }
 
-// Makes room for the real, and for what is told of it.
+// Makes room for the real, and for what is told of it, and drops the own book's copy. If allocation fails, nothing has changed.
 fn make_way(
     known: &Known,
     real: &Real,
     reals: &mut Reals,
-    places: &mut Places,
+    copies: &mut CopyBook,
     out: &mut Out<Msg>,
 ) -> Result<(), AllocError>
     requires gone { table.get reals.old.items.items real.now.core.entity ≡ None }
     requires marks { AreKept reals.old }
     ensures same_reals { reals.new.items.items ≡ reals.old.items.items }
-    ensures same_nexts { places.new.nexts ≡ places.old.nexts }
-    ensures same_ghosts { places.new.copies.ghosts ≡ places.old.copies.ghosts }
     ensures same_out { out.new.items ≡ out.old.items }
     ensures open { OnOk result (IsOpen reals.new real.now.core.entity (is_some real.now.core.witness)) }
-    ensures room { OnOk result (set.contains places.new.copies.room real.now.core.entity ≡ true) }
+    ensures ghosts { OnOk result (copies.new.ghosts ≡ set_at copies.old.ghosts real.now.core.entity
+        (ghost_after (table.get copies.old.ghosts real.now.core.entity) (record { beat = real.now.core.beat; copy = None }))) }
     ensures spare { OnOk result (known.now.settings.bases ≤ out.new.spare) }
+    ensures err_ghosts { OnErr result (copies.new.ghosts ≡ copies.old.ghosts) }
     ensures err_marks { OnErr result (AreKept reals.new) }
 {
     let e = real.entity();
     out.reserve(known.settings.bases as usize)?;
-    places.copies.reserve(e)?;
-    make_place(reals, e, real.has_witness())
+    make_place(reals, e, real.has_witness())?;
+    if let Err(error) = copies.drop_copy(e, real.beat()) {
+        close(reals, e);
+        return Err(error);
+    }
+    Ok(())
 }
 
 // Tells each base node, in rising number, that the entity's real is here, in room that was made before.
@@ -103,22 +98,24 @@ fn tell_bases(known: &Known, e: u32, generation: u64, out: &mut Out<Msg>)
     }
 }
 
-// Puts the real in its place: its next place goes, the own book drops the copy, and the base nodes are told. It takes no memory.
-fn settle_in(known: &Known, real: Real, reals: &mut Reals, places: &mut Places, out: &mut Out<Msg>)
+// Puts the real in its place: its next place goes, and the base nodes are told. It takes no memory.
+fn settle_in(
+    known: &Known,
+    real: Real,
+    reals: &mut Reals,
+    nexts: &mut Table<Next>,
+    out: &mut Out<Msg>,
+)
     requires most { known.now.settings.bases ≤ MOST_BASE_NODES }
     requires open { IsOpen reals.old real.core.entity (is_some real.core.witness) }
-    requires room { set.contains places.old.copies.room real.core.entity ≡ true }
     requires spare { known.now.settings.bases ≤ out.old.spare }
     ensures reals { reals.new.items.items ≡ table.insert reals.old.items.items real.core.entity real.core }
-    ensures nexts { places.new.nexts.items ≡ table.remove places.old.nexts.items real.core.entity }
-    ensures ghosts { places.new.copies.ghosts ≡ set_at places.old.copies.ghosts real.core.entity
-        (ghost_after (table.get places.old.copies.ghosts real.core.entity) (record { beat = real.core.beat; copy = None })) }
+    ensures nexts { nexts.new.items ≡ table.remove nexts.old.items real.core.entity }
     ensures sent { out.new.items ≡ out.old.items ++ currents (here_in known.now) real.core }
     ensures marks { AreKept reals.new }
 {
     let e = real.entity();
-    tell_own(&mut places.copies, e, real.beat(), None);
-    let _next = places.nexts.remove(e);
+    let _next = nexts.remove(e);
     tell_bases(known, e, real.generation(), out);
     put_in(reals, e, real);
 }
@@ -149,10 +146,10 @@ pub fn arrive(
     if !may_come(known, &parcel.real) {
         return Ok(());
     }
-    if make_way(known, &parcel.real, reals, places, out).is_err() {
+    if make_way(known, &parcel.real, reals, &mut places.copies, out).is_err() {
         return Err(NoMemoryFor { item: parcel });
     }
     let Parcel { real } = parcel;
-    settle_in(known, real, reals, places, out);
+    settle_in(known, real, reals, &mut places.nexts, out);
     Ok(())
 }

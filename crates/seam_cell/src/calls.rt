@@ -16,7 +16,7 @@ use seam_call::Call;
 use seam_entity::{After, Msg, Real, fits_cell_part, may_rise};
 use seam_machine::Out;
 use seam_memory::NoMemoryFor;
-use seam_parts::{Known, Places, Ready, Subject, make_room, ready_for, settle_real};
+use seam_parts::{Known, Places, Ready, Subject, begin, ready_for, settle_real};
 use std::alloc::{AllocError, Global};
 
 /// A real, and a call whose turn it is.
@@ -140,12 +140,12 @@ pub fn execute_turn(
         return refused(real, call);
     };
     let Made { after, ready } = made;
-    if make_room(&ready, places, out).is_err() {
+    let Ok(begun) = begin(ready, places, out) else {
         return refused(real, call);
-    }
+    };
     real.execute_after(call, after);
     Called {
-        left: settle_real(real, ready, places, out),
+        left: settle_real(real, begun, places, out),
         result: Ok(()),
     }
 }

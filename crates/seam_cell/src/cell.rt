@@ -154,7 +154,7 @@ impl Cell {
         ensures err { OnErr result (self.new ≡ self.old) }
     {
         self.told.clear();
-        begin_round(&mut self.reals, &mut self.lists.survey)?;
+        begin_round(alloc, &mut self.reals, &mut self.lists.survey)?;
         // `size` is called for its clause that it is a tree.
         let _ = tree.size();
         self.known.tree = tree;

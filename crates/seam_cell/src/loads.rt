@@ -1,9 +1,7 @@
 //! What the loads do to the reals of a cell.
 
-ghost use Rattle.std.specs.Prelude.{◌≡◌, ◌<◌, ◌^◌, ◌++◌, [], ◌∷◌, OnOk, OnErr, IfOk, None};
+ghost use Rattle.std.specs.Prelude.{◌≡◌, [], OnOk, OnErr, IfOk, None};
 ghost use Rattle.std.specs.FinMap as table;
-ghost use Rattle.std.specs.List.Sorted.{IsStrictlySortedBy};
-ghost use Rattle.std.specs.Ordering.{nat_cmp};
 ghost use Rattle.seam_entity.specs.Executing.{created, real_begins};
 ghost use Rattle.seam_entity.specs.Looks.{with_witness};
 ghost use Rattle.seam_steps.specs.Maps.{each_value};
@@ -70,29 +68,28 @@ pub fn give_witness(
     Ok(())
 }
 
-// Adds an entity to those so far.
-fn add(all: &mut EntityRow, e: u32) -> Result<(), AllocError>
-    ensures after { OnOk result (all.new ≡ all.old ++ e ∷ []) }
-    ensures small { e < 2 ^ 32 }
-{
-    all.push(e)
-}
-
 // The entities of all reals, in a row that has none yet.
-fn all_entities(mut all: EntityRow, items: &RealTable) -> Result<EntityRow, AllocError>
+fn all_entities(
+    alloc: Global,
+    mut all: EntityRow,
+    items: &RealTable,
+) -> Result<EntityRow, AllocError>
     requires { all ≡ [] }
-    ensures all { IfOk result (λ s. s ≡ table.keys items.now.items) }
-    ensures rising { IsStrictlySortedBy nat_cmp (table.keys items.now.items) }
+    ensures { IfOk result (λ s. s ≡ table.keys items.now.items) }
 {
-    let mut walk = items.iter();
-    while let Some((e, _)) = walk.next() {
-        add(&mut all, e)?;
+    let entities = items.entities(alloc)?;
+    for e in &entities {
+        all.push(*e)?;
     }
     Ok(all)
 }
 
 /// Begins a round, in which no real has done anything yet and all are to settle.
-pub fn begin_round(reals: &mut Reals, survey: &mut EntityQueue) -> Result<(), AllocError>
+pub fn begin_round(
+    alloc: Global,
+    reals: &mut Reals,
+    survey: &mut EntityQueue,
+) -> Result<(), AllocError>
     requires { AreKept reals.old }
     ensures reals { OnOk result (reals.new.items.items ≡ each_value real_begins reals.old.items.items) }
     ensures survey { OnOk result (survey.new ≡ table.keys reals.old.items.items) }
@@ -100,7 +97,7 @@ pub fn begin_round(reals: &mut Reals, survey: &mut EntityQueue) -> Result<(), Al
     ensures err { OnErr result (reals.new.items.items ≡ reals.old.items.items) }
     ensures err_survey { OnErr result (survey.new ≡ survey.old) }
 {
-    let all = all_entities(survey.spare(), &reals.items)?;
+    let all = all_entities(alloc, survey.spare(), &reals.items)?;
     reals.items.start_round();
     *survey = EntityQueue::of(all);
     Ok(())

@@ -12,7 +12,7 @@ ghost use Rattle.seam_parts.specs.declared.known.Known.{Known as AnyKnown};
 
 use seam_entity::{Msg, Real, may_rise};
 use seam_machine::Out;
-use seam_parts::{Lists, Places, Reals, close, take_out, tell_own, unlist};
+use seam_parts::{Lists, Places, Reals, close, put_in, take_out, unlist};
 use seam_tree::MOST_CELLS;
 use std::alloc::AllocError;
 
@@ -70,10 +70,12 @@ pub fn reap(
         return Ok(());
     }
     out.reserve(MOST_CELLS)?;
-    places.copies.reserve(e)?;
     let real = take_out(reals, e)?;
+    if let Err(error) = places.copies.drop_copy(e, real.beat() + 1) {
+        put_in(reals, e, real);
+        return Err(error);
+    }
     close(reals, e);
-    tell_own(&mut places.copies, e, real.beat() + 1, None);
     unlist(lists, e);
     drop_copies(&real, out);
     Ok(())

@@ -19,7 +19,7 @@ use crate::tasks::Tasked;
 use seam_entity::{Msg, Real};
 use seam_machine::Out;
 use seam_parts::{
-    Known, Lists, Places, Ready, Reals, Subject, is_at_rest, make_room, put_after, ready_for,
+    Known, Lists, Places, Ready, Reals, Subject, begin, is_at_rest, put_after, ready_for,
     settle_real, take_out,
 };
 use std::alloc::{AllocError, Global};
@@ -83,14 +83,14 @@ pub fn settle_again(
             result: Err(AllocError),
         };
     };
-    if make_room(&ready, places, out).is_err() {
+    let Ok(begun) = begin(ready, places, out) else {
         return Tasked {
             left: Some(real),
             result: Err(AllocError),
         };
-    }
+    };
     Tasked {
-        left: settle_real(real, ready, places, out),
+        left: settle_real(real, begun, places, out),
         result: Ok(()),
     }
 }

@@ -15,7 +15,7 @@ ghost use Rattle.seam_parts.specs.Stepping.{IsReadyFor, IsDone, parts_of, slot_i
 use crate::calls::Made;
 use seam_entity::{Msg, Real};
 use seam_machine::Out;
-use seam_parts::{Known, Places, Subject, make_room, ready_for, settle_real};
+use seam_parts::{Known, Places, Subject, begin, ready_for, settle_real};
 use std::alloc::{AllocError, Global};
 
 /// The real after a task, where it is still here, and whether there was memory for the task.
@@ -83,15 +83,15 @@ pub fn execute_ready(
         };
     };
     let Made { after, ready } = made;
-    if let Err(error) = make_room(&ready, places, out) {
+    let Ok(begun) = begin(ready, places, out) else {
         return Tasked {
             left: Some(real),
-            result: Err(error),
+            result: Err(AllocError),
         };
-    }
+    };
     real.execute_ready_after(after);
     Tasked {
-        left: settle_real(real, ready, places, out),
+        left: settle_real(real, begun, places, out),
         result: Ok(()),
     }
 }

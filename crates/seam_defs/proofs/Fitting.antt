@@ -8,8 +8,8 @@ use Rattle.seam_value.specs.declared.values.Value.{Value}
 use Rattle.seam_defs.specs.declared.flags.Group.{Group}
 use Rattle.seam_defs.specs.declared.types.Property.{Property}
 use Rattle.seam_defs.specs.Groups.{in_group}
-use Rattle.seam_defs.specs.Deeds.{properties_of, place_of, IsOfGroup, TakesArgs}
-use Rattle.seam_defs.specs.Running.{FitsAt, FitBelow, ArgsFitBelow}
+use Rattle.seam_defs.specs.Deeds.{properties_of, IsOfGroup, TakesArgs}
+use Rattle.seam_defs.specs.Fitting.{FitsAt, FitBelow, ArgsFitBelow}
 use Rattle.seam_defs.proofs.Places.{place-in, place-out}
 
 pub takes-to : (types : List ValueType) (values : List Value) → length types ≡ length values → ArgsFitBelow types values (length types) →
@@ -106,15 +106,4 @@ of-from (p ∷ ps) g (v ∷ values) are =
           (in-length p ps g inside ∙ ap suc rest.0, fit-in p ps g v values inside both.0 rest.1)
       | inr out ↦ let rest = of-from ps g (v ∷ values) (rw out at are) in
           (out-length p ps g out ∙ rest.0, fit-out p ps g (v ∷ values) out rest.1)
-    ]
-
--- one property more
-pub fit-more : (ps : List Property) (g : Group) (values : List Value) (i : ℕ) (p : Property) → i < length ps → p ≡ get_or ps i p →
-    (in_group p.flag g ≡ true → FitsAt p.ty values (place_of ps g i)) → FitBelow ps g values i → FitBelow ps g values (i + 1)
-fit-more ps g values i p within here fits before k d below at =
-    elim (cases_eq k i) [
-      | inl last ↦
-          let same : get_or ps k d ≡ p = ap (λ q. get_or ps q d) last ∙ get_or_default ps i d p within ∙ sym here in
-          rw (same, last) (fits (rw same at at))
-      | inr earlier ↦ before k d (omega arith) at
     ]

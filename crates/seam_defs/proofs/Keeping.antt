@@ -24,7 +24,7 @@ use Rattle.seam_defs.specs.Groups.{in_group, held_by}
 use Rattle.seam_defs.specs.Types.{IsMethod, IsOperation, OperandFits}
 use Rattle.seam_defs.specs.Deeds.{nearest, place_of, type_at, value_at, number_of, operated, target, operand, operand_value}
 use Rattle.seam_defs.specs.Deeds.{after_operation, after_body, IsOfGroup, TakesArgs}
-use Rattle.seam_defs.specs.Running.{is_in, FitsAt, FitBelow}
+use Rattle.seam_defs.specs.Fitting.{is_in, FitsAt, FitBelow}
 use Rattle.seam_defs.proofs.Fitting.{of-to, of-from, takes-from}
 use Rattle.seam_defs.proofs.Places.{one-place}
 

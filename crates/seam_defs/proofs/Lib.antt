@@ -1,10 +1,9 @@
-pub mod Zipped
 pub mod NameSearch
 pub mod Numbers
 pub mod Saturation
 pub mod Places
 pub mod Running
-pub mod Replacing
+pub mod Marks
 pub mod Fitting
 pub mod Keeping
 pub mod GroupsOfGroups

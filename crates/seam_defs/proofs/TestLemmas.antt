@@ -93,7 +93,7 @@ of_group-Decides ps g values = each (properties_of ps g) values
 
 -- ---- values and states
 
-value-Decides : (a b : Value) → Decides (same_value a b) (a ≡ b)
+pub value-Decides : (a b : Value) → Decides (same_value a b) (a ≡ b)
 value-Decides (Number a) (Number b) = let d = Decides-int_eq a b in ((λ t. ap Number (d.0 t)), (λ e. d.1 (let h : a ≡ b = cc in h)))
 value-Decides (Number a) (Text b) = ((λ t. cc), (λ e. cc))
 value-Decides (Text a) (Number b) = ((λ t. cc), (λ e. cc))

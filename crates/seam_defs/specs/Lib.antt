@@ -3,7 +3,9 @@ pub mod Names
 pub mod Settings
 pub mod Types
 pub mod Deeds
+pub mod Marks
+pub mod Remaining
 pub mod Builtin
 pub mod Rows
-pub mod Running
+pub mod Fitting
 pub mod Tests

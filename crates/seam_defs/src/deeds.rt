@@ -1,16 +1,13 @@
 // What a deed does to a state.
-ghost use Rattle.std.specs.Prelude.{◌≡◌, ◌≢◌, ◌<◌, ◌↔◌, ◌+ℤ◌, ◌-ℤ◌, List, OnOk, OnErr, IfOk, length, map, true, false, slice_index_or, slice_set};
-ghost use Rattle.seam_value.specs.declared.values.Value.{Value as AnyValue};
-ghost use Rattle.seam_defs.specs.declared.types.Operation.{Operation as AnyOperation};
+ghost use Rattle.std.specs.Prelude.{◌≡◌, ◌↔◌, ◌+ℤ◌, ◌-ℤ◌, IsTrue, OnOk, OnErr, IfOk, length, false};
 ghost use Rattle.seam_defs.specs.Groups.{held_by, shown_by};
 ghost use Rattle.seam_defs.specs.Types.{IsType, IsMethod};
 ghost use Rattle.seam_defs.specs.Tests.{changes};
 ghost use Rattle.seam_defs.specs.Deeds.{nearest as nearest_number, number_of, operand_value, operated, target, operand, place_of, type_at};
-ghost use Rattle.seam_defs.specs.Deeds.{value_at, after_with, after_body, after, part_of_deed, projected, SameShown, IsOfGroup, TakesArgs};
+ghost use Rattle.seam_defs.specs.Deeds.{after_with, after_body, after, part_of_deed, projected, SameShown, IsOfGroup, TakesArgs};
 ghost use Rattle.seam_defs.specs.Deeds.{FitsDeed};
-ghost use Rattle.seam_defs.specs.Running.{is_in, is_free, OnGroup, WereReplaced, OthersStay, SameOn, IsFirstShown};
 
-use crate::states::copy_values;
+use crate::groups::OfGroup;
 use crate::{Deed, Group, Method, Operand, Operation, Part, Property, Props, State, TypeDef};
 use seam_value::{Value, ValueType};
 use std::alloc::{AllocError, Global};
@@ -134,152 +131,60 @@ fn run(
         ≡ projected properties.now (held_by method.now.part) (shown_by method.now.part) props.new)) }
     ensures err { OnErr result (props.new ≡ props.old) }
 {
-    let alloc = *method.body.allocator();
-    let body = method.body.as_slice();
-    let mut values = operand_values(alloc, args, body)?;
-    let mut later = copy_values(alloc, props.values())?;
-    let changed = execute(properties, method.part, body, &mut later, &mut values);
+    let mut later = props.values().copy(*method.body.allocator())?;
+    operate_all(properties, method, args, &mut later)?;
+    let same = are_same(properties, method.part, props, &later);
     *props = Props::of(later)?;
-    Ok(changed)
+    Ok(!same)
 }
 
-// Does the operations of a body with the values of their operands, and answers whether what others may see has changed.
-fn execute(
+// Does the operations of a method's body, from left to right, on the values of its part.
+fn operate_all(
     properties: &[Property],
-    part: Part,
-    body: &[Operation],
-    props: &mut [Value],
+    method: &Method,
+    args: &[Value],
     values: &mut [Value],
-) -> bool
-    requires long { length values.old ≡ length body.now }
-    requires group { OnGroup properties.now (held_by part) body.now }
-    ensures after { (args : List AnyValue) → values.old ≡ map (λ op. operand_value args (operand op)) body.now →
-        props.new ≡ after_body properties.now (held_by part) args body.now props.old }
-    ensures changed { (result ≡ false) ↔ (projected properties.now (held_by part) (shown_by part) props.old
-        ≡ projected properties.now (held_by part) (shown_by part) props.new) }
+) -> Result<(), AllocError>
+    ensures { OnOk result (values.new ≡ after_body properties.now (held_by method.now.part) args.now method.now.body values.old) }
 {
-    replace_values(properties, part.held(), body, props, values);
-    any_changed(properties, part, body, props, values)
-}
-
-// Does the operations of a body, from left to right, with the values of their operands. In the place of each operand comes
-// the value that the operation replaced.
-fn replace_values(
-    properties: &[Property],
-    group: Group,
-    body: &[Operation],
-    props: &mut [Value],
-    values: &mut [Value],
-)
-    requires long { length values.old ≡ length body.now }
-    requires group { OnGroup properties.now group body.now }
-    ensures after { (args : List AnyValue) → values.old ≡ map (λ op. operand_value args (operand op)) body.now →
-        props.new ≡ after_body properties.now group args body.now props.old }
-    ensures replaced { WereReplaced properties.now group body.now props.old values.new }
-    ensures others { OthersStay properties.now group body.now props.old props.new }
-    ensures as_long { length props.new ≡ length props.old }
-{
-    for (i, operation) in body.iter().enumerate() {
-        operate(properties, group, operation, &mut values[i], props);
+    let alloc = *method.body.allocator();
+    for operation in method.body.as_slice() {
+        let by = operand_of(alloc, args, operation.operand())?;
+        operate(properties, method.part.held(), operation, by, values);
     }
+    Ok(())
 }
 
-// Does an operation with the value of its operand, in whose place comes the value that it replaced.
+// Does an operation with the value of its operand.
 fn operate(
     properties: &[Property],
     group: Group,
     operation: &Operation,
-    value: &mut Value,
-    props: &mut [Value],
+    by: Value,
+    values: &mut [Value],
 )
-    ensures after { props.new ≡ after_with properties.now group props.old operation.now value.old }
-    ensures replaced { let place = place_of properties.now group (target operation.now) in
-        place < length props.old → value.new ≡ value_at props.old place }
+    ensures { values.new ≡ after_with properties.now group values.old operation.now by }
 {
-    let by = std::mem::replace(value, Value::Number(0));
     let place = place_of(properties, group, operation.target());
-    let ty = type_at(properties, operation.target());
-    let put = operated(operation, ty, number_at(props, place), by);
-    *value = replace_at(props, place, put);
-}
-
-// Whether a value that others may see differs from the one that the first operation on it replaced.
-fn any_changed(
-    properties: &[Property],
-    part: Part,
-    body: &[Operation],
-    props: &[Value],
-    replaced: &[Value],
-) -> bool
-    requires { length replaced.now ≡ length body.now }
-    ensures { (old : List AnyValue) → length old ≡ length props.now → WereReplaced properties.now (held_by part) body.now old replaced.now →
-        ((result ≡ false) ↔ SameOn properties.now (held_by part) (shown_by part) body.now old props.now) }
-{
-    for (i, old) in replaced.iter().enumerate() {
-        if is_changed_at(properties, part, body, i, props, old) {
-            return true;
-        }
-    }
-    false
-}
-
-// Whether an operation is the first on a property that others may see, whose value was `old`, and is another one now.
-fn is_changed_at(
-    properties: &[Property],
-    part: Part,
-    body: &[Operation],
-    i: usize,
-    props: &[Value],
-    old: &Value,
-) -> bool
-    requires { i < length body.now }
-    ensures yes { (op : AnyOperation) → op ≡ slice_index_or body.now i op →
-        let place = place_of properties.now (held_by part) (target op) in
-        result ≡ true → IsFirstShown properties.now (shown_by part) body.now i op × (place < length props.now)
-        × (value_at props.now place ≢ old.now) }
-    ensures no { (op : AnyOperation) → op ≡ slice_index_or body.now i op → let place = place_of properties.now (held_by part) (target op) in
-        result ≡ false → IsFirstShown properties.now (shown_by part) body.now i op → place < length props.now →
-        value_at props.now place ≡ old.now }
-{
-    let property = body[i].target();
-    let place = place_of(properties, part.held(), property);
-    is_free(property, &body[..i])
-        && is_in(properties, part.shown(), property)
-        && differs_at(props, place, old)
-}
-
-// Whether no operation is on the property.
-fn is_free(property: u16, body: &[Operation]) -> bool
-    ensures { result ≡ is_free property body.now }
-{
-    body.iter().all(|operation| operation.target() != property)
-}
-
-// Whether a property is in the group.
-fn is_in(properties: &[Property], group: Group, property: u16) -> bool
-    ensures { result ≡ is_in properties.now group property }
-{
-    match properties.get(property as usize) {
-        Some(property) => property.flag.in_group(group),
-        None => false,
+    if place < values.len() {
+        let ty = type_at(properties, operation.target());
+        values[place] = operated(operation, ty, number(&values[place]), by);
     }
 }
 
-// The values of the operands of a body.
-fn operand_values(
-    alloc: Global,
-    args: &[Value],
-    body: &[Operation],
-) -> Result<Vec<Value>, AllocError>
-    ensures { IfOk result (λ vs. vs.items ≡ map (λ op. operand_value args.now (operand op)) body.now) }
+// Whether what others may see of a part's values is the same.
+fn are_same(properties: &[Property], part: Part, old: &Props, new: &[Value]) -> bool
+    requires { length old.now ≡ length new.now }
+    ensures { IsTrue result ↔ projected properties.now (held_by part) (shown_by part) old.now
+        ≡ projected properties.now (held_by part) (shown_by part) new.now }
 {
-    let mut values = Vec::with_capacity(alloc, body.len())?;
-    for operation in body {
-        values.push(operand_of(alloc, args, operation.operand())?)?;
-    }
-    Ok(values)
+    let shown = part.shown();
+    OfGroup::new(properties, part.held())
+        .zip(old.values().zip(new))
+        .all(|(property, (old, new))| !property.flag.in_group(shown) || old == new)
 }
 
+// The value of an operand.
 fn operand_of(alloc: Global, args: &[Value], operand: &Operand) -> Result<Value, AllocError>
     ensures { IfOk result (λ v. v ≡ operand_value args.now operand.now) }
 {
@@ -301,39 +206,6 @@ fn place_of(properties: &[Property], group: Group, property: u16) -> usize
         .take(property as usize)
         .filter(|p| p.flag.in_group(group))
         .count()
-}
-
-// Puts a value in a place, where there is one, and gives back what stood there, or else the value itself.
-fn replace_at(values: &mut [Value], place: usize, value: Value) -> Value
-    ensures values { values.new ≡ slice_set values.old place value }
-    ensures old { result ≡ slice_index_or values.old place value }
-{
-    if place < values.len() {
-        std::mem::replace(&mut values[place], value)
-    } else {
-        value
-    }
-}
-
-// The number at a place: 0 where there are not so many values, or for a text.
-fn number_at(values: &[Value], place: usize) -> i128
-    ensures { result ≡ number_of (value_at values.now place) }
-{
-    match values.get(place) {
-        Some(value) => number(value),
-        None => 0,
-    }
-}
-
-// Whether there is a value at a place, and it is another one.
-fn differs_at(values: &[Value], place: usize, old: &Value) -> bool
-    ensures yes { result ≡ true → (place < length values.now) × (value_at values.now place ≢ old.now) }
-    ensures no { result ≡ false → place < length values.now → value_at values.now place ≡ old.now }
-{
-    match values.get(place) {
-        Some(value) => value != old,
-        None => false,
-    }
 }
 
 // The type of a property.

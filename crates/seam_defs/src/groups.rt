@@ -1,10 +1,10 @@
 // Groups of values: their start, a group of a group, and their text.
-ghost use Rattle.std.specs.Prelude.{◌≡◌, ◌≢◌, ◌↔◌, ◌++◌, IsTrue, MatchOption, OnOk, OnErr, IfOk, List, [], ◌∷◌, length, take, drop};
-ghost use Rattle.seam_value.specs.declared.values.Value.{Value as AnyValue};
-ghost use Rattle.std.specs.List.{flat_map, zip};
+ghost use Rattle.std.specs.Prelude.{◌≡◌, ◌↔◌, ◌++◌, IsTrue, OnOk, OnErr, IfOk, length, take};
+ghost use Rattle.std.specs.Iterator.{YieldsFirstRef, item_count};
 ghost use Rattle.seam_defs.specs.Types.{IsType};
 ghost use Rattle.seam_defs.specs.Tests.{are_of_group as are_values_of_group};
-ghost use Rattle.seam_defs.specs.Running.{FitsAt};
+ghost use Rattle.seam_defs.specs.Fitting.{FitsAt};
+ghost use Rattle.seam_defs.specs.Remaining.{properties_left};
 ghost use Rattle.seam_defs.specs.Deeds.{properties_of, start_values, projected, property_text, values_text, IsOfGroup};
 
 use crate::{Group, Property, Props, TypeDef};
@@ -27,10 +27,10 @@ impl TypeDef {
         ensures of_group { IsTrue result ↔ IsOfGroup self.now.properties group props.now }
         ensures test { result ≡ are_values_of_group self.now.properties group props.now }
     {
-        are_of_group(self.properties.as_slice(), group, props.values())
+        are_of_group(self.properties.as_slice(), group, props)
     }
 
-    /// Copies of those values of the group `held` whose properties are in the group `group` too.
+    /// Those values of the group `held` whose properties are in the group `group` too, in the same memory.
     pub fn project_group(
         &self,
         held: Group,
@@ -39,18 +39,7 @@ impl TypeDef {
     ) -> Result<Props, AllocError>
         ensures { IfOk result (λ projection. projection ≡ projected self.now.properties held group props.now) }
     {
-        let alloc = *self.properties.allocator();
-        let mut values = Vec::with_capacity(alloc, self.count_of(group))?;
-        let mut place = 0;
-        for property in self.properties.as_slice() {
-            if property.flag.in_group(held) {
-                if property.flag.in_group(group) {
-                    copy_at(alloc, props.values(), place, &mut values)?;
-                }
-                place += 1;
-            }
-        }
-        Props::of(values)
+        props.project(self.properties.as_slice(), held, group)
     }
 
     /// Whether `projection` has the values that `project_group` gives, which takes no memory to find out.
@@ -63,24 +52,14 @@ impl TypeDef {
     ) -> bool
         ensures { IsTrue result ↔ projection.now ≡ projected self.now.properties held group props.now }
     {
-        let mut values = props.values();
+        let of_held = OfGroup::new(self.properties.as_slice(), held);
         let mut copies = projection.values();
-        for property in self.properties.as_slice() {
-            if !property.flag.in_group(held) {
-                continue;
-            }
-            let Some((value, others)) = values.split_first() else {
-                return copies.is_empty();
-            };
-            values = others;
-            if property.flag.in_group(group) {
-                let Some(others) = after_copy(copies, value) else {
-                    return false;
-                };
-                copies = others;
+        for (property, value) in of_held.zip(props.values()) {
+            if property.flag.in_group(group) && copies.next() != Some(value) {
+                return false;
             }
         }
-        copies.is_empty()
+        copies.next().is_none()
     }
 
     /// Appends the text of a group's values: for each of its properties, in name order, a space, the name, `=` and the
@@ -95,7 +74,7 @@ impl TypeDef {
         ensures err { OnErr result (out.new.items ≡ out.old.items) }
     {
         let mark = out.len();
-        match push_group(self.properties.as_slice(), group, props.values(), out) {
+        match push_group(self.properties.as_slice(), group, props, out) {
             Ok(()) => Ok(()),
             Err(error) => {
                 out.truncate(mark);
@@ -116,6 +95,39 @@ impl TypeDef {
     }
 }
 
+/// The properties of a group, one after the other.
+#[derive(Drop)]
+pub(crate) struct OfGroup<'a> {
+    properties: &'a [Property],
+    group: Group,
+}
+
+impl<'a> OfGroup<'a> {
+    pub fn new(properties: &'a [Property], group: Group) -> Self
+        ensures { properties_left result ≡ properties_of properties.now group }
+    {
+        OfGroup { properties, group }
+    }
+}
+
+impl<'a> Iterator for OfGroup<'a> {
+    type Item = &'a Property;
+
+    ghost next_gives = { YieldsFirstRef properties_left };
+
+    ghost remaining = { item_count properties_left };
+
+    fn next(&mut self) -> Option<&'a Property> {
+        while let Some((property, others)) = self.properties.split_first() {
+            self.properties = others;
+            if property.flag.in_group(self.group) {
+                return Some(property);
+            }
+        }
+        None
+    }
+}
+
 // Appends the values of the group that a new entity has.
 fn push_defaults(
     properties: &[Property],
@@ -124,10 +136,8 @@ fn push_defaults(
 ) -> Result<(), AllocError>
     ensures { OnOk result (out.new.items ≡ out.old.items ++ start_values properties.now group) }
 {
-    for property in properties {
-        if property.flag.in_group(group) {
-            out.push(property.default.copy(*out.allocator())?)?;
-        }
+    for property in OfGroup::new(properties, group) {
+        out.push(property.default.copy(*out.allocator())?)?;
     }
     Ok(())
 }
@@ -136,16 +146,13 @@ fn push_defaults(
 fn push_group(
     properties: &[Property],
     group: Group,
-    values: &[Value],
+    props: &Props,
     out: &mut Vec<u8>,
 ) -> Result<(), AllocError>
-    ensures ok { OnOk result (out.new.items ≡ out.old.items ++ values_text properties.now group values.now) }
+    ensures ok { OnOk result (out.new.items ≡ out.old.items ++ values_text properties.now group props.now) }
     ensures kept { take (length out.old.items) out.new.items ≡ out.old.items }
 {
-    let of_group = properties
-        .iter()
-        .filter(|property| property.flag.in_group(group));
-    for (property, value) in of_group.zip(values) {
+    for (property, value) in OfGroup::new(properties, group).zip(props.values()) {
         push_property(property, value, out)?;
     }
     Ok(())
@@ -160,19 +167,17 @@ fn push_property(property: &Property, value: &Value, out: &mut Vec<u8>) -> Resul
 }
 
 // Whether the values are those of a group.
-fn are_of_group(properties: &[Property], group: Group, values: &[Value]) -> bool
-    ensures { IsTrue result ↔ IsOfGroup properties.now group values.now }
+fn are_of_group(properties: &[Property], group: Group, props: &Props) -> bool
+    ensures { IsTrue result ↔ IsOfGroup properties.now group props.now }
 {
-    let mut place = 0;
-    for property in properties {
-        if property.flag.in_group(group) {
-            if !fits_at(property.ty, values, place) {
-                return false;
-            }
-            place += 1;
+    let mut values = props.values();
+    for property in OfGroup::new(properties, group) {
+        match values.next() {
+            Some(value) if value.fits(property.ty) => {}
+            _ => return false,
         }
     }
-    place == values.len()
+    values.next().is_none()
 }
 
 // Whether there is a value at a place, and it is one of the type.
@@ -182,35 +187,5 @@ pub(crate) fn fits_at(ty: ValueType, values: &[Value], place: usize) -> bool
     match values.get(place) {
         Some(value) => value.fits(ty),
         None => false,
-    }
-}
-
-// Appends a copy of the value at a place, where there is one.
-fn copy_at(
-    alloc: Global,
-    values: &[Value],
-    place: usize,
-    out: &mut Vec<Value>,
-) -> Result<(), AllocError>
-    ensures { OnOk result (out.new.items ≡ out.old.items ++ take 1 (drop place values.now)) }
-{
-    match values.get(place) {
-        Some(value) => {
-            out.push(value.copy(alloc)?)?;
-            Ok(())
-        }
-        None => Ok(()),
-    }
-}
-
-// The others, where the first one is a copy of the value.
-fn after_copy<'a>(copies: &'a [Value], value: &Value) -> Option<&'a [Value]>
-    ensures { MatchOption result
-        ((others : List AnyValue) → copies.now ≢ value.now ∷ others)
-        (λ others. copies.now ≡ value.now ∷ others.now) }
-{
-    match copies.split_first() {
-        Some((copy, others)) if copy == value => Some(others),
-        _ => None,
     }
 }

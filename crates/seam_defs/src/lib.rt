@@ -2,8 +2,8 @@
 //! operations, and what one deed does to a state.
 //!
 //! Of `proofs/`, `NameSearch` (a name among names in rising order), `Numbers` (the type of a number is well formed), `WellFormed` (the
-//! built-in types are), `Starts` (first values are of their group), `Running` and `Keeping` (what a body does; a deed leaves values of a
-//! group such), `GroupsOfGroups` (one group's values of another's) and `TestLemmas` (tests decide their relations) are for callers.
+//! built-in types are), `Starts` (first values are of their group), `Running` (what others may see of a part is held by it), `Keeping` (a
+//! deed leaves values of a group such), `GroupsOfGroups` (one group's values of another's) and `TestLemmas` (tests decide their relations) are for callers.
 #![tactic(auto)]
 
 mod builtin;
@@ -19,6 +19,7 @@ mod methods;
 mod names;
 mod properties;
 mod property_name;
+mod props;
 mod settings;
 mod states;
 mod types;
@@ -32,6 +33,7 @@ pub use limits::{
 pub use listed::Listed;
 pub use names::is_name;
 pub use property_name::PropertyName;
+pub use props::Props;
 pub use settings::{LARGEST_SIZE, LONGEST_DISTANCE, Settings};
-pub use states::{Args, Deed, Props, State};
+pub use states::{Args, Deed, State};
 pub use types::{Method, Operand, Operation, Property, TypeDef};

@@ -1,10 +1,11 @@
-ghost use Rattle.std.specs.Prelude.{◌≡◌, IfOk, length, option_copied, slice_get};
+ghost use Rattle.std.specs.Prelude.{◌≡◌, IfOk};
 
+use crate::Props;
+use crate::props::KeptValues;
 use seam_geo::Pos;
 use seam_value::Value;
-use std::alloc::{AllocError, Global};
+use std::alloc::AllocError;
 use std::marker::Model;
-use std::sync::Arc;
 
 /// The arguments of a call.
 #[derive(Debug, Drop)]
@@ -33,7 +34,7 @@ impl Args {
     pub fn copy(&self) -> Result<Args, AllocError>
         ensures { IfOk result (λ args. args ≡ self.now) }
     {
-        let values = copy_values(*self.values.allocator(), &self.values)?;
+        let values = KeptValues::all(&self.values).copy(*self.values.allocator())?;
         Ok(Args { values })
     }
 
@@ -42,76 +43,6 @@ impl Args {
         ensures { result.now ≡ self.now }
     {
         &self.values
-    }
-}
-
-// Equal values.
-pub(crate) fn copy_values(alloc: Global, values: &[Value]) -> Result<Vec<Value>, AllocError>
-    ensures { IfOk result (λ copies. copies.items ≡ values.now) }
-{
-    let mut copies = Vec::with_capacity(alloc, values.len())?;
-    for value in values {
-        copies.push(value.copy(alloc)?)?;
-    }
-    Ok(copies)
-}
-
-/// The values of a group of properties, in the order of the properties. Copies share the memory of the values, which never change.
-#[derive(Debug, Drop)]
-pub struct Props {
-    values: Arc<Vec<Value>, Global>,
-}
-
-impl Model for Props {
-    ghost use Rattle.std.specs.Prelude.{List};
-    ghost use Rattle.std.specs.Arc.{arc_value};
-    ghost use Rattle.seam_value.specs.declared.values.Value.{Value as AnyValue};
-
-    ghost Value = { List AnyValue };
-
-    ghost view = { λ p. (arc_value p.values).items };
-}
-
-impl Props {
-    /// The values of the vector, in its order.
-    pub fn of(values: Vec<Value>) -> Result<Self, AllocError>
-        ensures { IfOk result (λ props. props ≡ values.items) }
-    {
-        let alloc = *values.allocator();
-        match Arc::new(alloc, values) {
-            Ok(values) => Ok(Props { values }),
-            Err(_) => Err(AllocError),
-        }
-    }
-
-    /// Equal values.
-    pub fn copy(&self) -> Result<Props, AllocError>
-        ensures { IfOk result (λ props. props ≡ self.now) }
-    {
-        Ok(Props {
-            values: Arc::try_clone(&self.values)?,
-        })
-    }
-
-    /// The values.
-    pub(crate) fn values(&self) -> &[Value]
-        ensures { result.now ≡ self.now }
-    {
-        self.values.as_slice()
-    }
-
-    /// How many values there are.
-    pub fn len(&self) -> usize
-        ensures { result ≡ length self.now }
-    {
-        self.values.len()
-    }
-
-    /// The value at a place, counted from 0: None where there are not so many.
-    pub fn at(&self, i: usize) -> Option<&Value>
-        ensures { option_copied result ≡ slice_get self.now i }
-    {
-        self.values.get(i)
     }
 }
 

@@ -38,8 +38,8 @@ pub fn begin<M: Machine>(
     Ok((net, events))
 }
 
-/// Lets events happen until the net is quiet, each time the first that is enabled: of the lowest node, and of its links in rising
-/// number before its task. The events are given back in their order.
+/// Lets events happen until the net is quiet, each time the first that is enabled (see `Net::next_event`). The events are given back
+/// in their order.
 ///
 /// If allocation fails, nothing is given back; a net that is quiet needs none.
 pub fn finish<M: Machine>(alloc: Global, net: Net<M>) -> Result<(Net<M>, Vec<Event>), AllocError>

@@ -1,9 +1,8 @@
 -- What a table of beats and a table of copies answer together.
-use Rattle.std.proofs.Common.{◌≡◌, ℕ, Bool, true, false, cond, ◌||◌, not, ◌&&◌, List, [], ◌∷◌, Option, None, Some, is_some, map as each}
+use Rattle.std.proofs.Common.{◌≡◌, ℕ, Bool, true, false, cond, List, [], ◌∷◌, Option, None, Some, is_some, map as each}
 use Rattle.std.proofs.Common.{refl, sym, ap, ◌∙◌}
-use Rattle.std.proofs.Common.{unwrap_or, Result, Ok, Err}
-use Rattle.std.specs.declared.alloc.AllocError.{AllocError}
-use Rattle.std.specs.Prelude.{OnOk, OnErr, if◌then◌else◌}
+use Rattle.std.proofs.Common.{unwrap_or}
+use Rattle.std.specs.Prelude.{if◌then◌else◌}
 use Rattle.std.proofs.lemmas.Bool.{false≢true}
 use Rattle.std.specs.Ordering.{nat_cmp, eq_by_cmp}
 use Rattle.std.specs.Cmp.{nat_cmp_total}
@@ -94,12 +93,12 @@ pub book_with_copy : {P : Type 0} (beats beats' : TableView ℕ) (copies : Table
 book_with_copy beats beats' copies e b p same =
     let ghosts =
     ap (λ m. joined (map.insert m e b) (map.insert copies.items e p)) same ∙ joined_put beats.items copies.items e b p in
-    λ i. record { ghosts = ghosts i; room = set.insert copies.room e }
+    λ i. record { ghosts = ghosts i }
 
 pub book_without_copy : {P : Type 0} (beats : TableView ℕ) (copies : TableView P) (e b : ℕ) →
     book_of (with_item beats e b) (without_room copies e) ≡ with_ghost (book_of beats copies) e (record { beat = b; copy = None })
 book_without_copy beats copies e b =
-    let ghosts = joined_dropped beats.items copies.items e b in λ i. record { ghosts = ghosts i; room = set.remove copies.room e }
+    let ghosts = joined_dropped beats.items copies.items e b in λ i. record { ghosts = ghosts i }
 
 -- nothing is known at first
 module _ {P : Type 0} where
@@ -111,13 +110,12 @@ module _ {P : Type 0} where
       ∙ sym (map.get-empty nat_cmp q))
 
   pub book_empty : book_of (record { items = map.empty; room = set.empty }) (record { items = map.empty {X = P}; room = set.empty })
-      ≡ record { ghosts = map.empty; room = set.empty }
-  book_empty = let ghosts = joined_empty in λ i. record { ghosts = ghosts i; room = set.empty }
+      ≡ record { ghosts = map.empty }
+  book_empty = let ghosts = joined_empty in λ i. record { ghosts = ghosts i }
 
   pub empty_is_book : IsBook (record { items = map.empty; room = set.empty }) (record { items = map.empty {X = P}; room = set.empty })
   empty_is_book = record {
     beat = λ q there. absurd (false≢true (sym (ap is_some (map.get-empty {X = P} nat_cmp q)) ∙ there));
-    room = λ q there. there;
   }
 
 -- ---- what is kept
@@ -135,43 +133,12 @@ beat_after beats copies after e b p had written q there =
     ap is_some (map.get-insert nat_cmp_total beats e b q)
     ∙ some_written (eq_by_cmp nat_cmp q e) b p (map.get beats q) (map.get copies q) (had q) (sym (ap is_some (written q)) ∙ there)
 
-or_true : (a b : Bool) → b ≡ true → (a || b) ≡ true
-or_true true b h = refl
-or_true false b h = h
-
-or_mono : (t a b : Bool) → (a ≡ true → b ≡ true) → (t || a) ≡ true → (t || b) ≡ true
-or_mono true a b h s = refl
-or_mono false a b h s = h s
-
-and_second : (t a : Bool) → (t && a) ≡ true → a ≡ true
-and_second true a h = h
-and_second false a h = absurd (false≢true h)
-
-room_more : (beats copies : set.FinSet nat_cmp) (e : ℕ) → ((q : ℕ) → set.contains copies q ≡ true → set.contains beats q ≡ true) →
-    (q : ℕ) → set.contains copies q ≡ true → set.contains (set.insert beats e) q ≡ true
-room_more beats copies e had q there =
-    set.contains-insert nat_cmp_total beats e q ∙ or_true (eq_by_cmp nat_cmp q e) (set.contains beats q) (had q there)
-
-room_both : (beats copies : set.FinSet nat_cmp) (e : ℕ) → ((q : ℕ) → set.contains copies q ≡ true → set.contains beats q ≡ true) →
-    (q : ℕ) → set.contains (set.insert copies e) q ≡ true → set.contains (set.insert beats e) q ≡ true
-room_both beats copies e had q there =
-    set.contains-insert nat_cmp_total beats e q
-    ∙ or_mono (eq_by_cmp nat_cmp q e) (set.contains copies q) (set.contains beats q) (had q)
-    (sym (set.contains-insert nat_cmp_total copies e q) ∙ there)
-
-room_less : (beats copies : set.FinSet nat_cmp) (e : ℕ) → ((q : ℕ) → set.contains copies q ≡ true → set.contains beats q ≡ true) →
-    (q : ℕ) → set.contains (set.remove copies e) q ≡ true → set.contains (set.insert beats e) q ≡ true
-room_less beats copies e had q there =
-    room_more beats copies e had q
-    (and_second (not (eq_by_cmp nat_cmp q e)) (set.contains copies q) (sym (set.contains-remove nat_cmp_total copies e q) ∙ there))
-
 pub book_put : {P : Type 0} (beats : TableView ℕ) (copies : TableView P) (e b : ℕ) (p : P) → IsBook beats copies →
     IsBook (with_item beats e b) (with_item copies e p)
 book_put beats copies e b p book = record {
   beat =
       beat_after beats.items copies.items (map.insert copies.items e p) e b (Some p) book.beat
       (map.get-insert nat_cmp_total copies.items e p);
-  room = room_both beats.room copies.room e book.room;
 }
 
 pub book_dropped : {P : Type 0} (beats : TableView ℕ) (copies : TableView P) (e b : ℕ) → IsBook beats copies →
@@ -179,34 +146,14 @@ pub book_dropped : {P : Type 0} (beats : TableView ℕ) (copies : TableView P) (
 book_dropped beats copies e b book = record {
   beat =
       beat_after beats.items copies.items (map.remove copies.items e) e b None book.beat (map.get-remove nat_cmp_total copies.items e);
-  room = room_less beats.room copies.room e book.room;
 }
 
--- room was made for a beat, and perhaps for a copy
-with_room_made : {P : Type 0} (beats beats' : TableView ℕ) (copies copies' : TableView P) (e : ℕ) → IsBook beats copies →
-    beats'.items ≡ beats.items → beats'.room ≡ set.insert beats.room e → copies'.items ≡ copies.items →
-    ((q : ℕ) → set.contains copies'.room q ≡ true → set.contains (set.insert beats.room e) q ≡ true) → IsBook beats' copies'
-with_room_made beats beats' copies copies' e book items room items' room' = record {
-  beat = λ q there. ap (λ m. map.contains_key m q) items ∙ book.beat q (sym (ap (λ m. map.contains_key m q) items') ∙ there);
-  room = λ q there. ap (λ s. set.contains s q) room ∙ room' q there;
+-- room was made for a beat
+pub book_begun : {P : Type 0} (beats beats' : TableView ℕ) (copies copies' : TableView P) → IsBook beats copies →
+    beats'.items ≡ beats.items → copies' ≡ copies → IsBook beats' copies'
+book_begun beats beats' copies copies' book items same = record {
+  beat = λ q there. ap (λ m. map.contains_key m q) items ∙ book.beat q (sym (ap (λ t. map.contains_key t.items q) same) ∙ there);
 }
-
--- room was made for a beat alone
-pub book_begun : {P : Type 0} (beats beats' : TableView ℕ) (copies copies' : TableView P) (e : ℕ) → IsBook beats copies →
-    beats'.items ≡ beats.items → beats'.room ≡ set.insert beats.room e → copies' ≡ copies → IsBook beats' copies'
-book_begun beats beats' copies copies' e book items room same =
-    with_room_made beats beats' copies copies' e book items room (ap (λ t. t.items) same)
-    (λ q there. room_more beats.room copies.room e book.room q (sym (ap (λ t. set.contains t.room q) same) ∙ there))
-
-pub book_reserved : {P : Type 0} (beats beats' : TableView ℕ) (copies copies' : TableView P) (e : ℕ) (r : Result (Unit {0}) AllocError) →
-    IsBook beats copies → beats'.items ≡ beats.items → beats'.room ≡ set.insert beats.room e → copies'.items ≡ copies.items →
-    OnOk r (copies'.room ≡ set.insert copies.room e) → OnErr r (copies'.room ≡ copies.room) → IsBook beats' copies'
-book_reserved beats beats' copies copies' e (Ok u) book items room items' made same =
-    with_room_made beats beats' copies copies' e book items room items'
-    (λ q there. room_both beats.room copies.room e book.room q (sym (ap (λ s. set.contains s q) made) ∙ there))
-book_reserved beats beats' copies copies' e (Err u) book items room items' made same =
-    with_room_made beats beats' copies copies' e book items room items'
-    (λ q there. room_more beats.room copies.room e book.room q (sym (ap (λ s. set.contains s q) same) ∙ there))
 
 -- ---- what is written over a beat that is known
 
@@ -226,12 +173,11 @@ module _ {P : Type 0} (beats : TableView ℕ) (copies : TableView P) (e known : 
 
   -- a beat written as it was leaves the book
   pub book_same : book_of (with_item beats e known) copies ≡ book_of beats copies
-  book_same = let ghosts = ap (λ m. joined m copies.items) same_beats in λ i. record { ghosts = ghosts i; room = copies.room }
+  book_same = let ghosts = ap (λ m. joined m copies.items) same_beats in λ i. record { ghosts = ghosts i }
 
   pub is_book_same : IsBook beats copies → IsBook (with_item beats e known) copies
   is_book_same book = record {
     beat = λ q there. ap (λ m. map.contains_key m q) same_beats ∙ book.beat q there;
-    room = room_more beats.room copies.room e book.room;
   }
 
   abbrev over : Bool → ℕ → ℕ

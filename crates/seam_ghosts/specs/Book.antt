@@ -2,17 +2,15 @@
 use Rattle.std.specs.Prelude.{ℕ, nat_lt, List, [], ◌∷◌, Option, None, Some, if◌then◌else◌}
 use Rattle.std.specs.Ordering.{nat_cmp}
 use Rattle.std.specs.FinMap as map
-use Rattle.std.specs.FinSet as set
 use Rattle.std.specs.Coded.{Coded, code_by, coded×, coded_ℕ, coded_option}
 use Rattle.std.proofs.Common.{refl}
 use Rattle.seam_ghosts.specs.declared.Ghost.{Ghost}
 use Rattle.seam_ghosts.specs.declared.Kept.{Kept}
 use Rattle.seam_ghosts.specs.declared.Kept.TheVariants.{Taken, Ignored}
 
--- the ghost of each entity that a message came for, and the entities whose calls want no memory
+-- the ghost of each entity that a message came for
 pub record BookView (P : Type 0) : Type 0 where
   pub ghosts : map.FinMap nat_cmp (Ghost P)
-  pub room : set.FinSet nat_cmp
 
 abbrev pub ghost_code : {P : Type 0} → Coded P → Coded (Ghost P)
 ghost_code p =
@@ -20,8 +18,7 @@ ghost_code p =
 
 abbrev pub book_code : {P : Type 0} → Coded P → Coded (BookView P)
 book_code p =
-    code_by (map.FinMap nat_cmp (Ghost _) × set.FinSet nat_cmp) (coded× (map.code coded_ℕ (ghost_code p)) (set.code coded_ℕ))
-    (λ w. (w.ghosts, w.room)) (λ q. record { ghosts = q.0; room = q.1 }) (λ _. refl)
+    code_by (map.FinMap nat_cmp (Ghost _)) (map.code coded_ℕ (ghost_code p)) (λ w. w.ghosts) (λ m. record { ghosts = m }) (λ _. refl)
 
 abbrev pub beat_in : {P : Type 0} → Option (Ghost P) → ℕ
 beat_in None = 0
@@ -55,14 +52,9 @@ copies w = copied (map.entries w.ghosts)
 abbrev pub answer : ℕ → ℕ → Kept
 answer known beat = if nat_lt known beat then Taken else Ignored
 
--- a copy has room, and a drop gives the room back
-abbrev pub with_room : {P : Type 0} → set.FinSet nat_cmp → ℕ → Option P → set.FinSet nat_cmp
-with_room room e None = set.remove room e
-with_room room e (Some p) = set.insert room e
-
 -- the book with this ghost in place of what was known of the entity
 abbrev pub with_ghost : {P : Type 0} → BookView P → ℕ → Ghost P → BookView P
-with_ghost w e g = record { ghosts = map.insert w.ghosts e g; room = with_room w.room e g.copy }
+with_ghost w e g = record { ghosts = map.insert w.ghosts e g }
 
 -- after a message with a ghost of the entity: it is known from now on where its beat is greater, and else nothing changed
 abbrev pub after_message : {P : Type 0} → BookView P → ℕ → Ghost P → BookView P

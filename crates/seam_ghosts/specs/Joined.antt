@@ -2,7 +2,6 @@
 use Rattle.std.specs.Prelude.{◌≡◌, ℕ, true, map as each}
 use Rattle.std.specs.Ordering.{nat_cmp}
 use Rattle.std.specs.FinMap as map
-use Rattle.std.specs.FinSet as set
 use Rattle.seam_table.specs.Tables.{TableView}
 use Rattle.seam_ghosts.specs.declared.Ghost.{Ghost}
 use Rattle.seam_ghosts.specs.Book.{BookView}
@@ -16,9 +15,8 @@ abbrev pub joined : {P : Type 0} → map.FinMap nat_cmp ℕ → map.FinMap nat_c
 joined beats copies = map.from_entries (each (ghost_at copies) (map.entries beats))
 
 abbrev pub book_of : {P : Type 0} → TableView ℕ → TableView P → BookView P
-book_of beats copies = record { ghosts = joined beats.items copies.items; room = copies.room }
+book_of beats copies = record { ghosts = joined beats.items copies.items }
 
--- what has a copy has a beat, and what has room for a copy has room for a beat
+-- what has a copy has a beat
 pub record IsBook {P : Type 0} (beats : TableView ℕ) (copies : TableView P) : Type 0 where
   pub beat : (e : ℕ) → map.contains_key copies.items e ≡ true → map.contains_key beats.items e ≡ true
-  pub room : (e : ℕ) → set.contains copies.room e ≡ true → set.contains beats.room e ≡ true

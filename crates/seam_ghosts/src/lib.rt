@@ -5,17 +5,17 @@
 //! ghosts of the BigWorld Server Overview; the beats are of the kind of Lamport's clocks, 1978.)
 #![tactic(auto)]
 
-ghost use Rattle.std.specs.Prelude.{max, nat_lt, if◌then◌else◌, ◌≡◌, ◌≤◌, ◌≢◌, ℕ, find, true, false, IfOk, IfErr, OnOk, OnErr};
-ghost use Rattle.std.specs.Prelude.{option_map, option_copied, Some, None};
+ghost use Rattle.std.specs.Prelude.{max, nat_lt, if◌then◌else◌, ◌≡◌, ◌≤◌, ◌≢◌, ℕ, IfOk, IfErr, OnOk, OnErr};
+ghost use Rattle.std.specs.Prelude.{option_copied, Some, None};
+ghost use Rattle.std.specs.Map.{keys_of};
 ghost use Rattle.std.specs.FinMap as map;
-ghost use Rattle.std.specs.FinSet as set;
-ghost use Rattle.seam_table.specs.Tables.{is_after, with_item};
+ghost use Rattle.seam_table.specs.Tables.{with_item};
 ghost use Rattle.seam_ghosts.specs.declared.Ghost.{Ghost};
 ghost use Rattle.seam_ghosts.specs.Joined.{book_of, IsBook};
 ghost use Rattle.seam_ghosts.specs.Book.{BookView, beat_of, copy_of, copies, answer, after_message, ghost_after};
 
 pub use seam_memory::NoMemoryFor;
-use seam_table::{Items, Table};
+use seam_table::Table;
 use std::alloc::{AllocError, Global};
 use std::marker::Model;
 
@@ -40,12 +40,12 @@ pub struct Ghost<P> {
 
 /// The copies of entities, each under the greatest beat that came for it.
 ///
-/// Contracts see the ghost of each entity, and beside them the entities for which there is room: calls on those want no memory.
+/// Contracts see the ghost of each entity.
 #[derive(Drop)]
 pub struct GhostBook<P> {
     // The greatest beat of each entity that a message came for.
     beats: Table<u64>,
-    // The copies that are there, in a table of their own, so that a walk over them does not pass entities that have only a beat.
+    // The copies that are there, in a table of their own, so that a list of them does not pass entities that have only a beat.
     copies: Table<P>,
 }
 
@@ -57,8 +57,6 @@ impl<P> Model for GhostBook<P> {
 
     ghost coded = { book_code P.code };
 
-    ghost use Rattle.seam_ghosts.specs.Joined.{book_of, IsBook};
-
     ghost view = { λ b. book_of b.beats b.copies };
 
     ghost invariant = { λ b. IsBook b.beats b.copies };
@@ -67,7 +65,7 @@ impl<P> Model for GhostBook<P> {
 impl<P: Drop> GhostBook<P> {
     /// A book that knows of no entity.
     pub fn new(alloc: Global) -> Self
-        ensures { result ≡ record { ghosts = map.empty; room = set.empty } }
+        ensures { result ≡ record { ghosts = map.empty } }
     {
         GhostBook {
             beats: Table::new(alloc),
@@ -92,18 +90,6 @@ impl<P: Drop> GhostBook<P> {
         self.copies.get(e)
     }
 
-    /// Makes room for the entity: until its copy is dropped no call on it wants memory.
-    pub fn reserve(&mut self, e: u32) -> Result<(), AllocError>
-        ensures same { self.new.ghosts ≡ self.old.ghosts }
-        ensures room { OnOk result (self.new.room ≡ set.insert self.old.room e) }
-        ensures there { OnOk result (set.contains self.new.room e ≡ true) }
-        ensures err { OnErr result (self.new.room ≡ self.old.room) }
-        ensures err_only_first { OnErr result (set.contains self.old.room e ≡ false) }
-    {
-        self.beats.reserve(e)?;
-        self.copies.reserve(e)
-    }
-
     /// Takes the entity's copy as it is at this beat. It is ignored exactly where the beat is not greater than `beat(e)`.
     pub fn set(&mut self, e: u32, beat: u64, copy: P) -> Result<Kept, NoMemoryFor<P>>
         ensures answer { IfOk result (λ k. k ≡ answer (beat_of self.old e) beat) }
@@ -112,7 +98,6 @@ impl<P: Drop> GhostBook<P> {
         // Without memory the copy comes back and nothing has changed.
         ensures err { OnErr result (self.new ≡ self.old) }
         ensures err_item { IfErr result (λ r. r.item ≡ copy) }
-        ensures err_only_first { OnErr result (set.contains self.old.room e ≡ false) }
     {
         set_copy(&mut self.beats, &mut self.copies, e, beat, copy)
     }
@@ -125,7 +110,6 @@ impl<P: Drop> GhostBook<P> {
 
         // Without memory nothing has changed.
         ensures err { OnErr result (self.new ≡ self.old) }
-        ensures err_only_first { OnErr result (set.contains self.old.room e ≡ false) }
     {
         if self.beat(e) >= beat {
             return Ok(Kept::Ignored);
@@ -137,19 +121,11 @@ impl<P: Drop> GhostBook<P> {
         Ok(Kept::Taken)
     }
 
-    /// The copies, with their entities' numbers, in rising number.
-    pub fn iter(&self) -> Items<'_, P>
-        ensures { result ≡ copies self.now }
+    /// The entities that have copies, in rising number.
+    pub fn entities(&self, alloc: Global) -> Result<Vec<u32>, AllocError>
+        ensures { IfOk result (λ v. v.items ≡ keys_of (copies self.now)) }
     {
-        self.copies.iter()
-    }
-
-    /// The first copy, in rising entity number, of those whose number is greater than the given one, or of all where none
-    /// is given. A walk over all copies asks for the next one after each.
-    pub fn next_after(&self, after: Option<u32>) -> Option<(u32, &P)>
-        ensures { option_map (λ p. (p.0, p.1.now)) result ≡ find (λ p. is_after after p.0) (copies self.now) }
-    {
-        self.copies.next_after(after)
+        self.copies.numbers(alloc)
     }
 }
 
@@ -166,7 +142,6 @@ fn write_over<P: Drop>(
     ensures after { OnOk result (copies.new ≡ (if nat_lt known.old beat then with_item copies.old e copy else copies.old)) }
     ensures err { OnErr result ((known.new ≡ known.old) × (copies.new ≡ copies.old)) }
     ensures err_item { IfErr result (λ r. r.item ≡ copy) }
-    ensures err_only_first { OnErr result (set.contains copies.old.room e ≡ false) }
 {
     if beat <= *known {
         return Ok(Kept::Ignored);
@@ -192,7 +167,6 @@ fn write_first<P: Drop>(
     ensures book { IsBook beats.new copies.new }
     ensures err { OnErr result (book_of beats.new copies.new ≡ book_of beats.old copies.old) }
     ensures err_item { IfErr result (λ r. r.item ≡ copy) }
-    ensures err_only_first { OnErr result (set.contains copies.old.room e ≡ false) }
 {
     if beat == 0 {
         return Ok(Kept::Ignored);
@@ -220,7 +194,6 @@ fn set_copy<P: Drop>(
     ensures book { IsBook beats.new copies.new }
     ensures err { OnErr result (book_of beats.new copies.new ≡ book_of beats.old copies.old) }
     ensures err_item { IfErr result (λ r. r.item ≡ copy) }
-    ensures err_only_first { OnErr result (set.contains copies.old.room e ≡ false) }
 {
     match beats.get_mut(e) {
         Some(known) => write_over(known, copies, e, beat, copy),

@@ -19,7 +19,6 @@ use Rattle.seam_steps.specs.Looks.{Known, seen_as, known_of, shown_of_known, oth
 use Rattle.seam_steps.specs.Cells.{CellView, known_real, known_copy, known_in, known_to, is_another, is_of_another}
 use Rattle.seam_known.proofs.Sorted.{tied_same, none_below, passing, find_filter, sorted_filter, find_mapped, find_append}
 use Rattle.seam_known.proofs.Sorted.{find_entries, both, first, second}
-use Rattle.seam_known.proofs.Walks.{comes_after, earlier, next_of_both}
 pub use Rattle.seam_known.specs.Knowing.{or_else, known_by, known_at, unless_self}
 
 -- ---- the copies of a book
@@ -159,15 +158,3 @@ known_without_own c e =
         ∙ sym (ap (λ b. cond (not b) (known_by c.here (table.get c.reals q) (copy_in (table.get c.ghosts q))) None) is)
     alike q false is = ap (λ o. cond (not (eqb q e)) (known_by c.here o (copy_in (table.get c.ghosts q))) None)
         (table.get-remove nat_cmp_total c.reals e q ∙ ap (λ b. cond b None (table.get c.reals q)) (apart q is))
-
--- ---- the next of all that are known
-
-pub next_known : (c : CellView) (a : Option ℕ) → find (comes_after a) (table.entries (table.from_entries {R = nat_cmp} (known_in c)))
-    ≡ earlier (other_of_real c.here) (other_of_copy c.here) (find (comes_after a) (table.entries c.reals))
-    (find (comes_after a) (copied (table.entries c.ghosts)))
-next_known c a = next_of_both (other_of_real c.here) (other_of_copy c.here) a (table.entries c.reals) (copied (table.entries c.ghosts))
-    (table.entries (table.from_entries {R = nat_cmp} (known_in c))) (table.entries_sorted c.reals)
-    (copies_rise (table.entries c.ghosts) (table.entries_sorted c.ghosts))
-    (table.entries_sorted (table.from_entries {R = nat_cmp} (known_in c)))
-    (λ q. known_is c q ∙ λ i. known_by c.here (table.get-entries c.reals q i)
-    (sym (find_copied q (table.entries c.ghosts) (table.entries_sorted c.ghosts) ∙ ap copy_in (sym (table.get-entries c.ghosts q))) i))

@@ -1,3 +1,2 @@
 pub mod Sorted
-pub mod Walks
 pub mod Knowing

@@ -1,7 +1,6 @@
 -- What a cell knows of an entity: its real, or its copy.
 use Rattle.std.specs.Prelude.{ℕ, Bool, cond, Option, None, Some, option_map}
 use Rattle.std.specs.FinMap as table
-use Rattle.seam_table.specs.Tables.{is_after}
 use Rattle.seam_ghosts.specs.Book.{copy_in}
 use Rattle.seam_call.specs.declared.shown.GhostCopy.{GhostCopy}
 use Rattle.seam_entity.specs.Here.{Here}
@@ -24,7 +23,3 @@ known_at c x = known_by c.here (table.get c.reals x) (copy_in (table.get c.ghost
 -- of others than e
 abbrev pub unless_self : {X : Type 0} → ℕ → ℕ → Option X → Option X
 unless_self e x o = cond (is_another e x) o None
-
--- the entry of a list in rising number comes after the given number, or is any where none is given
-abbrev pub comes_after : {X : Type 0} → Option ℕ → ℕ × X → Bool
-comes_after a p = is_after a p.0

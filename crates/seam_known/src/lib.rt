@@ -1,7 +1,7 @@
 //! What a cell knows of others: its reals, and its copies of those whose reals are not there.
 //!
-//! Definitions and laws alone. For callers, `proofs/Sorted` has what is found in a list in rising number, `proofs/Walks` a walk over
-//! such a list, and over two side by side, and `proofs/Knowing` what is known of an entity and which is the next that is known.
+//! Definitions and laws alone. For callers, `proofs/Sorted` has what is found in a list in rising number, and `proofs/Knowing` what is
+//! known of an entity.
 #![tactic(auto)]
 
 ghost use Rattle.std.specs.Prelude.{◌≡◌, ℕ, map};

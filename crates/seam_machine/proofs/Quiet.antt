@@ -1,13 +1,15 @@
 -- A quiet net: every link is empty and no node has a task.
-use Rattle.std.proofs.Common.{◌≡◌, ℕ, zero, suc, ◌<◌, Bool, true, false, List, [], ◌∷◌, length, Option, None, Some, refl, sym, ap, ◌∙◌}
+use Rattle.std.proofs.Common.{◌≡◌, ℕ, zero, suc, ◌<◌, ◌≤◌, Bool, true, false, List, [], ◌∷◌, length, Option, None, Some, refl, sym, ap, ◌∙◌}
 use Rattle.std.proofs.Common.{arith, inl, inr}
-use Rattle.std.specs.Prelude.{slice_get, map, option_map, IfSome, IfNone}
+use Rattle.std.specs.Prelude.{slice_get, map, option_map}
 use Rattle.std.proofs.lemmas.Bool.{cases_lt}
 use Rattle.std.proofs.lemmas.Option.{slice_get-map, slice_get_past}
 use Rattle.seam_machine.specs.Views.{NetView}
 use Rattle.seam_machine.specs.Nets.{link, letter, input_from, is_ready, enabled, IsQuiet, IsSquare}
 use Rattle.seam_machine.specs.Events.{EachNode, EachLink}
 use Rattle.seam_machine.specs.declared.machines.Event.{Event}
+use Rattle.seam_machine.specs.declared.machines.Input.TheVariants.{Task}
+use Rattle.seam_machine.specs.Orders.{IsBefore, IsBeforeBy}
 use Rattle.seam_machine.proofs.Puts.{link_is_in}
 
 some_at : {X : Type 0} (xs : List X) (k : ℕ) → k < length xs → (x : X) × (slice_get xs k ≡ Some x)
@@ -46,36 +48,50 @@ module _ {N M : Type 0} (has_work : N → Bool) (w : NetView N M) where
   pub quiet_from : EachLink (λ a b l. l ≡ []) w.rows → EachNode (λ k s. has_work s ≡ false) w.nodes → IsQuiet has_work w
   quiet_from empty idle e = not_ready e.node (slice_get w.nodes e.node) e.from refl (λ a. empty a e.node) (idle e.node)
 
-  -- the same by the node's mark among those that were asked
-  pub not_enabled : (e : Event) → slice_get (map has_work w.nodes) e.node ≡ Some false → ((a : ℕ) → link w.rows a e.node ≡ []) →
-      enabled has_work w e ≡ false
-  not_enabled e marked empty =
-      not_ready e.node (slice_get w.nodes e.node) e.from refl empty
-      (λ s h.
-      let there = slice_get-map has_work w.nodes e.node in
-      let mapped = ap (option_map has_work) h in
-      cc)
+  off_by : (o : Option N) → option_map has_work o ≡ Some false → is_ready {M = M} has_work o (Some Task) ≡ false
+  off_by None h = refl
+  off_by (Some s) h = cc
+
+  -- by the node's mark among those that were asked
+  task_off : (k : ℕ) → slice_get (map has_work w.nodes) k ≡ Some false → enabled has_work w (record { node = k; from = None }) ≡ false
+  task_off k marked = off_by (slice_get w.nodes k) (sym (slice_get-map has_work w.nodes k) ∙ marked)
+
+  no_letter : (o : Option N) (a : ℕ) (l : List M) → l ≡ [] → is_ready has_work o (letter a l) ≡ false
+  no_letter None a l empty = refl
+  no_letter (Some s) a [] empty = refl
+  no_letter (Some s) a (m ∷ ms) empty = cc
+
+  no_message : (k a : ℕ) → link w.rows a k ≡ [] → enabled has_work w (record { node = k; from = Some a }) ≡ false
+  no_message k a empty = no_letter (slice_get w.nodes k) a (link w.rows a k) empty
+
+  no_node : (e : Event) → length w.nodes ≤ e.node → enabled has_work w e ≡ false
+  no_node e past = ap (λ o. is_ready has_work o (input_from w.rows e.node e.from)) (slice_get_past w.nodes e.node past)
 
   -- a net whose nodes have no enabled event
-  pub quiet_below : ((e : Event) → e.node < length w.nodes → enabled has_work w e ≡ false) → IsQuiet has_work w
+  quiet_below : ((e : Event) → e.node < length w.nodes → enabled has_work w e ≡ false) → IsQuiet has_work w
   quiet_below none e = elim (cases_lt e.node (length w.nodes)) [
     | inl within ↦ none e within
-    | inr past ↦ ap (λ o. is_ready has_work o (input_from w.rows e.node e.from)) (slice_get_past w.nodes e.node past)
+    | inr past ↦ no_node e past
   ]
 
-  holds_letter : (k a : ℕ) (l : List M) → k < length w.nodes → 0 < length l → is_ready has_work (slice_get w.nodes k) (letter a l) ≡ true
-  holds_letter k a [] lt h = absurd (omega (arith, h))
-  holds_letter k a (m ∷ ms) lt h = let node = some_at w.nodes k lt in rw node.1 refl
+  -- a net that has no message for any node, and no task
+  pub quiet_without : ((k a : ℕ) → k < length w.nodes → link w.rows a k ≡ []) →
+      ((k : ℕ) → k < length w.nodes → slice_get (map has_work w.nodes) k ≡ Some false) → IsQuiet has_work w
+  quiet_without empty off = quiet_below (λ e lt. by e.node e.from lt)
+    where
+      by : (k : ℕ) (from : Option ℕ) → k < length w.nodes → enabled has_work w (record { node = k; from = from }) ≡ false
+      by k None lt = task_off k (off k lt)
+      by k (Some a) lt = no_message k a (empty k a lt)
 
-  -- the event of a node that is marked where no link to it holds a message, by its first link that holds one, or else its task
-  pub first_enabled : (k : ℕ) (from : Option ℕ) → k < length w.nodes → IfSome from (λ a. 0 < length (link w.rows a k)) →
-      IfNone from ((a : ℕ) → link w.rows a k ≡ []) →
-      (((a : ℕ) → link w.rows a k ≡ []) → slice_get (map has_work w.nodes) k ≡ Some true) →
-      enabled has_work w (record { node = k; from = from }) ≡ true
-  first_enabled k (Some a) lt holds none marked = holds_letter k a (link w.rows a k) lt holds
-  first_enabled k None lt holds none marked =
-      let node = some_at w.nodes k lt in
-      let there = slice_get-map has_work w.nodes k in
-      let mapped = ap (option_map has_work) node.1 in
-      let yes = marked none in
-      rw node.1 (let works : has_work node.0 ≡ true = cc in works)
+  -- none comes before a task where no link holds a message, and no lower node has its task
+  pub task_first : (k : ℕ) → ((q a : ℕ) → q < length w.nodes → link w.rows a q ≡ []) →
+      ((q : ℕ) → q < k → slice_get (map has_work w.nodes) q ≡ Some false) → (d : Event) → IsBefore d (record { node = k; from = None }) →
+      enabled has_work w d ≡ false
+  task_first k empty off d = by d.node d.from
+    where
+      by : (q : ℕ) (from : Option ℕ) → IsBeforeBy q from k None → enabled has_work w (record { node = q; from = from }) ≡ false
+      by q None before = task_off q (off q before)
+      by q (Some b) before = elim (cases_lt q (length w.nodes)) [
+        | inl within ↦ no_message q b (empty q b within)
+        | inr past ↦ no_node (record { node = q; from = Some b }) past
+      ]

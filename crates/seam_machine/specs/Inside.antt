@@ -8,11 +8,10 @@ use Rattle.seam_machine.specs.Nets.{link, letter, input_from, row_less, rows_aft
 use Rattle.seam_machine.specs.Totals.{total}
 use Rattle.seam_machine.specs.declared.machines.Input.{Input}
 
--- the links, whether none of their messages waits for room, and where the pass for the first busy node begins
+-- the links, and whether none of their messages waits for room
 pub record LinksView (M : Type 0) : Type 0 where
   pub rows : List (List (List M))
   pub clear : Bool
-  pub low : ℕ
 
 -- there are n elements, and each of the first n is d
 abbrev pub FirstAre : {X : Type 0} → X → ℕ → List X → Type 0

@@ -2,12 +2,12 @@
 use Rattle.std.specs.Prelude.{◌≡◌, ℕ, ◌<◌, ◌⊎◌, Option, None, Some}
 use Rattle.seam_machine.specs.declared.machines.Event.{Event}
 
--- links in rising number, and the task after them
-abbrev pub IsEarlier : Option ℕ → Option ℕ → Type 0
-IsEarlier None from = ⊥
-IsEarlier (Some a) None = Unit {0}
-IsEarlier (Some a) (Some b) = a < b
+-- messages come before tasks; of either those to the lower node, and of the messages to one node those from the lower node
+abbrev pub IsBeforeBy : ℕ → Option ℕ → ℕ → Option ℕ → Type 0
+IsBeforeBy k (Some a) n (Some b) = (k < n) ⊎ ((k ≡ n) × (a < b))
+IsBeforeBy k (Some a) n None = Unit {0}
+IsBeforeBy k None n (Some b) = ⊥
+IsBeforeBy k None n None = k < n
 
--- the lower node first, and at one node the earlier input
 abbrev pub IsBefore : Event → Event → Type 0
-IsBefore d e = (d.node < e.node) ⊎ ((d.node ≡ e.node) × IsEarlier d.from e.from)
+IsBefore d e = IsBeforeBy d.node d.from e.node e.from

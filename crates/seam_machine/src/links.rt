@@ -43,7 +43,6 @@ impl<T> Model for Links<T> {
     ghost view = { λ l. record {
       rows = send_all l.rows.items l.sender l.out.items;
       clear = is_empty l.out.items;
-      low = l.kept.low;
     } };
 
     ghost invariant = { λ l. IsLinks l.rows.items l.kept.busy.items l.sender l.out.items
@@ -104,18 +103,15 @@ fn count_all<T>(alloc: Global, rows: &Vec<Row<T>>) -> Result<Vec<u8>, AllocError
     Ok(busy)
 }
 
-// The first node that is marked or has a count, where none below `start` is; the number of nodes where there is none.
-fn first_counted(busy: &Vec<u8>, marks: &[bool], start: usize) -> usize
-    requires len { length marks.now ≡ length busy.now.items }
-    requires unmarked { FirstAre false start marks.now }
+// The first node that has a count, where none below `start` has one; the number of nodes where there is none.
+fn first_counted(busy: &Vec<u8>, start: usize) -> usize
     requires uncounted { FirstAre 0 start busy.now.items }
     ensures within { result ≤ length busy.now.items }
-    ensures unmarked { FirstAre false result marks.now }
     ensures uncounted { FirstAre 0 result busy.now.items }
-    ensures found { result < length busy.now.items → slice_index busy.now.items result ≡ 0 → slice_get marks.now result ≡ Some true }
+    ensures found { result < length busy.now.items → 0 < slice_index busy.now.items result }
 {
     for k in start..busy.len() {
-        if marks[k] || busy[k] > 0 {
+        if busy[k] > 0 {
             return k;
         }
     }
@@ -252,17 +248,14 @@ impl<T> Links<T> {
         self.out.is_empty()
     }
 
-    /// The first node that is marked, or to which a link holds a message; the number of nodes where there is none.
-    pub fn first_busy(&self, marks: &[bool]) -> usize
+    /// The first node to which a link holds a message, where no message waits for room; the number of nodes where there is none.
+    pub fn first_busy(&self) -> usize
         requires clear { self.now.clear ≡ true }
-        requires len { length marks.now ≡ length self.now.rows }
-        requires low { FirstAre false self.now.low marks.now }
         ensures within { result ≤ length self.now.rows }
-        ensures unmarked { (k : ℕ) → k < result → slice_get marks.now k ≡ Some false }
         ensures idle { (k a : ℕ) → k < result → link self.now.rows a k ≡ [] }
-        ensures busy { result < length self.now.rows → ((a : ℕ) → link self.now.rows a result ≡ []) → slice_get marks.now result ≡ Some true }
+        ensures busy { result < length self.now.rows → ((a : ℕ) → link self.now.rows a result ≡ []) → ⊥ }
     {
-        first_counted(&self.kept.busy, marks, self.kept.low)
+        first_counted(&self.kept.busy, self.kept.low)
     }
 
     /// The least node whose link to that node holds a message, where no message waits for room.
@@ -295,24 +288,17 @@ impl<T> Links<T> {
         None
     }
 
-    /// From here on, the pass for the first busy node begins past those that are neither marked nor busy. The mark of node `at`
-    /// may have changed.
-    pub fn move_on(&mut self, at: u8, marks: &[bool])
-        requires len { length marks.now ≡ length self.old.rows }
-        requires low { FirstAre false (min self.old.low at) marks.now }
-        ensures rows { self.new.rows ≡ self.old.rows }
-        ensures clear { self.new.clear ≡ self.old.clear }
-        ensures low { FirstAre false self.new.low marks.now }
+    /// From here on, the pass for the first busy node begins past those that are not.
+    pub fn move_on(&mut self)
+        ensures { self.new ≡ self.old }
     {
-        let start = self.kept.low.min(at as usize);
-        self.kept.low = first_counted(&self.kept.busy, marks, start);
+        self.kept.low = first_counted(&self.kept.busy, self.kept.low);
     }
 
     /// Moves what waits to the links.
     #[inline]
     pub fn settle(&mut self) -> Result<(), AllocError>
         ensures rows { self.new.rows ≡ self.old.rows }
-        ensures low { self.new.low ≤ self.old.low }
         ensures ok { OnOk result (self.new.clear ≡ true) }
     {
         if self.out.is_empty() {
@@ -326,7 +312,6 @@ impl<T> Links<T> {
     fn settle_all(&mut self) -> Result<(), AllocError>
         requires { self.old.clear ≡ false }
         ensures rows { self.new.rows ≡ self.old.rows }
-        ensures low { self.new.low ≤ self.old.low }
         ensures ok { OnOk result (self.new.clear ≡ true) }
     {
         let row = &mut self.rows[self.sender];
@@ -346,7 +331,6 @@ impl<T> Links<T> {
         requires peers { M.peer_count node.old ≡ length self.old.rows }
         ensures fed { OnOk result (Feeds M.steps to (Some from) self.old.rows node.old self.new.rows node.new) }
         ensures err_rows { OnErr result (self.new.rows ≡ self.old.rows) }
-        ensures low { self.new.low ≤ self.old.low }
         ensures err_node { OnErr result (node.new ≡ node.old) }
         ensures same_peers { M.peer_count node.new ≡ M.peer_count node.old }
     {
@@ -376,7 +360,6 @@ impl<T> Links<T> {
         requires peers { M.peer_count node.old ≡ length self.old.rows }
         ensures fed { OnOk result (Feeds M.steps at None self.old.rows node.old self.new.rows node.new) }
         ensures err_rows { OnErr result (self.new.rows ≡ self.old.rows) }
-        ensures low { self.new.low ≤ self.old.low }
         ensures err_node { OnErr result (node.new ≡ node.old) }
         ensures same_peers { M.peer_count node.new ≡ M.peer_count node.old }
     {
@@ -404,7 +387,6 @@ impl<T> Links<T> {
         requires peers { M.peer_count node.old ≡ length self.old.rows }
         ensures fed { OnOk result (Feeds M.steps event.node event.from self.old.rows node.old self.new.rows node.new) }
         ensures err_rows { OnErr result (self.new.rows ≡ self.old.rows) }
-        ensures low { self.new.low ≤ self.old.low }
         ensures err_node { OnErr result (node.new ≡ node.old) }
         ensures same_peers { M.peer_count node.new ≡ M.peer_count node.old }
     {
@@ -421,7 +403,7 @@ impl<T: Drop> Links<T> {
     pub fn of_rows(alloc: Global, rows: Vec<Row<T>>) -> Result<Links<T>, AllocError>
         requires few { length rows.items < 256 }
         requires square { All (λ r. length r ≡ length rows.items) rows.items }
-        ensures { IfOk result (λ l. l ≡ record { rows = rows.items; clear = true; low = 0 }) }
+        ensures { IfOk result (λ l. l ≡ record { rows = rows.items; clear = true }) }
     {
         let busy = count_all(alloc, &rows)?;
         let starts = unknown_starts(alloc, rows.len())?;

@@ -1,7 +1,7 @@
 //! Nets: nodes, and a link for each ordered pair of them.
 
 ghost use Rattle.std.specs.Prelude.{◌≡◌, ◌≢◌, ℕ, ◌+◌, ◌*◌, ◌<◌, ◌≤◌, [], ◌∷◌, ◌↔◌, length, true, false, Option, Some, None, IsTrue, OnOk};
-ghost use Rattle.std.specs.Prelude.{OnErr, IfOk, IfSome, IfNone, map, option_copied, replicate, slice_get, slice_index_or, vec_len};
+ghost use Rattle.std.specs.Prelude.{OnErr, IfOk, IfSome, IfNone, map, option_copied, replicate, slice_get, slice_index_or, slice_set, vec_len};
 ghost use Rattle.std.specs.List.{All};
 ghost use Rattle.seam_machine.specs.Views.{NetView, PartsView};
 ghost use Rattle.seam_machine.specs.Nets.{link, flat, enabled, happens, with_node, IsQuiet, IsSquare, ArePeers, AreParts};
@@ -40,6 +40,8 @@ pub struct Net<M: Machine> {
     links: Links<M::Msg>,
     // Of each node whether its task is there, if all were asked since `node_mut` lent one.
     tasks: Vec<bool>,
+    // A number below which no node has its task.
+    idle: usize,
     asked: bool,
 }
 
@@ -53,7 +55,7 @@ impl<M: Machine> Model for Net<M> {
     ghost view = { λ n. record { nodes = n.nodes.items; rows = n.links.rows } };
 
     ghost invariant = { λ n. IsNet (record { nodes = n.nodes.items; rows = n.links.rows })
-        × KnowsTasks M.has_work n.nodes.items n.asked n.tasks.items × FirstAre false n.links.low n.tasks.items };
+        × KnowsTasks M.has_work n.nodes.items n.asked n.tasks.items × FirstAre false n.idle n.tasks.items };
 }
 
 // n rows of n empty links.
@@ -106,47 +108,63 @@ fn unasked(alloc: Global, n: usize) -> Result<Vec<bool>, AllocError>
 
 // Asks each node whether its task is there.
 #[cold]
-fn ask_all<M: Machine>(nodes: &Vec<M>, tasks: &mut Vec<bool>, links: &mut Links<M::Msg>)
-    requires len { length links.old.rows ≡ length nodes.now.items }
+fn ask_all<M: Machine>(nodes: &Vec<M>, tasks: &mut Vec<bool>)
     requires places { length tasks.old.items ≡ length nodes.now.items }
-    ensures known { tasks.new.items ≡ map M.has_work nodes.now.items }
-    ensures low { FirstAre false links.new.low tasks.new.items }
-    ensures rows { links.new.rows ≡ links.old.rows }
-    ensures clear { links.new.clear ≡ links.old.clear }
+    ensures { tasks.new.items ≡ map M.has_work nodes.now.items }
 {
     for k in 0..nodes.len() {
         tasks[k] = nodes[k].has_task();
     }
-    links.move_on(0, tasks.as_slice());
 }
 
 // Asks each node whether its task is there, where not all were asked.
-fn ask<M: Machine>(
-    nodes: &Vec<M>,
-    tasks: &mut Vec<bool>,
-    asked: &mut bool,
-    links: &mut Links<M::Msg>,
-)
-    requires len { length links.old.rows ≡ length nodes.now.items }
+fn ask<M: Machine>(nodes: &Vec<M>, tasks: &mut Vec<bool>, idle: &mut usize, asked: &mut bool)
     requires known { KnowsTasks M.has_work nodes.now.items asked.old tasks.old.items }
-    requires low { FirstAre false links.old.low tasks.old.items }
+    requires idle { FirstAre false idle.old tasks.old.items }
     ensures known { KnowsTasks M.has_work nodes.now.items asked.new tasks.new.items }
-    ensures low { FirstAre false links.new.low tasks.new.items }
-    ensures rows { links.new.rows ≡ links.old.rows }
-    ensures clear { links.new.clear ≡ links.old.clear }
+    ensures idle { FirstAre false idle.new tasks.new.items }
 {
     if *asked {
         return;
     }
-    ask_all(nodes, tasks, links);
+    ask_all(nodes, tasks);
+    *idle = 0;
     *asked = true;
+}
+
+// Notes whether the task of the node is there.
+fn note(tasks: &mut Vec<bool>, idle: &mut usize, at: usize, is_there: bool)
+    requires within { at < length tasks.old.items }
+    requires idle { FirstAre false idle.old tasks.old.items }
+    ensures tasks { tasks.new.items ≡ slice_set tasks.old.items at is_there }
+    ensures idle { FirstAre false idle.new tasks.new.items }
+{
+    tasks[at] = is_there;
+    if is_there {
+        *idle = (*idle).min(at);
+    }
+}
+
+// The first node whose task is there, where none below `idle` has its; none where there is none.
+fn first_task(tasks: &Vec<bool>, idle: usize) -> Option<u8>
+    requires few { length tasks.now.items < 256 }
+    requires idle { FirstAre false idle tasks.now.items }
+    ensures there { IfSome result (λ k. slice_get tasks.now.items k ≡ Some true) }
+    ensures first { IfSome result (λ k. FirstAre false k tasks.now.items) }
+    ensures none { IfNone result (FirstAre false (length tasks.now.items) tasks.now.items) }
+{
+    for k in idle..tasks.len() {
+        if tasks[k] {
+            return Some(k as u8);
+        }
+    }
+    None
 }
 
 impl<M: Machine> Net<M> {
     // The net of these nodes and links.
     fn over(alloc: Global, nodes: Vec<M>, links: Links<M::Msg>) -> Result<Net<M>, AllocError>
-        requires net { IsNet (record { nodes = nodes.items; rows = links.rows }) }
-        requires low { links.low ≡ 0 }
+        requires { IsNet (record { nodes = nodes.items; rows = links.rows }) }
         ensures { IfOk result (λ w. w ≡ record { nodes = nodes.items; rows = links.rows }) }
     {
         let tasks = unasked(alloc, nodes.len())?;
@@ -154,6 +172,7 @@ impl<M: Machine> Net<M> {
             nodes,
             links,
             tasks,
+            idle: 0,
             asked: false,
         })
     }
@@ -182,6 +201,7 @@ impl<M: Machine> Net<M> {
             nodes,
             links,
             tasks: _,
+            idle: _,
             asked: _,
         } = self;
         let links = flattened(alloc, links.into_rows())?;
@@ -253,15 +273,23 @@ impl<M: Machine> Net<M> {
         for k in 0..self.nodes.len() {
             let node = k as u8;
             let from = self.links.first_from(node);
-            if from.is_some() || self.nodes[k].has_task() {
+            if from.is_some() {
                 return Some(Event { node, from });
+            }
+        }
+        for k in 0..self.nodes.len() {
+            if self.nodes[k].has_task() {
+                return Some(Event {
+                    node: k as u8,
+                    from: None,
+                });
             }
         }
         None
     }
 
-    /// The first enabled event: of the lowest node, and of its links in rising number before its task.
-    /// There is none exactly where the net is quiet.
+    /// The first enabled event: messages before tasks, so that few wait at a time; of either those of the lowest node, and of messages
+    /// to one node those from the lowest. There is none exactly where the net is quiet.
     pub fn next_event(&self) -> Option<Event>
         ensures enabled { IfSome result (λ e. enabled M.has_work self.now e ≡ true) }
         ensures first { IfSome result (λ e. (d : Event) → IsBefore d e → enabled M.has_work self.now d ≡ false) }
@@ -270,13 +298,16 @@ impl<M: Machine> Net<M> {
         if !self.asked || !self.links.is_clear() {
             return self.next_unasked();
         }
-        let first = self.links.first_busy(self.tasks.as_slice());
-        if first == self.nodes.len() {
-            return None;
+        let first = self.links.first_busy();
+        if first < self.nodes.len() {
+            let node = first as u8;
+            let from = self.links.first_sender(node);
+            return Some(Event { node, from });
         }
-        let node = first as u8;
-        let from = self.links.first_sender(node);
-        Some(Event { node, from })
+        match first_task(&self.tasks, self.idle) {
+            Some(node) => Some(Event { node, from: None }),
+            None => None,
+        }
     }
 
     /// Whether no event is enabled.
@@ -299,14 +330,14 @@ impl<M: Machine> Net<M> {
         ask(
             &self.nodes,
             &mut self.tasks,
+            &mut self.idle,
             &mut self.asked,
-            &mut self.links,
         );
         let at = event.node as usize;
         let node = &mut self.nodes[at];
         self.links.feed(alloc, event, node)?;
-        self.tasks[at] = node.has_task();
-        self.links.move_on(event.node, self.tasks.as_slice());
+        note(&mut self.tasks, &mut self.idle, at, node.has_task());
+        self.links.move_on();
         Ok(())
     }
 }

@@ -1,9 +1,10 @@
 //! What a step sends.
 
-ghost use Rattle.std.specs.Prelude.{◌≡◌, ◌+◌, ◌<◌, ◌≤◌, [], ◌∷◌, ◌++◌, ◌^◌, length, OnOk, OnSome, IfNone, IfSome, slice_get, option_copied};
+ghost use Rattle.std.specs.Prelude.{false, ◌≡◌, ◌+◌, ◌<◌, ◌≤◌, [], ◌∷◌, ◌++◌, ◌^◌, length, OnOk, OnSome, IfNone, IfSome, slice_get, option_copied};
 ghost use Rattle.seam_machine.specs.Views.{OutView};
 ghost use Rattle.seam_machine.specs.Sends.{first_target, items_to};
 ghost use Rattle.seam_machine.specs.Inside.{is_empty};
+ghost use Rattle.std.specs.VecDeque.{deque_len, deque_capacity};
 
 use std::alloc::{AllocError, Global};
 use std::collections::VecDeque;
@@ -23,6 +24,16 @@ impl<T> Model for Out<T> {
     ghost Value = { OutView T };
 
     ghost view = { λ o. record { items = o.items.items; spare = deque_capacity o.items - deque_len o.items } };
+}
+
+// Moves all items to the end of the others, in room that was made before.
+fn move_all<T: Drop>(to: &mut VecDeque<T>, mut items: VecDeque<T>)
+    requires { deque_len to.old + length items.items ≤ deque_capacity to.old }
+    ensures { to.new.items ≡ to.old.items ++ items.items }
+{
+    while let Some(item) = items.pop_front() {
+        to.push_back_reserved(item);
+    }
 }
 
 impl<T> Out<T> {
@@ -81,6 +92,14 @@ impl<T> Out<T> {
         }
     }
 
+    /// How many items there are.
+    pub fn len(&self) -> usize
+        ensures len { result ≡ length self.now.items }
+        ensures small { result < 2 ^ 63 }
+    {
+        self.items.len()
+    }
+
     /// Whether there is no item.
     pub fn is_empty(&self) -> bool
         ensures { result ≡ is_empty self.now.items }
@@ -119,5 +138,19 @@ impl<T> Out<T> {
             }
         }
         None
+    }
+}
+
+impl<T: Drop> Out<T> {
+    /// Sends all items of the other, in room that was made before; where nothing was sent yet, none is needed.
+    pub fn send_all(&mut self, others: Out<T>)
+        requires { is_empty self.old.items ≡ false → length others.items ≤ self.old.spare }
+        ensures { self.new.items ≡ self.old.items ++ others.items }
+    {
+        if self.items.is_empty() {
+            self.items = others.items;
+            return;
+        }
+        move_all(&mut self.items, others.items);
     }
 }

@@ -2,6 +2,7 @@
 use Rattle.std.proofs.Common.{◌≡◌, ◌+◌, ◌++◌, ◌||◌, ℕ, zero, suc, Bool, true, false, cond, eqb, [], ◌∷◌, Option, None, Some}
 use Rattle.std.proofs.Common.{refl, ap, ◌∙◌, arith}
 use Rattle.std.specs.List.{filter_map, cons_option, range_with_len}
+use Rattle.std.specs.Ordering.{nat_cmp}
 use Rattle.std.specs.FinSet as set
 use Rattle.std.proofs.lemmas.List.{append-nil}
 use Rattle.std.proofs.lemmas.List.Elements.{filter_map-append}
@@ -45,6 +46,15 @@ pub news_same : (t : Telling) (g : GhostCopy) (n : ℕ) → set.contains t.haunt
 news_same t g n away was =
     let nothing : word t n ≡ Nothing = rw (away, was) (unless_here (eqb n t.me || eqb n t.home) t.changed) in
     news_more t g n ∙ (ap (λ w. news t g n ++ listed (said t g n w)) nothing ∙ append-nil (news t g n))
+
+-- where no cell is a haunt or was one, nothing is told
+pub news_none : (t : Telling) (g : GhostCopy) (n : ℕ) → t.haunts ≡ set.empty → t.old ≡ set.empty → news t g n ≡ []
+news_none t g zero none was = refl
+news_none t g (suc n) none was =
+    ap (news t g) (let e : suc n ≡ n + 1 = omega arith in e)
+    ∙ (news_same t g n (ap (λ s. set.contains s n) none ∙ set.contains-empty nat_cmp n)
+    (ap (λ s. set.contains s n) was ∙ set.contains-empty nat_cmp n)
+    ∙ news_none t g n none was)
 
 module _ (t : Telling) (g : GhostCopy) (k : ℕ) where
   word_told : (a b c : Bool) → said t g k (word_at a b c) ≡ told_unless false k (told t.entity t.beat g a b c)

@@ -16,19 +16,20 @@ use Rattle.seam_entity.specs.Here.{Here, cell_numbers}
 use Rattle.seam_entity.specs.Reals.{RealView}
 use Rattle.seam_defs.specs.declared.types.TypeDef.{TypeDef}
 use Rattle.seam_defs.specs.declared.states.State.{State}
-use Rattle.seam_entity.specs.Executing.{copy_of_real, copy_with}
+use Rattle.seam_entity.specs.Executing.{copy_of_real, copy_with, settled_to}
 use Rattle.seam_entity.specs.Preparing.{node_with}
 use Rattle.seam_entity.specs.declared.message.Msg.TheVariants.{Hand}
-use Rattle.seam_steps.specs.Maps.{set_at}
+use Rattle.seam_steps.specs.Maps.{Map, set_at}
 use Rattle.seam_steps.specs.Slots.{Slot}
-use Rattle.seam_steps.specs.Settle.{home_after, haunts_at, told, told_unless, ghost_message}
+use Rattle.seam_steps.specs.Settle.{beat_after, home_after, haunts_at, told, told_unless, ghost_message}
 use Rattle.seam_steps.specs.Settle.{ghost_messages, copy_if, stayed, gone_to, settled_by, settled}
 use Rattle.seam_steps.proofs.Slots.{set_at-same}
 use Rattle.seam_parts.specs.declared.news.Telling.{Telling}
 use Rattle.seam_parts.specs.declared.settle.Ready.{Ready}
+use Rattle.seam_parts.specs.declared.settle.Begun.{Begun}
 use Rattle.seam_parts.specs.News.{Tells}
-use Rattle.seam_parts.specs.Settling.{former, staying, going, IsGone, IsAtRest}
-use Rattle.seam_parts.specs.Stepping.{telling_at, IsReadyFor, IsLater, PartsView, slot_in, IsDone}
+use Rattle.seam_parts.specs.Settling.{former, staying, IsGone, IsAtRest}
+use Rattle.seam_parts.specs.Stepping.{telling_at, IsReadyFor, IsLater, HasBegun, PartsView, slot_in, IsDone}
 
 same_number : (a b : ℕ) → eqb a b ≡ true → a ≡ b
 same_number a b t = grind (arith, nat_tests)
@@ -139,36 +140,62 @@ module _ (h : Here) (t : Division) (s : Slot) (r : RealView) (changed : Bool) (y
       ∙ ((λ i. gone_to h s r (sym home_is i) (haunts i) (ghost_messages h r (sym home_is i) (haunts i) changed))
       ∙ ap (gone_to h s r y.telling.home y.telling.haunts) (sym is.news))
 
+-- the ghosts once the own book heard of what was made ready
+abbrev told_of : Ready → Map (Ghost GhostCopy) → Map (Ghost GhostCopy)
+told_of y ghosts =
+    set_at ghosts y.telling.entity (ghost_after (table.get ghosts y.telling.entity) (record { beat = y.telling.beat; copy = y.own }))
+
 module _ (h : Here) (t : Division) (r was : RealView) (changed : Bool) (y : Ready) (is : IsReadyFor h t r changed y)
-    (left : Option RealView) (before after : PartsView) where
+    (left : Option RealView) (before made after : PartsView) (b : Begun) (begun : HasBegun y before made b) where
   abbrev Settles : Type 0
   Settles = IsDone (settled h t (slot_in before r.entity was) r changed) r.entity was left before after
 
-  pub stay_done : eqb y.telling.home y.telling.me ≡ true → left ≡ Some (staying r y) → after.nexts ≡ before.nexts →
-      after.ghosts ≡ before.ghosts → after.sent ≡ before.sent ++ y.news.items → Settles
+  made_test : (x : Bool) → eqb b.telling.home b.telling.me ≡ x → eqb y.telling.home y.telling.me ≡ x
+  made_test x test = ap (λ w. eqb w.home w.me) (sym begun.telling) ∙ test
+
+  heard_by : (x : Bool) → eqb y.telling.home y.telling.me ≡ x → made.ghosts ≡ cond x before.ghosts (told_of y before.ghosts)
+  heard_by x test = begun.ghosts ∙ ap (λ c. cond c before.ghosts (told_of y before.ghosts)) test
+
+  abbrev gone_as : Telling → RealView
+  gone_as told = settled_to r told.haunts (r.beat + 1) (r.generation + 1)
+
+  pub stay_done : eqb b.telling.home b.telling.me ≡ true → left ≡ Some (staying r b) → after.nexts ≡ made.nexts →
+      after.ghosts ≡ made.ghosts → after.sent ≡ made.sent ++ b.news.items → Settles
   stay_done test stays nexts ghosts sent =
-      subst (λ x. IsDone x r.entity was left before after) (sym (stays_is h t (slot_in before r.entity was) r changed y is test))
+      let same = made_test true test in
+      let real : left ≡ Some (settled_to r y.telling.haunts (beat_after y.news.items r.beat) r.generation) =
+      stays ∙ (λ i. Some (settled_to r (begun.telling i).haunts (beat_after (begun.news i) r.beat) r.generation)) in
+      subst (λ x. IsDone x r.entity was left before after) (sym (stays_is h t (slot_in before r.entity was) r changed y is same))
       (record {
-        real = stays;
-        nexts = nexts ∙ sym (set_at-same before.nexts r.entity);
-        ghosts = ghosts ∙ sym (set_at-same before.ghosts r.entity);
-        sent = sent;
-        unlisted = ap is_none (sym stays);
+        real = real;
+        nexts = nexts ∙ (begun.nexts ∙ sym (set_at-same before.nexts r.entity));
+        ghosts = ghosts ∙ (heard_by true same ∙ sym (set_at-same before.ghosts r.entity));
+        sent = sent ∙ (λ i. begun.sent i ++ begun.news i);
+        unlisted = ap is_none (sym real);
       })
 
-  pub leave_done : eqb y.telling.home y.telling.me ≡ false → left ≡ None →
-      IsGone r y before.nexts after.nexts before.ghosts after.ghosts before.sent after.sent → Settles
-  leave_done test none gone =
-      subst (λ x. IsDone x r.entity was left before after) (sym (goes_is h t (slot_in before r.entity was) r changed y is test))
+  pub leave_done : eqb b.telling.home b.telling.me ≡ false → left ≡ None → after.ghosts ≡ made.ghosts →
+      IsGone r b made.nexts after.nexts made.sent after.sent → Settles
+  leave_done test none ghosts gone =
+      let same = made_test false test in
+      let entity : y.telling.entity ≡ r.entity = ap (λ x. x.entity) is.telling in
+      let beat : y.telling.beat ≡ r.beat + 1 = ap (λ x. x.beat) is.telling in
+      let own = is.own ∙ ap (λ k. copy_if (set.contains y.telling.haunts k) (copy_of_real h r)) (ap (λ x. x.me) is.telling) in
+      subst (λ x. IsDone x r.entity was left before after) (sym (goes_is h t (slot_in before r.entity was) r changed y is same))
       (record {
         real = none;
-        nexts = gone.next;
+        nexts =
+            gone.next
+            ∙ (λ i. table.insert (begun.nexts i) r.entity (record { cell = (begun.telling i).home; generation = r.generation + 1 }));
         ghosts =
-            gone.ghost
-            ∙ ap (λ o. set_at before.ghosts r.entity
-            (ghost_after (table.get before.ghosts r.entity) (record { beat = r.beat + 1; copy = o })))
-            (is.own ∙ ap (λ k. copy_if (set.contains y.telling.haunts k) (copy_of_real h r)) (ap (λ x. x.me) is.telling));
-        sent = gone.sent ∙ append_assoc before.sent y.news.items ((y.telling.home, Hand (going r y)) ∷ []);
+            ghosts
+            ∙ (heard_by false same
+            ∙ (λ i. set_at before.ghosts (entity i)
+            (ghost_after (table.get before.ghosts (entity i)) (record { beat = beat i; copy = own i }))));
+        sent =
+            gone.sent
+            ∙ ((λ i. begun.sent i ++ begun.news i ++ ((begun.telling i).home, Hand (gone_as (begun.telling i))) ∷ [])
+            ∙ append_assoc before.sent y.news.items ((y.telling.home, Hand (gone_as y.telling)) ∷ []));
         unlisted = ap is_none (sym none);
       })
 

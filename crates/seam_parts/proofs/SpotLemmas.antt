@@ -1,14 +1,19 @@
--- Where reals and copies are, as it is kept beside them: after a change of one entity, and after a walk over all.
-use Rattle.std.proofs.Common.{◌≡◌, ℕ, ◌<◌, ◌-◌, Bool, true, false, cond, T, List, [], ◌∷◌, ◌++◌, append-nil, append_assoc, Option, None, Some, refl, sym, ap, subst, ◌∙◌}
-use Rattle.std.proofs.Common.{arith}
+-- Where reals and copies are, as it is kept beside them: after a change of one entity, and when a list of all is made.
+use Rattle.std.proofs.Common.{◌≡◌, ℕ, suc, ◌<◌, ◌≤◌, ◌+◌, Bool, true, false, cond, T, List, [], ◌∷◌, ◌++◌, length, take, drop, get_or}
+use Rattle.std.proofs.Common.{map as each, Option, None, Some, refl, sym, ap, subst, ◌∙◌, arith}
 use Rattle.std.proofs.Common.{IfSome, is_some, eqb, Bor, option_copied}
 use Rattle.std.specs.Prelude.{option_map, nat_lt}
 use Rattle.std.specs.Ordering.{nat_cmp, eq_by_cmp, is_eq, is_lt}
-use Rattle.std.specs.Cmp.{nat_cmp_total}
+use Rattle.std.specs.Cmp.{nat_cmp_total, tied_itself}
+use Rattle.std.specs.List.{list_any}
+use Rattle.std.specs.Map.{keys_of}
 use Rattle.std.specs.FinMap as map
-use Rattle.std.specs.FinMap.Entries.{is_sorted, below_all, find-append}
+use Rattle.std.specs.FinMap.Entries.{is_sorted, below_all, find-append, is_some-find}
+use Rattle.std.proofs.Math.Seq.{split_at}
+use Rattle.std.proofs.lemmas.List.{map-append, length-map, take_more, take_all, get_or-map}
+use Rattle.std.proofs.lemmas.List.Folds.{list_any_at}
 use Rattle.std.proofs.lemmas.Bool.Decides.{nat_tests}
-use Rattle.seam_table.specs.Tables.{TableView, with_each, is_after}
+use Rattle.seam_table.specs.Tables.{TableView, with_each}
 use Rattle.seam_table.proofs.Changed.{got_changed}
 use Rattle.seam_range.specs.declared.Place.{Place}
 use Rattle.seam_range.specs.Places.{Places}
@@ -20,11 +25,11 @@ use Rattle.seam_entity.specs.Reals.{RealView}
 use Rattle.seam_entity.specs.Executing.{real_begins}
 use Rattle.seam_steps.specs.Maps.{Map, set_at}
 use Rattle.seam_steps.proofs.Slots.{get-set_at}
-use Rattle.seam_known.proofs.Sorted.{first, second}
-use Rattle.seam_known.proofs.Knowing.{find_copied}
+use Rattle.seam_known.proofs.Sorted.{first, second, find_append, find_mapped, sorted_mapped}
+use Rattle.seam_known.specs.Knowing.{or_else}
+use Rattle.seam_known.proofs.Knowing.{find_copied, copies_rise}
 use Rattle.seam_parts.specs.Spots.{is_out, is_none_else_out, still_out, AreNoted, AreListed, IsNoted, IsChanged, place_of_real}
-use Rattle.seam_parts.specs.Spots.{place_of_copy, real_places}
-use Rattle.seam_parts.specs.Spots.{copy_places}
+use Rattle.seam_parts.specs.Spots.{place_of_copy, real_places, copy_places, placed_reals, placed_copies}
 
 -- ---- a list that is kept
 
@@ -142,16 +147,7 @@ copies_kept w e g is = ap (λ b. cond b (with_ghost w e g) w) (not_later (nat_lt
     not_later true h = cc
     not_later false h = refl
 
--- ---- a walk over all
-
--- how many numbers are left
-abbrev pub left : Option ℕ → ℕ
-left None = 4294967296
-left (Some e) = 4294967295 - e
-
-pub fewer_left : (last : Option ℕ) (e : ℕ) → is_after last e ≡ true → e < 4294967296 → left (Some e) < left last
-fewer_left None e after small = omega (arith, small)
-fewer_left (Some low) e after small = let lt : low < e = grind (arith, nat_tests, after) in omega (arith, small, lt)
+-- ---- lists of all
 
 -- no entry before another has its number
 below_further : {X : Type 0} (k e : ℕ) (x : X) (passed rest : List (ℕ × X)) → T (below_all nat_cmp k (passed ++ (e, x) ∷ rest)) →
@@ -167,51 +163,111 @@ not_passed e x (p ∷ passed) rest h =
     let apart : is_eq (nat_cmp e p.0) ≡ false = grind (arith, nat_tests, below) in
     ap (λ b. cond b (Some p.1) (map.find nat_cmp e passed)) apart ∙ not_passed e x passed rest (second _ _ h)
 
-module _ {X : Type 0} (f : X → Place) (es : List (ℕ × X)) where
-  -- just those are noted that the walk has passed
-  pub record AreNotedSoFar (rest : List (ℕ × X)) (l : Places) : Type 0 where
-    pub passed : List (ℕ × X)
-    pub parts : es ≡ passed ++ rest
-    pub noted : (q : ℕ) → map.get l q ≡ option_map f (map.find nat_cmp q passed)
+itself : (e : ℕ) → eq_by_cmp nat_cmp e e ≡ true
+itself e = ap is_eq (tied_itself nat_cmp_total e)
 
-  pub none_noted : (rest : List (ℕ × X)) (l : Places) → rest ≡ es → l ≡ map.empty → AreNotedSoFar rest l
-  none_noted rest l all is = record {
-    passed = [];
-    parts = sym all;
-    noted = λ q. ap (λ m. map.get m q) is ∙ map.get-empty nat_cmp q;
-  }
+module _ {X : Type 0} (es : List (ℕ × X)) (sorted : T (is_sorted nat_cmp es)) (i : ℕ) (d : ℕ × X) (lt : i < length es) where
+  abbrev entry : ℕ × X
+  entry = get_or es i d
 
-  pub noted_more : T (is_sorted nat_cmp es) → (e : ℕ) (x : X) (before rest : List (ℕ × X)) (l now : Places) → before ≡ (e, x) ∷ rest →
-      now ≡ map.insert l e (f x) → AreNotedSoFar before l → AreNotedSoFar rest now
-  noted_more sorted e x before rest l now next put so_far =
-      let passed = so_far.passed in
-      let parts : es ≡ passed ++ (e, x) ∷ rest = so_far.parts ∙ ap (λ r. passed ++ r) next in
-      let new_to_it = not_passed e x passed rest (subst (λ l. T (is_sorted nat_cmp l)) parts sorted) in
-      record {
-        passed = passed ++ (e, x) ∷ [];
-        parts = parts ∙ sym (append_assoc passed ((e, x) ∷ []) rest);
-        noted = λ q.
-            ap (λ m. map.get m q) put
-            ∙ (map.get-insert nat_cmp_total l e (f x) q
-            ∙ (ap (cond (eq_by_cmp nat_cmp q e) (Some (f x))) (so_far.noted q)
-            ∙ sym (ap (option_map f) (find-append nat_cmp nat_cmp_total passed e x q new_to_it)
-            ∙ map_cond f (eq_by_cmp nat_cmp q e) (Some x) (map.find nat_cmp q passed))));
-      }
+  abbrev later : List (ℕ × X)
+  later = drop (suc i) es
 
-  pub all_noted : (rest : List (ℕ × X)) (l : Places) → rest ≡ [] → AreNotedSoFar rest l → (q : ℕ) →
-      map.get l q ≡ option_map f (map.find nat_cmp q es)
-  all_noted rest l none so_far q =
-      so_far.noted q
-      ∙ ap (λ ps. option_map f (map.find nat_cmp q ps)) (sym (append-nil so_far.passed) ∙ ap (λ r. so_far.passed ++ r) (sym none) ∙ sym so_far.parts)
+  pub new_entry : map.find nat_cmp entry.0 (take i es) ≡ None
+  new_entry = not_passed entry.0 entry.1 (take i es) later (subst (λ l. T (is_sorted nat_cmp l)) (split_at es i d lt) sorted)
 
--- after a walk over all reals, or all copies, all of them are noted
-pub reals_noted : (m : Map RealView) (rest : List (ℕ × RealView)) (l : Places) → rest ≡ [] →
-    AreNotedSoFar place_of_real (map.entries m) rest l → AreNoted l None (real_places m)
-reals_noted m rest l none so_far q not =
-    all_noted place_of_real (map.entries m) rest l none so_far q ∙ ap (option_map place_of_real) (sym (map.get-entries m q))
+  -- what is found at the number of an entry is its value
+  pub entry_found : map.find nat_cmp entry.0 es ≡ Some entry.1
+  entry_found =
+      ap (map.find nat_cmp entry.0) (split_at es i d lt)
+      ∙ (find_append entry.0 (take i es) (entry ∷ later)
+      ∙ (ap (λ o. or_else o (map.find nat_cmp entry.0 (entry ∷ later))) new_entry
+      ∙ ap (λ b. cond b (Some entry.1) (map.find nat_cmp entry.0 later)) (itself entry.0)))
 
-pub copies_noted : (m : Map (Ghost GhostCopy)) (rest : List (ℕ × GhostCopy)) (l : Places) → rest ≡ [] →
-    AreNotedSoFar place_of_copy (copied (map.entries m)) rest l → AreNoted l None (copy_places m)
-copies_noted m rest l none so_far q not =
-    all_noted place_of_copy (copied (map.entries m)) rest l none so_far q
-    ∙ ap (option_map place_of_copy) (find_copied q (map.entries m) (map.entries_sorted m) ∙ ap copy_in (sym (map.get-entries m q)))
+-- an entry more in a list that has those before it
+pub listed_more : (es : List (ℕ × Place)) (i : ℕ) (d : ℕ × Place) (l now : Places) → T (is_sorted nat_cmp es) → i < length es →
+    now ≡ map.insert l (get_or es i d).0 (get_or es i d).1 → ((q : ℕ) → map.get l q ≡ map.find nat_cmp q (take i es)) → (q : ℕ) →
+    map.get now q ≡ map.find nat_cmp q (take (i + 1) es)
+listed_more es i d l now sorted lt put so_far q =
+    let y = get_or es i d in
+    ap (λ m. map.get m q) put
+    ∙ (map.get-insert nat_cmp_total l y.0 y.1 q
+    ∙ (ap (cond (eq_by_cmp nat_cmp q y.0) (Some y.1)) (so_far q)
+    ∙ sym (ap (map.find nat_cmp q) (take_more es i d lt)
+    ∙ find-append nat_cmp nat_cmp_total (take i es) y.0 y.1 q (new_entry es sorted i d lt))))
+
+pub all_listed : (es : List (ℕ × Place)) (l : Places) → T (is_sorted nat_cmp es) → ((q : ℕ) → map.get l q ≡ map.find nat_cmp q es) →
+    l ≡ map.from_sorted es
+all_listed es l sorted are =
+    map.same_map nat_cmp_total map.nat_cmp-IsAntisymmetric l (map.from_sorted es) (λ q. are q ∙ sym (map.get-from_sorted nat_cmp es q sorted))
+
+-- what such a list is kept for
+pub kept_noted : (list : Option Places) (out : Option ℕ) (es : List (ℕ × Place)) (place : ℕ → Option Place) → T (is_sorted nat_cmp es) →
+    list ≡ Some (map.from_sorted es) → out ≡ None → ((q : ℕ) → map.find nat_cmp q es ≡ place q) → AreListed list out place
+kept_noted list out es place sorted is none are =
+    subst (λ l. AreListed l out place) (sym is) (λ q not. map.get-from_sorted nat_cmp es q sorted ∙ are q)
+
+-- ---- the places of entries, by their numbers
+
+module _ {X : Type 0} (f : X → Place) (es : List (ℕ × X)) (sorted : T (is_sorted nat_cmp es)) (ns : List ℕ) (are : ns ≡ keys_of es) (i : ℕ) where
+  abbrev number : ℕ
+  number = get_or ns i 0
+
+  abbrev placed : List (ℕ × X) → List (ℕ × Place)
+  placed xs = each (λ x. (x.0, f x.1)) xs
+
+  module _ (lt : i < length ns) where
+    in_keys : i < length (keys_of es)
+    in_keys = subst (λ l. i < length l) are lt
+
+    in_entries : i < length es
+    in_entries = subst (λ n. i < n) (length-map es (λ e. e.0)) in_keys
+
+    -- each of the numbers has an entry
+    pub never_missing : None ≡ map.find nat_cmp number es → ⊥
+    never_missing none =
+        let any : list_any (eq_by_cmp nat_cmp number) ns ≡ true = list_any_at (eq_by_cmp nat_cmp number) ns i 0 lt (itself number) in
+        let there : is_some (map.find nat_cmp number es) ≡ true =
+        is_some-find nat_cmp number es ∙ (ap (list_any (eq_by_cmp nat_cmp number)) (sym are) ∙ any) in
+        let missing = ap is_some none in
+        cc
+
+    pub placed_more : (x : X) (old new : List (ℕ × Place)) → Some x ≡ map.find nat_cmp number es → old ≡ placed (take i es) →
+        new ≡ old ++ (number, f x) ∷ [] → new ≡ placed (take (i + 1) es)
+    placed_more x old new found so_far more =
+        let d : ℕ × X = (0, x) in
+        let key : number ≡ (get_or es i d).0 = ap (λ l. get_or l i 0) are ∙ get_or-map (λ e. e.0) es i d 0 in_entries in
+        let value : Some x ≡ Some (get_or es i d).1 = found ∙ (ap (λ n. map.find nat_cmp n es) key ∙ entry_found es sorted i d in_entries) in
+        let inner : x ≡ (get_or es i d).1 = cc in
+        more
+        ∙ (ap (λ l. l ++ (number, f x) ∷ []) so_far
+        ∙ ((λ j. placed (take i es) ++ (key j, f (inner j)) ∷ [])
+        ∙ sym (ap placed (take_more es i d in_entries) ∙ map-append (λ x. (x.0, f x.1)) (take i es) (get_or es i d ∷ []))))
+
+  pub all_placed : (old : List (ℕ × Place)) → length ns ≤ i → old ≡ placed (take i es) → old ≡ placed es
+  all_placed old end so_far =
+      so_far ∙ ap placed (take_all i es (subst (λ n. n ≤ i) (ap length are ∙ length-map es (λ e. e.0)) end))
+
+-- ---- the places of all reals, and of all copies
+
+pub find_real : (m : Map RealView) (e : ℕ) → map.get m e ≡ map.find nat_cmp e (map.entries m)
+find_real m e = map.get-entries m e
+
+pub find_copy : (m : Map (Ghost GhostCopy)) (e : ℕ) → copy_in (map.get m e) ≡ map.find nat_cmp e (copied (map.entries m))
+find_copy m e = ap copy_in (map.get-entries m e) ∙ sym (find_copied e (map.entries m) (map.entries_sorted m))
+
+pub real_list : (m : Map RealView) (q : ℕ) → map.find nat_cmp q (placed_reals m) ≡ real_places m q
+real_list m q = find_mapped (λ e. place_of_real) q (map.entries m) ∙ ap (option_map place_of_real) (sym (find_real m q))
+
+pub reals_rise : (m : Map RealView) → T (is_sorted nat_cmp (placed_reals m))
+reals_rise m = sorted_mapped (λ e. place_of_real) (map.entries m) (map.entries_sorted m)
+
+pub copy_list : (m : Map (Ghost GhostCopy)) (q : ℕ) → map.find nat_cmp q (placed_copies m) ≡ copy_places m q
+copy_list m q =
+    find_mapped (λ e. place_of_copy) q (copied (map.entries m)) ∙ ap (option_map place_of_copy) (sym (find_copy m q))
+
+pub copied_rise : (m : Map (Ghost GhostCopy)) → T (is_sorted nat_cmp (copied (map.entries m)))
+copied_rise m = copies_rise (map.entries m) (map.entries_sorted m)
+
+pub copies_list_rise : (m : Map (Ghost GhostCopy)) → T (is_sorted nat_cmp (placed_copies m))
+copies_list_rise m = sorted_mapped (λ e. place_of_copy) (copied (map.entries m)) (copied_rise m)

@@ -1,11 +1,11 @@
 -- Where the reals and the copies of a cell are, and at which version, as a list that is kept beside them.
-use Rattle.std.specs.Prelude.{◌≡◌, ℕ, Bool, true, false, nat_eq, Option, None, Some, option_map, if◌then◌else◌}
+use Rattle.std.specs.Prelude.{◌≡◌, ℕ, Bool, true, false, nat_eq, List, Option, None, Some, option_map, map as each, if◌then◌else◌}
 use Rattle.std.specs.Ordering.{nat_cmp, eq_by_cmp}
 use Rattle.std.specs.FinMap as map
 use Rattle.seam_range.specs.declared.Place.{Place}
 use Rattle.seam_range.specs.Places.{Places}
 use Rattle.seam_ghosts.specs.declared.Ghost.{Ghost}
-use Rattle.seam_ghosts.specs.Book.{copy_in}
+use Rattle.seam_ghosts.specs.Book.{copy_in, copied}
 use Rattle.seam_call.specs.declared.shown.GhostCopy.{GhostCopy}
 use Rattle.seam_entity.specs.Reals.{RealView}
 use Rattle.seam_steps.specs.Maps.{Map, set_at}
@@ -59,3 +59,10 @@ real_places reals e = option_map place_of_real (map.get reals e)
 
 abbrev pub copy_places : Map (Ghost GhostCopy) → ℕ → Option Place
 copy_places ghosts e = option_map place_of_copy (copy_in (map.get ghosts e))
+
+-- the reals with their places, and the copies, in rising number
+abbrev pub placed_reals : Map RealView → List (ℕ × Place)
+placed_reals reals = each (λ r. (r.0, place_of_real r.1)) (map.entries reals)
+
+abbrev pub placed_copies : Map (Ghost GhostCopy) → List (ℕ × Place)
+placed_copies ghosts = each (λ c. (c.0, place_of_copy c.1)) (copied (map.entries ghosts))

@@ -1,10 +1,11 @@
 -- What a step of one entity's slot leaves in the parts of a cell.
-use Rattle.std.specs.Prelude.{◌≡◌, ℕ, ◌+◌, ◌++◌, Bool, true, false, is_none, List, Option, Some}
+use Rattle.std.specs.Prelude.{◌≡◌, ℕ, ◌+◌, ◌++◌, ◌==◌, Bool, true, false, is_none, List, Option, Some, if◌then◌else◌}
 use Rattle.std.specs.FinMap as table
 use Rattle.std.specs.FinSet as set
 use Rattle.seam_tree.specs.Division.{Division}
 use Rattle.seam_geo.specs.declared.pos.Pos.{Pos}
 use Rattle.seam_ghosts.specs.declared.Ghost.{Ghost}
+use Rattle.seam_ghosts.specs.Book.{ghost_after}
 use Rattle.seam_call.specs.declared.shown.GhostCopy.{GhostCopy}
 use Rattle.seam_machine.specs.Views.{OutView}
 use Rattle.seam_entity.specs.Here.{Here}
@@ -18,6 +19,7 @@ use Rattle.seam_steps.specs.Cells.{without}
 use Rattle.seam_parts.specs.declared.news.Telling.{Telling}
 use Rattle.seam_parts.specs.declared.places.Places.{Places}
 use Rattle.seam_parts.specs.declared.settle.Ready.{Ready}
+use Rattle.seam_parts.specs.declared.settle.Begun.{Begun}
 use Rattle.seam_parts.specs.Settling.{former}
 
 -- ---- what settling takes
@@ -65,6 +67,22 @@ slot_in w e r = record { real = Some r; next = table.get w.nexts e; ghost = tabl
 
 abbrev pub core_of : RoomyReal → RealView
 core_of r = r.core
+
+-- the ghosts once the own book heard of what was made ready, which it does where the real goes
+abbrev pub heard : Ready → Map (Ghost GhostCopy) → Map (Ghost GhostCopy)
+heard y ghosts =
+    let t = y.telling in
+    if t.home == t.me
+    then ghosts
+    else set_at ghosts t.entity (ghost_after (table.get ghosts t.entity) (record { beat = t.beat; copy = y.own }))
+
+-- settling as was made ready has begun: the own book heard of it, and nothing else changed
+pub record HasBegun (y : Ready) (before after : PartsView) (b : Begun) : Type 0 where
+  pub telling : b.telling ≡ y.telling
+  pub news : b.news.items ≡ y.news.items
+  pub nexts : after.nexts ≡ before.nexts
+  pub ghosts : after.ghosts ≡ heard y before.ghosts
+  pub sent : after.sent ≡ before.sent
 
 -- the step of the slot of entity e, whose real was r, left this of the real and of the parts
 pub record IsDone (t : SlotStep) (e : ℕ) (r : RealView) (left : Option RealView) (before after : PartsView) : Type 0 where

@@ -1,20 +1,17 @@
 //! The copies of a cell by entity, and where they are.
 
-ghost use Rattle.std.specs.Prelude.{◌≡◌, ℕ, Some, None, true, false, OnOk, OnErr, IfOk, IfErr, IfSome, find, option_map};
+ghost use Rattle.std.specs.Prelude.{◌≡◌, Some, None, OnOk, OnErr, IfOk, IfErr, IfSome};
 ghost use Rattle.std.specs.Prelude.{option_copied};
 ghost use Rattle.std.specs.FinMap as map;
-ghost use Rattle.std.specs.FinSet as set;
-ghost use Rattle.seam_table.specs.Tables.{is_after};
-ghost use Rattle.seam_ghosts.specs.Book.{copies, copy_of, ghost_after};
+ghost use Rattle.seam_ghosts.specs.Book.{copy_of, ghost_after};
 ghost use Rattle.seam_steps.specs.Maps.{set_at};
-ghost use Rattle.seam_parts.specs.Spots.{AreNoted, place_of_copy, copy_places};
+ghost use Rattle.seam_parts.specs.Spots.{AreNoted, AreKeptNoted, place_of_copy, copy_places, placed_copies};
 
-use crate::spots::{Spots, beside, forget, note, put};
+use crate::spots::{Spots, beside, forget, note};
 use seam_call::GhostCopy;
 use seam_ghosts::{GhostBook, Kept};
 use seam_memory::NoMemoryFor;
 use seam_range::{Place, RangeList};
-use seam_table::Items;
 use std::alloc::{AllocError, Global};
 use std::marker::Model;
 
@@ -29,14 +26,13 @@ pub struct CopyBook {
 impl Model for CopyBook {
     ghost use Rattle.std.specs.Coded.{codes};
     ghost use Rattle.std.specs.FinMap as map;
-    ghost use Rattle.std.specs.FinSet as set;
     ghost use Rattle.seam_ghosts.specs.Book.{BookView};
     ghost use Rattle.seam_call.specs.declared.shown.GhostCopy.{GhostCopy};
     ghost use Rattle.seam_parts.specs.Spots.{AreKeptNoted, copy_places};
 
     ghost Value = { BookView GhostCopy };
 
-    ghost coded = { Prim.hlevel (codes, map.code, set.code) };
+    ghost coded = { Prim.hlevel (codes, map.code) };
 
     ghost view = { λ b. b.book };
 
@@ -53,23 +49,34 @@ fn place_of(copy: &GhostCopy) -> Place
     }
 }
 
-// Where all the copies are, and how many.
-fn places_of(alloc: Global, book: &GhostBook<GhostCopy>) -> Result<(RangeList, usize), AllocError>
-    ensures { IfOk result (λ r. AreNoted r.0 None (copy_places book.now.ghosts)) }
+// Where the copies are, in rising number.
+fn places_of(alloc: Global, book: &GhostBook<GhostCopy>) -> Result<Vec<(u32, Place)>, AllocError>
+    ensures { IfOk result (λ v. v.items ≡ placed_copies book.now.ghosts) }
 {
-    let mut list = RangeList::new(alloc);
-    let mut size = 0usize;
-    for (e, copy) in book.iter() {
-        put(&mut list, e, place_of(copy))?;
-        size = size.saturating_add(1);
+    let entities = book.entities(alloc)?;
+    let mut places = Vec::with_capacity(alloc, entities.len())?;
+    for e in &entities {
+        let Some(copy) = book.get(*e) else {
+            unreachable!()
+        };
+        places.push((*e, place_of(copy)))?;
     }
-    Ok((list, size))
+    Ok(places)
+}
+
+// Where the copies are, to be kept.
+fn spots_of(alloc: Global, book: &GhostBook<GhostCopy>) -> Result<Spots, AllocError>
+    ensures { IfOk result (λ s. AreKeptNoted s (copy_places book.now.ghosts)) }
+{
+    let places = places_of(alloc, book)?;
+    let spots = Spots::of(alloc, &places)?;
+    Ok(spots)
 }
 
 impl CopyBook {
     /// A book that knows of no entity.
     pub fn new(alloc: Global) -> Self
-        ensures { result ≡ record { ghosts = map.empty; room = set.empty } }
+        ensures { result ≡ record { ghosts = map.empty } }
     {
         CopyBook {
             book: GhostBook::new(alloc),
@@ -91,24 +98,12 @@ impl CopyBook {
         self.book.get(e)
     }
 
-    /// Makes room for the entity: until its copy is dropped no call on it wants memory.
-    pub fn reserve(&mut self, e: u32) -> Result<(), AllocError>
-        ensures same { self.new.ghosts ≡ self.old.ghosts }
-        ensures room { OnOk result (self.new.room ≡ set.insert self.old.room e) }
-        ensures there { OnOk result (set.contains self.new.room e ≡ true) }
-        ensures err { OnErr result (self.new.room ≡ self.old.room) }
-        ensures err_only_first { OnErr result (set.contains self.old.room e ≡ false) }
-    {
-        self.book.reserve(e)
-    }
-
     /// Takes the copy at that beat, if none came at that or a later one. If allocation fails, it comes back and nothing has changed.
     pub fn set(&mut self, e: u32, beat: u64, copy: GhostCopy) -> Result<(), NoMemoryFor<GhostCopy>>
         ensures ok { OnOk result (self.new.ghosts
             ≡ set_at self.old.ghosts e (ghost_after (map.get self.old.ghosts e) (record { beat = beat; copy = Some copy }))) }
         ensures err { OnErr result (self.new.ghosts ≡ self.old.ghosts) }
         ensures err_item { IfErr result (λ r. r.item ≡ copy) }
-        ensures err_only_first { OnErr result (set.contains self.old.room e ≡ false) }
     {
         let place = place_of(&copy);
         match self.book.set(e, beat, copy) {
@@ -126,7 +121,6 @@ impl CopyBook {
         ensures ok { OnOk result (self.new.ghosts
             ≡ set_at self.old.ghosts e (ghost_after (map.get self.old.ghosts e) (record { beat = beat; copy = None }))) }
         ensures err { OnErr result (self.new.ghosts ≡ self.old.ghosts) }
-        ensures err_only_first { OnErr result (set.contains self.old.room e ≡ false) }
     {
         match self.book.drop_copy(e, beat) {
             Ok(Kept::Taken) => {
@@ -138,18 +132,11 @@ impl CopyBook {
         }
     }
 
-    /// The copies, with their entities' numbers, in rising number.
-    pub fn iter(&self) -> Items<'_, GhostCopy>
-        ensures { result ≡ copies self.now }
+    /// Where the copies are, in rising number.
+    pub fn places(&self, alloc: Global) -> Result<Vec<(u32, Place)>, AllocError>
+        ensures { IfOk result (λ v. v.items ≡ placed_copies self.now.ghosts) }
     {
-        self.book.iter()
-    }
-
-    /// The first copy, in rising entity number, of those whose number is greater than the given one, or of all where none is given.
-    pub fn next_after(&self, after: Option<u32>) -> Option<(u32, &GhostCopy)>
-        ensures { option_map (λ p. (p.0, p.1.now)) result ≡ find (λ p. is_after after p.0) (copies self.now) }
-    {
-        self.book.next_after(after)
+        places_of(alloc, &self.book)
     }
 
     /// Keeps where the copies are from now on, where there is memory for that, and as long as they do not change much more often than
@@ -158,8 +145,8 @@ impl CopyBook {
         ensures { self.new ≡ self.old }
     {
         if self.spots.list.is_none() {
-            if let Ok((list, size)) = places_of(alloc, &self.book) {
-                self.spots = Spots::of(list, size);
+            if let Ok(spots) = spots_of(alloc, &self.book) {
+                self.spots = spots;
             }
         }
         self.spots.renew();

@@ -1,9 +1,10 @@
 //! The parts of a cell, and how a real settles among them.
 //!
 //! Which reals have a ready call, which have a witness, and which are to settle or to look are ordered sets, so that no step searches
-//! all reals; where reals and copies are is kept for looks, from the first one on. Settling first makes all that may want memory; what
-//! comes then cannot fail. Of `proofs/`, `SetLemmas`, `MarkLemmas` and `RealLemmas` (what the marks of reals are after a change),
-//! `NewsLemmas` (what haunts are told), `SettleLemmas` (what settling leaves) and `SpotLemmas` (how a walk ends) are for callers.
+//! all reals; where reals and copies are is kept for looks, from the first one on. Settling first does all that may want memory, the
+//! last of which is what the own book hears; what comes then cannot fail. Of `proofs/`, `SetLemmas`, `MarkLemmas` and `RealLemmas`
+//! (what the marks of reals are after a change), `NewsLemmas` (what haunts are told), `SettleLemmas` (what settling leaves) and
+//! `SpotLemmas` (lists of all places) are for callers.
 #![tactic(auto)]
 
 mod copy_book;
@@ -30,8 +31,8 @@ pub use places::Places;
 pub use real_table::RealTable;
 pub use reals::{Reals, close, first_ready, make_place, put_after, put_in, take_out};
 pub use settle::{
-    Plan, Ready, get_ready, is_at_rest, leave, make_plan, make_room, ready_for, settle_real, stay,
-    tell_own,
+    Begun, Plan, Ready, begin, get_ready, is_at_rest, leave, make_plan, ready_for, settle_real,
+    stay,
 };
 
 #[cfg(test)]

@@ -1,6 +1,7 @@
 //! What the haunts of a real are told.
 
-ghost use Rattle.std.specs.Prelude.{◌≡◌, ℕ, ◌<◌, ◌≤◌, ◌+◌, ◌++◌, ◌∷◌, [], length, IfOk, OnOk};
+ghost use Rattle.std.specs.Prelude.{◌≡◌, ℕ, ◌<◌, ◌≤◌, ◌+◌, ◌++◌, ◌∷◌, ◌↔◌, [], length, IsTrue, IfOk, OnOk};
+ghost use Rattle.std.specs.FinSet as set;
 ghost use Rattle.seam_defs.specs.declared.settings.Settings.{Settings as AllSettings};
 ghost use Rattle.seam_entity.specs.Executing.{copy_with};
 ghost use Rattle.seam_entity.specs.Preparing.{node_with};
@@ -100,6 +101,14 @@ fn push(so_far: &mut VecDeque<(u8, Msg)>, k: u8, msg: Msg) -> Result<(), AllocEr
     }
 }
 
+// Whether no cell is a haunt or was one, as with most reals.
+fn has_no_haunt(t: &Telling) -> bool
+    ensures { IsTrue result ↔ ((t.now.haunts ≡ set.empty) × (t.now.old ≡ set.empty)) }
+{
+    let none = CellSet::none();
+    t.haunts.is(&none) && t.old.is(&none)
+}
+
 /// What the cells are told, in rising number.
 pub fn gather(
     alloc: Global,
@@ -110,6 +119,9 @@ pub fn gather(
         ≡ news t.now (copy_with (node_with of.now.defs.now me settings) of.now.ty of.now.version of.now.state.now) 16) }
 {
     let mut so_far = VecDeque::new(alloc);
+    if has_no_haunt(t) {
+        return Ok(so_far);
+    }
     for k in 0..16 {
         // Most cells are no haunt, and were none.
         if t.haunts.holds(k) || t.old.holds(k) {

@@ -1,16 +1,16 @@
 //! The reals of a cell by entity, and where they are.
 
-ghost use Rattle.std.specs.Prelude.{◌≡◌, Some, None, true, false, OnOk, OnErr, IfOk, IfSome, find, option_map, option_copied};
+ghost use Rattle.std.specs.Prelude.{◌≡◌, Some, true, false, OnOk, OnErr, IfOk, IfSome, option_copied};
 ghost use Rattle.std.specs.FinMap as map;
 ghost use Rattle.std.specs.FinSet as set;
-ghost use Rattle.seam_table.specs.Tables.{with_item, without_item, without_room, with_each, is_after};
+ghost use Rattle.seam_table.specs.Tables.{with_item, without_item, without_room, with_each};
 ghost use Rattle.seam_entity.specs.Executing.{real_begins};
-ghost use Rattle.seam_parts.specs.Spots.{AreNoted, place_of_real, real_places};
+ghost use Rattle.seam_parts.specs.Spots.{AreNoted, AreKeptNoted, place_of_real, real_places, placed_reals};
 
-use crate::spots::{Spots, beside, forget, let_out, note, put};
+use crate::spots::{Spots, beside, forget, let_out, note};
 use seam_entity::{Parcel, Real};
 use seam_range::{Place, RangeList};
-use seam_table::{Items, Table};
+use seam_table::Table;
 use std::alloc::{AllocError, Global};
 use std::marker::Model;
 
@@ -57,18 +57,28 @@ fn begin(parcel: &mut Parcel)
     }
 }
 
-// Where all the reals are, and how many.
-fn places_of(alloc: Global, items: &Table<Parcel>) -> Result<(RangeList, usize), AllocError>
-    ensures { IfOk result (λ r. AreNoted r.0 None (real_places items.now.items)) }
+// Where the reals are, in rising number.
+fn places_of(alloc: Global, items: &Table<Parcel>) -> Result<Vec<(u32, Place)>, AllocError>
+    ensures { IfOk result (λ v. v.items ≡ placed_reals items.now.items) }
 {
-    let mut list = RangeList::new(alloc);
-    let mut size = 0usize;
-    let mut walk = items.iter();
-    while let Some((e, parcel)) = walk.next() {
-        put(&mut list, e, place_of(&parcel.real))?;
-        size = size.saturating_add(1);
+    let entities = items.numbers(alloc)?;
+    let mut places = Vec::with_capacity(alloc, entities.len())?;
+    for e in &entities {
+        let Some(parcel) = items.get(*e) else {
+            unreachable!()
+        };
+        places.push((*e, place_of(&parcel.real)))?;
     }
-    Ok((list, size))
+    Ok(places)
+}
+
+// Where the reals are, to be kept.
+fn spots_of(alloc: Global, items: &Table<Parcel>) -> Result<Spots, AllocError>
+    ensures { IfOk result (λ s. AreKeptNoted s (real_places items.now.items)) }
+{
+    let places = places_of(alloc, items)?;
+    let spots = Spots::of(alloc, &places)?;
+    Ok(spots)
 }
 
 impl RealTable {
@@ -138,18 +148,18 @@ impl RealTable {
         self.items.change_each(begin);
     }
 
-    /// The reals, with their entities' numbers, in rising number.
-    pub fn iter(&self) -> Items<'_, Parcel>
-        ensures { result ≡ map.entries self.now.items }
+    /// The entities whose reals are there, in rising number.
+    pub fn entities(&self, alloc: Global) -> Result<Vec<u32>, AllocError>
+        ensures { IfOk result (λ v. v.items ≡ map.keys self.now.items) }
     {
-        self.items.iter()
+        self.items.numbers(alloc)
     }
 
-    /// The first real, in rising number, of those whose entity's number is greater than the given one, or of all where none is given.
-    pub fn next_after(&self, after: Option<u32>) -> Option<(u32, &Parcel)>
-        ensures { option_map (λ p. (p.0, p.1.now)) result ≡ find (λ p. is_after after p.0) (map.entries self.now.items) }
+    /// Where the reals are, in rising number.
+    pub fn places(&self, alloc: Global) -> Result<Vec<(u32, Place)>, AllocError>
+        ensures { IfOk result (λ v. v.items ≡ placed_reals self.now.items) }
     {
-        self.items.next_after(after)
+        places_of(alloc, &self.items)
     }
 
     /// Keeps where the reals are from now on, where there is memory for that, and as long as they do not change much more often than
@@ -158,8 +168,8 @@ impl RealTable {
         ensures { self.new ≡ self.old }
     {
         if self.spots.list.is_none() {
-            if let Ok((list, size)) = places_of(alloc, &self.items) {
-                self.spots = Spots::of(list, size);
+            if let Ok(spots) = spots_of(alloc, &self.items) {
+                self.spots = spots;
             }
         }
         self.spots.renew();

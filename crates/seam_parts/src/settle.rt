@@ -1,16 +1,16 @@
 //! A real settles: it stays in the cell or goes to another, and its haunts are told.
 //!
-//! First comes the plan, then what may want memory, and last what cannot fail.
+//! First comes the plan, then what may want memory, the last of which is what the own book hears, and then what cannot fail.
 
-ghost use Rattle.std.specs.Prelude.{◌≡◌, ℕ, ◌<◌, ◌≤◌, ◌^◌, ◌+◌, ◌++◌, ◌==◌, ◌↔◌};
-ghost use Rattle.std.specs.Prelude.{true, false, length, IsTrue, IfOk, OnOk, IfSome, List, Bool, option_map};
+ghost use Rattle.std.specs.Prelude.{◌≡◌, ℕ, ◌<◌, ◌^◌, ◌+◌, ◌++◌, ◌==◌, ◌↔◌};
+ghost use Rattle.std.specs.Prelude.{false, length, IsTrue, IfOk, OnOk, OnErr, IfSome, List, Bool, option_map};
 ghost use Rattle.std.specs.FinMap as table;
 ghost use Rattle.std.specs.FinSet as set;
 ghost use Rattle.seam_ghosts.specs.Book.{ghost_after};
 ghost use Rattle.seam_steps.specs.Maps.{set_at};
 ghost use Rattle.seam_defs.specs.declared.settings.Settings.{Settings as AllSettings};
 ghost use Rattle.seam_defs.specs.declared.types.TypeDef.{TypeDef};
-ghost use Rattle.seam_tree.specs.Division.{Division, IsInSpace, cells_of};
+ghost use Rattle.seam_tree.specs.Division.{Division, IsInSpace};
 ghost use Rattle.seam_defs.specs.Settings.{AreLegal};
 ghost use Rattle.seam_entity.specs.Executing.{copy_with};
 ghost use Rattle.seam_entity.specs.Preparing.{node_with};
@@ -20,7 +20,7 @@ ghost use Rattle.seam_entity.specs.Reals.{RealView};
 ghost use Rattle.seam_parts.specs.News.{Tells};
 ghost use Rattle.seam_parts.specs.Settling.{former, staying, HasRoomFor, IsGone, IsAtRest};
 ghost use Rattle.seam_parts.specs.Kept.{here_in};
-ghost use Rattle.seam_parts.specs.Stepping.{telling_at, IsReadyFor, IsLater, IsDone, parts_of, slot_in, core_of};
+ghost use Rattle.seam_parts.specs.Stepping.{telling_at, IsReadyFor, IsLater, HasBegun, IsDone, PartsView, parts_of, slot_in, core_of};
 
 use crate::copy_book::CopyBook;
 use crate::known::Known;
@@ -45,12 +45,19 @@ pub struct Plan {
     pub haunts: CellSet,
 }
 
-/// All that settling takes, made before.
+/// All that settling takes, made before: what is told of the real, and where it goes, the copy that the own book hears of.
 #[derive(Drop)]
 pub struct Ready {
     pub telling: Telling,
     pub news: VecDeque<(u8, Msg)>,
     pub own: Option<GhostCopy>,
+}
+
+/// What is left of a settling that has begun: there is room for all of it, and the own book has heard of it where the real goes.
+#[derive(Drop)]
+pub struct Begun {
+    pub telling: Telling,
+    pub news: VecDeque<(u8, Msg)>,
 }
 
 // The home of a real of cell `me` that stands there.
@@ -122,78 +129,73 @@ pub fn get_ready(alloc: Global, telling: Telling, of: &Subject<'_>) -> Result<Re
     Ok(Ready { telling, news, own })
 }
 
-/// Makes the room that settling takes.
-pub fn make_room(ready: &Ready, places: &mut Places, out: &mut Out<Msg>) -> Result<(), AllocError>
-    ensures same_nexts { places.new.nexts.items ≡ places.old.nexts.items }
-    ensures same_book { places.new.copies.ghosts ≡ places.old.copies.ghosts }
-    ensures same_out { out.new.items ≡ out.old.items }
-    ensures room { OnOk result (HasRoomFor ready.now places.new.nexts.room places.new.copies.room out.new.spare) }
+// The own book hears of the real at that beat. If allocation fails, nothing has changed.
+fn tell_own(
+    book: &mut CopyBook,
+    e: u32,
+    beat: u64,
+    own: Option<GhostCopy>,
+) -> Result<(), AllocError>
+    ensures ok { OnOk result (book.new.ghosts
+        ≡ set_at book.old.ghosts e (ghost_after (table.get book.old.ghosts e) (record { beat = beat; copy = own }))) }
+    ensures err { OnErr result (book.new.ghosts ≡ book.old.ghosts) }
 {
-    let t = ready.telling;
-    if t.home != t.me {
-        places.nexts.reserve(t.entity)?;
-        places.copies.reserve(t.entity)?;
+    match own {
+        Some(copy) => match book.set(e, beat, copy) {
+            Ok(()) => Ok(()),
+            Err(_) => Err(AllocError),
+        },
+        None => book.drop_copy(e, beat),
     }
-    out.reserve(ready.news.len() + 1)
 }
 
-/// The real, which stays, settles as was made ready. It takes no memory.
-pub fn stay(real: &mut Real, ready: Ready, out: &mut Out<Msg>)
-    requires beat { real.old.core.beat < 2 ^ 62 }
-    requires room { length ready.news.items < out.old.spare }
-    ensures real { real.new.core ≡ staying real.old.core ready }
-    ensures sent { out.new.items ≡ out.old.items ++ ready.news.items }
+/// Begins to settle: makes the room that it takes, and tells the own book where the real goes. If allocation fails, nothing has changed.
+pub fn begin(ready: Ready, places: &mut Places, out: &mut Out<Msg>) -> Result<Begun, AllocError>
+    ensures begun { IfOk result (HasBegun ready (parts_of places.old out.old) (parts_of places.new out.new)) }
+    ensures room { IfOk result (HasRoomFor places.new.nexts.room out.new.spare) }
+    ensures err { OnErr result (parts_of places.new out.new ≡ parts_of places.old out.old) }
 {
-    let beat = if ready.news.is_empty() {
+    let Ready { telling, news, own } = ready;
+    out.reserve(news.len() + 1)?;
+    if telling.home != telling.me {
+        places.nexts.reserve(telling.entity)?;
+        // The book hears last, so that no room has to be made in it: most often it has no copy, and notes a beat alone.
+        tell_own(&mut places.copies, telling.entity, telling.beat, own)?;
+    }
+    Ok(Begun { telling, news })
+}
+
+/// The real, which stays, settles as was begun. It takes no memory.
+pub fn stay(real: &mut Real, begun: Begun, out: &mut Out<Msg>)
+    requires beat { real.old.core.beat < 2 ^ 62 }
+    requires room { length begun.news.items < out.old.spare }
+    ensures real { real.new.core ≡ staying real.old.core begun }
+    ensures sent { out.new.items ≡ out.old.items ++ begun.news.items }
+{
+    let beat = if begun.news.is_empty() {
         real.beat()
     } else {
         real.beat() + 1
     };
     let generation = real.generation();
-    real.settle_to(ready.telling.haunts, beat, generation);
-    send_all(ready.news, out);
+    real.settle_to(begun.telling.haunts, beat, generation);
+    send_all(begun.news, out);
 }
 
-/// The own book takes what it is told of the real, for which there is room.
-pub fn tell_own(book: &mut CopyBook, e: u32, beat: u64, own: Option<GhostCopy>)
-    requires { set.contains book.old.room e ≡ true }
-    ensures { book.new.ghosts ≡ set_at book.old.ghosts e (ghost_after (table.get book.old.ghosts e) (record { beat = beat; copy = own })) }
-{
-    match own {
-        Some(copy) => match book.set(e, beat, copy) {
-            Ok(()) => {}
-            Err(_) => unreachable!(),
-        },
-        None => match book.drop_copy(e, beat) {
-            Ok(()) => {}
-            Err(_) => unreachable!(),
-        },
-    }
-}
-
-/// The real, which goes, settles as was made ready: its next place is where it goes, the own book hears of it, and the real is
-/// sent after all messages. It takes no memory.
-pub fn leave(
-    mut real: Real,
-    ready: Ready,
-    nexts: &mut Table<Next>,
-    book: &mut CopyBook,
-    out: &mut Out<Msg>,
-)
+/// The real, which goes, settles as was begun: its next place is where it goes, and it is sent after all messages. It takes no memory.
+pub fn leave(mut real: Real, begun: Begun, nexts: &mut Table<Next>, out: &mut Out<Msg>)
     requires beat { real.core.beat < 2 ^ 62 }
     requires generation { real.core.generation < 2 ^ 62 }
-    requires entity { ready.telling.entity ≡ real.core.entity }
-    requires goes { (ready.telling.home == ready.telling.me) ≡ false }
-    requires room { HasRoomFor ready nexts.old.room book.old.room out.old.spare }
-    ensures { IsGone real.core ready nexts.old.items nexts.new.items book.old.ghosts book.new.ghosts out.old.items out.new.items }
+    requires entity { begun.telling.entity ≡ real.core.entity }
+    requires goes { (begun.telling.home == begun.telling.me) ≡ false }
+    requires room { HasRoomFor nexts.old.room out.old.spare begun }
+    ensures { IsGone real.core begun nexts.old.items nexts.new.items out.old.items out.new.items }
 {
-    let Ready { telling, news, own } = ready;
-    let e = real.entity();
+    let Begun { telling, news } = begun;
     let cell = telling.home;
     let beat = real.beat() + 1;
     let generation = real.generation() + 1;
-    let _ = nexts.put_reserved(e, Next { cell, generation });
-    tell_own(book, e, beat, own);
+    let _ = nexts.put_reserved(real.entity(), Next { cell, generation });
     real.settle_to(telling.haunts, beat, generation);
     send_all(news, out);
     out.send(cell, Msg::Hand(Parcel { real }));
@@ -259,27 +261,27 @@ pub fn is_at_rest(known: &Known, real: &Real) -> bool
     plan.home == known.me && plan.haunts.is(&old)
 }
 
-/// The real settles as was made ready, and is given back where it stays. It takes no memory.
+/// The real settles as was begun, and is given back where it stays. It takes no memory.
 pub fn settle_real(
     mut real: Real,
-    ready: Ready,
+    begun: Begun,
     places: &mut Places,
     out: &mut Out<Msg>,
 ) -> Option<Real>
     requires beat { real.core.beat < 2 ^ 62 }
     requires generation { real.core.generation < 2 ^ 62 }
-    requires entity { ready.telling.entity ≡ real.core.entity }
-    requires room { HasRoomFor ready places.old.nexts.room places.old.copies.room out.old.spare }
-    ensures done { (h : Here) (t : Division) (changed : Bool) (was : RealView) → IsReadyFor h t real.core changed ready →
-        let before = parts_of places.old out.old in
+    requires entity { begun.telling.entity ≡ real.core.entity }
+    requires room { HasRoomFor places.old.nexts.room out.old.spare begun }
+    ensures done { (h : Here) (t : Division) (changed : Bool) (was : RealView) (ready : Ready) (before : PartsView) →
+        IsReadyFor h t real.core changed ready → HasBegun ready before (parts_of places.old out.old) begun →
         IsDone (settled h t (slot_in before real.core.entity was) real.core changed) real.core.entity was
         (option_map core_of result) before (parts_of places.new out.new) }
     ensures witness { IfSome result (λ q. q.core.witness ≡ real.core.witness) }
 {
-    if ready.telling.home == ready.telling.me {
-        stay(&mut real, ready, out);
+    if begun.telling.home == begun.telling.me {
+        stay(&mut real, begun, out);
         return Some(real);
     }
-    leave(real, ready, &mut places.nexts, &mut places.copies, out);
+    leave(real, begun, &mut places.nexts, out);
     None
 }

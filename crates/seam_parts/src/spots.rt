@@ -1,12 +1,14 @@
 //! Where entities are, and at which version, as long as it is kept.
 
-ghost use Rattle.std.specs.Prelude.{◌≡◌, ℕ, ◌<◌, ◌^◌, ◌&&◌, Option, IfSome, OnOk, None, Some, is_some};
+ghost use Rattle.std.specs.Prelude.{◌≡◌, ℕ, ◌&&◌, T, Option, IfSome, IfOk, None, Some, is_some};
+ghost use Rattle.std.specs.Ordering.{nat_cmp};
 ghost use Rattle.std.specs.FinMap as map;
+ghost use Rattle.std.specs.FinMap.Entries.{is_sorted};
 ghost use Rattle.seam_range.specs.declared.Place.{Place as AnyPlace};
 ghost use Rattle.seam_parts.specs.Spots.{is_none_else_out, still_out, AreNoted, AreKeptNoted, IsNoted, IsChanged};
 
 use seam_range::{Place, RangeList};
-use std::alloc::AllocError;
+use std::alloc::{AllocError, Global};
 
 /// A list of entities with their places, if it is kept. An entity that is taken out to change is still in the list: it is out.
 ///
@@ -35,17 +37,22 @@ impl Spots {
         }
     }
 
-    /// A list of so many entities, none of which is out.
-    pub fn of(list: RangeList, size: usize) -> Spots
-        ensures list { result.list ≡ Some list }
-        ensures out { result.out ≡ None }
+    /// A list of these entities at their places, none of which is out.
+    pub fn of(alloc: Global, places: &[(u32, Place)]) -> Result<Spots, AllocError>
+        requires { T (is_sorted nat_cmp places.now) }
+        ensures list { IfOk result (λ s. s.list ≡ Some (map.from_sorted places.now)) }
+        ensures out { IfOk result (λ s. s.out ≡ None) }
     {
-        Spots {
+        let mut list = RangeList::new(alloc);
+        for (e, place) in places {
+            list.put(*e, *place)?;
+        }
+        Ok(Spots {
             list: Some(list),
             out: None,
-            size,
+            size: places.len(),
             left: 0,
-        }
+        })
     }
 
     /// The list is asked for: from now on it is kept for twice as many changes as it had entities when it was made.
@@ -147,12 +154,4 @@ pub fn beside(spots: &Spots, e: u32) -> Option<&RangeList>
         return None;
     }
     spots.list.as_ref()
-}
-
-/// Puts an entity into a list at its place.
-pub fn put(list: &mut RangeList, e: u32, p: Place) -> Result<(), AllocError>
-    ensures after { OnOk result (list.new ≡ map.insert list.old e p) }
-    ensures small { e < 2 ^ 32 }
-{
-    list.put(e, p)
 }

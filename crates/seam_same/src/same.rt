@@ -1,5 +1,5 @@
 // When two values are the same.
-ghost use Rattle.std.specs.Prelude.{◌≡◌, ◌↔◌, IsTrue, slice_get};
+ghost use Rattle.std.specs.Prelude.{◌≡◌, ◌↔◌, IsTrue};
 ghost use Rattle.seam_tree.specs.Division.{cut_number};
 
 use seam_call::{Call, ClientText, GhostCopy, Line, Shown};
@@ -36,29 +36,9 @@ impl Same for Value {
     }
 }
 
-// Whether two lists of values have the same one at a place, or both none.
-fn is_same_at(a: &Props, b: &Props, i: usize) -> bool
-    ensures { IsTrue result ↔ (slice_get a.now i ≡ slice_get b.now i) }
-{
-    match (a.at(i), b.at(i)) {
-        (Some(x), Some(y)) => x.is(y),
-        (None, None) => true,
-        (Some(_), None) | (None, Some(_)) => false,
-    }
-}
-
 impl Same for Props {
     fn is(&self, other: &Props) -> bool {
-        if self.len() != other.len() {
-            return false;
-        }
-        for i in 0..self.len() {
-            let same = is_same_at(self, other, i);
-            if !same {
-                return false;
-            }
-        }
-        true
+        self.equals(other)
     }
 }
 

@@ -3,3 +3,4 @@ pub mod NearLooks
 pub mod Merges
 pub mod NearLemmas
 pub mod ToldLemmas
+pub mod UpdateLemmas

@@ -1,35 +1,28 @@
 -- A look of a witness, from what the cell knows, is that of the cell's step.
-use Rattle.std.proofs.Common.{◌≡◌, ℕ, ◌<◌, ◌+◌, ◌++◌, Bool, true, false, cond, not, eqb, List, [], ◌∷◌, map, length, find, is_some}
-use Rattle.std.proofs.Common.{Option, None, Some, refl, sym, ap, ◌∙◌, take, get_or, append_assoc, arith}
-use Rattle.std.specs.Prelude.{option_map, nat_le, ◌≢◌}
-use Rattle.std.specs.List.{filter, filter_map}
-use Rattle.std.specs.Ordering.{nat_cmp}
+use Rattle.std.proofs.Common.{◌≡◌, ℕ, ◌<◌, ◌+◌, ◌++◌, Bool, true, false, cond, not, eqb, List, [], ◌∷◌, length, is_some}
+use Rattle.std.proofs.Common.{Option, None, Some, refl, sym, ap, ◌∙◌, take, get_or, arith}
+use Rattle.std.specs.Prelude.{◌≢◌}
+use Rattle.std.specs.List.{filter_map}
 use Rattle.std.specs.FinMap as table
 use Rattle.std.proofs.lemmas.List.{take_more}
 use Rattle.std.proofs.lemmas.List.Elements.{filter_map-append}
 use Rattle.std.proofs.lemmas.Bool.Decides.{nat_tests}
-use Rattle.seam_table.specs.Tables.{is_after}
-use Rattle.seam_ghosts.specs.Book.{copied}
-use Rattle.seam_view.specs.declared.Seen.{Seen}
 use Rattle.seam_view.specs.declared.Look.{Look}
-use Rattle.seam_call.specs.declared.shown.GhostCopy.{GhostCopy}
 use Rattle.seam_entity.specs.Here.{Here, base_of}
 use Rattle.seam_entity.specs.Numbers.{is_small}
 use Rattle.seam_entity.specs.Reals.{RealView, WitnessView}
 use Rattle.seam_steps.specs.Maps.{Map, set_at}
 use Rattle.seam_steps.specs.Slots.{unless_stray, rests}
-use Rattle.seam_steps.specs.Looks.{Known, seen_as, known_of, other_of_real, other_of_copy, numbered, looks_of, shown_of, after_looking}
+use Rattle.seam_steps.specs.Looks.{Known, known_of, numbered, looks_of, shown_of, after_looking}
 use Rattle.seam_steps.specs.Looks.{stray_look_by, looks_with, look_by, own_due, all_shown, shown_for}
-use Rattle.seam_steps.specs.Cells.{CellView, slot_of, known_in, known_to, is_another, is_of_another, stepped, looks_around}
+use Rattle.seam_steps.specs.Cells.{CellView, slot_of, known_to, stepped, looks_around}
 use Rattle.seam_steps.specs.Cells.{look_next, cell_rests}
 use Rattle.seam_steps.proofs.Slots.{set_at-same}
 use Rattle.seam_known.specs.Knowing.{known_at}
-use Rattle.seam_known.proofs.Walks.{earlier, left_after, all_left, none_left, one_left, there}
-use Rattle.seam_parts.proofs.SpotLemmas.{left, fewer_left}
-use Rattle.seam_known.proofs.Knowing.{known_of_others, next_known, known_without_own}
+use Rattle.seam_known.proofs.Knowing.{known_of_others, known_without_own}
 use Rattle.seam_parts.specs.News.{listed}
 use Rattle.seam_parts.proofs.NewsLemmas.{one_listed}
-use Rattle.seam_sight.specs.Looking.{comes_after, seen_if, seen_real_of, seen_copy_of, earlier_seen, looked_by, looked, told_by_look}
+use Rattle.seam_sight.specs.Looking.{looked_by, looked, told_by_look}
 use Rattle.seam_sight.specs.Looking.{told_at_look, own_told, real_has_witness}
 use Rattle.seam_parts.specs.Sets.{first_of}
 use Rattle.seam_parts.proofs.MarkLemmas.{put_again, put_back}
@@ -48,97 +41,6 @@ module _ (d : CellView) (own e : ℕ) where
     known_here =
         let no : eqb e own ≡ false = grind (arith, nat_tests, apart) in
         known_of_others d own e ∙ ap (λ b. cond (not b) (known_at d e) None) no
-
--- ---- the next that is known
-
-earlier_of_both : (h : Here) (o : Option (ℕ × RealView)) (p : Option (ℕ × GhostCopy)) →
-    earlier_seen (option_map (seen_real_of h) o) (option_map (seen_copy_of h) p)
-    ≡ option_map seen_as (earlier (other_of_real h) (other_of_copy h) o p)
-earlier_of_both h None None = refl
-earlier_of_both h (Some x) None = refl
-earlier_of_both h None (Some y) = refl
-earlier_of_both h (Some x) (Some y) = by (nat_le x.0 y.0)
-  where
-    by : (b : Bool) → cond b (Some (seen_real_of h x)) (Some (seen_copy_of h y))
-        ≡ option_map seen_as (cond b (Some (x.0, other_of_real h x.1)) (Some (y.0, other_of_copy h y.1)))
-    by true = refl
-    by false = refl
-
-pub next_is_known : (d : CellView) (a : Option ℕ) (o p : Option Seen) →
-    o ≡ option_map (seen_real_of d.here) (find (comes_after a) (table.entries d.reals)) →
-    p ≡ option_map (seen_copy_of d.here) (find (comes_after a) (copied (table.entries d.ghosts))) →
-    earlier_seen o p ≡ option_map seen_as (find (comes_after a) (table.entries (table.from_entries {R = nat_cmp} (known_in d))))
-next_is_known d a o p x y =
-    (λ i. earlier_seen (x i) (y i))
-    ∙ (earlier_of_both d.here (find (comes_after a) (table.entries d.reals)) (find (comes_after a) (copied (table.entries d.ghosts)))
-    ∙ sym (ap (option_map seen_as) (next_known d a)))
-
--- ---- a walk over all that are known
-
-abbrev pub all_known : CellView → List Known
-all_known d = table.entries (table.from_entries {R = nat_cmp} (known_in d))
-
--- what of others is still to be seen
-abbrev pub still_to_see : CellView → ℕ → Option ℕ → List Seen
-still_to_see d own a = map seen_as (filter (is_of_another own) (left_after a (all_known d)))
-
-found_seen : (es : List Known) (a : Option ℕ) (s : Seen) → Some s ≡ option_map seen_as (find (comes_after a) es) →
-    (k : Known) × ((find (comes_after a) es ≡ Some k) × (s ≡ seen_as k))
-found_seen es a s is = by (find (comes_after a) es) refl is
-  where
-    by : (o : Option Known) → find (comes_after a) es ≡ o → Some s ≡ option_map seen_as o →
-        (k : Known) × ((find (comes_after a) es ≡ Some k) × (s ≡ seen_as k))
-    by None e h = cc
-    by (Some k) e h = (k, (e, (let q : s ≡ seen_as k = cc in q)))
-
-module _ (d : CellView) (own : ℕ) (a : Option ℕ) (s : Seen)
-    (is : Some s ≡ option_map seen_as (find (comes_after a) (all_known d))) where
-  step_over : still_to_see d own a ≡ map seen_as (cond (not (eqb s.entity own))
-      ((found_seen (all_known d) a s is).0 ∷ filter (is_of_another own) (left_after (Some s.entity) (all_known d)))
-      (filter (is_of_another own) (left_after (Some s.entity) (all_known d))))
-  step_over =
-      let k = (found_seen (all_known d) a s is).0 in
-      let at = (found_seen (all_known d) a s is).1 in
-      ap (λ l. map seen_as (filter (is_of_another own) l))
-      (one_left a (all_known d) k (table.entries_sorted (table.from_entries {R = nat_cmp} (known_in d))) at.0)
-      ∙ ap (λ n. map seen_as (cond (not (eqb n own)) (k ∷ filter (is_of_another own) (left_after (Some n) (all_known d)))
-      (filter (is_of_another own) (left_after (Some n) (all_known d))))) (sym (ap (λ x. x.entity) at.1))
-
-  -- the walk goes on, and another one is seen
-  pub walk_on : (v w : List Seen) → w ≡ v ++ seen_if (is_another own s.entity) s →
-      w ++ still_to_see d own (Some s.entity) ≡ v ++ still_to_see d own a
-  walk_on v w more =
-      let k = (found_seen (all_known d) a s is).0 in
-      let rest = filter (is_of_another own) (left_after (Some s.entity) (all_known d)) in
-      ap (λ l. l ++ still_to_see d own (Some s.entity)) more
-      ∙ (append_assoc v (seen_if (is_another own s.entity) s) (map seen_as rest)
-      ∙ ap (λ l. v ++ l) (by k rest (is_another own s.entity) (found_seen (all_known d) a s is).1.1 ∙ sym step_over))
-    where
-      by : (k : Known) (rest : List Known) (b : Bool) → s ≡ seen_as k →
-          seen_if b s ++ map seen_as rest ≡ map seen_as (cond b (k ∷ rest) rest)
-      by k rest true same = ap (λ x. x ∷ map seen_as rest) same
-      by k rest false same = refl
-
-  pub fewer_to_see : s.entity < 4294967296 → left (Some s.entity) < left a
-  fewer_to_see small =
-      let at = (found_seen (all_known d) a s is).1 in
-      let k = (found_seen (all_known d) a s is).0 in
-      let sorted = table.entries_sorted (table.from_entries {R = nat_cmp} (known_in d)) in
-      fewer_left a s.entity (ap (λ x. is_after a x.entity) at.1 ∙ (there a (all_known d) k sorted at.0).1) small
-
--- at the start all are to be seen
-pub all_to_see : (d : CellView) (own : ℕ) → [] ++ still_to_see d own None ≡ map seen_as (known_to d own)
-all_to_see d own = ap (λ l. map seen_as (filter (is_of_another own) l)) (all_left (all_known d))
-
--- where none comes next, none is left
-pub none_to_see : (d : CellView) (own : ℕ) (a : Option ℕ) → None ≡ option_map seen_as (find (comes_after a) (all_known d)) →
-    still_to_see d own a ≡ []
-none_to_see d own a is =
-    ap (λ l. map seen_as (filter (is_of_another own) l)) (none_left a (all_known d) (nothing (find (comes_after a) (all_known d)) is))
-  where
-    nothing : (o : Option Known) → None ≡ option_map seen_as o → o ≡ None
-    nothing None e = refl
-    nothing (Some k) e = cc
 
 -- ---- what is shown
 

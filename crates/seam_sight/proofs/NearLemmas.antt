@@ -21,7 +21,8 @@ use Rattle.seam_steps.specs.Cells.{CellView, known_to, is_another}
 use Rattle.seam_known.specs.Knowing.{or_else, known_by, known_at, unless_self}
 use Rattle.seam_known.proofs.Sorted.{passing, find_filter, sorted_filter, find_mapped, sorted_mapped}
 use Rattle.seam_known.proofs.Knowing.{known_rises, known_to_is, known_of_others}
-use Rattle.seam_parts.specs.Spots.{AreNoted, place_of_real, place_of_copy, real_places, copy_places}
+use Rattle.seam_parts.specs.Spots.{AreNoted, place_of_real, place_of_copy, real_places, copy_places, placed_reals, placed_copies}
+use Rattle.seam_parts.proofs.SpotLemmas.{real_list, reals_rise, copy_list, copies_list_rise}
 use Rattle.seam_sight.specs.Looking.{seen_if}
 use Rattle.seam_sight.specs.Near.{seen_at_place, is_other, without_reals, merged, is_near, HasNear, seen_of_entity}
 use Rattle.seam_sight.proofs.Merges.{rising_merged, find_merged, same_places}
@@ -48,33 +49,14 @@ filter_mapped f t (x ∷ xs) = by (t (f x)) (filter_mapped f t xs)
     by true rest = ap (λ l. f x ∷ l) rest
     by false rest = rest
 
--- within a reach of radius and hysteresis together is not far
-within_near : (radius hysteresis reach a : ℕ) → reach ≡ radius + hysteresis → nat_le a reach ≡ not (nat_lt (radius + hysteresis) a)
-within_near radius hysteresis reach a is = grind (arith, nat_tests, is)
-
-module _ (d : CellView) (own : ℕ) (r : Replica) (p : Pos) (reach : ℕ) (is_reach : reach ≡ r.radius + r.hysteresis) (reals copies : Places)
-    (reals_are : AreNoted reals (Some own) (real_places d.reals)) (copies_are : AreNoted copies (Some own) (copy_places d.ghosts)) where
-  -- the place is near
+-- what two lists have of others, where each has the places that pass the test
+module _ (d : CellView) (own : ℕ) (t : Seen → Bool) (reals copies : List (ℕ × Place)) (reals_sorted : T (is_sorted nat_cmp reals))
+    (copies_sorted : T (is_sorted nat_cmp copies)) where
   abbrev test : ℕ × Place → Bool
-  test x = is_near r p (seen_at_place x)
+  test x = t (seen_at_place x)
 
-  abbrev near_reals : List (ℕ × Place)
-  near_reals = within reals p reach
-
-  abbrev near_copies : List (ℕ × Place)
-  near_copies = without_reals d.reals (within copies p reach)
-
-  test_is : (q : ℕ) (x : Place) → is_within p reach x ≡ test (q, x)
-  test_is q x = within_near r.radius r.hysteresis reach (distance p x.pos) is_reach
-
-  passing_is : (q : ℕ) (o : Option Place) → passing (λ e. is_within p reach e.1) q o ≡ passing test q o
-  passing_is q None = refl
-  passing_is q (Some x) = ap (λ b. cond b (Some x) None) (test_is q x)
-
-  found_real : (q : ℕ) → table.find nat_cmp q near_reals ≡ passing test q (table.get reals q)
-  found_real q =
-      find_filter (λ e. is_within p reach e.1) q (table.entries reals) (table.entries_sorted reals)
-      ∙ (passing_is q (table.find nat_cmp q (table.entries reals)) ∙ ap (passing test q) (sym (table.get-entries reals q)))
+  abbrev only_copies : List (ℕ × Place)
+  only_copies = without_reals d.reals copies
 
   -- what is found where there is no real
   abbrev where_none : Bool → Option Place → Option Place
@@ -85,15 +67,6 @@ module _ (d : CellView) (own : ℕ) (r : Replica) (p : Pos) (reach : ℕ) (is_re
       passing (λ x. not (is_some (table.get d.reals x.0))) q o ≡ where_none (is_some (table.get d.reals q)) o
   passing_none q None = refl
   passing_none q (Some x) = refl
-
-  found_copy : (q : ℕ) → table.find nat_cmp q near_copies ≡ where_none (is_some (table.get d.reals q)) (passing test q (table.get copies q))
-  found_copy q =
-      find_filter (λ x. not (is_some (table.get d.reals x.0))) q (within copies p reach)
-      (sorted_filter (λ e. is_within p reach e.1) (table.entries copies) (table.entries_sorted copies))
-      ∙ (passing_none q (table.find nat_cmp q (within copies p reach))
-      ∙ ap (where_none (is_some (table.get d.reals q)))
-      (find_filter (λ e. is_within p reach e.1) q (table.entries copies) (table.entries_sorted copies)
-      ∙ (passing_is q (table.find nat_cmp q (table.entries copies)) ∙ ap (passing test q) (sym (table.get-entries copies q)))))
 
   -- what is known of another one
   known_place : (q : ℕ) (x : Option RealView) (c : Option GhostCopy) →
@@ -145,38 +118,85 @@ module _ (d : CellView) (own : ℕ) (r : Replica) (p : Pos) (reach : ℕ) (is_re
           ∙ (all_of (not (eqb q own)) z (ap not is)
           ∙ (are (turned false is) ∙ sym (ap (λ c. passing test q (option_map (place_of q) (cond (not c) o None))) is)))
 
-  rising_reals : T (is_sorted nat_cmp near_reals)
-  rising_reals = sorted_filter (λ e. is_within p reach e.1) (table.entries reals) (table.entries_sorted reals)
+  only_copies_rise : T (is_sorted nat_cmp only_copies)
+  only_copies_rise = sorted_filter (λ x. not (is_some (table.get d.reals x.0))) copies copies_sorted
 
-  rising_copies : T (is_sorted nat_cmp near_copies)
-  rising_copies =
-      sorted_filter (λ x. not (is_some (table.get d.reals x.0))) (within copies p reach)
-      (sorted_filter (λ e. is_within p reach e.1) (table.entries copies) (table.entries_sorted copies))
+  module _ (reals_are : (q : ℕ) → eqb own q ≡ false → table.find nat_cmp q reals ≡ passing test q (real_places d.reals q))
+      (copies_are : (q : ℕ) → eqb own q ≡ false → table.find nat_cmp q copies ≡ passing test q (copy_places d.ghosts q)) where
+    found_copy : (q : ℕ) → eqb own q ≡ false →
+        table.find nat_cmp q only_copies ≡ where_none (is_some (table.get d.reals q)) (passing test q (copy_places d.ghosts q))
+    found_copy q apart =
+        find_filter (λ x. not (is_some (table.get d.reals x.0))) q copies copies_sorted
+        ∙ (passing_none q (table.find nat_cmp q copies) ∙ ap (where_none (is_some (table.get d.reals q))) (copies_are q apart))
 
-  same_near : filter (is_other own) (merged near_reals near_copies) ≡ filter test (map with_place (known_to d own))
-  same_near =
-      let known = known_rises d own in
-      let places = sorted_mapped place_of (known_to d own) known in
-      let both = rising_merged near_reals near_copies rising_reals rising_copies in
-      same_places (filter (is_other own) (merged near_reals near_copies)) (filter test (map with_place (known_to d own)))
-      (sorted_filter (is_other own) (merged near_reals near_copies) both) (sorted_filter test (map with_place (known_to d own)) places)
-      (λ q. find_filter (is_other own) q (merged near_reals near_copies) both
-      ∙ (ap (passing (is_other own) q)
-      (find_merged q near_reals near_copies rising_reals ∙ λ i. or_else (found_real q i) (found_copy q i))
-      ∙ (apart_or_own q (passing test q (table.get reals q))
-      (where_none (is_some (table.get d.reals q)) (passing test q (table.get copies q))) (known_at d q)
-      (λ apart. (λ i. or_else (passing test q (reals_are q apart i))
-      (where_none (is_some (table.get d.reals q)) (passing test q (copies_are q apart i))))
-      ∙ known_place q (table.get d.reals q) (copy_in (table.get d.ghosts q)))
-      ∙ sym (find_filter test q (map with_place (known_to d own)) places
-      ∙ ap (passing test q) (find_mapped place_of q (known_to d own) ∙ ap (option_map (place_of q)) (known_to_is d own q))))))
+    same_places_of_others : filter (is_other own) (merged reals only_copies) ≡ filter test (map with_place (known_to d own))
+    same_places_of_others =
+        let places = sorted_mapped place_of (known_to d own) (known_rises d own) in
+        let both = rising_merged reals only_copies reals_sorted only_copies_rise in
+        same_places (filter (is_other own) (merged reals only_copies)) (filter test (map with_place (known_to d own)))
+        (sorted_filter (is_other own) (merged reals only_copies) both) (sorted_filter test (map with_place (known_to d own)) places)
+        (λ q. find_filter (is_other own) q (merged reals only_copies) both
+        ∙ (ap (passing (is_other own) q) (find_merged q reals only_copies reals_sorted)
+        ∙ (apart_or_own q (table.find nat_cmp q reals) (table.find nat_cmp q only_copies) (known_at d q)
+        (λ apart. (λ i. or_else (reals_are q apart i) (found_copy q apart i))
+        ∙ known_place q (table.get d.reals q) (copy_in (table.get d.ghosts q)))
+        ∙ sym (find_filter test q (map with_place (known_to d own)) places
+        ∙ ap (passing test q) (find_mapped place_of q (known_to d own) ∙ ap (option_map (place_of q)) (known_to_is d own q))))))
 
-  pub near_are : map seen_at_place (filter (is_other own) (merged near_reals near_copies))
+    pub joined_are : map seen_at_place (filter (is_other own) (merged reals only_copies)) ≡ filter t (map seen_as (known_to d own))
+    joined_are =
+        ap (map seen_at_place) same_places_of_others
+        ∙ (sym (filter_mapped seen_at_place t (map with_place (known_to d own)))
+        ∙ ap (filter t) (sym (seen_with_place (known_to d own))))
+
+-- ---- what is near, and all
+
+-- within a reach of radius and hysteresis together is not far
+within_near : (radius hysteresis reach a : ℕ) → reach ≡ radius + hysteresis → nat_le a reach ≡ not (nat_lt (radius + hysteresis) a)
+within_near radius hysteresis reach a is = grind (arith, nat_tests, is)
+
+module _ (r : Replica) (p : Pos) (reach : ℕ) (is_reach : reach ≡ r.radius + r.hysteresis) where
+  test_is : (q : ℕ) (x : Place) → is_within p reach x ≡ is_near r p (seen_at_place (q, x))
+  test_is q x = within_near r.radius r.hysteresis reach (distance p x.pos) is_reach
+
+  passing_is : (q : ℕ) (o : Option Place) → passing (λ e. is_within p reach e.1) q o ≡ passing (λ x. is_near r p (seen_at_place x)) q o
+  passing_is q None = refl
+  passing_is q (Some x) = ap (λ b. cond b (Some x) None) (test_is q x)
+
+  within_rises : (l : Places) → T (is_sorted nat_cmp (within l p reach))
+  within_rises l = sorted_filter (λ e. is_within p reach e.1) (table.entries l) (table.entries_sorted l)
+
+  found_within : (own : ℕ) (l : Places) (place : ℕ → Option Place) → AreNoted l (Some own) place → (q : ℕ) → eqb own q ≡ false →
+      table.find nat_cmp q (within l p reach) ≡ passing (λ x. is_near r p (seen_at_place x)) q (place q)
+  found_within own l place are q apart =
+      find_filter (λ e. is_within p reach e.1) q (table.entries l) (table.entries_sorted l)
+      ∙ (passing_is q (table.find nat_cmp q (table.entries l))
+      ∙ ap (passing (λ x. is_near r p (seen_at_place x)) q) (sym (table.get-entries l q) ∙ are q apart))
+
+  pub near_are : (d : CellView) (own : ℕ) (reals copies : Places) → AreNoted reals (Some own) (real_places d.reals) →
+      AreNoted copies (Some own) (copy_places d.ghosts) →
+      map seen_at_place (filter (is_other own) (merged (within reals p reach) (without_reals d.reals (within copies p reach))))
       ≡ filter (is_near r p) (map seen_as (known_to d own))
-  near_are =
-      ap (map seen_at_place) same_near
-      ∙ (sym (filter_mapped seen_at_place (is_near r p) (map with_place (known_to d own)))
-      ∙ ap (filter (is_near r p)) (sym (seen_with_place (known_to d own))))
+  near_are d own reals copies reals_are copies_are =
+      joined_are d own (is_near r p) (within reals p reach) (within copies p reach) (within_rises reals) (within_rises copies)
+      (found_within own reals (real_places d.reals) reals_are) (found_within own copies (copy_places d.ghosts) copies_are)
+
+all_kept : (xs : List Seen) → filter (λ _. true) xs ≡ xs
+all_kept [] = refl
+all_kept (x ∷ xs) = ap (λ l. x ∷ l) (all_kept xs)
+
+all_pass : {X : Type 0} (q : ℕ) (o : Option X) → o ≡ passing (λ _. true) q o
+all_pass q None = refl
+all_pass q (Some x) = refl
+
+pub all_are : (d : CellView) (own : ℕ) →
+    map seen_at_place (filter (is_other own) (merged (placed_reals d.reals) (without_reals d.reals (placed_copies d.ghosts))))
+    ≡ map seen_as (known_to d own)
+all_are d own =
+    joined_are d own (λ _. true) (placed_reals d.reals) (placed_copies d.ghosts) (reals_rise d.reals) (copies_list_rise d.ghosts)
+    (λ q apart. real_list d.reals q ∙ all_pass q (real_places d.reals q))
+    (λ q apart. copy_list d.ghosts q ∙ all_pass q (copy_places d.ghosts q))
+    ∙ all_kept (map seen_as (known_to d own))
 
 -- one more that is seen, if it is another one, and what is left after it
 pub merged_more : (own : ℕ) (x : ℕ × Place) (left all : List (ℕ × Place)) (v w : List Seen) (s : Seen) → s ≡ seen_at_place x →
@@ -194,10 +214,6 @@ merged_more own x left all v w s seen is more =
     by false = refl
 
 -- ---- of all that is known these are near, and maybe others
-
-all_kept : (xs : List Seen) → filter (λ _. true) xs ≡ xs
-all_kept [] = refl
-all_kept (x ∷ xs) = ap (λ l. x ∷ l) (all_kept xs)
 
 pub near_alone : (r : Replica) (p : Pos) (known seen : List Seen) → seen ≡ filter (is_near r p) known → HasNear r p known seen
 near_alone r p known seen is = (is_near r p, λ s near. near, is)

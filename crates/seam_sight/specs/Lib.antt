@@ -1,3 +1,4 @@
 pub mod Looking
 pub mod Near
 pub mod Told
+pub mod Updates

@@ -1,5 +1,5 @@
 -- What a witness of a cell sees and tells.
-use Rattle.std.specs.Prelude.{ℕ, ◌+◌, Bool, true, false, cond, nat_le, List, [], ◌∷◌, length, is_some, Option, None, Some}
+use Rattle.std.specs.Prelude.{ℕ, ◌+◌, Bool, true, false, List, [], ◌∷◌, length, is_some, Option, None, Some}
 use Rattle.seam_ghosts.specs.declared.Ghost.{Ghost}
 use Rattle.seam_call.specs.declared.shown.GhostCopy.{GhostCopy}
 use Rattle.seam_entity.specs.declared.message.Msg.{Msg}
@@ -12,30 +12,16 @@ use Rattle.seam_steps.specs.Maps.{Map}
 use Rattle.seam_entity.specs.Looks.{told_after}
 use Rattle.seam_view.specs.declared.Seen.{Seen}
 use Rattle.seam_view.specs.Replica.{after_looks}
-use Rattle.seam_steps.specs.Looks.{Known, seen_as, looks_of, shown_of, after_looking, numbered, stray_look_by, own_due}
-use Rattle.seam_steps.specs.Cells.{CellView, known_real, known_copy}
+use Rattle.seam_steps.specs.Looks.{Known, looks_of, shown_of, after_looking, numbered, stray_look_by, own_due}
+use Rattle.seam_steps.specs.Cells.{CellView}
 use Rattle.seam_sight.specs.declared.looking.Glance.{Glance}
-pub use Rattle.seam_known.specs.Knowing.{comes_after}
 
 -- ---- what is seen
-
--- a real, and a copy, as others are seen
-abbrev pub seen_real_of : Here → ℕ × RealView → Seen
-seen_real_of h p = seen_as (known_real h p)
-
-abbrev pub seen_copy_of : Here → ℕ × GhostCopy → Seen
-seen_copy_of h p = seen_as (known_copy h p)
 
 -- what is seen of it, where the first is true
 abbrev pub seen_if : Bool → Seen → List Seen
 seen_if true s = s ∷ []
 seen_if false s = []
-
--- the one of lower number, and where both have the number the first
-abbrev pub earlier_seen : Option Seen → Option Seen → Option Seen
-earlier_seen None o = o
-earlier_seen (Some s) None = Some s
-earlier_seen (Some s) (Some t) = cond (nat_le s.entity t.entity) (Some s) (Some t)
 
 -- ---- what the witness does
 
@@ -72,7 +58,7 @@ abbrev pub told_these : Glance → RealView → WitnessView → WitnessView
 told_these g r w = record {
   view = after_looks g.seen.items w.view g.looks.items;
   told = told_after (own_due w.told r.version) r.version w.told;
-  sent = w.sent + length g.shown.items;
+  sent = w.sent + length g.shown.shown;
 }
 
 -- the real is there and has a witness

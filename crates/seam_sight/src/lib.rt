@@ -8,6 +8,8 @@
 mod looking;
 mod near;
 mod told;
+mod updates;
 
 pub use looking::{Glance, Sight, look_task};
 pub use told::ToldCopies;
+pub use updates::Updates;

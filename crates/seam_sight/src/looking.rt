@@ -1,14 +1,13 @@
 //! What a witness sees of others, and what it tells.
 
-ghost use Rattle.std.specs.Prelude.{◌≡◌, ℕ, ◌<◌, ◌≤◌, ◌^◌, ◌+◌, ◌++◌, [], ◌∷◌, length, map, find, filter_map, IfOk, OnOk, OnErr};
-ghost use Rattle.std.specs.Prelude.{option_map};
+ghost use Rattle.std.specs.Prelude.{◌≡◌, ℕ, ◌<◌, ◌≤◌, ◌^◌, ◌+◌, ◌++◌, [], ◌∷◌, length, map, filter_map, IfOk, OnOk, OnErr};
+ghost use Rattle.std.specs.Prelude.{option_map, false};
 ghost use Rattle.std.specs.List.Sorted.{IsStrictlySortedBy};
 ghost use Rattle.std.specs.Ordering.{nat_cmp};
 ghost use Rattle.std.specs.FinMap as table;
-ghost use Rattle.seam_ghosts.specs.Book.{copies};
 ghost use Rattle.seam_view.specs.Replica.{HasRoom};
 ghost use Rattle.seam_defs.specs.declared.limits.TheConstants.{MOST_BASE_NODES};
-ghost use Rattle.seam_entity.specs.Here.{Here, base_of};
+ghost use Rattle.seam_entity.specs.Here.{base_of};
 ghost use Rattle.seam_call.specs.declared.shown.Shown.TheVariants.{Set, Enter};
 ghost use Rattle.seam_entity.specs.Numbers.{is_small as is_small_number};
 ghost use Rattle.seam_entity.specs.Witnesses.{witness_of};
@@ -18,19 +17,21 @@ ghost use Rattle.seam_known.specs.Knowing.{known_at};
 ghost use Rattle.seam_parts.specs.Kept.{here_in, cell_of, AreKept};
 ghost use Rattle.seam_parts.specs.News.{listed};
 ghost use Rattle.seam_sight.specs.Looking.{seeing, looked, told_at_look, own_told, told_these, real_has_witness};
-ghost use Rattle.seam_sight.specs.Looking.{comes_after, seen_if, seen_real_of, seen_copy_of, earlier_seen};
+ghost use Rattle.seam_sight.specs.Looking.{seen_if};
 ghost use Rattle.seam_sight.specs.Near.{HasNear};
+ghost use Rattle.seam_sight.specs.Updates.{with_shown, updates_of};
+ghost use Rattle.seam_machine.specs.Inside.{is_empty};
 ghost use Rattle.seam_sight.specs.Told.{known_with, AreTold, AreToldBut, AreStillTold};
 
 use crate::told::ToldCopies;
-use seam_call::{GhostCopy, Shown, Update};
+use crate::updates::Updates;
+use seam_call::{GhostCopy, Shown};
 use seam_entity::{Msg, Observed, Real, Witness, is_small};
 use seam_machine::Out;
 use seam_parts::{CopyBook, Known, Lists, Places, RealTable, Reals, put_in, take_out};
 use seam_tree::MOST_CELLS;
 use seam_view::{Look, Seen};
 use std::alloc::{AllocError, Global};
-use std::collections::VecDeque;
 
 /// What a cell knows of others than entity `own`: its reals, and its copies.
 #[derive(Drop)]
@@ -47,7 +48,7 @@ pub struct Sight<'a> {
 pub struct Glance {
     pub seen: Vec<Seen>,
     pub looks: Vec<Look>,
-    pub shown: VecDeque<Shown>,
+    pub shown: Updates,
 }
 
 /// A real as it is seen.
@@ -69,41 +70,6 @@ pub fn seen_copy(e: u32, copy: &GhostCopy) -> Seen
         entity: e,
         version: copy.version,
         pos: copy.state.pos,
-    }
-}
-
-// The first real, in rising number, after the given entity, or of all where none is given.
-fn next_real(reals: &RealTable, after: Option<u32>) -> Option<Seen>
-    ensures { (h : Here) → result ≡ option_map (seen_real_of h) (find (comes_after after) (table.entries reals.now.items)) }
-{
-    match reals.next_after(after) {
-        Some((e, parcel)) => Some(seen_real(e, &parcel.real)),
-        None => None,
-    }
-}
-
-// The first copy, in rising number, after the given entity, or of all where none is given.
-fn next_copy(book: &CopyBook, after: Option<u32>) -> Option<Seen>
-    ensures { (h : Here) → result ≡ option_map (seen_copy_of h) (find (comes_after after) (copies book.now)) }
-{
-    match book.next_after(after) {
-        Some((e, copy)) => Some(seen_copy(e, copy)),
-        None => None,
-    }
-}
-
-// The one of lower number, and where both have the number the first.
-fn earlier_of(first: Option<Seen>, second: Option<Seen>) -> Option<Seen>
-    ensures { result ≡ earlier_seen first second }
-{
-    match (first, second) {
-        (None, other) => other,
-        (Some(one), None) => Some(one),
-        (Some(one), Some(other)) => if one.entity <= other.entity {
-            Some(one)
-        } else {
-            Some(other)
-        },
     }
 }
 
@@ -129,8 +95,7 @@ fn enter_of(e: u32, copy: Option<GhostCopy>) -> Option<Shown>
 
 /// Adds an entity that is seen, if it is another one.
 pub fn see(seen: &mut Vec<Seen>, next: Seen, own: u32) -> Result<(), AllocError>
-    ensures seen { OnOk result (seen.new.items ≡ seen.old.items ++ seen_if (is_another own next.entity) next) }
-    ensures small { next.entity < 2 ^ 32 }
+    ensures { OnOk result (seen.new.items ≡ seen.old.items ++ seen_if (is_another own next.entity) next) }
 {
     if next.entity == own {
         return Ok(());
@@ -141,51 +106,18 @@ pub fn see(seen: &mut Vec<Seen>, next: Seen, own: u32) -> Result<(), AllocError>
     }
 }
 
-// Adds what is shown.
-#[inline]
-fn push(shown: &mut VecDeque<Shown>, item: Shown) -> Result<(), AllocError>
-    ensures { OnOk result (shown.new.items ≡ shown.old.items ++ item ∷ []) }
-{
-    match shown.push_back(item) {
-        Ok(()) => Ok(()),
-        Err(_) => Err(AllocError),
-    }
-}
-
 // Adds what is shown, if anything is.
 #[inline]
-fn push_if(shown: &mut VecDeque<Shown>, item: Option<Shown>) -> Result<(), AllocError>
-    ensures { OnOk result (shown.new.items ≡ shown.old.items ++ listed item) }
+fn push_if(shown: &mut Updates, item: Option<Shown>) -> Result<(), AllocError>
+    ensures { OnOk result (shown.new ≡ with_shown shown.old (listed item)) }
 {
     match item {
-        Some(item) => push(shown, item),
+        Some(item) => shown.push(item),
         None => Ok(()),
     }
 }
 
 impl Sight<'_> {
-    // The first entity that is known, in rising number, after the given one, or of all where none is given.
-    fn next_after(&self, after: Option<u32>) -> Option<Seen>
-        ensures { (c : CellView) → let d = seeing c (here_in self.now.known.now) self.now.reals.now.items self.now.copies.now.ghosts in
-            result ≡ option_map seen_as (find (comes_after after) (table.entries (table.from_entries {R = nat_cmp} (known_in d)))) }
-    {
-        earlier_of(next_real(self.reals, after), next_copy(self.copies, after))
-    }
-
-    /// All that is known of others, in rising number.
-    pub fn others(&self) -> Result<Vec<Seen>, AllocError>
-        ensures { (c : CellView) → let d = seeing c (here_in self.now.known.now) self.now.reals.now.items self.now.copies.now.ghosts in
-            IfOk result (λ v. v.items ≡ map seen_as (known_to d self.now.own)) }
-    {
-        let mut seen = Vec::new(self.alloc);
-        let mut last = None;
-        while let Some(next) = self.next_after(last) {
-            last = Some(next.entity);
-            see(&mut seen, next, self.own)?;
-        }
-        Ok(seen)
-    }
-
     // What is known of an entity: its real as others see it or, where that is not here, its copy.
     fn known_copy(&self, e: u32) -> Result<Option<GhostCopy>, AllocError>
         ensures { let h = here_in self.now.known.now in
@@ -253,13 +185,13 @@ impl Sight<'_> {
         &self,
         looks: &[Look],
         told: &mut ToldCopies,
-        shown: &mut VecDeque<Shown>,
+        shown: &mut Updates,
     ) -> Result<(), AllocError>
         requires told { let h = here_in self.now.known.now in
             AreToldBut self.now.own (known_with h self.now.reals.now.items self.now.copies.now.ghosts) told.old }
         ensures shown { (c : CellView) →
             let d = seeing c (here_in self.now.known.now) self.now.reals.now.items self.now.copies.now.ghosts in
-            OnOk result (shown.new.items ≡ shown.old.items ++ filter_map (shown_for (known_to d self.now.own)) looks.now) }
+            OnOk result (shown.new ≡ with_shown shown.old (filter_map (shown_for (known_to d self.now.own)) looks.now)) }
         ensures told { let h = here_in self.now.known.now in
             AreStillTold self.now.own (known_with h self.now.reals.now.items self.now.copies.now.ghosts) told.old told.new }
     {
@@ -271,20 +203,15 @@ impl Sight<'_> {
     }
 
     // Adds the own state, where that is due.
-    fn add_own(
-        &self,
-        real: &Real,
-        witness: &Witness,
-        shown: &mut VecDeque<Shown>,
-    ) -> Result<(), AllocError>
+    fn add_own(&self, real: &Real, witness: &Witness, shown: &mut Updates) -> Result<(), AllocError>
         ensures { let h = here_in self.now.known.now in
-            OnOk result (shown.new.items ≡ shown.old.items ++ own_told h real.now.core witness.now.told) }
+            OnOk result (shown.new ≡ with_shown shown.old (own_told h real.now.core witness.now.told)) }
     {
         if !witness.is_own_due(real.version()) {
             return Ok(());
         }
         let state = real.own_state(&self.known.defs)?;
-        push(shown, Shown::Own(real.version(), state))
+        shown.push(Shown::Own(real.version(), state))
     }
 
     // What the witness shows for the looks, after the own state where that is due.
@@ -294,17 +221,24 @@ impl Sight<'_> {
         witness: &Witness,
         looks: &[Look],
         told: &mut ToldCopies,
-    ) -> Result<VecDeque<Shown>, AllocError>
+    ) -> Result<Updates, AllocError>
+        requires bases { 1 ≤ self.now.known.now.settings.bases }
+        requires most { self.now.known.now.settings.bases ≤ MOST_BASE_NODES }
+        requires small { witness.now.sent < 2 ^ 62 }
         requires told { let h = here_in self.now.known.now in
             AreToldBut self.now.own (known_with h self.now.reals.now.items self.now.copies.now.ghosts) told.old }
         ensures shown { (c : CellView) → let h = here_in self.now.known.now in
             let d = seeing c h self.now.reals.now.items self.now.copies.now.ghosts in
-            IfOk result (λ q. q.items ≡ all_shown h real.now.core (witness_of witness.now) (known_to d self.now.own) looks.now) }
+            IfOk result (λ u. u ≡ updates_of h real.now.core witness.now.sent
+            (all_shown h real.now.core (witness_of witness.now) (known_to d self.now.own) looks.now)) }
         ensures told { let h = here_in self.now.known.now in
             AreStillTold self.now.own (known_with h self.now.reals.now.items self.now.copies.now.ghosts) told.old told.new }
     {
         // Besides the looks there is the own state.
-        let mut shown = VecDeque::with_capacity(self.alloc, looks.len().saturating_add(1))?;
+        let room = looks.len().saturating_add(1);
+        let e = real.entity();
+        let to = base_node_of(self.known, e);
+        let mut shown = Updates::new(self.alloc, to, e, witness.sent, room)?;
         self.add_own(real, witness, &mut shown)?;
         self.add_all(looks, told, &mut shown)?;
         Ok(shown)
@@ -317,6 +251,9 @@ impl Sight<'_> {
         witness: &mut Witness,
         told: &mut ToldCopies,
     ) -> Result<Glance, AllocError>
+        requires bases { 1 ≤ self.now.known.now.settings.bases }
+        requires most { self.now.known.now.settings.bases ≤ MOST_BASE_NODES }
+        requires small { witness.old.sent < 2 ^ 62 }
         requires told { let h = here_in self.now.known.now in
             AreToldBut self.now.own (known_with h self.now.reals.now.items self.now.copies.now.ghosts) told.old }
         ensures same { witness_of witness.new ≡ witness_of witness.old }
@@ -329,7 +266,8 @@ impl Sight<'_> {
             IfOk result (λ g. g.looks.items ≡ looks_of real.now.core (witness_of witness.old) (known_to d self.now.own)) }
         ensures shown { (c : CellView) → let h = here_in self.now.known.now in
             let d = seeing c h self.now.reals.now.items self.now.copies.now.ghosts in
-            IfOk result (λ g. g.shown.items ≡ shown_of h real.now.core (witness_of witness.old) (known_to d self.now.own)) }
+            IfOk result (λ g. g.shown ≡ updates_of h real.now.core witness.old.sent
+            (shown_of h real.now.core (witness_of witness.old) (known_to d self.now.own))) }
         ensures room { IfOk result (λ g. HasRoom witness.new.view g.looks.items) }
         ensures told { let h = here_in self.now.known.now in
             AreStillTold self.now.own (known_with h self.now.reals.now.items self.now.copies.now.ghosts) told.old told.new }
@@ -366,34 +304,34 @@ impl Sight<'_> {
         ensures told { let h = here_in self.now.known.now in
             AreStillTold self.now.own (known_with h self.now.reals.now.items self.now.copies.now.ghosts) told.old told.new }
     {
+        if !is_small(witness.sent) {
+            return Ok(());
+        }
         let glance = self.get_ready(real, witness, told)?;
-        let updates = count(&glance.shown);
+        let updates = glance.shown.len();
         if !are_numbers_small(witness.sent, updates) {
             return Ok(());
         }
-        out.reserve(updates)?;
-        self.tell(real, witness, glance, out);
+        if !out.is_empty() {
+            out.reserve(updates)?;
+        }
+        tell(real, witness, glance, out);
         Ok(())
     }
+}
 
-    // The witness keeps what it looked at and tells it, in room that was made before.
-    fn tell(&self, real: &Real, witness: &mut Witness, glance: Glance, out: &mut Out<Msg>)
-        requires bases { 1 ≤ self.now.known.now.settings.bases }
-        requires most { self.now.known.now.settings.bases ≤ MOST_BASE_NODES }
-        requires rising { IsStrictlySortedBy nat_cmp (map (λ s. s.entity) glance.seen.items) }
-        requires room { HasRoom witness.old.view glance.looks.items }
-        requires small { witness.old.sent + length glance.shown.items < 2 ^ 62 }
-        requires out { length glance.shown.items ≤ out.old.spare }
-        ensures witness { witness_of witness.new ≡ told_these glance real.now.core (witness_of witness.old) }
-        ensures sent { let h = here_in self.now.known.now in out.new.items
-            ≡ out.old.items ++ numbered (base_of h real.now.core.entity) real.now.core.entity witness.old.sent glance.shown.items }
-    {
-        let Glance { seen, looks, shown } = glance;
-        let e = real.entity();
-        let sent = witness.sent;
-        witness.keep(&seen, &looks, real.version(), count(&shown) as u64);
-        send_updates(e, base_node_of(self.known, e), sent, shown, out);
-    }
+// The witness keeps what it looked at and tells it, in room that was made before.
+fn tell(real: &Real, witness: &mut Witness, glance: Glance, out: &mut Out<Msg>)
+    requires rising { IsStrictlySortedBy nat_cmp (map (λ s. s.entity) glance.seen.items) }
+    requires room { HasRoom witness.old.view glance.looks.items }
+    requires small { witness.old.sent + length glance.shown.shown < 2 ^ 62 }
+    requires out { is_empty out.old.items ≡ false → length glance.shown.shown ≤ out.old.spare }
+    ensures witness { witness_of witness.new ≡ told_these glance real.now.core (witness_of witness.old) }
+    ensures sent { let u = glance.shown in out.new.items ≡ out.old.items ++ numbered u.to u.entity u.sent u.shown }
+{
+    let Glance { seen, looks, shown } = glance;
+    witness.keep(&seen, &looks, real.version(), shown.len() as u64);
+    shown.send(out);
 }
 
 // The base node of the entity.
@@ -405,37 +343,12 @@ fn base_node_of(known: &Known, e: u32) -> u8
     MOST_CELLS as u8 + (e % known.settings.bases) as u8
 }
 
-// How many there are to show.
-fn count(shown: &VecDeque<Shown>) -> usize
-    ensures { result ≡ length shown.now.items }
-{
-    shown.len()
-}
-
 // Whether n more updates have small numbers.
 fn are_numbers_small(sent: u64, n: usize) -> bool
     ensures { result ≡ is_small_number (sent + n) }
 {
     let n = n as u64;
     is_small(sent) && is_small(n) && is_small(sent + n)
-}
-
-// Sends the updates that show these, numbered after those that were sent, to the base node, in room that was made before.
-fn send_updates(e: u32, to: u8, sent: u64, mut shown: VecDeque<Shown>, out: &mut Out<Msg>)
-    requires room { length shown.items ≤ out.old.spare }
-    requires small { sent + length shown.items < 2 ^ 62 }
-    ensures { out.new.items ≡ out.old.items ++ numbered to e sent shown.items }
-{
-    let mut number = sent;
-    while let Some(item) = shown.pop_front() {
-        number += 1;
-        let update = Update {
-            entity: e,
-            number,
-            shown: item,
-        };
-        out.send(to, Msg::Update(update));
-    }
 }
 
 // Whether the entity's real is here and has a witness.

@@ -154,7 +154,32 @@ impl Sight<'_> {
         Ok(seen)
     }
 
-    // What is near; none where it is not kept where reals and copies are. A copy counts only where the real is not here.
+    // What is known of the entities of both lists other than the own one. A copy counts only where the real is not here.
+    fn joined(
+        &self,
+        reals: &[(u32, Place)],
+        copies: &[(u32, Place)],
+    ) -> Result<Vec<Seen>, AllocError>
+        ensures { let only_copies = without_reals self.now.reals.now.items copies.now in
+            IfOk result (λ v. v.items ≡ map seen_at_place (filter (is_other self.now.own) (merged reals.now only_copies))) }
+    {
+        let only_copies = without_reals(self.alloc, self.reals, copies)?;
+        let seen = self.merged(reals, &only_copies)?;
+        Ok(seen)
+    }
+
+    /// All that is known of others, in rising number.
+    pub fn others(&self) -> Result<Vec<Seen>, AllocError>
+        ensures { (c : CellView) → let d = seeing c (here_in self.now.known.now) self.now.reals.now.items self.now.copies.now.ghosts in
+            IfOk result (λ v. v.items ≡ map seen_as (known_to d self.now.own)) }
+    {
+        let reals = self.reals.places(self.alloc)?;
+        let copies = self.copies.places(self.alloc)?;
+        let seen = self.joined(&reals, &copies)?;
+        Ok(seen)
+    }
+
+    // What is near; none where it is not kept where reals and copies are.
     fn near(&self, own: Pos, view: &View) -> Result<Option<Vec<Seen>>, AllocError>
         ensures { (c : CellView) → let d = seeing c (here_in self.now.known.now) self.now.reals.now.items self.now.copies.now.ghosts in
             IfOk result (λ o. IfSome o (λ v. v.items
@@ -171,8 +196,7 @@ impl Sight<'_> {
         };
         let near_reals = reals.within(own, reach)?;
         let near_copies = copies.within(own, reach)?;
-        let only_copies = without_reals(self.alloc, self.reals, &near_copies)?;
-        let seen = self.merged(&near_reals, &only_copies)?;
+        let seen = self.joined(&near_reals, &near_copies)?;
         Ok(Some(seen))
     }
 

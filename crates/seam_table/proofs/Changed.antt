@@ -6,10 +6,10 @@ use Rattle.std.specs.FinMap as map
 use Rattle.std.specs.FinMap.Entries.{is_sorted, below_all}
 
 module _ {X Y : Type 0} (f : X → Y) where
-  abbrev changed : List (ℕ × X) → List (ℕ × Y)
+  abbrev pub changed : List (ℕ × X) → List (ℕ × Y)
   changed = each (λ p. (p.0, f p.1))
 
-  abbrev with_changed : map.FinMap nat_cmp X → map.FinMap nat_cmp Y
+  abbrev pub with_changed : map.FinMap nat_cmp X → map.FinMap nat_cmp Y
   with_changed m = map.from_entries (changed (map.entries m))
 
   at_head : (b : Bool) (x : X) (o : Option X) → cond b (Some (f x)) (option_map f o) ≡ option_map f (cond b (Some x) o)

@@ -1,27 +1,22 @@
 -- What a table answers, by what its entries hold.
-use Rattle.std.proofs.Common.{◌≡◌, find, ℕ, Bool, true, false, not, cond, ◌||◌, ◌&&◌, List, [], ◌∷◌, Option, None, Some, refl, nat_eq}
-use Rattle.std.proofs.Common.{sym, ap, subst, ◌∙◌, arith, is_some, length}
+use Rattle.std.proofs.Common.{◌≡◌, ℕ, Bool, true, false, not, cond, ◌||◌, ◌&&◌, List, [], ◌∷◌, Option, None, Some, refl, nat_eq}
+use Rattle.std.proofs.Common.{sym, ap, ◌∙◌, arith, is_some}
 use Rattle.std.specs.Option.{option_flatten, IfSome}
 use Rattle.std.specs.Ordering.{nat_cmp, eq_by_cmp, is_eq}
 use Rattle.std.specs.Cmp.{nat_cmp_total}
 use Rattle.std.specs.Map.{lookup, keys_of}
 use Rattle.std.specs.BTreeMap.{is_at}
-use Rattle.std.specs.List.{filter, list_any, IsDistinct, AllByRecursion}
-use Rattle.std.specs.List.Sorted.{IsStrictlySortedBy}
-use Rattle.std.specs.declared.cmp.Ordering.TheVariants.{Less}
+use Rattle.std.specs.List.{list_any, IsDistinct}
 use Rattle.std.proofs.lemmas.Cmp.{nat_eq_equiv}
 use Rattle.std.proofs.lemmas.Map.{lookup-none}
 use Rattle.std.proofs.lemmas.Map.Entries.{none_past_head}
-use Rattle.std.proofs.lemmas.Map.Keys.{IsDistinct-tail, sorted_head, sorted_tail}
+use Rattle.std.proofs.lemmas.Map.Keys.{IsDistinct-tail}
 use Rattle.std.proofs.lemmas.Map.Made.{is_some-lookup}
-use Rattle.std.proofs.lemmas.Map.Views.{any-filter_same}
 use Rattle.std.proofs.lemmas.Bool.Decides.{nat_tests}
-use Rattle.std.specs.BTreeMap.Range.{range_contains}
-use Rattle.std.specs.declared.ops.Bound.TheVariants.{Unbounded}
 use Rattle.std.specs.FinMap as map
 use Rattle.std.specs.FinSet as set
-use Rattle.seam_table.specs.Tables.{TableView, with_item, without_item, without_room, is_after}
-use Rattle.seam_table.specs.Entries.{kept_before, kept, table_of, low_bound, IsIndexed, Writes}
+use Rattle.seam_table.specs.Tables.{TableView, with_item, without_item, without_room}
+use Rattle.seam_table.specs.Entries.{kept_before, kept, table_of, Writes}
 
 -- ---- numbers that are the same
 
@@ -199,10 +194,6 @@ none_or : {G : Type 0} (b : Bool) (r : Option G) → (b ≡ true → r ≡ None)
 none_or true r h = h refl
 none_or false r h = refl
 
-all_but : (b r : Bool) → (b ≡ true → r ≡ false) → r ≡ (not b && r)
-all_but true r h = h refl
-all_but false r h = refl
-
 module _ {T : Type 0} (old new : List (ℕ × Option T)) (e : ℕ) (d : IsDistinct nat_eq (keys_of old)) (n : IsDistinct nat_eq (keys_of new)) where
   without : (x : Option (Option T)) → option_flatten x ≡ None → ((q : ℕ) → lookup (nat_eq q) new ≡ cond (nat_eq e q) x (lookup (nat_eq q) old)) →
       (table_of new).items ≡ map.remove (table_of old).items e
@@ -253,84 +244,3 @@ module _ {T : Type 0} (ss : List (ℕ × Option T)) (e : ℕ) (d : IsDistinct na
   -- a table without an entry of the number is the table without its item, and without room for it
   pub table-absent : table_of ss ≡ without_item (table_of ss) e
   table-absent = λ i. record { items = items-absent i; room = (table_of ss).room }
-
-  pub room-absent : table_of ss ≡ without_room (table_of ss) e
-  room-absent =
-      let b =
-      set.same_set nat_cmp_total set.nat_cmp-IsAntisymmetric (table_of ss).room (set.remove (table_of ss).room e) (λ q.
-      all_but (eq_by_cmp nat_cmp q e) (set.contains (table_of ss).room q) (λ t. room-slot ss q ∙ ap is_some (absent_at q t))
-      ∙ sym (set.contains-remove nat_cmp_total (table_of ss).room e q)) in
-      λ i. record { items = items-absent i; room = b i }
-
--- ---- the numbers in order
-
--- the same numbers
-pub indexed_still : {T : Type 0} (old new : List (ℕ × Option T)) (order : List ℕ) → keys_of new ≡ keys_of old → IsIndexed old order → IsIndexed new order
-indexed_still old new order keys was = record {
-  distinct = subst (IsDistinct nat_eq) (sym keys) was.distinct;
-  rises = was.rises;
-  covers = λ q there. was.covers q
-      (is_some-lookup (nat_eq q) old ∙ ap (list_any (nat_eq q)) (sym keys) ∙ sym (is_some-lookup (nat_eq q) new) ∙ there);
-}
-
--- those of entries alone
-pub indexed_kept : {T : Type 0} (ss : List (ℕ × Option T)) (order rest : List ℕ) → IsIndexed ss order → IsStrictlySortedBy nat_cmp rest →
-    rest ≡ filter (λ n. is_some (lookup (nat_eq n) ss)) order → IsIndexed ss rest
-indexed_kept ss order rest was rises is = record {
-  distinct = was.distinct;
-  rises = rises;
-  covers = λ q there.
-      any_same q rest
-      ∙ ap (list_any (nat_eq q)) is
-      ∙ any-filter_same (nat_eq q) (λ n. is_some (lookup (nat_eq n) ss)) true
-      (λ n same. ap (λ k. is_some (lookup (nat_eq k) ss)) (number_is q n same) ∙ there) order
-      ∙ sym (any_same q order)
-      ∙ was.covers q there;
-}
-
--- ---- the entries in rising number
-
-put-slot : {T : Type 0} (k : ℕ) (g : T) (s : ℕ) (slot : Option T) (ss : List (ℕ × Option T)) → nat_cmp k s ≡ Less →
-    map.put nat_cmp k g (kept ss) ≡ (k, g) ∷ kept ss →
-    map.put nat_cmp k g (kept_before s slot (kept ss)) ≡ (k, g) ∷ kept_before s slot (kept ss)
-put-slot k g s None ss less rest = rest
-put-slot k g s (Some x) ss less rest = rw less refl
-
-put-below : {T : Type 0} (k : ℕ) (g : T) (ss : List (ℕ × Option T)) → AllByRecursion (λ y. nat_cmp k y ≡ Less) (keys_of ss) →
-    map.put nat_cmp k g (kept ss) ≡ (k, g) ∷ kept ss
-put-below k g [] h = refl
-put-below k g (s ∷ ss) h = put-slot k g s.0 s.1 ss h.0 (put-below k g ss h.1)
-
-no_length : {A : Type 0} (xs : List A) → length xs ≡ 0 → xs ≡ []
-no_length [] e = refl
-no_length (x ∷ xs) e = absurd (omega arith)
-
-entries-empty : {T : Type 0} → map.entries (map.empty {X = T} {R = nat_cmp}) ≡ []
-entries-empty = no_length _ (sym (map.len-entries map.empty) ∙ map.len-empty nat_cmp _)
-
-entries-slot : {T : Type 0} (s : ℕ) (slot : Option T) (ss : List (ℕ × Option T)) → AllByRecursion (λ y. nat_cmp s y ≡ Less) (keys_of ss) →
-    map.entries (map.from_entries {R = nat_cmp} (kept ss)) ≡ kept ss →
-    map.entries (map.from_entries {R = nat_cmp} (kept_before s slot (kept ss))) ≡ kept_before s slot (kept ss)
-entries-slot s None ss h rest = rest
-entries-slot s (Some g) ss h rest = map.entries-insert nat_cmp_total _ s g ∙ (ap (map.put nat_cmp s g) rest ∙ put-below s g ss h)
-
--- the entries of the finite map are those that have an item
-pub entries-kept : {T : Type 0} (ss : List (ℕ × Option T)) → IsStrictlySortedBy nat_cmp (keys_of ss) →
-    map.entries (table_of ss).items ≡ kept ss
-entries-kept [] o = entries-empty
-entries-kept (s ∷ ss) o =
-    entries-slot s.0 s.1 ss (sorted_head nat_cmp s.0 (keys_of ss) o) (entries-kept ss (sorted_tail nat_cmp s.0 (keys_of ss) o))
-
--- a search of a table without an entry
-pub nothing_found : {T : Type 0} (t : ℕ × T → Bool) (ss : List (ℕ × Option T)) → length ss ≡ 0 →
-    find t (map.entries (table_of ss).items) ≡ None
-nothing_found t ss e = ap (λ l. find t (map.entries (table_of l).items)) (no_length ss e) ∙ ap (find t) entries-empty
-
-pub kept_cond : {T : Type 0} (b : Bool) (s : ℕ) (slot : Option T) (ss : List (ℕ × Option T)) →
-    kept (cond b ((s, slot) ∷ ss) ss) ≡ cond b (kept_before s slot (kept ss)) (kept ss)
-kept_cond true s slot ss = refl
-kept_cond false s slot ss = refl
-
-pub from_low : (after : Option ℕ) (k : ℕ) → range_contains nat_cmp (low_bound after) Unbounded k ≡ is_after after k
-from_low None k = refl
-from_low (Some e) k = grind (arith, nat_tests)

@@ -1,4 +1,3 @@
 pub mod Changes
 pub mod Entries
 pub mod Tables
-pub mod Walks

@@ -1,6 +1,5 @@
 -- What contracts see of a table.
-use Rattle.std.specs.Prelude.{ℕ, Bool, true, nat_lt, map as each}
-use Rattle.std.specs.Prelude.{Option, None, Some}
+use Rattle.std.specs.Prelude.{ℕ, map as each}
 use Rattle.std.specs.Ordering.{nat_cmp}
 use Rattle.std.specs.FinMap as map
 use Rattle.std.specs.FinSet as set
@@ -28,11 +27,6 @@ without_item w n = record { items = map.remove w.items n; room = w.room }
 -- the table without an item of the number, and without room for one
 abbrev pub without_room : {T : Type 0} → TableView T → ℕ → TableView T
 without_room w n = record { items = map.remove w.items n; room = set.remove w.room n }
-
--- the number comes after the given one, or is any where none is given
-abbrev pub is_after : Option ℕ → ℕ → Bool
-is_after None n = true
-is_after (Some low) n = nat_lt low n
 
 -- the table with each item changed; the room stays
 abbrev pub with_each : {T : Type 0} → (T → T) → TableView T → TableView T

@@ -3,8 +3,8 @@
 //! Contracts see a table as a finite map, and beside it the numbers for which there is room. A call that is to change several tables, or
 //! all or none of them, makes room first and changes what cannot fail then.
 //!
-//! An item is found by the hash of its number. The numbers are kept in order beside the items, so that [`Table::iter`] goes over these in
-//! rising number; only a number that comes costs a search of that order. [`Table::change_each`] changes all items where they lie.
+//! An item is found by the hash of its number. [`Table::numbers`] gathers and sorts the numbers of all, for a walk over the items in
+//! rising number. [`Table::change_each`] changes all items where they lie.
 //!
 //! Of `proofs/`, `Found` (what a search of a table's entries finds) and `Changed` (what a table has after `change_each`) are for callers.
 #![tactic(auto)]
@@ -13,29 +13,21 @@ ghost use Rattle.std.specs.Prelude.{◌≡◌, ℕ, Bool, Some, find, true, fals
 ghost use Rattle.std.specs.Prelude.{None, nat_eq, is_some, option_map, option_copied, map as each};
 ghost use Rattle.std.specs.Option.{option_flatten};
 ghost use Rattle.std.specs.List.{filter, IsDistinct};
-ghost use Rattle.std.specs.Map.{keys_of, lookup};
+ghost use Rattle.std.specs.Map.{keys_of};
 ghost use Rattle.std.specs.FinMap as map;
 ghost use Rattle.std.specs.FinSet as set;
 ghost use Rattle.std.specs.Ordering.{nat_cmp};
-ghost use Rattle.seam_table.specs.Tables.{with_item, without_item, without_room, with_each, is_after};
+ghost use Rattle.seam_table.specs.Tables.{with_item, without_item, without_room, with_each};
 ghost use Rattle.seam_table.specs.Changes.{Leaves};
-ghost use Rattle.seam_table.specs.Entries.{table_of, low_bound, IsIndexed, Writes};
+ghost use Rattle.seam_table.specs.Entries.{table_of};
 
 use indexmap::IndexMap;
 use seam_memory::NoMemoryFor;
 use std::alloc::{AllocError, Global};
-use std::collections::BTreeSet;
 use std::marker::Model;
-use std::ops::Bound;
 
-mod items;
 #[cfg(test)]
 mod tests;
-
-pub use items::Items;
-
-// So many numbers of entries that are gone may be in a table's order beside as many as there are entries.
-const MOST_GONE: usize = 16;
 
 /// An item for some of the numbers.
 ///
@@ -44,8 +36,6 @@ const MOST_GONE: usize = 16;
 pub struct Table<T> {
     // An entry without an item is room for one.
     entries: IndexMap<u32, Option<T>>,
-    // The numbers of the entries, and some of entries that are gone, which most often come again.
-    order: BTreeSet<u32>,
 }
 
 impl<T> Model for Table<T> {
@@ -55,11 +45,14 @@ impl<T> Model for Table<T> {
 
     ghost coded = { table_code T.code };
 
-    ghost use Rattle.seam_table.specs.Entries.{table_of, IsIndexed};
+    ghost use Rattle.std.specs.Prelude.{nat_eq};
+    ghost use Rattle.std.specs.List.{IsDistinct};
+    ghost use Rattle.std.specs.Map.{keys_of};
+    ghost use Rattle.seam_table.specs.Entries.{table_of};
 
     ghost view = { λ t. table_of t.entries.entries };
 
-    ghost invariant = { λ t. IsIndexed t.entries.entries t.order.keys };
+    ghost invariant = { λ t. IsDistinct nat_eq (keys_of t.entries.entries) };
 }
 
 impl<T: Drop> Table<T> {
@@ -73,7 +66,6 @@ impl<T: Drop> Table<T> {
     {
         Table {
             entries: IndexMap::new(alloc),
-            order: BTreeSet::new(alloc),
         }
     }
 
@@ -114,7 +106,13 @@ impl<T: Drop> Table<T> {
         ensures err { OnErr result (self.new.room ≡ self.old.room) }
         ensures err_only_first { OnErr result (set.contains self.old.room n ≡ false) }
     {
-        make_entry(&mut self.entries, &mut self.order, n)
+        if self.has_room(n) {
+            return Ok(());
+        }
+        match self.entries.insert(n, None) {
+            Ok(_) => return Ok(()),
+            Err(_) => return Err(AllocError),
+        }
     }
 
     /// Puts the item in place of the one that the number had, if any, and gives that one.
@@ -127,7 +125,15 @@ impl<T: Drop> Table<T> {
         ensures err_item { IfErr result (λ r. r.item ≡ item) }
         ensures err_only_first { OnErr result (set.contains self.old.room n ≡ false) }
     {
-        write_entry(&mut self.entries, &mut self.order, n, item)
+        match self.entries.insert(n, Some(item)) {
+            Ok(old) => return Ok(old.flatten()),
+            Err(refused) => {
+                let Some(item) = refused.value.1 else {
+                    unreachable!()
+                };
+                return Err(NoMemoryFor { item });
+            }
+        }
     }
 
     /// Puts the item in place of the one that the number had, if any, and gives that one. There is room for it, so no memory is needed.
@@ -157,7 +163,7 @@ impl<T: Drop> Table<T> {
         ensures item { result ≡ map.get self.old.items n }
         ensures after { self.new ≡ without_room self.old n }
     {
-        remove_entry(&mut self.entries, &mut self.order, n)
+        self.entries.swap_remove(&n).flatten()
     }
 
     /// Changes each item where it lies.
@@ -169,140 +175,31 @@ impl<T: Drop> Table<T> {
         change_entries(&mut self.entries, &change);
     }
 
-    /// The items, with their numbers, in rising number.
-    pub fn iter(&self) -> Items<'_, T>
-        ensures { result ≡ map.entries self.now.items }
+    /// The numbers that have an item, in rising order.
+    pub fn numbers(&self, alloc: Global) -> Result<Vec<u32>, AllocError>
+        ensures { IfOk result (λ v. v.items ≡ map.keys self.now.items) }
     {
-        self.items_after(None)
+        let mut numbers = kept_numbers(&self.entries, alloc)?;
+        // Mostly they lie in rising order already, and the sort sees that at once.
+        numbers.sort_unstable();
+        Ok(numbers)
     }
+}
 
-    // The items whose numbers are greater than the given one, or all where none is given.
-    fn items_after(&self, after: Option<u32>) -> Items<'_, T>
-        ensures { result ≡ filter (λ p. is_after after p.0) (map.entries self.now.items) }
-    {
-        Items {
-            numbers: self.order.range((bound_after(after), Bound::Unbounded)),
-            entries: &self.entries,
+// The numbers of the entries that have an item, as they lie.
+fn kept_numbers<T>(
+    entries: &IndexMap<u32, Option<T>>,
+    alloc: Global,
+) -> Result<Vec<u32>, AllocError>
+    ensures { IfOk result (λ v. v.items ≡ keys_of (filter (λ s. is_some s.1) entries.now.entries)) }
+{
+    let mut numbers = Vec::with_capacity(alloc, entries.len())?;
+    for (n, slot) in entries.iter() {
+        if slot.is_some() {
+            numbers.push(*n)?;
         }
     }
-
-    /// The first item, in rising number, of those whose number is greater than the given one, or of all where none is given.
-    pub fn next_after(&self, after: Option<u32>) -> Option<(u32, &T)>
-        ensures { option_map (λ p. (p.0, p.1.now)) result ≡ find (λ p. is_after after p.0) (map.entries self.now.items) }
-    {
-        if self.entries.is_empty() {
-            return None;
-        }
-        let mut items = self.items_after(after);
-        items.next()
-    }
-}
-
-// The bound below the numbers that come after the given one.
-fn bound_after(after: Option<u32>) -> Bound<u32>
-    ensures { result ≡ low_bound after }
-{
-    match after {
-        Some(n) => Bound::Excluded(n),
-        None => Bound::Unbounded,
-    }
-}
-
-// Adds an entry of a number that has none.
-fn add_entry<T: Drop>(
-    entries: &mut IndexMap<u32, Option<T>>,
-    order: &mut BTreeSet<u32>,
-    n: u32,
-    slot: Option<T>,
-) -> Result<(), NoMemoryFor<Option<T>>>
-    requires indexed { IsIndexed entries.old.entries order.old.keys }
-    requires absent { lookup (nat_eq n) entries.old.entries ≡ None }
-    ensures indexed { IsIndexed entries.new.entries order.new.keys }
-    ensures added { OnOk result (Writes n slot entries.old.entries entries.new.entries) }
-    ensures err { OnErr result (entries.new.entries ≡ entries.old.entries) }
-    ensures err_item { IfErr result (λ r. r.item ≡ slot) }
-{
-    if order.insert(n).is_err() {
-        return Err(NoMemoryFor { item: slot });
-    }
-    match entries.insert(n, slot) {
-        Ok(_) => Ok(()),
-        Err(refused) => Err(NoMemoryFor {
-            item: refused.value.1,
-        }),
-    }
-}
-
-// Makes an entry without an item, where there is none.
-fn make_entry<T: Drop>(
-    entries: &mut IndexMap<u32, Option<T>>,
-    order: &mut BTreeSet<u32>,
-    n: u32,
-) -> Result<(), AllocError>
-    requires indexed { IsIndexed entries.old.entries order.old.keys }
-    ensures indexed { IsIndexed entries.new.entries order.new.keys }
-    ensures same { (table_of entries.new.entries).items ≡ (table_of entries.old.entries).items }
-    ensures room { OnOk result ((table_of entries.new.entries).room ≡ set.insert (table_of entries.old.entries).room n) }
-    ensures there { OnOk result (set.contains (table_of entries.new.entries).room n ≡ true) }
-    ensures err { OnErr result ((table_of entries.new.entries).room ≡ (table_of entries.old.entries).room) }
-    ensures err_only_first { OnErr result (set.contains (table_of entries.old.entries).room n ≡ false) }
-{
-    if entries.contains_key(&n) {
-        return Ok(());
-    }
-    match add_entry(entries, order, n, None) {
-        Ok(()) => return Ok(()),
-        Err(_) => return Err(AllocError),
-    }
-}
-
-// Writes an item over what the entry of the number had.
-fn write_over<T: Drop>(
-    entries: &mut IndexMap<u32, Option<T>>,
-    n: u32,
-    item: T,
-) -> Result<Option<T>, T>
-    ensures old { IfOk result (λ old. old ≡ option_flatten (lookup (nat_eq n) entries.old.entries)) }
-    ensures written { OnOk result (Writes n (Some item) entries.old.entries entries.new.entries) }
-    ensures numbers { keys_of entries.new.entries ≡ keys_of entries.old.entries }
-    ensures absent { OnErr result (lookup (nat_eq n) entries.old.entries ≡ None) }
-    ensures err { OnErr result (entries.new.entries ≡ entries.old.entries) }
-    ensures err_item { IfErr result (λ back. back ≡ item) }
-{
-    match entries.get_mut(&n) {
-        Some(slot) => Ok(std::mem::replace(slot, Some(item))),
-        None => Err(item),
-    }
-}
-
-// Writes an item over what the number had.
-fn write_entry<T: Drop>(
-    entries: &mut IndexMap<u32, Option<T>>,
-    order: &mut BTreeSet<u32>,
-    n: u32,
-    item: T,
-) -> Result<Option<T>, NoMemoryFor<T>>
-    requires indexed { IsIndexed entries.old.entries order.old.keys }
-    ensures indexed { IsIndexed entries.new.entries order.new.keys }
-    ensures old { IfOk result (λ old. old ≡ map.get (table_of entries.old.entries).items n) }
-    ensures after { OnOk result (table_of entries.new.entries ≡ with_item (table_of entries.old.entries) n item) }
-    ensures err { OnErr result (entries.new.entries ≡ entries.old.entries) }
-    ensures err_item { IfErr result (λ r. r.item ≡ item) }
-    ensures err_only_first { OnErr result (set.contains (table_of entries.old.entries).room n ≡ false) }
-{
-    let item = match write_over(entries, n, item) {
-        Ok(old) => return Ok(old),
-        Err(item) => item,
-    };
-    match add_entry(entries, order, n, Some(item)) {
-        Ok(()) => Ok(None),
-        Err(refused) => {
-            let Some(item) = refused.item else {
-                unreachable!()
-            };
-            Err(NoMemoryFor { item })
-        }
-    }
+    Ok(numbers)
 }
 
 // Leaves the entry of the number without an item.
@@ -314,53 +211,9 @@ fn empty_entry<T: Drop>(entries: &mut IndexMap<u32, Option<T>>, n: u32) -> Optio
     ensures numbers { keys_of entries.new.entries ≡ keys_of entries.old.entries }
 {
     match entries.get_mut(&n) {
-        Some(slot) => std::mem::replace(slot, None),
+        Some(slot) => slot.take(),
         None => None,
     }
-}
-
-// Removes the entry of the number.
-fn remove_entry<T: Drop>(
-    entries: &mut IndexMap<u32, Option<T>>,
-    order: &mut BTreeSet<u32>,
-    n: u32,
-) -> Option<T>
-    requires indexed { IsIndexed entries.old.entries order.old.keys }
-    ensures indexed { IsIndexed entries.new.entries order.new.keys }
-    ensures item { result ≡ map.get (table_of entries.old.entries).items n }
-    ensures after { table_of entries.new.entries ≡ without_room (table_of entries.old.entries) n }
-{
-    match entries.swap_remove(&n) {
-        Some(slot) => {
-            tidy(entries, order);
-            slot
-        }
-        None => None,
-    }
-}
-
-// Takes the numbers of entries that are gone out of the order, once they are more than those that are there, and more than a few.
-#[inline]
-fn tidy<T: Drop>(entries: &IndexMap<u32, Option<T>>, order: &mut BTreeSet<u32>)
-    requires { IsIndexed entries.now.entries order.old.keys }
-    ensures { IsIndexed entries.now.entries order.new.keys }
-{
-    if order.len() / 2 > entries.len().saturating_add(MOST_GONE / 2) {
-        keep_numbers(entries, order);
-    }
-}
-
-// Keeps the numbers of entries alone.
-#[inline(never)]
-fn keep_numbers<T: Drop>(entries: &IndexMap<u32, Option<T>>, order: &mut BTreeSet<u32>)
-    requires { IsIndexed entries.now.entries order.old.keys }
-    ensures { IsIndexed entries.now.entries order.new.keys }
-{
-    order.retain(
-        |n: &u32| -> bool
-            ensures { result ≡ is_some (lookup (nat_eq n.now) entries.entry.now.entries) }
-        { entries.contains_key(n) },
-    );
 }
 
 // Changes the entry's item, if it has one.

@@ -13,12 +13,10 @@ fn sent<T: Send>(value: T) -> T
 #[test]
 fn an_item_is_changed_in_the_room_that_it_left(rt: HostRuntime) -> Result<(), Fail> {
     let mut table = sent(Table::new(rt.alloc()));
-    assert_eq!(rt; table.next_after(None), None);
     assert_eq!(rt; table.put(7, 'p').is_ok(), true);
     table.reserve(2)?;
     assert!(rt; table.has_room(2) && !table.has_room(3));
     assert_eq!(rt; table.get(2), None);
-    assert_eq!(rt; table.next_after(None), Some((7, &'p')));
     assert_eq!(rt; table.take(7), Some('p'));
     assert_eq!(rt; table.get(7), None);
     table.reserve(7)?;
@@ -26,9 +24,7 @@ fn an_item_is_changed_in_the_room_that_it_left(rt: HostRuntime) -> Result<(), Fa
     table.reserve(2)?;
     assert_eq!(rt; table.put_reserved(2, 'r'), None);
     assert_eq!(rt; table.get(7), Some(&'q'));
-    assert_eq!(rt; table.next_after(None), Some((2, &'r')));
-    assert_eq!(rt; table.next_after(Some(2)), Some((7, &'q')));
-    assert_eq!(rt; table.next_after(Some(7)), None);
+    assert_eq!(rt; table.get(2), Some(&'r'));
     assert_eq!(rt; table.remove(2), Some('r'));
     assert!(rt; !table.has_room(2));
     assert_eq!(rt; table.remove(2), None);
@@ -36,18 +32,15 @@ fn an_item_is_changed_in_the_room_that_it_left(rt: HostRuntime) -> Result<(), Fa
 }
 
 #[test]
-fn the_items_come_in_rising_number(rt: HostRuntime) -> Result<(), Fail> {
+fn the_numbers_come_in_rising_order(rt: HostRuntime) -> Result<(), Fail> {
     let mut table = Table::new(rt.alloc());
-    assert_eq!(rt; table.iter().next(), None);
+    assert_eq!(rt; table.numbers(rt.alloc())?.as_slice(), [].as_slice());
     for n in [9, 2, 7, 4] {
         assert_eq!(rt; table.put(n, 10 * n).is_ok(), true);
     }
+    table.reserve(3)?;
     assert_eq!(rt; table.take(7), Some(70));
-    let mut items = table.iter();
-    assert_eq!(rt; items.next(), Some((2, &20)));
-    assert_eq!(rt; items.next(), Some((4, &40)));
-    assert_eq!(rt; items.next(), Some((9, &90)));
-    assert_eq!(rt; items.next(), None);
+    assert_eq!(rt; table.numbers(rt.alloc())?.as_slice(), [2, 4, 9].as_slice());
     Ok(())
 }
 
@@ -61,10 +54,9 @@ fn each_item_is_changed_where_it_lies(rt: HostRuntime) -> Result<(), Fail> {
     assert_eq!(rt; table.take(7), Some(70));
     table.change_each(|item| *item /= 2);
     assert!(rt; table.has_room(4) && table.has_room(7));
-    let mut items = table.iter();
-    assert_eq!(rt; items.next(), Some((2, &10)));
-    assert_eq!(rt; items.next(), Some((9, &45)));
-    assert_eq!(rt; items.next(), None);
+    assert_eq!(rt; table.get(2), Some(&10));
+    assert_eq!(rt; table.get(9), Some(&45));
+    assert_eq!(rt; table.get(7), None);
     Ok(())
 }
 

@@ -1,12 +1,11 @@
 -- Entities in view and entities that left stay apart.
-use Rattle.std.proofs.Common.{◌≡◌, ℕ, zero, suc, Bool, true, false, cond, not, ◌&&◌, ◌||◌, eqb, List, [], ◌∷◌, Option, None, Some}
-use Rattle.std.proofs.Common.{refl, sym, ap, ◌∙◌, subst}
+use Rattle.std.proofs.Common.{◌≡◌, ℕ, Bool, true, false, cond, not, ◌&&◌, ◌||◌, eqb, List, [], ◌∷◌, Option, None, Some}
+use Rattle.std.proofs.Common.{refl, sym, ap, ◌∙◌}
 use Rattle.std.specs.Map.{keys_of, lookup}
 use Rattle.std.specs.List.{IsDistinct, AllByRecursion, list_any}
-use Rattle.std.proofs.lemmas.Map.Keys.{IsDistinct-head, IsDistinct-tail}
-use Rattle.indexmap.specs.IndexMap.{set_value_at}
+use Rattle.std.proofs.lemmas.Map.Keys.{IsDistinct-head, IsDistinct-tail, IsDistinct-cons}
 use Rattle.seam_view.specs.declared.Look.{Look}
-use Rattle.seam_view.specs.Replica.{placed, without}
+use Rattle.seam_view.specs.Replica.{placed}
 use Rattle.seam_view.specs.Together.{leaves_next, looks_past, left_past_all, kept_past_all, AreApart}
 use Rattle.seam_view.proofs.Numbers.{number_is, differs_too, same_again, or_second}
 
@@ -40,32 +39,16 @@ module _ (e v : ℕ) (ls left : List (ℕ × ℕ)) (gone : lookup (eqb e) left �
   pub apart_when_entered : (es : List (ℕ × ℕ)) → AreApart es ls → AreApart (placed e v es) left
   apart_when_entered es h = placed_apart es (still_apart es h)
 
--- ---- one is set
+-- ---- one in view is set
 
-pub apart_when_set : (es ls : List (ℕ × ℕ)) (i v : ℕ) → AreApart es ls → AreApart (set_value_at es i v) ls
-apart_when_set [] ls i v h = tt
-apart_when_set (p ∷ es) ls zero v h = h
-apart_when_set (p ∷ es) ls (suc i) v h = (h.0, apart_when_set es ls i v h.1)
+not_left_by : (e : ℕ) (p : ℕ × ℕ) (es ls : List (ℕ × ℕ)) (b : Bool) → eqb e p.0 ≡ b → (b || list_any (λ p. eqb e p.0) es) ≡ true →
+    AreApart (p ∷ es) ls → (list_any (λ p. eqb e p.0) es ≡ true → lookup (eqb e) ls ≡ None) → lookup (eqb e) ls ≡ None
+not_left_by e p es ls true t h a rest = ap (λ x. lookup (eqb x) ls) (number_is e p.0 t) ∙ a.0
+not_left_by e p es ls false t h a rest = rest h
 
--- ---- one leaves
-
-module _ (e v : ℕ) (ls left : List (ℕ × ℕ)) (there : (q : ℕ) → lookup (eqb q) left ≡ cond (eqb e q) (Some v) (lookup (eqb q) ls)) where
-  others_apart : (es : List (ℕ × ℕ)) → AllByRecursion (λ y. eqb e y ≡ false) (keys_of es) → AreApart es ls → AreApart es left
-  others_apart [] a h = tt
-  others_apart (p ∷ es) a h =
-      (there p.0 ∙ (ap (λ b. cond b (Some v) (lookup (eqb p.0) ls)) a.0 ∙ h.0), others_apart es a.1 h.1)
-
-  without_by : (b : Bool) (p : ℕ × ℕ) (es : List (ℕ × ℕ)) → eqb e p.0 ≡ b → AllByRecursion (λ y. eqb p.0 y ≡ false) (keys_of es) →
-      AreApart (p ∷ es) ls → AreApart (without e es) left → AreApart (cond b es (p ∷ without e es)) left
-  without_by true p es t once h rest =
-      others_apart es (subst (λ x. AllByRecursion (λ y. eqb x y ≡ false) (keys_of es)) (sym (number_is e p.0 t)) once) h.1
-  without_by false p es t once h rest = (there p.0 ∙ (ap (λ b. cond b (Some v) (lookup (eqb p.0) ls)) t ∙ h.0), rest)
-
-  pub apart_when_left : (es : List (ℕ × ℕ)) → IsDistinct eqb (keys_of es) → AreApart es ls → AreApart (without e es) left
-  apart_when_left [] u h = tt
-  apart_when_left (p ∷ es) u h =
-      without_by (eqb e p.0) p es refl (IsDistinct-head eqb p.0 (keys_of es) u) h
-      (apart_when_left es (IsDistinct-tail eqb p.0 (keys_of es) u) h.1)
+pub not_left_when_in : (e : ℕ) (es ls : List (ℕ × ℕ)) → list_any (λ p. eqb e p.0) es ≡ true → AreApart es ls → lookup (eqb e) ls ≡ None
+not_left_when_in e [] ls h a = cc
+not_left_when_in e (p ∷ es) ls h a = not_left_by e p es ls (eqb e p.0) refl h a (λ i. not_left_when_in e es ls i a.1)
 
 -- ---- some leave together
 
@@ -106,6 +89,29 @@ unleft_kept looks (p ∷ es) m u h =
     ∙ (ap (λ b. cond (b && eqb p.0 p.0) (Some p.1) (m p.0)) stays ∙ h.0))
     (unleft_kept (looks_past p.0 looks) es n (IsDistinct-tail eqb p.0 (keys_of es) u)
     (others_unleft p (leaves_next p.0 looks) m es once h.1))
+
+absent_kept : (e : ℕ) (looks : List Look) (es : List (ℕ × ℕ)) → AllByRecursion (λ y. eqb e y ≡ false) (keys_of es) →
+    AllByRecursion (λ y. eqb e y ≡ false) (keys_of (kept_past_all looks es))
+absent_kept e looks [] h = tt
+absent_kept e looks (p ∷ es) h =
+    let rest = absent_kept e (looks_past p.0 looks) es h.1 in
+    let kept = kept_past_all (looks_past p.0 looks) es in
+    elim (leaves_next p.0 looks) as (λ b. AllByRecursion (λ y. eqb e y ≡ false) (keys_of (cond (not b) (p ∷ kept) kept))) [
+      | true ↦ rest
+      | false ↦ (h.0, rest)
+    ]
+
+-- each that the pass leaves in view is there once
+pub once_kept : (looks : List Look) (es : List (ℕ × ℕ)) → IsDistinct eqb (keys_of es) → IsDistinct eqb (keys_of (kept_past_all looks es))
+once_kept looks [] u = u
+once_kept looks (p ∷ es) u =
+    let rest = once_kept (looks_past p.0 looks) es (IsDistinct-tail eqb p.0 (keys_of es) u) in
+    let once = absent_kept p.0 (looks_past p.0 looks) es (IsDistinct-head eqb p.0 (keys_of es) u) in
+    let kept = kept_past_all (looks_past p.0 looks) es in
+    elim (leaves_next p.0 looks) as (λ b. IsDistinct eqb (keys_of (cond (not b) (p ∷ kept) kept))) [
+      | true ↦ rest
+      | false ↦ IsDistinct-cons eqb p.0 (keys_of kept) once rest
+    ]
 
 as_left : (left : List (ℕ × ℕ)) (m : ℕ → Option ℕ) → ((q : ℕ) → lookup (eqb q) left ≡ m q) → (es : List (ℕ × ℕ)) → Unleft m es →
     AreApart es left

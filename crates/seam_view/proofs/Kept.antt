@@ -57,7 +57,7 @@ once_placed_by e v p es false h u rest =
     IsDistinct-cons eqb p.0 (keys_of (placed e v es))
     (absent_placed p.0 e v es (differs_too e p.0 h) (IsDistinct-head eqb p.0 (keys_of es) u)) rest
 
-once_placed : (e v : ℕ) (es : List (ℕ × ℕ)) → IsDistinct eqb (keys_of es) → IsDistinct eqb (keys_of (placed e v es))
+pub once_placed : (e v : ℕ) (es : List (ℕ × ℕ)) → IsDistinct eqb (keys_of es) → IsDistinct eqb (keys_of (placed e v es))
 once_placed e v [] u = IsDistinct-cons eqb e [] tt u
 once_placed e v (p ∷ es) u = once_placed_by e v p es (eqb e p.0) refl u (once_placed e v es (IsDistinct-tail eqb p.0 (keys_of es) u))
 

@@ -9,6 +9,7 @@ use Rattle.std.proofs.lemmas.Map.Keys.{sorted_head, sorted_tail}
 use Rattle.std.proofs.lemmas.Bool.Decides.{nat_tests}
 use Rattle.seam_view.specs.declared.Seen.{Seen}
 use Rattle.seam_view.specs.Replica.{seen_of}
+use Rattle.seam_view.proofs.ByNumber.{rising_at}
 
 abbrev pub entities : List Seen → List ℕ
 entities known = map (λ s. s.entity) known
@@ -23,14 +24,7 @@ at_above x (s ∷ xs) zero d h lt = less_of x s.entity h.0
 at_above x (s ∷ xs) (suc k) d h lt = at_above x xs k d h.1 (omega (arith, lt))
 
 pub rising_when_sorted : (xs : List Seen) → IsStrictlySortedBy nat_cmp (entities xs) → IsNonDecreasingBy (λ s. s.entity) xs
-rising_when_sorted [] o i j d le lt = absurd (omega (arith, lt))
-rising_when_sorted (s ∷ xs) o zero zero d le lt = omega arith
-rising_when_sorted (s ∷ xs) o zero (suc j) d le lt =
-    let h = at_above s.entity xs j d (sorted_head nat_cmp s.entity (entities xs) o) (omega (arith, lt)) in
-    omega (arith, h)
-rising_when_sorted (s ∷ xs) o (suc i) zero d le lt = absurd (omega (arith, le))
-rising_when_sorted (s ∷ xs) o (suc i) (suc j) d le lt =
-    rising_when_sorted xs (sorted_tail nat_cmp s.entity (entities xs) o) i j d (omega (arith, le)) (omega (arith, lt))
+rising_when_sorted xs o = rising_at (λ s. s.entity) xs o
 
 is_same : (a b : ℕ) → a ≡ b → eqb a b ≡ true
 is_same a b e = grind (arith, nat_tests)

@@ -9,5 +9,7 @@ pub mod Falls
 pub mod PlainLooks
 pub mod Noted
 pub mod Apart
-pub mod Passed
 pub mod Room
+pub mod ByNumber
+pub mod Sent
+pub mod Closed

@@ -4,7 +4,7 @@ use Rattle.std.proofs.Common.{drop, length, get_or, slice_get, slice_set, Option
 use Rattle.std.proofs.Common.{unwrap_or}
 use Rattle.std.specs.Prelude.{nat_lt, nat_le, replicate}
 use Rattle.std.specs.Ordering.{nat_cmp}
-use Rattle.std.specs.Map.{keys_of, lookup_key}
+use Rattle.std.specs.Map.{keys_of}
 use Rattle.std.specs.List.{IsDistinct, AllByRecursion, filter, list_any}
 use Rattle.std.specs.List.Sorted.{IsStrictlySortedBy}
 use Rattle.std.specs.declared.cmp.Ordering.TheVariants.{Less}
@@ -23,7 +23,7 @@ use Rattle.seam_view.specs.Replica.{Replica, seen_of}
 use Rattle.seam_view.specs.Looks.{is_far, in_view, leaves, has_changed, not_older, enters, leaving, changed, entering}
 use Rattle.seam_view.specs.Notes.{note_of, notes_of, is_leave, is_change, noted}
 use Rattle.seam_view.proofs.Known.{entities}
-use Rattle.seam_view.proofs.Numbers.{number_is, apart, or_second, same_again}
+use Rattle.seam_view.proofs.Numbers.{apart, or_second, same_again}
 
 -- ---- the looks of the notes
 
@@ -164,15 +164,6 @@ noted_at f g e (p ∷ es) (suc i) q u k t same =
     let other : eqb p.0 e ≡ false = ap (eqb p.0) (sym t) ∙ key_at p.0 es i q (IsDistinct-head eqb p.0 (keys_of es) u) k in
     let turned : eqb e p.0 ≡ false = grind (arith, nat_tests) in
     λ j. same p turned j ∷ noted_at f g e es i q (IsDistinct-tail eqb p.0 (keys_of es) u) k t same j
-
-key_by : (e x k : ℕ) (b : Bool) (o : Option ℕ) → eqb e x ≡ b → cond b (Some x) o ≡ Some k → (o ≡ Some k → k ≡ e) → k ≡ e
-key_by e x k true o t h rest = let same : x ≡ k = ap (λ y. unwrap_or y x) h in sym same ∙ sym (number_is e x t)
-key_by e x k false o t h rest = rest h
-
--- the key that a look-up finds is the one that was looked for
-pub key_found : (e k : ℕ) (es : List (ℕ × ℕ)) → lookup_key (eqb e) es ≡ Some k → k ≡ e
-key_found e k [] h = cc
-key_found e k (p ∷ es) h = key_by e p.0 k (eqb e p.0) (lookup_key (eqb e) es) refl h (key_found e k es)
 
 -- an entity that is not in view is in no entry
 pub missing : (e : ℕ) (es : List (ℕ × ℕ)) → list_any (λ p. eqb e p.0) es ≡ false → AllByRecursion (λ y. eqb e y ≡ false) (keys_of es)

@@ -80,21 +80,6 @@ module _ (es new ls left : List (ℕ × ℕ)) (e v : ℕ) where
       ∙ (entered_by q (eqb e q) refl (here q) (others q)
       ∙ ap (cond (eqb e q) (Some v)) (sym (sought q es ls))))
 
-  left_by : (q : ℕ) (b : Bool) → eqb e q ≡ b → lookup (eqb e) es ≡ Some v → lookup (eqb q) new ≡ cond b None (lookup (eqb q) es) →
-      lookup (eqb q) left ≡ cond b (Some v) (lookup (eqb q) ls) →
-      option_or (lookup (eqb q) new) (lookup (eqb q) left) ≡ option_or (lookup (eqb q) es) (lookup (eqb q) ls)
-  left_by q true t at h k =
-      (λ i. option_or (h i) (k i)) ∙ ap (λ o. option_or o (lookup (eqb q) ls)) (sym at ∙ ap (λ x. lookup (eqb x) es) (number_is e q t))
-  left_by q false t at h k = λ i. option_or (h i) (k i)
-
-  -- the entity has left at the version that it had in view
-  pub shown_when_left : lookup (eqb e) es ≡ Some v → ((q : ℕ) → lookup (eqb q) new ≡ cond (eqb e q) None (lookup (eqb q) es)) →
-      ((q : ℕ) → lookup (eqb q) left ≡ cond (eqb e q) (Some v) (lookup (eqb q) ls)) →
-      versions.from_entries {R = nat_cmp} (new ++ left) ≡ versions.from_entries (es ++ ls)
-  shown_when_left at gone there =
-      same_shown (es ++ ls) (new ++ left) (λ q. sought q new left ∙ (left_by q (eqb e q) refl at (gone q) (there q)
-      ∙ sym (sought q es ls)))
-
 -- ---- pairs that are given
 
 given_by : (q : ℕ) (b : Bool) (p : ℕ × ℕ) (view shown : List (ℕ × ℕ)) → eqb q p.0 ≡ b →

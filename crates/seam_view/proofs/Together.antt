@@ -3,7 +3,6 @@ use Rattle.std.proofs.Common.{◌≡◌, ℕ, Bool, true, false, not, ◌&&◌, 
 use Rattle.std.proofs.Common.{ap, subst, ◌∙◌}
 use Rattle.std.specs.Option.{option_or}
 use Rattle.std.specs.Map.{keys_of, lookup}
-use Rattle.std.specs.Map.Calls.{RetainsPairs}
 use Rattle.std.specs.List.{IsDistinct, AllByRecursion}
 use Rattle.std.proofs.lemmas.Map.Keys.{IsDistinct-head, IsDistinct-tail}
 use Rattle.seam_view.specs.declared.Seen.{Seen}
@@ -12,16 +11,6 @@ use Rattle.seam_view.specs.declared.Look.TheVariants.{Leave, Set, Enter}
 use Rattle.seam_view.specs.Replica.{Replica, without, after_look}
 use Rattle.seam_view.specs.Together.{leaves_next, looks_past, looks_past_all, left_past_all, kept_past_all}
 use Rattle.seam_view.proofs.Numbers.{number_is, differs_too, either_way}
-
-module _ {F : Type 0} (T : F → ℕ → ℕ → Bool → ℕ → F → Type 0) (next : F → List Look)
-    (says : (f : F) (k v : ℕ) (b : Bool) (w : ℕ) (g : F) → T f k v b w g →
-    (b ≡ not (leaves_next k (next f))) × (w ≡ v) × (next g ≡ looks_past k (next f))) where
-  pub kept_when_retained : (es left : List (ℕ × ℕ)) (f : F) → RetainsPairs T f es left → left ≡ kept_past_all (next f) es
-  kept_when_retained [] left f h = h
-  kept_when_retained (e ∷ es) left f h =
-      let s = says f e.0 e.1 h.0 h.1 h.2 h.4 in
-      let rest = kept_when_retained es h.3 h.2 h.5 ∙ ap (λ looks. kept_past_all looks es) s.2 in
-      h.6 ∙ (λ j. cond (s.0 j) ((e.0, s.1 j) ∷ rest j) (rest j))
 
 abbrev Absent : ℕ → List (ℕ × ℕ) → Type 0
 Absent e es = AllByRecursion (λ p. eqb e p.0 ≡ false) es
@@ -135,3 +124,20 @@ shown_together q looks (p ∷ es) m u =
     (absent_of_keys p.0 es (IsDistinct-head eqb p.0 (keys_of es) u))
     (shown_together q (looks_past p.0 looks) es (λ x. cond (leaves_next p.0 looks && eqb p.0 x) (Some p.1) (m x))
     (IsDistinct-tail eqb p.0 (keys_of es) u))
+
+-- ---- one leaves alone
+
+none_taken : (es : List (ℕ × ℕ)) → kept_past_all [] es ≡ es
+none_taken [] = refl
+none_taken (p ∷ es) = ap (λ xs. p ∷ xs) (none_taken es)
+
+alone_by : (e : ℕ) (p : ℕ × ℕ) (es : List (ℕ × ℕ)) (b : Bool) → kept_past_all (Leave e ∷ []) es ≡ without e es →
+    cond (not b) (p ∷ kept_past_all (cond b [] (Leave e ∷ [])) es) (kept_past_all (cond b [] (Leave e ∷ [])) es)
+    ≡ cond b es (p ∷ without e es)
+alone_by e p es true rest = none_taken es
+alone_by e p es false rest = ap (λ xs. p ∷ xs) rest
+
+pub kept_alone : (e : ℕ) (es : List (ℕ × ℕ)) → kept_past_all (Leave e ∷ []) es ≡ without e es
+kept_alone e [] = refl
+kept_alone e (p ∷ es) =
+    alone_by e p es (eqb p.0 e) (kept_alone e es) ∙ ap (λ b. cond b es (p ∷ without e es)) (either_way p.0 e)

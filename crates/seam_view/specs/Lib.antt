@@ -3,3 +3,4 @@ pub mod Looks
 pub mod Plain
 pub mod Notes
 pub mod Together
+pub mod ByNumber

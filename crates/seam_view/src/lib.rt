@@ -28,10 +28,12 @@ ghost use Rattle.seam_view.specs.Notes.{note_of, notes_of, is_leave, is_change, 
 ghost use Rattle.seam_view.specs.Plain.{plain_look, AreNotOlder};
 
 use indexmap::IndexMap;
+use numbered::Entered;
 use seam_geo::{Pos, dist};
 use std::alloc::{AllocError, Global};
 use std::marker::Model;
 
+mod numbered;
 #[cfg(test)]
 mod tests;
 
@@ -77,7 +79,7 @@ pub struct View {
     alloc: Global,
     radius: u32,
     hysteresis: u32,
-    view: IndexMap<u32, u64>,
+    view: Entered,
     left: IndexMap<u32, u64>,
 }
 
@@ -100,7 +102,7 @@ impl Model for View {
         entries = v.view.entries;
         shown = from_entries (v.view.entries ++ v.left.entries);
       };
-      enters = spare v.view;
+      enters = v.view.room;
       leaves = spare v.left;
     } };
 
@@ -122,7 +124,7 @@ impl View {
             alloc,
             radius,
             hysteresis,
-            view: IndexMap::new(alloc),
+            view: Entered::new(alloc),
             left: IndexMap::new(alloc),
         }
     }
@@ -148,7 +150,7 @@ impl View {
     {
         let mut left = map_of(alloc, shown)?;
         take_out(&mut left, view);
-        let view = map_of(alloc, view)?;
+        let view = Entered::of_pairs(alloc, view)?;
         Ok(View {
             alloc,
             radius,
@@ -170,18 +172,15 @@ impl View {
     pub fn at(&self, i: usize) -> Option<(u32, u64)>
         ensures { result ≡ slice_get self.now.core.entries i }
     {
-        match self.view.get_index(i) {
-            Some((e, version)) => Some((*e, *version)),
-            None => None,
-        }
+        self.view.get(i)
     }
 
     /// The version last shown of the entity, also of one that left; none where it was never shown.
     pub fn shown(&self, e: u32) -> Option<u64>
         ensures { result ≡ versions.get self.now.core.shown e }
     {
-        match self.view.get(&e) {
-            Some(version) => Some(*version),
+        match self.view.find(e, &mut self.view.len()) {
+            Some((_, version)) => Some(version),
             None => self.shown_before(e),
         }
     }
@@ -248,22 +247,17 @@ impl View {
         }
     }
 
-    // The place of an entity in view, and the version that it was shown at. The place `next` is tried before all are searched.
-    fn place_in_view(&self, e: u32, next: usize) -> Option<(usize, u64)>
+    // The place of an entity in view, and the version that it was shown at. By number, those from `next` on are tried before all are
+    // searched, and `next` is then past the entity.
+    fn place_in_view(&self, e: u32, next: &mut usize) -> Option<(usize, u64)>
         ensures there { IfSome result (λ r. slice_get self.now.core.entries r.0 ≡ Some (e, r.1)) }
         ensures none { IfNone result (in_view self.now.core e ≡ false) }
     {
-        match self.view.get_index(next) {
-            Some((entity, version)) if *entity == e => Some((next, *version)),
-            _ => match self.view.get_full(&e) {
-                Some((i, _, version)) => Some((i, *version)),
-                None => None,
-            },
-        }
+        self.view.find(e, next)
     }
 
-    // What a look makes of each entity in view, in enter order, and the enters, in rising number. Each of those known is looked up
-    // once: entities have mostly entered in rising number, so the one after the last that was found is the first guess.
+    // What a look makes of each entity in view, in enter order, and the enters, in rising number. Those in view are
+    // gone through by number beside those known.
     fn note_known(&self, own: Pos, known: &[Seen]) -> Result<(Vec<Note>, Vec<Look>), AllocError>
         requires { IsStrictlySortedBy nat_cmp (map (λ s. s.entity) known.now) }
         ensures notes { IfOk result (λ r. r.0.items ≡ notes_of self.now.core own known.now) }
@@ -273,10 +267,9 @@ impl View {
         let mut enters = Vec::new(self.alloc);
         let mut next = 0;
         for seen in known {
-            match self.place_in_view(seen.entity, next) {
+            match self.place_in_view(seen.entity, &mut next) {
                 Some((i, version)) => {
                     notes[i] = self.note(own, version, seen);
-                    next = i + 1;
                 }
                 None => {
                     if self.is_entering(own, seen) {
@@ -293,10 +286,10 @@ impl View {
         requires { i < length self.now.core.entries }
         ensures { slice_get (keys_of self.now.core.entries) i ≡ Some result }
     {
-        let Some((e, _)) = self.view.get_index(i) else {
+        let Some((e, _)) = self.view.get(i) else {
             unreachable!()
         };
-        *e
+        e
     }
 
     // Appends the leaves to the looks, in enter order, and the sets to theirs.
@@ -359,29 +352,17 @@ impl View {
         ensures enters { self.old.enters ≤ self.new.enters }
         ensures leaves { self.old.leaves ≤ self.new.leaves + 1 }
     {
-        let Some(version) = self.view.shift_remove(&e) else {
-            return;
-        };
-        let Ok(_) = self.left.insert(e, version) else {
-            unreachable!()
-        };
+        let _ = self.view.take_out(&mut self.left, &[Look::Leave(e)]);
     }
 
-    // Shows an entity in view at this version. The place `next` is tried first, and is then the one past the entity's.
+    // Shows an entity in view at this version. It is looked for by number from `next` on.
     fn set(&mut self, e: u32, version: u64, next: &mut usize)
         requires { in_view self.old.core e ≡ true }
         ensures core { self.new.core ≡ with_version_shown self.old.core e version }
         ensures enters { self.old.enters ≤ self.new.enters }
         ensures leaves { self.old.leaves ≤ self.new.leaves }
     {
-        let Some((i, _)) = self.place_in_view(e, *next) else {
-            unreachable!()
-        };
-        *next = i.saturating_add(1);
-        let Some(shown) = self.view.get_index_mut(i) else {
-            unreachable!()
-        };
-        *shown = version;
+        self.view.show(e, version, next);
     }
 
     // Sets an entity as it is known.
@@ -397,36 +378,34 @@ impl View {
         }
     }
 
-    // Shows an entity that enters at this version.
-    fn enter(&mut self, e: u32, version: u64)
+    // Shows an entity that enters at this version. Its place by number is looked for from `next` on.
+    fn enter(&mut self, e: u32, version: u64, next: &mut usize)
         requires place { 0 < self.old.enters }
         ensures core { self.new.core ≡ with_version_shown self.old.core e version }
         ensures enters { self.old.enters ≤ self.new.enters + 1 }
         ensures leaves { self.old.leaves ≤ self.new.leaves }
     {
-        let Ok(_) = self.view.insert(e, version) else {
-            unreachable!()
-        };
+        self.view.show(e, version, next);
         if !self.left.is_empty() {
             let _ = self.left.swap_remove(&e);
         }
     }
 
     // Lets an entity enter as it is known.
-    fn enter_known(&mut self, e: u32, seen: Option<&Seen>)
+    fn enter_known(&mut self, e: u32, seen: Option<&Seen>, next: &mut usize)
         requires place { 0 < self.old.enters }
         ensures core { self.new.core ≡ after_showing self.old.core e (option_copied seen.entry) }
         ensures enters { self.old.enters ≤ self.new.enters + 1 }
         ensures leaves { self.old.leaves ≤ self.new.leaves }
     {
         match seen {
-            Some(seen) => self.enter(e, seen.version),
+            Some(seen) => self.enter(e, seen.version, next),
             None => return,
         }
     }
 
-    // Keeps one look. What is known of its entity is looked for from the place `from` on, and its place in view at `next`; both then
-    // go on past it.
+    // Keeps one look. What is known of its entity is looked for from the place `from` on, and the entity in view from `next` on, by
+    // number; both then go on past it.
     fn keep_look(&mut self, known: &[Seen], look: &Look, from: &mut usize, next: &mut usize)
         requires rising { IsStrictlySortedBy nat_cmp (map (λ s. s.entity) known.now) }
         requires room { HasRoom self.old (look.now ∷ []) }
@@ -437,7 +416,7 @@ impl View {
         match look {
             Look::Leave(e) => self.leave(*e),
             Look::Set(e) => self.set_known(*e, find_seen(known, *e, from), next),
-            Look::Enter(e) => self.enter_known(*e, find_seen(known, *e, from)),
+            Look::Enter(e) => self.enter_known(*e, find_seen(known, *e, from), next),
         }
     }
 
@@ -452,9 +431,7 @@ impl View {
         let Some(Look::Leave(_)) = looks.first() else {
             return looks;
         };
-        let rest = note_left(&self.view, &mut self.left, looks);
-        leave_in_turn(&mut self.view, looks);
-        rest
+        self.view.take_out(&mut self.left, looks)
     }
 
     /// Keeps the looks that `plan` gave for what is known: they have been shown from now on. It takes no memory.
@@ -491,94 +468,6 @@ fn take_out(from: &mut IndexMap<u32, u64>, pairs: &[(u32, u64)])
 {
     for (e, _) in pairs {
         let _ = from.swap_remove(e);
-    }
-}
-
-// Puts the entities whose leaves come first among the looks, in enter order, among those that left, with the versions that they have
-// in view. The looks past these leaves remain.
-fn note_left<'a>(
-    view: &IndexMap<u32, u64>,
-    left: &mut IndexMap<u32, u64>,
-    looks: &'a [Look],
-) -> &'a [Look]
-    requires room { leaves_in looks.now ≤ spare left.old }
-    ensures rest { result.now ≡ looks_past_all looks.now view.now.entries }
-    ensures left { (q : ℕ) → lookup (nat_eq q) left.new.entries
-        ≡ left_past_all looks.now view.now.entries (λ x. lookup (nat_eq x) left.old.entries) q }
-    ensures room { leaves_in result.now ≤ spare left.new }
-    ensures once { IsDistinct nat_eq (keys_of view.now.entries) }
-{
-    // `len` is called for its clause that each entity is in view once.
-    let _ = view.len();
-    let mut rest = looks;
-    let mut from = 0;
-    while let Some((e, after)) = first_leave(rest) {
-        let Some((i, version)) = place_from(view, e, from) else {
-            return rest;
-        };
-        let Ok(_) = left.insert(e, version) else {
-            unreachable!()
-        };
-        from = i + 1;
-        rest = after;
-    }
-    rest
-}
-
-// The place of the entity in view, from this one on, and its version.
-fn place_from(view: &IndexMap<u32, u64>, e: u32, from: usize) -> Option<(usize, u64)>
-    requires { IsDistinct nat_eq (keys_of view.now.entries) }
-    ensures there { IfSome result (λ r. (from ≤ r.0) × (slice_get view.now.entries r.0 ≡ Some (e, r.1))) }
-    ensures none { IfNone result (list_any (λ p. nat_eq e p.0) (drop from view.now.entries) ≡ false) }
-{
-    match view.get_full(&e) {
-        Some((i, _, version)) if from <= i => Some((i, *version)),
-        _ => None,
-    }
-}
-
-// Takes the entities whose leaves come first among the looks, in enter order, out of those in view, in one pass over them.
-fn leave_in_turn(view: &mut IndexMap<u32, u64>, looks: &[Look])
-    ensures kept { view.new.entries ≡ kept_past_all looks.now view.old.entries }
-    ensures room { spare view.old ≤ spare view.new }
-    ensures once { IsDistinct nat_eq (keys_of view.new.entries) }
-{
-    let mut next = looks;
-    view.retain(
-        |e: &u32, version: &mut u64| -> bool
-            ensures { (result ≡ not (leaves_next e.now next.entry.now)) × (next.exit.now ≡ looks_past e.now next.entry.now)
-                × (version.new ≡ version.old) }
-        {
-            match past_leave(next, *e) {
-                Some(rest) => {
-                    next = rest;
-                    false
-                }
-                None => true,
-            }
-        },
-    );
-}
-
-// The entity of the first of the looks, where that is a leave, and the looks past it.
-fn first_leave(looks: &[Look]) -> Option<(u32, &[Look])>
-    ensures some { IfSome result (λ r. looks.now ≡ Leave r.0 ∷ r.1.now) }
-    ensures none { IfNone result ((e : ℕ) → leaves_next e looks.now ≡ false) }
-{
-    match looks.split_first() {
-        Some((Look::Leave(e), rest)) => Some((*e, rest)),
-        _ => None,
-    }
-}
-
-// The looks past the first, where that is the leave of the entity.
-fn past_leave(looks: &[Look], e: u32) -> Option<&[Look]>
-    ensures leaves { is_some result ≡ leaves_next e looks.now }
-    ensures past { IfSome result (λ rest. rest.now ≡ drop 1 looks.now) }
-{
-    match first_leave(looks) {
-        Some((first, rest)) if first == e => Some(rest),
-        _ => None,
     }
 }
 

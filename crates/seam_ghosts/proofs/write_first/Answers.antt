@@ -6,8 +6,8 @@ use Rattle.seam_ghosts.proofs.write_first.Goals as goal
 
 pub returns-in_err-put-clause-book : goal.returns-in_err-put-clause-book
 returns-in_err-put-clause-book g c =
-    book_begun c.args.beats.now c.reserve.new.self c.args.copies.now c.put.new.self c.args.e c.requires.book c.in-Ok.ensures.same
-    c.in-Ok.ensures.room c.in_err-put.ensures.err
+    book_begun c.args.beats.now c.reserve.new.self c.args.copies.now c.put.new.self c.requires.book c.in-Ok.ensures.same
+    c.in_err-put.ensures.err
 
 pub returns-clause-after : goal.returns-clause-after
 returns-clause-after g c =
@@ -22,5 +22,4 @@ pub returns-clause-book : goal.returns-clause-book
 returns-clause-book g c =
     rw (c.put_reserved.ensures.after, c.in_ok-put.ensures.after)
     (book_put c.reserve.new.self c.args.copies.now c.args.e c.args.beat c.args.copy
-    (book_begun c.args.beats.now c.reserve.new.self c.args.copies.now c.args.copies.now c.args.e c.requires.book
-    c.in-Ok.ensures.same c.in-Ok.ensures.room refl))
+    (book_begun c.args.beats.now c.reserve.new.self c.args.copies.now c.args.copies.now c.requires.book c.in-Ok.ensures.same refl))

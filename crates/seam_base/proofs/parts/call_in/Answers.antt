@@ -4,7 +4,7 @@ use Rattle.seam_entity.specs.Orders.{order_of}
 use Rattle.seam_base.specs.Nodes.{here_in, has_call, has_update}
 use Rattle.seam_base.specs.Parts.{with_call}
 use Rattle.seam_base.specs.Marks.{marked}
-use Rattle.seam_base.proofs.Marks.{changed, unchanged, pass_alike, marks_put}
+use Rattle.seam_base.proofs.Marks.{changed, unchanged, pass_alike, marks_put, marked_then}
 use Rattle.seam_base.proofs.PartLemmas.{on_ok, on_err, either_way, offered_same}
 use Rattle.seam_base.proofs.parts.call_in.Goals as goal
 
@@ -21,8 +21,9 @@ returns-clause-err c = on_err c.offer-done.result
 pub returns-clause-marks : goal.returns-clause-marks
 returns-clause-marks c =
     marks_put c.args.items.now.items c.args.call.entity c.in-Some.part.now c.offer-done.new.self _ c.in-Some.ensures.item refl has_call
-    c.args.calls.now.items c.mark.new.marks.items tt c.requires.marks
-    (c.mark.ensures ∙ (λ i. marked (c.is_ready.ensures i) (c.reserve.ensures.same i) c.args.call.entity tt))
+    c.args.calls.now c.mark.new.marks tt c.requires.marks
+    (c.mark.ensures
+    ∙ ((λ i. marked (c.is_ready.ensures i) (c.in-Ok.ensures.ok i) c.args.call.entity tt) ∙ marked_then _ c.args.calls.now c.args.call.entity))
 
 pub returns-clause-others : goal.returns-clause-others
 returns-clause-others c =

@@ -1,4 +1,4 @@
-use Rattle.std.proofs.Common.{◌≡◌, if◌then◌else◌, ap, refl, sym, ◌∙◌}
+use Rattle.std.proofs.Common.{if◌then◌else◌, ap, refl, sym, ◌∙◌}
 use Rattle.std.specs.FinMap as table
 use Rattle.seam_steps.specs.BaseCases.{stray_update}
 use Rattle.seam_base.specs.Nodes.{has_call, has_update}

@@ -2,7 +2,7 @@ use Rattle.std.proofs.Common.{◌≡◌, sym, ap, subst, option_map, ◌∙◌}
 use Rattle.seam_entity.specs.Executing.{executed, shows, with_offer}
 use Rattle.seam_steps.specs.Settle.{settled}
 use Rattle.seam_parts.specs.Kept.{here_in}
-use Rattle.seam_parts.specs.Stepping.{IsReadyFor, IsDone, PartsView, parts_of, slot_in, core_of}
+use Rattle.seam_parts.specs.Stepping.{IsReadyFor, IsDone, parts_of, slot_in, core_of}
 use Rattle.seam_cell.proofs.CallLemmas.{CanCall, can_call, after_is, executed_rises}
 use Rattle.seam_cell.proofs.calls.execute_turn.Goals as goal
 
@@ -40,6 +40,10 @@ settle_real-requires-clause-generation c =
     (executed_rises (here_in c.args.known.now) c.args.turn.real.core c.execute_after.new.self.core c.args.turn.call c.requires.may
     (executed_is c)).generation
 
+pub settle_real-requires-clause-entity : goal.settle_real-requires-clause-entity
+settle_real-requires-clause-entity c =
+    ap (λ x. x.entity) (c.in-Ok-begin.ensures.begun.telling ∙ c.in-Ok.ensures.ready.telling) ∙ ap (λ x. x.entity) (sym (executed_is c))
+
 pub returns-clause-done : goal.returns-clause-done
 returns-clause-done c =
     let h = here_in c.args.known.now in
@@ -48,19 +52,12 @@ returns-clause-done c =
     let k = c.args.turn.call in
     let left = option_map core_of c.settle_real.result in
     let after = parts_of c.settle_real.new.places c.settle_real.new.out in
-    let made = parts_of c.make_room.new.places c.make_room.new.out in
+    let before = parts_of c.args.places.now c.args.out.now in
     let is : c.execute_after.new.self.core ≡ executed h r k =
     c.execute_after.ensures
     ∙ ap (λ x. with_offer x k)
     (after_is h r c.make_for_call.new.real.core c.in-Ok.made.after k c.in-Ok.ensures.same c.in-Ok.ensures.state c.in-Ok.ensures.changed)
     in
     let ready = subst (λ x. IsReadyFor h t x (shows h r k) c.in-Ok.made.ready) (sym is) c.in-Ok.ensures.ready in
-    let done = c.settle_real.ensures.done h t (shows h r k) r ready in
-    let parts : made ≡ parts_of c.args.places.now c.args.out.now =
-    λ i. record {
-      nexts = c.make_room.ensures.same_nexts i;
-      ghosts = c.make_room.ensures.same_book i;
-      sent = c.make_room.ensures.same_out i;
-    } in
-    subst (λ w. IsDone (settled h t (slot_in w r.entity r) (executed h r k) (shows h r k)) r.entity r left w after) parts
-    (subst (λ x. IsDone (settled h t (slot_in made x.entity r) x (shows h r k)) x.entity r left made after) is done)
+    let done = c.settle_real.ensures.done h t (shows h r k) r c.in-Ok.made.ready before ready c.in-Ok-begin.ensures.begun in
+    subst (λ x. IsDone (settled h t (slot_in before x.entity r) x (shows h r k)) x.entity r left before after) is done

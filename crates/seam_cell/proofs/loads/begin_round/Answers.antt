@@ -1,9 +1,17 @@
-use Rattle.std.proofs.Common.{refl, sym, ap, ◌∙◌}
+use Rattle.std.proofs.Common.{refl, sym, ap, subst, ◌∙◌}
+use Rattle.std.specs.List.Sorted.{IsStrictlySortedBy}
+use Rattle.std.specs.Ordering.{nat_cmp}
+use Rattle.std.specs.FinMap as table
 use Rattle.seam_entity.specs.Executing.{real_begins}
 use Rattle.seam_steps.specs.Cells.{real_is_ready, has_witness}
 use Rattle.seam_parts.specs.Kept.{marked}
-use Rattle.seam_cell.proofs.RoundLemmas.{marks_stay}
+use Rattle.seam_cell.proofs.RoundLemmas.{marks_stay, keys_rise}
 use Rattle.seam_cell.proofs.loads.begin_round.Goals as goal
+
+pub of-requires : goal.of-requires
+of-requires c =
+    let m = c.args.reals.now.items.items in
+    subst (IsStrictlySortedBy nat_cmp) (sym c.in_ok-all.ensures) (keys_rise (table.entries m) (table.entries_sorted m))
 
 pub returns-clause-kept : goal.returns-clause-kept
 returns-clause-kept c =

@@ -1,4 +1,4 @@
-use Rattle.std.proofs.Common.{◌≡◌, sym, ap, subst, option_map, is_some, not, Some, ◌∙◌}
+use Rattle.std.proofs.Common.{sym, ap, subst, option_map, is_some, not, Some, ◌∙◌}
 use Rattle.std.specs.FinMap as table
 use Rattle.seam_entity.specs.Looks.{with_witness}
 use Rattle.seam_steps.specs.Maps.{set_at}

@@ -1,4 +1,4 @@
-use Rattle.std.proofs.Common.{◌≡◌, sym, ap, subst, is_some, ◌∙◌}
+use Rattle.std.proofs.Common.{sym, ap, subst, is_some, ◌∙◌}
 use Rattle.std.specs.FinMap as table
 use Rattle.seam_parts.specs.Kept.{IsOpen}
 use Rattle.seam_cell.proofs.loads.make_real.Goals as goal

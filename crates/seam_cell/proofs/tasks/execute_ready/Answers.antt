@@ -1,9 +1,8 @@
-use Rattle.std.proofs.Common.{◌≡◌, Some, sym, ap, subst, option_map, ◌∙◌}
+use Rattle.std.proofs.Common.{◌≡◌, sym, ap, subst, option_map, ◌∙◌}
 use Rattle.std.proofs.lemmas.Option.{IfSome_then}
 use Rattle.seam_order.specs.Offers.{after_taking}
 use Rattle.seam_entity.specs.Executing.{executed_ready, shows, with_order}
 use Rattle.seam_steps.specs.Settle.{settled}
-use Rattle.seam_steps.specs.CellCases.{ready_call_task}
 use Rattle.seam_parts.specs.Kept.{here_in}
 use Rattle.seam_parts.specs.Stepping.{IsReadyFor, IsDone, parts_of, slot_in, core_of}
 use Rattle.seam_cell.proofs.CallLemmas.{after_is}
@@ -39,7 +38,8 @@ settle_real-requires-clause-generation c =
 pub settle_real-requires-clause-entity : goal.settle_real-requires-clause-entity
 settle_real-requires-clause-entity c =
     let task = readied c.args.real.core c.requires.ready in
-    ap (λ x. x.entity) (c.in-Ok.ensures.ready task.order task.call task.is).telling ∙ ap (λ x. x.entity) (sym (executed_is c))
+    ap (λ x. x.entity) (c.in-Ok-begin.ensures.begun.telling ∙ (c.in-Ok.ensures.ready task.order task.call task.is).telling)
+    ∙ ap (λ x. x.entity) (sym (executed_is c))
 
 pub returns-clause-done : goal.returns-clause-done
 returns-clause-done c =
@@ -52,23 +52,15 @@ returns-clause-done c =
     let k = task.call in
     let left = option_map core_of c.settle_real.result in
     let after = parts_of c.settle_real.new.places c.settle_real.new.out in
-    let made = parts_of c.make_room.new.places c.make_room.new.out in
     let before = parts_of c.args.places.now c.args.out.now in
     let is : c.execute_ready_after.new.self.core ≡ executed_ready h r o k =
     c.execute_ready_after.ensures o k (same_ready r q o k c.in-Ok.ensures.same task.is)
     ∙ ap (λ x. with_order x o.0 (after_taking o.1))
     (after_is h r q c.in-Ok.made.after k c.in-Ok.ensures.same (c.in-Ok.ensures.state o k task.is) (c.in-Ok.ensures.changed o k task.is)) in
     let ready = subst (λ x. IsReadyFor h t x (shows h r k) c.in-Ok.made.ready) (sym is) (c.in-Ok.ensures.ready o k task.is) in
-    let done = c.settle_real.ensures.done h t (shows h r k) r ready in
-    let parts : made ≡ before =
-    λ i. record {
-      nexts = c.make_room.ensures.same_nexts i;
-      ghosts = c.make_room.ensures.same_book i;
-      sent = c.make_room.ensures.same_out i;
-    } in
+    let done = c.settle_real.ensures.done h t (shows h r k) r c.in-Ok.made.ready before ready c.in-Ok-begin.ensures.begun in
     subst (λ s. IsDone s r.entity r left before after) (sym (task_is h t (slot_in before r.entity r) r o k task.is))
-    (subst (λ w. IsDone (settled h t (slot_in w r.entity r) (executed_ready h r o k) (shows h r k)) r.entity r left w after) parts
-    (subst (λ x. IsDone (settled h t (slot_in made x.entity r) x (shows h r k)) x.entity r left made after) is done))
+    (subst (λ x. IsDone (settled h t (slot_in before x.entity r) x (shows h r k)) x.entity r left before after) is done)
 
 pub returns-clause-witness : goal.returns-clause-witness
 returns-clause-witness c =

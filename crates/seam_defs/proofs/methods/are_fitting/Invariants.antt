@@ -1,4 +1,4 @@
-use Rattle.seam_defs.specs.Running.{ArgsFitBelow}
+use Rattle.seam_defs.specs.Fitting.{ArgsFitBelow}
 use Rattle.seam_defs.proofs.methods.are_fitting.Given as goal
 
 abbrev pub invariant-loop-i : goal.invariant-loop-i

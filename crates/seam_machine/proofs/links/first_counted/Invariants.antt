@@ -1,9 +1,5 @@
-use Rattle.std.proofs.Common.{false}
 use Rattle.seam_machine.specs.Inside.{FirstAre}
 use Rattle.seam_machine.proofs.links.first_counted.Given as goal
 
 abbrev pub invariant-loop-k : goal.invariant-loop-k
-invariant-loop-k l = record {
-  unmarked : FirstAre false l.k l.marks;
-  uncounted : FirstAre 0 l.k l.busy.items;
-}
+invariant-loop-k l = FirstAre 0 l.k l.busy.items

@@ -2,9 +2,17 @@ use Rattle.std.proofs.Common.{◌≡◌, ◌++◌, ap, sym, ◌∙◌, arith}
 use Rattle.seam_entity.specs.Executing.{copy_with}
 use Rattle.seam_entity.specs.Preparing.{node_with}
 use Rattle.seam_parts.specs.News.{word, said, listed, news}
-use Rattle.seam_parts.proofs.NewsLemmas.{news_more, news_same}
+use Rattle.seam_parts.proofs.NewsLemmas.{news_more, news_same, news_none}
 use Rattle.seam_parts.proofs.news.gather.Goals as goal
 use Rattle.seam_parts.proofs.news.gather.Goals.{then-holds+in_ok-add, else-holds+else-holds-2}
+
+pub returns-then-has_no_haunt : goal.returns-then-has_no_haunt
+returns-then-has_no_haunt c me settings =
+    let of = c.args.of.now in
+    let none = c.has_no_haunt.ensures.0 c.if-has_no_haunt.true in
+    c.new-so_far.ensures.items
+    ∙ sym (news_none c.args.t.now (copy_with (node_with of.defs.now me settings) of.ty of.version of.state.now) 16
+    none.0 none.1)
 
 pub loop-k-preserved : goal.loop-k-preserved
 loop-k-preserved c me settings =

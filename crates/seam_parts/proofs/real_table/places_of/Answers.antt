@@ -1,20 +1,32 @@
-use Rattle.std.proofs.Common.{ap, ◌∙◌}
+use Rattle.std.proofs.Common.{◌++◌, [], ◌∷◌, get_or, ap, ◌∙◌}
 use Rattle.std.specs.FinMap as map
 use Rattle.seam_parts.specs.Spots.{place_of_real}
-use Rattle.seam_parts.proofs.SpotLemmas.{none_noted, noted_more, reals_noted}
+use Rattle.seam_parts.proofs.SpotLemmas.{find_real, never_missing, placed_more, all_placed}
 use Rattle.seam_parts.proofs.real_table.places_of.Goals as goal
 
-pub loop-e-init : goal.loop-e-init
-loop-e-init c =
-    none_noted place_of_real (map.entries c.args.items.now.items) c.iter-walk.result c.new-list.result c.iter-walk.ensures c.new-list.ensures
+pub unreachable-requires : goal.unreachable-requires
+unreachable-requires c =
+    let m = c.args.items.now.items in
+    let ns = c.deref-e-items.result.now in
+    let are = c.deref-e-items.ensures.value ∙ c.in_ok-entities.ensures in
+    let i = c.loop-e.e-index in
+    never_missing place_of_real (map.entries m) (map.entries_sorted m) ns are i c.loop-e-test.true (c.in_default.ensures.item ∙ find_real m (get_or ns i 0))
 
 pub loop-e-preserved : goal.loop-e-preserved
 loop-e-preserved c =
     let m = c.args.items.now.items in
-    noted_more place_of_real (map.entries m) (map.entries_sorted m) c.in-Some.e c.in-Some.parcel.now c.loop-e.walk c.next.new.self c.loop-e.list
-    c.put.new.list c.in-Some.ensures.steps
-    (c.in_ok-put.ensures.after
-    ∙ ap (map.insert c.loop-e.list c.in-Some.e) (c.place_of.ensures ∙ ap place_of_real c.parcel.view_is)) c.loop-e.invariant
+    let ns = c.deref-e-items.result.now in
+    let are = c.deref-e-items.ensures.value ∙ c.in_ok-entities.ensures in
+    let i = c.loop-e.e-index in
+    placed_more place_of_real (map.entries m) (map.entries_sorted m) ns are i c.loop-e-test.true c.in-Some.parcel.now c.loop-e.places.items c.push.new.self.items
+    (c.in-Some.ensures.item ∙ find_real m (get_or ns i 0)) c.loop-e.invariant
+    (c.in_ok-push.ensures.items
+    ∙ ap (λ p. c.loop-e.places.items ++ (get_or ns i 0, p) ∷ []) (c.place_of.ensures ∙ ap place_of_real c.parcel.view_is))
 
 pub returns : goal.returns
-returns c = reals_noted c.args.items.now.items c.loop-e.walk c.loop-e.list c.in_default.ensures.steps.0 c.loop-e.invariant
+returns c =
+    let m = c.args.items.now.items in
+    let ns = c.deref-e-items.result.now in
+    let are = c.deref-e-items.ensures.value ∙ c.in_ok-entities.ensures in
+    let i = c.loop-e.e-index in
+    all_placed place_of_real (map.entries m) (map.entries_sorted m) ns are i c.loop-e.places.items c.loop-e-test.false c.loop-e.invariant

@@ -9,7 +9,7 @@ pub returns-in-Some-clause-item : goal.returns-in-Some-clause-item
 returns-in-Some-clause-item g c =
     c.as_ref.ensures.value
     ∙ (ap option_flatten c.in-Some.ensures.value
-    ∙ (sym (item-slot c.self.inside.entries.entries c.args.n c.self.invariant.distinct)
+    ∙ (sym (item-slot c.self.inside.entries.entries c.args.n c.self.invariant)
     ∙ ap (λ w. map.get w.items c.args.n) c.self.view_is))
 
 pub returns-in-Some-clause-room : goal.returns-in-Some-clause-room
@@ -20,5 +20,5 @@ returns-in-Some-clause-room g c =
 pub returns-in-None-clause-item : goal.returns-in-None-clause-item
 returns-in-None-clause-item g c =
     ap option_flatten c.in-None.ensures.value
-    ∙ (sym (item-slot c.self.inside.entries.entries c.args.n c.self.invariant.distinct)
+    ∙ (sym (item-slot c.self.inside.entries.entries c.args.n c.self.invariant)
     ∙ ap (λ w. map.get w.items c.args.n) c.self.view_is)

@@ -18,7 +18,7 @@ loop-seen-init c =
     c.in_ok-notes.ensures.items_if_clones_equal (λ y h. search rules) in
     let none : c.new-enters.result.items ≡ [] = c.new-enters.ensures.items in
     record {
-      notes = given ∙ (ap (λ n. replicate n Leaves) c.len.ensures.len
+      notes = given ∙ (ap (λ n. replicate n Leaves) c.len.ensures
           ∙ (notes_of_none c.args.self.now.core c.args.own c.self.inside.view.entries
           ∙ ap (λ w. notes_of w.core c.args.own []) c.self.view_is));
       enters = ap (λ xs. xs ++ entering c.args.self.now.core c.args.own c.args.known.now) none;

@@ -1,17 +1,11 @@
-use Rattle.std.proofs.Common.{ap, is_some, slice_get, sym, Some, ◌∙◌}
+use Rattle.std.proofs.Common.{◌≡◌, false, slice_get, Some, subst}
+use Rattle.std.specs.Option.{IfSome, IfNone}
 use Rattle.seam_view.specs.Looks.{in_view}
-use Rattle.seam_view.proofs.Noted.{key_found}
-use Rattle.seam_view.proofs.Places.{viewed_of_lookup}
 use Rattle.seam_view.proofs.View.place_in_view.Goals as goal
 
-pub returns-in-Some-get_full-clause-there : goal.returns-in-Some-get_full-clause-there
-returns-in-Some-get_full-clause-there c =
-    let found = c.in-Some-get_full in
-    let same = key_found _ _ c.self.inside.view.entries (sym found.ensures.key) in
-    ap (λ w. slice_get w.core.entries found.i) (sym c.self.view_is)
-    ∙ (found.ensures.entry ∙ ap (λ k. Some (k, found.version.now)) same)
+pub returns-clause-there : goal.returns-clause-there
+returns-clause-there c =
+    subst (λ w. IfSome c.find.result (λ r. slice_get w.core.entries r.0 ≡ Some (c.args.e, r.1))) c.self.view_is c.find.ensures.there
 
-pub returns-in-None-clause-none : goal.returns-in-None-clause-none
-returns-in-None-clause-none c =
-    ap (λ w. in_view w.core c.args.e) (sym c.self.view_is)
-    ∙ (sym (viewed_of_lookup c.args.e c.self.inside.view.entries) ∙ ap is_some (sym c.in-None.ensures.value))
+pub returns-clause-none : goal.returns-clause-none
+returns-clause-none c = subst (λ w. IfNone c.find.result (in_view w.core c.args.e ≡ false)) c.self.view_is c.find.ensures.none

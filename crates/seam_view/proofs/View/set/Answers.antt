@@ -1,36 +1,48 @@
-use Rattle.std.proofs.Common.{◌≡◌, ◌∙◌, ap, sym, refl, slice_get, Some, subst}
-use Rattle.std.specs.Cmp.{nat_eq_equiv}
+use Rattle.std.proofs.Common.{◌∙◌, ap, cond, eqb, refl, sym, subst, ℕ, arith}
 use Rattle.std.specs.List.{IsDistinct}
-use Rattle.std.specs.Prelude.{nat_eq}
-use Rattle.indexmap.specs.IndexMap.{set_value_at}
-use Rattle.indexmap.proofs.CallerLemmas.{keys-with_value_at, updates-with_value_at}
+use Rattle.std.specs.Map.{keys_of, lookup}
+use Rattle.seam_view.specs.Looks.{in_view}
 use Rattle.seam_view.specs.Replica.{with_version_shown}
-use Rattle.seam_view.proofs.Places.{placed_at}
+use Rattle.seam_view.specs.Together.{AreApart}
+use Rattle.seam_view.proofs.Kept.{once_placed}
+use Rattle.seam_view.proofs.Places.{lookup_placed}
 use Rattle.seam_view.proofs.Shown.{shown_when_entered, view_of_lists}
-use Rattle.seam_view.proofs.Apart.{apart_when_set}
+use Rattle.seam_view.proofs.Apart.{apart_when_entered, not_left_when_in}
 use Rattle.seam_view.proofs.View.set.Goals as goal
+
+pub show-requires : goal.show-requires
+show-requires c =
+    let there = ap (λ w. in_view w.core c.args.e) c.self.view_is ∙ c.requires in
+    record { room = λ none. cc }
 
 pub invariant_of-self : goal.invariant_of-self
 invariant_of-self c =
-    let view = c.self.inside.view in
-    let left = c.self.inside.left.entries in (
-      view_of_lists c.self.inside.radius c.self.inside.hysteresis (set_value_at view.entries c.in-Some.i c.args.version) left
-          (subst (λ ks. IsDistinct nat_eq ks) (sym (keys-with_value_at view c.in-Some.i c.args.version)) c.get_index_mut.ensures.unique),
-      apart_when_set view.entries left c.in-Some.i c.args.version c.self.invariant.1,
+    let es = c.self.inside.view.entries in
+    let left = c.self.inside.left.entries in
+    let placed = c.show.ensures.entries in
+    let there = ap (λ w. in_view w.core c.args.e) c.self.view_is ∙ c.requires in (
+      view_of_lists c.self.inside.radius c.self.inside.hysteresis c.show.new.self.entries left
+          (subst (λ xs. IsDistinct eqb (keys_of xs)) (sym placed) (once_placed c.args.e c.args.version es c.self.invariant.0.once)),
+      subst (λ xs. AreApart xs left) (sym placed)
+          (apart_when_entered c.args.e c.args.version left left (not_left_when_in c.args.e es left there c.self.invariant.1) (λ q other. refl) es
+          c.self.invariant.1),
     )
 
 pub returns-clause-core : goal.returns-clause-core
 returns-clause-core c =
-    let view = c.self.inside.view in
+    let es = c.self.inside.view.entries in
     let left = c.self.inside.left.entries in
-    let i = c.in-Some.i in
-    let v = c.args.version in
-    let at : slice_get view.entries i ≡ Some (c.args.e, c.in-Some.field-0-1) =
-    ap (λ w. slice_get w.core.entries i) c.self.view_is ∙ c.in-Some.ensures.there in
-    let new = set_value_at view.entries i v in
+    let placed = c.show.ensures.entries in
     let shown =
-    shown_when_entered view.entries new left left c.args.e v
-    (updates-with_value_at view i v nat_eq_equiv c.get_index_mut.ensures.unique c.args.e c.in-Some.field-0-1 at).0 (λ q other. refl) in
-    let placed = placed_at view.entries i c.args.e v c.in-Some.field-0-1 c.get_index_mut.ensures.unique at in
+    shown_when_entered es c.show.new.self.entries left left c.args.e c.args.version
+    (λ q. ap (lookup (eqb q)) placed ∙ lookup_placed c.args.e c.args.version q es) (λ q other. refl) in
     (λ j. record { radius = c.self.inside.radius; hysteresis = c.self.inside.hysteresis; entries = placed j; shown = shown j })
-    ∙ ap (λ w. with_version_shown w.core c.args.e v) c.self.view_is
+    ∙ ap (λ w. with_version_shown w.core c.args.e c.args.version) c.self.view_is
+
+pub returns-clause-enters : goal.returns-clause-enters
+returns-clause-enters c =
+    let there = ap (λ w. in_view w.core c.args.e) c.self.view_is ∙ c.requires in
+    let none = ap {B = ℕ} (λ b. cond b 0 1) there in
+    let is = ap (λ w. w.enters) c.self.view_is in
+    let room = c.show.ensures.room in
+    omega (arith, none, is, room)

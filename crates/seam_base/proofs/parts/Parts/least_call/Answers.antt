@@ -6,6 +6,6 @@ use Rattle.seam_base.proofs.parts.Parts.least_call.Goals as goal
 
 pub returns : goal.returns
 returns c =
-    c.least_of.ensures
-    ∙ (least_marked has_call c.self.inside.calls.items c.self.inside.items.items c.self.invariant.0
+    c.least.ensures
+    ∙ (least_marked has_call c.self.inside.calls c.self.inside.items.items c.self.invariant.0
     ∙ ap (least has_call) c.self.view_is)

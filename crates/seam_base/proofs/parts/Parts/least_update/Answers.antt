@@ -6,6 +6,6 @@ use Rattle.seam_base.proofs.parts.Parts.least_update.Goals as goal
 
 pub returns : goal.returns
 returns c =
-    c.least_of.ensures
-    ∙ (least_marked has_update c.self.inside.updates.items c.self.inside.items.items c.self.invariant.1
+    c.least.ensures
+    ∙ (least_marked has_update c.self.inside.updates c.self.inside.items.items c.self.invariant.1
     ∙ ap (least has_update) c.self.view_is)

@@ -8,4 +8,4 @@ invariant_of-self c =
     let old = c.self.inside.items.items in
     let new = c.change_each.new.self.items in
     let begun = ap (λ w. w.items) (c.change_each.ensures.after part_begins (search rules)) in
-    (calls_begun c.self.inside.calls.items old new begun c.self.invariant.0, updates_begun c.self.inside.updates.items old new begun c.self.invariant.1)
+    (calls_begun c.self.inside.calls old new begun c.self.invariant.0, updates_begun c.self.inside.updates old new begun c.self.invariant.1)

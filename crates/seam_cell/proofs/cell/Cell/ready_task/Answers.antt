@@ -1,9 +1,5 @@
-use Rattle.std.proofs.Common.{◌≡◌, ◌&&◌, true, None, Some, ap, sym, option_copied, ◌∙◌}
+use Rattle.std.proofs.Common.{◌≡◌, None, Some, ap, sym, option_copied, ◌∙◌}
 use Rattle.std.specs.FinMap as table
-use Rattle.seam_entity.specs.Calls.{has_ready}
-use Rattle.seam_entity.specs.Executing.{may_execute}
-use Rattle.seam_steps.specs.Cells.{ready_entity}
-use Rattle.seam_cell.specs.Calling.{may_run}
 use Rattle.seam_cell.proofs.StepLemmas.{ready_at, runs}
 use Rattle.seam_cell.proofs.cell.Cell.ready_task.Goals as goal
 

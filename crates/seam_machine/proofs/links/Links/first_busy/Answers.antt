@@ -20,6 +20,7 @@ returns-clause-busy g c = λ lt none.
     let k = c.first_counted.result in
     let many = length-set n.rows.items n.sender (put_all (get_or n.rows.items n.sender []) n.out.items) in
     let within : k < length n.kept.busy.items = omega (arith, lt, ap (λ w. length w.rows) c.self.view_is, many, c.self.invariant.0.busy_len) in
-    c.first_counted.ensures.found within
-    (idle_back n.rows.items n.kept.busy.items n.sender n.out.items c.self.invariant.0 k within
-    (λ a. ap (λ w. link w.rows a k) c.self.view_is ∙ none a)).0
+    let some = c.first_counted.ensures.found within in
+    let zero = (idle_back n.rows.items n.kept.busy.items n.sender n.out.items c.self.invariant.0 k within
+    (λ a. ap (λ w. link w.rows a k) c.self.view_is ∙ none a)).0 in
+    omega (arith, some, zero)

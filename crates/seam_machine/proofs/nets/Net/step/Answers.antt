@@ -9,7 +9,7 @@ use Rattle.seam_machine.specs.Inside.{IsNet}
 use Rattle.seam_machine.proofs.Occurring.{occurs, node_within, fed_happens, net_fed}
 use Rattle.seam_machine.proofs.Known.{knows_after}
 use Rattle.seam_machine.proofs.nets.Net.step.Goals as goal
-use Rattle.seam_machine.proofs.nets.Net.step.Goals.{In_ok-settle, After-ask, After-index_mut-node}
+use Rattle.seam_machine.proofs.nets.Net.step.Goals.{In_ok-settle, After-index_mut-node}
 
 node_in : (g : _) (c : In_ok-settle g) → c.args.event.node < length c.self.inside.nodes.items
 node_in g c =
@@ -25,39 +25,35 @@ node_is g c =
 rows_are : (g : _) (c : In_ok-settle g) → c.settle.new.self.rows ≡ c.args.self.now.rows
 rows_are g c = c.settle.ensures.rows ∙ ap (λ w. w.rows) c.self.view_is
 
-asked_rows : (g : _) (c : After-ask g) → c.ask.new.links.rows ≡ c.args.self.now.rows
-asked_rows g c = c.ask.ensures.rows ∙ rows_are g ((goal.at.After-ask g c).In_ok-settle)
-
 is_net : (g : _) (c : In_ok-settle g) → IsNet c.args.self.now
 is_net g c = subst IsNet c.self.view_is c.self.invariant.0
 
 pub feed-requires-clause-ready : goal.feed-requires-clause-ready
 feed-requires-clause-ready g c =
-    let a = (goal.at.feed-requires-clause-ready g c).After-ask in
+    let i = (goal.at.feed-requires-clause-ready g c).In_ok-settle in
     let e = c.args.event in
     let node = node_is g ((goal.at.feed-requires-clause-ready g c).After-index_mut-node) in
-    ap (λ r. is_ready g.M.Machine.has_work (Some c.index_mut-node.result.now) (input_from r e.node e.from)) (asked_rows g a)
+    ap (λ r. is_ready g.M.Machine.has_work (Some c.index_mut-node.result.now) (input_from r e.node e.from)) (rows_are g i)
     ∙ (ap (λ s. is_ready g.M.Machine.has_work s (input_from c.args.self.now.rows e.node e.from)) (sym node) ∙ c.requires.enabled)
 
 pub invariant_of-self-2 : goal.invariant_of-self-2
 invariant_of-self-2 g c =
-    let a = (goal.at.invariant_of-self-2 g c).After-ask in
     let i = (goal.at.invariant_of-self-2 g c).In_ok-settle in (
-      rw c.move_on.ensures.rows
-          (net_fed g.M.Machine.steps c.args.self.now c.args.event c.self.inside.nodes.items c.ask.new.links.rows
-          c.feed.new.self.rows c.index_mut-node.result.now c.feed.new.node (ap (λ w. w.nodes) c.self.view_is) (asked_rows g a)
+      rw (ap (λ l. l.rows) c.move_on.ensures)
+          (net_fed g.M.Machine.steps c.args.self.now c.args.event c.self.inside.nodes.items c.settle.new.self.rows
+          c.feed.new.self.rows c.index_mut-node.result.now c.feed.new.node (ap (λ w. w.nodes) c.self.view_is) (rows_are g i)
           (node_is g ((goal.at.invariant_of-self-2 g c).After-index_mut-node)) c.in_ok-feed.ensures.fed (is_net g i)),
-      knows_after g.M.Machine.has_work c.self.inside.nodes.items c.ask.new.asked c.ask.new.tasks.items c.args.event.node c.feed.new.node
-          c.has_task.result c.has_task.ensures c.ask.ensures.known,
-      λ k lt. ap (λ l. slice_get l k) (sym c.as_slice.ensures.value) ∙ c.move_on.ensures.low k lt,
+      rw c.note.ensures.tasks (knows_after g.M.Machine.has_work c.self.inside.nodes.items c.ask.new.asked c.ask.new.tasks.items c.args.event.node c.feed.new.node
+          c.has_task.result c.has_task.ensures c.ask.ensures.known),
+      c.note.ensures.idle,
     )
 
 pub returns-clause-happens : goal.returns-clause-happens
 returns-clause-happens g c =
-    let a = (goal.at.returns-clause-happens g c).After-ask in
-    ap (λ r. record { nodes = set c.self.inside.nodes.items c.args.event.node c.feed.new.node; rows = r }) c.move_on.ensures.rows
-    ∙ fed_happens g.M.Machine.steps c.args.self.now c.args.event c.self.inside.nodes.items c.ask.new.links.rows
-    c.feed.new.self.rows c.index_mut-node.result.now c.feed.new.node (ap (λ w. w.nodes) c.self.view_is) (asked_rows g a)
+    let i = (goal.at.returns-clause-happens g c).In_ok-settle in
+    ap (λ r. record { nodes = set c.self.inside.nodes.items c.args.event.node c.feed.new.node; rows = r }) (ap (λ l. l.rows) c.move_on.ensures)
+    ∙ fed_happens g.M.Machine.steps c.args.self.now c.args.event c.self.inside.nodes.items c.settle.new.self.rows
+    c.feed.new.self.rows c.index_mut-node.result.now c.feed.new.node (ap (λ w. w.nodes) c.self.view_is) (rows_are g i)
     (node_is g ((goal.at.returns-clause-happens g c).After-index_mut-node)) c.in_ok-feed.ensures.fed
 
 pub returns-clause-peers : goal.returns-clause-peers

@@ -13,6 +13,7 @@ use Rattle.seam_known.proofs.Knowing.{known_in_order}
 use Rattle.seam_parts.specs.Kept.{here_in}
 use Rattle.seam_sight.specs.Looking.{seeing}
 use Rattle.seam_sight.specs.Near.{HasNear, is_early}
+use Rattle.seam_sight.specs.Updates.{updates_of}
 use Rattle.seam_sight.proofs.NearLooks.{looks_same}
 use Rattle.seam_sight.proofs.looking.Sight.get_ready.Goals as goal
 
@@ -53,9 +54,10 @@ returns-clause-shown c = λ k.
     (c.in_ok-seen.ensures.near k) (subst IsView c.in_ok-planned.ensures.same c.in_ok-looks.ensures.view)
     ∙ λ i. one_look core (c.state.ensures i).pos known))) in
     c.in_ok-shown.ensures.shown k
-    ∙ λ i. all_shown (here_in c.args.self.now.known.now) c.args.real.now.core
+    ∙ λ i. updates_of (here_in c.args.self.now.known.now) c.args.real.now.core c.args.witness.now.sent
+    (all_shown (here_in c.args.self.now.known.now) c.args.real.now.core
     (record { view = c.in_ok-planned.ensures.same i; told = c.args.witness.now.told; sent = c.args.witness.now.sent })
-    (known_to d c.args.self.now.own) ((c.deref-2.ensures.value ∙ looks) i)
+    (known_to d c.args.self.now.own) ((c.deref-2.ensures.value ∙ looks) i))
 
 pub returns-clause-room : goal.returns-clause-room
 returns-clause-room c =

@@ -16,7 +16,7 @@ loop-next-preserved c =
     merged_more c.args.self.now.own (c.in-Some.next.entity, c.in-Some.next.place)
     (merged c.in-Some.next.first.now c.in-Some.next.second.now)
     (merged c.loop-next.first.now c.loop-next.second.now) c.loop-next.seen.items c.see.new.seen.items c.seen_at.result c.seen_at.ensures
-    c.in-Some.ensures.some c.in_ok-see.ensures.seen
+    c.in-Some.ensures.some c.in_ok-see.ensures
     ∙ c.loop-next.invariant
 
 pub returns : goal.returns

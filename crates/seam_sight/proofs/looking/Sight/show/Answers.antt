@@ -1,11 +1,12 @@
-use Rattle.std.proofs.Common.{◌++◌, List, ap, ◌∙◌}
+use Rattle.std.proofs.Common.{◌≡◌, [], ap, ◌∙◌}
 use Rattle.std.specs.List.{filter_map}
-use Rattle.seam_call.specs.declared.shown.Shown.{Shown}
 use Rattle.seam_entity.specs.Witnesses.{witness_of}
 use Rattle.seam_steps.specs.Looks.{shown_for}
 use Rattle.seam_steps.specs.Cells.{CellView, known_to}
 use Rattle.seam_parts.specs.Kept.{here_in}
 use Rattle.seam_sight.specs.Looking.{seeing, own_told}
+use Rattle.seam_entity.specs.Here.{base_of}
+use Rattle.seam_sight.specs.Updates.{with_shown, updates_of}
 use Rattle.seam_sight.proofs.LookLemmas.{all_is_shown}
 use Rattle.seam_sight.proofs.looking.Sight.show.Goals as goal
 
@@ -14,8 +15,17 @@ returns-clause-shown c = λ k.
     let h = here_in c.args.self.now.known.now in
     let d : CellView = seeing k h c.args.self.now.reals.now.items c.args.self.now.copies.now.ghosts in
     let known = known_to d c.args.self.now.own in
+    let r = c.args.real.now.core in
+    let sent = c.args.witness.now.sent in
+    let begun : c.in_ok-shown.shown ≡ updates_of h r sent [] =
+    c.in_ok-shown.ensures
+    ∙ (λ i. record {
+      to = (c.base_node_of-to.ensures ∙ ap (base_of h) c.entity-e.ensures) i;
+      entity = c.entity-e.ensures i;
+      sent = sent;
+      shown = [];
+    }) in
     c.in_ok-add_all.ensures.shown k
-    ∙ (ap (λ (l : List Shown). l ++ filter_map (shown_for known) c.args.looks.now)
-    (c.in_ok-add_own.ensures
-    ∙ ap (λ (l : List Shown). l ++ own_told h c.args.real.now.core c.args.witness.now.told) c.in_ok-shown.ensures.items)
-    ∙ all_is_shown h c.args.real.now.core (witness_of c.args.witness.now) known c.args.looks.now)
+    ∙ (ap (λ u. with_shown u (filter_map (shown_for known) c.args.looks.now))
+    (c.in_ok-add_own.ensures ∙ ap (λ u. with_shown u (own_told h r c.args.witness.now.told)) begun)
+    ∙ ap (updates_of h r sent) (all_is_shown h r (witness_of c.args.witness.now) known c.args.looks.now))

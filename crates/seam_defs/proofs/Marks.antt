@@ -1,0 +1,85 @@
+-- Lists of values some of which are left out.
+use Rattle.std.proofs.Common.{◌≡◌, ℕ, zero, suc, ◌+◌, ◌*◌, ◌^◌, ◌<◌, ◌≤◌, ◌/◌, ◌%◌, refl, sym, ap, ◌∙◌, List, [], ◌∷◌, ◌++◌, length, Bool, true, false, inl, inr, arith, take, drop, get_or, length-take, append_assoc, drop-cons, add-one, if◌then◌else◌}
+use Rattle.std.proofs.lemmas.Bool.{cases_Bool}
+use Rattle.std.proofs.Math.Nat.{pow-succ', mul_left_comm}
+use Rattle.std.specs.Prelude.{◌==◌}
+use Rattle.std.proofs.lemmas.List.{take_more, take_all, drop_all, append-nil}
+use Rattle.seam_value.specs.declared.values.Value.{Value}
+use Rattle.seam_defs.specs.declared.flags.Group.{Group}
+use Rattle.seam_defs.specs.declared.types.Property.{Property}
+use Rattle.seam_defs.specs.Marks.{kept}
+use Rattle.seam_defs.specs.Remaining.{shown_of}
+use Rattle.seam_defs.proofs.Places.{zip-nil}
+
+-- a list is at least as long as what is kept of it
+pub kept-length : (marks : ℕ) (values : List Value) → length (kept marks values) ≤ length values
+kept-length marks [] = omega arith
+kept-length marks (v ∷ values) =
+    let rest = kept-length (marks / 2) values in
+    elim (cases_Bool (marks % 2 == 1)) [ inl out ↦ rw out (omega arith) | inr inside ↦ rw inside (omega arith) ]
+
+pub kept-all : (values : List Value) → kept 0 values ≡ values
+kept-all [] = refl
+kept-all (v ∷ values) = ap (λ l. v ∷ l) (kept-all values)
+
+doubled : (digit n : ℕ) → digit * 2 ^ suc n ≡ 2 * (digit * 2 ^ n)
+doubled digit n = ap (λ m. digit * m) (pow-succ' 2 n) ∙ mul_left_comm digit 2 (2 ^ n)
+
+rest : (marks digit n : ℕ) → marks < 2 ^ suc n → ((marks + digit * 2 ^ suc n) % 2 ≡ marks % 2) × ((marks + digit * 2 ^ suc n) / 2 ≡ marks / 2 + digit * 2 ^ n) × (marks / 2 < 2 ^ n)
+rest marks digit n below =
+    let twice = doubled digit n in
+    let power = pow-succ' 2 n in
+    (omega arith, omega arith, omega arith)
+
+-- a value more at the end, beside a digit more at the top
+pub kept-more : (values : List Value) (marks digit : ℕ) (v : Value) → marks < 2 ^ length values →
+    kept (marks + digit * 2 ^ length values) (values ++ v ∷ []) ≡ kept marks values ++ kept digit (v ∷ [])
+kept-more [] zero digit v below = let e : zero + digit * 1 ≡ digit = omega arith in rw e refl
+kept-more [] (suc marks) digit v below = absurd (omega arith)
+kept-more (w ∷ values) marks digit v below =
+    let r = rest marks digit (length values) below in
+    let more = kept-more values (marks / 2) digit v r.2 in
+    rw (r.0, r.1, more)
+    (elim (cases_Bool (marks % 2 == 1)) [
+      | inl out ↦ rw out refl
+      | inr inside ↦ rw inside refl
+    ])
+
+module _ (values : List Value) (i : ℕ) (v : Value) (within : i < length values) (here : v ≡ get_or values i v) where
+  digit-more : (marks digit : ℕ) → marks < 2 ^ i →
+      kept (marks + digit * 2 ^ i) (take (i + 1) values) ≡ kept marks (take i values) ++ kept digit (v ∷ [])
+  digit-more marks digit below =
+      let long : length (take i values) ≡ i = omega (arith, length-take i values) in
+      let whole : take (i + 1) values ≡ take i values ++ v ∷ [] = take_more values i v within ∙ ap (λ w. take i values ++ w ∷ []) (sym here) in
+      let more = kept-more (take i values) marks digit v (rw long below) in
+      ap (kept (marks + digit * 2 ^ i)) whole ∙ ap (λ n. kept (marks + digit * 2 ^ n) (take i values ++ v ∷ [])) (sym long) ∙ more
+
+  dropped : drop i values ≡ v ∷ drop (i + 1) values
+  dropped = rw add-one (drop-cons values i v within ∙ ap (λ w. w ∷ drop (suc i) values) (sym here))
+
+  pub kept-passed : (marks : ℕ) → (marks % 2 == 1) ≡ true → kept marks (drop i values) ≡ kept (marks / 2) (drop (i + 1) values)
+  kept-passed marks out = rw (dropped, out) refl
+
+  pub kept-next : (marks : ℕ) → (marks % 2 == 1) ≡ false → kept marks (drop i values) ≡ v ∷ kept (marks / 2) (drop (i + 1) values)
+  kept-next marks inside = rw (dropped, inside) refl
+
+  -- one value more is marked
+  pub marked : (g : Group) (ps qs : List Property) (before marks : ℕ) (is_kept : Bool) → marks < 2 ^ i →
+      shown_of g ps (kept before (drop i values)) ≡ (if is_kept then v ∷ shown_of g qs (kept (before / 2) (drop (i + 1) values))
+      else shown_of g qs (kept (before / 2) (drop (i + 1) values))) →
+      kept (if is_kept then marks else marks + 2 ^ i) (take (i + 1) values) ++ shown_of g qs (kept (before / 2) (drop (i + 1) values))
+      ≡ kept marks (take i values) ++ shown_of g ps (kept before (drop i values))
+  marked g ps qs before marks true below next =
+      let more = digit-more marks 0 below in
+      let same : marks + 0 * 2 ^ i ≡ marks = omega arith in
+      rw (next, ← same, more, same) (append_assoc (kept marks (take i values)) (v ∷ []) _)
+  marked g ps qs before marks false below next =
+      let more = digit-more marks 1 below in
+      let same : marks + 1 * 2 ^ i ≡ marks + 2 ^ i = omega arith in
+      rw (next, ← same, more) (ap (λ l. l ++ shown_of g qs (kept (before / 2) (drop (i + 1) values))) (append-nil (kept marks (take i values))))
+
+-- every value is marked
+pub all-marked : (values : List Value) (n : ℕ) → length values ≤ n → (g : Group) (ps : List Property) (before marks : ℕ) →
+    kept marks (take n values) ++ shown_of g ps (kept before (drop n values)) ≡ kept marks values
+all-marked values n long g ps before marks =
+    rw (take_all n values long, drop_all n values long, zip-nil {B = Value} ps) (append-nil (kept marks values))

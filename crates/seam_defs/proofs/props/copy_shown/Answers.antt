@@ -1,0 +1,11 @@
+use Rattle.std.proofs.Common.{◌∙◌, sym}
+use Rattle.std.proofs.lemmas.List.{append-nil}
+use Rattle.seam_defs.specs.Remaining.{properties_left, values_left}
+use Rattle.seam_defs.proofs.Places.{zip-done}
+use Rattle.seam_defs.proofs.props.copy_shown.Goals as goal
+
+pub returns : goal.returns
+returns c =
+    let last = c.loop-property.property-iterator in
+    let done = zip-done (properties_left last.a) (values_left last.b) c.in-None.ensures.steps in
+    sym (append-nil c.loop-property.copies.items) ∙ (rw done at c.loop-property.invariant)

@@ -1,0 +1,231 @@
+// The values of a group of properties.
+ghost use Rattle.std.specs.Prelude.{◌≡◌, ◌↔◌, ◌<◌, ◌≤◌, ◌^◌, if◌then◌else◌, IsTrue, IfOk, List, ◌∷◌, length, option_copied, slice_get};
+ghost use Rattle.std.specs.Iterator.{YieldsFirstRef, item_count};
+ghost use Rattle.seam_value.specs.declared.values.Value.{Value as AnyValue};
+ghost use Rattle.seam_defs.specs.declared.limits.TheConstants.{MOST_PROPERTIES};
+ghost use Rattle.seam_defs.specs.Deeds.{projected};
+ghost use Rattle.seam_defs.specs.Marks.{kept};
+ghost use Rattle.seam_defs.specs.Remaining.{properties_left, values_left, shown_of};
+
+use crate::groups::OfGroup;
+use crate::{Group, MOST_PROPERTIES, Property};
+use seam_value::Value;
+use std::alloc::{AllocError, Global};
+use std::marker::Model;
+use std::sync::Arc;
+
+/// The values of a group of properties, in the order of the properties. Copies share the memory of the values, which never
+/// change, and so do the values of a narrower group.
+#[derive(Debug, Drop)]
+pub struct Props {
+    values: Arc<Vec<Value>, Global>,
+    // A binary digit for each value, the first one's the lowest: 1 where the value is left out.
+    left_out: u64,
+}
+
+impl Model for Props {
+    ghost use Rattle.std.specs.Prelude.{List};
+    ghost use Rattle.std.specs.Arc.{arc_value};
+    ghost use Rattle.seam_value.specs.declared.values.Value.{Value as AnyValue};
+    ghost use Rattle.seam_defs.specs.Marks.{kept};
+
+    ghost Value = { List AnyValue };
+
+    ghost view = { λ p. kept p.left_out (arc_value p.values).items };
+}
+
+impl Props {
+    /// The values of the vector, in its order.
+    pub fn of(values: Vec<Value>) -> Result<Self, AllocError>
+        ensures { IfOk result (λ props. props ≡ values.items) }
+    {
+        let alloc = *values.allocator();
+        match Arc::new(alloc, values) {
+            Ok(values) => Ok(Props {
+                values,
+                left_out: 0,
+            }),
+            Err(_) => Err(AllocError),
+        }
+    }
+
+    /// Equal values.
+    pub fn copy(&self) -> Result<Props, AllocError>
+        ensures { IfOk result (λ props. props ≡ self.now) }
+    {
+        Ok(Props {
+            values: Arc::try_clone(&self.values)?,
+            left_out: self.left_out,
+        })
+    }
+
+    /// The values.
+    pub(crate) fn values(&self) -> KeptValues<'_>
+        ensures values { values_left result ≡ self.now }
+        ensures short { length result.values.now < 2 ^ 64 }
+    {
+        KeptValues {
+            values: self.values.as_slice(),
+            left_out: self.left_out,
+        }
+    }
+
+    /// Whether both have the same values.
+    pub fn equals(&self, other: &Props) -> bool
+        ensures { IsTrue result ↔ (self.now ≡ other.now) }
+    {
+        let mut others = other.values();
+        for value in self.values() {
+            if others.next() != Some(value) {
+                return false;
+            }
+        }
+        others.next().is_none()
+    }
+
+    /// How many values there are.
+    pub fn len(&self) -> usize
+        ensures { result ≡ length self.now }
+    {
+        self.values().count()
+    }
+
+    /// The value at a place, counted from 0: None where there are not so many.
+    pub fn at(&self, i: usize) -> Option<&Value>
+        ensures { option_copied result ≡ slice_get self.now i }
+    {
+        self.values().nth(i)
+    }
+
+    /// Those of the group `held` whose properties are in the group `group` too, in the same memory. Of a list that is longer
+    /// than any type's they are copied.
+    pub(crate) fn project(
+        &self,
+        properties: &[Property],
+        held: Group,
+        group: Group,
+    ) -> Result<Props, AllocError>
+        ensures { IfOk result (λ projection. projection ≡ projected properties.now held group self.now) }
+    {
+        if self.values.len() > MOST_PROPERTIES {
+            return Props::of(copy_shown(properties, held, group, self)?);
+        }
+        Ok(Props {
+            values: Arc::try_clone(&self.values)?,
+            left_out: left_out(
+                properties,
+                held,
+                group,
+                self.values.as_slice(),
+                self.left_out,
+            ),
+        })
+    }
+}
+
+/// The values of a list that are kept, one after the other.
+#[derive(Drop)]
+pub(crate) struct KeptValues<'a> {
+    values: &'a [Value],
+    // As in `Props`.
+    left_out: u64,
+}
+
+impl<'a> KeptValues<'a> {
+    /// All values of a list.
+    pub fn all(values: &'a [Value]) -> Self
+        ensures { values_left result ≡ values.now }
+    {
+        KeptValues {
+            values,
+            left_out: 0,
+        }
+    }
+
+    /// Equal values.
+    pub fn copy(self, alloc: Global) -> Result<Vec<Value>, AllocError>
+        ensures { IfOk result (λ copies. copies.items ≡ values_left self.entry) }
+    {
+        let mut copies = Vec::with_capacity(alloc, self.values.len())?;
+        for value in self {
+            copies.push(value.copy(alloc)?)?;
+        }
+        Ok(copies)
+    }
+}
+
+impl<'a> Iterator for KeptValues<'a> {
+    type Item = &'a Value;
+
+    ghost next_gives = { YieldsFirstRef values_left };
+
+    ghost remaining = { item_count values_left };
+
+    fn next(&mut self) -> Option<&'a Value> {
+        while let Some((value, others)) = self.values.split_first() {
+            let is_kept = self.left_out % 2 == 0;
+            self.values = others;
+            self.left_out /= 2;
+            if is_kept {
+                return Some(value);
+            }
+        }
+        None
+    }
+}
+
+// The digits of those that are left out where only values are kept whose properties are in another group too.
+fn left_out(
+    properties: &[Property],
+    held: Group,
+    group: Group,
+    values: &[Value],
+    before: u64,
+) -> u64
+    requires { length values.now ≤ MOST_PROPERTIES }
+    ensures { kept result values.now ≡ projected properties.now held group (kept before values.now) }
+{
+    let mut of_held = OfGroup::new(properties, held);
+    let mut left_out = 0;
+    let mut rest = before;
+    let mut mark = 1;
+    for _ in values {
+        let is_kept = rest % 2 == 0 && is_next_in(&mut of_held, group);
+        if !is_kept {
+            left_out += mark;
+        }
+        rest /= 2;
+        mark *= 2;
+    }
+    left_out
+}
+
+// Whether there is a next property, and it is in the group too.
+fn is_next_in(properties: &mut OfGroup<'_>, group: Group) -> bool
+    ensures { (v : AnyValue) (values : List AnyValue) → shown_of group (properties_left properties.old) (v ∷ values)
+        ≡ (if result then v ∷ shown_of group (properties_left properties.new) values else shown_of group (properties_left properties.new) values) }
+{
+    match properties.next() {
+        Some(property) => property.flag.in_group(group),
+        None => false,
+    }
+}
+
+// Copies those values whose properties are in another group too.
+fn copy_shown(
+    properties: &[Property],
+    held: Group,
+    group: Group,
+    props: &Props,
+) -> Result<Vec<Value>, AllocError>
+    ensures { IfOk result (λ copies. copies.items ≡ projected properties.now held group props.now) }
+{
+    let alloc = *props.values.allocator();
+    let mut copies = Vec::new(alloc);
+    for (property, value) in OfGroup::new(properties, held).zip(props.values()) {
+        if property.flag.in_group(group) {
+            copies.push(value.copy(alloc)?)?;
+        }
+    }
+    Ok(copies)
+}
