@@ -4,6 +4,8 @@ ghost use Rattle.std.specs.Prelude.{◌≡◌, ◌≤◌, ◌<◌, ◌++◌, ◌
 ghost use Rattle.std.specs.Prelude.{true, false, OnOk, OnErr, IfErr, Some, None, option_copied, option_map};
 ghost use Rattle.std.specs.FinMap as table;
 ghost use Rattle.seam_geo.specs.declared.pos.Pos.{Pos as AnyPos};
+ghost use Rattle.seam_call.specs.declared.call.Call.{Call as AnyCall};
+ghost use Rattle.seam_entity.specs.declared.message.Msg.TheVariants.{BaseCall};
 ghost use Rattle.seam_steps.specs.Maps.{has_any};
 ghost use Rattle.seam_steps.specs.Loads.{empty_base, part_if, with_route, attached, base_begins};
 ghost use Rattle.seam_steps.specs.Nodes.NodeView.{Base as BaseNodeView};
@@ -189,34 +191,45 @@ impl Base {
         }
     }
 
-    // A message from another node.
-    fn hear(&mut self, message: Msg) -> Result<(), NoMemoryFor<Msg>>
+    // Base call: it is taken out of its message. If allocation fails, it is put back.
+    #[inline(never)]
+    fn take_call(&mut self, message: &mut Msg) -> Result<(), AllocError>
+        requires { (call : AnyCall) × (message.old ≡ BaseCall call) }
         ensures after { OnOk result (self.new
-            ≡ (unless_stray (is_stray self.old message) self.old (sends_none (case_of self.old message))).state) }
+            ≡ (unless_stray (is_stray self.old message.old) self.old (sends_none (case_of self.old message.old))).state) }
         ensures err { OnErr result (self.new ≡ self.old) }
-        ensures err_item { IfErr result (λ e. e.item ≡ message) }
+        ensures err_message { OnErr result (message.new ≡ message.old) }
+    {
+        let Msg::BaseCall(call) = std::mem::replace(message, Msg::Tick) else {
+            unreachable!()
+        };
+        match self.hear_call(call) {
+            Ok(()) => return Ok(()),
+            Err(refused) => {
+                *message = Msg::BaseCall(refused.item);
+                return Err(AllocError);
+            }
+        }
+    }
+
+    // A message from another node, which is used up.
+    fn hear(&mut self, message: &mut Msg) -> Result<(), AllocError>
+        ensures after { OnOk result (self.new
+            ≡ (unless_stray (is_stray self.old message.old) self.old (sends_none (case_of self.old message.old))).state) }
+        ensures err { OnErr result (self.new ≡ self.old) }
+        ensures err_message { OnErr result (message.new ≡ message.old) }
     {
         match message {
-            Msg::BaseCall(call) => match self.hear_call(call) {
-                Ok(()) => return Ok(()),
-                Err(refused) => {
-                    return Err(NoMemoryFor {
-                        item: Msg::BaseCall(refused.item),
-                    });
-                }
-            },
+            Msg::BaseCall(_) => return self.take_call(message),
             Msg::Current(e, cell, generation) => {
-                self.hear_current(e, Route { cell, generation });
+                let route = Route {
+                    cell: *cell,
+                    generation: *generation,
+                };
+                self.hear_current(*e, route);
                 return Ok(());
             }
-            Msg::Update(mut update) => match self.hear_update(&mut update) {
-                Ok(()) => return Ok(()),
-                Err(_) => {
-                    return Err(NoMemoryFor {
-                        item: Msg::Update(update),
-                    });
-                }
-            },
+            Msg::Update(update) => return self.hear_update(update),
             Msg::Call(_) => return Ok(()),
             Msg::Hand(_) => return Ok(()),
             Msg::GhostSet(_, _, _) => return Ok(()),
@@ -272,6 +285,7 @@ impl Base {
     }
 
     // The first order is executed, and a stray one stays.
+    #[inline(never)]
     fn order_task(&mut self, out: &mut Out<Msg>) -> Result<(), AllocError>
         requires { has_any self.old.orders ≡ true }
         ensures state { OnOk result (self.new ≡ (base_task self.old self.old.orders).state) }
@@ -350,29 +364,19 @@ impl Machine for Base {
     fn step(
         &mut self,
         _alloc: Global,
-        input: Input<Msg>,
+        input: &mut Input<Msg>,
         out: &mut Out<Msg>,
-    ) -> Result<(), NoMemoryFor<Input<Msg>>>
-        requires { input ≡ Input.Task → base_has_work self.old ≡ true }
-        ensures state { OnOk result (self.new ≡ (base_steps self.old input).state) }
-        ensures sent { OnOk result (out.new.items ≡ out.old.items ++ (base_steps self.old input).sent) }
+    ) -> Result<(), AllocError>
+        requires { input.old ≡ Input.Task → base_has_work self.old ≡ true }
+        ensures state { OnOk result (self.new ≡ (base_steps self.old input.old).state) }
+        ensures sent { OnOk result (out.new.items ≡ out.old.items ++ (base_steps self.old input.old).sent) }
         ensures err_state { OnErr result (self.new ≡ self.old) }
         ensures err_out { OnErr result (out.new.items ≡ out.old.items) }
-        ensures err_input { IfErr result (λ e. e.item ≡ input) }
+        ensures err_input { OnErr result (input.new ≡ input.old) }
     {
         match input {
-            Input::Task => match self.task(out) {
-                Ok(()) => return Ok(()),
-                Err(_) => return Err(NoMemoryFor { item: Input::Task }),
-            },
-            Input::From(from, message) => match self.hear(message) {
-                Ok(()) => return Ok(()),
-                Err(refused) => {
-                    return Err(NoMemoryFor {
-                        item: Input::From(from, refused.item),
-                    });
-                }
-            },
+            Input::Task => return self.task(out),
+            Input::From(_, message) => return self.hear(message),
         }
     }
 }

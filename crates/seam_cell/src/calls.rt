@@ -10,14 +10,15 @@ ghost use Rattle.seam_entity.specs.Executing.{executed, shows, with_deed};
 ghost use Rattle.seam_entity.specs.Preparing.{HasRoom, offered};
 ghost use Rattle.seam_steps.specs.Settle.{settled};
 ghost use Rattle.seam_parts.specs.Kept.{here_in, IsThere};
-ghost use Rattle.seam_parts.specs.Stepping.{IsReadyFor, IsDone, parts_of, slot_in, core_of};
+ghost use Rattle.seam_parts.specs.Settling.{HasRoomFor};
+ghost use Rattle.seam_parts.specs.Stepping.{HasBegun, IsDone, parts_of, slot_in, core_of};
 
 use seam_call::Call;
 use seam_entity::{After, Msg, Real, fits_cell_part, may_rise};
 use seam_machine::Out;
 use seam_memory::NoMemoryFor;
-use seam_parts::{Known, Places, Ready, Subject, begin, ready_for, settle_real};
-use std::alloc::{AllocError, Global};
+use seam_parts::{Begun, Known, Places, Subject, begin, settle_real};
+use std::alloc::AllocError;
 
 /// A real, and a call whose turn it is.
 #[derive(Drop)]
@@ -33,11 +34,11 @@ pub struct Called {
     pub result: Result<(), NoMemoryFor<Call>>,
 }
 
-/// What a call leaves of a real, and what settling takes then.
+/// What a call leaves of a real, and the settling that has begun with it.
 #[derive(Drop)]
 pub struct Made {
     pub after: After,
-    pub ready: Ready,
+    pub begun: Begun,
 }
 
 /// Whether the real's beat and generation may rise.
@@ -69,12 +70,13 @@ pub fn may_call(known: &Known, real: &Real, call: &Call) -> bool
         && (may_offer(real, call) && may_execute(real))
 }
 
-// Makes what a call takes whose turn it is.
-fn make_for_call(
-    alloc: Global,
+// Begins what a call takes whose turn it is. If allocation fails, nothing has changed.
+fn begin_call(
     known: &Known,
     real: &mut Real,
     call: &Call,
+    places: &mut Places,
+    out: &mut Out<Msg>,
 ) -> Result<Made, AllocError>
     requires me { known.now.me < cell_count }
     requires legal { AreLegal known.now.settings }
@@ -85,8 +87,10 @@ fn make_for_call(
     ensures room { OnOk result (HasRoom real.new call.now) }
     ensures state { IfOk result (λ m. m.after.state ≡ (with_deed (here_in known.now) real.old.core call.now).state) }
     ensures changed { IfOk result (λ m. m.after.changed ≡ shows (here_in known.now) real.old.core call.now) }
-    ensures ready { let h = here_in known.now in IfOk result (λ m.
-        IsReadyFor h known.now.tree (executed h real.old.core call.now) (shows h real.old.core call.now) m.ready) }
+    ensures begun { let h = here_in known.now in let r = real.old.core in IfOk result (λ m. HasBegun h known.now.tree
+        (executed h r call.now) (shows h r call.now) (parts_of places.old out.old) (parts_of places.new out.new) m.begun) }
+    ensures places { IfOk result (λ m. HasRoomFor places.new.nexts.room out.new.spare m.begun.telling) }
+    ensures err { OnErr result (parts_of places.new out.new ≡ parts_of places.old out.old) }
 {
     let after = real.prepare(&known.defs, call)?;
     let of = Subject {
@@ -95,8 +99,8 @@ fn make_for_call(
         version: real.version_after(&after),
         state: &after.state,
     };
-    let ready = ready_for(alloc, known, real, &of, after.changed)?;
-    Ok(Made { after, ready })
+    let begun = begin(known, real, &of, after.changed, places, out)?;
+    Ok(Made { after, begun })
 }
 
 // There was no memory for the call, and nothing has changed.
@@ -111,13 +115,7 @@ fn refused(real: Real, call: Call) -> Called
 }
 
 /// Call, real here, whose turn it is: the real executes it and settles.
-pub fn execute_turn(
-    alloc: Global,
-    known: &Known,
-    turn: Turn,
-    places: &mut Places,
-    out: &mut Out<Msg>,
-) -> Called
+pub fn execute_turn(known: &Known, turn: Turn, places: &mut Places, out: &mut Out<Msg>) -> Called
     requires me { known.now.me < cell_count }
     requires legal { AreLegal known.now.settings }
     requires size { known.now.tree.size ≡ known.now.settings.size }
@@ -136,13 +134,10 @@ pub fn execute_turn(
     ensures err_item { IfErr result.result (λ e. e.item ≡ turn.call) }
 {
     let Turn { mut real, call } = turn;
-    let Ok(made) = make_for_call(alloc, known, &mut real, &call) else {
+    let Ok(made) = begin_call(known, &mut real, &call, places, out) else {
         return refused(real, call);
     };
-    let Made { after, ready } = made;
-    let Ok(begun) = begin(ready, places, out) else {
-        return refused(real, call);
-    };
+    let Made { after, begun } = made;
     real.execute_after(call, after);
     Called {
         left: settle_real(real, begun, places, out),

@@ -18,6 +18,9 @@ ghost use Rattle.seam_steps.specs.Maps.{set_at, has_any};
 ghost use Rattle.seam_steps.specs.Nodes.NodeView.{Cell as CellNode};
 ghost use Rattle.seam_entity.specs.Preparing.{node_with};
 ghost use Rattle.seam_cell.specs.Calling.{is_called, IsTurn, may_run};
+ghost use Rattle.seam_call.specs.declared.call.Call.{Call as AnyCall};
+ghost use Rattle.seam_call.specs.declared.shown.GhostCopy.{GhostCopy as AnyCopy};
+ghost use Rattle.seam_entity.specs.Reals.{RealView};
 
 use crate::arriving::arrive;
 use crate::calls::{Turn, execute_turn, hold, may_call, may_execute};
@@ -82,13 +85,6 @@ fn is_stray_set(defs: &Defs, settings: &Settings, beat: u64, copy: &GhostCopy) -
         return true;
     }
     !fits_copy(defs, settings, copy)
-}
-
-// The message comes back.
-fn no_memory_for(item: Msg) -> Result<(), NoMemoryFor<Msg>>
-    ensures { result ≡ Err (record { item = item }) }
-{
-    Err(NoMemoryFor { item })
 }
 
 impl Cell {
@@ -223,12 +219,7 @@ impl Cell {
 
     /// Call: where the real is here and may be offered the call, it executes it in its turn and settles, or holds it where it is
     /// early; where the real is not here, the call is sent to the next place.
-    pub fn hear_call(
-        &mut self,
-        alloc: Global,
-        call: Call,
-        out: &mut Out<Msg>,
-    ) -> Result<(), NoMemoryFor<Call>>
+    pub fn hear_call(&mut self, call: Call, out: &mut Out<Msg>) -> Result<(), NoMemoryFor<Call>>
         ensures state { (from : ℕ) → OnOk result (self.new ≡ (cell_steps self.old (From from (msg.Call call))).state) }
         ensures sent { (from : ℕ) →
             OnOk result (out.new.items ≡ out.old.items ++ (cell_steps self.old (From from (msg.Call call))).sent) }
@@ -245,18 +236,13 @@ impl Cell {
             return Ok(());
         }
         if parcel.real.is_turn(&call) {
-            return self.execute_call(alloc, call, out);
+            return self.execute_call(call, out);
         }
         self.hold_call(call)
     }
 
     // Call, real here, whose turn it is.
-    fn execute_call(
-        &mut self,
-        alloc: Global,
-        call: Call,
-        out: &mut Out<Msg>,
-    ) -> Result<(), NoMemoryFor<Call>>
+    fn execute_call(&mut self, call: Call, out: &mut Out<Msg>) -> Result<(), NoMemoryFor<Call>>
         requires may { is_called self.old call ≡ true }
         requires turn { IsTurn self.old call }
         ensures state { (from : ℕ) → OnOk result (self.new ≡ (cell_steps self.old (From from (msg.Call call))).state) }
@@ -272,7 +258,7 @@ impl Cell {
             return Err(NoMemoryFor { item: call });
         };
         let turn = Turn { real, call };
-        let called = execute_turn(alloc, &self.known, turn, &mut self.places, out);
+        let called = execute_turn(&self.known, turn, &mut self.places, out);
         put_after(&mut self.reals, &mut self.lists, e, called.left);
         called.result
     }
@@ -297,7 +283,7 @@ impl Cell {
     }
 
     // Ready-call task: the least entity that has a ready call executes it, and settles.
-    fn ready_task(&mut self, alloc: Global, e: u32, out: &mut Out<Msg>) -> Result<(), AllocError>
+    fn ready_task(&mut self, e: u32, out: &mut Out<Msg>) -> Result<(), AllocError>
         requires surveyed { self.old.survey ≡ [] }
         requires ready { ready_entity self.old ≡ Some e }
         ensures state { OnOk result (self.new ≡ (cell_steps self.old Task).state) }
@@ -311,11 +297,11 @@ impl Cell {
         if !may_execute(&parcel.real) {
             return Ok(());
         }
-        self.run_ready(alloc, e, out)
+        self.run_ready(e, out)
     }
 
     // The entity, whose real may execute its ready call, executes it.
-    fn run_ready(&mut self, alloc: Global, e: u32, out: &mut Out<Msg>) -> Result<(), AllocError>
+    fn run_ready(&mut self, e: u32, out: &mut Out<Msg>) -> Result<(), AllocError>
         requires surveyed { self.old.survey ≡ [] }
         requires ready { ready_entity self.old ≡ Some e }
         requires may { may_run (table.get self.old.reals e) ≡ true }
@@ -326,7 +312,7 @@ impl Cell {
     {
         self.told.clear();
         let real = take_out(&mut self.reals, e)?;
-        let tasked = execute_ready(alloc, &self.known, real, &mut self.places, out);
+        let tasked = execute_ready(&self.known, real, &mut self.places, out);
         put_after(&mut self.reals, &mut self.lists, e, tasked.left);
         tasked.result
     }
@@ -377,7 +363,7 @@ impl Cell {
     }
 
     // Survey task.
-    fn survey(&mut self, alloc: Global, out: &mut Out<Msg>) -> Result<(), AllocError>
+    fn survey(&mut self, out: &mut Out<Msg>) -> Result<(), AllocError>
         requires { has_any self.old.survey ≡ true }
         ensures state { OnOk result (self.new ≡ (cell_steps self.old Task).state) }
         ensures sent { OnOk result (out.new.items ≡ out.old.items ++ (cell_steps self.old Task).sent) }
@@ -386,7 +372,6 @@ impl Cell {
     {
         self.told.clear();
         survey_task(
-            alloc,
             &self.known,
             &mut self.reals,
             &mut self.places,
@@ -403,10 +388,10 @@ impl Cell {
         ensures err_out { OnErr result (out.new.items ≡ out.old.items) }
     {
         if self.has_survey() {
-            return self.survey(alloc, out);
+            return self.survey(out);
         }
         if let Some(e) = self.ready_entity() {
-            return self.ready_task(alloc, e, out);
+            return self.ready_task(e, out);
         }
         self.look(alloc, out)
     }
@@ -425,44 +410,86 @@ impl Cell {
         first_ready(&self.reals)
     }
 
-    // A message from another node; no case is for what goes to base nodes alone.
-    fn hear(
-        &mut self,
-        alloc: Global,
-        message: Msg,
-        out: &mut Out<Msg>,
-    ) -> Result<(), NoMemoryFor<Msg>>
-        ensures state { (from : ℕ) → OnOk result (self.new ≡ (cell_steps self.old (From from message)).state) }
-        ensures sent { (from : ℕ) → OnOk result (out.new.items ≡ out.old.items ++ (cell_steps self.old (From from message)).sent) }
+    // A call is taken out of its message. If allocation fails, it is put back.
+    #[inline(never)]
+    fn take_call(&mut self, message: &mut Msg, out: &mut Out<Msg>) -> Result<(), AllocError>
+        requires { (call : AnyCall) × (message.old ≡ msg.Call call) }
+        ensures state { (from : ℕ) → OnOk result (self.new ≡ (cell_steps self.old (From from message.old)).state) }
+        ensures sent { (from : ℕ) → OnOk result (out.new.items ≡ out.old.items ++ (cell_steps self.old (From from message.old)).sent) }
         ensures err { OnErr result (self.new ≡ self.old) }
         ensures err_out { OnErr result (out.new.items ≡ out.old.items) }
-        ensures err_item { IfErr result (λ r. r.item ≡ message) }
+        ensures err_message { OnErr result (message.new ≡ message.old) }
+    {
+        let Msg::Call(call) = std::mem::replace(message, Msg::Tick) else {
+            unreachable!()
+        };
+        match self.hear_call(call, out) {
+            Ok(()) => return Ok(()),
+            Err(refused) => {
+                *message = Msg::Call(refused.item);
+                return Err(AllocError);
+            }
+        }
+    }
+
+    // So is a hand-over.
+    #[inline(never)]
+    fn take_hand(&mut self, message: &mut Msg, out: &mut Out<Msg>) -> Result<(), AllocError>
+        requires { (real : RealView) × (message.old ≡ msg.Hand real) }
+        ensures state { (from : ℕ) → OnOk result (self.new ≡ (cell_steps self.old (From from message.old)).state) }
+        ensures sent { (from : ℕ) → OnOk result (out.new.items ≡ out.old.items ++ (cell_steps self.old (From from message.old)).sent) }
+        ensures err { OnErr result (self.new ≡ self.old) }
+        ensures err_out { OnErr result (out.new.items ≡ out.old.items) }
+        ensures err_message { OnErr result (message.new ≡ message.old) }
+    {
+        let Msg::Hand(parcel) = std::mem::replace(message, Msg::Tick) else {
+            unreachable!()
+        };
+        match self.hear_hand(parcel, out) {
+            Ok(()) => return Ok(()),
+            Err(refused) => {
+                *message = Msg::Hand(refused.item);
+                return Err(AllocError);
+            }
+        }
+    }
+
+    // And so is a ghost set.
+    #[inline(never)]
+    fn take_ghost_set(&mut self, message: &mut Msg) -> Result<(), AllocError>
+        requires { (e beat : ℕ) × (copy : AnyCopy) × (message.old ≡ msg.GhostSet e beat copy) }
+        ensures state { (from : ℕ) → OnOk result (self.new ≡ (cell_steps self.old (From from message.old)).state) }
+        ensures sent { (from : ℕ) → (cell_steps self.old (From from message.old)).sent ≡ [] }
+        ensures err { OnErr result (self.new ≡ self.old) }
+        ensures err_message { OnErr result (message.new ≡ message.old) }
+    {
+        let Msg::GhostSet(e, beat, copy) = std::mem::replace(message, Msg::Tick) else {
+            unreachable!()
+        };
+        match self.hear_ghost_set(e, beat, copy) {
+            Ok(()) => return Ok(()),
+            Err(refused) => {
+                *message = Msg::GhostSet(e, beat, refused.item);
+                return Err(AllocError);
+            }
+        }
+    }
+
+    // A message from another node, which is used up; no case is for what goes to base nodes alone.
+    fn hear(&mut self, message: &mut Msg, out: &mut Out<Msg>) -> Result<(), AllocError>
+        ensures state { (from : ℕ) → OnOk result (self.new ≡ (cell_steps self.old (From from message.old)).state) }
+        ensures sent { (from : ℕ) → OnOk result (out.new.items ≡ out.old.items ++ (cell_steps self.old (From from message.old)).sent) }
+        ensures err { OnErr result (self.new ≡ self.old) }
+        ensures err_out { OnErr result (out.new.items ≡ out.old.items) }
+        ensures err_message { OnErr result (message.new ≡ message.old) }
     {
         match message {
-            Msg::Call(call) => match self.hear_call(alloc, call, out) {
-                Ok(()) => return Ok(()),
-                Err(refused) => return no_memory_for(Msg::Call(refused.item)),
-            },
-            Msg::Hand(parcel) => match self.hear_hand(parcel, out) {
-                Ok(()) => return Ok(()),
-                Err(refused) => return no_memory_for(Msg::Hand(refused.item)),
-            },
-            Msg::GhostSet(e, beat, copy) => match self.hear_ghost_set(e, beat, copy) {
-                Ok(()) => return Ok(()),
-                Err(refused) => return no_memory_for(Msg::GhostSet(e, beat, refused.item)),
-            },
-            Msg::GhostDrop(e, beat) => match self.hear_ghost_drop(e, beat) {
-                Ok(()) => return Ok(()),
-                Err(_) => return no_memory_for(Msg::GhostDrop(e, beat)),
-            },
-            Msg::Tick => match self.hear_tick() {
-                Ok(()) => return Ok(()),
-                Err(_) => return no_memory_for(Msg::Tick),
-            },
-            Msg::Reap(e) => match self.hear_reap(e, out) {
-                Ok(()) => return Ok(()),
-                Err(_) => return no_memory_for(Msg::Reap(e)),
-            },
+            Msg::Call(_) => return self.take_call(message, out),
+            Msg::Hand(_) => return self.take_hand(message, out),
+            Msg::GhostSet(_, _, _) => return self.take_ghost_set(message),
+            Msg::GhostDrop(e, beat) => return self.hear_ghost_drop(*e, *beat),
+            Msg::Tick => return self.hear_tick(),
+            Msg::Reap(e) => return self.hear_reap(*e, out),
             Msg::BaseCall(_) => return Ok(()),
             Msg::Current(_, _, _) => return Ok(()),
             Msg::Update(_) => return Ok(()),
@@ -535,29 +562,19 @@ impl Machine for Cell {
     fn step(
         &mut self,
         alloc: Global,
-        input: Input<Msg>,
+        input: &mut Input<Msg>,
         out: &mut Out<Msg>,
-    ) -> Result<(), NoMemoryFor<Input<Msg>>>
-        requires { input ≡ Input.Task → cell_has_work self.old ≡ true }
-        ensures state { OnOk result (self.new ≡ (cell_steps self.old input).state) }
-        ensures sent { OnOk result (out.new.items ≡ out.old.items ++ (cell_steps self.old input).sent) }
+    ) -> Result<(), AllocError>
+        requires { input.old ≡ Input.Task → cell_has_work self.old ≡ true }
+        ensures state { OnOk result (self.new ≡ (cell_steps self.old input.old).state) }
+        ensures sent { OnOk result (out.new.items ≡ out.old.items ++ (cell_steps self.old input.old).sent) }
         ensures err_state { OnErr result (self.new ≡ self.old) }
         ensures err_out { OnErr result (out.new.items ≡ out.old.items) }
-        ensures err_input { IfErr result (λ e. e.item ≡ input) }
+        ensures err_input { OnErr result (input.new ≡ input.old) }
     {
         match input {
-            Input::Task => match self.task(alloc, out) {
-                Ok(()) => return Ok(()),
-                Err(_) => return Err(NoMemoryFor { item: Input::Task }),
-            },
-            Input::From(from, message) => match self.hear(alloc, message, out) {
-                Ok(()) => return Ok(()),
-                Err(refused) => {
-                    return Err(NoMemoryFor {
-                        item: Input::From(from, refused.item),
-                    });
-                }
-            },
+            Input::Task => return self.task(alloc, out),
+            Input::From(_, message) => return self.hear(message, out),
         }
     }
 }

@@ -1,6 +1,6 @@
 //! A real settles where it is due, without a call.
 
-ghost use Rattle.std.specs.Prelude.{◌≡◌, ◌<◌, ◌++◌, not, true, false, IsTrue, OnOk, OnErr, IfOk, IfSome, Some, option_map};
+ghost use Rattle.std.specs.Prelude.{◌≡◌, ◌<◌, ◌++◌, not, true, false, IsTrue, OnOk, OnErr, IfSome, Some, option_map};
 ghost use Rattle.std.specs.FinMap as table;
 ghost use Rattle.seam_defs.specs.Settings.{AreLegal};
 ghost use Rattle.seam_entity.specs.Here.{cell_count};
@@ -11,7 +11,7 @@ ghost use Rattle.seam_steps.specs.CellCases.{stray_survey};
 ghost use Rattle.seam_steps.specs.Cells.{cell_task};
 ghost use Rattle.seam_steps.specs.Maps.{has_any};
 ghost use Rattle.seam_parts.specs.Kept.{here_in, cell_of, AreKept, AreWhole, IsThere};
-ghost use Rattle.seam_parts.specs.Stepping.{IsReadyFor, IsDone, parts_of, slot_in, core_of};
+ghost use Rattle.seam_parts.specs.Stepping.{IsDone, parts_of, slot_in, core_of};
 ghost use Rattle.seam_cell.specs.Surveying.{IsMoot};
 
 use crate::calls::may_settle;
@@ -19,28 +19,9 @@ use crate::tasks::Tasked;
 use seam_entity::{Msg, Real};
 use seam_machine::Out;
 use seam_parts::{
-    Known, Lists, Places, Ready, Reals, Subject, begin, is_at_rest, put_after, ready_for,
-    settle_real, take_out,
+    Known, Lists, Places, Reals, Subject, begin, is_at_rest, put_after, settle_real, take_out,
 };
-use std::alloc::{AllocError, Global};
-
-// Makes what a real takes to settle as it is.
-fn make_ready(alloc: Global, known: &Known, real: &Real) -> Result<Ready, AllocError>
-    requires me { known.now.me < cell_count }
-    requires legal { AreLegal known.now.settings }
-    requires there { IsThere (here_in known.now) known.now.tree real.now.core }
-    requires may { real_may_settle real.now.core ≡ true }
-    ensures { IfOk result (IsReadyFor (here_in known.now) known.now.tree real.now.core false) }
-{
-    let of = Subject {
-        defs: &known.defs,
-        ty: real.ty(),
-        version: real.public_version(),
-        state: real.state(),
-    };
-    let ready = ready_for(alloc, known, real, &of, false)?;
-    Ok(ready)
-}
+use std::alloc::AllocError;
 
 // Whether there is nothing to do for the entity: its real is not here, may not settle, or is at rest, as most are.
 fn is_moot(known: &Known, reals: &Reals, e: u32) -> bool
@@ -57,13 +38,7 @@ fn is_moot(known: &Known, reals: &Reals, e: u32) -> bool
 }
 
 /// The real settles as it is.
-pub fn settle_again(
-    alloc: Global,
-    known: &Known,
-    real: Real,
-    places: &mut Places,
-    out: &mut Out<Msg>,
-) -> Tasked
+pub fn settle_again(known: &Known, real: Real, places: &mut Places, out: &mut Out<Msg>) -> Tasked
     requires me { known.now.me < cell_count }
     requires legal { AreLegal known.now.settings }
     requires there { IsThere (here_in known.now) known.now.tree real.core }
@@ -77,13 +52,13 @@ pub fn settle_again(
     ensures err { OnErr result.result (option_map core_of result.left ≡ Some real.core) }
     ensures err_parts { OnErr result.result (parts_of places.new out.new ≡ parts_of places.old out.old) }
 {
-    let Ok(ready) = make_ready(alloc, known, &real) else {
-        return Tasked {
-            left: Some(real),
-            result: Err(AllocError),
-        };
+    let of = Subject {
+        defs: &known.defs,
+        ty: real.ty(),
+        version: real.public_version(),
+        state: real.state(),
     };
-    let Ok(begun) = begin(ready, places, out) else {
+    let Ok(begun) = begin(known, &real, &of, false, places, out) else {
         return Tasked {
             left: Some(real),
             result: Err(AllocError),
@@ -97,7 +72,6 @@ pub fn settle_again(
 
 /// Survey task: the first entity of the survey list is taken off it, and its real settles.
 pub fn survey_task(
-    alloc: Global,
     known: &Known,
     reals: &mut Reals,
     places: &mut Places,
@@ -122,7 +96,7 @@ pub fn survey_task(
         return Ok(());
     }
     let real = take_out(reals, e)?;
-    let Tasked { left, result } = settle_again(alloc, known, real, places, out);
+    let Tasked { left, result } = settle_again(known, real, places, out);
     match result {
         Ok(()) => {
             let _ = lists.survey.take_first();

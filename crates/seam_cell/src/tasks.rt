@@ -10,13 +10,14 @@ ghost use Rattle.seam_entity.specs.Executing.{may_settle, may_execute, executed_
 ghost use Rattle.seam_entity.specs.Preparing.{HasSpare, HasReady};
 ghost use Rattle.seam_steps.specs.CellCases.{survey_task, ready_call_task};
 ghost use Rattle.seam_parts.specs.Kept.{here_in, IsThere};
-ghost use Rattle.seam_parts.specs.Stepping.{IsReadyFor, IsDone, parts_of, slot_in, core_of};
+ghost use Rattle.seam_parts.specs.Settling.{HasRoomFor};
+ghost use Rattle.seam_parts.specs.Stepping.{HasBegun, IsDone, parts_of, slot_in, core_of};
 
 use crate::calls::Made;
 use seam_entity::{Msg, Real};
 use seam_machine::Out;
-use seam_parts::{Known, Places, Subject, begin, ready_for, settle_real};
-use std::alloc::{AllocError, Global};
+use seam_parts::{Known, Places, Subject, begin, settle_real};
+use std::alloc::AllocError;
 
 /// The real after a task, where it is still here, and whether there was memory for the task.
 #[derive(Drop)]
@@ -25,8 +26,13 @@ pub struct Tasked {
     pub result: Result<(), AllocError>,
 }
 
-// Makes what the ready call takes of the real's least sender that has one.
-fn make_for_ready(alloc: Global, known: &Known, real: &mut Real) -> Result<Made, AllocError>
+// Begins what the ready call takes of the real's least sender that has one. If allocation fails, nothing has changed.
+fn begin_ready(
+    known: &Known,
+    real: &mut Real,
+    places: &mut Places,
+    out: &mut Out<Msg>,
+) -> Result<Made, AllocError>
     requires me { known.now.me < cell_count }
     requires legal { AreLegal known.now.settings }
     requires size { known.now.tree.size ≡ known.now.settings.size }
@@ -39,8 +45,12 @@ fn make_for_ready(alloc: Global, known: &Known, real: &mut Real) -> Result<Made,
         IfOk result (λ m. m.after.state ≡ (with_deed (here_in known.now) real.old.core k).state) }
     ensures changed { (o : ℕ × OrderView AnyCall) (k : AnyCall) → HasReady real.old.core o k →
         IfOk result (λ m. m.after.changed ≡ shows (here_in known.now) real.old.core k) }
-    ensures ready { (o : ℕ × OrderView AnyCall) (k : AnyCall) → HasReady real.old.core o k → let h = here_in known.now in
-        IfOk result (λ m. IsReadyFor h known.now.tree (executed_ready h real.old.core o k) (shows h real.old.core k) m.ready) }
+    ensures begun { (o : ℕ × OrderView AnyCall) (k : AnyCall) → HasReady real.old.core o k →
+        let h = here_in known.now in let r = real.old.core in IfOk result (λ m. HasBegun h known.now.tree
+        (executed_ready h r o k) (shows h r k) (parts_of places.old out.old) (parts_of places.new out.new) m.begun) }
+    ensures entity { IfOk result (λ m. m.begun.telling.entity ≡ real.old.core.entity) }
+    ensures places { IfOk result (λ m. HasRoomFor places.new.nexts.room out.new.spare m.begun.telling) }
+    ensures err { OnErr result (parts_of places.new out.new ≡ parts_of places.old out.old) }
 {
     let after = real.prepare_ready(&known.defs)?;
     let of = Subject {
@@ -49,13 +59,12 @@ fn make_for_ready(alloc: Global, known: &Known, real: &mut Real) -> Result<Made,
         version: real.version_after(&after),
         state: &after.state,
     };
-    let ready = ready_for(alloc, known, real, &of, after.changed)?;
-    Ok(Made { after, ready })
+    let begun = begin(known, real, &of, after.changed, places, out)?;
+    Ok(Made { after, begun })
 }
 
 /// Ready-call task: the real executes the ready call of its least sender that has one, and settles.
 pub fn execute_ready(
-    alloc: Global,
     known: &Known,
     mut real: Real,
     places: &mut Places,
@@ -76,19 +85,13 @@ pub fn execute_ready(
     ensures err { OnErr result.result (option_map core_of result.left ≡ Some real.core) }
     ensures err_parts { OnErr result.result (parts_of places.new out.new ≡ parts_of places.old out.old) }
 {
-    let Ok(made) = make_for_ready(alloc, known, &mut real) else {
+    let Ok(made) = begin_ready(known, &mut real, places, out) else {
         return Tasked {
             left: Some(real),
             result: Err(AllocError),
         };
     };
-    let Made { after, ready } = made;
-    let Ok(begun) = begin(ready, places, out) else {
-        return Tasked {
-            left: Some(real),
-            result: Err(AllocError),
-        };
-    };
+    let Made { after, begun } = made;
     real.execute_ready_after(after);
     Tasked {
         left: settle_real(real, begun, places, out),

@@ -1,6 +1,6 @@
 //! Nodes of a world: cells and base nodes.
 
-ghost use Rattle.std.specs.Prelude.{◌≡◌, ◌++◌, true, OnOk, OnErr, IfErr, option_copied, if◌then◌else◌};
+ghost use Rattle.std.specs.Prelude.{◌≡◌, ◌++◌, true, OnOk, OnErr, option_copied, if◌then◌else◌};
 ghost use Rattle.seam_machine.specs.declared.machines.Input.{Input as AnyInput};
 ghost use Rattle.seam_steps.specs.Nodes.{NodeView, node_steps, node_has_work, node_peers};
 ghost use Rattle.seam_steps.specs.Nodes.NodeView.{Cell as CellNode, Base as BaseNode};
@@ -13,8 +13,7 @@ use seam_base::Base;
 use seam_cell::Cell;
 use seam_entity::Msg;
 use seam_machine::{Input, Machine, Out};
-use seam_memory::NoMemoryFor;
-use std::alloc::Global;
+use std::alloc::{AllocError, Global};
 use std::marker::Model;
 
 // What a node is.
@@ -135,25 +134,19 @@ impl Machine for Node {
     fn step(
         &mut self,
         alloc: Global,
-        input: Input<Msg>,
+        input: &mut Input<Msg>,
         out: &mut Out<Msg>,
-    ) -> Result<(), NoMemoryFor<Input<Msg>>>
-        requires { input ≡ Input.Task → node_has_work self.old ≡ true }
-        ensures state { OnOk result (self.new ≡ (node_steps self.old input).state) }
-        ensures sent { OnOk result (out.new.items ≡ out.old.items ++ (node_steps self.old input).sent) }
+    ) -> Result<(), AllocError>
+        requires { input.old ≡ Input.Task → node_has_work self.old ≡ true }
+        ensures state { OnOk result (self.new ≡ (node_steps self.old input.old).state) }
+        ensures sent { OnOk result (out.new.items ≡ out.old.items ++ (node_steps self.old input.old).sent) }
         ensures err_state { OnErr result (self.new ≡ self.old) }
         ensures err_out { OnErr result (out.new.items ≡ out.old.items) }
-        ensures err_input { IfErr result (λ e. e.item ≡ input) }
+        ensures err_input { OnErr result (input.new ≡ input.old) }
     {
         match &mut self.kind {
-            Kind::Cell(cell) => match cell.step(alloc, input, out) {
-                Ok(()) => return Ok(()),
-                Err(refused) => return Err(refused),
-            },
-            Kind::Base(base) => match base.step(alloc, input, out) {
-                Ok(()) => return Ok(()),
-                Err(refused) => return Err(refused),
-            },
+            Kind::Cell(cell) => cell.step(alloc, input, out),
+            Kind::Base(base) => base.step(alloc, input, out),
         }
     }
 }

@@ -1,5 +1,5 @@
 -- Lists of values some of which are left out.
-use Rattle.std.proofs.Common.{◌≡◌, ℕ, zero, suc, ◌+◌, ◌*◌, ◌^◌, ◌<◌, ◌≤◌, ◌/◌, ◌%◌, refl, sym, ap, ◌∙◌, List, [], ◌∷◌, ◌++◌, length, Bool, true, false, inl, inr, arith, take, drop, get_or, length-take, append_assoc, drop-cons, add-one, if◌then◌else◌}
+use Rattle.std.proofs.Common.{◌≡◌, ◌≢◌, ◌↔◌, ℕ, zero, suc, ◌+◌, ◌*◌, ◌^◌, ◌<◌, ◌≤◌, ◌/◌, ◌%◌, refl, sym, ap, ◌∙◌, List, [], ◌∷◌, ◌++◌, length, Bool, true, false, inl, inr, arith, take, drop, get_or, length-take, append_assoc, drop-cons, add-one, if◌then◌else◌}
 use Rattle.std.proofs.lemmas.Bool.{cases_Bool}
 use Rattle.std.proofs.Math.Nat.{pow-succ', mul_left_comm}
 use Rattle.std.specs.Prelude.{◌==◌}
@@ -10,6 +10,13 @@ use Rattle.seam_defs.specs.declared.types.Property.{Property}
 use Rattle.seam_defs.specs.Marks.{kept}
 use Rattle.seam_defs.specs.Remaining.{shown_of}
 use Rattle.seam_defs.proofs.Places.{zip-nil}
+
+-- the lowest digit of a number is 1 exactly where 2 does not divide it
+pub even : (n : ℕ) → n % 2 ≡ 0 → (n % 2 == 1) ≡ false
+even n e = rw e refl
+
+pub odd : (n : ℕ) → n % 2 ≢ 0 → (n % 2 == 1) ≡ true
+odd n e = let one : n % 2 ≡ 1 = omega arith in rw one refl
 
 -- a list is at least as long as what is kept of it
 pub kept-length : (marks : ℕ) (values : List Value) → length (kept marks values) ≤ length values
@@ -77,6 +84,30 @@ module _ (values : List Value) (i : ℕ) (v : Value) (within : i < length values
       let more = digit-more marks 1 below in
       let same : marks + 1 * 2 ^ i ≡ marks + 2 ^ i = omega arith in
       rw (next, ← same, more) (ap (λ l. l ++ shown_of g qs (kept (before / 2) (drop (i + 1) values))) (append-nil (kept marks (take i values))))
+
+-- two lists are the same from a place on where their values there are, and the lists from the next place on
+module _ (vs ws : List Value) (i : ℕ) (v w : Value) (vs-within : i < length vs) (ws-within : i < length ws) (v-here : v ≡ get_or vs i v)
+    (w-here : w ≡ get_or ws i w) (marks : ℕ) where
+  pub both-passed : (marks % 2 == 1) ≡ true →
+      (kept marks (drop i vs) ≡ kept marks (drop i ws)) ↔ (kept (marks / 2) (drop (i + 1) vs) ≡ kept (marks / 2) (drop (i + 1) ws))
+  both-passed out =
+      let one = kept-passed vs i v vs-within v-here marks out in
+      let other = kept-passed ws i w ws-within w-here marks out in
+      ((λ e. cc), (λ e. cc))
+
+  pub both-next : (marks % 2 == 1) ≡ false → v ≡ w →
+      (kept marks (drop i vs) ≡ kept marks (drop i ws)) ↔ (kept (marks / 2) (drop (i + 1) vs) ≡ kept (marks / 2) (drop (i + 1) ws))
+  both-next inside same =
+      let one = kept-next vs i v vs-within v-here marks inside in
+      let other = kept-next ws i w ws-within w-here marks inside in
+      ((λ e. cc), (λ e. cc))
+
+  -- where one value differs the lists do
+  pub one-differs : (marks % 2 == 1) ≡ false → kept marks (drop i vs) ≡ kept marks (drop i ws) → v ≡ w
+  one-differs inside same =
+      let one = kept-next vs i v vs-within v-here marks inside in
+      let other = kept-next ws i w ws-within w-here marks inside in
+      cc
 
 -- every value is marked
 pub all-marked : (values : List Value) (n : ℕ) → length values ≤ n → (g : Group) (ps : List Property) (before marks : ℕ) →

@@ -74,13 +74,10 @@ impl Props {
     pub fn equals(&self, other: &Props) -> bool
         ensures { IsTrue result ↔ (self.now ≡ other.now) }
     {
-        let mut others = other.values();
-        for value in self.values() {
-            if others.next() != Some(value) {
-                return false;
-            }
+        if self.left_out == other.left_out && self.values.len() == other.values.len() {
+            return are_same_kept(&self.values, &other.values, self.left_out);
         }
-        others.next().is_none()
+        are_same(self.values(), other.values())
     }
 
     /// How many values there are.
@@ -172,6 +169,34 @@ impl<'a> Iterator for KeptValues<'a> {
         }
         None
     }
+}
+
+// Whether the values of two lists are the same.
+fn are_same(values: KeptValues<'_>, mut others: KeptValues<'_>) -> bool
+    ensures { IsTrue result ↔ (values_left values.entry ≡ values_left others.entry) }
+{
+    for value in values {
+        if others.next() != Some(value) {
+            return false;
+        }
+    }
+    others.next().is_none()
+}
+
+// Whether the kept values of two lists are the same of which the same places are left out.
+fn are_same_kept(values: &[Value], others: &[Value], left_out: u64) -> bool
+    requires { length values.now ≡ length others.now }
+    ensures { IsTrue result ↔ (kept left_out values.now ≡ kept left_out others.now) }
+{
+    let mut marks = left_out;
+    for i in 0..values.len() {
+        let (value, other) = (&values[i], &others[i]);
+        if marks % 2 == 0 && value != other {
+            return false;
+        }
+        marks /= 2;
+    }
+    true
 }
 
 // The digits of those that are left out where only values are kept whose properties are in another group too.

@@ -1,7 +1,8 @@
 -- The first of the items, which all go to one node, are moved to the end of its link.
-use Rattle.std.proofs.Common.{◌≡◌, ℕ, ◌+◌, ◌<◌, List, [], ◌∷◌, ◌++◌, length, get_or, set, map, sym, ap, ◌∙◌, arith, append_assoc, subst}
+use Rattle.std.proofs.Common.{◌≡◌, ℕ, ◌+◌, ◌<◌, List, [], ◌∷◌, ◌++◌, length, get_or, set, map, refl, sym, ap, ◌∙◌, arith, append_assoc, subst}
+use Rattle.std.specs.List.{All}
 use Rattle.std.proofs.lemmas.List.{length-append, length-map, append-nil, set-set, set-get_or, get_or-set_same, length-set}
-use Rattle.std.proofs.lemmas.List.Elements.{All-tail}
+use Rattle.std.proofs.lemmas.List.Elements.{All-head, All-tail}
 use Rattle.seam_machine.specs.Sends.{AllBelow}
 use Rattle.seam_machine.specs.Nets.{put_all}
 use Rattle.seam_machine.specs.Inside.{PutsRun}
@@ -27,6 +28,21 @@ module _ {M : Type 0} where
         rest : (run : List M) (ps : List (ℕ × M)) → AllBelow n (map (λ m. (to, m)) run ++ ps) → AllBelow n ps
         rest [] ps h = h
         rest (x ∷ xs) ps h = rest xs ps (All-tail (λ q. q.0 < n) (to, x) (map (λ m. (to, m)) xs ++ ps) h)
+
+  tagged : (to : ℕ) (items : List (ℕ × M)) → All (λ p. p.0 ≡ to) items → items ≡ map (λ m. (to, m)) (map (λ p. p.1) items) ++ []
+  tagged to [] all = refl
+  tagged to (p ∷ ps) all =
+      ap (λ t. (t, p.1) ∷ ps) (All-head (λ q. q.0 ≡ to) p ps all)
+      ∙ ap (λ l. (to, p.1) ∷ l) (tagged to ps (All-tail (λ q. q.0 ≡ to) p ps all))
+
+  -- all items, which go to one node, are its link now, which was empty
+  pub run_given : (to : ℕ) (link link' : List M) (items items' : List (ℕ × M)) → All (λ p. p.0 ≡ to) items → link ≡ [] →
+      link' ≡ map (λ p. p.1) items → items' ≡ [] → PutsRun to link items link' items'
+  run_given to link link' items items' all empty given none = record {
+    run = map (λ p. p.1) items;
+    items_are = tagged to items all ∙ ap (λ l. map (λ m. (to, m)) (map (λ p. p.1) items) ++ l) (sym none);
+    link_is = given ∙ ap (λ l. l ++ map (λ p. p.1) items) (sym empty);
+  }
 
   put_all-run : (to : ℕ) (row : List (List M)) (run : List M) (rest : List (ℕ × M)) → to < length row →
       put_all row (map (λ m. (to, m)) run ++ rest) ≡ put_all (set row to (get_or row to [] ++ run)) rest

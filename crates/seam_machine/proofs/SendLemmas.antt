@@ -1,9 +1,11 @@
 -- Items that go to one node, counted one after the other.
 use Rattle.std.proofs.Common.{◌≡◌, ◌≢◌, ℕ, zero, suc, ◌+◌, ◌<◌, ◌≤◌, Bool, true, false, cond, eqb, List, [], ◌∷◌, ◌++◌, length, None, Some}
-use Rattle.std.proofs.Common.{get_or, take, refl, sym, ap, ◌∙◌, arith}
+use Rattle.std.proofs.Common.{get_or, take, refl, sym, ap, ◌∙◌, subst, arith}
 use Rattle.std.specs.Prelude.{slice_get}
 use Rattle.std.proofs.lemmas.Bool.Decides.{nat_tests}
-use Rattle.std.proofs.lemmas.List.{take_more, length-append}
+use Rattle.std.specs.List.{All}
+use Rattle.std.proofs.lemmas.List.{take_more, take_all, length-append}
+use Rattle.std.proofs.lemmas.List.Elements.{All-append, All-cons, All-nil}
 use Rattle.seam_machine.specs.Sends.{items_to, first_target, AllBelow}
 
 pub items_to-append : {M : Type 0} (b : ℕ) (xs ys : List (ℕ × M)) → items_to b (xs ++ ys) ≡ items_to b xs ++ items_to b ys
@@ -65,3 +67,24 @@ none_past (x ∷ xs) (suc i) h = none_past xs i (omega (arith, h))
 pub target_fits : {M : Type 0} (n : ℕ) (items : List (ℕ × M)) (to : ℕ) → first_target items ≡ Some to → AllBelow n items → to < n
 target_fits n [] to e h = cc
 target_fits n (p ∷ ps) to e h = let same : p.0 ≡ to = cc in let here = h 0 p (omega arith) in omega (arith, same, here)
+
+-- one more item goes to the node
+pub all_go_more : {M : Type 0} (to : ℕ) (xs : List (ℕ × M)) (i : ℕ) (x : ℕ × M) → i < length xs → x ≡ get_or xs i x → x.0 ≡ to →
+    All (λ p. p.0 ≡ to) (take i xs) → All (λ p. p.0 ≡ to) (take (i + 1) xs)
+all_go_more {M} to xs i x h r e before =
+    let P : ℕ × M → Type 0 = λ p. p.0 ≡ to in
+    subst (All P) (sym (take_more xs i x h ∙ ap (λ y. take i xs ++ y ∷ []) (sym r)))
+    (All-append P (take i xs) (x ∷ []) before (All-cons P x [] e (All-nil P)))
+
+pub all_go_whole : {M : Type 0} (to : ℕ) (xs : List (ℕ × M)) (n : ℕ) → length xs ≤ n → All (λ p. p.0 ≡ to) (take n xs) → All (λ p. p.0 ≡ to) xs
+all_go_whole to xs n h before = subst (All (λ p. p.0 ≡ to)) (take_all n xs h) before
+
+pub all_go_both : {M : Type 0} (to : ℕ) (xs ys items : List (ℕ × M)) → xs ++ ys ≡ items → All (λ p. p.0 ≡ to) xs → All (λ p. p.0 ≡ to) ys →
+    All (λ p. p.0 ≡ to) items
+all_go_both {M} to xs ys items e one more =
+    let P : ℕ × M → Type 0 = λ p. p.0 ≡ to in
+    subst (All P) e (All-append P xs ys one more)
+
+pub target_some : {M : Type 0} (items : List (ℕ × M)) (to : ℕ) → first_target items ≡ Some to → 0 < length items
+target_some [] to e = cc
+target_some (p ∷ ps) to e = omega arith

@@ -176,8 +176,9 @@ fn lower<T>(kept: &mut Kept, rows: &Vec<Row<T>>, at: usize, left: usize)
     kept.starts[at] = next_start(rows, at, start, count);
 }
 
-// Moves what waits in `out` to the links of its sender.
-fn deliver<T>(
+// Moves what waits in `out` to the links of its sender, run by run.
+#[inline(never)]
+fn deliver_runs<T>(
     row: &mut Row<T>,
     kept: &mut Kept,
     out: &mut Out<T>,
@@ -205,6 +206,35 @@ fn deliver<T>(
         }
     }
     Ok(())
+}
+
+// Moves what waits in `out` to the links of its sender. Most often that is one message, or many to one node.
+fn deliver<T>(
+    row: &mut Row<T>,
+    kept: &mut Kept,
+    out: &mut Out<T>,
+    sender: u8,
+) -> Result<(), AllocError>
+    requires targets { AllBelow (length row.old) out.old.items }
+    requires wide { length kept.old.busy.items ≡ length row.old }
+    requires fits { CountsFit kept.old.busy.items row.old }
+    requires starts { length kept.old.starts.items ≡ length row.old }
+    requires own { (b : ℕ) → sender < slice_index_or kept.old.starts.items b 0 → slice_index_or row.old b [] ≡ [] }
+    requires low { FirstAre 0 kept.old.low kept.old.busy.items }
+    ensures lowered { Lowers sender kept.old.starts.items kept.new.starts.items row.new }
+    ensures moved { Delivers row.old out.old.items kept.old.busy.items row.new out.new.items kept.new.busy.items }
+    ensures low { FirstAre 0 kept.new.low kept.new.busy.items }
+    ensures less { kept.new.low ≤ kept.old.low }
+    ensures ok { OnOk result (out.new.items ≡ []) }
+{
+    let Some(to) = out.next_target() else {
+        return Ok(());
+    };
+    if row.put_all(to, out) {
+        kept.fill(to as usize, sender);
+        return Ok(());
+    }
+    deliver_runs(row, kept, out, sender)
 }
 
 impl<T> Links<T> {
@@ -364,7 +394,8 @@ impl<T> Links<T> {
         ensures same_peers { M.peer_count node.new ≡ M.peer_count node.old }
     {
         node.known();
-        match node.step(alloc, Input::Task, &mut self.out) {
+        let mut task = Input::Task;
+        match node.step(alloc, &mut task, &mut self.out) {
             Ok(()) => {
                 self.sender = at as usize;
                 let _ = self.settle();

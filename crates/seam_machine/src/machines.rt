@@ -1,13 +1,12 @@
 //! What a machine is: a state, a task, and a step whose meaning is a function.
 
-ghost use Rattle.std.specs.Prelude.{◌≡◌, ℕ, ◌<◌, ◌++◌, Bool, true, OnOk, OnErr, IfErr};
+ghost use Rattle.std.specs.Prelude.{◌≡◌, ℕ, ◌<◌, ◌++◌, Bool, true, OnOk, OnErr};
 ghost use Rattle.std.specs.List.{All};
 ghost use Rattle.seam_machine.specs.Views.{Stepped, OutView};
 ghost use Rattle.seam_machine.specs.Sends.{AllBelow};
 
 use crate::sends::Out;
-use seam_memory::NoMemoryFor;
-use std::alloc::Global;
+use std::alloc::{AllocError, Global};
 
 /// What a step is fed: the node's own task, or a message from that node.
 #[derive(Debug, Drop, PartialEq, Eq)]
@@ -52,19 +51,19 @@ pub trait Machine: Drop {
     fn known(&self)
         ensures { valid self.now };
 
-    /// Makes the step and sends what it sends. If allocation fails, the input comes back and nothing has changed.
+    /// Makes the step and sends what it sends. The input is used up then; if allocation fails, it stays and nothing has changed.
     fn step(
         &mut self,
         alloc: Global,
-        input: Input<Self::Msg>,
+        input: &mut Input<Self::Msg>,
         out: &mut Out<Self::Msg>,
-    ) -> Result<(), NoMemoryFor<Input<Self::Msg>>>
-        requires { input ≡ Input.Task → has_work self.old ≡ true }
-        ensures state { OnOk result (self.new ≡ (steps self.old input).state) }
-        ensures sent { OnOk result (out.new.items ≡ out.old.items ++ (steps self.old input).sent) }
+    ) -> Result<(), AllocError>
+        requires { input.old ≡ Input.Task → has_work self.old ≡ true }
+        ensures state { OnOk result (self.new ≡ (steps self.old input.old).state) }
+        ensures sent { OnOk result (out.new.items ≡ out.old.items ++ (steps self.old input.old).sent) }
         ensures err_state { OnErr result (self.new ≡ self.old) }
         ensures err_out { OnErr result (out.new.items ≡ out.old.items) }
-        ensures err_input { IfErr result (λ e. e.item ≡ input) };
+        ensures err_input { OnErr result (input.new ≡ input.old) };
 
     // A step sends to nodes of the net alone, keeps the number of peers, and what is true of every state.
     ghost targets: { (s : Self) (i : Input Self.Msg) → valid s → AllBelow (peer_count s) (steps s i).sent };

@@ -75,7 +75,7 @@ fn flattened<T: Drop>(alloc: Global, rows: Vec<Row<T>>) -> Result<Vec<Vec<T>>, A
 {
     let mut links = Vec::new(alloc);
     for row in rows {
-        row.pour(&mut links)?;
+        row.pour(alloc, &mut links)?;
     }
     Ok(links)
 }

@@ -1,7 +1,7 @@
 //! The links from one node.
 
 ghost use Rattle.std.specs.Prelude.{◌≡◌, ◌+◌, ◌<◌, ◌≤◌, ◌^◌, List, [], ◌∷◌, ◌++◌, length, replicate, OnOk, OnErr, IfOk, option_copied};
-ghost use Rattle.std.specs.Prelude.{slice_get, slice_index_or, slice_set, map, drop, Some};
+ghost use Rattle.std.specs.Prelude.{slice_get, slice_index_or, slice_set, map, drop, true, false, Some};
 ghost use Rattle.std.specs.VecDeque.{deque_len, deque_capacity};
 ghost use Rattle.seam_machine.specs.Sends.{first_target, AllBelow};
 ghost use Rattle.seam_machine.specs.Inside.{Serves, PutsRun};
@@ -15,7 +15,8 @@ use std::marker::Model;
 /// The links from one node, in the order of their targets.
 #[derive(Drop)]
 pub struct Row<T> {
-    links: Vec<VecDeque<T>>,
+    // The number of an item means nothing here: it is kept so that a link can be what `Out` held.
+    links: Vec<VecDeque<(u8, T)>>,
 }
 
 impl<T> Model for Row<T> {
@@ -23,7 +24,29 @@ impl<T> Model for Row<T> {
 
     ghost Value = { List (List T) };
 
-    ghost view = { λ r. map (λ q. q.items) r.links.items };
+    ghost view = { λ r. map (λ q. map (λ p. p.1) q.items) r.links.items };
+}
+
+// A link that holds these items.
+fn link_of<T: Drop>(alloc: Global, items: Vec<T>) -> Result<VecDeque<(u8, T)>, AllocError>
+    ensures { IfOk result (λ q. map (λ p. p.1) q.items ≡ items.items) }
+{
+    let mut link = VecDeque::new(alloc);
+    for item in items {
+        link.push_back((0, item))?;
+    }
+    Ok(link)
+}
+
+// The items that the link holds.
+fn items_of<T: Drop>(alloc: Global, mut link: VecDeque<(u8, T)>) -> Result<Vec<T>, AllocError>
+    ensures { IfOk result (λ v. v.items ≡ map (λ p. p.1) link.items) }
+{
+    let mut items = Vec::new(alloc);
+    while let Some((_, item)) = link.pop_front() {
+        items.push(item)?;
+    }
+    Ok(items)
 }
 
 impl<T: Drop> Row<T> {
@@ -54,18 +77,18 @@ impl<T: Drop> Row<T> {
             let Some(link) = rest.pop_front() else {
                 unreachable!()
             };
-            links.push(VecDeque::from_vec(link))?;
+            links.push(link_of(alloc, link)?)?;
         }
         Ok(Row { links })
     }
 
     /// Puts the links, in their order, after the others.
-    pub fn pour(self, others: &mut Vec<Vec<T>>) -> Result<(), AllocError>
+    pub fn pour(self, alloc: Global, others: &mut Vec<Vec<T>>) -> Result<(), AllocError>
         ensures { OnOk result (map (λ v. v.items) others.new.items ≡ map (λ v. v.items) others.old.items ++ self) }
     {
         let Row { links } = self;
         for link in links {
-            others.push(link.into_vec())?;
+            others.push(items_of(alloc, link)?)?;
         }
         Ok(())
     }
@@ -73,18 +96,18 @@ impl<T: Drop> Row<T> {
 
 // Moves the first item of `out`, which goes to that node, and those after it that go there too, to its link, as far as there is
 // room. It is answered to whom the first of the others goes.
-fn move_run<T>(link: &mut VecDeque<T>, to: u8, out: &mut Out<T>) -> Option<u8>
+fn move_run<T>(link: &mut VecDeque<(u8, T)>, to: u8, out: &mut Out<T>) -> Option<u8>
     requires target { first_target out.old.items ≡ Some to }
     requires room { deque_len link.old < deque_capacity link.old }
-    ensures moved { PutsRun to link.old.items out.old.items link.new.items out.new.items }
+    ensures moved { PutsRun to (map (λ p. p.1) link.old.items) out.old.items (map (λ p. p.1) link.new.items) out.new.items }
     ensures some { length out.new.items < length out.old.items }
     ensures next { result ≡ first_target out.new.items }
 {
     loop {
-        let Some((_, item)) = out.take() else {
+        let Some(sent) = out.take() else {
             unreachable!()
         };
-        link.push_back_reserved(item);
+        link.push_back_reserved(sent);
         let next = out.next_target();
         if next != Some(to) || link.reserve(1).is_err() {
             return next;
@@ -118,9 +141,28 @@ impl<T> Row<T> {
         ensures { option_copied result ≡ slice_get (slice_index_or self.now to []) i }
     {
         if to < self.links.len() {
-            return self.links[to].get(i);
+            return match self.links[to].get(i) {
+                None => None,
+                Some((_, item)) => Some(item),
+            };
         }
         None
+    }
+
+    /// Moves all items of `out`, the first of which goes to that node, to its link, where the link holds nothing and all go there. It is
+    /// answered whether they were moved.
+    pub fn put_all(&mut self, to: u8, out: &mut Out<T>) -> bool
+        requires target { first_target out.old.items ≡ Some to }
+        requires fits { to < length self.old }
+        ensures empty { result ≡ true → slice_index_or self.old to [] ≡ [] }
+        ensures moved { result ≡ true → PutsRun to (slice_index_or self.old to []) out.old.items (slice_index_or self.new to []) out.new.items }
+        ensures others { result ≡ true → self.new ≡ slice_set self.old to (slice_index_or self.new to []) }
+        ensures none { result ≡ true → out.new.items ≡ [] }
+        ensures err_row { result ≡ false → self.new ≡ self.old }
+        ensures err_out { result ≡ false → out.new.items ≡ out.old.items }
+    {
+        let link = &mut self.links[to as usize];
+        out.give_all(to, link)
     }
 
     /// Moves the first item of `out`, which goes to that node, and those after it that go there too, to the end of their link. It is
@@ -135,6 +177,9 @@ impl<T> Row<T> {
         ensures err_row { OnErr result (self.new ≡ self.old) }
         ensures err_out { OnErr result (out.new.items ≡ out.old.items) }
     {
+        if self.put_all(to, out) {
+            return Ok(None);
+        }
         let link = &mut self.links[to as usize];
         if let Err(refused) = link.reserve(1) {
             return Err(refused);
@@ -161,16 +206,17 @@ impl<T> Row<T> {
     {
         node.known();
         let link = &mut self.links[to];
-        let Some(item) = link.pop_front() else {
+        let Some((number, item)) = link.pop_front() else {
             unreachable!()
         };
-        match node.step(alloc, Input::From(from, item), out) {
+        let mut input = Input::From(from, item);
+        match node.step(alloc, &mut input, out) {
             Ok(()) => return Ok(()),
-            Err(refused) => {
-                let Input::From(_, back) = refused.item else {
+            Err(_) => {
+                let Input::From(_, back) = input else {
                     unreachable!()
                 };
-                link.push_front_reserved(back);
+                link.push_front_reserved((number, back));
                 return Err(AllocError);
             }
         }

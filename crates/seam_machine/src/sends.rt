@@ -1,6 +1,8 @@
 //! What a step sends.
 
-ghost use Rattle.std.specs.Prelude.{false, ◌≡◌, ◌+◌, ◌<◌, ◌≤◌, [], ◌∷◌, ◌++◌, ◌^◌, length, OnOk, OnSome, IfNone, IfSome, slice_get, option_copied};
+ghost use Rattle.std.specs.Prelude.{true, false, ◌≡◌, ◌+◌, ◌<◌, ◌≤◌, [], ◌∷◌, ◌++◌, ◌^◌, length, take, Some, OnOk, OnSome, IfNone, IfSome, slice_get};
+ghost use Rattle.std.specs.Prelude.{option_copied};
+ghost use Rattle.std.specs.List.{All};
 ghost use Rattle.seam_machine.specs.Views.{OutView};
 ghost use Rattle.seam_machine.specs.Sends.{first_target, items_to};
 ghost use Rattle.seam_machine.specs.Inside.{is_empty};
@@ -9,6 +11,7 @@ ghost use Rattle.std.specs.VecDeque.{deque_len, deque_capacity};
 use std::alloc::{AllocError, Global};
 use std::collections::VecDeque;
 use std::marker::Model;
+use std::mem;
 
 /// The items that a step sends, in order of sending, and the room that was made for more.
 #[derive(Drop)]
@@ -34,6 +37,18 @@ fn move_all<T: Drop>(to: &mut VecDeque<T>, mut items: VecDeque<T>)
     while let Some(item) = items.pop_front() {
         to.push_back_reserved(item);
     }
+}
+
+// Whether all of the items go to that node.
+fn all_go<T>(items: &[(u8, T)], to: u8) -> bool
+    ensures { result ≡ true → All (λ p. p.0 ≡ to) items.now }
+{
+    for sent in items {
+        if sent.0 != to {
+            return false;
+        }
+    }
+    true
 }
 
 impl<T> Out<T> {
@@ -92,6 +107,39 @@ impl<T> Out<T> {
         }
     }
 
+    /// Gives all items for what the link holds, where it holds nothing and all go to that node. It is answered whether they were given.
+    pub(crate) fn give_all(&mut self, to: u8, link: &mut VecDeque<(u8, T)>) -> bool
+        requires target { first_target self.old.items ≡ Some to }
+        ensures all { result ≡ true → All (λ p. p.0 ≡ to) self.old.items }
+        ensures empty { result ≡ true → link.old.items ≡ [] }
+        ensures given { result ≡ true → link.new.items ≡ self.old.items }
+        ensures none { result ≡ true → self.new.items ≡ [] }
+        ensures kept { result ≡ false → self.new ≡ self.old }
+        ensures same { result ≡ false → link.new ≡ link.old }
+    {
+        if !link.is_empty() || !self.all_go(to) {
+            return false;
+        }
+        mem::swap(&mut self.items, link);
+        true
+    }
+
+    // Whether all items go to that node, as the first does. The last is looked at before those between them.
+    fn all_go(&self, to: u8) -> bool
+        requires { first_target self.now.items ≡ Some to }
+        ensures { result ≡ true → All (λ p. p.0 ≡ to) self.now.items }
+    {
+        let count = self.items.len();
+        if count == 1 {
+            return true;
+        }
+        if self.items[count - 1].0 != to {
+            return false;
+        }
+        let (front, back) = self.items.as_slices();
+        all_go(front, to) && all_go(back, to)
+    }
+
     /// How many items there are.
     pub fn len(&self) -> usize
         ensures len { result ≡ length self.now.items }
@@ -142,6 +190,13 @@ impl<T> Out<T> {
 }
 
 impl<T: Drop> Out<T> {
+    /// Takes back what was sent last, so that at most so many items are left.
+    pub fn cut(&mut self, len: usize)
+        ensures { self.new.items ≡ take len self.old.items }
+    {
+        self.items.truncate(len);
+    }
+
     /// Sends all items of the other, in room that was made before; where nothing was sent yet, none is needed.
     pub fn send_all(&mut self, others: Out<T>)
         requires { is_empty self.old.items ≡ false → length others.items ≤ self.old.spare }

@@ -71,9 +71,7 @@ fn seen_at(base: &Base, out: &Out<Msg>) -> Seen {
 
 fn hear(base: &mut Base, alloc: Global, message: Msg) -> Result<Seen, Fail> {
     let mut out = Out::new(alloc);
-    if base.step(alloc, Input::From(0, message), &mut out).is_err() {
-        return Err("no memory")?;
-    }
+    base.step(alloc, &mut Input::From(0, message), &mut out)?;
     Ok(seen_at(base, &out))
 }
 
@@ -82,9 +80,7 @@ fn work(base: &mut Base, alloc: Global) -> Result<Seen, Fail> {
     if !base.has_task() {
         return Err("no task")?;
     }
-    if base.step(alloc, Input::Task, &mut out).is_err() {
-        return Err("no memory")?;
-    }
+    base.step(alloc, &mut Input::Task, &mut out)?;
     Ok(seen_at(base, &out))
 }
 

@@ -1,4 +1,4 @@
-//! Tests of the crates that nodes are made of: definitions, reals, cells and base nodes. They stand here, since a crate with tests of
+//! Tests of the crates that nodes are made of: definitions, reals and base nodes. They stand here, since a crate with tests of
 //! its own is proved twice.
 #![tactic(auto)]
 
@@ -6,8 +6,6 @@
 mod base;
 #[cfg(test)]
 mod builtin;
-#[cfg(test)]
-mod cell;
 #[cfg(test)]
 mod defs;
 #[cfg(test)]

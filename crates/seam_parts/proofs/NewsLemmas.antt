@@ -1,11 +1,14 @@
 -- What more cells are told, and that all of it is what the definitions of steps say.
-use Rattle.std.proofs.Common.{◌≡◌, ◌+◌, ◌++◌, ◌||◌, ℕ, zero, suc, Bool, true, false, cond, eqb, [], ◌∷◌, Option, None, Some}
-use Rattle.std.proofs.Common.{refl, ap, ◌∙◌, arith}
+use Rattle.std.proofs.Common.{◌≡◌, ◌+◌, ◌++◌, ◌||◌, ◌&&◌, not, ℕ, ◌≤◌, zero, suc, Bool, true, false, cond, eqb, [], ◌∷◌, Option, None, Some}
+use Rattle.std.proofs.Common.{refl, sym, ap, ◌∙◌, arith}
 use Rattle.std.specs.List.{filter_map, cons_option, range_with_len}
 use Rattle.std.specs.Ordering.{nat_cmp}
 use Rattle.std.specs.FinSet as set
+use Rattle.std.specs.Cmp.{nat_cmp_total, unsigned_tied}
+use Rattle.std.proofs.lemmas.Bool.{ne_eqb}
 use Rattle.std.proofs.lemmas.List.{append-nil}
 use Rattle.std.proofs.lemmas.List.Elements.{filter_map-append}
+use Rattle.seam_tree.specs.Cells.{Cells}
 use Rattle.seam_call.specs.declared.shown.GhostCopy.{GhostCopy}
 use Rattle.seam_entity.specs.Reals.{RealView}
 use Rattle.seam_entity.specs.Here.{Here, cell_numbers}
@@ -47,14 +50,44 @@ news_same t g n away was =
     let nothing : word t n ≡ Nothing = rw (away, was) (unless_here (eqb n t.me || eqb n t.home) t.changed) in
     news_more t g n ∙ (ap (λ w. news t g n ++ listed (said t g n w)) nothing ∙ append-nil (news t g n))
 
--- where no cell is a haunt or was one, nothing is told
-pub news_none : (t : Telling) (g : GhostCopy) (n : ℕ) → t.haunts ≡ set.empty → t.old ≡ set.empty → news t g n ≡ []
-news_none t g zero none was = refl
-news_none t g (suc n) none was =
-    ap (news t g) (let e : suc n ≡ n + 1 = omega arith in e)
-    ∙ (news_same t g n (ap (λ s. set.contains s n) none ∙ set.contains-empty nat_cmp n)
-    (ap (λ s. set.contains s n) was ∙ set.contains-empty nat_cmp n)
-    ∙ news_none t g n none was)
+-- no cell from n on is a haunt or was one
+abbrev pub NoneFrom : Telling → ℕ → Type 0
+NoneFrom t n = (k : ℕ) → n ≤ k → (set.contains t.haunts k ≡ false) × (set.contains t.old k ≡ false)
+
+-- then nothing more is told
+pub news_end : (t : Telling) (g : GhostCopy) (n m : ℕ) → NoneFrom t n → news t g (n + m) ≡ news t g n
+news_end t g n zero none = ap (news t g) (let e : n + 0 ≡ n = omega arith in e)
+news_end t g n (suc m) none =
+    let last = none (n + m) (omega arith) in
+    ap (news t g) (let e : n + suc m ≡ (n + m) + 1 = omega arith in e)
+    ∙ (news_same t g (n + m) last.0 last.1 ∙ news_end t g n m none)
+
+-- in these sets nothing is missing of the haunts, now and before, from cell n on
+abbrev pub AreLeft : Cells → Cells → Telling → ℕ → Type 0
+AreLeft haunts old t n =
+    (k : ℕ) → n ≤ k → (set.contains haunts k ≡ set.contains t.haunts k) × (set.contains old k ≡ set.contains t.old k)
+
+pub left_later : (haunts old : Cells) (t : Telling) (n : ℕ) → AreLeft haunts old t n → AreLeft haunts old t (n + 1)
+left_later haunts old t n left k low = left k (omega (arith, low))
+
+still_there : (s : Cells) (n k : ℕ) → n + 1 ≤ k → set.contains (set.remove s n) k ≡ set.contains s k
+still_there s n k low =
+    set.contains-remove nat_cmp_total s n k
+    ∙ ap (λ b. not b && set.contains s k) (unsigned_tied k n ∙ ne_eqb k n (λ e. absurd (omega (arith, low, e))))
+
+-- also without that cell
+pub left_without : (haunts old : Cells) (t : Telling) (n : ℕ) → AreLeft haunts old t n →
+    AreLeft (set.remove haunts n) (set.remove old n) t (n + 1)
+left_without haunts old t n left k low =
+    let both = left k (omega (arith, low)) in (still_there haunts n k low ∙ both.0, still_there old n k low ∙ both.1)
+
+pub left_none : (haunts old : Cells) (t : Telling) (n : ℕ) → AreLeft haunts old t n → haunts ≡ set.empty → old ≡ set.empty →
+    NoneFrom t n
+left_none haunts old t n left none was k low =
+    let both = left k low in (
+      sym both.0 ∙ (ap (λ s. set.contains s k) none ∙ set.contains-empty nat_cmp k),
+      sym both.1 ∙ (ap (λ s. set.contains s k) was ∙ set.contains-empty nat_cmp k),
+    )
 
 module _ (t : Telling) (g : GhostCopy) (k : ℕ) where
   word_told : (a b c : Bool) → said t g k (word_at a b c) ≡ told_unless false k (told t.entity t.beat g a b c)

@@ -1,6 +1,7 @@
--- What is ready for a real that settles, and what its settling leaves.
+-- A settling that begins, and what it leaves.
 use Rattle.std.proofs.Common.{◌≡◌, ◌≢◌, ◌+◌, ◌++◌, ℕ, Bool, true, false, cond, eqb, List, [], ◌∷◌, Option, None, Some, is_none}
-use Rattle.std.proofs.Common.{refl, ap, sym, subst, ◌∙◌, append_assoc, append-nil, nat_lt, arith}
+use Rattle.std.proofs.Common.{length, refl, ap, sym, subst, ◌∙◌, append_assoc, append-nil, nat_lt, arith}
+use Rattle.std.proofs.lemmas.List.{length-append}
 use Rattle.std.specs.Prelude.{◌==◌, ◌||◌}
 use Rattle.std.specs.List.{filter_map, cons_option}
 use Rattle.std.specs.FinMap as table
@@ -19,17 +20,17 @@ use Rattle.seam_defs.specs.declared.states.State.{State}
 use Rattle.seam_entity.specs.Executing.{copy_of_real, copy_with, settled_to}
 use Rattle.seam_entity.specs.Preparing.{node_with}
 use Rattle.seam_entity.specs.declared.message.Msg.TheVariants.{Hand}
-use Rattle.seam_steps.specs.Maps.{Map, set_at}
+use Rattle.seam_steps.specs.Maps.{Map, set_at, has_any}
 use Rattle.seam_steps.specs.Slots.{Slot}
 use Rattle.seam_steps.specs.Settle.{beat_after, home_after, haunts_at, told, told_unless, ghost_message}
 use Rattle.seam_steps.specs.Settle.{ghost_messages, copy_if, stayed, gone_to, settled_by, settled}
 use Rattle.seam_steps.proofs.Slots.{set_at-same}
 use Rattle.seam_parts.specs.declared.news.Telling.{Telling}
-use Rattle.seam_parts.specs.declared.settle.Ready.{Ready}
 use Rattle.seam_parts.specs.declared.settle.Begun.{Begun}
-use Rattle.seam_parts.specs.News.{Tells}
-use Rattle.seam_parts.specs.Settling.{former, staying, IsGone, IsAtRest}
-use Rattle.seam_parts.specs.Stepping.{telling_at, IsReadyFor, IsLater, HasBegun, PartsView, slot_in, IsDone}
+use Rattle.seam_parts.specs.News.{Tells, news}
+use Rattle.seam_parts.specs.Settling.{former, staying, going, IsGone, IsAtRest}
+use Rattle.seam_parts.specs.Stepping.{telling_at, IsLater, heard, told_of, HasBegun, PartsView, slot_in, IsDone}
+use Rattle.seam_parts.proofs.NewsLemmas.{all_told}
 
 same_number : (a b : ℕ) → eqb a b ≡ true → a ≡ b
 same_number a b t = grind (arith, nat_tests)
@@ -61,7 +62,28 @@ pub copy_is : (h : Here) (defs : List TypeDef) (r : RealView) (ty version : ℕ)
 copy_is h defs r ty version state same ty_is public_is state_is =
     λ i. copy_with (node_with (same i) h.me h.settings) (sym ty_is i) (sym public_is i) (sym state_is i)
 
--- ---- what is ready
+-- ---- a settling that begins
+
+abbrev copy_kept : Telling → GhostCopy → Option GhostCopy
+copy_kept told g = copy_if (set.contains told.haunts told.me) g
+
+-- of a real that goes the own book hears
+pub heard_away : (told : Telling) (g : GhostCopy) (ghosts : Map (Ghost GhostCopy)) → eqb told.home told.me ≡ false →
+    heard told g ghosts ≡ set_at ghosts told.entity
+    (ghost_after (table.get ghosts told.entity) (record { beat = told.beat; copy = copy_kept told g }))
+heard_away told g ghosts test =
+    ap (λ b. cond b ghosts (set_at ghosts told.entity
+    (ghost_after (table.get ghosts told.entity) (record { beat = told.beat; copy = copy_kept told g })))) test
+
+pub heard_here : (told : Telling) (g : GhostCopy) (ghosts : Map (Ghost GhostCopy)) → eqb told.home told.me ≡ true →
+    heard told g ghosts ≡ ghosts
+heard_here told g ghosts test =
+    ap (λ b. cond b ghosts (set_at ghosts told.entity
+    (ghost_after (table.get ghosts told.entity) (record { beat = told.beat; copy = copy_kept told g })))) test
+
+pub any_sent : {A : Type 0} (before more : List A) → nat_lt (length before) (length (before ++ more)) ≡ has_any more
+any_sent before [] = let same = length-append before [] in grind (arith, nat_tests, same)
+any_sent before (x ∷ more) = let longer = length-append before (x ∷ more) in grind (arith, nat_tests, longer)
 
 module _ (h : Here) (t : Division) (r later : RealView) (changed : Bool) (is : IsLater r later) where
   same_telling : (p : Pos) → telling_at h t r p changed ≡ telling_at h t later p changed
@@ -75,8 +97,8 @@ module _ (h : Here) (t : Division) (r later : RealView) (changed : Bool) (is : I
     beat = sym is.beat i + 1;
   }
 
-  module _ (y : Ready) (told : Telling) (g : GhostCopy) (is_told : told ≡ telling_at h t r later.state.pos changed)
-      (copy : g ≡ copy_of_real h later) where
+  module _ (told : Telling) (g : GhostCopy) (is_told : told ≡ telling_at h t r later.state.pos changed)
+      (copy : g ≡ copy_of_real h later) (before after : PartsView) (b : Begun) where
     told_later : told ≡ telling_at h t later later.state.pos changed
     told_later = is_told ∙ same_telling later.state.pos
 
@@ -89,113 +111,109 @@ module _ (h : Here) (t : Division) (r later : RealView) (changed : Bool) (is : I
       copy = copy;
     }
 
-    pub ready_is : y.telling ≡ told →
-        (Tells h later told g → y.news.items ≡ ghost_messages h later told.home told.haunts told.changed) →
-        y.own ≡ copy_if (set.contains told.haunts told.me) g → IsReadyFor h t later changed y
-    ready_is kept news own = record {
-      telling = kept ∙ told_later;
-      news =
-          news tells
-          ∙ (ap (λ x. ghost_messages h later x.home x.haunts told.changed) (sym kept)
-          ∙ ap (λ b. ghost_messages h later y.telling.home y.telling.haunts b) (ap (λ x. x.changed) told_later));
-      own =
-          own
-          ∙ (ap (λ x. copy_if (set.contains x.haunts x.me) g) (sym kept)
-          ∙ ap (copy_if (set.contains y.telling.haunts y.telling.me)) copy);
-    }
+    pub begun_is : b.telling ≡ told → b.has_told ≡ nat_lt (length before.sent) (length after.sent) →
+        after.nexts ≡ before.nexts → after.ghosts ≡ heard told g before.ghosts → after.sent ≡ before.sent ++ news told g 16 →
+        HasBegun h t later changed before after b
+    begun_is kept some nexts ghosts sent =
+        let all : after.sent ≡ before.sent ++ told_of h later b.telling =
+        sent ∙ (ap (λ l. before.sent ++ l) (all_told h later told g tells) ∙ ap (λ x. before.sent ++ told_of h later x) (sym kept)) in record {
+          telling = kept ∙ told_later;
+          has_told =
+              some
+              ∙ (ap (λ l. nat_lt (length before.sent) (length l)) all ∙ any_sent before.sent (told_of h later b.telling));
+          nexts = nexts;
+          ghosts = ghosts ∙ (λ i. heard (sym kept i) (copy i) before.ghosts);
+          sent = all;
+        }
 
 -- ---- what settling leaves
 
-module _ (h : Here) (t : Division) (s : Slot) (r : RealView) (changed : Bool) (y : Ready) (is : IsReadyFor h t r changed y) where
-  home_is : y.telling.home ≡ home_after h t r.state.pos
-  home_is = ap (λ x. x.home) is.telling
+module _ (h : Here) (t : Division) (s : Slot) (r : RealView) (changed : Bool) (told : Telling)
+    (is : told ≡ telling_at h t r r.state.pos changed) where
+  home_is : told.home ≡ home_after h t r.state.pos
+  home_is = ap (λ x. x.home) is
 
-  me_is : y.telling.me ≡ h.me
-  me_is = ap (λ x. x.me) is.telling
+  me_is : told.me ≡ h.me
+  me_is = ap (λ x. x.me) is
 
-  test_is : (b : Bool) → eqb y.telling.home y.telling.me ≡ b → eqb (home_after h t r.state.pos) h.me ≡ b
+  test_is : (b : Bool) → eqb told.home told.me ≡ b → eqb (home_after h t r.state.pos) h.me ≡ b
   test_is b test = (λ i. eqb (sym home_is i) (sym me_is i)) ∙ test
 
-  haunts_by : (b : Bool) → eqb y.telling.home y.telling.me ≡ b → y.telling.haunts
+  haunts_by : (b : Bool) → eqb told.home told.me ≡ b → told.haunts
       ≡ haunts_at h t r.state.pos (home_after h t r.state.pos) (cond b r.haunts (set.insert r.haunts h.me))
   haunts_by b test =
-      ap (λ x. x.haunts) is.telling
+      ap (λ x. x.haunts) is
       ∙ ap (λ x. haunts_at h t r.state.pos (home_after h t r.state.pos) (cond x r.haunts (set.insert r.haunts h.me))) (test_is b test)
 
-  pub stays_is : eqb y.telling.home y.telling.me ≡ true → settled h t s r changed ≡ stayed s r y.telling.haunts y.news.items
+  changed_is : ghost_messages h r told.home told.haunts changed ≡ told_of h r told
+  changed_is = ap (ghost_messages h r told.home told.haunts) (sym (ap (λ x. x.changed) is))
+
+  pub stays_is : eqb told.home told.me ≡ true → settled h t s r changed ≡ stayed s r told.haunts (told_of h r told)
   stays_is test =
       let same : home_after h t r.state.pos ≡ h.me = same_number _ _ (test_is true test) in
-      let haunts : haunts_at h t r.state.pos h.me r.haunts ≡ y.telling.haunts =
+      let haunts : haunts_at h t r.state.pos h.me r.haunts ≡ told.haunts =
       sym (haunts_by true test ∙ ap (λ j. haunts_at h t r.state.pos j r.haunts) same) in
-      let home : h.me ≡ y.telling.home = sym same ∙ sym home_is in
+      let home : h.me ≡ told.home = sym same ∙ sym home_is in
       ap (λ b. settled_by b h t s r changed (home_after h t r.state.pos)) (test_is true test)
-      ∙ ((λ i. stayed s r (haunts i) (ghost_messages h r (home i) (haunts i) changed)) ∙ ap (stayed s r y.telling.haunts) (sym is.news))
+      ∙ ((λ i. stayed s r (haunts i) (ghost_messages h r (home i) (haunts i) changed)) ∙ ap (stayed s r told.haunts) changed_is)
 
-  pub goes_is : eqb y.telling.home y.telling.me ≡ false → settled h t s r changed
-      ≡ gone_to h s r y.telling.home y.telling.haunts y.news.items
+  pub goes_is : eqb told.home told.me ≡ false → settled h t s r changed ≡ gone_to h s r told.home told.haunts (told_of h r told)
   goes_is test =
-      let haunts : haunts_at h t r.state.pos (home_after h t r.state.pos) (set.insert r.haunts h.me) ≡ y.telling.haunts =
+      let haunts : haunts_at h t r.state.pos (home_after h t r.state.pos) (set.insert r.haunts h.me) ≡ told.haunts =
       sym (haunts_by false test) in
       ap (λ b. settled_by b h t s r changed (home_after h t r.state.pos)) (test_is false test)
       ∙ ((λ i. gone_to h s r (sym home_is i) (haunts i) (ghost_messages h r (sym home_is i) (haunts i) changed))
-      ∙ ap (gone_to h s r y.telling.home y.telling.haunts) (sym is.news))
+      ∙ ap (gone_to h s r told.home told.haunts) changed_is)
 
--- the ghosts once the own book heard of what was made ready
-abbrev told_of : Ready → Map (Ghost GhostCopy) → Map (Ghost GhostCopy)
-told_of y ghosts =
-    set_at ghosts y.telling.entity (ghost_after (table.get ghosts y.telling.entity) (record { beat = y.telling.beat; copy = y.own }))
+-- the beat rises where anything is told
+pub beat_by : {A : Type 0} (b : Bool) (sent : List A) (beat : ℕ) → b ≡ has_any sent → cond b (beat + 1) beat ≡ beat_after sent beat
+beat_by b [] beat is = ap (λ x. cond x (beat + 1) beat) is
+beat_by b (m ∷ ms) beat is = ap (λ x. cond x (beat + 1) beat) is
 
-module _ (h : Here) (t : Division) (r was : RealView) (changed : Bool) (y : Ready) (is : IsReadyFor h t r changed y)
-    (left : Option RealView) (before made after : PartsView) (b : Begun) (begun : HasBegun y before made b) where
+module _ (h : Here) (t : Division) (r was : RealView) (changed : Bool) (left : Option RealView) (before begun after : PartsView)
+    (b : Begun) (is : HasBegun h t r changed before begun b) where
   abbrev Settles : Type 0
   Settles = IsDone (settled h t (slot_in before r.entity was) r changed) r.entity was left before after
 
-  made_test : (x : Bool) → eqb b.telling.home b.telling.me ≡ x → eqb y.telling.home y.telling.me ≡ x
-  made_test x test = ap (λ w. eqb w.home w.me) (sym begun.telling) ∙ test
-
-  heard_by : (x : Bool) → eqb y.telling.home y.telling.me ≡ x → made.ghosts ≡ cond x before.ghosts (told_of y before.ghosts)
-  heard_by x test = begun.ghosts ∙ ap (λ c. cond c before.ghosts (told_of y before.ghosts)) test
-
-  abbrev gone_as : Telling → RealView
-  gone_as told = settled_to r told.haunts (r.beat + 1) (r.generation + 1)
-
-  pub stay_done : eqb b.telling.home b.telling.me ≡ true → left ≡ Some (staying r b) → after.nexts ≡ made.nexts →
-      after.ghosts ≡ made.ghosts → after.sent ≡ made.sent ++ b.news.items → Settles
+  pub stay_done : eqb b.telling.home b.telling.me ≡ true → left ≡ Some (staying r b) → after.nexts ≡ begun.nexts →
+      after.ghosts ≡ begun.ghosts → after.sent ≡ begun.sent → Settles
   stay_done test stays nexts ghosts sent =
-      let same = made_test true test in
-      let real : left ≡ Some (settled_to r y.telling.haunts (beat_after y.news.items r.beat) r.generation) =
-      stays ∙ (λ i. Some (settled_to r (begun.telling i).haunts (beat_after (begun.news i) r.beat) r.generation)) in
-      subst (λ x. IsDone x r.entity was left before after) (sym (stays_is h t (slot_in before r.entity was) r changed y is same))
+      let real : left ≡ Some (settled_to r b.telling.haunts (beat_after (told_of h r b.telling) r.beat) r.generation) =
+      stays ∙ ap (λ n. Some (settled_to r b.telling.haunts n r.generation)) (beat_by b.has_told (told_of h r b.telling) r.beat is.has_told) in
+      subst (λ x. IsDone x r.entity was left before after)
+      (sym (stays_is h t (slot_in before r.entity was) r changed b.telling is.telling test))
       (record {
         real = real;
-        nexts = nexts ∙ (begun.nexts ∙ sym (set_at-same before.nexts r.entity));
-        ghosts = ghosts ∙ (heard_by true same ∙ sym (set_at-same before.ghosts r.entity));
-        sent = sent ∙ (λ i. begun.sent i ++ begun.news i);
+        nexts = nexts ∙ (is.nexts ∙ sym (set_at-same before.nexts r.entity));
+        ghosts =
+            ghosts
+            ∙ (is.ghosts
+            ∙ (heard_here b.telling (copy_of_real h r) before.ghosts test ∙ sym (set_at-same before.ghosts r.entity)));
+        sent = sent ∙ is.sent;
         unlisted = ap is_none (sym real);
       })
 
-  pub leave_done : eqb b.telling.home b.telling.me ≡ false → left ≡ None → after.ghosts ≡ made.ghosts →
-      IsGone r b made.nexts after.nexts made.sent after.sent → Settles
+  pub leave_done : eqb b.telling.home b.telling.me ≡ false → left ≡ None → after.ghosts ≡ begun.ghosts →
+      IsGone r b begun.nexts after.nexts begun.sent after.sent → Settles
   leave_done test none ghosts gone =
-      let same = made_test false test in
-      let entity : y.telling.entity ≡ r.entity = ap (λ x. x.entity) is.telling in
-      let beat : y.telling.beat ≡ r.beat + 1 = ap (λ x. x.beat) is.telling in
-      let own = is.own ∙ ap (λ k. copy_if (set.contains y.telling.haunts k) (copy_of_real h r)) (ap (λ x. x.me) is.telling) in
-      subst (λ x. IsDone x r.entity was left before after) (sym (goes_is h t (slot_in before r.entity was) r changed y is same))
+      let entity : b.telling.entity ≡ r.entity = ap (λ x. x.entity) is.telling in
+      let beat : b.telling.beat ≡ r.beat + 1 = ap (λ x. x.beat) is.telling in
+      let own = ap (λ k. copy_if (set.contains b.telling.haunts k) (copy_of_real h r)) (ap (λ x. x.me) is.telling) in
+      let hand = (b.telling.home, Hand (going r b)) ∷ [] in
+      subst (λ x. IsDone x r.entity was left before after)
+      (sym (goes_is h t (slot_in before r.entity was) r changed b.telling is.telling test))
       (record {
         real = none;
         nexts =
             gone.next
-            ∙ (λ i. table.insert (begun.nexts i) r.entity (record { cell = (begun.telling i).home; generation = r.generation + 1 }));
+            ∙ ap (λ w. table.insert w r.entity (record { cell = b.telling.home; generation = r.generation + 1 })) is.nexts;
         ghosts =
             ghosts
-            ∙ (heard_by false same
+            ∙ (is.ghosts
+            ∙ (heard_away b.telling (copy_of_real h r) before.ghosts test
             ∙ (λ i. set_at before.ghosts (entity i)
-            (ghost_after (table.get before.ghosts (entity i)) (record { beat = beat i; copy = own i }))));
-        sent =
-            gone.sent
-            ∙ ((λ i. begun.sent i ++ begun.news i ++ ((begun.telling i).home, Hand (gone_as (begun.telling i))) ∷ [])
-            ∙ append_assoc before.sent y.news.items ((y.telling.home, Hand (gone_as y.telling)) ∷ []));
+            (ghost_after (table.get before.ghosts (entity i)) (record { beat = beat i; copy = own i })))));
+        sent = gone.sent ∙ (ap (λ l. l ++ hand) is.sent ∙ append_assoc before.sent (told_of h r b.telling) hand);
         unlisted = ap is_none (sym none);
       })
 

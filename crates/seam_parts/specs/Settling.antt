@@ -1,5 +1,5 @@
 -- What settling takes and leaves in the parts of a cell.
-use Rattle.std.specs.Prelude.{◌≡◌, ℕ, ◌+◌, ◌<◌, ◌==◌, true, false, List, [], ◌∷◌, ◌++◌, length, if◌then◌else◌}
+use Rattle.std.specs.Prelude.{◌≡◌, ℕ, ◌+◌, ◌<◌, ◌==◌, true, false, List, [], ◌∷◌, ◌++◌, if◌then◌else◌}
 use Rattle.std.specs.Ordering.{nat_cmp}
 use Rattle.std.specs.FinMap as table
 use Rattle.std.specs.FinSet as set
@@ -12,7 +12,8 @@ use Rattle.seam_entity.specs.declared.message.Msg.TheVariants.{Hand}
 use Rattle.seam_entity.specs.Executing.{settled_to}
 use Rattle.seam_steps.specs.Maps.{Map}
 use Rattle.seam_steps.specs.Slots.{NextPlace}
-use Rattle.seam_steps.specs.Settle.{beat_after, home_after, haunts_at}
+use Rattle.seam_steps.specs.Settle.{home_after, haunts_at}
+use Rattle.seam_parts.specs.declared.news.Telling.{Telling}
 use Rattle.seam_parts.specs.declared.settle.Begun.{Begun}
 
 -- at a hand-over the cell counts as a former haunt
@@ -24,14 +25,14 @@ pub record IsAtRest (h : Here) (t : Division) (r : RealView) : Type 0 where
   pub home : home_after h t r.state.pos ≡ h.me
   pub haunts : haunts_at h t r.state.pos h.me r.haunts ≡ r.haunts
 
--- there is room for all messages, and where the real goes, for its next place
-pub record HasRoomFor (nexts : set.FinSet nat_cmp) (spare : ℕ) (b : Begun) : Type 0 where
-  pub out : length b.news.items < spare
-  pub next : (b.telling.home == b.telling.me) ≡ false → set.contains nexts b.telling.entity ≡ true
+-- where the real goes, there is room for it among what is sent, and for its next place
+pub record HasRoomFor (nexts : set.FinSet nat_cmp) (spare : ℕ) (t : Telling) : Type 0 where
+  pub out : (t.home == t.me) ≡ false → 0 < spare
+  pub next : (t.home == t.me) ≡ false → set.contains nexts t.entity ≡ true
 
 -- the real that stays, or that goes
 abbrev pub staying : RealView → Begun → RealView
-staying r b = settled_to r b.telling.haunts (beat_after b.news.items r.beat) r.generation
+staying r b = settled_to r b.telling.haunts (if b.has_told then r.beat + 1 else r.beat) r.generation
 
 abbrev pub going : RealView → Begun → RealView
 going r b = settled_to r b.telling.haunts (r.beat + 1) (r.generation + 1)
@@ -39,4 +40,4 @@ going r b = settled_to r b.telling.haunts (r.beat + 1) (r.generation + 1)
 -- where a real went, its next place is there, and the Hand is sent last
 pub record IsGone (r : RealView) (b : Begun) (nexts after_nexts : Map NextPlace) (out after_out : List (ℕ × Msg)) : Type 0 where
   pub next : after_nexts ≡ table.insert nexts r.entity (record { cell = b.telling.home; generation = r.generation + 1 })
-  pub sent : after_out ≡ out ++ b.news.items ++ (b.telling.home, Hand (going r b)) ∷ []
+  pub sent : after_out ≡ out ++ (b.telling.home, Hand (going r b)) ∷ []

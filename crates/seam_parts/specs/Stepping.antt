@@ -12,17 +12,16 @@ use Rattle.seam_entity.specs.Here.{Here}
 use Rattle.seam_entity.specs.Reals.{RealView, RoomyReal}
 use Rattle.seam_entity.specs.Executing.{copy_of_real}
 use Rattle.seam_entity.specs.declared.message.Msg.{Msg}
-use Rattle.seam_steps.specs.Maps.{Map, set_at}
+use Rattle.seam_steps.specs.Maps.{Map, set_at, has_any}
 use Rattle.seam_steps.specs.Slots.{Slot, NextPlace, SlotStep, slot_after}
 use Rattle.seam_steps.specs.Settle.{home_after, haunts_at, ghost_messages, copy_if}
 use Rattle.seam_steps.specs.Cells.{without}
 use Rattle.seam_parts.specs.declared.news.Telling.{Telling}
 use Rattle.seam_parts.specs.declared.places.Places.{Places}
-use Rattle.seam_parts.specs.declared.settle.Ready.{Ready}
 use Rattle.seam_parts.specs.declared.settle.Begun.{Begun}
 use Rattle.seam_parts.specs.Settling.{former}
 
--- ---- what settling takes
+-- ---- what settling begins with
 
 -- what is told of a real of cell h that settles at that position
 abbrev pub telling_at : Here → Division → RealView → Pos → Bool → Telling
@@ -37,12 +36,6 @@ telling_at h t r p changed =
       entity = r.entity;
       beat = r.beat + 1;
     }
-
--- all is ready that the real takes to settle, changed or not
-pub record IsReadyFor (h : Here) (t : Division) (r : RealView) (changed : Bool) (y : Ready) : Type 0 where
-  pub telling : y.telling ≡ telling_at h t r r.state.pos changed
-  pub news : y.news.items ≡ ghost_messages h r y.telling.home y.telling.haunts changed
-  pub own : y.own ≡ copy_if (set.contains y.telling.haunts y.telling.me) (copy_of_real h r)
 
 -- `later` is what the real is after a call: of the same entity, with the same haunts and beat
 pub record IsLater (r later : RealView) : Type 0 where
@@ -68,21 +61,25 @@ slot_in w e r = record { real = Some r; next = table.get w.nexts e; ghost = tabl
 abbrev pub core_of : RoomyReal → RealView
 core_of r = r.core
 
--- the ghosts once the own book heard of what was made ready, which it does where the real goes
-abbrev pub heard : Ready → Map (Ghost GhostCopy) → Map (Ghost GhostCopy)
-heard y ghosts =
-    let t = y.telling in
+-- the ghosts once the own book heard of the real, of which the copy is g; it hears where the real goes
+abbrev pub heard : Telling → GhostCopy → Map (Ghost GhostCopy) → Map (Ghost GhostCopy)
+heard t g ghosts =
     if t.home == t.me
     then ghosts
-    else set_at ghosts t.entity (ghost_after (table.get ghosts t.entity) (record { beat = t.beat; copy = y.own }))
+    else set_at ghosts t.entity
+    (ghost_after (table.get ghosts t.entity) (record { beat = t.beat; copy = copy_if (set.contains t.haunts t.me) g }))
 
--- settling as was made ready has begun: the own book heard of it, and nothing else changed
-pub record HasBegun (y : Ready) (before after : PartsView) (b : Begun) : Type 0 where
-  pub telling : b.telling ≡ y.telling
-  pub news : b.news.items ≡ y.news.items
+-- what the haunts of the real are told
+abbrev pub told_of : Here → RealView → Telling → List (ℕ × Msg)
+told_of h r t = ghost_messages h r t.home t.haunts t.changed
+
+-- the settling of the real, changed or not, has begun: its haunts were told, where it goes the own book heard, and nothing else changed
+pub record HasBegun (h : Here) (t : Division) (r : RealView) (changed : Bool) (before after : PartsView) (b : Begun) : Type 0 where
+  pub telling : b.telling ≡ telling_at h t r r.state.pos changed
+  pub has_told : b.has_told ≡ has_any (told_of h r b.telling)
   pub nexts : after.nexts ≡ before.nexts
-  pub ghosts : after.ghosts ≡ heard y before.ghosts
-  pub sent : after.sent ≡ before.sent
+  pub ghosts : after.ghosts ≡ heard b.telling (copy_of_real h r) before.ghosts
+  pub sent : after.sent ≡ before.sent ++ told_of h r b.telling
 
 -- the step of the slot of entity e, whose real was r, left this of the real and of the parts
 pub record IsDone (t : SlotStep) (e : ℕ) (r : RealView) (left : Option RealView) (before after : PartsView) : Type 0 where

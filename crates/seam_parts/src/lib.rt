@@ -30,10 +30,7 @@ pub use next::Next;
 pub use places::Places;
 pub use real_table::RealTable;
 pub use reals::{Reals, close, first_ready, make_place, put_after, put_in, take_out};
-pub use settle::{
-    Begun, Plan, Ready, begin, get_ready, is_at_rest, leave, make_plan, ready_for, settle_real,
-    stay,
-};
+pub use settle::{Begun, Plan, begin, is_at_rest, make_plan, settle_real};
 
 #[cfg(test)]
 mod tests;

@@ -1,6 +1,6 @@
 //! What the haunts of a real are told.
 
-ghost use Rattle.std.specs.Prelude.{◌≡◌, ℕ, ◌<◌, ◌≤◌, ◌+◌, ◌++◌, ◌∷◌, ◌↔◌, [], length, IsTrue, IfOk, OnOk};
+ghost use Rattle.std.specs.Prelude.{◌≡◌, ℕ, ◌++◌, ◌↔◌, length, take, IsTrue, IfOk, OnOk, OnErr};
 ghost use Rattle.std.specs.FinSet as set;
 ghost use Rattle.seam_defs.specs.declared.settings.Settings.{Settings as AllSettings};
 ghost use Rattle.seam_entity.specs.Executing.{copy_with};
@@ -12,8 +12,7 @@ use seam_defs::{Defs, State};
 use seam_entity::{Msg, ghost_copy};
 use seam_machine::Out;
 use seam_tree::CellSet;
-use std::alloc::{AllocError, Global};
-use std::collections::VecDeque;
+use std::alloc::AllocError;
 
 /// What a cell is told of a real.
 #[derive(Clone, Copy, Debug, PartialEq, Eq)]
@@ -70,74 +69,54 @@ fn word(t: &Telling, k: u8) -> Told
     }
 }
 
-// Adds what the cell is told.
-fn add(
-    t: &Telling,
-    of: &Subject<'_>,
-    k: u8,
-    so_far: &mut VecDeque<(u8, Msg)>,
-) -> Result<(), AllocError>
-    ensures { (me : ℕ) (settings : AllSettings) →
+// Tells the cell what it is told. If allocation fails, nothing was sent.
+fn tell_cell(t: &Telling, of: &Subject<'_>, k: u8, out: &mut Out<Msg>) -> Result<(), AllocError>
+    ensures ok { (me : ℕ) (settings : AllSettings) →
         let copy = copy_with (node_with of.now.defs.now me settings) of.now.ty of.now.version of.now.state.now in
-        OnOk result (so_far.new.items ≡ so_far.old.items ++ listed (said t.now copy k (word t.now k))) }
+        OnOk result (out.new.items ≡ out.old.items ++ listed (said t.now copy k (word t.now k))) }
+    ensures err { OnErr result (out.new.items ≡ out.old.items) }
 {
     match word(t, k) {
         Told::Nothing => Ok(()),
         Told::Set => {
             let copy = of.copy()?;
-            push(so_far, k, Msg::GhostSet(t.entity, t.beat, copy))
+            out.reserve(1)?;
+            out.send(k, Msg::GhostSet(t.entity, t.beat, copy));
+            Ok(())
         }
-        Told::Drop => push(so_far, k, Msg::GhostDrop(t.entity, t.beat)),
+        Told::Drop => {
+            out.reserve(1)?;
+            out.send(k, Msg::GhostDrop(t.entity, t.beat));
+            Ok(())
+        }
     }
 }
 
-// Adds a message to that cell.
-fn push(so_far: &mut VecDeque<(u8, Msg)>, k: u8, msg: Msg) -> Result<(), AllocError>
-    ensures { OnOk result (so_far.new.items ≡ so_far.old.items ++ (k, msg) ∷ []) }
-{
-    match so_far.push_back((k, msg)) {
-        Ok(()) => Ok(()),
-        Err(_) => Err(AllocError),
-    }
-}
-
-// Whether no cell is a haunt or was one, as with most reals.
-fn has_no_haunt(t: &Telling) -> bool
-    ensures { IsTrue result ↔ ((t.now.haunts ≡ set.empty) × (t.now.old ≡ set.empty)) }
+// Whether neither set has a cell.
+fn are_none(haunts: &CellSet, old: &CellSet) -> bool
+    ensures { IsTrue result ↔ ((haunts.now ≡ set.empty) × (old.now ≡ set.empty)) }
 {
     let none = CellSet::none();
-    t.haunts.is(&none) && t.old.is(&none)
+    haunts.is(&none) && old.is(&none)
 }
 
-/// What the cells are told, in rising number.
-pub fn gather(
-    alloc: Global,
-    t: &Telling,
-    of: &Subject<'_>,
-) -> Result<VecDeque<(u8, Msg)>, AllocError>
-    ensures { (me : ℕ) (settings : AllSettings) → IfOk result (λ q. q.items
-        ≡ news t.now (copy_with (node_with of.now.defs.now me settings) of.now.ty of.now.version of.now.state.now) 16) }
+/// Tells the cells, in rising number. If allocation fails, some may have been told.
+pub fn tell(t: &Telling, of: &Subject<'_>, out: &mut Out<Msg>) -> Result<(), AllocError>
+    ensures ok { (me : ℕ) (settings : AllSettings) → OnOk result (out.new.items ≡ out.old.items
+        ++ news t.now (copy_with (node_with of.now.defs.now me settings) of.now.ty of.now.version of.now.state.now) 16) }
+    ensures kept { take (length out.old.items) out.new.items ≡ out.old.items }
 {
-    let mut so_far = VecDeque::new(alloc);
-    if has_no_haunt(t) {
-        return Ok(so_far);
-    }
+    // Most reals have and had few haunts, in the first cells: what is left of both sets tells when all were told.
+    let (mut haunts, mut old) = (t.haunts, t.old);
     for k in 0..16 {
-        // Most cells are no haunt, and were none.
-        if t.haunts.holds(k) || t.old.holds(k) {
-            add(t, of, k, &mut so_far)?;
+        if are_none(&haunts, &old) {
+            return Ok(());
+        }
+        if haunts.holds(k) || old.holds(k) {
+            tell_cell(t, of, k, out)?;
+            haunts = haunts.without(k);
+            old = old.without(k);
         }
     }
-    Ok(so_far)
-}
-
-/// Sends what was gathered, in room that was made before.
-pub fn send_all(mut gathered: VecDeque<(u8, Msg)>, out: &mut Out<Msg>)
-    requires { length gathered.items ≤ out.old.spare }
-    ensures items { out.new.items ≡ out.old.items ++ gathered.items }
-    ensures spare { out.new.spare + length gathered.items ≡ out.old.spare }
-{
-    while let Some((to, msg)) = gathered.pop_front() {
-        out.send(to, msg);
-    }
+    Ok(())
 }

@@ -1,9 +1,9 @@
 //! A real settles: it stays in the cell or goes to another, and its haunts are told.
 //!
-//! First comes the plan, then what may want memory, the last of which is what the own book hears, and then what cannot fail.
+//! First comes the plan, then what may want memory: the haunts are told, and last the own book. What comes then cannot fail.
 
 ghost use Rattle.std.specs.Prelude.{◌≡◌, ℕ, ◌<◌, ◌^◌, ◌+◌, ◌++◌, ◌==◌, ◌↔◌};
-ghost use Rattle.std.specs.Prelude.{false, length, IsTrue, IfOk, OnOk, OnErr, IfSome, List, Bool, option_map};
+ghost use Rattle.std.specs.Prelude.{false, length, take, IsTrue, IfOk, OnOk, OnErr, IfSome, List, Bool, option_map};
 ghost use Rattle.std.specs.FinMap as table;
 ghost use Rattle.std.specs.FinSet as set;
 ghost use Rattle.seam_ghosts.specs.Book.{ghost_after};
@@ -14,17 +14,17 @@ ghost use Rattle.seam_tree.specs.Division.{Division, IsInSpace};
 ghost use Rattle.seam_defs.specs.Settings.{AreLegal};
 ghost use Rattle.seam_entity.specs.Executing.{copy_with};
 ghost use Rattle.seam_entity.specs.Preparing.{node_with};
-ghost use Rattle.seam_steps.specs.Settle.{home_after, haunts_at, copy_if, ghost_messages, settled};
+ghost use Rattle.seam_steps.specs.Settle.{home_after, haunts_at, copy_if, settled};
 ghost use Rattle.seam_entity.specs.Here.{Here, cell_count};
 ghost use Rattle.seam_entity.specs.Reals.{RealView};
-ghost use Rattle.seam_parts.specs.News.{Tells};
+ghost use Rattle.seam_parts.specs.News.{news};
 ghost use Rattle.seam_parts.specs.Settling.{former, staying, HasRoomFor, IsGone, IsAtRest};
 ghost use Rattle.seam_parts.specs.Kept.{here_in};
-ghost use Rattle.seam_parts.specs.Stepping.{telling_at, IsReadyFor, IsLater, HasBegun, IsDone, PartsView, parts_of, slot_in, core_of};
+ghost use Rattle.seam_parts.specs.Stepping.{telling_at, heard, IsLater, HasBegun, IsDone, PartsView, parts_of, slot_in, core_of};
 
 use crate::copy_book::CopyBook;
 use crate::known::Known;
-use crate::news::{Subject, Telling, gather, send_all};
+use crate::news::{Subject, Telling, tell};
 use crate::next::Next;
 use crate::places::Places;
 use seam_call::GhostCopy;
@@ -35,8 +35,7 @@ use seam_haunt::haunts_after;
 use seam_machine::Out;
 use seam_table::Table;
 use seam_tree::{CellSet, Tree};
-use std::alloc::{AllocError, Global};
-use std::collections::VecDeque;
+use std::alloc::AllocError;
 
 /// The home that a real will have, and its haunts.
 #[derive(Clone, Copy, Debug)]
@@ -45,19 +44,11 @@ pub struct Plan {
     pub haunts: CellSet,
 }
 
-/// All that settling takes, made before: what is told of the real, and where it goes, the copy that the own book hears of.
-#[derive(Drop)]
-pub struct Ready {
-    pub telling: Telling,
-    pub news: VecDeque<(u8, Msg)>,
-    pub own: Option<GhostCopy>,
-}
-
-/// What is left of a settling that has begun: there is room for all of it, and the own book has heard of it where the real goes.
-#[derive(Drop)]
+/// A settling that has begun: what was told of the real, and whether a cell was told anything.
+#[derive(Clone, Copy, Debug)]
 pub struct Begun {
     pub telling: Telling,
-    pub news: VecDeque<(u8, Msg)>,
+    pub has_told: bool,
 }
 
 // The home of a real of cell `me` that stands there.
@@ -115,20 +106,6 @@ fn own_copy(t: &Telling, of: &Subject<'_>) -> Result<Option<GhostCopy>, AllocErr
     Ok(Some(copy))
 }
 
-/// Makes what is told, and what the own book takes.
-pub fn get_ready(alloc: Global, telling: Telling, of: &Subject<'_>) -> Result<Ready, AllocError>
-    ensures telling { IfOk result (λ r. r.telling ≡ telling) }
-    ensures news { (me : ℕ) (settings : AllSettings) (h : Here) (r : RealView) →
-        Tells h r telling (copy_with (node_with of.now.defs.now me settings) of.now.ty of.now.version of.now.state.now) →
-        IfOk result (λ q. q.news.items ≡ ghost_messages h r telling.home telling.haunts telling.changed) }
-    ensures own { (me : ℕ) (settings : AllSettings) → IfOk result (λ r. r.own ≡ copy_if (set.contains telling.haunts telling.me)
-        (copy_with (node_with of.now.defs.now me settings) of.now.ty of.now.version of.now.state.now)) }
-{
-    let news = gather(alloc, &telling, of)?;
-    let own = own_copy(&telling, of)?;
-    Ok(Ready { telling, news, own })
-}
-
 // The own book hears of the real at that beat. If allocation fails, nothing has changed.
 fn tell_own(
     book: &mut CopyBook,
@@ -149,55 +126,34 @@ fn tell_own(
     }
 }
 
-/// Begins to settle: makes the room that it takes, and tells the own book where the real goes. If allocation fails, nothing has changed.
-pub fn begin(ready: Ready, places: &mut Places, out: &mut Out<Msg>) -> Result<Begun, AllocError>
-    ensures begun { IfOk result (HasBegun ready (parts_of places.old out.old) (parts_of places.new out.new)) }
-    ensures room { IfOk result (HasRoomFor places.new.nexts.room out.new.spare) }
-    ensures err { OnErr result (parts_of places.new out.new ≡ parts_of places.old out.old) }
-{
-    let Ready { telling, news, own } = ready;
-    out.reserve(news.len() + 1)?;
-    if telling.home != telling.me {
-        places.nexts.reserve(telling.entity)?;
-        // The book hears last, so that no room has to be made in it: most often it has no copy, and notes a beat alone.
-        tell_own(&mut places.copies, telling.entity, telling.beat, own)?;
-    }
-    Ok(Begun { telling, news })
-}
-
 /// The real, which stays, settles as was begun. It takes no memory.
-pub fn stay(real: &mut Real, begun: Begun, out: &mut Out<Msg>)
+pub fn stay(real: &mut Real, begun: &Begun)
     requires beat { real.old.core.beat < 2 ^ 62 }
-    requires room { length begun.news.items < out.old.spare }
-    ensures real { real.new.core ≡ staying real.old.core begun }
-    ensures sent { out.new.items ≡ out.old.items ++ begun.news.items }
+    ensures real { real.new.core ≡ staying real.old.core begun.now }
 {
-    let beat = if begun.news.is_empty() {
-        real.beat()
-    } else {
+    let beat = if begun.has_told {
         real.beat() + 1
+    } else {
+        real.beat()
     };
     let generation = real.generation();
     real.settle_to(begun.telling.haunts, beat, generation);
-    send_all(begun.news, out);
 }
 
-/// The real, which goes, settles as was begun: its next place is where it goes, and it is sent after all messages. It takes no memory.
-pub fn leave(mut real: Real, begun: Begun, nexts: &mut Table<Next>, out: &mut Out<Msg>)
+/// The real, which goes, settles as was begun: its next place is where it goes, and it is sent last. It takes no memory.
+pub fn leave(mut real: Real, begun: &Begun, nexts: &mut Table<Next>, out: &mut Out<Msg>)
     requires beat { real.core.beat < 2 ^ 62 }
     requires generation { real.core.generation < 2 ^ 62 }
-    requires entity { begun.telling.entity ≡ real.core.entity }
-    requires goes { (begun.telling.home == begun.telling.me) ≡ false }
-    requires room { HasRoomFor nexts.old.room out.old.spare begun }
-    ensures { IsGone real.core begun nexts.old.items nexts.new.items out.old.items out.new.items }
+    requires entity { begun.now.telling.entity ≡ real.core.entity }
+    requires goes { (begun.now.telling.home == begun.now.telling.me) ≡ false }
+    requires room { HasRoomFor nexts.old.room out.old.spare begun.now.telling }
+    ensures { IsGone real.core begun.now nexts.old.items nexts.new.items out.old.items out.new.items }
 {
-    let Begun { telling, news } = begun;
-    let cell = telling.home;
+    let cell = begun.telling.home;
     let beat = real.beat() + 1;
     let generation = real.generation() + 1;
     let _ = nexts.put_reserved(real.entity(), Next { cell, generation });
-    real.settle_to(telling.haunts, beat, generation);
-    send_all(news, out);
+    real.settle_to(begun.telling.haunts, beat, generation);
     out.send(cell, Msg::Hand(Parcel { real }));
 }
 
@@ -222,25 +178,68 @@ fn tell_from(known: &Known, real: &Real, pos: Pos, changed: bool) -> Telling
     }
 }
 
-/// Makes all that a real takes to settle, of which is told what it is after a call, or what it is.
-pub fn ready_for(
-    alloc: Global,
+// Tells the haunts and, where the real goes, the own book, and makes the room that it takes to go. If allocation fails, some haunts
+// may have been told, and nothing else has changed.
+fn tell_all(
+    t: &Telling,
+    of: &Subject<'_>,
+    places: &mut Places,
+    out: &mut Out<Msg>,
+) -> Result<(), AllocError>
+    ensures sent { (me : ℕ) (settings : AllSettings) → OnOk result (out.new.items ≡ out.old.items
+        ++ news t.now (copy_with (node_with of.now.defs.now me settings) of.now.ty of.now.version of.now.state.now) 16) }
+    ensures ghosts { (me : ℕ) (settings : AllSettings) → OnOk result (places.new.copies.ghosts
+        ≡ heard t.now (copy_with (node_with of.now.defs.now me settings) of.now.ty of.now.version of.now.state.now) places.old.copies.ghosts) }
+    ensures room { OnOk result (HasRoomFor places.new.nexts.room out.new.spare t.now) }
+    ensures kept { take (length out.old.items) out.new.items ≡ out.old.items }
+    ensures nexts { places.new.nexts.items ≡ places.old.nexts.items }
+    ensures err { OnErr result (places.new.copies.ghosts ≡ places.old.copies.ghosts) }
+{
+    tell(t, of, out)?;
+    if t.home == t.me {
+        return Ok(());
+    }
+    out.reserve(1)?;
+    places.nexts.reserve(t.entity)?;
+    // The book hears last, so that no room has to be made in it: most often it has no copy, and notes a beat alone.
+    let own = own_copy(t, of)?;
+    tell_own(&mut places.copies, t.entity, t.beat, own)
+}
+
+/// Begins to settle: the haunts are told what the real is after a call, or what it is, and where it goes the own book; room is made for
+/// what comes then. If allocation fails, nothing has changed.
+pub fn begin(
     known: &Known,
     real: &Real,
     of: &Subject<'_>,
     changed: bool,
-) -> Result<Ready, AllocError>
+    places: &mut Places,
+    out: &mut Out<Msg>,
+) -> Result<Begun, AllocError>
     requires me { known.now.me < cell_count }
     requires inside { IsInSpace known.now.tree of.now.state.now.pos }
     requires legal { AreLegal known.now.settings }
     requires beat { real.now.core.beat < 2 ^ 62 }
     requires defs { of.now.defs.now ≡ known.now.defs }
-    ensures { (later : RealView) → IsLater real.now.core later → later.ty ≡ of.now.ty → later.public ≡ of.now.version →
-        later.state ≡ of.now.state.now → IfOk result (IsReadyFor (here_in known.now) known.now.tree later changed) }
+    ensures begun { (later : RealView) → IsLater real.now.core later → later.ty ≡ of.now.ty → later.public ≡ of.now.version →
+        later.state ≡ of.now.state.now → IfOk result (HasBegun (here_in known.now) known.now.tree later changed
+        (parts_of places.old out.old) (parts_of places.new out.new)) }
+    ensures entity { IfOk result (λ b. b.telling.entity ≡ real.now.core.entity) }
+    ensures room { IfOk result (λ b. HasRoomFor places.new.nexts.room out.new.spare b.telling) }
+    ensures err { OnErr result (parts_of places.new out.new ≡ parts_of places.old out.old) }
 {
     let telling = tell_from(known, real, of.state.pos, changed);
-    let ready = get_ready(alloc, telling, of)?;
-    Ok(ready)
+    let start = out.len();
+    match tell_all(&telling, of, places, out) {
+        Ok(()) => Ok(Begun {
+            telling,
+            has_told: out.len() > start,
+        }),
+        Err(error) => {
+            out.cut(start);
+            Err(error)
+        }
+    }
 }
 
 /// Whether the real would stay and keep its haunts if it settled as it is: nothing would change then, and no cell would be told anything.
@@ -271,17 +270,17 @@ pub fn settle_real(
     requires beat { real.core.beat < 2 ^ 62 }
     requires generation { real.core.generation < 2 ^ 62 }
     requires entity { begun.telling.entity ≡ real.core.entity }
-    requires room { HasRoomFor places.old.nexts.room out.old.spare begun }
-    ensures done { (h : Here) (t : Division) (changed : Bool) (was : RealView) (ready : Ready) (before : PartsView) →
-        IsReadyFor h t real.core changed ready → HasBegun ready before (parts_of places.old out.old) begun →
+    requires room { HasRoomFor places.old.nexts.room out.old.spare begun.telling }
+    ensures done { (h : Here) (t : Division) (changed : Bool) (was : RealView) (before : PartsView) →
+        HasBegun h t real.core changed before (parts_of places.old out.old) begun →
         IsDone (settled h t (slot_in before real.core.entity was) real.core changed) real.core.entity was
         (option_map core_of result) before (parts_of places.new out.new) }
     ensures witness { IfSome result (λ q. q.core.witness ≡ real.core.witness) }
 {
     if begun.telling.home == begun.telling.me {
-        stay(&mut real, begun, out);
+        stay(&mut real, &begun);
         return Some(real);
     }
-    leave(real, begun, &mut places.nexts, out);
+    leave(real, &begun, &mut places.nexts, out);
     None
 }

@@ -1,10 +1,10 @@
 //! A counter that passes numbers on.
 
-ghost use Rattle.std.specs.Prelude.{◌≡◌, ◌<◌, ◌++◌, true, OnOk, OnErr, IfErr};
+ghost use Rattle.std.specs.Prelude.{◌≡◌, ◌<◌, ◌++◌, true, OnOk, OnErr};
 ghost use Rattle.seam_ring.specs.Counters.{counter_steps, counter_work, IsCounter, counter_targets, counter_peers, counter_valid};
 
-use seam_machine::{Input, Machine, NoMemoryFor, Out};
-use std::alloc::Global;
+use seam_machine::{Input, Machine, Out};
+use std::alloc::{AllocError, Global};
 use std::marker::Model;
 
 /// A counter of a ring.
@@ -68,19 +68,17 @@ impl Machine for Counter {
     fn step(
         &mut self,
         _alloc: Global,
-        input: Input<u64>,
+        input: &mut Input<u64>,
         out: &mut Out<u64>,
-    ) -> Result<(), NoMemoryFor<Input<u64>>>
-        requires { input ≡ Input.Task → counter_work self.old ≡ true }
-        ensures state { OnOk result (self.new ≡ (counter_steps self.old input).state) }
-        ensures sent { OnOk result (out.new.items ≡ out.old.items ++ (counter_steps self.old input).sent) }
+    ) -> Result<(), AllocError>
+        requires { input.old ≡ Input.Task → counter_work self.old ≡ true }
+        ensures state { OnOk result (self.new ≡ (counter_steps self.old input.old).state) }
+        ensures sent { OnOk result (out.new.items ≡ out.old.items ++ (counter_steps self.old input.old).sent) }
         ensures err_state { OnErr result (self.new ≡ self.old) }
         ensures err_out { OnErr result (out.new.items ≡ out.old.items) }
-        ensures err_input { IfErr result (λ e. e.item ≡ input) }
+        ensures err_input { OnErr result (input.new ≡ input.old) }
     {
-        if out.reserve(1).is_err() {
-            return Err(NoMemoryFor { item: input });
-        }
+        out.reserve(1)?;
         match input {
             Input::Task => {
                 if let Some(number) = self.given {
@@ -90,8 +88,8 @@ impl Machine for Counter {
                 return Ok(());
             }
             Input::From(_, number) => {
-                if number > 0 {
-                    out.send(self.next, number - 1);
+                if *number > 0 {
+                    out.send(self.next, *number - 1);
                 }
                 return Ok(());
             }

@@ -158,12 +158,10 @@ fn held(alloc: Global, net: Net<Counter>) -> Result<(Vec<(u8, u64)>, Vec<Vec<u64
     let NetParts { nodes, links } = net.apart(alloc)?;
     let mut out = Out::new(alloc);
     for mut node in nodes {
-        if node.has_task() && node.step(alloc, Input::Task, &mut out).is_err() {
-            return Err(AllocError);
+        if node.has_task() {
+            node.step(alloc, &mut Input::Task, &mut out)?;
         }
-        if node.step(alloc, Input::From(0, 1), &mut out).is_err() {
-            return Err(AllocError);
-        }
+        node.step(alloc, &mut Input::From(0, 1), &mut out)?;
     }
     let mut sends = Vec::new(alloc);
     while let Some(sent) = out.take() {

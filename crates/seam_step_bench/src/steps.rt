@@ -39,15 +39,13 @@ fn answer<M: Machine<Msg = Msg>>(node: &M, out: &Out<Msg>) -> u64 {
 fn step<M: Machine<Msg = Msg>>(
     node: &mut M,
     alloc: Global,
-    input: Input<Msg>,
+    mut input: Input<Msg>,
     out: &mut Out<Msg>,
 ) -> Result<u64, AllocError>
     requires { input ≡ Input.Task → M.has_work node.old ≡ true }
 {
-    match node.step(alloc, input, out) {
-        Ok(()) => Ok(answer(node, out)),
-        Err(_) => Err(AllocError),
-    }
+    node.step(alloc, &mut input, out)?;
+    Ok(answer(node, out))
 }
 
 // The node is fed the message, or does its task where none is given and it has one.

@@ -144,14 +144,12 @@ pub fn order(alloc: Global, fed: Fed) -> Result<Order, Fail> {
 fn step<M: Machine<Msg = Msg>>(
     node: &mut M,
     alloc: Global,
-    input: Input<Msg>,
+    mut input: Input<Msg>,
 ) -> Result<Out<Msg>, Fail>
     requires { input ≡ Input.Task → M.has_work node.old ≡ true }
 {
     let mut out = Out::new(alloc);
-    if node.step(alloc, input, &mut out).is_err() {
-        return Err("no memory")?;
-    }
+    node.step(alloc, &mut input, &mut out)?;
     Ok(out)
 }
 

@@ -8,4 +8,6 @@ mod cells;
 #[cfg(test)]
 mod feeding;
 #[cfg(test)]
+mod hearing;
+#[cfg(test)]
 mod told;

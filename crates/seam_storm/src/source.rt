@@ -6,6 +6,7 @@ ghost use Rattle.std.specs.Io.{ReadsAtMost};
 ghost use Rattle.std.specs.Io.KnownBytes.{ReadConsumes};
 ghost use Rattle.seam_io.specs.Causes.{HasCause, CountsEnds};
 ghost use Rattle.seam_storm.specs.Storm.{create_line, client_line, opening, text_of_storm, field};
+ghost use Rattle.seam_storm.specs.Inside.{rest_of, IsLines};
 
 use crate::lines::{Lines, make_ready};
 use arrayvec::ArrayVec;
@@ -93,18 +94,35 @@ fn opening(alloc: Global) -> Result<Vec<u8>, AllocError>
     Ok(text)
 }
 
-// Copies as much of the text as fits to the beginning of the buffer, and gives how many bytes.
-fn copy_some(text: &[u8], buf: &mut [u8]) -> usize
-    requires some { 0 < length text.now }
-    requires room { 0 < length buf.old }
-    ensures some { 0 < result }
+// Copies as much of the text as fits into the buffer from place `at` on, and gives how many bytes.
+fn copy_some(text: &[u8], buf: &mut [u8], at: usize) -> usize
+    requires within { at ≤ length buf.old }
     ensures bound { result ≤ length text.now }
-    ensures fits { result ≤ length buf.new }
-    ensures bytes { text.now ≡ take result buf.new ++ drop result text.now }
+    ensures len { length buf.new ≡ length buf.old }
+    ensures fits { at + result ≤ length buf.new }
+    ensures some { 0 < length text.now → at < length buf.old → 0 < result }
+    ensures bytes { take at buf.old ++ text.now ≡ take (at + result) buf.new ++ drop result text.now }
 {
-    let count = text.len().min(buf.len());
-    buf[..count].copy_from_slice(&text[..count]);
+    let count = text.len().min(buf.len() - at);
+    buf[at..at + count].copy_from_slice(&text[..count]);
     count
+}
+
+// Makes lines as they fit into the buffer, and gives how many bytes.
+fn fill(lines: &mut Lines, buf: &mut [u8]) -> usize
+    requires is { IsLines lines.old }
+    ensures is { IsLines lines.new }
+    ensures fits { result ≤ length buf.new }
+    ensures bytes { rest_of lines.old ≡ take result buf.new ++ rest_of lines.new }
+    ensures none { result ≡ 0 → 0 < length buf.old → rest_of lines.old ≡ [] }
+{
+    let mut at = 0;
+    while at < buf.len() && make_ready(lines) {
+        let count = copy_some(&lines.line.as_slice()[lines.at..], buf, at);
+        lines.at += count;
+        at += count;
+    }
+    at
 }
 
 impl StormSource {
@@ -133,16 +151,14 @@ impl Source for StormSource {
 
     fn read(&mut self, buf: &mut [u8]) -> Result<usize, Failed> {
         if self.at < self.opening.len() {
-            let count = copy_some(&self.opening[self.at..], buf);
+            let count = copy_some(&self.opening[self.at..], buf, 0);
             self.at += count;
             return Ok(count);
         }
-        if !make_ready(&mut self.lines) {
+        let count = fill(&mut self.lines, buf);
+        if count == 0 {
             self.ends = self.ends.saturating_add(1);
-            return Ok(0);
         }
-        let count = copy_some(&self.lines.line.as_slice()[self.lines.at..], buf);
-        self.lines.at += count;
         Ok(count)
     }
 }

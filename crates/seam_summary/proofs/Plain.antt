@@ -11,10 +11,9 @@ use Rattle.std.proofs.lemmas.List.Elements.{All-from_recursion}
 use Rattle.std.proofs.lemmas.List.Folds.{list_all-append}
 use Rattle.std.proofs.lemmas.Str.{IsUtf8-from_ascii}
 use Rattle.seam_io.specs.Lines.{HasNoFeed, is_feed}
-use Rattle.seam_words.specs.Words.{IsPlainWord, HasFirstWords, EndsWord, is_plain, bytes_of}
+use Rattle.seam_words.specs.Words.{Span, IsPlainWord, HasFirstWords, EndsWord, is_plain, bytes_of}
 use Rattle.seam_words.specs.Texts.{HasWords}
 use Rattle.seam_words.specs.declared.words.TheConstants.{MOST_WORDS}
-use Rattle.seam_words.specs.declared.words.Span.{Span}
 
 -- ---- bytes
 

@@ -1,8 +1,9 @@
 -- The number of a numeral, one digit after another.
-use Rattle.std.proofs.Common.{◌≡◌, ◌∙◌, ap, ℕ, ◌<◌, ◌≤◌, ◌+◌, ◌-◌, ◌*◌, true, List, length, get_or, take, arith}
+use Rattle.std.proofs.Common.{◌≡◌, ◌∙◌, ap, ℕ, ◌<◌, ◌≤◌, ◌+◌, ◌-◌, ◌*◌, true, refl, List, length, get_or, take, arith}
 use Rattle.std.specs.List.{list_all}
 use Rattle.std.specs.Str.Parse.{digits_value}
 use Rattle.std.proofs.lemmas.Int.Digits.{digits_value_more}
+use Rattle.std.proofs.lemmas.List.Folds.{list_all_more}
 use Rattle.std.proofs.lemmas.Str.Parse.{digits_value-take-le}
 use Rattle.std.proofs.lemmas.Grind.{common_steps}
 use Rattle.std.specs.Char.{digit_value}
@@ -14,14 +15,19 @@ pub digit_at : (ds : List ℕ) (i : ℕ) → list_all is_digit ds ≡ true → i
 digit_at ds i all inside = grind (arith, common_steps)
 
 -- the number of the first digits, with one more
-pub with_next : (ds : List ℕ) (i : ℕ) → list_all is_digit ds ≡ true → i < length ds →
+pub with_next : (ds : List ℕ) (i : ℕ) → is_digit (get_or ds i 0) ≡ true → i < length ds →
     digits_value 10 (take (i + 1) ds) ≡ digits_value 10 (take i ds) * 10 + (get_or ds i 0 - 48)
-with_next ds i all inside =
-    let glyph = glyph_is (get_or ds i 0) (digit_at ds i all inside) in
+with_next ds i digit inside =
+    let glyph = glyph_is (get_or ds i 0) digit in
     let value : digit_value (get_or ds i 0) ≡ get_or ds i 0 - 48 = omega (arith, glyph.1) in
     digits_value_more 10 ds i inside ∙ ap (λ d. digits_value 10 (take i ds) * 10 + d) value
 
 -- the whole is at least that
-pub at_least : (ds : List ℕ) (i : ℕ) → list_all is_digit ds ≡ true → i < length ds →
+pub at_least : (ds : List ℕ) (i : ℕ) → is_digit (get_or ds i 0) ≡ true → i < length ds →
     digits_value 10 (take i ds) * 10 + (get_or ds i 0 - 48) ≤ digits_value 10 ds
-at_least ds i all inside = rw (← with_next ds i all inside) (digits_value-take-le 10 ds (i + 1) (omega arith))
+at_least ds i digit inside = rw (← with_next ds i digit inside) (digits_value-take-le 10 ds (i + 1) (omega arith))
+
+-- one more byte is a digit too
+pub all_next : (ds : List ℕ) (i : ℕ) → list_all is_digit (take i ds) ≡ true → is_digit (get_or ds i 0) ≡ true → i < length ds →
+    list_all is_digit (take (i + 1) ds) ≡ true
+all_next ds i all digit inside = list_all_more is_digit ds i 0 inside ∙ rw (all, digit) refl

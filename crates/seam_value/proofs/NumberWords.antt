@@ -1,33 +1,22 @@
 -- Words that are numbers.
-use Rattle.std.proofs.Common.{◌≡◌, ◌≢◌, ◌<◌, ◌^◌, ℕ, pos, List, arith, sym, ◌∙◌, rules}
-use Rattle.seam_value.specs.Values.{Fits, decimal_of}
-use Rattle.seam_value.specs.Causes.{Refuses}
-use Rattle.seam_value.specs.declared.types.ValueType.TheVariants as type
-use Rattle.seam_value.specs.declared.values.Value.TheVariants.{Number}
-use Rattle.seam_value.specs.declared.values.ValueError.{ValueError}
-use Rattle.seam_value.specs.declared.values.ValueError.TheVariants.{NotNumber, OutOfRange, BadString, TooLong, NoMemory}
-use Rattle.seam_value.proofs.Answers.{refuses_none}
-use Rattle.seam_value.proofs.Decimals.{decimal_of-injective, number_text_is}
+use Rattle.std.proofs.Common.{◌≡◌, ◌<◌, ◌≤◌, ◌^◌, ℕ, pos, List, arith, sym, ◌∙◌, ap, subst, rules}
+use Rattle.std.specs.Str.Parse.{digits_value}
+use Rattle.seam_value.specs.Values.{decimal_of}
+use Rattle.seam_value.specs.Numerals.{IsNumeral}
+use Rattle.seam_value.proofs.Decimals.{decimal_of-injective, decimal_of_numeral, decimal_of-digits_value, digits_value-decimal_of}
+use Rattle.seam_value.proofs.Decimals.{number_text_is}
 use Rattle.std.specs.Fmt.{decimal}
-use Rattle.seam_value.specs.NumberWords.{IsWhole, SpellsNumber, SpellsPositive}
+use Rattle.seam_value.specs.NumberWords.{SpellsNumber, SpellsPositive}
 
--- a number that 32 bits hold fits the type of such numbers
-pub whole_fits : (n : ℕ) → IsWhole n → Fits (Number (pos n)) type.Uint32
-whole_fits n whole = ((λ e. cc), search rules, search rules)
+-- a word that is a numeral spells its number, if 32 bits hold that, and no other word does
+pub numeral_spells : (word : List ℕ) (n : ℕ) → IsNumeral word → n ≡ digits_value 10 word → n < 2 ^ 32 → SpellsNumber word n
+numeral_spells word n h e small = record { whole = small; spelled = ap decimal_of e ∙ decimal_of-digits_value word h }
 
--- a failed allocation refuses no number
-no_memory_at_numbers : (bytes : List ℕ) (e : ValueError) → Refuses bytes type.Uint32 e → e ≢ NoMemory
-no_memory_at_numbers bytes NotNumber r = λ e. cc
-no_memory_at_numbers bytes OutOfRange r = λ e. cc
-no_memory_at_numbers bytes BadString r = λ e. cc
-no_memory_at_numbers bytes TooLong r = λ e. cc
-no_memory_at_numbers bytes NoMemory r = λ e. cc
-
--- bytes that are refused as a number spell none that 32 bits hold
-pub no_whole_if_refused : (bytes : List ℕ) (e : ValueError) → Refuses bytes type.Uint32 e → (n : ℕ) → ¬ (SpellsNumber bytes n)
-no_whole_if_refused bytes e refused n spells =
-    no_memory_at_numbers bytes e refused (refuses_none bytes type.Uint32 (Number (pos n)) e (whole_fits n spells.whole) spells.spelled
-    refused)
+pub spells_none : (word : List ℕ) → (IsNumeral word → 2 ^ 32 ≤ digits_value 10 word) → (n : ℕ) → ¬ (SpellsNumber word n)
+spells_none word big n spells =
+    let numeral : IsNumeral word = subst IsNumeral spells.spelled (decimal_of_numeral n) in
+    let value : digits_value 10 word ≡ n = ap (digits_value 10) (sym spells.spelled) ∙ digits_value-decimal_of n in
+    absurd (omega (arith, big numeral, spells.whole))
 
 -- what spells 0 spells no number from 1 on
 pub zero_is_not_positive : (bytes : List ℕ) → SpellsNumber bytes 0 → (n : ℕ) → ¬ (SpellsPositive bytes n)

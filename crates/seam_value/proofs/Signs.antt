@@ -7,10 +7,27 @@ use Rattle.std.proofs.lemmas.Int.{ints}
 use Rattle.seam_value.specs.declared.types.ValueType.{ValueType}
 use Rattle.seam_value.specs.declared.types.ValueType.TheVariants.{Int8, Int16, Int32, Int64, Uint8, Uint16, Uint32, Uint64, Text}
 use Rattle.seam_value.specs.declared.values.Value.TheVariants.{Number}
-use Rattle.seam_value.specs.Numerals.{IsNumeral, SplitsSign, IsSignedNumeral, signed}
+use Rattle.seam_value.specs.Numerals.{IsNumeral, SplitsSign, signed}
 use Rattle.seam_value.specs.Values.{Fits, decimal_of, number_text}
 use Rattle.seam_value.proofs.Decimals.{decimal_of_numeral, decimal_of-digits_value, decimal_of-injective, glyph_is, and_left}
-use Rattle.seam_value.proofs.Decimals.{decimal_of_zero}
+use Rattle.seam_value.proofs.Decimals.{decimal_of_zero, digits_value-decimal_of}
+
+-- a numeral after a sign or none, and no `-0`
+pub record IsSignedNumeral (is_negative : Bool) (digits : List ℕ) : Type 0 where
+  pub numeral : IsNumeral digits
+  pub sign : is_negative ≡ true → digits ≢ 48 ∷ []
+
+zero_value : digits_value 10 (48 ∷ []) ≡ 0
+zero_value = ap (digits_value 10) (sym decimal_of_zero) ∙ digits_value-decimal_of 0
+
+pub signed_numeral : (is_negative : Bool) (digits : List ℕ) → IsNumeral digits → (is_negative ≡ true → digits_value 10 digits ≢ 0) →
+    IsSignedNumeral is_negative digits
+signed_numeral is_negative digits h other =
+    record { numeral = h; sign = λ negative e. other negative (ap (digits_value 10) e ∙ zero_value) }
+
+pub no_minus_zero : (digits : List ℕ) → digits_value 10 digits ≡ 0 → ¬ (IsSignedNumeral true digits)
+no_minus_zero digits none h =
+    h.sign refl (sym (decimal_of-digits_value digits h.numeral) ∙ ap decimal_of none ∙ decimal_of_zero)
 
 -- a numeral after its sign is the text of its number
 negative_text : (n : ℕ) (ds : List ℕ) → decimal_of n ≡ ds → ds ≢ 48 ∷ [] → number_text (signed true n) ≡ 45 ∷ ds

@@ -1,5 +1,5 @@
 -- Texts of digits, as the reading of a number tests them: no clause of a public call cites these.
-use Rattle.std.specs.Prelude.{◌≡◌, ◌≢◌, ℕ, ◌<◌, ◌&&◌, Bool, true, false, List, [], ◌∷◌, length, nat_le, slice_index, ℤ, pos, neg_ℤ}
+use Rattle.std.specs.Prelude.{◌≡◌, ◌≢◌, ℕ, ◌<◌, ◌&&◌, Bool, true, false, List, ◌∷◌, length, nat_le, slice_index, ℤ, pos, neg_ℤ}
 use Rattle.std.specs.List.{list_all}
 
 -- a decimal digit
@@ -16,11 +16,6 @@ pub record IsNumeral (digits : List ℕ) : Type 0 where
 abbrev pub SplitsSign : List ℕ → Bool → List ℕ → Type 0
 SplitsSign bytes true digits = bytes ≡ 45 ∷ digits
 SplitsSign bytes false digits = (bytes ≡ digits) × (slice_index bytes 0 ≢ 45)
-
--- a numeral after a sign or none, and no `-0`
-pub record IsSignedNumeral (is_negative : Bool) (digits : List ℕ) : Type 0 where
-  pub numeral : IsNumeral digits
-  pub sign : is_negative ≡ true → digits ≢ 48 ∷ []
 
 -- a number of this size
 abbrev pub signed : Bool → ℕ → ℤ

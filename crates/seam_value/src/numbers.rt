@@ -2,15 +2,15 @@
 ghost use Rattle.std.specs.Prelude.{◌≡◌, ℕ, MatchOption};
 ghost use Rattle.seam_value.specs.NumberWords.{SpellsNumber, SpellsPositive};
 
-use crate::{ValueType, read_number};
+use crate::reading::numeral;
 
 /// The number that a word spells: None where it spells none that 32 bits hold. A number has one spelling, its decimal digits
 /// without a leading zero.
 pub fn whole_number(word: &[u8]) -> Option<u32>
     ensures { MatchOption result ((n : ℕ) → ¬ (SpellsNumber word.now n)) (SpellsNumber word.now) }
 {
-    match read_number(word, ValueType::Uint32) {
-        Ok(number) => Some(number as u32),
+    match u32::try_from(numeral(word)?) {
+        Ok(number) => Some(number),
         Err(_) => None,
     }
 }

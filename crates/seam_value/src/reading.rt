@@ -4,7 +4,7 @@ ghost use Rattle.std.specs.Prelude.{MatchOption, MatchResult, ◌+◌, ◌-◌, 
 ghost use Rattle.seam_value.specs.declared.values.Value.{Value as Values};
 ghost use Rattle.std.specs.List.{list_all, flat_map};
 ghost use Rattle.std.specs.Str.Parse.{digits_value};
-ghost use Rattle.seam_value.specs.Numerals.{is_digit, IsNumeral, IsSignedNumeral, SplitsSign, signed};
+ghost use Rattle.seam_value.specs.Numerals.{is_digit, IsNumeral, SplitsSign, signed};
 ghost use Rattle.seam_value.specs.Texts.{spelled_byte, quoted, IsShortText};
 ghost use Rattle.seam_value.specs.Values.{Fits, text_of, number_text};
 ghost use Rattle.seam_value.specs.Causes.{Refuses};
@@ -39,12 +39,11 @@ pub fn read_number(bytes: &[u8], t: ValueType) -> Result<i128, ValueError>
     ensures spelled { (z : ℤ) → Fits (Value.Number z) t → number_text z ≡ bytes.now → result ≡ Ok z }
 {
     let (is_negative, digits) = split_sign(bytes);
-    if !is_signed_numeral(is_negative, digits) {
-        return Err(ValueError::NotNumber);
-    }
-    match magnitude(digits) {
+    match numeral(digits) {
+        Some(size) if is_negative && size == 0 => Err(ValueError::NotNumber),
         Some(size) => in_range(signed(is_negative, size), t),
-        None => Err(ValueError::OutOfRange),
+        None if is_numeral(digits) => Err(ValueError::OutOfRange),
+        None => Err(ValueError::NotNumber),
     }
 }
 
@@ -56,12 +55,6 @@ fn split_sign(bytes: &[u8]) -> (bool, &[u8])
         [b'-', digits @ ..] => (true, digits),
         _ => (false, bytes),
     }
-}
-
-fn is_signed_numeral(is_negative: bool, digits: &[u8]) -> bool
-    ensures { IsTrue result ↔ IsSignedNumeral is_negative digits.now }
-{
-    is_numeral(digits) && !(is_negative && is_zero(digits))
 }
 
 fn is_numeral(digits: &[u8]) -> bool
@@ -76,33 +69,46 @@ fn is_numeral(digits: &[u8]) -> bool
 fn all_digits(bytes: &[u8]) -> bool
     ensures { result ≡ list_all is_digit bytes.now }
 {
-    bytes.iter().all(|b| *b >= b'0' && *b <= b'9')
+    bytes.iter().all(|b| is_digit(*b))
 }
 
-fn is_zero(digits: &[u8]) -> bool
-    ensures { IsTrue result ↔ (digits.now ≡ 48 ∷ []) }
+fn is_digit(byte: u8) -> bool
+    ensures { result ≡ is_digit byte }
 {
-    matches!(digits, [b'0'])
+    b'0' <= byte && byte <= b'9'
 }
 
-// The number of these digits, where it is below 2^64.
-fn magnitude(digits: &[u8]) -> Option<u64>
-    requires { IsNumeral digits.now }
-    ensures { MatchOption result (2 ^ 64 ≤ digits_value 10 digits.now) (λ n. n ≡ digits_value 10 digits.now) }
+// The number of a numeral, where it is below 2^64: its digits are tested and counted in one pass.
+pub(crate) fn numeral(digits: &[u8]) -> Option<u64>
+    ensures { MatchOption result (IsNumeral digits.now → 2 ^ 64 ≤ digits_value 10 digits.now)
+        (λ n. IsNumeral digits.now × (n ≡ digits_value 10 digits.now)) }
 {
-    let mut size: u64 = 0;
-    for digit in digits {
-        size = with_digit(size, *digit)?;
+    match digits {
+        [] | [b'0', _, ..] => None,
+        _ => number_of_digits(digits),
     }
-    Some(size)
 }
 
-// The number with one digit more at its end, where it is below 2^64.
-fn with_digit(size: u64, digit: u8) -> Option<u64>
-    requires { is_digit digit ≡ true }
-    ensures { MatchOption result (2 ^ 64 ≤ size * 10 + (digit - 48)) (λ n. n ≡ size * 10 + (digit - 48)) }
+fn number_of_digits(bytes: &[u8]) -> Option<u64>
+    ensures { MatchOption result (list_all is_digit bytes.now ≡ true → 2 ^ 64 ≤ digits_value 10 bytes.now)
+        (λ n. (list_all is_digit bytes.now ≡ true) × (n ≡ digits_value 10 bytes.now)) }
 {
-    size.checked_mul(10)?.checked_add(u64::from(digit - b'0'))
+    let mut number: u64 = 0;
+    for byte in bytes {
+        number = with_digit(number, *byte)?;
+    }
+    Some(number)
+}
+
+// The number with one digit more at its end, where the byte is one and the number is below 2^64.
+fn with_digit(number: u64, byte: u8) -> Option<u64>
+    ensures { MatchOption result (is_digit byte ≡ true → 2 ^ 64 ≤ number * 10 + (byte - 48))
+        (λ n. (is_digit byte ≡ true) × (n ≡ number * 10 + (byte - 48))) }
+{
+    if !is_digit(byte) {
+        return None;
+    }
+    number.checked_mul(10)?.checked_add(u64::from(byte - b'0'))
 }
 
 fn signed(is_negative: bool, size: u64) -> i128

@@ -2,7 +2,7 @@
 #![tactic(auto)]
 
 ghost use Rattle.std.specs.Prelude.{◌≡◌, ◌≤◌, ◌<◌, ◌+◌, ◌∷◌, ℕ, [], map, drop, length, slice_get, slice_index, nat_eq};
-ghost use Rattle.std.specs.Prelude.{IfOk, IfErr, OnOk, IfSome, IfNone, Some, ◌≢◌, is_some, false, not, if◌then◌else◌, ◌^◌, slice_index_or};
+ghost use Rattle.std.specs.Prelude.{IfOk, IfErr, OnOk, IfSome, IfNone, Some, ◌≢◌, is_some, true, false, not, if◌then◌else◌, ◌^◌, slice_index_or};
 ghost use Rattle.std.specs.Bool.{OnTrue, OnFalse};
 ghost use Rattle.std.specs.List.{AllWithin, IsDistinct, filter, insert, list_any};
 ghost use Rattle.std.specs.Map.{keys_of, lookup};
@@ -184,6 +184,18 @@ fn entity_at(slots: &[Slot], i: u32) -> u32
     }
 }
 
+// Whether all have numbers below e.
+fn are_all_below(slots: &[Slot], by_number: &[u32], e: u32) -> bool
+    requires { IsByNumber (keys_of (entries_of slots.now)) by_number.now }
+    ensures { result ≡ true → AllWithin (λ i. number_at slots.now i < e) by_number.now 0 (length by_number.now) }
+{
+    let len = by_number.len();
+    if len == 0 {
+        return true;
+    }
+    entity_at(slots, by_number[len - 1]) < e
+}
+
 // How many have numbers below e, where the few from this one on tell it.
 fn few_below(slots: &[Slot], by_number: &[u32], e: u32, from: usize) -> Option<usize>
     requires { IsByNumber (keys_of (entries_of slots.now)) by_number.now }
@@ -232,7 +244,7 @@ fn is_at(slots: &[Slot], by_number: &[u32], e: u32, rank: usize) -> bool
     }
 }
 
-// Where the entity is by number, or else where it would be. The one at `from` is tried first.
+// Where the entity is by number, or else where it would be. The one at `from` is tried first, or whether it comes after all.
 #[inline(always)]
 fn rank_of(slots: &[Slot], by_number: &[u32], e: u32, from: usize) -> Result<usize, usize>
     requires { IsByNumber (keys_of (entries_of slots.now)) by_number.now }
@@ -244,6 +256,9 @@ fn rank_of(slots: &[Slot], by_number: &[u32], e: u32, from: usize) -> Result<usi
 {
     if is_at(slots, by_number, e, from) {
         return Ok(from);
+    }
+    if from == by_number.len() && are_all_below(slots, by_number, e) {
+        return Err(from);
     }
     let rank = many_below(slots, by_number, e, from);
     if is_at(slots, by_number, e, rank) {

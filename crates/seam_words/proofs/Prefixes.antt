@@ -3,10 +3,9 @@ use Rattle.std.proofs.Common.{◌≡◌, ℕ, ◌+◌, ◌<◌, Bool, true, fals
 use Rattle.std.proofs.Common.{append_assoc, append-nil, length-append}
 use Rattle.std.proofs.lemmas.List.Folds.{list_all-append}
 use Rattle.seam_words.specs.declared.words.TheConstants.{MOST_WORDS}
-use Rattle.seam_words.specs.declared.words.Span.{Span}
 use Rattle.seam_words.specs.declared.words.WordsError.{WordsError}
 use Rattle.seam_words.specs.declared.words.WordsError.TheVariants.{NotUtf8, OpenQuote, BadEscape, TooManyWords}
-use Rattle.seam_words.specs.Words.{is_blank, IsGap, HasFirstWords, AreWords}
+use Rattle.seam_words.specs.Words.{Span, is_blank, IsGap, HasFirstWords, AreWords}
 use Rattle.std.specs.Str.{IsUtf8}
 use Rattle.seam_words.specs.Faults.{HasFaultAt, HasFault, Refuses}
 use Rattle.seam_words.specs.Parts.{IsFirstWord, RefusesWord}

@@ -1,9 +1,10 @@
 -- Runs of bytes that pass a test: gaps, and plain words.
 use Rattle.std.proofs.Common.{◌≡◌, ℕ, ◌+◌, ◌<◌, Bool, true, false, List, [], ◌∷◌, ◌++◌, length, drop, refl, ◌∙◌, ap, arith, suc, eqb-true}
+use Rattle.std.proofs.Common.{◌≢◌, length-append}
 use Rattle.std.specs.Prelude.{slice_index, ◌==◌}
 use Rattle.std.specs.List.{list_all, prefix_len}
 use Rattle.std.proofs.lemmas.Grind.{common_steps}
-use Rattle.seam_words.specs.Words.{is_plain, IsPlainWord, EndsWord}
+use Rattle.seam_words.specs.Words.{is_plain, EndsWord}
 use Rattle.seam_words.specs.Faults.{HasOpenQuote, BeginsWord}
 use Rattle.seam_words.specs.Faults.HasOpenQuote.{inside}
 use Rattle.seam_words.specs.Parts.{IsFirstWord}
@@ -39,13 +40,18 @@ has_run p (b ∷ bytes) = by_test (p b) refl (has_run p bytes)
         rw (e, step) (one_longer p b bytes (drop (prefix_len p bytes) bytes) e h)
     by_test false e h = rw e (record { run = []; passes = refl; stops = e; whole = refl })
 
--- a plain word, and one with a quote inside
-some_plain : (bytes rest run : List ℕ) → BeginsWord bytes → (slice_index bytes 0 == 34) ≡ false → StopsAt is_plain rest →
+-- plain bytes are a word where no quote follows them, and else have a quote inside
+no_quote_first : (bytes rest run : List ℕ) → list_all is_plain run ≡ true → 0 < length run → bytes ≡ run ++ rest →
+    (slice_index bytes 0 == 34) ≡ false
+no_quote_first bytes rest [] p h e = absurd (omega arith)
+no_quote_first bytes rest (r ∷ run) p h e = rw e (grind (arith, common_steps, p))
+
+some_plain : (bytes rest run : List ℕ) → BeginsWord bytes → StopsAt is_plain rest → (slice_index rest 0 == 34) ≡ false →
     bytes ≡ run ++ rest → 0 < length run
-some_plain [] rest run s q p e = absurd s
-some_plain (b ∷ bytes) rest (r ∷ run) s q p e = omega arith
-some_plain (b ∷ bytes) [] [] s q p e = cc
-some_plain (b ∷ bytes) (x ∷ rest) [] s q p e =
+some_plain [] rest run s p q e = absurd s
+some_plain (b ∷ bytes) rest (r ∷ run) s p q e = omega arith
+some_plain (b ∷ bytes) [] [] s p q e = cc
+some_plain (b ∷ bytes) (x ∷ rest) [] s p q e =
     let same : b ≡ x = cc in
     absurd (grind (arith, common_steps))
 
@@ -53,20 +59,24 @@ quote_first : (bytes : List ℕ) → (slice_index bytes 0 == 34) ≡ true → by
 quote_first [] e = cc
 quote_first (b ∷ bytes) e = ap (λ (x : ℕ). x ∷ bytes) (eqb-true b 34 e)
 
-first_plain : (bytes rest : List ℕ) → BeginsWord bytes → (slice_index bytes 0 == 34) ≡ false → (h : HasRun is_plain bytes rest) →
-    IsPlainWord h.run
-first_plain bytes rest s q h = record { some = some_plain bytes rest h.run s q h.stops h.whole; plain = h.passes }
+ends_word : (bytes : List ℕ) → StopsAt is_plain bytes → (slice_index bytes 0 == 34) ≡ false → EndsWord bytes
+ends_word [] p e = tt
+ends_word (b ∷ bytes) p e = grind (arith, common_steps)
 
-pub plain_word : (bytes rest : List ℕ) → BeginsWord bytes → (slice_index bytes 0 == 34) ≡ false → HasRun is_plain bytes rest →
-    (slice_index rest 0 == 34) ≡ false → IsFirstWord false bytes rest
-plain_word bytes rest s q h e =
-    record { word = h.run; good = first_plain bytes rest s q h; ends = ends_word rest h.stops e; whole = h.whole }
-  where
-    ends_word : (xs : List ℕ) → StopsAt is_plain xs → (slice_index xs 0 == 34) ≡ false → EndsWord xs
-    ends_word [] p e = tt
-    ends_word (x ∷ xs) p e = grind (arith, common_steps)
+pub plain_word : (bytes rest : List ℕ) → BeginsWord bytes → HasRun is_plain bytes rest → (slice_index rest 0 == 34) ≡ false →
+    IsFirstWord (slice_index bytes 0 == 34) bytes rest
+plain_word bytes rest s h e =
+    let some : 0 < length h.run = some_plain bytes rest h.run s h.stops e h.whole in
+    rw (no_quote_first bytes rest h.run h.passes some h.whole) (record {
+      word = h.run;
+      good = record { some = some; plain = h.passes };
+      ends = ends_word rest h.stops e;
+      whole = h.whole;
+    })
 
-pub quote_inside : (bytes rest : List ℕ) → BeginsWord bytes → (slice_index bytes 0 == 34) ≡ false → HasRun is_plain bytes rest →
-    (slice_index rest 0 == 34) ≡ true → HasOpenQuote bytes
-quote_inside bytes rest s q h e =
-    inside h.run (drop 1 rest) (first_plain bytes rest s q h) (h.whole ∙ ap (λ (xs : List ℕ). h.run ++ xs) (quote_first rest e))
+pub quote_inside : (bytes rest : List ℕ) → HasRun is_plain bytes rest → length rest ≢ length bytes → (slice_index rest 0 == 34) ≡ true →
+    HasOpenQuote bytes
+quote_inside bytes rest h more e =
+    let some : 0 < length h.run = omega (arith, ap length h.whole, length-append h.run rest) in
+    inside h.run (drop 1 rest) (record { some = some; plain = h.passes })
+    (h.whole ∙ ap (λ (xs : List ℕ). h.run ++ xs) (quote_first rest e))

@@ -6,11 +6,10 @@ use Rattle.std.specs.List.{list_all, concat, AllByRecursion}
 use Rattle.std.specs.Str.{IsUtf8}
 use Rattle.std.proofs.lemmas.Grind.{common_steps}
 use Rattle.seam_words.specs.declared.words.TheConstants.{MOST_WORDS}
-use Rattle.seam_words.specs.declared.words.Span.{Span}
 use Rattle.seam_words.specs.declared.words.WordsError.{WordsError}
 use Rattle.seam_words.specs.declared.words.WordsError.TheVariants.{NotUtf8, OpenQuote, BadEscape, TooManyWords}
 use Rattle.seam_words.specs.Words.{is_blank, is_plain, is_escaped, IsGap, IsPlainWord, IsPiece, ArePieces, IsQuotedWord, IsWord, EndsWord}
-use Rattle.seam_words.specs.Words.{HasFirstWord, HasFirstWords, AreWords}
+use Rattle.seam_words.specs.Words.{Span, HasFirstWord, HasFirstWords, AreWords}
 use Rattle.seam_words.specs.Faults.{HasOpenQuote, IsNoEscape, HasFaultAt, HasFault, Refuses}
 use Rattle.seam_words.specs.Faults.HasOpenQuote.{inside, unended, followed}
 

@@ -2,10 +2,9 @@
 use Rattle.std.specs.Prelude.{◌≡◌, ℕ, ◌<◌, false, List, [], ◌∷◌, ◌++◌, length}
 use Rattle.std.specs.Str.{IsUtf8}
 use Rattle.seam_words.specs.declared.words.TheConstants.{MOST_WORDS}
-use Rattle.seam_words.specs.declared.words.Span.{Span}
 use Rattle.seam_words.specs.declared.words.WordsError.{WordsError}
 use Rattle.seam_words.specs.declared.words.WordsError.TheVariants.{NotUtf8, OpenQuote, BadEscape, TooManyWords}
-use Rattle.seam_words.specs.Words.{is_blank, is_escaped, IsPlainWord, ArePieces, IsQuotedWord, HasFirstWords}
+use Rattle.seam_words.specs.Words.{Span, is_blank, is_escaped, IsPlainWord, ArePieces, IsQuotedWord, HasFirstWords}
 
 -- a quote where none may be, or is missing, in the bytes where a word should begin
 pub data HasOpenQuote (bytes : List ℕ) : Type 0 where

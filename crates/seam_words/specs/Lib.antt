@@ -2,5 +2,4 @@ pub mod Words
 pub mod Texts
 pub mod Faults
 pub mod Parts
-pub mod Table
 pub mod Numbers

@@ -1,9 +1,8 @@
 -- The texts of the words of a line.
 use Rattle.std.specs.Prelude.{◌≡◌, ℕ, ◌≤◌, List, length, map}
 use Rattle.std.specs.Str.{IsUtf8}
-use Rattle.seam_words.specs.Words.{AreWords, bytes_of}
+use Rattle.seam_words.specs.Words.{Span, AreWords, bytes_of}
 use Rattle.seam_words.specs.declared.words.TheConstants.{MOST_WORDS}
-use Rattle.seam_words.specs.declared.words.Span.{Span}
 
 -- these are the texts of the words of a line, of which there are not too many
 pub record HasWords (line : List ℕ) (words : List (List ℕ)) : Type 0 where

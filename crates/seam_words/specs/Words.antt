@@ -1,7 +1,12 @@
 -- The words of a line.
-use Rattle.std.specs.Prelude.{◌≡◌, ◌≢◌, ℕ, ◌+◌, ◌<◌, ◌≤◌, ◌⊎◌, ◌||◌, Bool, true, false, not, List, [], ◌∷◌, ◌++◌, length, ◌==◌, slice_range}
+use Rattle.std.specs.Prelude.{◌≡◌, ◌≢◌, ℕ, ◌+◌, ◌<◌, ◌⊎◌, ◌||◌, Bool, true, false, not, List, [], ◌∷◌, ◌++◌, length, ◌==◌, slice_range}
 use Rattle.std.specs.List.{list_all, concat, AllByRecursion}
-use Rattle.seam_words.specs.declared.words.Span.{Span}
+
+-- a word of a line: the bytes from place `start` up to, but without, place `end`, counted from 0; where it is quoted, with both quotes
+pub record Span : Type 0 where
+  pub start : ℕ
+  pub end : ℕ
+  pub quoted : Bool
 
 -- a space or a tab
 abbrev pub is_blank : ℕ → Bool
@@ -72,8 +77,3 @@ AreWords line spans = HasFirstWords 0 line spans []
 -- the bytes of a word in its line
 abbrev pub bytes_of : List ℕ → Span → List ℕ
 bytes_of line span = slice_range line span.start span.end
-
--- the span is not empty and lies in a line of this length
-pub record IsInside (len : ℕ) (span : Span) : Type 0 where
-  pub ordered : span.start < span.end
-  pub inside : span.end ≤ len

@@ -1,8 +1,7 @@
 // What the definitions say together.
 ghost use Rattle.std.specs.Prelude.{◌≡◌, ◌≤◌, List, ℕ, length};
-ghost use Rattle.seam_words.specs.declared.words.Span.{Span};
 ghost use Rattle.seam_words.specs.declared.words.WordsError.{WordsError};
-ghost use Rattle.seam_words.specs.Words.{AreWords};
+ghost use Rattle.seam_words.specs.Words.{Span, AreWords};
 ghost use Rattle.seam_words.specs.Faults.{HasFault};
 
 use crate::MOST_WORDS;

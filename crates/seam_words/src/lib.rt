@@ -11,6 +11,5 @@ mod texts;
 mod words;
 
 pub use laws::{fault_is_one, words_are_one};
-pub use splitting::split_line;
 pub use texts::words_of_line;
-pub use words::{MOST_WORDS, Span, Words, WordsError};
+pub use words::{MOST_WORDS, WordsError};

@@ -1,12 +1,15 @@
-// The texts of the words of a line.
-ghost use Rattle.std.specs.Prelude.{◌≡◌, ◌<◌, ◌≤◌, ◌^◌, IfOk, IfErr, List, All, map, take, length};
+// The words of a line, each as its text.
+ghost use Rattle.std.specs.Prelude.{◌≡◌, ◌<◌, ◌^◌, ℕ, List, IfOk, IfErr, IsOkAnd, map, length};
+ghost use Rattle.seam_words.specs.declared.words.WordsError.{WordsError as Errors};
 ghost use Rattle.seam_words.specs.Faults.{Refuses};
 ghost use Rattle.seam_words.specs.Texts.{HasWords};
-ghost use Rattle.seam_words.specs.Words.{IsInside, bytes_of};
 
-use crate::{MOST_WORDS, Words, WordsError, split_line};
+use crate::splitting::{after_gap, after_word, after_word_gap, is_utf8};
+use crate::{MOST_WORDS, WordsError};
 
-/// The texts of the words of a line, with a table that has room for them; or the line's first fault.
+/// The words of a line, with a table that has room for them. A word in quotes runs to its closing quote, with the escapes `\"`, `\\` and
+/// `\n`, and ends before a space, a tab or the line's end; both quotes are in its text. Any other word is a run of bytes other than
+/// space, tab and quote. Where the line has no words, the answer is `NotUtf8` if it is not UTF-8, and else the first fault from the left.
 pub fn words_of_line<'a, 'b>(
     line: &'a [u8],
     table: &'b mut [&'a [u8]; MOST_WORDS],
@@ -14,27 +17,24 @@ pub fn words_of_line<'a, 'b>(
     requires { length line.now < 2 ^ 32 }
     ensures words { IfOk result (λ words. HasWords line.now (map (λ w. w.now) words.now)) }
     ensures cause { IfErr result (Refuses line.now) }
-{
-    match split_line(line) {
-        Ok(words) => {
-            let count = fill(line, &words, table);
-            Ok(&table[..count])
-        }
-        Err(error) => Err(error),
-    }
-}
 
-// Puts the texts of the words into a table that has room for them, and answers how many there are.
-fn fill<'a>(line: &'a [u8], words: &Words, table: &mut [&'a [u8]; MOST_WORDS]) -> usize
-    requires { All (IsInside (length line.now)) words.now }
-    ensures most { result ≤ MOST_WORDS }
-    ensures len { length table.new ≡ MOST_WORDS }
-    ensures texts { map (λ w. w.now) (take result table.new) ≡ map (bytes_of line.now) words.now }
+    // And the other way round: each line has one answer.
+    ensures found { (texts : List (List ℕ)) → HasWords line.now texts → IsOkAnd result (λ words. map (λ w. w.now) words.now ≡ texts) }
+    ensures refused { (error : Errors) → Refuses line.now error → result ≡ Err error }
 {
-    let count = words.len();
-    for i in 0..count {
-        let span = words.get(i).unwrap();
-        table[i] = span.of(line);
+    if !is_utf8(line) {
+        return Err(WordsError::NotUtf8);
     }
-    count
+    let mut count = 0;
+    let mut rest = after_gap(line);
+    while !rest.is_empty() {
+        if count == MOST_WORDS {
+            return Err(WordsError::TooManyWords);
+        }
+        let after = after_word(rest)?;
+        table[count] = &rest[..rest.len() - after.len()];
+        count += 1;
+        rest = after_word_gap(after);
+    }
+    Ok(&table[..count])
 }

@@ -4,7 +4,7 @@ use Rattle.seam_order.specs.Offers.{after_taking}
 use Rattle.seam_entity.specs.Executing.{executed_ready, shows, with_order}
 use Rattle.seam_steps.specs.Settle.{settled}
 use Rattle.seam_parts.specs.Kept.{here_in}
-use Rattle.seam_parts.specs.Stepping.{IsReadyFor, IsDone, parts_of, slot_in, core_of}
+use Rattle.seam_parts.specs.Stepping.{HasBegun, IsDone, parts_of, slot_in, core_of}
 use Rattle.seam_cell.proofs.CallLemmas.{after_is}
 use Rattle.seam_cell.proofs.ReadyLemmas.{Readied, readied, same_ready, ready_rises, task_is}
 use Rattle.seam_cell.proofs.tasks.execute_ready.Goals as goal
@@ -17,7 +17,7 @@ module _ (c : goal.After-settle_real-arg-2-1) where
       ≡ executed_ready (here_in c.args.known.now) c.args.real.core task.order task.call
   executed_is =
       let r = c.args.real.core in
-      let q = c.make_for_ready.new.real.core in
+      let q = c.begin_ready.new.real.core in
       c.execute_ready_after.ensures task.order task.call (same_ready r q task.order task.call c.in-Ok.ensures.same task.is)
       ∙ ap (λ x. with_order x task.order.0 (after_taking task.order.1))
       (after_is (here_in c.args.known.now) r q c.in-Ok.made.after task.call c.in-Ok.ensures.same
@@ -36,17 +36,14 @@ settle_real-requires-clause-generation c =
     (executed_is c)).generation
 
 pub settle_real-requires-clause-entity : goal.settle_real-requires-clause-entity
-settle_real-requires-clause-entity c =
-    let task = readied c.args.real.core c.requires.ready in
-    ap (λ x. x.entity) (c.in-Ok-begin.ensures.begun.telling ∙ (c.in-Ok.ensures.ready task.order task.call task.is).telling)
-    ∙ ap (λ x. x.entity) (sym (executed_is c))
+settle_real-requires-clause-entity c = c.in-Ok.ensures.entity ∙ ap (λ x. x.entity) (sym (executed_is c))
 
 pub returns-clause-done : goal.returns-clause-done
 returns-clause-done c =
     let h = here_in c.args.known.now in
     let t = c.args.known.now.tree in
     let r = c.args.real.core in
-    let q = c.make_for_ready.new.real.core in
+    let q = c.begin_ready.new.real.core in
     let task = readied r c.requires.ready in
     let o = task.order in
     let k = task.call in
@@ -57,8 +54,10 @@ returns-clause-done c =
     c.execute_ready_after.ensures o k (same_ready r q o k c.in-Ok.ensures.same task.is)
     ∙ ap (λ x. with_order x o.0 (after_taking o.1))
     (after_is h r q c.in-Ok.made.after k c.in-Ok.ensures.same (c.in-Ok.ensures.state o k task.is) (c.in-Ok.ensures.changed o k task.is)) in
-    let ready = subst (λ x. IsReadyFor h t x (shows h r k) c.in-Ok.made.ready) (sym is) (c.in-Ok.ensures.ready o k task.is) in
-    let done = c.settle_real.ensures.done h t (shows h r k) r c.in-Ok.made.ready before ready c.in-Ok-begin.ensures.begun in
+    let begun =
+    subst (λ x. HasBegun h t x (shows h r k) before (parts_of c.begin_ready.new.places c.begin_ready.new.out) c.in-Ok.made.begun) (sym is)
+    (c.in-Ok.ensures.begun o k task.is) in
+    let done = c.settle_real.ensures.done h t (shows h r k) r before begun in
     subst (λ s. IsDone s r.entity r left before after) (sym (task_is h t (slot_in before r.entity r) r o k task.is))
     (subst (λ x. IsDone (settled h t (slot_in before x.entity r) x (shows h r k)) x.entity r left before after) is done)
 
@@ -66,7 +65,7 @@ pub returns-clause-witness : goal.returns-clause-witness
 returns-clause-witness c =
     let h = here_in c.args.known.now in
     let r = c.args.real.core in
-    let q = c.make_for_ready.new.real.core in
+    let q = c.begin_ready.new.real.core in
     let task = readied r c.requires.ready in
     let o = task.order in
     let k = task.call in

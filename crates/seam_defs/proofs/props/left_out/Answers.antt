@@ -1,21 +1,15 @@
-use Rattle.std.proofs.Common.{◌≡◌, ◌≢◌, ◌∙◌, refl, sym, ap, ℕ, ◌<◌, ◌≤◌, ◌^◌, ◌+◌, ◌%◌, ◌/◌, add-one, drop, true, false, if◌then◌else◌, ◌∷◌, arith}
+use Rattle.std.proofs.Common.{◌≡◌, ◌≢◌, ◌∙◌, refl, sym, ap, ℕ, ◌<◌, ◌≤◌, ◌^◌, ◌+◌, ◌%◌, ◌/◌, add-one, drop, false, if◌then◌else◌, ◌∷◌, arith}
 use Rattle.std.specs.Prelude.{◌==◌}
 use Rattle.std.proofs.Math.Nat.{pow-succ'}
 use Rattle.std.proofs.Math.Pow.{pow_mono}
 use Rattle.seam_defs.specs.Marks.{kept}
 use Rattle.seam_defs.specs.Remaining.{properties_left, shown_of}
-use Rattle.seam_defs.proofs.Marks.{marked, kept-next, kept-passed, all-marked}
+use Rattle.seam_defs.proofs.Marks.{even, odd, marked, kept-next, kept-passed, all-marked}
 use Rattle.seam_defs.proofs.props.left_out.Goals as goal
 use Rattle.seam_defs.proofs.props.left_out.Goals.{then-rest-eq0, else-rest-eq0, then-not-is_kept, else-not-is_kept}
 
 mark-fits : (i n : ℕ) → i < n → n ≤ 32 → 2 ^ i ≤ 2 ^ 31
 mark-fits i n within short = pow_mono {i = i} {j = 31} (omega arith)
-
-even : (n : ℕ) → n % 2 ≡ 0 → (n % 2 == 1) ≡ false
-even n e = rw e refl
-
-odd : (n : ℕ) → n % 2 ≢ 0 → (n % 2 == 1) ≡ true
-odd n e = let one : n % 2 ≡ 1 = omega arith in rw one refl
 
 uneven : (n : ℕ) → n % 2 ≢ 0 → (n % 2 == 0) ≡ false
 uneven n e = let one : n % 2 ≡ 1 = omega arith in rw one refl

@@ -4,13 +4,13 @@ use Rattle.seam_parts.proofs.SettleLemmas.{equal_test, other_test, stay_done, le
 use Rattle.seam_parts.proofs.settle.settle_real.Goals as goal
 
 pub returns-then-begun-clause-done : goal.returns-then-begun-clause-done
-returns-then-begun-clause-done c h t changed was ready before is begun =
-    stay_done h t c.args.real.core was changed ready is _ before (parts_of c.args.places.now c.args.out.now)
-    (parts_of c.args.places.now c.stay.new.out) c.args.begun begun (equal_test _ _ c.if-begun.true) (ap Some c.stay.ensures.real) refl refl
-    c.stay.ensures.sent
+returns-then-begun-clause-done c h t changed was before begun =
+    let parts = parts_of c.args.places.now c.args.out.now in
+    stay_done h t c.args.real.core was changed _ before parts parts c.args.begun begun (equal_test _ _ c.if-begun.true)
+    (ap Some c.stay.ensures.real) refl refl refl
 
 pub returns-clause-done : goal.returns-clause-done
-returns-clause-done c h t changed was ready before is begun =
-    leave_done h t c.args.real.core was changed ready is _ before (parts_of c.args.places.now c.args.out.now)
+returns-clause-done c h t changed was before begun =
+    leave_done h t c.args.real.core was changed _ before (parts_of c.args.places.now c.args.out.now)
     (parts_of (record { nexts = c.leave.new.nexts; copies = c.args.places.now.copies }) c.leave.new.out) c.args.begun begun
     (other_test _ _ c.if-begun.false) refl refl c.leave.ensures

@@ -1,43 +1,35 @@
 use Rattle.std.proofs.Common.{◌++◌, ap, sym, ◌∙◌}
+use Rattle.std.proofs.lemmas.Result.{on_ok_weaker}
 use Rattle.seam_machine.specs.declared.machines.Input.TheVariants.{From}
 use Rattle.seam_steps.specs.Cells.{cell_steps}
 use Rattle.seam_cell.proofs.cell.Cell.hear.Goals as goal
 
-pub returns-in-Ok-clause-state : goal.returns-in-Ok-clause-state
-returns-in-Ok-clause-state c from =
-    c.in-Ok.ensures.state from ∙ ap (λ m. (cell_steps c.args.self.now (From from m)).state) (sym c.in-Call.is)
+pub take_call-requires : goal.take_call-requires
+take_call-requires c = (c.in-Call.field-0, c.in-Call.is)
 
-pub returns-in-Ok-clause-sent : goal.returns-in-Ok-clause-sent
-returns-in-Ok-clause-sent c from =
-    c.in-Ok.ensures.sent from
-    ∙ ap (λ m. c.args.out.now.items ++ (cell_steps c.args.self.now (From from m)).sent) (sym c.in-Call.is)
+pub take_hand-requires : goal.take_hand-requires
+take_hand-requires c = (c.in-Hand.field-0, c.in-Hand.is)
 
-pub returns-in-Ok-hear_hand-clause-state : goal.returns-in-Ok-hear_hand-clause-state
-returns-in-Ok-hear_hand-clause-state c from =
-    c.in-Ok-hear_hand.ensures.state from ∙ ap (λ m. (cell_steps c.args.self.now (From from m)).state) (sym c.in-Hand.is)
+pub take_ghost_set-requires : goal.take_ghost_set-requires
+take_ghost_set-requires c = (c.in-GhostSet.field-0, c.in-GhostSet.field-1, c.in-GhostSet.field-2, c.in-GhostSet.is)
 
-pub returns-in-Ok-hear_hand-clause-sent : goal.returns-in-Ok-hear_hand-clause-sent
-returns-in-Ok-hear_hand-clause-sent c from =
-    c.in-Ok-hear_hand.ensures.sent from
-    ∙ ap (λ m. c.args.out.now.items ++ (cell_steps c.args.self.now (From from m)).sent) (sym c.in-Hand.is)
+pub returns-in-GhostDrop-clause-state : goal.returns-in-GhostDrop-clause-state
+returns-in-GhostDrop-clause-state c from =
+    on_ok_weaker c.hear_ghost_drop.result
+    (λ e. e ∙ ap (λ m. (cell_steps c.args.self.now (From from m)).state) (sym c.in-GhostDrop.is)) (c.hear_ghost_drop.ensures.state from)
 
-pub returns-in-Ok-hear_ghost_set-clause-state : goal.returns-in-Ok-hear_ghost_set-clause-state
-returns-in-Ok-hear_ghost_set-clause-state c from =
-    c.in-Ok-hear_ghost_set.ensures.state from ∙ ap (λ m. (cell_steps c.args.self.now (From from m)).state) (sym c.in-GhostSet.is)
+pub returns-in-Tick-clause-state : goal.returns-in-Tick-clause-state
+returns-in-Tick-clause-state c from =
+    on_ok_weaker c.hear_tick.result
+    (λ e. e ∙ ap (λ m. (cell_steps c.args.self.now (From from m)).state) (sym c.in-Tick.is)) (c.hear_tick.ensures.state from)
 
-pub returns-in-Ok-hear_ghost_drop-clause-state : goal.returns-in-Ok-hear_ghost_drop-clause-state
-returns-in-Ok-hear_ghost_drop-clause-state c from =
-    c.in-Ok-hear_ghost_drop.ensures.state from ∙ ap (λ m. (cell_steps c.args.self.now (From from m)).state) (sym c.in-GhostDrop.is)
+pub returns-in-Reap-clause-state : goal.returns-in-Reap-clause-state
+returns-in-Reap-clause-state c from =
+    on_ok_weaker c.hear_reap.result
+    (λ e. e ∙ ap (λ m. (cell_steps c.args.self.now (From from m)).state) (sym c.in-Reap.is)) (c.hear_reap.ensures.state from)
 
-pub returns-in-Ok-hear_tick-clause-state : goal.returns-in-Ok-hear_tick-clause-state
-returns-in-Ok-hear_tick-clause-state c from =
-    c.in-Ok-hear_tick.ensures.state from ∙ ap (λ m. (cell_steps c.args.self.now (From from m)).state) (sym c.in-Tick.is)
-
-pub returns-in-Ok-hear_reap-clause-state : goal.returns-in-Ok-hear_reap-clause-state
-returns-in-Ok-hear_reap-clause-state c from =
-    c.in-Ok-hear_reap.ensures.state from ∙ ap (λ m. (cell_steps c.args.self.now (From from m)).state) (sym c.in-Reap.is)
-
-pub returns-in-Ok-hear_reap-clause-sent : goal.returns-in-Ok-hear_reap-clause-sent
-returns-in-Ok-hear_reap-clause-sent c from =
-    c.in-Ok-hear_reap.ensures.sent from
-    ∙ ap (λ m. c.args.out.now.items ++ (cell_steps c.args.self.now (From from m)).sent) (sym c.in-Reap.is)
+pub returns-in-Reap-clause-sent : goal.returns-in-Reap-clause-sent
+returns-in-Reap-clause-sent c from =
+    on_ok_weaker c.hear_reap.result
+    (λ e. e ∙ ap (λ m. c.args.out.now.items ++ (cell_steps c.args.self.now (From from m)).sent) (sym c.in-Reap.is))
+    (c.hear_reap.ensures.sent from)

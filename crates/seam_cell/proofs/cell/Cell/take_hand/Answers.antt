@@ -1,0 +1,14 @@
+use Rattle.std.proofs.Common.{◌++◌, ap, sym, ◌∙◌}
+use Rattle.seam_machine.specs.declared.machines.Input.TheVariants.{From}
+use Rattle.seam_steps.specs.Cells.{cell_steps}
+use Rattle.seam_cell.proofs.cell.Cell.take_hand.Goals as goal
+
+pub returns-in-Ok-clause-state : goal.returns-in-Ok-clause-state
+returns-in-Ok-clause-state c from =
+    c.in-Ok.ensures.state from
+    ∙ ap (λ m. (cell_steps c.args.self.now (From from m)).state) (sym c.in-Hand.is ∙ c.replace.ensures.value)
+
+pub returns-in-Ok-clause-sent : goal.returns-in-Ok-clause-sent
+returns-in-Ok-clause-sent c from =
+    c.in-Ok.ensures.sent from
+    ∙ ap (λ m. c.args.out.now.items ++ (cell_steps c.args.self.now (From from m)).sent) (sym c.in-Hand.is ∙ c.replace.ensures.value)
