@@ -4,7 +4,11 @@ use Rattle.std.proofs.lemmas.Bool.{cases_Bool}
 use Rattle.std.proofs.Math.Nat.{pow-succ', mul_left_comm}
 use Rattle.std.specs.Prelude.{◌==◌}
 use Rattle.std.proofs.lemmas.List.{take_more, take_all, drop_all, append-nil}
+use Rattle.std.proofs.lemmas.List.{get_or_default}
+use Rattle.std.specs.Prelude.{pos}
 use Rattle.seam_value.specs.declared.values.Value.{Value}
+use Rattle.seam_value.specs.declared.values.Value.TheVariants.{Number}
+use Rattle.seam_defs.specs.Groups.{in_group}
 use Rattle.seam_defs.specs.declared.flags.Group.{Group}
 use Rattle.seam_defs.specs.declared.types.Property.{Property}
 use Rattle.seam_defs.specs.Marks.{kept}
@@ -84,6 +88,28 @@ module _ (values : List Value) (i : ℕ) (v : Value) (within : i < length values
       let more = digit-more marks 1 below in
       let same : marks + 1 * 2 ^ i ≡ marks + 2 ^ i = omega arith in
       rw (next, ← same, more) (ap (λ l. l ++ shown_of g qs (kept (before / 2) (drop (i + 1) values))) (append-nil (kept marks (take i values))))
+
+-- the same where no value was left out before, and a property is the next
+pub marked-all : (values : List Value) (i : ℕ) (g : Group) (p : Property) (qs : List Property) (marks : ℕ) → i < length values → marks < 2 ^ i →
+    kept (if in_group p.flag g then marks else marks + 2 ^ i) (take (i + 1) values) ++ shown_of g qs (drop (i + 1) values)
+    ≡ kept marks (take i values) ++ shown_of g (p ∷ qs) (drop i values)
+marked-all values i g p qs marks within below =
+    let v = get_or values i (Number (pos 0)) in
+    let here : v ≡ get_or values i v = get_or_default values i (Number (pos 0)) v within in
+    let next : shown_of g (p ∷ qs) (kept 0 (drop i values))
+    ≡ (if in_group p.flag g then v ∷ shown_of g qs (kept 0 (drop (i + 1) values)) else shown_of g qs (kept 0 (drop (i + 1) values))) =
+    rw (kept-next values i v within here 0 refl) (elim (cases_Bool (in_group p.flag g)) [ inl seen ↦ rw seen refl | inr hidden ↦ rw hidden refl ]) in
+    rw (kept-all (drop (i + 1) values), kept-all (drop i values)) at
+    (marked values i v within here g (p ∷ qs) qs 0 marks (in_group p.flag g) below next)
+
+-- a value beyond the properties is left out
+pub marked-out : (values : List Value) (i marks : ℕ) → i < length values → marks < 2 ^ i →
+    kept (marks + 2 ^ i) (take (i + 1) values) ≡ kept marks (take i values)
+marked-out values i marks within below =
+    let v = get_or values i (Number (pos 0)) in
+    let more = digit-more values i v within (get_or_default values i (Number (pos 0)) v within) marks 1 below in
+    let same : marks + 1 * 2 ^ i ≡ marks + 2 ^ i = omega arith in
+    rw same at (more ∙ append-nil (kept marks (take i values)))
 
 -- two lists are the same from a place on where their values there are, and the lists from the next place on
 module _ (vs ws : List Value) (i : ℕ) (v w : Value) (vs-within : i < length vs) (ws-within : i < length ws) (v-here : v ≡ get_or vs i v)

@@ -107,16 +107,13 @@ impl Props {
         if self.values.len() > MOST_PROPERTIES {
             return Props::of(copy_shown(properties, held, group, self)?);
         }
-        Ok(Props {
-            values: Arc::try_clone(&self.values)?,
-            left_out: left_out(
-                properties,
-                held,
-                group,
-                self.values.as_slice(),
-                self.left_out,
-            ),
-        })
+        let values = Arc::try_clone(&self.values)?;
+        let left_out = if self.left_out == 0 {
+            left_out_of_all(properties, held, group, &values)
+        } else {
+            left_out_of_kept(properties, held, group, &values, self.left_out)
+        };
+        Ok(Props { values, left_out })
     }
 }
 
@@ -200,7 +197,31 @@ fn are_same_kept(values: &[Value], others: &[Value], left_out: u64) -> bool
 }
 
 // The digits of those that are left out where only values are kept whose properties are in another group too.
-fn left_out(
+fn left_out_of_all(properties: &[Property], held: Group, group: Group, values: &[Value]) -> u64
+    requires { length values.now ≤ MOST_PROPERTIES }
+    ensures { kept result values.now ≡ projected properties.now held group values.now }
+{
+    let mut left_out = 0;
+    let mut mark = 1;
+    let mut passed = 0;
+    for property in properties {
+        if passed < values.len() && property.flag.in_group(held) {
+            if !property.flag.in_group(group) {
+                left_out += mark;
+            }
+            mark *= 2;
+            passed += 1;
+        }
+    }
+    for _ in passed..values.len() {
+        left_out += mark;
+        mark *= 2;
+    }
+    left_out
+}
+
+// The same, where some of the values were left out before.
+fn left_out_of_kept(
     properties: &[Property],
     held: Group,
     group: Group,

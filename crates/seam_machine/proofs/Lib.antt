@@ -1,5 +1,5 @@
+pub mod Digits
 pub mod Counting
-pub mod Firsts
 pub mod Flats
 pub mod Known
 pub mod LinkLemmas

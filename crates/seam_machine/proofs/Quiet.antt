@@ -12,7 +12,7 @@ use Rattle.seam_machine.specs.declared.machines.Input.TheVariants.{Task}
 use Rattle.seam_machine.specs.Orders.{IsBefore, IsBeforeBy}
 use Rattle.seam_machine.proofs.Puts.{link_is_in}
 
-some_at : {X : Type 0} (xs : List X) (k : ℕ) → k < length xs → (x : X) × (slice_get xs k ≡ Some x)
+pub some_at : {X : Type 0} (xs : List X) (k : ℕ) → k < length xs → (x : X) × (slice_get xs k ≡ Some x)
 some_at [] k lt = absurd (omega (arith, lt))
 some_at (x ∷ xs) zero lt = (x, refl)
 some_at (x ∷ xs) (suc k) lt = some_at xs k (omega (arith, lt))

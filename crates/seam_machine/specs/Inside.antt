@@ -1,6 +1,7 @@
 -- What a net keeps of its fields.
-use Rattle.std.specs.Prelude.{◌≡◌, ℕ, ◌+◌, ◌<◌, ◌≤◌, Bool, true, false, List, [], ◌∷◌, ◌++◌, length, map, Option, Some, slice_index_or}
-use Rattle.std.specs.Prelude.{slice_get}
+use Rattle.std.specs.Prelude.{◌≡◌, ℕ, ◌+◌, ◌/◌, ◌%◌, ◌<◌, ◌≤◌, ◌==◌, nat_lt, Bool, true, false, List, [], ◌∷◌, ◌++◌, length, map, Option, None, Some}
+use Rattle.std.specs.Prelude.{slice_get, slice_index_or}
+use Rattle.std.specs.Int.{bit_at}
 use Rattle.std.specs.List.{All}
 use Rattle.seam_machine.specs.Views.{Stepped, NetView}
 use Rattle.seam_machine.specs.Sends.{AllBelow}
@@ -13,13 +14,17 @@ pub record LinksView (M : Type 0) : Type 0 where
   pub rows : List (List (List M))
   pub clear : Bool
 
--- there are n elements, and each of the first n is d
-abbrev pub FirstAre : {X : Type 0} → X → ℕ → List X → Type 0
-FirstAre d n xs = (k : ℕ) → k < n → slice_get xs k ≡ Some d
+-- whether the number is marked: the binary digit for it, of words that have 64 each
+abbrev pub is_marked : List ℕ → ℕ → Bool
+is_marked words k = bit_at (slice_index_or words (k / 64) 0) (k % 64) == 1
 
 abbrev pub is_empty : {X : Type 0} → List X → Bool
 is_empty [] = true
 is_empty (x ∷ xs) = false
+
+-- the numbers are marked whose counts are not 0
+abbrev pub AreCounted : List ℕ → List ℕ → Type 0
+AreCounted words counts = (k : ℕ) → is_marked words k ≡ nat_lt 0 (slice_index_or counts k 0)
 
 -- 1 where a link holds something, else 0
 abbrev pub filled : {X : Type 0} → List X → ℕ
@@ -93,7 +98,11 @@ pub record IsNet {N M : Type 0} (w : NetView N M) : Type 0 where
   pub few : length w.nodes < 256
   pub square : IsSquare w
 
--- a place for each node, and where all were asked, whether its task is there
-pub record KnowsTasks {N : Type 0} (has_work : N → Bool) (nodes : List N) (asked : Bool) (tasks : List Bool) : Type 0 where
-  pub len : length tasks ≡ length nodes
-  pub known : asked ≡ true → tasks ≡ map has_work nodes
+-- whether the node is there, and its task
+abbrev pub has_task : {N : Type 0} → (N → Bool) → Option N → Bool
+has_task has_work None = false
+has_task has_work (Some s) = has_work s
+
+-- where all nodes were asked, those are marked whose tasks are there
+abbrev pub KnowsTasks : {N : Type 0} → (N → Bool) → List N → Bool → List ℕ → Type 0
+KnowsTasks has_work nodes asked words = asked ≡ true → (k : ℕ) → is_marked words k ≡ has_task has_work (slice_get nodes k)

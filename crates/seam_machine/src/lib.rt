@@ -13,6 +13,7 @@
 mod laws;
 mod links;
 mod machines;
+mod marks;
 mod nets;
 mod rows;
 mod sends;

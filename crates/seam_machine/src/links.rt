@@ -5,9 +5,10 @@ ghost use Rattle.std.specs.Prelude.{IfSome, IfNone, option_copied, slice_get, sl
 ghost use Rattle.std.specs.List.{All};
 ghost use Rattle.seam_machine.specs.Sends.{AllBelow};
 ghost use Rattle.seam_machine.specs.Nets.{link, input_from, is_ready};
-ghost use Rattle.seam_machine.specs.Inside.{CountsFit, Delivers, FirstAre, StartsAt, Lowers, Feeds, filled_to};
+ghost use Rattle.seam_machine.specs.Inside.{AreCounted, CountsFit, Delivers, StartsAt, Lowers, Feeds, filled_to};
 
 use crate::machines::{Event, Input, Machine};
+use crate::marks::Marks;
 use crate::rows::Row;
 use crate::sends::Out;
 use std::alloc::{AllocError, Global};
@@ -20,8 +21,8 @@ struct Kept {
     busy: Vec<u8>,
     // For each node, a number below which no node's link to it holds something.
     starts: Vec<u8>,
-    // A number below which no link to a node holds something.
-    low: usize,
+    // The nodes to which a link holds something.
+    waiting: Marks,
 }
 
 /// The links of a net, by sender.
@@ -36,7 +37,7 @@ pub struct Links<T> {
 
 impl<T> Model for Links<T> {
     ghost use Rattle.seam_machine.specs.Nets.{send_all};
-    ghost use Rattle.seam_machine.specs.Inside.{LinksView, IsLinks, FirstAre, StartsAt, is_empty};
+    ghost use Rattle.seam_machine.specs.Inside.{LinksView, IsLinks, AreCounted, StartsAt, is_empty};
 
     ghost Value = { LinksView T };
 
@@ -46,22 +47,24 @@ impl<T> Model for Links<T> {
     } };
 
     ghost invariant = { λ l. IsLinks l.rows.items l.kept.busy.items l.sender l.out.items
-        × StartsAt l.kept.starts.items l.rows.items × FirstAre 0 l.kept.low l.kept.busy.items };
+        × StartsAt l.kept.starts.items l.rows.items × AreCounted l.kept.waiting.words l.kept.busy.items };
 }
 
 impl Kept {
-    // The link from `sender` to node `at` holds something now, where it held nothing before.
-    fn fill(&mut self, at: usize, sender: u8)
-        requires counted { at < length self.old.busy.items }
-        requires fits { slice_index self.old.busy.items at < 255 }
-        requires starts { at < length self.old.starts.items }
-        ensures busy { self.new.busy.items ≡ slice_set self.old.busy.items at (slice_index self.old.busy.items at + 1) }
-        ensures starts { self.new.starts.items ≡ slice_set self.old.starts.items at (min (slice_index self.old.starts.items at) sender) }
-        ensures low { self.new.low ≡ min self.old.low at }
+    // The link from `sender` to node `to` holds something now, where it held nothing before.
+    fn fill(&mut self, to: u8, sender: u8)
+        requires counted { to < length self.old.busy.items }
+        requires fits { slice_index self.old.busy.items to < 255 }
+        requires starts { to < length self.old.starts.items }
+        requires waiting { AreCounted self.old.waiting.words self.old.busy.items }
+        ensures busy { self.new.busy.items ≡ slice_set self.old.busy.items to (slice_index self.old.busy.items to + 1) }
+        ensures starts { self.new.starts.items ≡ slice_set self.old.starts.items to (min (slice_index self.old.starts.items to) sender) }
+        ensures waiting { AreCounted self.new.waiting.words self.new.busy.items }
     {
+        let at = to as usize;
         self.busy[at] += 1;
         self.starts[at] = self.starts[at].min(sender);
-        self.low = self.low.min(at);
+        self.waiting.set(to, true);
     }
 }
 
@@ -103,19 +106,16 @@ fn count_all<T>(alloc: Global, rows: &Vec<Row<T>>) -> Result<Vec<u8>, AllocError
     Ok(busy)
 }
 
-// The first node that has a count, where none below `start` has one; the number of nodes where there is none.
-fn first_counted(busy: &Vec<u8>, start: usize) -> usize
-    requires uncounted { FirstAre 0 start busy.now.items }
-    ensures within { result ≤ length busy.now.items }
-    ensures uncounted { FirstAre 0 result busy.now.items }
-    ensures found { result < length busy.now.items → 0 < slice_index busy.now.items result }
+// The nodes that have a count.
+fn marks_of(busy: &Vec<u8>) -> Marks
+    requires { length busy.now.items < 256 }
+    ensures { AreCounted result.words busy.now.items }
 {
-    for k in start..busy.len() {
-        if busy[k] > 0 {
-            return k;
-        }
+    let mut marks = Marks::none();
+    for k in 0..busy.len() {
+        marks.set(k as u8, busy[k] > 0);
     }
-    busy.len()
+    marks
 }
 
 // The first of the rows whose link to that node holds something, where none before `start` does.
@@ -154,61 +154,32 @@ fn next_start<T>(rows: &Vec<Row<T>>, to: usize, start: u8, count: u8) -> u8
     }
 }
 
-// A message of a link to node `at` was fed, and `left` are left in that link: where none is, one link less holds something.
-fn lower<T>(kept: &mut Kept, rows: &Vec<Row<T>>, at: usize, left: usize)
+// A message of a link to node `to` was fed, and `left` are left in that link: where none is, one link less holds something.
+fn lower<T>(kept: &mut Kept, rows: &Vec<Row<T>>, to: u8, left: usize)
     requires few { length rows.now.items < 256 }
     requires square { All (λ r. length r ≡ length rows.now.items) rows.now.items }
-    requires counted { at < length kept.old.busy.items }
-    requires some { 0 < slice_index kept.old.busy.items at }
-    requires within { at < length rows.now.items }
+    requires counted { to < length kept.old.busy.items }
+    requires some { 0 < slice_index kept.old.busy.items to }
+    requires within { to < length rows.now.items }
     requires starts { StartsAt kept.old.starts.items rows.now.items }
-    requires none { slice_index kept.old.busy.items at - (1 - left) ≡ 0 → (a : ℕ) → link rows.now.items a at ≡ [] }
-    ensures busy { kept.new.busy.items ≡ slice_set kept.old.busy.items at (slice_index kept.old.busy.items at - (1 - left)) }
+    requires waiting { AreCounted kept.old.waiting.words kept.old.busy.items }
+    requires none { slice_index kept.old.busy.items to - (1 - left) ≡ 0 → (a : ℕ) → link rows.now.items a to ≡ [] }
+    ensures busy { kept.new.busy.items ≡ slice_set kept.old.busy.items to (slice_index kept.old.busy.items to - (1 - left)) }
     ensures starts { StartsAt kept.new.starts.items rows.now.items }
-    ensures low { kept.new.low ≡ kept.old.low }
+    ensures waiting { AreCounted kept.new.waiting.words kept.new.busy.items }
 {
     if left > 0 {
         return;
     }
+    let at = to as usize;
     kept.busy[at] -= 1;
     let count = kept.busy[at];
+    kept.waiting.set(to, count > 0);
     let start = kept.starts[at];
     kept.starts[at] = next_start(rows, at, start, count);
 }
 
-// Moves what waits in `out` to the links of its sender, run by run.
-#[inline(never)]
-fn deliver_runs<T>(
-    row: &mut Row<T>,
-    kept: &mut Kept,
-    out: &mut Out<T>,
-    sender: u8,
-) -> Result<(), AllocError>
-    requires targets { AllBelow (length row.old) out.old.items }
-    requires wide { length kept.old.busy.items ≡ length row.old }
-    requires fits { CountsFit kept.old.busy.items row.old }
-    requires starts { length kept.old.starts.items ≡ length row.old }
-    requires own { (b : ℕ) → sender < slice_index_or kept.old.starts.items b 0 → slice_index_or row.old b [] ≡ [] }
-    requires low { FirstAre 0 kept.old.low kept.old.busy.items }
-    ensures lowered { Lowers sender kept.old.starts.items kept.new.starts.items row.new }
-    ensures moved { Delivers row.old out.old.items kept.old.busy.items row.new out.new.items kept.new.busy.items }
-    ensures low { FirstAre 0 kept.new.low kept.new.busy.items }
-    ensures less { kept.new.low ≤ kept.old.low }
-    ensures ok { OnOk result (out.new.items ≡ []) }
-{
-    let mut next = out.next_target();
-    while let Some(to) = next {
-        let at = to as usize;
-        let held = row.link_len(at);
-        next = row.put_run(to, out)?;
-        if held == 0 {
-            kept.fill(at, sender);
-        }
-    }
-    Ok(())
-}
-
-// Moves what waits in `out` to the links of its sender. Most often that is one message, or many to one node.
+// Moves what waits in `out` to the links of its sender, run by run. Most often that is one message, or many to one node.
 fn deliver<T>(
     row: &mut Row<T>,
     kept: &mut Kept,
@@ -220,21 +191,22 @@ fn deliver<T>(
     requires fits { CountsFit kept.old.busy.items row.old }
     requires starts { length kept.old.starts.items ≡ length row.old }
     requires own { (b : ℕ) → sender < slice_index_or kept.old.starts.items b 0 → slice_index_or row.old b [] ≡ [] }
-    requires low { FirstAre 0 kept.old.low kept.old.busy.items }
+    requires waiting { AreCounted kept.old.waiting.words kept.old.busy.items }
     ensures lowered { Lowers sender kept.old.starts.items kept.new.starts.items row.new }
     ensures moved { Delivers row.old out.old.items kept.old.busy.items row.new out.new.items kept.new.busy.items }
-    ensures low { FirstAre 0 kept.new.low kept.new.busy.items }
-    ensures less { kept.new.low ≤ kept.old.low }
+    ensures waiting { AreCounted kept.new.waiting.words kept.new.busy.items }
     ensures ok { OnOk result (out.new.items ≡ []) }
 {
-    let Some(to) = out.next_target() else {
-        return Ok(());
-    };
-    if row.put_all(to, out) {
-        kept.fill(to as usize, sender);
-        return Ok(());
+    let mut next = out.next_target();
+    while let Some(to) = next {
+        let at = to as usize;
+        let held = row.link_len(at);
+        next = row.put_run(to, out)?;
+        if held == 0 {
+            kept.fill(to, sender);
+        }
     }
-    deliver_runs(row, kept, out, sender)
+    Ok(())
 }
 
 impl<T> Links<T> {
@@ -278,14 +250,15 @@ impl<T> Links<T> {
         self.out.is_empty()
     }
 
-    /// The first node to which a link holds a message, where no message waits for room; the number of nodes where there is none.
-    pub fn first_busy(&self) -> usize
+    /// The first node to which a link holds a message, where no message waits for room.
+    pub fn first_busy(&self) -> Option<u8>
         requires clear { self.now.clear ≡ true }
-        ensures within { result ≤ length self.now.rows }
-        ensures idle { (k a : ℕ) → k < result → link self.now.rows a k ≡ [] }
-        ensures busy { result < length self.now.rows → ((a : ℕ) → link self.now.rows a result ≡ []) → ⊥ }
+        ensures within { IfSome result (λ k. k < length self.now.rows) }
+        ensures first { IfSome result (λ k. (j a : ℕ) → j < k → link self.now.rows a j ≡ []) }
+        ensures none { IfNone result ((j a : ℕ) → j < length self.now.rows → link self.now.rows a j ≡ []) }
+        ensures busy { IfSome result (λ k. ((a : ℕ) → link self.now.rows a k ≡ []) → ⊥) }
     {
-        first_counted(&self.kept.busy, self.kept.low)
+        self.kept.waiting.first()
     }
 
     /// The least node whose link to that node holds a message, where no message waits for room.
@@ -316,13 +289,6 @@ impl<T> Links<T> {
             }
         }
         None
-    }
-
-    /// From here on, the pass for the first busy node begins past those that are not.
-    pub fn move_on(&mut self)
-        ensures { self.new ≡ self.old }
-    {
-        self.kept.low = first_counted(&self.kept.busy, self.kept.low);
     }
 
     /// Moves what waits to the links.
@@ -371,7 +337,7 @@ impl<T> Links<T> {
             Ok(()) => {}
         }
         let left = row.link_len(at);
-        lower(&mut self.kept, &self.rows, at, left);
+        lower(&mut self.kept, &self.rows, to, left);
         self.sender = at;
         let _ = self.settle();
         Ok(())
@@ -438,12 +404,13 @@ impl<T: Drop> Links<T> {
     {
         let busy = count_all(alloc, &rows)?;
         let starts = unknown_starts(alloc, rows.len())?;
+        let waiting = marks_of(&busy);
         Ok(Links {
             rows,
             kept: Kept {
                 busy,
                 starts,
-                low: 0,
+                waiting,
             },
             out: Out::new(alloc),
             sender: 0,

@@ -6,10 +6,11 @@ ghost use Rattle.std.specs.List.{All};
 ghost use Rattle.seam_machine.specs.Views.{NetView, PartsView};
 ghost use Rattle.seam_machine.specs.Nets.{link, flat, enabled, happens, with_node, IsQuiet, IsSquare, ArePeers, AreParts};
 ghost use Rattle.seam_machine.specs.Orders.{IsBefore};
-ghost use Rattle.seam_machine.specs.Inside.{FirstAre, IsNet, KnowsTasks};
+ghost use Rattle.seam_machine.specs.Inside.{IsNet, KnowsTasks};
 
 use crate::links::Links;
 use crate::machines::{Event, Machine};
+use crate::marks::Marks;
 use crate::rows::Row;
 use std::alloc::{AllocError, Global};
 use std::collections::VecDeque;
@@ -38,24 +39,21 @@ impl<M: Machine> Model for NetParts<M> {
 pub struct Net<M: Machine> {
     nodes: Vec<M>,
     links: Links<M::Msg>,
-    // Of each node whether its task is there, if all were asked since `node_mut` lent one.
-    tasks: Vec<bool>,
-    // A number below which no node has its task.
-    idle: usize,
+    // The nodes whose tasks are there, if all were asked since `node_mut` lent one.
+    tasks: Marks,
     asked: bool,
 }
 
 impl<M: Machine> Model for Net<M> {
     ghost use Rattle.seam_machine.specs.Views.{NetView};
-    ghost use Rattle.std.specs.Prelude.{false};
-    ghost use Rattle.seam_machine.specs.Inside.{FirstAre, IsNet, KnowsTasks};
+    ghost use Rattle.seam_machine.specs.Inside.{IsNet, KnowsTasks};
 
     ghost Value = { NetView M M.Msg };
 
     ghost view = { λ n. record { nodes = n.nodes.items; rows = n.links.rows } };
 
     ghost invariant = { λ n. IsNet (record { nodes = n.nodes.items; rows = n.links.rows })
-        × KnowsTasks M.has_work n.nodes.items n.asked n.tasks.items × FirstAre false n.idle n.tasks.items };
+        × KnowsTasks M.has_work n.nodes.items n.asked n.tasks.words };
 }
 
 // n rows of n empty links.
@@ -95,86 +93,44 @@ fn in_rows<T: Drop>(alloc: Global, n: usize, links: Vec<Vec<T>>) -> Result<Vec<R
     Ok(rows)
 }
 
-// A place for each of n nodes, before they are asked for their tasks.
-fn unasked(alloc: Global, n: usize) -> Result<Vec<bool>, AllocError>
-    ensures { IfOk result (λ v. length v.items ≡ n) }
-{
-    let mut tasks = Vec::new(alloc);
-    for _i in 0..n {
-        tasks.push(false)?;
-    }
-    Ok(tasks)
-}
-
 // Asks each node whether its task is there.
 #[cold]
-fn ask_all<M: Machine>(nodes: &Vec<M>, tasks: &mut Vec<bool>)
-    requires places { length tasks.old.items ≡ length nodes.now.items }
-    ensures { tasks.new.items ≡ map M.has_work nodes.now.items }
+fn ask_all<M: Machine>(nodes: &Vec<M>) -> Marks
+    requires { length nodes.now.items < 256 }
+    ensures { KnowsTasks M.has_work nodes.now.items true result.words }
 {
+    let mut tasks = Marks::none();
     for k in 0..nodes.len() {
-        tasks[k] = nodes[k].has_task();
+        tasks.set(k as u8, nodes[k].has_task());
     }
+    tasks
 }
 
 // Asks each node whether its task is there, where not all were asked.
-fn ask<M: Machine>(nodes: &Vec<M>, tasks: &mut Vec<bool>, idle: &mut usize, asked: &mut bool)
-    requires known { KnowsTasks M.has_work nodes.now.items asked.old tasks.old.items }
-    requires idle { FirstAre false idle.old tasks.old.items }
-    ensures known { KnowsTasks M.has_work nodes.now.items asked.new tasks.new.items }
-    ensures idle { FirstAre false idle.new tasks.new.items }
+fn ask<M: Machine>(nodes: &Vec<M>, tasks: &mut Marks, asked: &mut bool)
+    requires few { length nodes.now.items < 256 }
+    requires known { KnowsTasks M.has_work nodes.now.items asked.old tasks.old.words }
+    ensures { KnowsTasks M.has_work nodes.now.items asked.new tasks.new.words }
 {
     if *asked {
         return;
     }
-    ask_all(nodes, tasks);
-    *idle = 0;
+    *tasks = ask_all(nodes);
     *asked = true;
-}
-
-// Notes whether the task of the node is there.
-fn note(tasks: &mut Vec<bool>, idle: &mut usize, at: usize, is_there: bool)
-    requires within { at < length tasks.old.items }
-    requires idle { FirstAre false idle.old tasks.old.items }
-    ensures tasks { tasks.new.items ≡ slice_set tasks.old.items at is_there }
-    ensures idle { FirstAre false idle.new tasks.new.items }
-{
-    tasks[at] = is_there;
-    if is_there {
-        *idle = (*idle).min(at);
-    }
-}
-
-// The first node whose task is there, where none below `idle` has its; none where there is none.
-fn first_task(tasks: &Vec<bool>, idle: usize) -> Option<u8>
-    requires few { length tasks.now.items < 256 }
-    requires idle { FirstAre false idle tasks.now.items }
-    ensures there { IfSome result (λ k. slice_get tasks.now.items k ≡ Some true) }
-    ensures first { IfSome result (λ k. FirstAre false k tasks.now.items) }
-    ensures none { IfNone result (FirstAre false (length tasks.now.items) tasks.now.items) }
-{
-    for k in idle..tasks.len() {
-        if tasks[k] {
-            return Some(k as u8);
-        }
-    }
-    None
 }
 
 impl<M: Machine> Net<M> {
     // The net of these nodes and links.
-    fn over(alloc: Global, nodes: Vec<M>, links: Links<M::Msg>) -> Result<Net<M>, AllocError>
+    fn over(nodes: Vec<M>, links: Links<M::Msg>) -> Net<M>
         requires { IsNet (record { nodes = nodes.items; rows = links.rows }) }
-        ensures { IfOk result (λ w. w ≡ record { nodes = nodes.items; rows = links.rows }) }
+        ensures { result ≡ record { nodes = nodes.items; rows = links.rows } }
     {
-        let tasks = unasked(alloc, nodes.len())?;
-        Ok(Net {
+        Net {
             nodes,
             links,
-            tasks,
-            idle: 0,
+            tasks: Marks::none(),
             asked: false,
-        })
+        }
     }
 
     /// A net with empty links.
@@ -188,7 +144,7 @@ impl<M: Machine> Net<M> {
     {
         let rows = empty_rows(alloc, nodes.len())?;
         let links = Links::of_rows(alloc, rows)?;
-        Net::over(alloc, nodes, links)
+        Ok(Net::over(nodes, links))
     }
 
     /// The nodes and the links of the net.
@@ -201,7 +157,6 @@ impl<M: Machine> Net<M> {
             nodes,
             links,
             tasks: _,
-            idle: _,
             asked: _,
         } = self;
         let links = flattened(alloc, links.into_rows())?;
@@ -217,7 +172,7 @@ impl<M: Machine> Net<M> {
         let NetParts { nodes, links } = parts;
         let rows = in_rows(alloc, nodes.len(), links)?;
         let links = Links::of_rows(alloc, rows)?;
-        Net::over(alloc, nodes, links)
+        Ok(Net::over(nodes, links))
     }
 
     /// How many nodes there are. Each pair of them has a link.
@@ -290,6 +245,8 @@ impl<M: Machine> Net<M> {
 
     /// The first enabled event: messages before tasks, so that few wait at a time; of either those of the lowest node, and of messages
     /// to one node those from the lowest. There is none exactly where the net is quiet.
+    // Inlined, as `step` is, so that what both look for is looked for once where events happen one after the other.
+    #[inline(always)]
     pub fn next_event(&self) -> Option<Event>
         ensures enabled { IfSome result (λ e. enabled M.has_work self.now e ≡ true) }
         ensures first { IfSome result (λ e. (d : Event) → IsBefore d e → enabled M.has_work self.now d ≡ false) }
@@ -298,13 +255,11 @@ impl<M: Machine> Net<M> {
         if !self.asked || !self.links.is_clear() {
             return self.next_unasked();
         }
-        let first = self.links.first_busy();
-        if first < self.nodes.len() {
-            let node = first as u8;
+        if let Some(node) = self.links.first_busy() {
             let from = self.links.first_sender(node);
             return Some(Event { node, from });
         }
-        match first_task(&self.tasks, self.idle) {
+        match self.tasks.first() {
             Some(node) => Some(Event { node, from: None }),
             None => None,
         }
@@ -319,6 +274,7 @@ impl<M: Machine> Net<M> {
     }
 
     /// The event happens: its node is fed its task, or the first message of the link. If allocation fails, nothing has changed.
+    #[inline(always)]
     pub fn step(&mut self, alloc: Global, event: Event) -> Result<(), AllocError>
         requires enabled { enabled M.has_work self.old event ≡ true }
         requires peers { ArePeers M.peer_count self.old }
@@ -327,17 +283,11 @@ impl<M: Machine> Net<M> {
         ensures peers { ArePeers M.peer_count self.new }
     {
         self.links.settle()?;
-        ask(
-            &self.nodes,
-            &mut self.tasks,
-            &mut self.idle,
-            &mut self.asked,
-        );
+        ask(&self.nodes, &mut self.tasks, &mut self.asked);
         let at = event.node as usize;
         let node = &mut self.nodes[at];
         self.links.feed(alloc, event, node)?;
-        note(&mut self.tasks, &mut self.idle, at, node.has_task());
-        self.links.move_on();
+        self.tasks.set(event.node, node.has_task());
         Ok(())
     }
 }

@@ -1,7 +1,7 @@
 //! What a witness sees of others, and what it tells.
 
 ghost use Rattle.std.specs.Prelude.{◌≡◌, ℕ, ◌<◌, ◌≤◌, ◌^◌, ◌+◌, ◌++◌, [], ◌∷◌, length, map, filter_map, IfOk, OnOk, OnErr};
-ghost use Rattle.std.specs.Prelude.{option_map, false};
+ghost use Rattle.std.specs.Prelude.{option_map, false, if◌then◌else◌};
 ghost use Rattle.std.specs.List.Sorted.{IsStrictlySortedBy};
 ghost use Rattle.std.specs.Ordering.{nat_cmp};
 ghost use Rattle.std.specs.FinMap as table;
@@ -73,22 +73,13 @@ pub fn seen_copy(e: u32, copy: &GhostCopy) -> Seen
     }
 }
 
-// The entity is set, where there is a copy of it.
-fn set_of(e: u32, copy: Option<GhostCopy>) -> Option<Shown>
-    ensures { result ≡ option_map (Set e) copy }
+// The entity enters or is set, where there is a copy of it.
+fn shown_as(e: u32, enters: bool, copy: Option<GhostCopy>) -> Option<Shown>
+    ensures { result ≡ option_map (if enters then Enter e else Set e) copy }
 {
     match copy {
+        Some(copy) if enters => Some(Shown::Enter(e, copy)),
         Some(copy) => Some(Shown::Set(e, copy)),
-        None => None,
-    }
-}
-
-// The entity enters, where there is a copy of it.
-fn enter_of(e: u32, copy: Option<GhostCopy>) -> Option<Shown>
-    ensures { result ≡ option_map (Enter e) copy }
-{
-    match copy {
-        Some(copy) => Some(Shown::Enter(e, copy)),
         None => None,
     }
 }
@@ -167,17 +158,13 @@ impl Sight<'_> {
         ensures told { let h = here_in self.now.known.now in
             AreStillTold self.now.own (known_with h self.now.reals.now.items self.now.copies.now.ghosts) told.old told.new }
     {
-        match look {
-            Look::Leave(e) => Ok(Some(Shown::Leave(*e))),
-            Look::Set(e) => {
-                let copy = self.copy_of(*e, told)?;
-                Ok(set_of(*e, copy))
-            }
-            Look::Enter(e) => {
-                let copy = self.copy_of(*e, told)?;
-                Ok(enter_of(*e, copy))
-            }
-        }
+        let (e, enters) = match look {
+            Look::Leave(e) => return Ok(Some(Shown::Leave(*e))),
+            Look::Set(e) => (*e, false),
+            Look::Enter(e) => (*e, true),
+        };
+        let copy = self.copy_of(e, told)?;
+        Ok(shown_as(e, enters, copy))
     }
 
     // Adds what is shown for the looks, in their order.

@@ -38,6 +38,8 @@ impl ToldCopies {
     }
 
     /// Forgets the copies, before what is known of entities changes.
+    // Each message to a cell asks for it, and mostly there is none.
+    #[inline(always)]
     pub fn clear(&mut self)
         ensures { self.new ≡ [] }
     {

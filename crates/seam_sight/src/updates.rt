@@ -63,7 +63,7 @@ impl Updates {
     }
 
     /// Adds what is shown.
-    #[inline]
+    #[inline(always)]
     pub fn push(&mut self, item: Shown) -> Result<(), AllocError>
         ensures { OnOk result (self.new ≡ record self.old { shown = self.old.shown ++ item ∷ [] }) }
     {

@@ -17,6 +17,30 @@ pub enum ValueType {
     Text,
 }
 
+// The least and the greatest number of each number type. Tables, since each value is asked for its type whenever a group of them is
+// tried, and a look-up is cheaper than the jumps of a `match`.
+const LEAST: [i128; 8] = [
+    i8::MIN as i128,
+    i16::MIN as i128,
+    i32::MIN as i128,
+    i64::MIN as i128,
+    0,
+    0,
+    0,
+    0,
+];
+
+const GREATEST: [i128; 8] = [
+    i8::MAX as i128,
+    i16::MAX as i128,
+    i32::MAX as i128,
+    i64::MAX as i128,
+    u8::MAX as i128,
+    u16::MAX as i128,
+    u32::MAX as i128,
+    u64::MAX as i128,
+];
+
 impl ValueType {
     /// The type of this name: `INT8` to `INT64`, `UINT8` to `UINT64`, or `STRING`. `None` for every other text.
     pub fn named(name: &str) -> Option<ValueType>
@@ -50,14 +74,7 @@ impl ValueType {
         ensures low { i64.MIN ≤ℤ result }
         ensures high { result ≤ℤ pos 0 }
     {
-        match self {
-            ValueType::Int8 => i128::from(i8::MIN),
-            ValueType::Int16 => i128::from(i16::MIN),
-            ValueType::Int32 => i128::from(i32::MIN),
-            ValueType::Int64 => i128::from(i64::MIN),
-            ValueType::Uint8 | ValueType::Uint16 | ValueType::Uint32 | ValueType::Uint64 => 0,
-            ValueType::Text => unreachable!(),
-        }
+        LEAST[self as usize]
     }
 
     /// The greatest number of a number type.
@@ -67,16 +84,6 @@ impl ValueType {
         ensures low { pos 0 ≤ℤ result }
         ensures high { result ≤ℤ pos u64.MAX }
     {
-        match self {
-            ValueType::Int8 => i128::from(i8::MAX),
-            ValueType::Int16 => i128::from(i16::MAX),
-            ValueType::Int32 => i128::from(i32::MAX),
-            ValueType::Int64 => i128::from(i64::MAX),
-            ValueType::Uint8 => i128::from(u8::MAX),
-            ValueType::Uint16 => i128::from(u16::MAX),
-            ValueType::Uint32 => i128::from(u32::MAX),
-            ValueType::Uint64 => i128::from(u64::MAX),
-            ValueType::Text => unreachable!(),
-        }
+        GREATEST[self as usize]
     }
 }

@@ -264,7 +264,7 @@ impl View {
         ensures enters { IfOk result (λ r. r.1.items ≡ entering self.now.core own known.now) }
     {
         let mut notes = vec![in self.alloc; Note::Leaves; self.view.len()]?;
-        let mut enters = Vec::new(self.alloc);
+        let mut enters = Vec::with_capacity(self.alloc, known.len())?;
         let mut next = 0;
         for seen in known {
             match self.place_in_view(seen.entity, &mut next) {

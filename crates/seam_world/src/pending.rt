@@ -46,6 +46,10 @@ impl Pending {
             (λ _. FailedWithin sink (K.state out.new) (text ++ piece.now)) }
         ensures later { (K.state out.old).faults ≤ (K.state out.new).faults }
     {
+        // Most lines print nothing.
+        if piece.is_empty() {
+            return Ok(());
+        }
         if piece.len() <= MOST_PENDING - self.text.len() {
             self.gather(piece);
             return Ok(());

@@ -16,7 +16,7 @@ pub loop-seen-init : goal.loop-seen-init
 loop-seen-init c =
     let given : c.in_ok-notes.notes.items ≡ replicate c.len.result Leaves =
     c.in_ok-notes.ensures.items_if_clones_equal (λ y h. search rules) in
-    let none : c.new-enters.result.items ≡ [] = c.new-enters.ensures.items in
+    let none : c.in_ok-enters.enters.items ≡ [] = c.in_ok-enters.ensures.items in
     record {
       notes = given ∙ (ap (λ n. replicate n Leaves) c.len.ensures
           ∙ (notes_of_none c.args.self.now.core c.args.own c.self.inside.view.entries

@@ -2,7 +2,6 @@ use Rattle.std.proofs.Common.{◌≡◌, ◌<◌, ◌-◌, ◌∙◌, sym, ap, l
 use Rattle.std.proofs.lemmas.List.{length-set, get_or-set_same}
 use Rattle.seam_machine.specs.Nets.{link, letter, row_less}
 use Rattle.seam_machine.proofs.LinkLemmas.{empty_is, clear_rows, counted_some, filled_none, sends_in, takes_in, links_served, below_none, below_peers, read_row, served_rows}
-use Rattle.seam_machine.proofs.Firsts.{first_set, first_before}
 use Rattle.seam_machine.proofs.Starts.{starts_served}
 use Rattle.seam_machine.proofs.links.Links.serve.Goals as goal
 use Rattle.seam_machine.proofs.links.Links.serve.Goals.{After-index_mut-row, In-Ok}
@@ -80,10 +79,6 @@ invariant_of-self-2 g c =
     let rows = ap length (all_there g i) in
     let peers = g.M.Machine.peer_count c.args.node.now in
     let busy = n.kept.busy.items in
-    let low = n.kept.low in
-    let some =
-    counted_some n.rows.items busy n.sender n.out.items c.self.invariant.0 c.args.from c.args.to c.index_mut-row.result.now
-    (row_is g i) (row_holds g i) in
     let below =
     below_peers (length n.rows.items) peers c.serve.new.out.items (c.requires.peers ∙ rows)
     (c.serve.ensures.to_peers (below_none peers n.out.items (none_waits g i))) in (
@@ -91,10 +86,7 @@ invariant_of-self-2 g c =
           (row_is g i) (row_holds g i) c.serve.new.self c.lower.new.kept.busy.items c.link_len-left.result c.serve.new.out.items s.row_is
           c.link_len-left.ensures c.lower.ensures.busy below,
       c.lower.ensures.starts,
-      rw (c.lower.ensures.low, c.lower.ensures.busy)
-          (first_set 0 busy low low c.args.to (get_or busy c.args.to 0 - (1 - c.link_len-left.result))
-          (omega (arith, to_in g i, c.self.invariant.0.busy_len)) (omega arith) (first_before low c.args.to busy some c.self.invariant.2)
-          c.self.invariant.2),
+      c.lower.ensures.waiting,
     )
 
 pub returns-clause-fed : goal.returns-clause-fed

@@ -57,7 +57,7 @@ invariant_of-self g c =
           c.index_mut-row.result.now c.deliver.new.row c.self.invariant.0 lt c.index_mut-row.ensures.value c.deliver.ensures.moved,
       starts_lowered n.rows.items n.kept.starts.items c.deliver.new.kept.starts.items n.sender c.deliver.new.row c.self.invariant.1 lt
           c.deliver.ensures.lowered,
-      c.deliver.ensures.low,
+      c.deliver.ensures.waiting,
     )
 
 pub returns-clause-rows : goal.returns-clause-rows

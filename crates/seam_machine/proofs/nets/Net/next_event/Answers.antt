@@ -1,29 +1,32 @@
 use Rattle.std.proofs.Common.{◌≡◌, ◌<◌, ◌∙◌, ℕ, [], sym, ap, length, arith}
-use Rattle.std.specs.Prelude.{slice_get, map}
+use Rattle.std.specs.Prelude.{slice_get}
 use Rattle.seam_machine.specs.Nets.{link}
+use Rattle.seam_machine.specs.Inside.{is_marked, has_task}
 use Rattle.seam_machine.proofs.Quiet.{task_first, quiet_without}
+use Rattle.seam_machine.proofs.Known.{on_within, off_at}
 use Rattle.seam_machine.proofs.nets.Net.next_event.Goals as goal
-use Rattle.seam_machine.proofs.nets.Net.next_event.Goals.{After-first_task}
+use Rattle.seam_machine.proofs.nets.Net.next_event.Goals.{After-first}
 
-no_message : (g : _) (c : After-first_task g) → (q a : ℕ) → q < length c.args.self.now.nodes → link c.args.self.now.rows a q ≡ []
+no_message : (g : _) (c : After-first g) → (q a : ℕ) → q < length c.args.self.now.nodes → link c.args.self.now.rows a q ≡ []
 no_message g c q a lt =
-    let many = ap (λ w. length w.nodes) c.self.view_is in
-    ap (λ w. link w.rows a q) (sym c.self.view_is)
-    ∙ c.first_busy-first.ensures.idle q a (omega (arith, lt, many, c.if-first-len.false, c.len.ensures))
+    let nodes = ap (λ w. length w.nodes) c.self.view_is in
+    let square = c.self.invariant.0.square.rows in
+    ap (λ w. link w.rows a q) (sym c.self.view_is) ∙ c.in_default.ensures.none q a (omega (arith, lt, nodes, square))
 
-marks : (g : _) (c : After-first_task g) → c.self.inside.tasks.items ≡ map g.M.Machine.has_work c.args.self.now.nodes
-marks g c = c.self.invariant.1.known c.if-not-self.false ∙ ap (λ w. map g.M.Machine.has_work w.nodes) c.self.view_is
+known : (g : _) (c : After-first g) → (k : ℕ) → is_marked c.self.inside.tasks.words k ≡ has_task g.M.Machine.has_work (slice_get c.args.self.now.nodes k)
+known g c k = c.self.invariant.1 c.if-not-self.false k ∙ ap (λ w. has_task g.M.Machine.has_work (slice_get w.nodes k)) c.self.view_is
 
-pub returns-in-Some-clause-first : goal.returns-in-Some-clause-first
-returns-in-Some-clause-first g c =
-    let asked = (goal.at.returns-in-Some-clause-first g c).After-first_task in
-    task_first g.M.Machine.has_work c.args.self.now c.in-Some.node (no_message g asked)
-    (λ q lt. ap (λ l. slice_get l q) (sym (marks g asked)) ∙ c.in-Some.ensures.first q lt)
+pub returns-in-Some-first-clause-first : goal.returns-in-Some-first-clause-first
+returns-in-Some-first-clause-first g c =
+    let asked = (goal.at.returns-in-Some-first-clause-first g c).After-first in
+    let words = c.self.inside.tasks.words in
+    let nodes = c.args.self.now.nodes in
+    let within = on_within g.M.Machine.has_work nodes words (known g asked) c.in-Some-first.node c.in-Some-first.ensures.some in
+    task_first g.M.Machine.has_work c.args.self.now c.in-Some-first.node (no_message g asked)
+    (λ q lt. off_at g.M.Machine.has_work nodes words (known g asked) q (omega (arith, lt, within)) (c.in-Some-first.ensures.first q lt))
 
 pub returns-in-None-clause-none : goal.returns-in-None-clause-none
 returns-in-None-clause-none g c =
-    let asked = (goal.at.returns-in-None-clause-none g c).After-first_task in
-    let many = ap (λ w. length w.nodes) c.self.view_is in
+    let asked = (goal.at.returns-in-None-clause-none g c).After-first in
     quiet_without g.M.Machine.has_work c.args.self.now (no_message g asked)
-    (λ q lt. ap (λ l. slice_get l q) (sym (marks g asked))
-    ∙ c.in-None.ensures.none q (omega (arith, lt, many, c.self.invariant.1.len)))
+    (λ q lt. off_at g.M.Machine.has_work c.args.self.now.nodes c.self.inside.tasks.words (known g asked) q lt (c.in-None.ensures.none q))

@@ -39,20 +39,17 @@ feed-requires-clause-ready g c =
 pub invariant_of-self-2 : goal.invariant_of-self-2
 invariant_of-self-2 g c =
     let i = (goal.at.invariant_of-self-2 g c).In_ok-settle in (
-      rw (ap (λ l. l.rows) c.move_on.ensures)
-          (net_fed g.M.Machine.steps c.args.self.now c.args.event c.self.inside.nodes.items c.settle.new.self.rows
+      net_fed g.M.Machine.steps c.args.self.now c.args.event c.self.inside.nodes.items c.settle.new.self.rows
           c.feed.new.self.rows c.index_mut-node.result.now c.feed.new.node (ap (λ w. w.nodes) c.self.view_is) (rows_are g i)
-          (node_is g ((goal.at.invariant_of-self-2 g c).After-index_mut-node)) c.in_ok-feed.ensures.fed (is_net g i)),
-      rw c.note.ensures.tasks (knows_after g.M.Machine.has_work c.self.inside.nodes.items c.ask.new.asked c.ask.new.tasks.items c.args.event.node c.feed.new.node
-          c.has_task.result c.has_task.ensures c.ask.ensures.known),
-      c.note.ensures.idle,
+          (node_is g ((goal.at.invariant_of-self-2 g c).After-index_mut-node)) c.in_ok-feed.ensures.fed (is_net g i),
+      knows_after g.M.Machine.has_work c.self.inside.nodes.items c.ask.new.tasks.words c.ask.new.asked c.set.new.self.words c.args.event.node
+          c.feed.new.node c.has_task.result (node_in g i) c.has_task.ensures c.set.ensures.there c.set.ensures.others c.ask.ensures,
     )
 
 pub returns-clause-happens : goal.returns-clause-happens
 returns-clause-happens g c =
     let i = (goal.at.returns-clause-happens g c).In_ok-settle in
-    ap (λ r. record { nodes = set c.self.inside.nodes.items c.args.event.node c.feed.new.node; rows = r }) (ap (λ l. l.rows) c.move_on.ensures)
-    ∙ fed_happens g.M.Machine.steps c.args.self.now c.args.event c.self.inside.nodes.items c.settle.new.self.rows
+    fed_happens g.M.Machine.steps c.args.self.now c.args.event c.self.inside.nodes.items c.settle.new.self.rows
     c.feed.new.self.rows c.index_mut-node.result.now c.feed.new.node (ap (λ w. w.nodes) c.self.view_is) (rows_are g i)
     (node_is g ((goal.at.returns-clause-happens g c).After-index_mut-node)) c.in_ok-feed.ensures.fed
 

@@ -5,8 +5,8 @@ use Rattle.std.proofs.Math.Pow.{pow_mono}
 use Rattle.seam_defs.specs.Marks.{kept}
 use Rattle.seam_defs.specs.Remaining.{properties_left, shown_of}
 use Rattle.seam_defs.proofs.Marks.{even, odd, marked, kept-next, kept-passed, all-marked}
-use Rattle.seam_defs.proofs.props.left_out.Goals as goal
-use Rattle.seam_defs.proofs.props.left_out.Goals.{then-rest-eq0, else-rest-eq0, then-not-is_kept, else-not-is_kept}
+use Rattle.seam_defs.proofs.props.left_out_of_kept.Goals as goal
+use Rattle.seam_defs.proofs.props.left_out_of_kept.Goals.{then-rest-eq0, else-rest-eq0, then-not-is_kept, else-not-is_kept}
 
 mark-fits : (i n : ℕ) → i < n → n ≤ 32 → 2 ^ i ≤ 2 ^ 31
 mark-fits i n within short = pow_mono {i = i} {j = 31} (omega arith)

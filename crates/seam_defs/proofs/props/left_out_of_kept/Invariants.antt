@@ -2,7 +2,7 @@ use Rattle.std.proofs.Common.{◌≡◌, ◌<◌, ◌^◌, ◌++◌, take, drop}
 use Rattle.seam_defs.specs.Deeds.{projected}
 use Rattle.seam_defs.specs.Remaining.{properties_left, shown_of}
 use Rattle.seam_defs.specs.Marks.{kept}
-use Rattle.seam_defs.proofs.props.left_out.Given as goal
+use Rattle.seam_defs.proofs.props.left_out_of_kept.Given as goal
 
 abbrev pub invariant-loop : goal.invariant-loop
 invariant-loop l = record {
