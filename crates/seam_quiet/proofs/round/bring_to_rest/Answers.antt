@@ -1,5 +1,6 @@
 use Rattle.std.proofs.Common.{◌++◌, sym, subst, ◌∙◌, arith}
 use Rattle.std.proofs.lemmas.List.{length-append}
+use Rattle.seam_machine.specs.Nets.{IsQuiet}
 use Rattle.seam_runs.proofs.Runs.{leads_join, leads_keeps}
 use Rattle.seam_steps.specs.Nodes.{node_steps, node_has_work}
 use Rattle.seam_core.specs.Worlds.{IsWorld, Leads}
@@ -31,3 +32,6 @@ returns-clause-run g c =
     (subst (Leads c.args.world (c.in_ok-net.events.items ++ c.in_ok-net-2.last.items)) (sym c.over.ensures.world)
     (leads_join node_has_work node_steps c.args.world c.in_ok-net.net c.in_ok-net-2.net c.in_ok-net.events.items
     c.in_ok-net-2.last.items begun c.in_ok-net-2.ensures.run))
+
+pub returns-clause-quiet : goal.returns-clause-quiet
+returns-clause-quiet g c = subst (IsQuiet node_has_work) (sym c.over.ensures.world) c.in_ok-net-2.ensures.quiet
