@@ -139,12 +139,10 @@ fn command_of_words<'a, 'b>(words: &'b [&'a [u8]]) -> Result<Command<'a, 'b>, Ca
     ensures command { IfOk result (λ c. texts_of words.now ≡ words_of c) }
     ensures cause { IfErr result (IsFaultOfWords (texts_of words.now)) }
 {
-    if !begin_with_name(words) {
-        return Err(Cause::NoCommand);
-    }
     match read_words(words) {
         Some(command) => Ok(command),
-        None => Err(Cause::WrongCount),
+        None if begin_with_name(words) => Err(Cause::WrongCount),
+        None => Err(Cause::NoCommand),
     }
 }
 
@@ -217,14 +215,14 @@ fn read_command<'a, 'b>(first: &[u8], rest: &'b [&'a [u8]]) -> Option<Command<'a
         ((c : Commands) → first.now ∷ texts_of rest.now ≢ words_of c)
         (λ c. first.now ∷ texts_of rest.now ≡ words_of c) }
 {
-    if first == b"sync".as_slice() {
-        read_sync(rest)
-    } else if first == b"create".as_slice() {
-        read_create(rest)
-    } else if first == b"call".as_slice() {
+    if is_call(first) {
         read_call(rest)
     } else if first == b"move".as_slice() {
         read_move(rest)
+    } else if first == b"create".as_slice() {
+        read_create(rest)
+    } else if first == b"sync".as_slice() {
+        read_sync(rest)
     } else if first == b"client".as_slice() {
         read_client(rest)
     } else if first == b"tick".as_slice() {
@@ -240,6 +238,13 @@ fn read_command<'a, 'b>(first: &[u8], rest: &'b [&'a [u8]]) -> Option<Command<'a
     } else {
         None
     }
+}
+
+// Most lines are calls, so this name is compared in place, without a call to compare slices.
+fn is_call(word: &[u8]) -> bool
+    ensures { IsTrue result ↔ word.now ≡ codes "call" }
+{
+    matches!(word, b"call")
 }
 
 // The words after `sync`.

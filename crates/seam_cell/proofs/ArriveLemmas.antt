@@ -1,7 +1,9 @@
 -- A real that comes, and one that is reaped: what they leave is that of the cell's step.
 use Rattle.std.proofs.Common.{◌≡◌, ◌<◌, ◌≤◌, ℕ, zero, suc, ◌+◌, ◌++◌, Bool, true, false, not, ◌&&◌}
 use Rattle.std.proofs.Common.{List, [], ◌∷◌, Option, None, Some, is_some}
-use Rattle.std.proofs.Common.{refl, sym, ap, subst, ◌∙◌, arith, nat_lt, get_or}
+use Rattle.std.proofs.Common.{refl, sym, ap, subst, ◌∙◌, arith, get_or, inl, inr}
+use Rattle.std.specs.Prelude.{◌↔◌}
+use Rattle.std.proofs.lemmas.Bool.{cases_lt, true≢false, false≢true, false_from_ne_true}
 use Rattle.std.specs.List.{list_all, range_with_len}
 use Rattle.std.specs.FinMap as table
 use Rattle.std.specs.FinSet as set
@@ -44,34 +46,44 @@ module _ (cells : Cells) (t : Division) where
   abbrev fits : ℕ → Bool
   fits = is_cell_in cells t
 
-  fit_by : (b : Bool) (k : ℕ) → k < cells_of t → is_cell_if b t k ≡ true
-  fit_by true k below = grind (arith, nat_tests)
+  fit_by : (b : Bool) (k : ℕ) → (b ≡ true → k < cells_of t) → is_cell_if b t k ≡ true
+  fit_by true k below = let l : k < cells_of t = below refl in grind (arith, nat_tests)
   fit_by false k below = refl
 
-  not_below : (k : ℕ) → cells_of t ≤ k → nat_lt k (cells_of t) ≡ false
-  not_below k beyond = grind (arith, nat_tests)
+  unfit_at : (b : Bool) (k : ℕ) → b ≡ true → cells_of t ≤ k → is_cell_if b t k ≡ false
+  unfit_at true k in_set beyond = grind (arith, nat_tests)
+  unfit_at false k in_set beyond = cc
 
-  -- the cells of the tree fit
-  pub all_fit : (n : ℕ) → n ≤ cells_of t → list_all fits (range_with_len 0 n) ≡ true
+  -- where the set's cells are those of the tree, they fit
+  all_fit : (n : ℕ) → ((k : ℕ) → set.contains cells k ≡ true → k < cells_of t) → list_all fits (range_with_len 0 n) ≡ true
   all_fit zero below = refl
   all_fit (suc n) below =
       let e : suc n ≡ n + 1 = omega arith in
       ap (λ k. list_all fits (range_with_len 0 k)) e
-      ∙ (all_more fits n ∙ (ap (λ b. b && fits n) (all_fit n (omega arith)) ∙ fit_by (set.contains cells n) n (omega arith)))
-
-  -- and so does one that is not in the set
-  pub one_more_fits : (n : ℕ) → list_all fits (range_with_len 0 n) ≡ true → set.contains cells n ≡ false →
-      list_all fits (range_with_len 0 (n + 1)) ≡ true
-  one_more_fits n so_far out =
-      all_more fits n ∙ (ap (λ b. b && fits n) so_far ∙ ap (λ b. is_cell_if b t n) out)
+      ∙ (all_more fits n ∙ (ap (λ b. b && fits n) (all_fit n below) ∙ fit_by (set.contains cells n) n (below n)))
 
   -- one of the set that the tree has not does not fit
-  pub one_unfit : (n k : ℕ) → k < n → set.contains cells k ≡ true → cells_of t ≤ k → list_all fits (range_with_len 0 n) ≡ false
+  one_unfit : (n k : ℕ) → k < n → set.contains cells k ≡ true → cells_of t ≤ k → list_all fits (range_with_len 0 n) ≡ false
   one_unfit n k below in_set beyond =
-      let unfit : fits k ≡ false = ap (λ b. is_cell_if b t k) in_set ∙ not_below k beyond in
       let at : get_or (range_with_len 0 n) k 0 ≡ k =
       get_or-range_with_len 0 n k 0 below ∙ (let z : 0 + k ≡ k = omega arith in z) in
-      list_all_at fits (range_with_len 0 n) k 0 (subst (λ m. k < m) (sym (length-range_with_len 0 n)) below) (ap fits at ∙ unfit)
+      list_all_at fits (range_with_len 0 n) k 0 (subst (λ m. k < m) (sym (length-range_with_len 0 n)) below)
+      (ap fits at ∙ unfit_at (set.contains cells k) k in_set beyond)
+
+  -- where all fit, the set's cells are those of the tree
+  cells_where_fit : (n k : ℕ) → list_all fits (range_with_len 0 n) ≡ true → k < n → set.contains cells k ≡ true → k < cells_of t
+  cells_where_fit n k all below in_set = elim (cases_lt k (cells_of t)) [
+    | inl within ↦ within
+    | inr beyond ↦ absurd (true≢false (sym all ∙ one_unfit n k below in_set beyond))
+  ]
+
+  -- a test whether the set's cells are those of the tree tells whether all fit
+  pub fit_where_below : (b : Bool) → ((b ≡ true) ↔ ((k : ℕ) → set.contains cells k ≡ true → k < cells_of t)) →
+      ((k : ℕ) → set.contains cells k ≡ true → k < 16) → b ≡ list_all fits (range_with_len 0 16)
+  fit_where_below true tells small = sym (all_fit 16 (tells.0 refl))
+  fit_where_below false tells small =
+      sym (false_from_ne_true (list_all fits (range_with_len 0 16)) (λ all.
+      false≢true (tells.1 (λ k in_set. cells_where_fit 16 k all (small k in_set) in_set))))
 
 -- ---- a reap
 

@@ -29,12 +29,7 @@ use std::alloc::AllocError;
 fn are_cells(tree: &Tree, haunts: CellSet) -> bool
     ensures { result ≡ list_all (is_cell_in haunts tree.now) cell_numbers }
 {
-    for k in tree.cells()..16 {
-        if haunts.holds(k) {
-            return false;
-        }
-    }
-    true
+    haunts.are_below(tree.cells())
 }
 
 // Whether this cell and the real's haunts are cells of the tree.

@@ -1,10 +1,10 @@
 -- Sets of cells and writes to their marks.
 use Rattle.std.proofs.Common.{◌≡◌, ◌<◌, ◌≤◌, ℕ, zero, suc, ◌+◌, ◌==◌, Bool, true, false, ◌||◌, ◌&&◌, not, cond, List, [], ◌∷◌, length, set}
-use Rattle.std.proofs.Common.{get_or, refl, sym, ap, ◌∙◌, arith, inl, inr, get_or-set_other}
+use Rattle.std.proofs.Common.{get_or, nat_lt, refl, sym, ap, ◌∙◌, arith, inl, inr, get_or-set_other}
 use Rattle.std.specs.Prelude.{IsTrue}
 use Rattle.std.specs.Cmp.{nat_cmp_total, unsigned_tied}
 use Rattle.std.specs.Cmp.Lexicographic.{pointwise}
-use Rattle.std.proofs.Math.Bool.{beq}
+use Rattle.std.proofs.Math.Bool.{beq, or-true}
 use Rattle.std.proofs.lemmas.Bool.Decides.{nat_tests}
 use Rattle.std.proofs.lemmas.Grind.{common_steps}
 use Rattle.std.specs.FinSet as cells
@@ -39,6 +39,12 @@ pub get_or_past : (marks : List Bool) (k : ℕ) → length marks ≤ k → get_o
 get_or_past [] k past = refl
 get_or_past (m ∷ marks) zero past = absurd (omega arith)
 get_or_past (m ∷ marks) (suc k) past = get_or_past marks k (omega arith)
+
+-- a number marked is within the list
+pub marked_within : (marks : List Bool) (k : ℕ) → get_or marks k false ≡ true → k < length marks
+marked_within [] k marked = cc
+marked_within (m ∷ marks) zero marked = omega arith
+marked_within (m ∷ marks) (suc k) marked = let next : k < length marks = marked_within marks k marked in omega (arith, next)
 
 get_or_set_mark : (marks : List Bool) (k : ℕ) (mark : Bool) (q : ℕ) → k < length marks →
     get_or (set marks k mark) q false ≡ cond (q == k) mark (get_or marks q false)
@@ -79,3 +85,42 @@ marked_set_false marks k within =
     ∙ ap (λ (b : Bool). not (q == k) && b) (sym (contains_marks marks q))
     ∙ ap (λ (b : Bool). not b && cells.contains (marked_from 0 marks) q) (sym (unsigned_tied q k))
     ∙ sym (cells.contains-remove nat_cmp_total (marked_from 0 marks) k q))
+
+-- ---- a bound on all numbers marked
+
+both : (a b : Bool) → (a && b) ≡ true → (a ≡ true) × (b ≡ true)
+both true true h = (refl, refl)
+both true false h = cc
+both false b h = cc
+
+module _ (count : ℕ) (marks : List Bool) where
+  -- the k-th number is below the count, or not marked
+  abbrev is_below_or_out : ℕ → Bool
+  is_below_or_out k = nat_lt k count || not (get_or marks k false)
+
+  -- so are the first n
+  abbrev pub are_below_or_out : ℕ → Bool
+  are_below_or_out zero = true
+  are_below_or_out (suc n) = are_below_or_out n && is_below_or_out n
+
+  below_by : (b : Bool) (k : ℕ) → (nat_lt k count || not b) ≡ true → b ≡ true → k < count
+  below_by true k passes marked = grind (arith, nat_tests)
+  below_by false k passes marked = cc
+
+  passes_by : (b : Bool) (k : ℕ) → (b ≡ true → k < count) → (nat_lt k count || not b) ≡ true
+  passes_by true k below = let l : k < count = below refl in grind (arith, nat_tests)
+  passes_by false k below = or-true (nat_lt k count)
+
+  pub below_where_marked : (n k : ℕ) → are_below_or_out n ≡ true → k < n → get_or marks k false ≡ true → k < count
+  below_where_marked zero k all within marked = absurd (omega arith)
+  below_where_marked (suc n) k all within marked =
+      let halves = both (are_below_or_out n) (is_below_or_out n) all in
+      elim (same_or_not k n) [
+        | inl e ↦ below_by (get_or marks k false) k (ap is_below_or_out e ∙ halves.1) marked
+        | inr other ↦ below_where_marked n k halves.0 (omega (arith, other)) marked
+      ]
+
+  pub are_below_where_marked : (n : ℕ) → ((k : ℕ) → get_or marks k false ≡ true → k < count) → are_below_or_out n ≡ true
+  are_below_where_marked zero below = refl
+  are_below_where_marked (suc n) below =
+      ap (λ b. b && is_below_or_out n) (are_below_where_marked n below) ∙ passes_by (get_or marks n false) n (below n)

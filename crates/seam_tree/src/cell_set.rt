@@ -1,4 +1,4 @@
-ghost use Rattle.std.specs.Prelude.{◌≡◌, ◌<◌, ◌↔◌, IsTrue};
+ghost use Rattle.std.specs.Prelude.{◌≡◌, ◌<◌, ◌↔◌, ℕ, IsTrue};
 ghost use Rattle.std.specs.FinSet as set;
 
 use std::marker::Model;
@@ -51,6 +51,19 @@ impl CellSet {
         ensures { IsTrue result ↔ (self.now ≡ other.now) }
     {
         self.marks == other.marks
+    }
+
+    /// Whether all its cells have numbers below this one.
+    pub fn are_below(&self, count: u8) -> bool
+        ensures below { IsTrue result ↔ ((k : ℕ) → IsTrue (set.contains self.now k) → k < count) }
+        ensures small { (k : ℕ) → IsTrue (set.contains self.now k) → k < 16 }
+    {
+        let mut below = true;
+        // No mark ends the loop, and `|` tries both its sides, so that all marks are tried at once.
+        for k in 0..16 {
+            below &= (k < count) | !self.marks[usize::from(k)];
+        }
+        below
     }
 
     /// The set with the cell.
