@@ -3,6 +3,7 @@
 ghost use Rattle.std.specs.Prelude.{◌≡◌, IfOk};
 
 use seam_defs::{Props, State};
+use seam_memory::Shared;
 use std::alloc::AllocError;
 
 /// What a ghost holds of a real: its type, its public version, and its state at that version.
@@ -26,15 +27,15 @@ impl GhostCopy {
     }
 }
 
-/// What a witness shows its client.
+/// What a witness shows its client. What many clients are shown is kept once.
 #[derive(Debug, Drop)]
 pub enum Shown {
     /// The client's own entity, at a version.
-    Own(u64, State),
+    Own(u64, Shared<State>),
     /// An entity that enters the view.
-    Enter(u32, GhostCopy),
+    Enter(u32, Shared<GhostCopy>),
     /// An entity in view that has changed.
-    Set(u32, GhostCopy),
+    Set(u32, Shared<GhostCopy>),
     /// An entity that leaves the view.
     Leave(u32),
 }

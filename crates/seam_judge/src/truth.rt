@@ -106,9 +106,9 @@ fn is_true(alloc: Global, case: &Case<'_>, create: Create, x: &Shown) -> Result<
         ↔ ShowsTruth (truth_of case.now.header.now (standing_of case.now.before.now) (standing_of case.now.after.now) create) x.now) }
 {
     match x {
-        Shown::Own(version, state) => is_own(alloc, case, create, *version, state),
-        Shown::Enter(entity, copy) => is_other(alloc, case, *entity, copy),
-        Shown::Set(entity, copy) => is_other(alloc, case, *entity, copy),
+        Shown::Own(version, state) => is_own(alloc, case, create, *version, state.get()),
+        Shown::Enter(entity, copy) => is_other(alloc, case, *entity, copy.get()),
+        Shown::Set(entity, copy) => is_other(alloc, case, *entity, copy.get()),
         Shown::Leave(_) => Ok(true),
     }
 }

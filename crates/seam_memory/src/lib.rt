@@ -1,5 +1,9 @@
-//! What a call that keeps an item answers if allocation fails.
+//! Memory: a value that many may keep, and what a call that keeps an item answers if allocation fails.
 #![tactic(auto)]
+
+mod shared;
+
+pub use shared::Shared;
 
 #[cfg(test)]
 mod tests;

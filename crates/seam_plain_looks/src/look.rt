@@ -37,7 +37,7 @@ impl<'a> Replica<'a> {
         ensures { result ≡ is_gone (client_of self.now).others own (option_map seen (option_copied row.entry)) }
     {
         match row {
-            Some(row) => self.is_far(own, row.other.state.pos),
+            Some(row) => self.is_far(own, row.other.get().state.pos),
             None => true,
         }
     }
@@ -46,7 +46,7 @@ impl<'a> Replica<'a> {
     fn has_changed(&self, own: Pos, version: u64, row: &Row) -> bool
         ensures { result ≡ has_changed (client_of self.now).others own version (Some (seen row.now)) }
     {
-        !self.is_far(own, row.other.state.pos) && version < row.other.version
+        !self.is_far(own, row.other.get().state.pos) && version < row.other.get().version
     }
 
     // Whether one of the table is not in view, and near.
@@ -54,7 +54,7 @@ impl<'a> Replica<'a> {
         requires { entries.now ≡ (client_of self.now).others.entries }
         ensures { result ≡ is_new (client_of self.now).others own (seen row.now) }
     {
-        !is_in_view(entries, row.entity) && dist(own, row.other.state.pos) <= self.radius
+        !is_in_view(entries, row.entity) && dist(own, row.other.get().state.pos) <= self.radius
     }
 
     // An entity in view leaves, where it is gone.
@@ -111,7 +111,7 @@ impl<'a> Replica<'a> {
     {
         let mut lines = Vec::new(alloc);
         if self.is_newer(row.version) {
-            lines.push(Shown::Own(row.version, row.own.copy()?))?;
+            lines.push(Shown::Own(row.version, row.own.copied()?))?;
         }
         Ok(lines)
     }
@@ -173,7 +173,7 @@ impl<'a> Replica<'a> {
     fn look_at(&self, alloc: Global, row: &Row, others: &[Row]) -> Result<Vec<Shown>, AllocError>
         ensures { IfOk result (λ xs. xs.items ≡ look_at (client_of self.now) row.now others.now) }
     {
-        let own = row.own.pos;
+        let own = row.own.get().pos;
         let entries = self.entries(alloc)?;
         let mut lines = self.own_line(alloc, row)?;
         let mut leaves = self.leaves(alloc, own, &entries, others)?;

@@ -105,8 +105,8 @@ impl<'a> Replica<'a> {
     {
         match x {
             Shown::Own(version, _) => Ok(self.is_newer(*version)),
-            Shown::Enter(entity, copy) => self.may_enter(alloc, me, *entity, copy),
-            Shown::Set(entity, copy) => self.may_set(alloc, *entity, copy),
+            Shown::Enter(entity, copy) => self.may_enter(alloc, me, *entity, copy.get()),
+            Shown::Set(entity, copy) => self.may_set(alloc, *entity, copy.get()),
             Shown::Leave(entity) => self.has_in_view(alloc, *entity),
         }
     }

@@ -45,7 +45,7 @@ fn own_after(own: Option<(u64, Pos)>, x: &Shown) -> Option<(u64, Pos)>
     ensures { result ≡ own_after own x.now }
 {
     match x {
-        Shown::Own(version, state) => Some((*version, state.pos)),
+        Shown::Own(version, state) => Some((*version, state.get().pos)),
         Shown::Enter(..) | Shown::Set(..) | Shown::Leave(_) => own,
     }
 }
@@ -54,7 +54,7 @@ fn version_after(entity: u32, version: Option<u64>, x: &Shown) -> Option<u64>
     ensures { result ≡ version_after entity version x.now }
 {
     match x {
-        Shown::Enter(e, copy) | Shown::Set(e, copy) if entity == *e => Some(copy.version),
+        Shown::Enter(e, copy) | Shown::Set(e, copy) if entity == *e => { Some(copy.get().version) },
         _ => version,
     }
 }
@@ -101,7 +101,7 @@ fn keep(entries: &mut Vec<(u32, u64)>, x: &Shown) -> Result<(), AllocError>
 {
     match x {
         Shown::Own(..) => Ok(()),
-        Shown::Enter(e, copy) | Shown::Set(e, copy) => place(entries, *e, copy.version),
+        Shown::Enter(e, copy) | Shown::Set(e, copy) => place(entries, *e, copy.get().version),
         Shown::Leave(e) => {
             remove(entries, *e);
             Ok(())

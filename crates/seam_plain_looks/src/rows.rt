@@ -10,6 +10,7 @@ ghost use Rattle.seam_round.specs.Standings.{standing_of};
 use seam_call::{Call, Create, GhostCopy};
 use seam_defs::{Group, Part, State};
 use seam_expected::{public_version, state_at, state_shown};
+use seam_memory::Shared;
 use seam_round::Standing;
 use seam_same::Copied;
 use seam_transcript::Header;
@@ -21,8 +22,8 @@ use std::marker::Model;
 pub struct Row {
     pub entity: u32,
     pub version: u64,
-    pub own: State,
-    pub other: GhostCopy,
+    pub own: Shared<State>,
+    pub other: Shared<GhostCopy>,
 }
 
 impl Model for Row {
@@ -94,8 +95,8 @@ pub fn row_after(
     Ok(Row {
         entity: create.entity,
         version: order.len() as u64,
-        own,
-        other,
+        own: Shared::new(alloc, own)?,
+        other: Shared::new(alloc, other)?,
     })
 }
 
@@ -120,7 +121,7 @@ impl Copied for Row {
         Ok(Row {
             entity: self.entity,
             version: self.version,
-            own: self.own.copy()?,
+            own: self.own.copied()?,
             other: self.other.copied()?,
         })
     }

@@ -3,6 +3,7 @@ use crate::known::Known;
 use crate::words::Words;
 use seam_call::{Call, ClientText, GhostCopy, Line, Shown};
 use seam_defs::{Part, Props, State};
+use seam_memory::Shared;
 use seam_round::{BaseLine, ClientLine, DoneLine, GhostLine, HomeLine};
 use std::alloc::AllocError;
 
@@ -69,23 +70,27 @@ fn copy_at(
     ty: u16,
     words: &Words<'_>,
     place: usize,
-) -> Result<GhostCopy, AllocError> {
-    Ok(GhostCopy {
+) -> Result<Shared<GhostCopy>, AllocError> {
+    let copy = GhostCopy {
         ty,
         version: words.long_number(place),
         state: state_at(known, words, place.saturating_add(1))?,
-    })
+    };
+    Shared::new(known.alloc, copy)
 }
 
 // What a witness showed.
 fn shown_at(known: &Known<'_>, words: &Words<'_>) -> Result<Shown, AllocError> {
     let other = words.number(4);
     Ok(match words.at(3) {
-        b"own" => Shown::Own(words.long_number(4), state_at(known, words, 5)?),
-        b"enter" => Shown::Enter(
-            other,
-            copy_at(known, known.type_named(words.at(5)), words, 6)?,
+        b"own" => Shown::Own(
+            words.long_number(4),
+            Shared::new(known.alloc, state_at(known, words, 5)?)?,
         ),
+        b"enter" => {
+            let ty = known.type_named(words.at(5));
+            Shown::Enter(other, copy_at(known, ty, words, 6)?)
+        }
         b"set" => Shown::Set(other, copy_at(known, known.type_of(other), words, 5)?),
         _ => Shown::Leave(other),
     })

@@ -22,11 +22,12 @@ pub fn push_client<'a>(
         ++ client_text spellings.old (record { entity = entity; ty = ty; line = line.now })) }
     ensures same { spellings.new ≡ spellings.old }
 {
-    let mut text = [0; 2 * LONGEST_FIELD];
-    let at = write_field(line.number, &mut text, 2 * LONGEST_FIELD);
+    let mut text = [0; 2 + 2 * LONGEST_FIELD];
+    let at = write_field(line.number, &mut text, 2 + 2 * LONGEST_FIELD);
     let at = write_field(u64::from(entity), &mut text, at);
-    out.extend_from_slice(b"to")?;
-    out.extend_from_slice(&text[at..])?;
+    text[at - 1] = b'o';
+    text[at - 2] = b't';
+    out.extend_from_slice(&text[at - 2..])?;
     push_told(out, spellings, ty, &line.text)?;
     out.extend_from_slice(b"\n")
 }
@@ -68,13 +69,13 @@ fn push_shown<'a>(
     match shown {
         Shown::Own(version, state) => {
             out.extend_from_slice(b" own")?;
-            push_state(out, *version, defs.type_at(ty), Group::Own, state)
+            push_state(out, *version, defs.type_at(ty), Group::Own, state.get())
         }
-        Shown::Enter(entity, copy) => spellings.push_enter(out, *entity, copy),
+        Shown::Enter(entity, copy) => spellings.push_enter(out, *entity, copy.get()),
         Shown::Set(entity, copy) => {
             out.extend_from_slice(b" set")?;
             push_field(out, u64::from(*entity))?;
-            spellings.push(out, *entity, copy)
+            spellings.push(out, *entity, copy.get())
         }
         Shown::Leave(entity) => {
             out.extend_from_slice(b" leave")?;

@@ -3,6 +3,7 @@ ghost use Rattle.std.specs.Prelude.{◌≡◌, IfOk};
 
 use seam_call::{Call, ClientText, GhostCopy, Line, Shown};
 use seam_defs::Deed;
+use seam_memory::Shared;
 use std::alloc::{AllocError, Global};
 
 /// Values of which copies can be made.
@@ -50,10 +51,16 @@ impl Copied for GhostCopy {
     }
 }
 
+impl<T> Copied for Shared<T> {
+    fn copied(&self) -> Result<Shared<T>, AllocError> {
+        self.share()
+    }
+}
+
 impl Copied for Shown {
     fn copied(&self) -> Result<Shown, AllocError> {
         match self {
-            Shown::Own(version, state) => Ok(Shown::Own(*version, state.copy()?)),
+            Shown::Own(version, state) => Ok(Shown::Own(*version, state.copied()?)),
             Shown::Enter(entity, copy) => Ok(Shown::Enter(*entity, copy.copied()?)),
             Shown::Set(entity, copy) => Ok(Shown::Set(*entity, copy.copied()?)),
             Shown::Leave(entity) => Ok(Shown::Leave(*entity)),

@@ -4,6 +4,7 @@ ghost use Rattle.seam_tree.specs.Division.{cut_number};
 
 use seam_call::{Call, ClientText, GhostCopy, Line, Shown};
 use seam_defs::{Args, Deed, Props, State};
+use seam_memory::Shared;
 use seam_tree::Tree;
 use seam_value::Value;
 
@@ -71,6 +72,12 @@ impl Same for Call {
             && self.sender == other.sender
             && self.number == other.number
             && self.deed.is(&other.deed)
+    }
+}
+
+impl<T: Same> Same for Shared<T> {
+    fn is(&self, other: &Shared<T>) -> bool {
+        self.get().is(other.get())
     }
 }
 

@@ -28,6 +28,7 @@ use crate::updates::Updates;
 use seam_call::{GhostCopy, Shown};
 use seam_entity::{Msg, Observed, Real, Witness, is_small};
 use seam_machine::Out;
+use seam_memory::Shared;
 use seam_parts::{CopyBook, Known, Lists, Places, RealTable, Reals, put_in, take_out};
 use seam_tree::MOST_CELLS;
 use seam_view::{Look, Seen};
@@ -74,7 +75,7 @@ pub fn seen_copy(e: u32, copy: &GhostCopy) -> Seen
 }
 
 // The entity enters or is set, where there is a copy of it.
-fn shown_as(e: u32, enters: bool, copy: Option<GhostCopy>) -> Option<Shown>
+fn shown_as(e: u32, enters: bool, copy: Option<Shared<GhostCopy>>) -> Option<Shown>
     ensures { result ≡ option_map (if enters then Enter e else Set e) copy }
 {
     match copy {
@@ -126,7 +127,11 @@ impl Sight<'_> {
     }
 
     // What is known of another entity: what was told of it, or else what is found of it, which is kept.
-    fn copy_of(&self, e: u32, told: &mut ToldCopies) -> Result<Option<GhostCopy>, AllocError>
+    fn copy_of(
+        &self,
+        e: u32,
+        told: &mut ToldCopies,
+    ) -> Result<Option<Shared<GhostCopy>>, AllocError>
         requires told { let h = here_in self.now.known.now in
             AreToldBut self.now.own (known_with h self.now.reals.now.items self.now.copies.now.ghosts) told.old }
         ensures copy { (c : CellView) →
@@ -144,6 +149,7 @@ impl Sight<'_> {
         let Some(copy) = self.known_copy(e)? else {
             return Ok(None);
         };
+        let copy = Shared::new(self.alloc, copy)?;
         told.keep(e, &copy)?;
         Ok(Some(copy))
     }
@@ -198,6 +204,7 @@ impl Sight<'_> {
             return Ok(());
         }
         let state = real.own_state(&self.known.defs)?;
+        let state = Shared::new(self.alloc, state)?;
         shown.push(Shown::Own(real.version(), state))
     }
 

@@ -6,13 +6,14 @@ ghost use Rattle.seam_sight.specs.Told.{told_of, AreToldBut, AreStillTold};
 
 use indexmap::IndexMap;
 use seam_call::GhostCopy;
+use seam_memory::Shared;
 use std::alloc::{AllocError, Global};
 use std::marker::Model;
 
 /// The copies that witnesses of a cell were told, by entity, since what is known of entities changed last.
 #[derive(Drop)]
 pub struct ToldCopies {
-    copies: IndexMap<u32, GhostCopy>,
+    copies: IndexMap<u32, Shared<GhostCopy>>,
     // The place after that of the copy that was asked for last: witnesses are told of entities in mostly the same order, so the entity
     // asked for next is looked for there before it is searched.
     next: usize,
@@ -49,21 +50,21 @@ impl ToldCopies {
     }
 
     /// The copy that was told of the entity, if one was.
-    pub fn copy_of(&mut self, e: u32) -> Result<Option<GhostCopy>, AllocError>
+    pub fn copy_of(&mut self, e: u32) -> Result<Option<Shared<GhostCopy>>, AllocError>
         ensures same { self.new ≡ self.old }
         ensures copy { IfOk result (λ o. o ≡ told_of e self.old) }
     {
         let Some((place, told)) = self.told(e) else {
             return Ok(None);
         };
-        let copy = told.copy()?;
+        let copy = told.share()?;
         // A place of the map is below the greatest number, so that nothing wraps.
         self.next = place.wrapping_add(1);
         Ok(Some(copy))
     }
 
     // The copy that was told of the entity, if one was, and its place.
-    fn told(&self, e: u32) -> Option<(usize, &GhostCopy)>
+    fn told(&self, e: u32) -> Option<(usize, &Shared<GhostCopy>)>
         ensures { option_map (λ p. p.1.now) result ≡ told_of e self.now }
     {
         if let Some((entity, copy)) = self.copies.get_index(self.next) {
@@ -78,12 +79,12 @@ impl ToldCopies {
     }
 
     /// Keeps the copy that is told of the entity.
-    pub fn keep(&mut self, e: u32, copy: &GhostCopy) -> Result<(), AllocError>
+    pub fn keep(&mut self, e: u32, copy: &Shared<GhostCopy>) -> Result<(), AllocError>
         ensures kept { OnOk result (told_of e self.new ≡ Some copy.now) }
         ensures told { (own : ℕ) (known : ℕ → Option AnyCopy) → e ≢ own → known e ≡ Some copy.now → AreToldBut own known self.old →
             AreStillTold own known self.old self.new }
     {
-        let kept = copy.copy()?;
+        let kept = copy.share()?;
         match self.copies.insert(e, kept) {
             Ok(_) => {}
             Err(_) => return Err(AllocError),

@@ -35,8 +35,8 @@ fn of_update(update: &Update) -> Told {
     let n = update.number;
     match &update.shown {
         Shown::Own(version, _) => Told::Own(n, *version),
-        Shown::Enter(e, copy) => Told::Enter(n, *e, copy.version),
-        Shown::Set(e, copy) => Told::Change(n, *e, copy.version),
+        Shown::Enter(e, copy) => Told::Enter(n, *e, copy.get().version),
+        Shown::Set(e, copy) => Told::Change(n, *e, copy.get().version),
         Shown::Leave(e) => Told::Leave(n, *e),
     }
 }

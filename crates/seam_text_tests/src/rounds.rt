@@ -2,6 +2,7 @@ use seam_call::{Call, ClientText, GhostCopy, Line, Sender, Shown};
 use seam_defs::{Deed, Defs, Group, Listed, Part, State};
 use seam_geo::Pos;
 use seam_machine::Event;
+use seam_memory::Shared;
 use seam_report::{DoneLine, push_done, push_journal, push_number_line, push_refusal, write_round};
 use seam_round::{BaseLine, ClientLine, GhostLine, HomeLine, Round};
 use seam_transcript::Cause;
@@ -89,23 +90,28 @@ fn avatar(defs: &Defs, values: Group) -> Result<State, AllocError> {
     })
 }
 
-fn copy_of_avatar(defs: &Defs, version: u64) -> Result<GhostCopy, AllocError> {
-    Ok(GhostCopy {
+fn copy_of_avatar(
+    alloc: Global,
+    defs: &Defs,
+    version: u64,
+) -> Result<Shared<GhostCopy>, AllocError> {
+    let copy = GhostCopy {
         ty: 0,
         version,
         state: avatar(defs, Group::Other)?,
-    })
+    };
+    Shared::new(alloc, copy)
 }
 
 // What the client of entity 3 is shown.
 fn shown_to_three(alloc: Global, defs: &Defs) -> Result<Vec<ClientLine>, AllocError> {
     let base = defs.type_at(0).start_props(Group::BaseClient)?;
-    let own = avatar(defs, Group::Own)?;
+    let own = Shared::new(alloc, avatar(defs, Group::Own)?)?;
     let mut texts = Vec::new(alloc);
     texts.push(ClientText::Base(0, base))?;
     texts.push(ClientText::Shown(Shown::Own(1, own)))?;
-    texts.push(ClientText::Shown(Shown::Enter(4, copy_of_avatar(defs, 0)?)))?;
-    texts.push(ClientText::Shown(Shown::Set(4, copy_of_avatar(defs, 2)?)))?;
+    texts.push(ClientText::Shown(Shown::Enter(4, copy_of_avatar(alloc, defs, 0)?)))?;
+    texts.push(ClientText::Shown(Shown::Set(4, copy_of_avatar(alloc, defs, 2)?)))?;
     texts.push(ClientText::Shown(Shown::Leave(4)))?;
     let mut lines = Vec::new(alloc);
     for text in texts {

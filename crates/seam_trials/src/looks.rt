@@ -20,9 +20,13 @@ enum Told {
 fn what_it_tells(line: &Line) -> Told {
     match &line.text {
         ClientText::Base(version, _) => Told::Base(*version),
-        ClientText::Shown(Shown::Own(version, state)) => Told::Own(*version, state.pos),
-        ClientText::Shown(Shown::Enter(e, copy)) => Told::Enter(*e, copy.version, copy.state.pos),
-        ClientText::Shown(Shown::Set(e, copy)) => Told::Set(*e, copy.version, copy.state.pos),
+        ClientText::Shown(Shown::Own(version, state)) => Told::Own(*version, state.get().pos),
+        ClientText::Shown(Shown::Enter(e, copy)) => {
+            Told::Enter(*e, copy.get().version, copy.get().state.pos)
+        },
+        ClientText::Shown(Shown::Set(e, copy)) => {
+            Told::Set(*e, copy.get().version, copy.get().state.pos)
+        },
         ClientText::Shown(Shown::Leave(e)) => Told::Leave(*e),
     }
 }

@@ -15,5 +15,5 @@ returns c =
     let r = c.args.real.now.core in
     let own = Own r.version (own_of (properties h r.ty) r.state) in
     on_ok_weaker c.push.result (λ is. is ∙ ap (with_shown c.args.shown.now)
-    ((λ i. Own (c.version-2.ensures i) (c.in_ok-state.ensures h.me h.settings i) ∷ [])
+    ((λ i. Own (c.version-2.ensures i) ((c.in_ok-state-2.ensures ∙ c.in_ok-state.ensures h.me h.settings) i) ∷ [])
     ∙ ap (λ b. own_when b own) (c.if-not-is_own_due.ensures ∙ ap (own_due c.args.witness.now.told) c.version.ensures))) c.push.ensures

@@ -1,4 +1,4 @@
-use Rattle.std.proofs.Common.{sym, subst, ◌∙◌}
+use Rattle.std.proofs.Common.{Some, sym, ap, subst, ◌∙◌}
 use Rattle.seam_steps.specs.Cells.{CellView}
 use Rattle.seam_parts.specs.Kept.{here_in}
 use Rattle.seam_sight.specs.Looking.{seeing}
@@ -26,7 +26,7 @@ returns-in_default-2-clause-copy c = λ k.
 pub returns-clause-copy : goal.returns-clause-copy
 returns-clause-copy c = λ k.
     let d : CellView = seeing k (here_in c.args.self.now.known.now) c.args.self.now.reals.now.items c.args.self.now.copies.now.ghosts in
-    sym c.in-Some-2.is ∙ (c.in_ok-copy-2.ensures ∙ sym (known_here d c.args.self.now.own c.args.e c.if-e-self.false))
+    ap Some c.in_ok-copy-3.ensures ∙ (sym c.in-Some-2.is ∙ (c.in_ok-copy-2.ensures ∙ sym (known_here d c.args.self.now.own c.args.e c.if-e-self.false)))
 
 pub returns-clause-told : goal.returns-clause-told
 returns-clause-told c =
@@ -34,7 +34,7 @@ returns-clause-told c =
     let known = known_with (here_in c.args.self.now.known.now) c.args.self.now.reals.now.items c.args.self.now.copies.now.ghosts in
     let same = c.copy_of.ensures.same in
     still_told own known c.args.told.now c.copy_of.new.self c.keep.new.self same
-    (c.keep.ensures.told own known c.if-e-self.false (sym c.in_ok-copy-2.ensures ∙ c.in-Some-2.is)
+    (c.keep.ensures.told own known c.if-e-self.false (sym c.in_ok-copy-2.ensures ∙ (c.in-Some-2.is ∙ ap Some (sym c.in_ok-copy-3.ensures)))
     (subst (AreToldBut own known) (sym same) c.requires.told))
 
 pub returns-in_err-keep-clause-told : goal.returns-in_err-keep-clause-told
@@ -43,5 +43,5 @@ returns-in_err-keep-clause-told c =
     let known = known_with (here_in c.args.self.now.known.now) c.args.self.now.reals.now.items c.args.self.now.copies.now.ghosts in
     let same = c.copy_of.ensures.same in
     still_told own known c.args.told.now c.copy_of.new.self c.keep.new.self same
-    (c.keep.ensures.told own known c.if-e-self.false (sym c.in_ok-copy-2.ensures ∙ c.in-Some-2.is)
+    (c.keep.ensures.told own known c.if-e-self.false (sym c.in_ok-copy-2.ensures ∙ (c.in-Some-2.is ∙ ap Some (sym c.in_ok-copy-3.ensures)))
     (subst (AreToldBut own known) (sym same) c.requires.told))
