@@ -1,6 +1,6 @@
 -- The place of an entity among what is known, in rising number.
 use Rattle.std.proofs.Common.{◌≡◌, ◌≢◌, ℕ, zero, suc, ◌<◌, ◌≤◌, true, false, eqb, List, [], ◌∷◌, length, map, None, Some, get_or, refl}
-use Rattle.std.proofs.Common.{arith}
+use Rattle.std.proofs.Common.{Bool, ◌∙◌, ap, sym, cond, unwrap_or, arith}
 use Rattle.std.specs.Ordering.{nat_cmp}
 use Rattle.std.specs.List.{AllWithin, AllByRecursion}
 use Rattle.std.specs.List.Sorted.{IsNonDecreasingBy, IsStrictlySortedBy}
@@ -10,6 +10,7 @@ use Rattle.std.proofs.lemmas.Bool.Decides.{nat_tests}
 use Rattle.seam_view.specs.declared.Seen.{Seen}
 use Rattle.seam_view.specs.Replica.{seen_of}
 use Rattle.seam_view.proofs.ByNumber.{rising_at}
+use Rattle.seam_view.proofs.Numbers.{number_is}
 
 abbrev pub entities : List Seen → List ℕ
 entities known = map (λ s. s.entity) known
@@ -72,3 +73,13 @@ seen_at e (s ∷ xs) (suc at) d o lt q =
     let first = at_above s.entity xs at d (sorted_head nat_cmp s.entity (entities xs) o) (omega (arith, lt)) in
     rw (differs s.entity e (λ same. omega (arith, same, q, first)))
     (seen_at e xs at d (sorted_tail nat_cmp s.entity (entities xs) o) (omega (arith, lt)) q)
+
+known_by : (e : ℕ) (x s : Seen) (xs : List Seen) (b : Bool) → eqb x.entity e ≡ b → (seen_of e xs ≡ Some s → s.entity ≡ e) →
+    cond b (Some x) (seen_of e xs) ≡ Some s → s.entity ≡ e
+known_by e x s xs true t rest h = ap (λ o. (unwrap_or o x).entity) (sym h) ∙ number_is x.entity e t
+known_by e x s xs false t rest h = rest h
+
+-- what is known of an entity is of that entity
+pub known_of : (e : ℕ) (xs : List Seen) (s : Seen) → seen_of e xs ≡ Some s → s.entity ≡ e
+known_of e [] s h = cc
+known_of e (x ∷ xs) s h = known_by e x s xs (eqb x.entity e) refl (known_of e xs s) h

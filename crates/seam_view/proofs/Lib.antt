@@ -13,3 +13,5 @@ pub mod Room
 pub mod ByNumber
 pub mod Sent
 pub mod Closed
+pub mod Passing
+pub mod Run

@@ -28,7 +28,7 @@ and_more : (a b c : Bool) → (b ≡ true → c ≡ true) → (a && b) ≡ true 
 and_more true b c w h = w h
 and_more false b c w h = cc
 
-sets_when_more : (t u : ℕ → Bool) → ((q : ℕ) → t q ≡ true → u q ≡ true) → (looks : List Look) → SetsAreIn t looks → SetsAreIn u looks
+pub sets_when_more : (t u : ℕ → Bool) → ((q : ℕ) → t q ≡ true → u q ≡ true) → (looks : List Look) → SetsAreIn t looks → SetsAreIn u looks
 sets_when_more t u w [] h = tt
 sets_when_more t u w (Leave e ∷ looks) h =
     sets_when_more (λ q. not (eqb e q) && t q) (λ q. not (eqb e q) && u q) (λ q. and_more (not (eqb e q)) (t q) (u q) (w q)) looks h
@@ -127,7 +127,7 @@ in_placed_by e v q false p es rest h = past (eqb q p.0) h
     past true is_in = refl
     past false is_in = rest is_in
 
-in_placed : (e v q : ℕ) (es : List (ℕ × ℕ)) → In es q ≡ true → In (placed e v es) q ≡ true
+pub in_placed : (e v q : ℕ) (es : List (ℕ × ℕ)) → In es q ≡ true → In (placed e v es) q ≡ true
 in_placed e v q [] h = cc
 in_placed e v q (p ∷ es) h = in_placed_by e v q (eqb e p.0) p es (in_placed e v q es) h
 

@@ -4,3 +4,5 @@ pub mod Plain
 pub mod Notes
 pub mod Together
 pub mod ByNumber
+pub mod Passing
+pub mod Run

@@ -434,19 +434,52 @@ impl View {
         self.view.take_out(&mut self.left, looks)
     }
 
+    // Keeps the first of the looks, so many. The looks past these remain.
+    fn keep_first<'a>(&mut self, known: &[Seen], looks: &'a [Look], many: usize) -> &'a [Look]
+        requires rising { IsStrictlySortedBy nat_cmp (map (λ s. s.entity) known.now) }
+        requires many { many ≤ length looks.now }
+        requires room { HasRoom self.old looks.now }
+        ensures rest { result.now ≡ drop many looks.now }
+        ensures same_after { after_looks known.now self.new.core result.now ≡ after_looks known.now self.old.core looks.now }
+        ensures room { HasRoom self.new result.now }
+    {
+        let mut from = 0;
+        let mut next = 0;
+        for i in 0..many {
+            self.keep_look(known, &looks[i], &mut from, &mut next);
+        }
+        &looks[many..]
+    }
+
+    // Lets those enter whose enters come first among the looks, in rising number as `plan` gives them, in one pass where many enter: one by
+    // one, each would move all that are after it by number. The looks past these remain.
+    fn enter_together<'a>(&mut self, known: &[Seen], looks: &'a [Look]) -> &'a [Look]
+        requires rising { IsStrictlySortedBy nat_cmp (map (λ s. s.entity) known.now) }
+        requires room { HasRoom self.old looks.now }
+        ensures same_after { after_looks known.now self.new.core result.now ≡ after_looks known.now self.old.core looks.now }
+        ensures room { HasRoom self.new result.now }
+    {
+        self.view.show_rising(&mut self.left, known, looks)
+    }
+
     /// Keeps the looks that `plan` gave for what is known: they have been shown from now on. It takes no memory.
     pub fn keep(&mut self, known: &[Seen], looks: &[Look])
         requires rising { IsStrictlySortedBy nat_cmp (map (λ s. s.entity) known.now) }
         requires room { HasRoom self.old looks.now }
         ensures { self.new.core ≡ after_looks known.now self.old.core looks.now }
     {
-        let rest = self.leave_together(looks);
-        let mut from = 0;
-        let mut next = 0;
-        for look in rest {
-            self.keep_look(known, look, &mut from, &mut next);
-        }
+        let past_leaves = self.leave_together(looks);
+        let past_sets = self.keep_first(known, past_leaves, many_before_enters(past_leaves));
+        let past_enters = self.enter_together(known, past_sets);
+        let _ = self.keep_first(known, past_enters, past_enters.len());
     }
+}
+
+// How many looks come before the enters, which come last as `plan` gives them.
+fn many_before_enters(looks: &[Look]) -> usize
+    ensures { result ≤ length looks.now }
+{
+    looks.partition_point(|look| !matches!(look, Look::Enter(_)))
 }
 
 // The pairs as a map, in this order.

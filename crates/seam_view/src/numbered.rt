@@ -1,27 +1,40 @@
 //! Entities in enter order, each with the version last shown, that are found by their numbers.
 #![tactic(auto)]
 
-ghost use Rattle.std.specs.Prelude.{◌≡◌, ◌≤◌, ◌<◌, ◌+◌, ◌∷◌, ℕ, [], map, drop, length, slice_get, slice_index, nat_eq};
-ghost use Rattle.std.specs.Prelude.{IfOk, IfErr, OnOk, IfSome, IfNone, Some, ◌≢◌, is_some, true, false, not, if◌then◌else◌, ◌^◌, slice_index_or};
+ghost use Rattle.std.specs.Prelude.{◌≡◌, ◌≤◌, ◌<◌, ◌+◌, ◌-◌, ◌∷◌, ℕ, [], map, drop, length, slice_get, slice_index, nat_eq};
+ghost use Rattle.std.specs.Prelude.{IfOk, IfErr, OnOk, IfSome, IfNone, None, Some, ◌≢◌, is_some, true, false, not};
+ghost use Rattle.std.specs.Prelude.{if◌then◌else◌, ◌^◌, slice_index_or};
 ghost use Rattle.std.specs.Bool.{OnTrue, OnFalse};
 ghost use Rattle.std.specs.List.{AllWithin, IsDistinct, filter, insert, list_any};
 ghost use Rattle.std.specs.Map.{keys_of, lookup};
 ghost use Rattle.std.specs.Vec.{vec_len, vec_capacity};
 ghost use Rattle.indexmap.specs.IndexMap.{spare};
-ghost use Rattle.seam_view.specs.Replica.{placed, leaves_in};
-ghost use Rattle.seam_view.specs.Together.{leaves_next, looks_past_all, left_past_all, kept_past_all};
+ghost use Rattle.std.specs.Ordering.{nat_cmp};
+ghost use Rattle.std.specs.List.Sorted.{IsStrictlySortedBy};
+ghost use Rattle.seam_view.specs.declared.Look.TheVariants.{Enter};
+ghost use Rattle.seam_view.specs.Replica.{placed, enters_in, leaves_in, seen_of};
+ghost use Rattle.seam_view.specs.Together.{leaves_next, looks_past_all, left_past_all, kept_past_all, AreApart};
+ghost use Rattle.seam_view.specs.Run.{IsShown, AreKept};
 ghost use Rattle.seam_view.specs.ByNumber.{IsByNumber, GoInOrder, entries_of, number_at, stays, nowhere};
+ghost use Rattle.seam_view.specs.Passing.{places_of, to_come, HasPlaces};
 
-use super::Look;
+use super::{Look, Seen, find_seen};
 use indexmap::IndexMap;
 use std::alloc::{AllocError, Global};
 use std::marker::Model;
+use std::mem::replace;
 
 // How many by number are tried before all are searched.
 const TRIED: usize = 8;
 
 // Stands for the place of one that leaves.
 const NOWHERE: u32 = u32::MAX;
+
+// Where at least so many enter among as many, they are merged into the order by number.
+const MANY: usize = 8;
+
+// An insert moves so many places in the time in which a merge moves one.
+const MOVED: usize = 32;
 
 #[derive(Clone, Copy)]
 pub struct Slot {
@@ -39,6 +52,8 @@ pub struct Entered {
     slots: Vec<Slot>,
     // The places of the slots, in rising entity number.
     by_number: Vec<u32>,
+    // Room in which these places are merged with those of many that enter. It is given back once they have entered.
+    merged: Vec<u32>,
 }
 
 impl Model for Entered {
@@ -68,6 +83,7 @@ impl Entered {
         Entered {
             slots: Vec::new(alloc),
             by_number: Vec::new(alloc),
+            merged: Vec::new(alloc),
         }
     }
 
@@ -129,7 +145,12 @@ impl Entered {
             return Err(AllocError);
         }
         self.slots.reserve(more)?;
-        self.by_number.reserve(more)
+        self.by_number.reserve(more)?;
+        let held = self.by_number.len();
+        if more.min(held) >= MANY && more >= held / MOVED {
+            self.merged.reserve(self.by_number.capacity())?;
+        }
+        Ok(())
     }
 
     // Shows the entity at this version. One that was not in view comes last. By number, it is looked for from `next` on.
@@ -172,6 +193,183 @@ impl Entered {
         close_up(&mut self.slots, &mut self.by_number);
         rest
     }
+
+    // Shows those that enter by the first of the looks, as long as they are known and not in view and their numbers rise, where `reserve`
+    // made room for a merge. They are no longer among those that left. The looks past these remain.
+    pub fn show_rising<'a>(
+        &mut self,
+        left: &mut IndexMap<u32, u64>,
+        known: &[Seen],
+        looks: &'a [Look],
+    ) -> &'a [Look]
+        requires rising { IsStrictlySortedBy nat_cmp (map (λ s. s.entity) known.now) }
+        requires apart { AreApart self.old.entries left.old.entries }
+        requires room { enters_in looks.now ≤ self.old.room }
+        ensures kept { AreKept known.now self.old.entries left.old.entries looks.now self.new.entries left.new.entries result.now }
+        ensures room { enters_in result.now ≤ self.new.room }
+        ensures room_left { spare left.old ≤ spare left.new }
+    {
+        if self.merged.capacity() < self.by_number.capacity() {
+            return looks;
+        }
+        let alloc = *self.by_number.allocator();
+        let mut passed = replace(&mut self.merged, Vec::new(alloc));
+        passed.clear();
+        let all = replace(&mut self.by_number, Vec::new(alloc));
+        let mut passing = Passing {
+            passed,
+            all,
+            next: 0,
+        };
+        let rest = show_first(&mut self.slots, &mut passing, left, known, looks);
+        self.by_number = passing.finish();
+        rest
+    }
+}
+
+// The places by number while many enter in rising number: those passed, and those to come, which are the ones of `all` from `next` on.
+#[derive(Drop)]
+struct Passing {
+    passed: Vec<u32>,
+    all: Vec<u32>,
+    next: usize,
+}
+
+impl Passing {
+    // Passes those with numbers below e. Whether the next one has another number.
+    fn pass_below(&mut self, slots: &[Slot], e: u32) -> bool
+        requires within { self.old.next ≤ length self.old.all.items }
+        requires room { vec_len self.old.passed + length (to_come self.old) ≤ vec_capacity self.old.passed }
+        ensures within { self.new.next ≤ length self.new.all.items }
+        ensures same { places_of self.new ≡ places_of self.old }
+        ensures below { AllWithin (λ i. number_at slots.now i < e) (places_of self.old) 0 (length self.old.passed.items) →
+            AllWithin (λ i. number_at slots.now i < e) (places_of self.new) 0 (length self.new.passed.items) }
+        ensures above { result ≡ true → self.new.next < length self.new.all.items →
+            e < number_at slots.now (slice_index self.new.all.items self.new.next) }
+        ensures len { vec_len self.new.passed + length (to_come self.new) ≡ vec_len self.old.passed + length (to_come self.old) }
+        ensures capacity { vec_capacity self.new.passed ≡ vec_capacity self.old.passed }
+    {
+        for i in self.next..self.all.len() {
+            let place = self.all[i];
+            let entity = entity_at(slots, place);
+            if entity >= e {
+                return entity > e;
+            }
+            self.passed.push_reserved(place);
+            self.next = i + 1;
+        }
+        true
+    }
+
+    // All, once those to come are passed.
+    fn finish(self) -> Vec<u32>
+        requires within { self.next ≤ length self.all.items }
+        requires room { vec_len self.passed + length (to_come self) ≤ vec_capacity self.passed }
+        ensures items { result.items ≡ places_of self }
+        ensures len { vec_len result ≡ vec_len self.passed + length (to_come self) }
+        ensures capacity { vec_capacity self.passed ≤ vec_capacity result }
+    {
+        let mut passed = self.passed;
+        let Ok(_) = passed.extend_from_slice(&self.all[self.next..]) else {
+            unreachable!()
+        };
+        passed
+    }
+}
+
+// What is known of the entity that enters by the look.
+fn entering<'a>(known: &'a [Seen], look: &Look, from: &mut usize) -> Option<&'a Seen>
+    requires { IsStrictlySortedBy nat_cmp (map (λ s. s.entity) known.now) }
+    ensures { IfSome result (λ s. (look.now ≡ Enter s.now.entity) × (seen_of s.now.entity known.now ≡ Some s.now)) }
+{
+    match look {
+        Look::Enter(e) => find_seen(known, *e, from),
+        _ => None,
+    }
+}
+
+// Shows one that is known, where it is not in view and comes by number after those passed. It is no longer among those that left.
+fn show_next(
+    slots: &mut Vec<Slot>,
+    passing: &mut Passing,
+    left: &mut IndexMap<u32, u64>,
+    seen: &Seen,
+) -> bool
+    requires by_number { IsByNumber (keys_of (entries_of slots.old.items)) (places_of passing.old) }
+    requires within { passing.old.next ≤ length passing.old.all.items }
+    requires few { vec_len slots.old < 0xffff_ffff }
+    requires room { (vec_len slots.old < vec_capacity slots.old)
+        × (vec_len passing.old.passed + length (to_come passing.old) < vec_capacity passing.old.passed) }
+    ensures by_number { IsByNumber (keys_of (entries_of slots.new.items)) (places_of passing.new) }
+    ensures within { passing.new.next ≤ length passing.new.all.items }
+    ensures shown { OnTrue result (IsShown seen.now.entity seen.now.version (entries_of slots.old.items) left.old.entries
+        (entries_of slots.new.items) left.new.entries) }
+    ensures same { OnFalse result ((slots.new ≡ slots.old) × (left.new ≡ left.old)) }
+    ensures len { (vec_len slots.new ≡ vec_len slots.old + (if result then 1 else 0))
+        × (vec_len passing.new.passed + length (to_come passing.new)
+        ≡ vec_len passing.old.passed + length (to_come passing.old) + (if result then 1 else 0)) }
+    ensures capacity { (vec_capacity slots.new ≡ vec_capacity slots.old)
+        × (vec_capacity passing.new.passed ≡ vec_capacity passing.old.passed) }
+    ensures room_left { spare left.old ≤ spare left.new }
+{
+    let e = seen.entity;
+    if !is_last_below(slots, &passing.passed, e) || !passing.pass_below(slots, e) {
+        return false;
+    }
+    let place = slots.len() as u32;
+    slots.push_reserved(Slot {
+        entity: e,
+        to: place,
+        version: seen.version,
+    });
+    passing.passed.push_reserved(place);
+    take_back(left, e);
+    true
+}
+
+// The entity is no longer among those that left. Mostly none has left, and then nothing is looked up.
+fn take_back(left: &mut IndexMap<u32, u64>, e: u32)
+    ensures gone { lookup (nat_eq e) left.new.entries ≡ None }
+    ensures others { (q : ℕ) → nat_eq e q ≡ false → lookup (nat_eq q) left.new.entries ≡ lookup (nat_eq q) left.old.entries }
+    ensures room { spare left.old ≤ spare left.new }
+{
+    if left.is_empty() {
+        return;
+    }
+    let _ = left.swap_remove(&e);
+}
+
+// Shows those that enter by the first of the looks, as long as they are known and not in view and their numbers rise. The looks past these
+// remain.
+fn show_first<'a>(
+    slots: &mut Vec<Slot>,
+    passing: &mut Passing,
+    left: &mut IndexMap<u32, u64>,
+    known: &[Seen],
+    looks: &'a [Look],
+) -> &'a [Look]
+    requires rising { IsStrictlySortedBy nat_cmp (map (λ s. s.entity) known.now) }
+    requires by_number { IsByNumber (keys_of (entries_of slots.old.items)) (places_of passing.old) }
+    requires within { passing.old.next ≤ length passing.old.all.items }
+    requires apart { AreApart (entries_of slots.old.items) left.old.entries }
+    requires room { HasPlaces (enters_in looks.now) (vec_len slots.old) (vec_capacity slots.old) passing.old }
+    ensures by_number { IsByNumber (keys_of (entries_of slots.new.items)) (places_of passing.new) }
+    ensures within { passing.new.next ≤ length passing.new.all.items }
+    ensures kept { AreKept known.now (entries_of slots.old.items) left.old.entries looks.now (entries_of slots.new.items) left.new.entries
+        result.now }
+    ensures room { HasPlaces (enters_in result.now) (vec_len slots.new) (vec_capacity slots.new) passing.new }
+    ensures room_left { spare left.old ≤ spare left.new }
+{
+    let mut from = 0;
+    for i in 0..looks.len() {
+        let Some(seen) = entering(known, &looks[i], &mut from) else {
+            return &looks[i..];
+        };
+        if !show_next(slots, passing, left, seen) {
+            return &looks[i..];
+        }
+    }
+    &looks[looks.len()..]
 }
 
 // The entity at the place.
@@ -189,11 +387,17 @@ fn are_all_below(slots: &[Slot], by_number: &[u32], e: u32) -> bool
     requires { IsByNumber (keys_of (entries_of slots.now)) by_number.now }
     ensures { result ≡ true → AllWithin (λ i. number_at slots.now i < e) by_number.now 0 (length by_number.now) }
 {
-    let len = by_number.len();
-    if len == 0 {
-        return true;
+    is_last_below(slots, by_number, e)
+}
+
+// Whether the last of the places, if there is one, has a number below e.
+fn is_last_below(slots: &[Slot], places: &[u32], e: u32) -> bool
+    ensures { result ≡ true → 0 < length places.now → number_at slots.now (slice_index places.now (length places.now - 1)) < e }
+{
+    match places.last() {
+        Some(place) => entity_at(slots, *place) < e,
+        None => true,
     }
-    entity_at(slots, by_number[len - 1]) < e
 }
 
 // How many have numbers below e, where the few from this one on tell it.
