@@ -1,6 +1,7 @@
 use Rattle.std.proofs.Common.{sym, subst, IsTrue, ◌↔◌}
 use Rattle.std.specs.Prelude.{IfOk}
 use Rattle.seam_call.specs.declared.shown.Shown.{Shown}
+use Rattle.seam_call.specs.declared.shown.Shown.TheVariants.{Enter, Set}
 use Rattle.seam_replica.specs.Lines.{ShowsTruth}
 use Rattle.seam_rules.specs.Clients.{truth_of}
 use Rattle.seam_round.specs.Standings.{standing_of}
@@ -10,10 +11,14 @@ pub returns-in-Enter : goal.returns-in-Enter
 returns-in-Enter c =
     subst (λ (x : Shown). IfOk c.is_other.result (λ r. IsTrue r ↔ ShowsTruth
     (truth_of c.args.case.now.header.now (standing_of c.args.case.now.before.now) (standing_of c.args.case.now.after.now) c.args.create) x))
-    (sym c.in-Enter.is) c.is_other.ensures
+    (sym c.in-Enter.is) (subst (λ k. IfOk c.is_other.result (λ r. IsTrue r ↔ ShowsTruth
+    (truth_of c.args.case.now.header.now (standing_of c.args.case.now.before.now) (standing_of c.args.case.now.after.now) c.args.create)
+    (Enter c.in-Enter.entity k))) c.get-in-Enter.ensures c.is_other.ensures)
 
 pub returns-in-Set : goal.returns-in-Set
 returns-in-Set c =
     subst (λ (x : Shown). IfOk c.is_other-in-Set.result (λ r. IsTrue r ↔ ShowsTruth
     (truth_of c.args.case.now.header.now (standing_of c.args.case.now.before.now) (standing_of c.args.case.now.after.now) c.args.create) x))
-    (sym c.in-Set.is) c.is_other-in-Set.ensures
+    (sym c.in-Set.is) (subst (λ k. IfOk c.is_other-in-Set.result (λ r. IsTrue r ↔ ShowsTruth
+    (truth_of c.args.case.now.header.now (standing_of c.args.case.now.before.now) (standing_of c.args.case.now.after.now) c.args.create)
+    (Set c.in-Set.entity k))) c.get-in-Set.ensures c.is_other-in-Set.ensures)

@@ -15,6 +15,7 @@ returns-then-not-is_in_view c =
     let away : in_view (client_of c.args.self.now).others c.args.row.now.entity ≡ false =
     sym (λ i. list_any (λ p. nat_eq (row i).entity p.0) (c.requires i)) ∙ sym c.is_in_view.ensures ∙ c.if-not-is_in_view.true in
     (λ i. nat_le (c.dist.ensures i) (sym radius i))
+    ∙ (λ i. nat_le (distance c.args.own (c.get.ensures i).state.pos) (client_of c.args.self.now).others.radius)
     ∙ (λ i. nat_le (distance c.args.own (row i).other.state.pos) (client_of c.args.self.now).others.radius)
     ∙ sym (ap (λ (b : Bool). not b && nat_le (distance c.args.own c.args.row.now.other.state.pos) (client_of c.args.self.now).others.radius)
     away)
