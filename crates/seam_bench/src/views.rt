@@ -58,7 +58,7 @@ pub fn within(rt: &(impl Clock + Alloc<A = Global>), count: u32, calls: u32) -> 
     let mut sum = 0u64;
     let start = Instant::now(rt)?;
     for _ in 0..calls {
-        let near = list.within(MIDDLE, 1_474)?;
+        let near = list.within(MIDDLE, 1_474, 0)?;
         sum = sum.wrapping_add(near.len() as u64);
     }
     Cost::since(rt, start, calls, sum)

@@ -60,6 +60,18 @@ impl<T> Out<T> {
         }
     }
 
+    /// An empty one, with the room of this one where this one is empty.
+    pub fn take_room(&mut self, alloc: Global) -> Self
+        ensures same { self.new.items ≡ self.old.items }
+        ensures empty { result.items ≡ [] }
+    {
+        let mut other = Out::new(alloc);
+        if self.items.is_empty() {
+            mem::swap(self, &mut other);
+        }
+        other
+    }
+
     /// Makes room for n more items.
     pub fn reserve(&mut self, n: usize) -> Result<(), AllocError>
         ensures items { self.new.items ≡ self.old.items }

@@ -4,6 +4,8 @@ mod Keeping
 mod Entries
 mod Gathering
 mod Routes
+mod Told
+mod Versions
 mod Idle
 mod Played
 mod Pieces

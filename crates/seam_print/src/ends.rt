@@ -1,7 +1,7 @@
 //! What a round leaves, and what clients were shown in it.
 
 ghost use Rattle.std.specs.Prelude.{◌≡◌, ◌++◌, ◌∷◌, [], if◌then◌else◌, map, OnOk, IfOk, Option};
-ghost use Rattle.std.specs.List.{flat_map};
+ghost use Rattle.std.specs.List.{flat_map, All};
 ghost use Rattle.std.specs.FinSet as set;
 ghost use Rattle.seam_tree.specs.Division.{Division};
 ghost use Rattle.seam_entity.specs.Reals.{RealView};
@@ -12,22 +12,26 @@ ghost use Rattle.seam_rules.specs.Texts.{ghost_text, bounds_text};
 ghost use Rattle.seam_entity.specs.Here.{cell_numbers};
 ghost use Rattle.seam_played.specs.Playing.{IsPlayed, data_of};
 ghost use Rattle.seam_print.specs.Residents.{ArePresent};
-ghost use Rattle.seam_print.specs.Finding.{RoutesLeadHome, ghost_line, haunt_line, positions_found};
+ghost use Rattle.seam_print.specs.Finding.{RoutesLeadHome, ghost_line, haunt_line, lines_found, positions_found};
 ghost use Rattle.seam_print.specs.Farewells.{AreFarewells};
 ghost use Rattle.seam_print.specs.Printing.{IsOpenRound};
-ghost use Rattle.seam_print.specs.Texts.{ends_text, home_of, base_of, ghosts_of, shown_of};
+ghost use Rattle.seam_report.specs.Spelled.{Versions, GoesBy};
+ghost use Rattle.seam_print.specs.Texts.{ends_text, home_of, base_of, ghosts_of, lines_text, shown_so_far, shown_of};
+ghost use Rattle.seam_print.specs.Told.{ShowOf, told_by};
 
-use crate::farewells::{Farewells, push_lines};
+use crate::farewells::Farewells;
 use crate::finding::{home, near_after, part};
 use crate::laws::what_is_found_is_printed;
 use crate::residents::{Resident, Residents};
 use crate::round::PrintedRound;
+use seam_call::{Create, Line};
 use seam_core::World;
 use seam_defs::Defs;
 use seam_entity::Real;
 use seam_geo::Pos;
 use seam_report::{
-    BaseLine, HomeLine, Spellings, push_base, push_bounds, push_ghost, push_home, push_number_line,
+    BaseLine, HomeLine, Spellings, push_base, push_bounds, push_client, push_ghost, push_home,
+    push_number_line,
 };
 use seam_tree::{CellSet, MOST_CELLS, Tree};
 use std::alloc::{AllocError, Global};
@@ -204,6 +208,42 @@ fn push_bases(
 
 // ---- clients
 
+// Appends the lines that an entity's client was shown in the round so far.
+fn push_lines<'a>(
+    out: &mut Vec<u8>,
+    spellings: &mut Spellings<'a>,
+    made: &Create,
+    world: &'a World,
+) -> Result<(), AllocError>
+    ensures lines { (vs : Versions) → GoesBy vs spellings.old → ShowOf vs (lines_found world.now made.now.entity) →
+        OnOk result (out.new.items ≡ out.old.items ++ shown_so_far spellings.old.defs world.now made.now) }
+    ensures kept { (vs : Versions) → GoesBy vs spellings.old → ShowOf vs (lines_found world.now made.now.entity) →
+        OnOk result (GoesBy vs spellings.new) }
+    ensures defs { spellings.new.defs ≡ spellings.old.defs }
+{
+    match part(world, made.entity) {
+        Some(part) => push_each(out, spellings, made, part.lines()),
+        None => Ok(()),
+    }
+}
+
+fn push_each<'a>(
+    out: &mut Vec<u8>,
+    spellings: &mut Spellings<'a>,
+    made: &Create,
+    lines: &'a [Line],
+) -> Result<(), AllocError>
+    ensures lines { (vs : Versions) → GoesBy vs spellings.old → ShowOf vs lines.now →
+        OnOk result (out.new.items ≡ out.old.items ++ lines_text spellings.old.defs made.now lines.now) }
+    ensures kept { (vs : Versions) → GoesBy vs spellings.old → ShowOf vs lines.now → OnOk result (GoesBy vs spellings.new) }
+    ensures defs { spellings.new.defs ≡ spellings.old.defs }
+{
+    for line in lines {
+        push_client(out, spellings, made.entity, made.ty, line)?;
+    }
+    Ok(())
+}
+
 fn push_client_of<'a>(
     out: &mut Vec<u8>,
     spellings: &mut Spellings<'a>,
@@ -211,8 +251,12 @@ fn push_client_of<'a>(
     kept: &Farewells,
     world: &'a World,
 ) -> Result<(), AllocError>
-    ensures shown { OnOk result (out.new.items ≡ out.old.items ++ shown_of spellings.old kept.now world.now resident.now) }
-    ensures same { spellings.new ≡ spellings.old }
+    ensures shown { (vs : Versions) → GoesBy vs spellings.old →
+        ShowOf vs (told_by kept.now world.now resident.now) →
+        OnOk result (out.new.items ≡ out.old.items ++ shown_of spellings.old.defs kept.now world.now resident.now) }
+    ensures kept { (vs : Versions) → GoesBy vs spellings.old →
+        ShowOf vs (told_by kept.now world.now resident.now) → OnOk result (GoesBy vs spellings.new) }
+    ensures defs { spellings.new.defs ≡ spellings.old.defs }
 {
     if !resident.client {
         return Ok(());
@@ -230,8 +274,8 @@ fn push_clients(
     kept: &Farewells,
     world: &World,
 ) -> Result<(), AllocError>
-    ensures { OnOk result (out.new.items
-        ≡ out.old.items ++ flat_map (λ e. shown_of defs.now kept.now world.now e.1) residents.now.entries) }
+    ensures { (vs : Versions) → All (λ e. ShowOf vs (told_by kept.now world.now e.1)) residents.now.entries →
+        OnOk result (out.new.items ≡ out.old.items ++ flat_map (λ e. shown_of defs.now kept.now world.now e.1) residents.now.entries) }
 {
     let mut spellings = Spellings::new(*out.allocator(), defs);
     for (_, resident) in residents {

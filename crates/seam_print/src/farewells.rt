@@ -10,7 +10,7 @@ ghost use Rattle.seam_accept.specs.Batches.{destroyed};
 ghost use Rattle.seam_print.specs.Residents.{ArePresent};
 ghost use Rattle.seam_print.specs.Finding.{lines_found};
 ghost use Rattle.seam_print.specs.Farewells.{AreFarewells, farewell_of};
-ghost use Rattle.seam_print.specs.Texts.{shown_so_far, lines_text};
+ghost use Rattle.seam_print.specs.Texts.{lines_text};
 
 use crate::finding::part;
 use crate::residents::Resident;
@@ -18,7 +18,7 @@ use crate::round::PrintedRound;
 use seam_call::{Create, Line};
 use seam_core::World;
 use seam_defs::{Defs, Listed};
-use seam_report::{Spellings, push_client};
+use seam_report::push_line;
 use seam_table::Table;
 use std::alloc::{AllocError, Global};
 use std::collections::BTreeMap;
@@ -96,8 +96,9 @@ fn farewell_to(
         return Ok(None);
     }
     let mut text = Vec::new(alloc);
-    let mut spellings = Spellings::new(alloc, defs);
-    push_lines(&mut text, &mut spellings, &resident.made, called)?;
+    if let Some(part) = part(called, resident.made.entity) {
+        push_all(&mut text, defs, &resident.made, part.lines())?;
+    }
     Ok(Some(Farewell {
         text: Listed::of(text),
         lines: count_lines(resident.made.entity, called),
@@ -123,33 +124,11 @@ pub(crate) fn count_lines(e: u32, world: &World) -> u64
     }
 }
 
-/// Appends the lines that an entity's client was shown in the round so far.
-pub(crate) fn push_lines<'a>(
-    out: &mut Vec<u8>,
-    spellings: &mut Spellings<'a>,
-    made: &Create,
-    world: &'a World,
-) -> Result<(), AllocError>
-    ensures lines { OnOk result (out.new.items ≡ out.old.items ++ shown_so_far spellings.old world.now made.now) }
-    ensures same { spellings.new ≡ spellings.old }
-{
-    match part(world, made.entity) {
-        Some(part) => push_all(out, spellings, made, part.lines()),
-        None => Ok(()),
-    }
-}
-
-fn push_all<'a>(
-    out: &mut Vec<u8>,
-    spellings: &mut Spellings<'a>,
-    made: &Create,
-    lines: &'a [Line],
-) -> Result<(), AllocError>
-    ensures lines { OnOk result (out.new.items ≡ out.old.items ++ lines_text spellings.old made.now lines.now) }
-    ensures same { spellings.new ≡ spellings.old }
+fn push_all(out: &mut Vec<u8>, defs: &Defs, made: &Create, lines: &[Line]) -> Result<(), AllocError>
+    ensures { OnOk result (out.new.items ≡ out.old.items ++ lines_text defs.now made.now lines.now) }
 {
     for line in lines {
-        push_client(out, spellings, made.entity, made.ty, line)?;
+        push_line(out, defs, made.entity, made.ty, line)?;
     }
     Ok(())
 }

@@ -1,7 +1,7 @@
 //! What is written of residents is what a round prints; and who lives stays as lines come.
 
 ghost use Rattle.std.specs.Prelude.{◌≡◌, ◌++◌, ℕ, List, map, length, codes, Option};
-ghost use Rattle.std.specs.List.{flat_map, sum_by};
+ghost use Rattle.std.specs.List.{All, flat_map, sum_by};
 ghost use Rattle.seam_tree.specs.Division.{Division};
 ghost use Rattle.seam_defs.specs.declared.flags.Part.TheVariants as part;
 ghost use Rattle.seam_defs.specs.declared.types.TypeDef.{TypeDef};
@@ -21,6 +21,8 @@ ghost use Rattle.seam_print.specs.Worlds.{AreAtRest};
 ghost use Rattle.seam_print.specs.Finding.{done_found, homes_found, bases_found, ghosts_found, RoutesLeadHome};
 ghost use Rattle.seam_print.specs.Farewells.{AreFarewells};
 ghost use Rattle.seam_print.specs.Sums.{shown_count};
+ghost use Rattle.seam_report.specs.Spelled.{Versions};
+ghost use Rattle.seam_print.specs.Told.{ShowOf, told_by};
 ghost use Rattle.seam_print.specs.Texts.{calls_text, ends_text, done_of_type, shown_of};
 ghost use Rattle.seam_print.specs.declared.farewells.Farewell.{Farewell as AnyFarewell};
 ghost use Rattle.seam_print.specs.declared.residents.Resident.{Resident as AnyResident};
@@ -57,9 +59,10 @@ fn a_round_is_read_at_rest()
     seam_legal::each_part_executed_what_was_accepted();
 }
 
-/// What is found of those who are there in a played round is what the round prints: where its calls have ended, the calls (`done`), and
-/// where it has ended, the homes (`homes`), the base parts (`bases`) and the ghosts (`ghosts`), and the lines of clients, with what was kept
-/// of those whose entities died (`shown`), and how many these are (`count`). In both worlds each real is where the route of its base node leads (`routes`).
+/// What is found of those who are there in a played round is what the round prints: where its calls have ended, the calls (`did`, `dob`),
+/// and where it has ended, the homes (`homes`), the base parts (`bases`), the ghosts (`ghosts`) and the lines of clients, with what was kept
+/// of those whose entities died (`shown`), and how many these are (`count`). The lines show one copy of each entity and version
+/// (`versions`). In both worlds each real is where the route of its base node leads (`routes`).
 pub fn what_is_found_is_printed()
     ensures did { (h : Header) (s : Standing) (tree : Division) (w v : World) (p : IsPlayed h s tree w v) (bounds : Option Division)
         (rs : List AnyResident) → ArePresent s.book rs →
@@ -81,6 +84,9 @@ pub fn what_is_found_is_printed()
     ensures shown { (h : Header) (s : Standing) (tree : Division) (w v : World) (p : IsPlayed h s tree w v) (bounds : Option Division)
         (rs : List AnyResident) → ArePresent s.book rs → (kept : Map AnyFarewell) → AreFarewells h.defs s.book p.round.called kept →
         flat_map (shown_of h.defs kept v) rs ≡ flat_map (client_text h.defs) (data_of h s tree w v p bounds).shown }
+    ensures versions { (h : Header) (s : Standing) (tree : Division) (w v : World) (p : IsPlayed h s tree w v)
+        (rs : List AnyResident) → ArePresent s.book rs → (kept : Map AnyFarewell) → AreFarewells h.defs s.book p.round.called kept →
+        (vs : Versions) × All (λ r. ShowOf vs (told_by kept v r)) rs }
     ensures count { (h : Header) (s : Standing) (tree : Division) (w v : World) (p : IsPlayed h s tree w v) (bounds : Option Division)
         (rs : List AnyResident) → ArePresent s.book rs → (kept : Map AnyFarewell) → AreFarewells h.defs s.book p.round.called kept →
         sum_by (shown_count kept v) rs ≡ length (data_of h s tree w v p bounds).shown }
@@ -88,4 +94,6 @@ pub fn what_is_found_is_printed()
         RoutesLeadHome p.round.called × RoutesLeadHome v }
 {
     a_round_is_read_at_rest();
+    seam_played::client_lines_are_gathered();
+    seam_played::what_clients_are_shown_is_right();
 }

@@ -126,15 +126,17 @@ impl RangeList {
         }
     }
 
-    /// The entities at distance at most d from the position, in rising number, each with its place.
-    pub fn within(&self, p: Pos, d: u32) -> Result<Vec<(u32, Place)>, AllocError>
+    /// The entities at distance at most d from the position, in rising number, each with its place. How many are expected decides
+    /// only how they are looked for.
+    pub fn within(&self, p: Pos, d: u32, expected: usize) -> Result<Vec<(u32, Place)>, AllocError>
         ensures { IfOk result (λ v. v.items ≡ within self.now p d) }
     {
         let strips = strip_after(p, d) - strip_from(p, d);
-        if self.places.len() as u64 <= strips {
+        let many = self.places.len() / MANY;
+        if self.places.len() as u64 <= strips || expected > many {
             return self.near_by_entity(p, d);
         }
-        let Some(mut found) = self.near_by_strip(p, d, self.places.len() / MANY)? else {
+        let Some(mut found) = self.near_by_strip(p, d, many)? else {
             return self.near_by_entity(p, d);
         };
         found.sort_unstable_by_key(|(e, _)| *e);
@@ -148,7 +150,9 @@ impl RangeList {
         let mut found = Vec::with_capacity(self.alloc, self.places.len())?;
         for (e, place) in &self.places {
             if is_near(*place, p, d) {
-                found.push((*e, *place))?;
+                // Taken apart, a place goes through registers; as a whole it would be copied piece by piece through memory.
+                let Place { version, pos } = *place;
+                found.push((*e, Place { version, pos }))?;
             }
         }
         Ok(found)

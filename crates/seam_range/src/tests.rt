@@ -30,11 +30,11 @@ fn near_entities_in_rising_number(rt: HostRuntime) -> Result<(), Fail> {
     list.put(3, three)?;
     let corner = Pos { x: 0, z: 0 };
     assert_eq!(rt;
-        list.within(corner, 5)?.as_slice(),
+        list.within(corner, 5, 0)?.as_slice(),
         [(1, one), (2, two)].as_slice()
     );
     assert_eq!(rt;
-        list.within(corner, 5_000)?.as_slice(),
+        list.within(corner, 5_000, 0)?.as_slice(),
         [(1, one), (2, two), (3, three)].as_slice()
     );
     let moved = place(0, 9, 9);
@@ -43,16 +43,22 @@ fn near_entities_in_rising_number(rt: HostRuntime) -> Result<(), Fail> {
     list.put(3, newer)?;
     assert!(rt; list.remove(2));
     assert!(rt; !list.remove(2));
-    assert_eq!(rt; list.within(corner, 6)?.as_slice(), [(3, newer)].as_slice());
     assert_eq!(rt;
-        list.within(corner, 9)?.as_slice(),
+        list.within(corner, 6, 0)?.as_slice(),
+        [(3, newer)].as_slice()
+    );
+    assert_eq!(rt;
+        list.within(corner, 9, 0)?.as_slice(),
         [(1, moved), (3, newer)].as_slice()
     );
     let far = place(1, 600, 300);
     list.put(1, far)?;
-    assert_eq!(rt; list.within(corner, 9)?.as_slice(), [(3, newer)].as_slice());
     assert_eq!(rt;
-        list.within(Pos { x: 590, z: 310 }, 10)?.as_slice(),
+        list.within(corner, 9, 0)?.as_slice(),
+        [(3, newer)].as_slice()
+    );
+    assert_eq!(rt;
+        list.within(Pos { x: 590, z: 310 }, 10, 0)?.as_slice(),
         [(1, far)].as_slice()
     );
     Ok(())

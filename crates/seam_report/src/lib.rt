@@ -19,4 +19,4 @@ pub use lines::{
 pub use refusals::push_refusal;
 pub use round::{write_round, write_traced_round};
 pub use spellings::Spellings;
-pub use told::push_client;
+pub use told::{push_client, push_line};

@@ -10,8 +10,7 @@ use crate::journal::push_journal;
 use crate::lines::{
     BaseLine, DoneLine, HomeLine, push_base, push_done, push_ghost, push_home, push_number_line,
 };
-use crate::spellings::Spellings;
-use crate::told::push_client;
+use crate::told::push_line;
 use seam_defs::Defs;
 use seam_round::{ClientLine, GhostLine, Round};
 use seam_tree::Tree;
@@ -126,9 +125,8 @@ fn push_ghosts(out: &mut Vec<u8>, lines: &[GhostLine]) -> Result<(), AllocError>
 fn push_clients(out: &mut Vec<u8>, defs: &Defs, lines: &[ClientLine]) -> Result<(), AllocError>
     ensures { OnOk result (out.new.items ≡ out.old.items ++ flat_map (client_text defs.now) lines.now) }
 {
-    let mut spellings = Spellings::new(*out.allocator(), defs);
     for line in lines {
-        push_client(out, &mut spellings, line.entity, line.ty, &line.line)?;
+        push_line(out, defs, line.entity, line.ty, &line.line)?;
     }
     Ok(())
 }

@@ -215,7 +215,9 @@ impl Sight<'_> {
         witness: &Witness,
         looks: &[Look],
         told: &mut ToldCopies,
+        mut room: Out<Msg>,
     ) -> Result<Updates, AllocError>
+        requires empty { room.items ≡ [] }
         requires bases { 1 ≤ self.now.known.now.settings.bases }
         requires most { self.now.known.now.settings.bases ≤ MOST_BASE_NODES }
         requires small { witness.now.sent < 2 ^ 62 }
@@ -229,10 +231,10 @@ impl Sight<'_> {
             AreStillTold self.now.own (known_with h self.now.reals.now.items self.now.copies.now.ghosts) told.old told.new }
     {
         // Besides the looks there is the own state.
-        let room = looks.len().saturating_add(1);
+        room.reserve(looks.len().saturating_add(1))?;
         let e = real.entity();
         let to = base_node_of(self.known, e);
-        let mut shown = Updates::new(self.alloc, to, e, witness.sent, room)?;
+        let mut shown = Updates::new(to, e, witness.sent, room);
         self.add_own(real, witness, &mut shown)?;
         self.add_all(looks, told, &mut shown)?;
         Ok(shown)
@@ -244,7 +246,9 @@ impl Sight<'_> {
         real: &Real,
         witness: &mut Witness,
         told: &mut ToldCopies,
+        room: Out<Msg>,
     ) -> Result<Glance, AllocError>
+        requires empty { room.items ≡ [] }
         requires bases { 1 ≤ self.now.known.now.settings.bases }
         requires most { self.now.known.now.settings.bases ≤ MOST_BASE_NODES }
         requires small { witness.old.sent < 2 ^ 62 }
@@ -270,7 +274,7 @@ impl Sight<'_> {
         let seen = self.seen(own, &witness.view)?;
         let planned = witness.view.plan(own, &seen)?;
         let looks = self.in_time(&witness.view, planned)?;
-        let shown = self.show(real, witness, &looks, told)?;
+        let shown = self.show(real, witness, &looks, told, room)?;
         Ok(Glance { seen, looks, shown })
     }
 
@@ -301,7 +305,8 @@ impl Sight<'_> {
         if !is_small(witness.sent) {
             return Ok(());
         }
-        let glance = self.get_ready(real, witness, told)?;
+        let room = out.take_room(self.alloc);
+        let glance = self.get_ready(real, witness, told, room)?;
         let updates = glance.shown.len();
         if !are_numbers_small(witness.sent, updates) {
             return Ok(());

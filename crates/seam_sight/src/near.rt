@@ -5,6 +5,7 @@ ghost use Rattle.std.specs.Prelude.{if◌then◌else◌};
 ghost use Rattle.std.specs.List.Sorted.{IsStrictlySortedBy};
 ghost use Rattle.std.specs.List.{list_any};
 ghost use Rattle.std.specs.Ordering.{nat_cmp};
+ghost use Rattle.seam_view.specs.declared.Look.TheVariants.{Leave};
 ghost use Rattle.seam_view.specs.Replica.{IsView, seen_of};
 ghost use Rattle.seam_steps.specs.Looks.{seen_as};
 ghost use Rattle.seam_steps.specs.Cells.{CellView, known_to};
@@ -94,20 +95,11 @@ fn seen_at(entity: u32, place: Place) -> Seen
 }
 
 // Those of whose entities no real is here.
-fn without_reals(
-    alloc: Global,
-    reals: &RealTable,
-    entities: &[(u32, Place)],
-) -> Result<Vec<(u32, Place)>, AllocError>
-    ensures { IfOk result (λ v. v.items ≡ without_reals reals.now.items entities.now) }
+fn without_reals(reals: &RealTable, mut entities: Vec<(u32, Place)>) -> Vec<(u32, Place)>
+    ensures { result.items ≡ without_reals reals.now.items entities.items }
 {
-    let mut left = Vec::with_capacity(alloc, entities.len())?;
-    for (e, place) in entities {
-        if reals.get(*e).is_none() {
-            left.push((*e, *place))?;
-        }
-    }
-    Ok(left)
+    entities.retain(|(e, _)| reals.get(*e).is_none());
+    entities
 }
 
 // Whether a greater version was shown than is known.
@@ -158,12 +150,12 @@ impl Sight<'_> {
     fn joined(
         &self,
         reals: &[(u32, Place)],
-        copies: &[(u32, Place)],
+        copies: Vec<(u32, Place)>,
     ) -> Result<Vec<Seen>, AllocError>
-        ensures { let only_copies = without_reals self.now.reals.now.items copies.now in
+        ensures { let only_copies = without_reals self.now.reals.now.items copies.items in
             IfOk result (λ v. v.items ≡ map seen_at_place (filter (is_other self.now.own) (merged reals.now only_copies))) }
     {
-        let only_copies = without_reals(self.alloc, self.reals, copies)?;
+        let only_copies = without_reals(self.reals, copies);
         let seen = self.merged(reals, &only_copies)?;
         Ok(seen)
     }
@@ -175,7 +167,7 @@ impl Sight<'_> {
     {
         let reals = self.reals.places(self.alloc)?;
         let copies = self.copies.places(self.alloc)?;
-        let seen = self.joined(&reals, &copies)?;
+        let seen = self.joined(&reals, copies)?;
         Ok(seen)
     }
 
@@ -194,9 +186,11 @@ impl Sight<'_> {
         let Some(copies) = self.copies.spots_beside(self.own) else {
             return Ok(None);
         };
-        let near_reals = reals.within(own, reach)?;
-        let near_copies = copies.within(own, reach)?;
-        let seen = self.joined(&near_reals, &near_copies)?;
+        // About as many as were near at the last look, of reals and copies alike.
+        let expected = view.len() / 2;
+        let near_reals = reals.within(own, reach, expected)?;
+        let near_copies = copies.within(own, reach, expected)?;
+        let seen = self.joined(&near_reals, near_copies)?;
         Ok(Some(seen))
     }
 
@@ -240,8 +234,16 @@ impl Sight<'_> {
         self.known_at(e)
     }
 
-    // Whether the look is the leave of an entity that is known after all, and was shown at a greater version.
-    #[inline]
+    // Whether an entity that leaves is known after all, and was shown at a greater version.
+    fn leaves_early(&self, view: &View, e: u32) -> bool
+        ensures { (c : CellView) → let d = seeing c (here_in self.now.known.now) self.now.reals.now.items self.now.copies.now.ghosts in
+            result ≡ is_early view.now.core (map seen_as (known_to d self.now.own)) (Leave e) }
+    {
+        was_newer(view.shown(e), self.seen_of(e))
+    }
+
+    // Whether the look is such a leave.
+    #[inline(always)]
     fn is_early(&self, view: &View, look: &Look) -> bool
         ensures { (c : CellView) → let d = seeing c (here_in self.now.known.now) self.now.reals.now.items self.now.copies.now.ghosts in
             result ≡ is_early view.now.core (map seen_as (known_to d self.now.own)) look.now }
@@ -249,7 +251,7 @@ impl Sight<'_> {
         let Look::Leave(e) = look else {
             return false;
         };
-        was_newer(view.shown(*e), self.seen_of(*e))
+        self.leaves_early(view, *e)
     }
 
     // Whether any of the looks is an early leave.

@@ -7,7 +7,7 @@ ghost use Rattle.seam_steps.specs.Looks.{numbered};
 use seam_call::{Shown, Update};
 use seam_entity::Msg;
 use seam_machine::Out;
-use std::alloc::{AllocError, Global};
+use std::alloc::AllocError;
 use std::marker::Model;
 
 /// The updates of an entity that go to its base node, numbered after those that were sent before.
@@ -34,25 +34,18 @@ impl Model for Updates {
 }
 
 impl Updates {
-    /// No update, and room for so many.
-    pub fn new(
-        alloc: Global,
-        to: u8,
-        entity: u32,
-        sent: u64,
-        room: usize,
-    ) -> Result<Updates, AllocError>
-        requires { sent < 2 ^ 62 }
-        ensures { IfOk result (λ u. u ≡ record { to = to; entity = entity; sent = sent; shown = [] }) }
+    /// No update, in room that was made for messages.
+    pub fn new(to: u8, entity: u32, sent: u64, made: Out<Msg>) -> Updates
+        requires empty { made.items ≡ [] }
+        requires small { sent < 2 ^ 62 }
+        ensures { result ≡ record { to = to; entity = entity; sent = sent; shown = [] } }
     {
-        let mut made = Out::new(alloc);
-        made.reserve(room)?;
-        Ok(Updates {
+        Updates {
             to,
             entity,
             sent,
             made,
-        })
+        }
     }
 
     /// How many there are.

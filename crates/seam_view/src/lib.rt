@@ -355,25 +355,25 @@ impl View {
         let _ = self.view.take_out(&mut self.left, &[Look::Leave(e)]);
     }
 
-    // Shows an entity in view at this version. It is looked for by number from `next` on.
-    fn set(&mut self, e: u32, version: u64, next: &mut usize)
+    // Shows an entity in view at this version. It is looked for in enter order from `place` on and by number from `next` on.
+    fn set(&mut self, e: u32, version: u64, place: &mut usize, next: &mut usize)
         requires { in_view self.old.core e ≡ true }
         ensures core { self.new.core ≡ with_version_shown self.old.core e version }
         ensures enters { self.old.enters ≤ self.new.enters }
         ensures leaves { self.old.leaves ≤ self.new.leaves }
     {
-        self.view.show(e, version, next);
+        self.view.set(e, version, place, next);
     }
 
     // Sets an entity as it is known.
-    fn set_known(&mut self, e: u32, seen: Option<&Seen>, next: &mut usize)
+    fn set_known(&mut self, e: u32, seen: Option<&Seen>, place: &mut usize, next: &mut usize)
         requires { in_view self.old.core e ≡ true }
         ensures core { self.new.core ≡ after_showing self.old.core e (option_copied seen.entry) }
         ensures enters { self.old.enters ≤ self.new.enters }
         ensures leaves { self.old.leaves ≤ self.new.leaves }
     {
         match seen {
-            Some(seen) => self.set(e, seen.version, next),
+            Some(seen) => self.set(e, seen.version, place, next),
             None => return,
         }
     }
@@ -404,9 +404,16 @@ impl View {
         }
     }
 
-    // Keeps one look. What is known of its entity is looked for from the place `from` on, and the entity in view from `next` on, by
-    // number; both then go on past it.
-    fn keep_look(&mut self, known: &[Seen], look: &Look, from: &mut usize, next: &mut usize)
+    // Keeps one look. What is known of its entity is looked for from the place `from` on, and the entity in view from `next` on, both by
+    // number, and one that is set from `place` on in enter order; these then go on past it.
+    fn keep_look(
+        &mut self,
+        known: &[Seen],
+        look: &Look,
+        from: &mut usize,
+        place: &mut usize,
+        next: &mut usize,
+    )
         requires rising { IsStrictlySortedBy nat_cmp (map (λ s. s.entity) known.now) }
         requires room { HasRoom self.old (look.now ∷ []) }
         ensures core { self.new.core ≡ after_look known.now self.old.core look.now }
@@ -415,7 +422,7 @@ impl View {
     {
         match look {
             Look::Leave(e) => self.leave(*e),
-            Look::Set(e) => self.set_known(*e, find_seen(known, *e, from), next),
+            Look::Set(e) => self.set_known(*e, find_seen(known, *e, from), place, next),
             Look::Enter(e) => self.enter_known(*e, find_seen(known, *e, from), next),
         }
     }
@@ -443,10 +450,9 @@ impl View {
         ensures same_after { after_looks known.now self.new.core result.now ≡ after_looks known.now self.old.core looks.now }
         ensures room { HasRoom self.new result.now }
     {
-        let mut from = 0;
-        let mut next = 0;
+        let (mut from, mut place, mut next) = (0, 0, 0);
         for i in 0..many {
-            self.keep_look(known, &looks[i], &mut from, &mut next);
+            self.keep_look(known, &looks[i], &mut from, &mut place, &mut next);
         }
         &looks[many..]
     }

@@ -27,6 +27,9 @@ use std::mem::replace;
 // How many by number are tried before all are searched.
 const TRIED: usize = 8;
 
+// How many on in enter order are tried: those that are set come in that order, and others lie between them.
+const TRIED_ON: usize = 32;
+
 // Stands for the place of one that leaves.
 const NOWHERE: u32 = u32::MAX;
 
@@ -133,6 +136,30 @@ impl Entered {
                 None
             }
         }
+    }
+
+    // The same, where in enter order the few from `place` on are tried first.
+    fn find_on(&self, e: u32, place: usize, next: &mut usize) -> Option<(usize, u64)>
+        ensures there { IfSome result (λ r. slice_get self.now.entries r.0 ≡ Some (e, r.1)) }
+        ensures none { IfNone result (list_any (λ p. nat_eq e p.0) self.now.entries ≡ false) }
+    {
+        match few_on(&self.slots, e, place) {
+            Some(i) => Some((i, self.slots[i].version)),
+            None => self.find(e, next),
+        }
+    }
+
+    // Shows an entity in view at this version. It is looked for in enter order from `place` on and by number from `next` on.
+    pub fn set(&mut self, e: u32, version: u64, place: &mut usize, next: &mut usize)
+        requires { list_any (λ p. nat_eq e p.0) self.old.entries ≡ true }
+        ensures entries { self.new.entries ≡ placed e version self.old.entries }
+        ensures room { self.old.room ≤ self.new.room }
+    {
+        let Some((i, _)) = self.find_on(e, *place, next) else {
+            unreachable!()
+        };
+        *place = i + 1;
+        self.slots[i].version = version;
     }
 
     // Makes room for so many more.
@@ -370,6 +397,20 @@ fn show_first<'a>(
         }
     }
     &looks[looks.len()..]
+}
+
+// The place of the entity among the few from this one on.
+fn few_on(slots: &[Slot], e: u32, from: usize) -> Option<usize>
+    ensures { IfSome result (λ i. (i < length slots.now) × (number_at slots.now i ≡ e)) }
+{
+    let from = from.min(slots.len());
+    let end = slots.len().min(from.saturating_add(TRIED_ON));
+    for i in from..end {
+        if slots[i].entity == e {
+            return Some(i);
+        }
+    }
+    None
 }
 
 // The entity at the place.

@@ -1,11 +1,13 @@
 use Rattle.std.proofs.Common.{◌≡◌, ◌++◌, ℕ, List, sym, ap, ◌∙◌, subst}
-use Rattle.std.specs.List.{flat_map}
+use Rattle.std.specs.List.{All, flat_map}
 use Rattle.std.proofs.lemmas.Result.{on_ok_weaker}
 use Rattle.seam_defs.specs.declared.types.TypeDef.{TypeDef}
 use Rattle.seam_rules.specs.Texts.{client_text}
 use Rattle.seam_played.specs.Playing.{data_of}
 use Rattle.seam_print.specs.Texts.{ends_text, ghosts_of, shown_of}
+use Rattle.seam_print.specs.Told.{ShowOf, told_by}
 use Rattle.seam_print.proofs.Pieces.{ends_written}
+use Rattle.seam_print.proofs.Versions.{of_entries}
 use Rattle.seam_print.proofs.ends.write_ends.Goals as goal
 
 pub returns : goal.returns
@@ -22,6 +24,9 @@ returns c =
     let shown = subst (λ (ds : List TypeDef). flat_map (shown_of ds kept v) rs ≡ flat_map (client_text ds) d.shown) (sym is.defs)
     (law.shown h s tree w v p c.args.bounds.now rs is.present kept farewells) in
     let routes = (law.routes h s tree w v p).1 in
+    let versions = law.versions h s tree w v p rs is.present kept farewells in
+    let told = of_entries (λ r. ShowOf versions.0 (told_by kept v r)) c.by_number-residents.result.now.entries
+    (subst (All (λ r. ShowOf versions.0 (told_by kept v r))) (sym c.by_number-residents.ensures.list) versions.1) in
     let ghosts = c.in_ok-extend_from_slice.ensures.items
     ∙ ap (λ (l : List ℕ). c.push_bases.new.out.items ++ l)
     (c.deref.ensures.value ∙ c.in_ok-push_homes.ensures.ghosts routes
@@ -30,7 +35,7 @@ returns c =
     is.number (law.homes h s tree w v p c.args.bounds.now rs is.present) (law.bases h s tree w v p c.args.bounds.now rs is.present)
     (law.ghosts h s tree w v p c.args.bounds.now rs is.present) shown c.push_homes.new.out.items c.push_bases.new.out.items
     c.extend_from_slice.new.self.items c.push_clients.new.out.items c.push_tree.new.out.items c.push_number_line.new.out.items
-    (c.in_ok-push_homes.ensures.homes routes) c.in_ok-push_bases.ensures ghosts c.in_ok-push_clients.ensures
+    (c.in_ok-push_homes.ensures.homes routes) c.in_ok-push_bases.ensures ghosts (c.in_ok-push_clients.ensures versions.0 told)
     c.in_ok-push_tree.ensures last
     ∙ ap (λ (ds : List TypeDef). first ++ ends_text ds d) is.defs)
     c.push_number_line.ensures

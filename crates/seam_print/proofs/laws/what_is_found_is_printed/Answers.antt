@@ -1,11 +1,17 @@
-use Rattle.std.proofs.Common.{ap, ◌∙◌}
+use Rattle.std.proofs.Common.{◌≡◌, None, subst, ap, ◌∙◌}
+use Rattle.std.specs.Prelude.{if◌then◌else◌}
 use Rattle.seam_defs.specs.declared.flags.Part.TheVariants as part
 use Rattle.seam_transcript.specs.Book.{tree_of}
 use Rattle.seam_legal.specs.Standings.{ghosts_read}
 use Rattle.seam_legal.proofs.Ended.{live_ended}
-use Rattle.seam_played.specs.Reading.{homes_read, base_if, bases_read}
+use Rattle.seam_rules.specs.Lines.{told_in}
+use Rattle.seam_played.specs.Playing.{data_of, standing_of}
+use Rattle.seam_played.specs.Reading.{homes_read, base_if, bases_read, lines_shown}
 use Rattle.seam_print.specs.Finding.{home_line_at, homes_found, bases_found, ghost_lines_at, ghosts_found}
-use Rattle.seam_print.proofs.Routes.{homes_are_found, bases_are_found, ghosts_are_found, nowhere, home_is}
+use Rattle.seam_print.specs.Finding.{lines_found}
+use Rattle.seam_print.specs.Told.{ShowOf}
+use Rattle.seam_print.proofs.Versions.{versions_of, lines_are_of, all_are_of}
+use Rattle.seam_print.proofs.Routes.{homes_are_found, bases_are_found, ghosts_are_found, lines_are_found, nowhere, home_is}
 use Rattle.seam_print.proofs.Played.{done_is_printed, left_is_printed, shown_is_printed, shown_is_counted, is_nowhere, has_no_part}
 use Rattle.seam_print.proofs.laws.what_is_found_is_printed.Goals as goal
 
@@ -62,6 +68,23 @@ returns-clause-shown c h s tree w v p bounds rs present kept farewells =
     let rest = c.a_round_is_read_at_rest.ensures h s tree w v p in
     shown_is_printed s.book rs present h (tree_of s.book) p.beside.legal.in_range.some_bases p.round.called v rest.called rest.ended p.made
     p.made_listed kept farewells
+
+pub returns-clause-versions : goal.returns-clause-versions
+returns-clause-versions c h s tree w v p rs present kept farewells =
+    let rest = c.a_round_is_read_at_rest.ensures h s tree w v p in
+    let t = standing_of h s tree w v p None s.book in
+    let called = p.round.called in (
+      versions_of h s t,
+      all_are_of (versions_of h s t) s.book rs present called v kept h.defs farewells
+          (λ x made shown lives.
+          let told : told_in (data_of h s tree w v p None) x.entity ≡ lines_found v x.entity =
+          c.client_lines_are_gathered.ensures.told h s tree w v p None x made shown
+          ∙ ap (λ dies. if dies then lines_shown h called x.entity else lines_shown h v x.entity) lives
+          ∙ lines_are_found h (tree_of s.book) p.beside.legal.in_range.some_bases v rest.ended x.entity in
+          subst (ShowOf (versions_of h s t)) told
+          (lines_are_of h s t x (told_in (data_of h s tree w v p None) x.entity)
+          (c.what_clients_are_shown_is_right.ensures h s tree w v p None s.book x made shown).true_)),
+    )
 
 pub returns-clause-count : goal.returns-clause-count
 returns-clause-count c h s tree w v p bounds rs present kept farewells =

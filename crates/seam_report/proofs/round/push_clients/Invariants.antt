@@ -4,7 +4,4 @@ use Rattle.seam_rules.specs.Texts.{client_text}
 use Rattle.seam_report.proofs.round.push_clients.Given as goal
 
 abbrev pub invariant-loop-line : goal.invariant-loop-line
-invariant-loop-line l = record {
-  text : l.out.items ≡ l.initial.out.items ++ flat_map (client_text l.defs) (take l.line-index l.lines);
-  types : l.spellings ≡ l.defs;
-}
+invariant-loop-line l = l.out.items ≡ l.initial.out.items ++ flat_map (client_text l.defs) (take l.line-index l.lines)

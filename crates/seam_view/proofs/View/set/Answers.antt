@@ -10,18 +10,18 @@ use Rattle.seam_view.proofs.Shown.{shown_when_entered, view_of_lists}
 use Rattle.seam_view.proofs.Apart.{apart_when_entered, not_left_when_in}
 use Rattle.seam_view.proofs.View.set.Goals as goal
 
-pub show-requires : goal.show-requires
-show-requires c =
+pub set-requires : goal.set-requires
+set-requires c =
     let there = ap (λ w. in_view w.core c.args.e) c.self.view_is ∙ c.requires in
-    record { room = λ none. cc }
+    there
 
 pub invariant_of-self : goal.invariant_of-self
 invariant_of-self c =
     let es = c.self.inside.view.entries in
     let left = c.self.inside.left.entries in
-    let placed = c.show.ensures.entries in
+    let placed = c.set.ensures.entries in
     let there = ap (λ w. in_view w.core c.args.e) c.self.view_is ∙ c.requires in (
-      view_of_lists c.self.inside.radius c.self.inside.hysteresis c.show.new.self.entries left
+      view_of_lists c.self.inside.radius c.self.inside.hysteresis c.set.new.self.entries left
           (subst (λ xs. IsDistinct eqb (keys_of xs)) (sym placed) (once_placed c.args.e c.args.version es c.self.invariant.0.once)),
       subst (λ xs. AreApart xs left) (sym placed)
           (apart_when_entered c.args.e c.args.version left left (not_left_when_in c.args.e es left there c.self.invariant.1) (λ q other. refl) es
@@ -32,9 +32,9 @@ pub returns-clause-core : goal.returns-clause-core
 returns-clause-core c =
     let es = c.self.inside.view.entries in
     let left = c.self.inside.left.entries in
-    let placed = c.show.ensures.entries in
+    let placed = c.set.ensures.entries in
     let shown =
-    shown_when_entered es c.show.new.self.entries left left c.args.e c.args.version
+    shown_when_entered es c.set.new.self.entries left left c.args.e c.args.version
     (λ q. ap (lookup (eqb q)) placed ∙ lookup_placed c.args.e c.args.version q es) (λ q other. refl) in
     (λ j. record { radius = c.self.inside.radius; hysteresis = c.self.inside.hysteresis; entries = placed j; shown = shown j })
     ∙ ap (λ w. with_version_shown w.core c.args.e c.args.version) c.self.view_is
@@ -44,5 +44,5 @@ returns-clause-enters c =
     let there = ap (λ w. in_view w.core c.args.e) c.self.view_is ∙ c.requires in
     let none = ap {B = ℕ} (λ b. cond b 0 1) there in
     let is = ap (λ w. w.enters) c.self.view_is in
-    let room = c.show.ensures.room in
+    let room = c.set.ensures.room in
     omega (arith, none, is, room)

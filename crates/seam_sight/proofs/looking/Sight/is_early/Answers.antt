@@ -3,12 +3,11 @@ use Rattle.seam_steps.specs.Looks.{seen_as}
 use Rattle.seam_steps.specs.Cells.{CellView, known_to}
 use Rattle.seam_parts.specs.Kept.{here_in}
 use Rattle.seam_sight.specs.Looking.{seeing}
-use Rattle.seam_sight.specs.Near.{was_newer, is_early}
+use Rattle.seam_sight.specs.Near.{is_early}
 use Rattle.seam_sight.proofs.looking.Sight.is_early.Goals as goal
 
 pub returns : goal.returns
 returns c = λ k.
     let d : CellView = seeing k (here_in c.args.self.now.known.now) c.args.self.now.reals.now.items c.args.self.now.copies.now.ghosts in
-    c.was_newer.ensures
-    ∙ ((λ i. was_newer (c.shown.ensures i) (c.seen_of.ensures k i))
-    ∙ ap (is_early c.args.view.now.core (map seen_as (known_to d c.args.self.now.own))) (sym c.in-Leave.is))
+    c.leaves_early.ensures k
+    ∙ ap (is_early c.args.view.now.core (map seen_as (known_to d c.args.self.now.own))) (sym c.in-Leave.is)

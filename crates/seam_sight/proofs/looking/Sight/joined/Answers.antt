@@ -7,4 +7,4 @@ pub returns : goal.returns
 returns c =
     c.in_ok-seen.ensures
     ∙ ap (λ l. map seen_at_place (filter (is_other c.args.self.now.own) (merged c.args.reals.now l)))
-    (c.deref.ensures.value ∙ c.in_ok-only_copies.ensures)
+    (c.deref.ensures.value ∙ c.without_reals-only_copies.ensures)

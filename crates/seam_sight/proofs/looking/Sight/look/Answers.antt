@@ -27,7 +27,7 @@ pub returns-then-not-are_numbers_small-clause-sent : goal.returns-then-not-are_n
 returns-then-not-are_numbers_small-clause-sent c = λ k.
     let h = here_in c.args.self.now.known.now in
     let d : CellView = seeing k h c.args.self.now.reals.now.items c.args.self.now.copies.now.ghosts in
-    sym (append-nil c.args.out.now.items)
+    c.take_room-room.ensures.same ∙ sym (append-nil c.args.out.now.items)
     ∙ ap (λ l. c.args.out.now.items ++ l)
     (stray_is_silent h c.args.real.now.core (witness_of c.args.witness.now) (known_to d c.args.self.now.own)
     (c.if-not-are_numbers_small.ensures
@@ -70,8 +70,8 @@ returns-clause-sent c = λ k.
     let g = c.in_ok-glance.glance.shown in
     let room : c.if-not-is_empty.out.items ≡ c.args.out.now.items =
     elim c.if-not-is_empty.branch [
-      | then-not-is_empty+in_ok-reserve w ↦ ap (λ o. o.items) w.out-is ∙ w.in_ok-reserve.ensures.items
-      | else-not-is_empty w ↦ ap (λ o. o.items) w.out-is
+      | then-not-is_empty+in_ok-reserve w ↦ ap (λ o. o.items) w.out-is ∙ w.in_ok-reserve.ensures.items ∙ c.take_room-room.ensures.same
+      | else-not-is_empty w ↦ ap (λ o. o.items) w.out-is ∙ c.take_room-room.ensures.same
     ] in
     c.tell.ensures.sent
     ∙ (ap (λ l. l ++ numbered g.to g.entity g.sent g.shown) room

@@ -12,7 +12,7 @@ returns c = λ k.
     let d : CellView = seeing k (here_in c.args.self.now.known.now) c.args.self.now.reals.now.items c.args.self.now.copies.now.ghosts in
     let own = c.args.self.now.own in
     let reals = c.deref.ensures.value ∙ c.in_ok-near_reals.ensures in
-    let copies = c.deref-2.ensures.value ∙ c.in_ok-near_copies.ensures in
+    let copies = c.in_ok-near_copies.ensures in
     c.in_ok-seen.ensures
     ∙ ((λ i. map seen_at_place (filter (is_other own) (merged (reals i) (without_reals d.reals (copies i)))))
     ∙ near_are c.args.view.now.core c.args.own c.in-Some.reach c.in-Some.ensures.sum d own c.in-Some-spots_beside.reals.now

@@ -12,6 +12,6 @@ returns c = λ k.
     let d : CellView = seeing k (here_in c.args.self.now.known.now) c.args.self.now.reals.now.items c.args.self.now.copies.now.ghosts in
     let own = c.args.self.now.own in
     let reals = c.deref.ensures.value ∙ c.in_ok-reals.ensures in
-    let copies = c.deref-2.ensures.value ∙ c.in_ok-copies.ensures in
+    let copies = c.in_ok-copies.ensures in
     c.in_ok-seen.ensures
     ∙ ((λ i. map seen_at_place (filter (is_other own) (merged (reals i) (without_reals d.reals (copies i))))) ∙ all_are d own)

@@ -17,8 +17,8 @@ returns-clause-shown c = λ k.
     let known = known_to d c.args.self.now.own in
     let r = c.args.real.now.core in
     let sent = c.args.witness.now.sent in
-    let begun : c.in_ok-shown.shown ≡ updates_of h r sent [] =
-    c.in_ok-shown.ensures
+    let begun : c.new-shown.result ≡ updates_of h r sent [] =
+    c.new-shown.ensures
     ∙ (λ i. record {
       to = (c.base_node_of-to.ensures ∙ ap (base_of h) c.entity-e.ensures) i;
       entity = c.entity-e.ensures i;
