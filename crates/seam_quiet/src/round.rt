@@ -198,7 +198,7 @@ fn end_phases<G: Gate + Sync, R: Threads + Wait + Sync>(
         destroys,
     } = called;
     let (world, reaps) = run_phase(rt, alloc, world.load_reaps(destroys.as_slice())?, workers)?;
-    let (world, looks) = run_phase(rt, alloc, world.load_look()?, workers)?;
+    let (world, looks) = run_phase(rt, alloc, world.load_look()?, &workers.at_looks())?;
     let journal = Journal {
         calls: events,
         reaps,

@@ -12,6 +12,10 @@ use std::marker::Model;
 use std::sync::Wait;
 use std::thread::Threads;
 
+// How many turns a worker has at most where witnesses look. Each look tells thousands of lines where many are near, which wait in a
+// link until the base node's turn: more looks in threads cost more than they bring.
+const MOST_LOOKING: u32 = 24;
+
 /// The workers of a run: how many there are, how many turns each has in a phase of a round, and the gate that is called before each turn.
 #[derive(Drop)]
 pub struct Workers<'a, G> {
@@ -43,6 +47,17 @@ impl<'a, G> Workers<'a, G> {
     // Whether there is one alone: it would do what the caller does as well.
     pub(crate) fn are_one(&self) -> bool {
         self.crew.workers == 1
+    }
+
+    // The same workers, where witnesses look.
+    pub(crate) fn at_looks(&self) -> Workers<'a, G> {
+        Workers {
+            crew: Crew {
+                turns: self.crew.turns.min(MOST_LOOKING),
+                ..self.crew
+            },
+            gate: self.gate,
+        }
     }
 }
 
