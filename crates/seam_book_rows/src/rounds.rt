@@ -35,38 +35,57 @@ const PARTS_OF_A_ROUND: &[&str] = &[
     "destroy 1",
 ];
 
+// A book in which nothing was accepted.
+fn opened(alloc: Global) -> Result<Book, AllocError> {
+    let header = standard_header(alloc)?;
+    Book::new(alloc, &header)
+}
+
+// What the book answers to a line.
+fn answer(rt: &impl Abort, book: &mut Book, line: &[u8]) -> Answer {
+    assert!(rt; line.len() <= LONGEST_LINE);
+    book.accept(line)
+}
+
+fn take_some_lines(rt: &impl Abort, book: &mut Book) {
+    keep(rt, book, &["create 1 Avatar 100 100", "call b1 1 hit 1"]);
+    assert_eq!(rt; answer(rt, book, b"\t# a note"), Ok(Accepted::Skipped));
+    assert_eq!(rt;
+        answer(rt, book, b"tock"),
+        Err(Refusal::Cause(Cause::NoCommand))
+    );
+    assert_eq!(rt; answer(rt, book, b"sync"), Ok(Accepted::Synced));
+    assert_eq!(rt; book.count(), 2);
+}
+
 #[test]
 fn a_line_is_kept_or_skipped_or_ends_the_round(rt: HostRuntime) -> Result<(), Fail> {
-    let header = standard_header(rt.alloc())?;
-    let mut book = Book::new(rt.alloc(), &header)?;
-    keep(
-        &rt,
-        &mut book,
-        &["create 1 Avatar 100 100", "call b1 1 hit 1"],
-    );
-    assert_eq!(rt; book.accept(b"\t# a note"), Ok(Accepted::Skipped));
-    assert_eq!(rt; book.accept(b"tock"), Err(Refusal::Cause(Cause::NoCommand)));
-    assert_eq!(rt; book.accept(b"sync"), Ok(Accepted::Synced));
-    assert_eq!(rt; book.count(), 2);
+    let mut book = opened(rt.alloc())?;
+    take_some_lines(&rt, &mut book);
     Ok(())
+}
+
+// The client of entity 1 is on the second of two base nodes, and the tick goes to the first.
+fn look_at_all_parts(rt: &impl Abort, alloc: Global, batch: &Batch) -> Result<(), AllocError> {
+    assert_eq!(rt; batch.creates.as_slice().len(), 2);
+    assert_eq!(rt; batch.clients.as_slice(), [1, 2].as_slice());
+    assert_eq!(rt; nodes_of(alloc, batch)?.as_slice(), [17, 16].as_slice());
+    assert_eq!(rt; batch.destroys.as_slice(), [1].as_slice());
+    assert!(rt; batch.balance);
+    Ok(())
+}
+
+// What a round of these lines brings.
+fn batch_of(rt: &impl Abort, book: &mut Book, lines: &[&str]) -> Batch {
+    keep(rt, book, lines);
+    book.take_batch()
 }
 
 #[test]
 fn a_round_brings_all_its_parts(rt: HostRuntime) -> Result<(), Fail> {
-    let header = standard_header(rt.alloc())?;
-    let mut book = Book::new(rt.alloc(), &header)?;
-    keep(&rt, &mut book, PARTS_OF_A_ROUND);
-    let batch = book.take_batch();
-    assert_eq!(rt; batch.creates.as_slice().len(), 2);
-    assert_eq!(rt; batch.clients.as_slice(), [1, 2].as_slice());
-    // the client of entity 1 is on the second of two base nodes, and the tick goes to the first
-    assert_eq!(rt;
-        nodes_of(rt.alloc(), &batch)?.as_slice(),
-        [17, 16].as_slice()
-    );
-    assert_eq!(rt; batch.destroys.as_slice(), [1].as_slice());
-    assert!(rt; batch.balance);
-    Ok(())
+    let mut book = opened(rt.alloc())?;
+    let batch = batch_of(&rt, &mut book, PARTS_OF_A_ROUND);
+    Ok(look_at_all_parts(&rt, rt.alloc(), &batch)?)
 }
 
 // The nodes that a batch has orders for.
@@ -78,36 +97,52 @@ fn nodes_of(alloc: Global, batch: &Batch) -> Result<Vec<u8>, AllocError> {
     Ok(nodes)
 }
 
-#[test]
-fn a_balanced_tree_goes_on(rt: HostRuntime) -> Result<(), Fail> {
-    let header = standard_header(rt.alloc())?;
-    let mut book = Book::new(rt.alloc(), &header)?;
-    keep(&rt, &mut book, &["cut 0 x 5000", "balance"]);
+// A round ends, in which the boundary was balanced to this place.
+fn balance(rt: &impl Abort, book: &mut Book, at: u32) {
     let mut tree = book.take_batch().tree;
-    assert_eq!(rt; tree.shift(1, 3000), Ok(()));
+    assert_eq!(rt; tree.shift(1, at), Ok(()));
     book.set_tree(tree);
-    assert_eq!(rt; book.accept(b"cut 0 x 4000"), OUTSIDE_CELL);
-    keep(&rt, &mut book, &["cut 1 x 4000"]);
+}
+
+fn go_on_with_a_balanced_tree(rt: &impl Abort, book: &mut Book) {
+    keep(rt, book, &["cut 0 x 5000", "balance"]);
+    balance(rt, book, 3000);
+    assert_eq!(rt; answer(rt, book, b"cut 0 x 4000"), OUTSIDE_CELL);
+    let tree = batch_of(rt, book, &["cut 1 x 4000"]).tree;
     assert_eq!(rt;
-        book.take_batch().tree.boundary(1),
+        tree.boundary(1),
         Some(Boundary {
             axis: Axis::X,
             at: 3000
         })
     );
+}
+
+#[test]
+fn a_balanced_tree_goes_on(rt: HostRuntime) -> Result<(), Fail> {
+    let mut book = opened(rt.alloc())?;
+    go_on_with_a_balanced_tree(&rt, &mut book);
     Ok(())
+}
+
+fn cut_all(rt: &impl Abort, alloc: Global, book: &mut Book) -> Result<(), AllocError> {
+    for cell in 0..15 {
+        let line = format!(in alloc; "cut {cell} x {}", cell + 1)?;
+        keep(rt, book, &[line.as_str()]);
+    }
+    Ok(())
+}
+
+fn cut_no_more(rt: &impl Abort, book: &mut Book) {
+    assert_eq!(rt; answer(rt, book, b"cut 15 x 5000"), TOO_MANY_CELLS);
+    assert_eq!(rt; answer(rt, book, b"cut 14 x 5000"), OUTSIDE_CELL);
 }
 
 #[test]
 fn there_are_sixteen_cells(rt: HostRuntime) -> Result<(), Fail> {
-    let header = standard_header(rt.alloc())?;
-    let mut book = Book::new(rt.alloc(), &header)?;
-    for cell in 0..15 {
-        let line = format!(in rt.alloc(); "cut {cell} x {}", cell + 1)?;
-        keep(&rt, &mut book, &[line.as_str()]);
-    }
-    assert_eq!(rt; book.accept(b"cut 15 x 5000"), TOO_MANY_CELLS);
-    assert_eq!(rt; book.accept(b"cut 14 x 5000"), OUTSIDE_CELL);
+    let mut book = opened(rt.alloc())?;
+    cut_all(&rt, rt.alloc(), &mut book)?;
+    cut_no_more(&rt, &mut book);
     Ok(())
 }
 
@@ -120,16 +155,19 @@ fn join_all(rt: &impl Abort, alloc: Global, book: &mut Book, count: u32) -> Resu
     Ok(())
 }
 
+fn join_no_more(rt: &impl Abort, book: &mut Book) {
+    assert_eq!(rt; answer(rt, book, b"client 257"), FULL);
+    assert_eq!(rt; answer(rt, book, b"client 256"), EXISTS);
+    assert_eq!(rt; answer(rt, book, b"client 258"), DEAD);
+    keep(rt, book, &["destroy 7", "client 257"]);
+}
+
 #[test]
 fn there_are_256_clients(rt: HostRuntime) -> Result<(), Fail> {
-    let header = standard_header(rt.alloc())?;
-    let mut book = Book::new(rt.alloc(), &header)?;
+    let mut book = opened(rt.alloc())?;
     create_all(&rt, rt.alloc(), &mut book, 1, 257)?;
     join_all(&rt, rt.alloc(), &mut book, 256)?;
-    assert_eq!(rt; book.accept(b"client 257"), FULL);
-    assert_eq!(rt; book.accept(b"client 256"), EXISTS);
-    assert_eq!(rt; book.accept(b"client 258"), DEAD);
-    keep(&rt, &mut book, &["destroy 7", "client 257"]);
+    join_no_more(&rt, &mut book);
     Ok(())
 }
 
@@ -154,36 +192,38 @@ fn is_call(batch: &Batch, at: usize, node: u8, part: Part, number: u64) -> bool 
     }
 }
 
-#[test]
-fn a_round_is_a_batch(rt: HostRuntime) -> Result<(), Fail> {
-    let header = standard_header(rt.alloc())?;
-    let mut book = Book::new(rt.alloc(), &header)?;
-    keep(
-        &rt,
-        &mut book,
-        &[
-            "create 7 Avatar 3 4",
-            "call b1 7 hit 1",
-            "call b2 7 hit 1",
-            "move b2 7 5 5",
-            "call b2 7 pay 5",
-            "call b1 7 promote",
-        ],
-    );
-    let batch = book.take_batch();
+const CALLS: &[&str] = &[
+    "create 7 Avatar 3 4",
+    "call b1 7 hit 1",
+    "call b2 7 hit 1",
+    "move b2 7 5 5",
+    "call b2 7 pay 5",
+    "call b1 7 promote",
+];
+
+fn look_at_calls(rt: &impl Abort, batch: &Batch) {
     match batch.creates.as_slice().first() {
         Some(create) => assert_eq!(rt; (create.entity, create.ty, create.pos.x), (7, 0, 3)),
         None => panic!(rt; "no entity"),
     }
-    assert!(rt; is_call(&batch, 0, 16, Part::Cell, 1));
-    assert!(rt; is_call(&batch, 1, 17, Part::Cell, 1));
-    assert!(rt; is_call(&batch, 2, 17, Part::Cell, 2));
-    assert!(rt; is_call(&batch, 3, 17, Part::Base, 1));
-    assert!(rt; is_call(&batch, 4, 16, Part::Base, 1));
+    assert!(rt; is_call(batch, 0, 16, Part::Cell, 1));
+    assert!(rt; is_call(batch, 1, 17, Part::Cell, 1));
+    assert!(rt; is_call(batch, 2, 17, Part::Cell, 2));
+    assert!(rt; is_call(batch, 3, 17, Part::Base, 1));
+    assert!(rt; is_call(batch, 4, 16, Part::Base, 1));
+}
+
+fn end_two_rounds(rt: &impl Abort, book: &mut Book) {
+    look_at_calls(rt, &batch_of(rt, book, CALLS));
     assert_eq!(rt; book.count(), 0);
-    keep(&rt, &mut book, &["call b2 7 hit 1"]);
-    let next = book.take_batch();
+    let next = batch_of(rt, book, &["call b2 7 hit 1"]);
     assert!(rt; is_call(&next, 0, 17, Part::Cell, 3));
+}
+
+#[test]
+fn a_round_is_a_batch(rt: HostRuntime) -> Result<(), Fail> {
+    let mut book = opened(rt.alloc())?;
+    end_two_rounds(&rt, &mut book);
     Ok(())
 }
 
@@ -202,17 +242,25 @@ fn create_all(
     Ok(())
 }
 
-#[test]
-fn a_full_book_creates_no_more(rt: HostRuntime) -> Result<(), Fail> {
-    let header = standard_header(rt.alloc())?;
-    let mut book = Book::new(rt.alloc(), &header)?;
-    create_all(&rt, rt.alloc(), &mut book, 1, 40_000)?;
+fn create_no_more(rt: &impl Abort, book: &mut Book) {
+    assert_eq!(rt; book.count(), 25_536);
+    assert_eq!(rt; answer(rt, book, b"create 65537 Avatar 0 0"), FULL);
+    assert_eq!(rt; answer(rt, book, b"create 65537 Avatar 0 10000"), OUTSIDE);
+}
+
+// It is full by lines of two rounds, since a round has room for fewer.
+fn fill(rt: &impl Abort, alloc: Global, book: &mut Book) -> Result<(), AllocError> {
+    create_all(rt, alloc, book, 1, 40_000)?;
     let first = book.take_batch();
     assert_eq!(rt; first.creates.as_slice().len(), 40_000);
-    create_all(&rt, rt.alloc(), &mut book, 40_001, 25_536)?;
-    assert_eq!(rt; book.count(), 25_536);
-    assert_eq!(rt; book.accept(b"create 65537 Avatar 0 0"), FULL);
-    assert_eq!(rt; book.accept(b"create 65537 Avatar 0 10000"), OUTSIDE);
+    create_all(rt, alloc, book, 40_001, 25_536)
+}
+
+#[test]
+fn a_full_book_creates_no_more(rt: HostRuntime) -> Result<(), Fail> {
+    let mut book = opened(rt.alloc())?;
+    fill(&rt, rt.alloc(), &mut book)?;
+    create_no_more(&rt, &mut book);
     Ok(())
 }
 

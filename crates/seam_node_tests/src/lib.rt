@@ -1,9 +1,7 @@
-//! Tests of the crates that nodes are made of: definitions, reals and base nodes. They stand here, since a crate with tests of
+//! Tests of the crates that nodes are made of: definitions and reals. They stand here, since a crate with tests of
 //! its own is proved twice.
 #![tactic(auto)]
 
-#[cfg(test)]
-mod base;
 #[cfg(test)]
 mod builtin;
 #[cfg(test)]

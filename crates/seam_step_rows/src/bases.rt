@@ -167,10 +167,60 @@ const ORDERS: [Row; 5] = [
     Row(Comes::Order(Fed::Reap(1)), &[(1, Told::Reap(1))], REAPED),
 ];
 
+fn obey(rt: &impl Abort, alloc: Global, base: &mut Base) -> Result<(), Fail> {
+    play(rt, alloc, base, &ORDERS)
+}
+
 #[test]
 fn orders_are_passed_on(rt: HostRuntime) -> Result<(), Fail> {
     let mut base = loaded(rt.alloc())?;
-    play(&rt, rt.alloc(), &mut base, &ORDERS)
+    obey(&rt, rt.alloc(), &mut base)
+}
+
+const BUSY: Seen = Seen {
+    lines: Some(2),
+    route: Some((1, 0)),
+    task: true,
+};
+
+const TWICE: Seen = Seen {
+    lines: Some(3),
+    route: Some((1, 0)),
+    task: false,
+};
+
+// The second call waits for the first, and is executed by the task then.
+const CALLS: [Row; 3] = [
+    Row(Comes::Fed(Fed::BaseCall(1, 2)), &[], FIRST),
+    Row(Comes::Fed(Fed::BaseCall(1, 1)), &[], BUSY),
+    Row(Comes::Fed(Fed::Task), &[], TWICE),
+];
+
+fn execute(rt: &impl Abort, alloc: Global, base: &mut Base) -> Result<(), Fail> {
+    play(rt, alloc, base, &CALLS)
+}
+
+#[test]
+fn calls_are_executed_in_order(rt: HostRuntime) -> Result<(), Fail> {
+    let mut base = loaded(rt.alloc())?;
+    execute(&rt, rt.alloc(), &mut base)
+}
+
+// The second update waits for the first, and is shown by the task then.
+const UPDATES: [Row; 3] = [
+    Row(Comes::Fed(Fed::Update(1, 2)), &[], FIRST),
+    Row(Comes::Fed(Fed::Update(1, 1)), &[], BUSY),
+    Row(Comes::Fed(Fed::Task), &[], TWICE),
+];
+
+fn show(rt: &impl Abort, alloc: Global, base: &mut Base) -> Result<(), Fail> {
+    play(rt, alloc, base, &UPDATES)
+}
+
+#[test]
+fn updates_are_shown_in_order(rt: HostRuntime) -> Result<(), Fail> {
+    let mut base = loaded(rt.alloc())?;
+    show(&rt, rt.alloc(), &mut base)
 }
 
 // Current, of a greater generation, the same one, a lesser one and a greater one again; and a stray one, to no cell.
@@ -212,10 +262,14 @@ fn other(rt: &impl Abort, alloc: Global, base: &mut Base) -> Result<(), Fail> {
     play(rt, alloc, base, &OTHERS)
 }
 
-fn hear(rt: &impl Abort, alloc: Global, base: &mut Base) -> Result<(), Fail> {
-    current(rt, alloc, base)?;
+fn hear_strays(rt: &impl Abort, alloc: Global, base: &mut Base) -> Result<(), Fail> {
     stray(rt, alloc, base)?;
     other(rt, alloc, base)
+}
+
+fn hear(rt: &impl Abort, alloc: Global, base: &mut Base) -> Result<(), Fail> {
+    current(rt, alloc, base)?;
+    hear_strays(rt, alloc, base)
 }
 
 #[test]

@@ -149,10 +149,14 @@ const SURVEYS: [Row; 4] = [
     ),
 ];
 
+fn survey(rt: &impl Abort, alloc: Global, cell: &mut Cell) -> Result<(), Fail> {
+    play(rt, alloc, cell, &SURVEYS)
+}
+
 #[test]
 fn reals_settle_in_rising_number(rt: HostRuntime) -> Result<(), Fail> {
     let mut cell = loaded(rt.alloc())?;
-    play(&rt, rt.alloc(), &mut cell, &SURVEYS)
+    survey(&rt, rt.alloc(), &mut cell)
 }
 
 // Reap, of the first entity of the survey list: the other one is still to settle, and then nothing is to be done.
@@ -169,10 +173,14 @@ const DUE_REAPS: [Row; 2] = [
     Row(Fed::Task, &[(1, Told::Set(1, 2, 0))], NONE),
 ];
 
+fn reap_due(rt: &impl Abort, alloc: Global, cell: &mut Cell) -> Result<(), Fail> {
+    play(rt, alloc, cell, &DUE_REAPS)
+}
+
 #[test]
 fn a_reaped_entity_does_not_settle(rt: HostRuntime) -> Result<(), Fail> {
     let mut cell = loaded(rt.alloc())?;
-    play(&rt, rt.alloc(), &mut cell, &DUE_REAPS)
+    reap_due(&rt, rt.alloc(), &mut cell)
 }
 
 // Hand-over comes: the base nodes are told.
@@ -221,10 +229,14 @@ fn reap(rt: &impl Abort, alloc: Global, cell: &mut Cell) -> Result<(), Fail> {
     play(rt, alloc, cell, &REAPS)
 }
 
-fn live(rt: &impl Abort, alloc: Global, cell: &mut Cell) -> Result<(), Fail> {
-    call(rt, alloc, cell)?;
+fn leave_and_reap(rt: &impl Abort, alloc: Global, cell: &mut Cell) -> Result<(), Fail> {
     leave(rt, alloc, cell)?;
     reap(rt, alloc, cell)
+}
+
+fn live(rt: &impl Abort, alloc: Global, cell: &mut Cell) -> Result<(), Fail> {
+    call(rt, alloc, cell)?;
+    leave_and_reap(rt, alloc, cell)
 }
 
 #[test]
@@ -242,10 +254,14 @@ const GHOSTS: [Row; 5] = [
     Row(Fed::Set(3, 1, 2), &[], NONE),
 ];
 
+fn tell_of_ghosts(rt: &impl Abort, alloc: Global, cell: &mut Cell) -> Result<(), Fail> {
+    play(rt, alloc, cell, &GHOSTS)
+}
+
 #[test]
 fn the_greatest_beat_tells_of_a_ghost(rt: HostRuntime) -> Result<(), Fail> {
     let mut cell = opened(rt.alloc())?;
-    play(&rt, rt.alloc(), &mut cell, &GHOSTS)
+    tell_of_ghosts(&rt, rt.alloc(), &mut cell)
 }
 
 // Ghost set, where the real is: nothing is kept of it, as is seen when the real is gone.
@@ -256,10 +272,14 @@ const IGNORED: [Row; 4] = [
     Row(Fed::Set(3, 1, 2), &[], COPIED),
 ];
 
+fn ignore(rt: &impl Abort, alloc: Global, cell: &mut Cell) -> Result<(), Fail> {
+    play(rt, alloc, cell, &IGNORED)
+}
+
 #[test]
 fn a_ghost_of_a_real_is_ignored(rt: HostRuntime) -> Result<(), Fail> {
     let mut cell = opened(rt.alloc())?;
-    play(&rt, rt.alloc(), &mut cell, &IGNORED)
+    ignore(&rt, rt.alloc(), &mut cell)
 }
 
 const WATCHER_COMES: Row = Row(
@@ -318,10 +338,14 @@ fn look_last(rt: &impl Abort, alloc: Global, cell: &mut Cell) -> Result<(), Fail
     play(rt, alloc, cell, &LAST_LOOKS)
 }
 
-fn watch(rt: &impl Abort, alloc: Global, cell: &mut Cell) -> Result<(), Fail> {
-    look(rt, alloc, cell)?;
+fn look_on(rt: &impl Abort, alloc: Global, cell: &mut Cell) -> Result<(), Fail> {
     look_again(rt, alloc, cell)?;
     look_last(rt, alloc, cell)
+}
+
+fn watch(rt: &impl Abort, alloc: Global, cell: &mut Cell) -> Result<(), Fail> {
+    look(rt, alloc, cell)?;
+    look_on(rt, alloc, cell)
 }
 
 #[test]

@@ -7,6 +7,7 @@ use seam_entity::Real;
 use seam_geo::Pos;
 use seam_machine::Out;
 use std::alloc::{AllocError, Global};
+use std::process::Abort;
 use std::test::Fail;
 
 fn create(alloc: Global, defs: &Defs) -> Result<Real, AllocError> {
@@ -14,30 +15,27 @@ fn create(alloc: Global, defs: &Defs) -> Result<Real, AllocError> {
 }
 
 // A copy goes into a cell's book, and out of it.
-fn heard(cell: &mut Cell, copy: GhostCopy) -> Result<(bool, bool), Fail> {
+fn hear(rt: &impl Abort, cell: &mut Cell, copy: GhostCopy) -> Result<(), Fail> {
     let Ok(()) = cell.hear_ghost_set(1, 2, copy) else {
         return Err("no memory")?;
     };
-    let taken = cell.copies().get(1).is_some();
+    let was_taken = cell.copies().get(1).is_some();
     cell.hear_ghost_drop(1, 3)?;
     cell.hear_tick()?;
-    Ok((taken, cell.copies().get(1).is_some()))
-}
-
-#[test]
-fn a_cell_hears_of_a_ghost(rt: HostRuntime) -> Result<(), Fail> {
-    let alloc = rt.alloc();
-    let defs = builtin(alloc)?;
-    let copy = create(alloc, &defs)?.copy_out(&defs)?;
-    let mut cell = Cell::new(alloc, 3, defs, Settings::standard());
-    assert_eq!(rt; heard(&mut cell, copy)?, (true, false));
+    assert!(rt; was_taken && cell.copies().get(1).is_none());
     Ok(())
 }
 
 #[test]
-fn a_call_without_a_place_goes_nowhere(rt: HostRuntime) -> Result<(), Fail> {
-    let alloc = rt.alloc();
-    let cell = Cell::new(alloc, 3, builtin(alloc)?, Settings::standard());
+fn a_cell_hears_of_a_ghost(rt: HostRuntime) -> Result<(), Fail> {
+    let defs = builtin(rt.alloc())?;
+    let copy = create(rt.alloc(), &defs)?.copy_out(&defs)?;
+    let mut cell = Cell::new(rt.alloc(), 3, defs, Settings::standard());
+    hear(&rt, &mut cell, copy)
+}
+
+// A call for an entity of which the cell knows no place is dropped.
+fn drop_call(rt: &impl Abort, cell: &Cell, alloc: Global) -> Result<(), Fail> {
     let call = Call {
         entity: 1,
         part: Part::Cell,
@@ -45,11 +43,16 @@ fn a_call_without_a_place_goes_nowhere(rt: HostRuntime) -> Result<(), Fail> {
         number: 1,
         deed: Deed::Move(Pos { x: 1, z: 1 }),
     };
-    let mut out = Out::new(alloc);
     if cell.has_real(1) {
         Err("a real")?;
     }
-    assert!(rt; cell.pass_call_on(call, &mut out).is_ok());
-    assert!(rt; out.is_empty());
+    let mut out = Out::new(alloc);
+    assert!(rt; cell.pass_call_on(call, &mut out).is_ok() && out.is_empty());
     Ok(())
+}
+
+#[test]
+fn a_call_without_a_place_goes_nowhere(rt: HostRuntime) -> Result<(), Fail> {
+    let cell = Cell::new(rt.alloc(), 3, builtin(rt.alloc())?, Settings::standard());
+    drop_call(&rt, &cell, rt.alloc())
 }
