@@ -15,9 +15,6 @@ use clap::{Arg, ArgAction, ArgMatches, Command, value_parser};
 use std::alloc::Global;
 use thiserror::Error;
 
-#[cfg(test)]
-mod tests;
-
 /// The most workers that may run the cells and base nodes.
 pub const MOST_WORKERS: u32 = 16;
 

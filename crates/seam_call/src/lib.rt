@@ -19,6 +19,3 @@ pub use laws::{base_nodes_come_first, ranks_tell_senders, same_senders_are_equal
 pub use order::{Batch, Order};
 pub use sender::Sender;
 pub use shown::{ClientText, GhostCopy, Line, Shown, Update};
-
-#[cfg(test)]
-mod tests;

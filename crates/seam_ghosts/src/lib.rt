@@ -19,9 +19,6 @@ use seam_table::Table;
 use std::alloc::{AllocError, Global};
 use std::marker::Model;
 
-#[cfg(test)]
-mod tests;
-
 /// What became of a message about a ghost.
 #[derive(Clone, Copy, Debug, PartialEq, Eq)]
 pub enum Kept {

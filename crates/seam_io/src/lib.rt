@@ -8,8 +8,6 @@ mod lines;
 mod memory;
 mod sink;
 mod source;
-#[cfg(test)]
-mod tests;
 
 pub use laws::whole_lines_stay;
 pub use lines::{LONGEST_LINE, Lines, Next};

@@ -224,6 +224,3 @@ pub fn meet<T: Drop>(alloc: Global, out: LinkOut<T>, end: LinkIn<T>) -> Result<V
     }
     Ok(left)
 }
-
-#[cfg(test)]
-mod tests;

@@ -5,9 +5,6 @@ mod shared;
 
 pub use shared::Shared;
 
-#[cfg(test)]
-mod tests;
-
 /// Allocation failed. The item that was given comes back.
 #[derive(Debug, Drop, PartialEq, Eq)]
 pub struct NoMemoryFor<T> {

@@ -17,9 +17,6 @@ use std::collections::BTreeMap;
 use std::collections::btree_map::Iter;
 use std::marker::Model;
 
-#[cfg(test)]
-mod tests;
-
 /// What an offered item meets.
 #[derive(Debug, Drop, PartialEq, Eq)]
 pub enum Offer<T> {

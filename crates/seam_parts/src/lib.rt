@@ -31,6 +31,3 @@ pub use places::Places;
 pub use real_table::RealTable;
 pub use reals::{Reals, close, first_ready, make_place, put_after, put_in, take_out};
 pub use settle::{Begun, Plan, begin, is_at_rest, make_plan, settle_real};
-
-#[cfg(test)]
-mod tests;

@@ -15,9 +15,6 @@ use std::alloc::{AllocError, Global};
 use std::collections::BTreeMap;
 use std::marker::Model;
 
-#[cfg(test)]
-mod tests;
-
 // The width of the strips of x in which the positions are ordered, and of the rows of z in each. An entity that moves within its row
 // of a strip keeps its key.
 const STRIP_WIDTH: u64 = 256;

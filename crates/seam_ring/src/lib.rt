@@ -6,8 +6,6 @@
 
 mod counter;
 mod laws;
-#[cfg(test)]
-mod tests;
 
 pub use counter::Counter;
 pub use laws::{

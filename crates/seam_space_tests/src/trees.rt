@@ -1,10 +1,6 @@
+use crate::sent;
 use seam_geo::Pos;
 use seam_tree::{Axis, CellSet, CutError, ShiftError, Tree};
-
-// Trees and sets go from one thread to another.
-fn sent<T: Send>(value: T) -> T {
-    value
-}
 
 #[test]
 fn sixteen_cells(rt: HostRuntime) {

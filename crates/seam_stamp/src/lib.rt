@@ -79,6 +79,3 @@ fn first_head<E>(heads: &Vec<VecDeque<Stamped<E>>>) -> Option<usize>
     }
     first
 }
-
-#[cfg(test)]
-mod tests;

@@ -1,4 +1,5 @@
-//! The cases of the steps of cells and base nodes as tests: what a node sends and has after each input, with ample memory.
+//! The cases of the steps of cells and base nodes as tests: what a node sends and has after each input, with ample memory;
+//! and the order of a queue of entities.
 #![tactic(auto)]
 
 #[cfg(test)]
@@ -9,5 +10,7 @@ mod cells;
 mod feeding;
 #[cfg(test)]
 mod hearing;
+#[cfg(test)]
+mod queues;
 #[cfg(test)]
 mod told;

@@ -5,7 +5,5 @@
 
 mod lines;
 mod source;
-#[cfg(test)]
-mod tests;
 
 pub use source::{MAX_STORM_LINES, StormSource};

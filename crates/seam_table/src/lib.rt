@@ -26,9 +26,6 @@ use seam_memory::NoMemoryFor;
 use std::alloc::{AllocError, Global};
 use std::marker::Model;
 
-#[cfg(test)]
-mod tests;
-
 /// An item for some of the numbers.
 ///
 /// Contracts see the item of each number, and beside them the numbers for which there is room: an item for one of those needs no memory.

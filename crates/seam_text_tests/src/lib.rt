@@ -1,7 +1,9 @@
-//! Tests of the crates that read headers and write rounds. They stand here, since a crate with tests of its own is proved twice.
+//! Tests of the crates that read headers, write rounds and are told of journals. They stand here, since a crate with tests of its own is proved twice.
 #![tactic(auto)]
 
 #[cfg(test)]
 mod headers;
+#[cfg(test)]
+mod journals;
 #[cfg(test)]
 mod rounds;

@@ -8,8 +8,6 @@
 mod laws;
 mod numbers;
 mod reading;
-#[cfg(test)]
-mod tests;
 mod texts;
 mod types;
 mod values;

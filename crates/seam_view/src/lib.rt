@@ -34,8 +34,6 @@ use std::alloc::{AllocError, Global};
 use std::marker::Model;
 
 mod numbered;
-#[cfg(test)]
-mod tests;
 
 /// What is known of an entity: its public version and its position.
 #[derive(Clone, Copy, Debug, PartialEq, Eq)]

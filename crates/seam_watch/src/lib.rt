@@ -4,8 +4,6 @@
 #![tactic(auto)]
 
 mod journal;
-#[cfg(test)]
-mod tests;
 mod watch;
 
 pub use journal::Journal;

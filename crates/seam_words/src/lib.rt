@@ -5,8 +5,6 @@
 
 mod laws;
 mod splitting;
-#[cfg(test)]
-mod tests;
 mod texts;
 mod words;
 
