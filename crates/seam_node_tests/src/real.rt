@@ -7,9 +7,19 @@ use seam_geo::Pos;
 use seam_value::Value;
 use seam_view::Look;
 use std::alloc::{AllocError, Global};
+use std::process::Abort;
 use std::test::Fail;
 
-fn call(alloc: Global, defs: &Defs, number: u64, name: &[u8], by: i128) -> Result<Call, Fail> {
+// A call of client 2: its number, the method, and the number given to it.
+#[derive(Clone, Copy)]
+struct Told(u64, &'static [u8], i128);
+
+const HIT: Told = Told(1, b"hit", 30);
+
+const HEAL: Told = Told(2, b"heal", 5);
+
+fn call(alloc: Global, defs: &Defs, told: Told) -> Result<Call, Fail> {
+    let Told(number, name, by) = told;
     let method = defs.type_at(AVATAR).find_method(name).ok_or("no method")?;
     let args = Args::of(vec![in alloc; Value::Number(by)]?);
     Ok(Call {
@@ -41,9 +51,22 @@ fn execute(real: &mut Real, defs: &Defs, call: Call) -> Result<Did, Fail> {
     Ok(did)
 }
 
+// Whether the call is held.
+fn is_held(alloc: Global, real: &mut Real, defs: &Defs, told: Told) -> Result<bool, Fail> {
+    let call = call(alloc, defs, told)?;
+    Ok(matches!(execute(real, defs, call)?, Did::Held))
+}
+
+// Whether the call is executed, and changes what others see.
+fn is_done(alloc: Global, real: &mut Real, defs: &Defs, told: Told) -> Result<bool, Fail> {
+    let call = call(alloc, defs, told)?;
+    Ok(matches!(execute(real, defs, call)?, Did::Done(true)))
+}
+
 // Whether others will see what the call changes, and whether it leaves 70 of the first property.
-fn prepared(real: &mut Real, defs: &Defs, call: &Call) -> Result<(bool, bool), AllocError> {
-    let after = real.prepare(defs, call)?;
+fn prepared(alloc: Global, real: &mut Real, defs: &Defs, told: Told) -> Result<(bool, bool), Fail> {
+    let call = call(alloc, defs, told)?;
+    let after = real.prepare(defs, &call)?;
     let left = after.state.props.at(0) == Some(&Value::Number(70));
     Ok((after.changed, left))
 }
@@ -100,57 +123,40 @@ fn create(alloc: Global, defs: &Defs) -> Result<Real, AllocError> {
     Real::create(alloc, defs, 1, AVATAR, Pos { x: 100, z: 100 })
 }
 
-// A real that executed its first call and holds the second.
-fn hit(alloc: Global, defs: &Defs) -> Result<Real, Fail> {
-    let mut real = create(alloc, defs)?;
-    let second = call(alloc, defs, 2, b"heal", 5)?;
-    let _ = execute(&mut real, defs, second)?;
-    let first = call(alloc, defs, 1, b"hit", 30)?;
-    let _ = execute(&mut real, defs, first)?;
-    Ok(real)
-}
-
-#[test]
-fn calls_are_executed_in_the_order_of_their_numbers(rt: HostRuntime) -> Result<(), Fail> {
-    let alloc = rt.alloc();
-    let defs = builtin(alloc)?;
-    let mut real = create(alloc, &defs)?;
-    let heal = call(alloc, &defs, 2, b"heal", 5)?;
-    assert!(rt; matches!(execute(&mut real, &defs, heal)?, Did::Held));
-    let hit = call(alloc, &defs, 1, b"hit", 30)?;
-    assert_eq!(rt; prepared(&mut real, &defs, &hit)?, (true, true));
-    assert!(rt; matches!(execute(&mut real, &defs, hit)?, Did::Done(true)));
-    assert_eq!(rt; copied(&real, &defs)?, (1, true));
+fn take_calls(rt: &impl Abort, alloc: Global, real: &mut Real, defs: &Defs) -> Result<(), Fail> {
+    assert!(rt; is_held(alloc, real, defs, HEAL)?);
+    assert_eq!(rt; prepared(alloc, real, defs, HIT)?, (true, true));
+    assert!(rt; is_done(alloc, real, defs, HIT)?);
+    assert_eq!(rt; copied(real, defs)?, (1, true));
     Ok(())
 }
 
-#[test]
-fn a_held_call_becomes_ready(rt: HostRuntime) -> Result<(), Fail> {
-    let defs = builtin(rt.alloc())?;
-    let mut real = hit(rt.alloc(), &defs)?;
-    assert!(rt; real.fits(&defs, &Settings::standard()));
-    assert_eq!(rt; execute_ready(&mut real, &defs)?, (true, true));
+fn go_on(rt: &impl Abort, real: &mut Real, defs: &Defs) -> Result<(), Fail> {
+    assert!(rt; real.fits(defs, &Settings::standard()));
+    assert_eq!(rt; execute_ready(real, defs)?, (true, true));
     assert!(rt; !real.is_ready());
-    assert_eq!(rt; shown(&real, &defs)?, (true, true));
+    assert_eq!(rt; shown(real, defs)?, (true, true));
     Ok(())
 }
 
-#[test]
-fn a_witness_tells_its_own_state_once(rt: HostRuntime) -> Result<(), Fail> {
-    let defs = builtin(rt.alloc())?;
-    let mut real = create(rt.alloc(), &defs)?;
-    real.put_witness(Witness::new(rt.alloc(), &Settings::standard())?);
-    assert_eq!(rt; told_once(&mut real)?, (true, false));
+fn tell(rt: &impl Abort, alloc: Global, real: &mut Real) -> Result<(), Fail> {
+    real.put_witness(Witness::new(alloc, &Settings::standard())?);
+    assert_eq!(rt; told_once(real)?, (true, false));
     assert!(rt; real.has_witness());
     Ok(())
 }
 
+fn live(rt: &impl Abort, alloc: Global, defs: &Defs) -> Result<(), Fail> {
+    let mut real = sent(create(alloc, defs)?);
+    take_calls(rt, alloc, &mut real, defs)?;
+    go_on(rt, &mut real, defs)?;
+    tell(rt, alloc, &mut real)
+}
+
 #[test]
-fn a_real_may_cross_threads(rt: HostRuntime) -> Result<(), Fail> {
+fn a_real_executes_calls_in_order_and_tells_its_state_once(rt: HostRuntime) -> Result<(), Fail> {
     let defs = builtin(rt.alloc())?;
-    let real = sent(create(rt.alloc(), &defs)?);
-    assert_eq!(rt; real.entity(), 1);
-    Ok(())
+    live(&rt, rt.alloc(), &defs)
 }
 
 #[test]

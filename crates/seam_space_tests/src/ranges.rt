@@ -1,60 +1,78 @@
-ghost use Rattle.std.specs.Prelude.{◌≡◌};
-
 use crate::sent;
 use seam_geo::Pos;
 use seam_range::{Place, RangeList};
+use std::alloc::AllocError;
+use std::process::Abort;
 use std::test::Fail;
 
-fn place(version: u64, x: u32, z: u32) -> Place
-    ensures { result ≡ record { version = version; pos = record { x = x; z = z } } }
-{
-    Place {
-        version,
-        pos: Pos { x, z },
-    }
+const CORNER: Pos = Pos { x: 0, z: 0 };
+
+const ONE: Place = Place {
+    version: 0,
+    pos: Pos { x: 0, z: 0 },
+};
+
+const TWO: Place = Place {
+    version: 0,
+    pos: Pos { x: 5, z: 5 },
+};
+
+const THREE: Place = Place {
+    version: 7,
+    pos: Pos { x: 6, z: 0 },
+};
+
+const MOVED: Place = Place {
+    version: 0,
+    pos: Pos { x: 9, z: 9 },
+};
+
+const NEWER: Place = Place {
+    version: 8,
+    pos: Pos { x: 6, z: 0 },
+};
+
+const FAR: Place = Place {
+    version: 1,
+    pos: Pos { x: 600, z: 300 },
+};
+
+// Whether those within the distance are just these.
+fn are_near(list: &RangeList, p: Pos, d: u32, wanted: &[(u32, Place)]) -> Result<bool, AllocError> {
+    Ok(list.within(p, d, 0)?.as_slice() == wanted)
+}
+
+fn put_three(rt: &impl Abort, list: &mut RangeList) -> Result<(), AllocError> {
+    list.put(2, TWO)?;
+    list.put(1, ONE)?;
+    list.put(3, THREE)?;
+    assert!(rt; are_near(list, CORNER, 5, &[(1, ONE), (2, TWO)])?);
+    assert!(rt; are_near(list, CORNER, 5_000, &[(1, ONE), (2, TWO), (3, THREE)])?);
+    Ok(())
+}
+
+fn change_all(rt: &impl Abort, list: &mut RangeList) -> Result<(), AllocError> {
+    list.put(1, MOVED)?;
+    list.put(3, NEWER)?;
+    assert!(rt; list.remove(2));
+    assert!(rt; !list.remove(2));
+    assert!(rt; are_near(list, CORNER, 6, &[(3, NEWER)])?);
+    assert!(rt; are_near(list, CORNER, 9, &[(1, MOVED), (3, NEWER)])?);
+    Ok(())
+}
+
+fn move_far(rt: &impl Abort, list: &mut RangeList) -> Result<(), AllocError> {
+    list.put(1, FAR)?;
+    assert!(rt; are_near(list, CORNER, 9, &[(3, NEWER)])?);
+    assert!(rt; are_near(list, Pos { x: 590, z: 310 }, 10, &[(1, FAR)])?);
+    Ok(())
 }
 
 #[test]
 fn near_entities_in_rising_number(rt: HostRuntime) -> Result<(), Fail> {
     let mut list = sent(RangeList::new(rt.alloc()));
-    let one = place(0, 0, 0);
-    let two = place(0, 5, 5);
-    let three = place(7, 6, 0);
-    list.put(2, two)?;
-    list.put(1, one)?;
-    list.put(3, three)?;
-    let corner = Pos { x: 0, z: 0 };
-    assert_eq!(rt;
-        list.within(corner, 5, 0)?.as_slice(),
-        [(1, one), (2, two)].as_slice()
-    );
-    assert_eq!(rt;
-        list.within(corner, 5_000, 0)?.as_slice(),
-        [(1, one), (2, two), (3, three)].as_slice()
-    );
-    let moved = place(0, 9, 9);
-    let newer = place(8, 6, 0);
-    list.put(1, moved)?;
-    list.put(3, newer)?;
-    assert!(rt; list.remove(2));
-    assert!(rt; !list.remove(2));
-    assert_eq!(rt;
-        list.within(corner, 6, 0)?.as_slice(),
-        [(3, newer)].as_slice()
-    );
-    assert_eq!(rt;
-        list.within(corner, 9, 0)?.as_slice(),
-        [(1, moved), (3, newer)].as_slice()
-    );
-    let far = place(1, 600, 300);
-    list.put(1, far)?;
-    assert_eq!(rt;
-        list.within(corner, 9, 0)?.as_slice(),
-        [(3, newer)].as_slice()
-    );
-    assert_eq!(rt;
-        list.within(Pos { x: 590, z: 310 }, 10, 0)?.as_slice(),
-        [(1, far)].as_slice()
-    );
+    put_three(&rt, &mut list)?;
+    change_all(&rt, &mut list)?;
+    move_far(&rt, &mut list)?;
     Ok(())
 }

@@ -5,6 +5,8 @@ ghost use Rattle.std.specs.List.Sorted.{IsStrictlySortedBy};
 use crate::sent;
 use seam_geo::Pos;
 use seam_view::{Look, Seen, View};
+use std::alloc::AllocError;
+use std::process::Abort;
 use std::test::Fail;
 
 const OWN: Pos = Pos { x: 0, z: 0 };
@@ -20,27 +22,34 @@ fn seen(entity: u32, version: u64, x: u32) -> [Seen; 1]
     }]
 }
 
+// Whether a look at what is known tells just this; it is kept then.
+fn tells(view: &mut View, known: &[Seen], looks: &[Look]) -> Result<bool, AllocError>
+    requires { IsStrictlySortedBy nat_cmp (map (λ s. s.entity) known.now) }
+{
+    let planned = view.plan(OWN, known)?;
+    view.keep(known, &planned);
+    Ok(planned.as_slice() == looks)
+}
+
+fn come_and_go(rt: &impl Abort, view: &mut View) -> Result<(), AllocError> {
+    assert!(rt; tells(view, &seen(2, 0, 300), &[Look::Enter(2)])?);
+    assert_eq!(rt; (view.at(0), view.len()), (Some((2, 0)), 1));
+    assert!(rt; tells(view, &seen(2, 1, 311), &[Look::Leave(2)])?);
+    assert_eq!(rt; (view.shown(2), view.len()), (Some(0), 0));
+    Ok(())
+}
+
+fn come_back(rt: &impl Abort, view: &mut View) -> Result<(), AllocError> {
+    assert!(rt; tells(view, &seen(2, 3, 299), &[Look::Enter(2)])?);
+    assert_eq!(rt; (view.at(0), view.shown(2)), (Some((2, 3)), Some(3)));
+    Ok(())
+}
+
 #[test]
 fn enters_at_the_radius_and_leaves_past_the_hysteresis(rt: HostRuntime) -> Result<(), Fail> {
     let mut view = sent(View::new(rt.alloc(), 300, 10));
-    let near = seen(2, 0, 300);
-    let looks = view.plan(OWN, &near)?;
-    assert_eq!(rt; looks.as_slice(), [Look::Enter(2)].as_slice());
-    view.keep(&near, &looks);
-    assert_eq!(rt; view.at(0), Some((2, 0)));
-    assert_eq!(rt; view.len(), 1);
-    let far = seen(2, 1, 311);
-    let looks = view.plan(OWN, &far)?;
-    assert_eq!(rt; looks.as_slice(), [Look::Leave(2)].as_slice());
-    view.keep(&far, &looks);
-    assert_eq!(rt; view.len(), 0);
-    assert_eq!(rt; view.shown(2), Some(0));
-    let back = seen(2, 3, 299);
-    let looks = view.plan(OWN, &back)?;
-    assert_eq!(rt; looks.as_slice(), [Look::Enter(2)].as_slice());
-    view.keep(&back, &looks);
-    assert_eq!(rt; view.at(0), Some((2, 3)));
-    assert_eq!(rt; view.shown(2), Some(3));
+    come_and_go(&rt, &mut view)?;
+    come_back(&rt, &mut view)?;
     Ok(())
 }
 
@@ -48,8 +57,7 @@ fn enters_at_the_radius_and_leaves_past_the_hysteresis(rt: HostRuntime) -> Resul
 fn made_of_lists(rt: HostRuntime) -> Result<(), Fail> {
     let pairs = [(2, 0)];
     let mut view = View::of_lists(rt.alloc(), 300, 10, &pairs, &pairs)?;
-    let looks = view.plan(OWN, &seen(2, 1, 311))?;
-    assert_eq!(rt; looks.as_slice(), [Look::Leave(2)].as_slice());
+    assert!(rt; tells(&mut view, &seen(2, 1, 311), &[Look::Leave(2)])?);
     Ok(())
 }
 
@@ -82,14 +90,11 @@ fn leaves_then_sets_then_enters(rt: HostRuntime) -> Result<(), Fail> {
             pos: near,
         },
     ];
-    let looks = view.plan(OWN, &known)?;
+    let looks = [Look::Leave(5), Look::Leave(9), Look::Set(2), Look::Enter(7)];
+    assert!(rt; tells(&mut view, &known, &looks)?);
     assert_eq!(rt;
-        looks.as_slice(),
-        [Look::Leave(5), Look::Leave(9), Look::Set(2), Look::Enter(7)].as_slice()
+        (view.at(0), view.at(1), view.at(2)),
+        (Some((2, 2)), Some((7, 4)), None)
     );
-    view.keep(&known, &looks);
-    assert_eq!(rt; view.at(0), Some((2, 2)));
-    assert_eq!(rt; view.at(1), Some((7, 4)));
-    assert_eq!(rt; view.at(2), None);
     Ok(())
 }

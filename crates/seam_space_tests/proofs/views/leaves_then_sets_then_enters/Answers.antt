@@ -20,10 +20,6 @@ of_lists-requires-clause-last g c =
       (versions.get-from_entries nat_cmp_total shown 2, (versions.get-from_entries nat_cmp_total shown 9, tt)),
     )
 
-pub plan-requires : goal.plan-requires
+pub tells-requires : goal.tells-requires
 unfolding IsStrictlySortedBy
-plan-requires g c = ((refl, (refl, tt)), ((refl, tt), (tt, tt)))
-
-pub keep-requires-clause-rising : goal.keep-requires-clause-rising
-unfolding IsStrictlySortedBy
-keep-requires-clause-rising g c = ((refl, (refl, tt)), ((refl, tt), (tt, tt)))
+tells-requires g c = ((refl, (refl, tt)), ((refl, tt), (tt, tt)))
