@@ -1,5 +1,5 @@
 // Lines of every command, and the refusals that the book gives to them.
-use crate::header::standard_header;
+use crate::header::opened;
 use seam_accept::{Book, Refusal};
 use seam_io::LONGEST_LINE;
 use seam_report::push_refusal;
@@ -56,21 +56,31 @@ static SCRIPTS: [Script; 4] = [
     },
 ];
 
-// What is written of the refused lines, numbered from 1.
-fn refusals_of(rt: &impl Abort, alloc: Global, lines: &str) -> Result<Vec<u8>, AllocError> {
-    let header = standard_header(alloc)?;
-    let mut book = Book::new(alloc, &header)?;
-    let mut out = Vec::new(alloc);
+// Takes the lines, and writes of those that are refused, numbered from 1.
+fn take(
+    rt: &impl Abort,
+    book: &mut Book,
+    lines: &str,
+    out: &mut Vec<u8>,
+) -> Result<(), AllocError> {
     let mut number = 0;
     for line in lines.as_bytes().split(|byte| *byte == b'\n') {
         assert!(rt; line.len() <= LONGEST_LINE && number < 1000);
         number += 1;
         match book.accept(line) {
             Ok(_) => {}
-            Err(Refusal::Cause(cause)) => push_refusal(&mut out, number, cause)?,
+            Err(Refusal::Cause(cause)) => push_refusal(out, number, cause)?,
             Err(Refusal::NoMemory) => return Err(AllocError),
         }
     }
+    Ok(())
+}
+
+// What is written of the refused lines.
+fn refusals_of(rt: &impl Abort, alloc: Global, lines: &str) -> Result<Vec<u8>, AllocError> {
+    let mut book = opened(alloc)?;
+    let mut out = Vec::new(alloc);
+    take(rt, &mut book, lines, &mut out)?;
     Ok(out)
 }
 

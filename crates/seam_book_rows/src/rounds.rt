@@ -1,4 +1,4 @@
-use crate::header::standard_header;
+use crate::header::opened;
 use seam_accept::{Accepted, Book, HeaderLines, Refusal, next_count};
 use seam_call::{Batch, Order};
 use seam_defs::Part;
@@ -34,12 +34,6 @@ const PARTS_OF_A_ROUND: &[&str] = &[
     "balance",
     "destroy 1",
 ];
-
-// A book in which nothing was accepted.
-fn opened(alloc: Global) -> Result<Book, AllocError> {
-    let header = standard_header(alloc)?;
-    Book::new(alloc, &header)
-}
 
 // What the book answers to a line.
 fn answer(rt: &impl Abort, book: &mut Book, line: &[u8]) -> Answer {

@@ -2,9 +2,10 @@ ghost use Rattle.std.specs.Prelude.{IfOk};
 ghost use Rattle.seam_machine.specs.Nets.{ArePeers};
 
 use crate::sent;
-use seam_machine::{Event, Machine, Net};
+use seam_machine::{Event, Machine, Net, NetParts};
 use seam_ring::Counter;
 use std::alloc::{AllocError, Global};
+use std::process::Abort;
 use std::test::Fail;
 
 // Lets the first enabled event happen again and again, until the net is quiet or so many happened. Gives how many did.
@@ -36,25 +37,60 @@ fn ring(alloc: Global) -> Result<Net<Counter>, AllocError>
     Net::new(alloc, nodes)
 }
 
-#[test]
-fn a_number_goes_round_until_it_is_gone(rt: HostRuntime) -> Result<(), Fail> {
-    let mut net = sent(ring(rt.alloc())?);
+const AT_NODE_0: Event = Event {
+    node: 0,
+    from: None,
+};
+
+const FROM_0_TO_1: Event = Event {
+    node: 1,
+    from: Some(0),
+};
+
+const AT_NODE_2: Event = Event {
+    node: 2,
+    from: None,
+};
+
+fn look_at_start(rt: &impl Abort, net: &Net<Counter>) {
     assert_eq!(rt; net.node_count(), 3);
-    assert_eq!(rt;
-        net.next_event(),
-        Some(Event {
-            node: 0,
-            from: None
-        })
-    );
-    assert_eq!(rt; run(rt.alloc(), &mut net, 2)?, 2);
+    assert_eq!(rt; net.next_event(), Some(AT_NODE_0));
+}
+
+fn look_at_way(rt: &impl Abort, net: &Net<Counter>) {
     assert_eq!(rt; net.waiting(1, 2), 1);
     assert_eq!(rt; net.message(1, 2, 0), Some(&1));
     assert_eq!(rt; net.message(1, 2, 1), None);
     assert!(rt; !net.is_quiet());
+}
+
+#[test]
+fn a_number_goes_round_until_it_is_gone(rt: HostRuntime) -> Result<(), Fail> {
+    let mut net = sent(ring(rt.alloc())?);
+    look_at_start(&rt, &net);
+    assert_eq!(rt; run(rt.alloc(), &mut net, 2)?, 2);
+    look_at_way(&rt, &net);
     assert_eq!(rt; run(rt.alloc(), &mut net, 10)?, 2);
     assert!(rt; net.is_quiet());
     Ok(())
+}
+
+fn look_at_parts(rt: &impl Abort, parts: &NetParts<Counter>) {
+    assert_eq!(rt; (parts.nodes.len(), parts.links.len()), (3, 9));
+    match parts.links.get(1) {
+        Some(link) => assert_eq!(rt; link.as_slice(), [2].as_slice()),
+        None => panic!(rt; "no link"),
+    }
+}
+
+fn look_at_links(rt: &impl Abort, net: &Net<Counter>) {
+    assert_eq!(rt;
+        (net.waiting(0, 1), net.waiting(0, 2), net.waiting(3, 0)),
+        (1, 0, 0)
+    );
+    assert_eq!(rt; net.message(0, 1, 0), Some(&2));
+    assert!(rt; net.enabled(FROM_0_TO_1) && !net.enabled(AT_NODE_0));
+    assert!(rt; net.node(3).is_none());
 }
 
 #[test]
@@ -62,27 +98,9 @@ fn parts_make_the_same_net(rt: HostRuntime) -> Result<(), Fail> {
     let mut net = ring(rt.alloc())?;
     assert_eq!(rt; run(rt.alloc(), &mut net, 1)?, 1);
     let parts = net.apart(rt.alloc())?;
-    assert_eq!(rt; parts.nodes.len(), 3);
-    assert_eq!(rt; parts.links.len(), 9);
-    assert_eq!(rt; parts.links[1].as_slice(), [2].as_slice());
+    look_at_parts(&rt, &parts);
     let again = Net::of_parts(rt.alloc(), parts)?;
-    assert_eq!(rt; again.waiting(0, 1), 1);
-    assert_eq!(rt; again.message(0, 1, 0), Some(&2));
-    assert_eq!(rt; again.waiting(0, 2), 0);
-    assert_eq!(rt; again.waiting(3, 0), 0);
-    assert!(rt;
-        again.enabled(Event {
-            node: 1,
-            from: Some(0)
-        })
-    );
-    assert!(rt;
-        !again.enabled(Event {
-            node: 0,
-            from: None
-        })
-    );
-    assert!(rt; again.node(3).is_none());
+    look_at_links(&rt, &again);
     Ok(())
 }
 
@@ -91,12 +109,7 @@ fn another_node_takes_the_place(rt: HostRuntime) -> Result<(), Fail> {
     let mut net = ring(rt.alloc())?;
     let node = net.node_mut(2).ok_or("node 2")?;
     *node = Counter::new(0, 3, Some(0));
-    assert!(rt;
-        net.enabled(Event {
-            node: 2,
-            from: None
-        })
-    );
+    assert!(rt; net.enabled(AT_NODE_2));
     assert!(rt; net.node_mut(3).is_none());
     Ok(())
 }

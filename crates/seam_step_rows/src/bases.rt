@@ -145,9 +145,22 @@ fn play(rt: &impl Abort, alloc: Global, base: &mut Base, rows: &[Row]) -> Result
     Ok(())
 }
 
+fn play_all(rt: &impl Abort, alloc: Global, base: &mut Base, parts: &[&[Row]]) -> Result<(), Fail> {
+    for rows in parts {
+        play(rt, alloc, base, rows)?;
+    }
+    Ok(())
+}
+
+// The base node is owned here alone, and not by each test: a drop of all its parts is long to prove.
+fn play_loaded(rt: &impl Abort, alloc: Global, parts: &[&[Row]]) -> Result<(), Fail> {
+    let mut base = loaded(alloc)?;
+    play_all(rt, alloc, &mut base, parts)
+}
+
 // Cell order; base orders about an entity of this node, and about one of the other node, to which the call goes; tick order; reap
 // order, after which the route stays.
-const ORDERS: [Row; 5] = [
+const ORDERS: &[Row] = &[
     Row(
         Comes::Order(Fed::Walk(2, 1, 4_950)),
         &[(0, Told::Call(2, 1))],
@@ -167,14 +180,9 @@ const ORDERS: [Row; 5] = [
     Row(Comes::Order(Fed::Reap(1)), &[(1, Told::Reap(1))], REAPED),
 ];
 
-fn obey(rt: &impl Abort, alloc: Global, base: &mut Base) -> Result<(), Fail> {
-    play(rt, alloc, base, &ORDERS)
-}
-
 #[test]
 fn orders_are_passed_on(rt: HostRuntime) -> Result<(), Fail> {
-    let mut base = loaded(rt.alloc())?;
-    obey(&rt, rt.alloc(), &mut base)
+    play_loaded(&rt, rt.alloc(), &[ORDERS])
 }
 
 const BUSY: Seen = Seen {
@@ -190,41 +198,31 @@ const TWICE: Seen = Seen {
 };
 
 // The second call waits for the first, and is executed by the task then.
-const CALLS: [Row; 3] = [
+const CALLS: &[Row] = &[
     Row(Comes::Fed(Fed::BaseCall(1, 2)), &[], FIRST),
     Row(Comes::Fed(Fed::BaseCall(1, 1)), &[], BUSY),
     Row(Comes::Fed(Fed::Task), &[], TWICE),
 ];
 
-fn execute(rt: &impl Abort, alloc: Global, base: &mut Base) -> Result<(), Fail> {
-    play(rt, alloc, base, &CALLS)
-}
-
 #[test]
 fn calls_are_executed_in_order(rt: HostRuntime) -> Result<(), Fail> {
-    let mut base = loaded(rt.alloc())?;
-    execute(&rt, rt.alloc(), &mut base)
+    play_loaded(&rt, rt.alloc(), &[CALLS])
 }
 
 // The second update waits for the first, and is shown by the task then.
-const UPDATES: [Row; 3] = [
+const UPDATES: &[Row] = &[
     Row(Comes::Fed(Fed::Update(1, 2)), &[], FIRST),
     Row(Comes::Fed(Fed::Update(1, 1)), &[], BUSY),
     Row(Comes::Fed(Fed::Task), &[], TWICE),
 ];
 
-fn show(rt: &impl Abort, alloc: Global, base: &mut Base) -> Result<(), Fail> {
-    play(rt, alloc, base, &UPDATES)
-}
-
 #[test]
 fn updates_are_shown_in_order(rt: HostRuntime) -> Result<(), Fail> {
-    let mut base = loaded(rt.alloc())?;
-    show(&rt, rt.alloc(), &mut base)
+    play_loaded(&rt, rt.alloc(), &[UPDATES])
 }
 
 // Current, of a greater generation, the same one, a lesser one and a greater one again; and a stray one, to no cell.
-const CURRENTS: [Row; 5] = [
+const CURRENTS: &[Row] = &[
     Row(Comes::Fed(Fed::Current(1, 0, 3)), &[], GONE),
     Row(Comes::Fed(Fed::Current(1, 1, 3)), &[], GONE),
     Row(Comes::Fed(Fed::Current(1, 1, 2)), &[], GONE),
@@ -232,12 +230,8 @@ const CURRENTS: [Row; 5] = [
     Row(Comes::Fed(Fed::Current(1, 16, 9)), &[], BACK),
 ];
 
-fn current(rt: &impl Abort, alloc: Global, base: &mut Base) -> Result<(), Fail> {
-    play(rt, alloc, base, &CURRENTS)
-}
-
 // Stray input at a base node: a call and an update of number 0, of a part and for a client that are not here, and a tick.
-const STRAYS: [Row; 5] = [
+const STRAYS: &[Row] = &[
     Row(Comes::Fed(Fed::BaseCall(1, 0)), &[], BACK),
     Row(Comes::Fed(Fed::BaseCall(2, 1)), &[], BACK),
     Row(Comes::Fed(Fed::Update(1, 0)), &[], BACK),
@@ -245,12 +239,8 @@ const STRAYS: [Row; 5] = [
     Row(Comes::Fed(Fed::Tick), &[], BACK),
 ];
 
-fn stray(rt: &impl Abort, alloc: Global, base: &mut Base) -> Result<(), Fail> {
-    play(rt, alloc, base, &STRAYS)
-}
-
 // What is for cells. Then the first call is executed; and an order about an entity without a route stays.
-const OTHERS: [Row; 5] = [
+const OTHERS: &[Row] = &[
     Row(Comes::Fed(Fed::Walk(1, 1, 4_950)), &[], BACK),
     Row(Comes::Fed(Fed::Hand(1, 5, 5)), &[], BACK),
     Row(Comes::Fed(Fed::Reap(1)), &[], BACK),
@@ -258,22 +248,7 @@ const OTHERS: [Row; 5] = [
     Row(Comes::Order(Fed::Reap(3)), &[], STUCK),
 ];
 
-fn other(rt: &impl Abort, alloc: Global, base: &mut Base) -> Result<(), Fail> {
-    play(rt, alloc, base, &OTHERS)
-}
-
-fn hear_strays(rt: &impl Abort, alloc: Global, base: &mut Base) -> Result<(), Fail> {
-    stray(rt, alloc, base)?;
-    other(rt, alloc, base)
-}
-
-fn hear(rt: &impl Abort, alloc: Global, base: &mut Base) -> Result<(), Fail> {
-    current(rt, alloc, base)?;
-    hear_strays(rt, alloc, base)
-}
-
 #[test]
 fn lesser_currents_and_stray_input_change_nothing(rt: HostRuntime) -> Result<(), Fail> {
-    let mut base = loaded(rt.alloc())?;
-    hear(&rt, rt.alloc(), &mut base)
+    play_loaded(&rt, rt.alloc(), &[CURRENTS, STRAYS, OTHERS])
 }

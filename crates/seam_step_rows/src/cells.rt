@@ -137,8 +137,26 @@ fn play(rt: &impl Abort, alloc: Global, cell: &mut Cell, rows: &[Row]) -> Result
     Ok(())
 }
 
+fn play_all(rt: &impl Abort, alloc: Global, cell: &mut Cell, parts: &[&[Row]]) -> Result<(), Fail> {
+    for rows in parts {
+        play(rt, alloc, cell, rows)?;
+    }
+    Ok(())
+}
+
+// The cell is owned here alone, and not by each test: a drop of all its parts is long to prove.
+fn play_where_none_is(rt: &impl Abort, alloc: Global, parts: &[&[Row]]) -> Result<(), Fail> {
+    let mut cell = opened(alloc)?;
+    play_all(rt, alloc, &mut cell, parts)
+}
+
+fn play_where_two_are(rt: &impl Abort, alloc: Global, rows: &[Row]) -> Result<(), Fail> {
+    let mut cell = loaded(alloc)?;
+    play(rt, alloc, &mut cell, rows)
+}
+
 // Survey task, of each real in rising number: cell 1, which is near, gets copies. Then the client is told of itself and of entity 2.
-const SURVEYS: [Row; 4] = [
+const SURVEYS: &[Row] = &[
     Row(Fed::Task, &[(1, Told::Set(1, 1, 0))], BUSY),
     Row(Fed::Task, &[(1, Told::Set(1, 2, 0))], HERE),
     Row(Fed::Tick, &[], BUSY),
@@ -149,18 +167,13 @@ const SURVEYS: [Row; 4] = [
     ),
 ];
 
-fn survey(rt: &impl Abort, alloc: Global, cell: &mut Cell) -> Result<(), Fail> {
-    play(rt, alloc, cell, &SURVEYS)
-}
-
 #[test]
 fn reals_settle_in_rising_number(rt: HostRuntime) -> Result<(), Fail> {
-    let mut cell = loaded(rt.alloc())?;
-    survey(&rt, rt.alloc(), &mut cell)
+    play_where_two_are(&rt, rt.alloc(), SURVEYS)
 }
 
 // Reap, of the first entity of the survey list: the other one is still to settle, and then nothing is to be done.
-const DUE_REAPS: [Row; 2] = [
+const DUE_REAPS: &[Row] = &[
     Row(
         Fed::Reap(1),
         &[],
@@ -173,14 +186,9 @@ const DUE_REAPS: [Row; 2] = [
     Row(Fed::Task, &[(1, Told::Set(1, 2, 0))], NONE),
 ];
 
-fn reap_due(rt: &impl Abort, alloc: Global, cell: &mut Cell) -> Result<(), Fail> {
-    play(rt, alloc, cell, &DUE_REAPS)
-}
-
 #[test]
 fn a_reaped_entity_does_not_settle(rt: HostRuntime) -> Result<(), Fail> {
-    let mut cell = loaded(rt.alloc())?;
-    reap_due(&rt, rt.alloc(), &mut cell)
+    play_where_two_are(&rt, rt.alloc(), DUE_REAPS)
 }
 
 // Hand-over comes: the base nodes are told.
@@ -191,19 +199,15 @@ const COMES: Row = Row(
 );
 
 // Call, real here: held, executed, and late.
-const CALLS: [Row; 4] = [
+const CALLS: &[Row] = &[
     COMES,
     Row(Fed::Walk(1, 2, 5_100), &[], HERE),
     Row(Fed::Walk(1, 1, 4_950), &[(1, Told::Set(2, 1, 1))], BUSY),
     Row(Fed::Walk(1, 1, 4_960), &[], BUSY),
 ];
 
-fn call(rt: &impl Abort, alloc: Global, cell: &mut Cell) -> Result<(), Fail> {
-    play(rt, alloc, cell, &CALLS)
-}
-
 // Ready-call task, after which the real goes, and call, next place. When the real comes back, the copy goes.
-const LEAVES: [Row; 3] = [
+const LEAVES: &[Row] = &[
     Row(Fed::Task, &[(1, Told::Hand(1, 3, 2))], COPIED),
     Row(Fed::Walk(1, 3, 5_200), &[(1, Told::Call(1, 3))], COPIED),
     Row(
@@ -213,40 +217,21 @@ const LEAVES: [Row; 3] = [
     ),
 ];
 
-fn leave(rt: &impl Abort, alloc: Global, cell: &mut Cell) -> Result<(), Fail> {
-    play(rt, alloc, cell, &LEAVES)
-}
-
 // Reap, after which there is no next place any more; its beat is kept.
-const REAPS: [Row; 4] = [
+const REAPS: &[Row] = &[
     Row(Fed::Reap(1), &[], NONE),
     Row(Fed::Walk(1, 4, 4_900), &[], NONE),
     Row(Fed::Set(5, 1, 2), &[], NONE),
     Row(Fed::Set(6, 1, 2), &[], COPIED),
 ];
 
-fn reap(rt: &impl Abort, alloc: Global, cell: &mut Cell) -> Result<(), Fail> {
-    play(rt, alloc, cell, &REAPS)
-}
-
-fn leave_and_reap(rt: &impl Abort, alloc: Global, cell: &mut Cell) -> Result<(), Fail> {
-    leave(rt, alloc, cell)?;
-    reap(rt, alloc, cell)
-}
-
-fn live(rt: &impl Abort, alloc: Global, cell: &mut Cell) -> Result<(), Fail> {
-    call(rt, alloc, cell)?;
-    leave_and_reap(rt, alloc, cell)
-}
-
 #[test]
 fn calls_are_executed_in_turn_where_the_real_is(rt: HostRuntime) -> Result<(), Fail> {
-    let mut cell = opened(rt.alloc())?;
-    live(&rt, rt.alloc(), &mut cell)
+    play_where_none_is(&rt, rt.alloc(), &[CALLS, LEAVES, REAPS])
 }
 
 // Ghost set and ghost drop, each of a greater beat and the same one, and a set of a lesser one.
-const GHOSTS: [Row; 5] = [
+const GHOSTS: &[Row] = &[
     Row(Fed::Set(2, 1, 2), &[], COPIED),
     Row(Fed::Set(2, 1, 5), &[], COPIED),
     Row(Fed::Drop(2, 1), &[], COPIED),
@@ -254,32 +239,22 @@ const GHOSTS: [Row; 5] = [
     Row(Fed::Set(3, 1, 2), &[], NONE),
 ];
 
-fn tell_of_ghosts(rt: &impl Abort, alloc: Global, cell: &mut Cell) -> Result<(), Fail> {
-    play(rt, alloc, cell, &GHOSTS)
-}
-
 #[test]
 fn the_greatest_beat_tells_of_a_ghost(rt: HostRuntime) -> Result<(), Fail> {
-    let mut cell = opened(rt.alloc())?;
-    tell_of_ghosts(&rt, rt.alloc(), &mut cell)
+    play_where_none_is(&rt, rt.alloc(), &[GHOSTS])
 }
 
 // Ghost set, where the real is: nothing is kept of it, as is seen when the real is gone.
-const IGNORED: [Row; 4] = [
+const IGNORED: &[Row] = &[
     COMES,
     Row(Fed::Set(8, 1, 5), &[], HERE),
     Row(Fed::Reap(1), &[], NONE),
     Row(Fed::Set(3, 1, 2), &[], COPIED),
 ];
 
-fn ignore(rt: &impl Abort, alloc: Global, cell: &mut Cell) -> Result<(), Fail> {
-    play(rt, alloc, cell, &IGNORED)
-}
-
 #[test]
 fn a_ghost_of_a_real_is_ignored(rt: HostRuntime) -> Result<(), Fail> {
-    let mut cell = opened(rt.alloc())?;
-    ignore(&rt, rt.alloc(), &mut cell)
+    play_where_none_is(&rt, rt.alloc(), &[IGNORED])
 }
 
 const WATCHER_COMES: Row = Row(
@@ -295,7 +270,7 @@ const OTHER_COMES: Row = Row(
 );
 
 // Tick and look task: the client is told its own state and who is there.
-const LOOKS: [Row; 4] = [
+const LOOKS: &[Row] = &[
     WATCHER_COMES,
     OTHER_COMES,
     Row(Fed::Tick, &[], BUSY),
@@ -306,12 +281,8 @@ const LOOKS: [Row; 4] = [
     ),
 ];
 
-fn look(rt: &impl Abort, alloc: Global, cell: &mut Cell) -> Result<(), Fail> {
-    play(rt, alloc, cell, &LOOKS)
-}
-
 // Tick and look task: the client is told its own change, and who was reaped.
-const CHANGES: [Row; 5] = [
+const CHANGES: &[Row] = &[
     Row(Fed::Walk(1, 1, 4_950), &[(1, Told::Set(2, 1, 1))], HERE),
     Row(Fed::Reap(2), &[], HERE),
     Row(Fed::Tick, &[], BUSY),
@@ -323,39 +294,20 @@ const CHANGES: [Row; 5] = [
     Row(Fed::Tick, &[], BUSY),
 ];
 
-fn look_again(rt: &impl Abort, alloc: Global, cell: &mut Cell) -> Result<(), Fail> {
-    play(rt, alloc, cell, &CHANGES)
-}
-
 // Look task of a client that knows all; and reap, from the look list too: the cell with a copy is told.
-const LAST_LOOKS: [Row; 3] = [
+const LAST_LOOKS: &[Row] = &[
     Row(Fed::Task, &[], HERE),
     Row(Fed::Tick, &[], BUSY),
     Row(Fed::Reap(1), &[(1, Told::Drop(3, 1))], NONE),
 ];
 
-fn look_last(rt: &impl Abort, alloc: Global, cell: &mut Cell) -> Result<(), Fail> {
-    play(rt, alloc, cell, &LAST_LOOKS)
-}
-
-fn look_on(rt: &impl Abort, alloc: Global, cell: &mut Cell) -> Result<(), Fail> {
-    look_again(rt, alloc, cell)?;
-    look_last(rt, alloc, cell)
-}
-
-fn watch(rt: &impl Abort, alloc: Global, cell: &mut Cell) -> Result<(), Fail> {
-    look(rt, alloc, cell)?;
-    look_on(rt, alloc, cell)
-}
-
 #[test]
 fn a_witness_looks(rt: HostRuntime) -> Result<(), Fail> {
-    let mut cell = opened(rt.alloc())?;
-    watch(&rt, rt.alloc(), &mut cell)
+    play_where_none_is(&rt, rt.alloc(), &[LOOKS, CHANGES, LAST_LOOKS])
 }
 
 // Stray input at a cell: calls of number 0 and to a place outside the space, a real that is here, and a reap of one that is not.
-const STRAYS: [Row; 5] = [
+const STRAYS: &[Row] = &[
     COMES,
     Row(Fed::Walk(1, 0, 4_960), &[], HERE),
     Row(Fed::Walk(1, 1, 10_000), &[], HERE),
@@ -363,12 +315,8 @@ const STRAYS: [Row; 5] = [
     Row(Fed::Reap(3), &[], HERE),
 ];
 
-fn stray(rt: &impl Abort, alloc: Global, cell: &mut Cell) -> Result<(), Fail> {
-    play(rt, alloc, cell, &STRAYS)
-}
-
 // A call for an entity of which the cell knows nothing, and what is for base nodes. Then the first call is executed, at the next beat.
-const OTHERS: [Row; 5] = [
+const OTHERS: &[Row] = &[
     Row(Fed::Walk(3, 1, 4_960), &[], HERE),
     Row(Fed::BaseCall(1, 1), &[], HERE),
     Row(Fed::Current(1, 1, 9), &[], HERE),
@@ -376,17 +324,7 @@ const OTHERS: [Row; 5] = [
     Row(Fed::Walk(1, 1, 4_940), &[(1, Told::Set(2, 1, 1))], HERE),
 ];
 
-fn other(rt: &impl Abort, alloc: Global, cell: &mut Cell) -> Result<(), Fail> {
-    play(rt, alloc, cell, &OTHERS)
-}
-
-fn stray_all(rt: &impl Abort, alloc: Global, cell: &mut Cell) -> Result<(), Fail> {
-    stray(rt, alloc, cell)?;
-    other(rt, alloc, cell)
-}
-
 #[test]
 fn stray_input_changes_nothing(rt: HostRuntime) -> Result<(), Fail> {
-    let mut cell = opened(rt.alloc())?;
-    stray_all(&rt, rt.alloc(), &mut cell)
+    play_where_none_is(&rt, rt.alloc(), &[STRAYS, OTHERS])
 }

@@ -10,13 +10,18 @@ use std::alloc::{AllocError, Global};
 use std::process::Abort;
 use std::test::Fail;
 
-fn create(alloc: Global, defs: &Defs) -> Result<Real, AllocError> {
-    Real::create(alloc, defs, 1, AVATAR, Pos { x: 100, z: 100 })
+// What others may see of a new avatar.
+fn new_copy(alloc: Global, defs: &Defs) -> Result<GhostCopy, AllocError> {
+    Real::create(alloc, defs, 1, AVATAR, Pos { x: 100, z: 100 })?.copy_out(defs)
+}
+
+fn a_copy(alloc: Global) -> Result<GhostCopy, AllocError> {
+    new_copy(alloc, &builtin(alloc)?)
 }
 
 // A copy goes into a cell's book, and out of it.
-fn hear(rt: &impl Abort, cell: &mut Cell, copy: GhostCopy) -> Result<(), Fail> {
-    let Ok(()) = cell.hear_ghost_set(1, 2, copy) else {
+fn hear(rt: &impl Abort, alloc: Global, cell: &mut Cell) -> Result<(), Fail> {
+    let Ok(()) = cell.hear_ghost_set(1, 2, a_copy(alloc)?) else {
         return Err("no memory")?;
     };
     let was_taken = cell.copies().get(1).is_some();
@@ -24,14 +29,6 @@ fn hear(rt: &impl Abort, cell: &mut Cell, copy: GhostCopy) -> Result<(), Fail> {
     cell.hear_tick()?;
     assert!(rt; was_taken && cell.copies().get(1).is_none());
     Ok(())
-}
-
-#[test]
-fn a_cell_hears_of_a_ghost(rt: HostRuntime) -> Result<(), Fail> {
-    let defs = builtin(rt.alloc())?;
-    let copy = create(rt.alloc(), &defs)?.copy_out(&defs)?;
-    let mut cell = Cell::new(rt.alloc(), 3, defs, Settings::standard());
-    hear(&rt, &mut cell, copy)
 }
 
 // A call for an entity of which the cell knows no place is dropped.
@@ -52,7 +49,8 @@ fn drop_call(rt: &impl Abort, cell: &Cell, alloc: Global) -> Result<(), Fail> {
 }
 
 #[test]
-fn a_call_without_a_place_goes_nowhere(rt: HostRuntime) -> Result<(), Fail> {
-    let cell = Cell::new(rt.alloc(), 3, builtin(rt.alloc())?, Settings::standard());
+fn a_cell_hears_of_a_ghost_and_drops_a_call_without_a_place(rt: HostRuntime) -> Result<(), Fail> {
+    let mut cell = Cell::new(rt.alloc(), 3, builtin(rt.alloc())?, Settings::standard());
+    hear(&rt, rt.alloc(), &mut cell)?;
     drop_call(&rt, &cell, rt.alloc())
 }

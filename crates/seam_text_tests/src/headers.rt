@@ -1,10 +1,11 @@
 // The worked rows of headers.
-use seam_defs::Settings;
+use seam_defs::{Defs, Settings};
 use seam_toml::{
     Fault, Header, HeaderError, Role, first_fault, has_fault, is_at_fault, read_document,
     read_header, read_settings,
 };
 use std::alloc::Global;
+use std::process::Abort;
 use std::test::Fail;
 
 // A call of its own, without a clause: what a text stands for is not computed again where it is asked.
@@ -129,13 +130,17 @@ fn headers_have_their_first_causes(rt: HostRuntime) -> Result<(), Fail> {
     Ok(())
 }
 
-#[test]
-fn no_bytes_set_the_standard_settings_and_the_built_in_types(rt: HostRuntime) -> Result<(), Fail> {
-    let header = read(rt.alloc(), "").map_err(|_| "no bytes")?;
+fn look_at_built_in_types(rt: &impl Abort, header: &Header) {
     assert!(rt; header.settings == Settings::standard());
     assert!(rt; header.defs.find_type(b"Avatar") == Some(0));
     assert!(rt; header.defs.find_type(b"Chest") == Some(1));
     assert!(rt; !header.defs.has_type(2));
+}
+
+#[test]
+fn no_bytes_set_the_standard_settings_and_the_built_in_types(rt: HostRuntime) -> Result<(), Fail> {
+    let header = read(rt.alloc(), "").map_err(|_| "no bytes")?;
+    look_at_built_in_types(&rt, &header);
     Ok(())
 }
 
@@ -163,27 +168,35 @@ exposed = true
 body = ['add gold 10']
 ";
 
-#[test]
-fn a_game_defines_its_own_types(rt: HostRuntime) -> Result<(), Fail> {
-    let header = read(rt.alloc(), GAME).map_err(|_| "the game's header")?;
-    assert!(rt; header.settings.size == 500);
-    assert!(rt; header.settings.bases == 2);
+fn look_at_types(rt: &impl Abort, header: &Header) {
+    assert!(rt; header.settings.size == 500 && header.settings.bases == 2);
     assert!(rt; header.defs.find_type(b"Chest") == Some(0));
     assert!(rt; header.defs.find_type(b"Door") == Some(1));
     assert!(rt; header.defs.find_type(b"Guard") == Some(2));
-    let guard = header.defs.type_at(2);
+}
+
+fn look_at_guard(rt: &impl Abort, defs: &Defs) {
+    let guard = defs.type_at(2);
     assert!(rt; guard.find_property(b"hp") == Some(0));
     assert!(rt; guard.find_property(b"name") == Some(1));
     assert!(rt; guard.find_method(b"wound") == Some(0));
-    let chest = header.defs.type_at(0);
+}
+
+fn look_at_chest(rt: &impl Abort, defs: &Defs) {
+    let chest = defs.type_at(0);
     assert!(rt; chest.find_method(b"fill") == Some(0));
     match chest.method(0) {
-        Some(fill) => {
-            assert!(rt; fill.exposed);
-            assert!(rt; fill.body.as_slice().len() == 1);
-        }
-        None => return Err("fill".into()),
+        Some(fill) => assert!(rt; fill.exposed && fill.body.as_slice().len() == 1),
+        None => panic!(rt; "no method"),
     }
+}
+
+#[test]
+fn a_game_defines_its_own_types(rt: HostRuntime) -> Result<(), Fail> {
+    let header = read(rt.alloc(), GAME).map_err(|_| "the game's header")?;
+    look_at_types(&rt, &header);
+    look_at_chest(&rt, &header.defs);
+    look_at_guard(&rt, &header.defs);
     Ok(())
 }
 
