@@ -2,7 +2,7 @@
 use crate::feeding::{AVATAR, Fed, builtin, feed, order};
 use crate::told::{Told, are_sent};
 use seam_base::Base;
-use seam_defs::{Defs, Settings};
+use seam_defs::Settings;
 use seam_entity::Msg;
 use seam_machine::{Machine, Out};
 use std::alloc::{AllocError, Global};
@@ -71,8 +71,8 @@ const STUCK: Seen = Seen {
 struct Row<'a>(Comes, &'a [(u8, Told)], Seen);
 
 // Base node 17 of two, without entities.
-fn empty(alloc: Global, defs: Defs) -> Base {
-    Base::new(alloc, 17, defs, Settings::standard())
+fn empty(alloc: Global) -> Result<Base, AllocError> {
+    Ok(Base::new(alloc, 17, builtin(alloc)?, Settings::standard()))
 }
 
 fn add(base: &mut Base, alloc: Global) -> Result<(), AllocError> {
@@ -93,12 +93,6 @@ fn load(base: &mut Base, alloc: Global) -> Result<(), AllocError> {
     add(base, alloc)?;
     base.start_round(2);
     attach(base, alloc)
-}
-
-fn loaded(alloc: Global) -> Result<Base, AllocError> {
-    let mut base = empty(alloc, builtin(alloc)?);
-    load(&mut base, alloc)?;
-    Ok(base)
 }
 
 fn give(base: &mut Base, alloc: Global, fed: Fed) -> Result<(), Fail> {
@@ -146,6 +140,7 @@ fn play(rt: &impl Abort, alloc: Global, base: &mut Base, rows: &[Row]) -> Result
 }
 
 fn play_all(rt: &impl Abort, alloc: Global, base: &mut Base, parts: &[&[Row]]) -> Result<(), Fail> {
+    load(base, alloc)?;
     for rows in parts {
         play(rt, alloc, base, rows)?;
     }
@@ -154,7 +149,7 @@ fn play_all(rt: &impl Abort, alloc: Global, base: &mut Base, parts: &[&[Row]]) -
 
 // The base node is owned here alone, and not by each test: a drop of all its parts is long to prove.
 fn play_loaded(rt: &impl Abort, alloc: Global, parts: &[&[Row]]) -> Result<(), Fail> {
-    let mut base = loaded(alloc)?;
+    let mut base = empty(alloc)?;
     play_all(rt, alloc, &mut base, parts)
 }
 

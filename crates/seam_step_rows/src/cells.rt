@@ -1,11 +1,11 @@
 // The cases of a cell's step.
-ghost use Rattle.std.specs.Prelude.{◌≡◌};
+ghost use Rattle.std.specs.Prelude.{◌≡◌, IfOk};
 ghost use Rattle.seam_steps.specs.Loads.{one_cell};
 
 use crate::feeding::{AVATAR, Fed, PLACE, builtin, feed};
 use crate::told::{Told, are_sent};
 use seam_cell::{Cell, Making};
-use seam_defs::{Defs, Settings};
+use seam_defs::Settings;
 use seam_machine::Machine;
 use seam_tree::{Axis, Tree};
 use std::alloc::{AllocError, Global};
@@ -49,11 +49,11 @@ const COPIED: Seen = Seen {
 struct Row<'a>(Fed, &'a [(u8, Told)], Seen);
 
 // Cell 0, without entities, in a space that it has alone.
-fn empty(alloc: Global, defs: Defs) -> Cell
-    ensures tree { result.tree ≡ one_cell 10000 }
-    ensures size { result.here.settings.size ≡ 10000 }
+fn empty(alloc: Global) -> Result<Cell, AllocError>
+    ensures tree { IfOk result (λ c. c.tree ≡ one_cell 10000) }
+    ensures size { IfOk result (λ c. c.here.settings.size ≡ 10000) }
 {
-    Cell::new(alloc, 0, defs, Settings::standard())
+    Ok(Cell::new(alloc, 0, builtin(alloc)?, Settings::standard()))
 }
 
 // A round begins in it, in a space of two cells, whose boundary is at x = 5000.
@@ -63,13 +63,6 @@ fn begin(cell: &mut Cell, alloc: Global) -> Result<(), AllocError>
     let mut tree = Tree::one(10_000);
     let _cut = tree.cut(0, Axis::X, 5_000);
     cell.start_round(alloc, tree)
-}
-
-// Cell 0 of two, without entities.
-fn opened(alloc: Global) -> Result<Cell, AllocError> {
-    let mut cell = empty(alloc, builtin(alloc)?);
-    begin(&mut cell, alloc)?;
-    Ok(cell)
 }
 
 fn avatar(entity: u32) -> Making {
@@ -105,12 +98,24 @@ fn load(cell: &mut Cell, alloc: Global, space: &Tree) -> Result<(), AllocError>
     begin(cell, alloc)
 }
 
-// Cell 0 of two, with entities 1 and 2, which are to settle; entity 1 has a client.
-fn loaded(alloc: Global) -> Result<Cell, AllocError> {
-    let mut cell = empty(alloc, builtin(alloc)?);
-    load(&mut cell, alloc, &Tree::one(10_000))?;
-    cell.attach(alloc, 1)?;
-    Ok(cell)
+// What cell 0 of two has before its rows: nothing, or entities 1 and 2, which are to settle, and a client of entity 1.
+#[derive(Clone, Copy)]
+enum Before {
+    Nothing,
+    Entities,
+}
+
+fn start(cell: &mut Cell, alloc: Global, before: Before) -> Result<(), AllocError>
+    requires tree { cell.old.tree ≡ one_cell 10000 }
+    requires size { cell.old.here.settings.size ≡ 10000 }
+{
+    match before {
+        Before::Nothing => begin(cell, alloc),
+        Before::Entities => {
+            load(cell, alloc, &Tree::one(10_000))?;
+            cell.attach(alloc, 1)
+        }
+    }
 }
 
 fn seen_in(cell: &Cell) -> Seen {
@@ -137,7 +142,17 @@ fn play(rt: &impl Abort, alloc: Global, cell: &mut Cell, rows: &[Row]) -> Result
     Ok(())
 }
 
-fn play_all(rt: &impl Abort, alloc: Global, cell: &mut Cell, parts: &[&[Row]]) -> Result<(), Fail> {
+fn play_all(
+    rt: &impl Abort,
+    alloc: Global,
+    cell: &mut Cell,
+    before: Before,
+    parts: &[&[Row]],
+) -> Result<(), Fail>
+    requires tree { cell.old.tree ≡ one_cell 10000 }
+    requires size { cell.old.here.settings.size ≡ 10000 }
+{
+    start(cell, alloc, before)?;
     for rows in parts {
         play(rt, alloc, cell, rows)?;
     }
@@ -145,14 +160,14 @@ fn play_all(rt: &impl Abort, alloc: Global, cell: &mut Cell, parts: &[&[Row]]) -
 }
 
 // The cell is owned here alone, and not by each test: a drop of all its parts is long to prove.
-fn play_where_none_is(rt: &impl Abort, alloc: Global, parts: &[&[Row]]) -> Result<(), Fail> {
-    let mut cell = opened(alloc)?;
-    play_all(rt, alloc, &mut cell, parts)
-}
-
-fn play_where_two_are(rt: &impl Abort, alloc: Global, rows: &[Row]) -> Result<(), Fail> {
-    let mut cell = loaded(alloc)?;
-    play(rt, alloc, &mut cell, rows)
+fn play_after(
+    rt: &impl Abort,
+    alloc: Global,
+    before: Before,
+    parts: &[&[Row]],
+) -> Result<(), Fail> {
+    let mut cell = empty(alloc)?;
+    play_all(rt, alloc, &mut cell, before, parts)
 }
 
 // Survey task, of each real in rising number: cell 1, which is near, gets copies. Then the client is told of itself and of entity 2.
@@ -169,7 +184,7 @@ const SURVEYS: &[Row] = &[
 
 #[test]
 fn reals_settle_in_rising_number(rt: HostRuntime) -> Result<(), Fail> {
-    play_where_two_are(&rt, rt.alloc(), SURVEYS)
+    play_after(&rt, rt.alloc(), Before::Entities, &[SURVEYS])
 }
 
 // Reap, of the first entity of the survey list: the other one is still to settle, and then nothing is to be done.
@@ -188,7 +203,7 @@ const DUE_REAPS: &[Row] = &[
 
 #[test]
 fn a_reaped_entity_does_not_settle(rt: HostRuntime) -> Result<(), Fail> {
-    play_where_two_are(&rt, rt.alloc(), DUE_REAPS)
+    play_after(&rt, rt.alloc(), Before::Entities, &[DUE_REAPS])
 }
 
 // Hand-over comes: the base nodes are told.
@@ -227,7 +242,7 @@ const REAPS: &[Row] = &[
 
 #[test]
 fn calls_are_executed_in_turn_where_the_real_is(rt: HostRuntime) -> Result<(), Fail> {
-    play_where_none_is(&rt, rt.alloc(), &[CALLS, LEAVES, REAPS])
+    play_after(&rt, rt.alloc(), Before::Nothing, &[CALLS, LEAVES, REAPS])
 }
 
 // Ghost set and ghost drop, each of a greater beat and the same one, and a set of a lesser one.
@@ -241,7 +256,7 @@ const GHOSTS: &[Row] = &[
 
 #[test]
 fn the_greatest_beat_tells_of_a_ghost(rt: HostRuntime) -> Result<(), Fail> {
-    play_where_none_is(&rt, rt.alloc(), &[GHOSTS])
+    play_after(&rt, rt.alloc(), Before::Nothing, &[GHOSTS])
 }
 
 // Ghost set, where the real is: nothing is kept of it, as is seen when the real is gone.
@@ -254,7 +269,7 @@ const IGNORED: &[Row] = &[
 
 #[test]
 fn a_ghost_of_a_real_is_ignored(rt: HostRuntime) -> Result<(), Fail> {
-    play_where_none_is(&rt, rt.alloc(), &[IGNORED])
+    play_after(&rt, rt.alloc(), Before::Nothing, &[IGNORED])
 }
 
 const WATCHER_COMES: Row = Row(
@@ -303,7 +318,12 @@ const LAST_LOOKS: &[Row] = &[
 
 #[test]
 fn a_witness_looks(rt: HostRuntime) -> Result<(), Fail> {
-    play_where_none_is(&rt, rt.alloc(), &[LOOKS, CHANGES, LAST_LOOKS])
+    play_after(
+        &rt,
+        rt.alloc(),
+        Before::Nothing,
+        &[LOOKS, CHANGES, LAST_LOOKS],
+    )
 }
 
 // Stray input at a cell: calls of number 0 and to a place outside the space, a real that is here, and a reap of one that is not.
@@ -326,5 +346,5 @@ const OTHERS: &[Row] = &[
 
 #[test]
 fn stray_input_changes_nothing(rt: HostRuntime) -> Result<(), Fail> {
-    play_where_none_is(&rt, rt.alloc(), &[STRAYS, OTHERS])
+    play_after(&rt, rt.alloc(), Before::Nothing, &[STRAYS, OTHERS])
 }
