@@ -48,9 +48,17 @@ fn drop_call(rt: &impl Abort, cell: &Cell, alloc: Global) -> Result<(), Fail> {
     Ok(())
 }
 
+fn empty(alloc: Global) -> Result<Cell, AllocError> {
+    Ok(Cell::new(alloc, 3, builtin(alloc)?, Settings::standard()))
+}
+
+fn listen(rt: &impl Abort, alloc: Global, cell: &mut Cell) -> Result<(), Fail> {
+    hear(rt, alloc, cell)?;
+    drop_call(rt, cell, alloc)
+}
+
 #[test]
 fn a_cell_hears_of_a_ghost_and_drops_a_call_without_a_place(rt: HostRuntime) -> Result<(), Fail> {
-    let mut cell = Cell::new(rt.alloc(), 3, builtin(rt.alloc())?, Settings::standard());
-    hear(&rt, rt.alloc(), &mut cell)?;
-    drop_call(&rt, &cell, rt.alloc())
+    let mut cell = empty(rt.alloc())?;
+    listen(&rt, rt.alloc(), &mut cell)
 }
