@@ -1,6 +1,8 @@
 -- What a real that may be offered a call has room for, and what a call makes of it.
 use Rattle.std.proofs.Common.{◌≡◌, ◌+◌, ◌<◌, ◌≤◌, ◌^◌, ℕ, Bool, true, false, not, ◌&&◌, nat_lt, is_some, refl, ap, sym, subst, ◌∙◌, arith}
 use Rattle.std.proofs.lemmas.Bool.Decides.{nat_tests}
+use Rattle.seam_defs.specs.declared.states.Later.{Later}
+use Rattle.seam_defs.specs.Deeds.{with_later}
 use Rattle.seam_order.specs.Held.{item_at}
 use Rattle.seam_call.specs.declared.call.Call.{Call as CallData}
 use Rattle.seam_entity.specs.Here.{Here}
@@ -11,7 +13,6 @@ use Rattle.seam_entity.specs.Calls.{may_offer}
 use Rattle.seam_entity.specs.Executing.{fits_cell_part, may_settle, may_execute, may_call}
 use Rattle.seam_entity.specs.Executing.{public_after, with_deed, executed, shows}
 use Rattle.seam_entity.specs.Preparing.{with_after}
-use Rattle.seam_entity.specs.declared.real.After.{After}
 use Rattle.seam_parts.specs.Stepping.{IsLater}
 use Rattle.seam_entity.proofs.HeldLemmas.{both}
 
@@ -58,7 +59,7 @@ can_call h r q k may same =
     })
 
 -- the real after the call, from what was known of it before
-pub after_is : (h : Here) (r q : RealView) (a : After) (k : CallData) → q ≡ r → a.state ≡ (with_deed h r k).state →
+pub after_is : (h : Here) (r q : RealView) (a : Later) (k : CallData) → q ≡ r → with_later r.state a ≡ (with_deed h r k).state →
     a.changed ≡ shows h r k → with_after q a k ≡ with_deed h r k
 after_is h r q a k same state changed =
     ap (λ x. with_after x a k) same

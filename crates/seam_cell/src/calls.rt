@@ -1,6 +1,7 @@
 //! Calls of a real that is here.
 
 ghost use Rattle.std.specs.Prelude.{◌≡◌, ◌<◌, ◌^◌, true, is_some, IfOk, IfErr, IfSome, OnOk, OnErr, Some, option_map};
+ghost use Rattle.seam_defs.specs.Deeds.{with_later};
 ghost use Rattle.seam_defs.specs.Settings.{AreLegal};
 ghost use Rattle.seam_entity.specs.Here.{cell_count};
 ghost use Rattle.seam_entity.specs.Orders.{order_of};
@@ -14,7 +15,8 @@ ghost use Rattle.seam_parts.specs.Settling.{HasRoomFor};
 ghost use Rattle.seam_parts.specs.Stepping.{HasBegun, IsDone, parts_of, slot_in, core_of};
 
 use seam_call::Call;
-use seam_entity::{After, Msg, Real, fits_cell_part, may_rise};
+use seam_defs::Later;
+use seam_entity::{Msg, Real, fits_cell_part, may_rise};
 use seam_machine::Out;
 use seam_memory::NoMemoryFor;
 use seam_parts::{Begun, Known, Places, Subject, begin, settle_real};
@@ -37,7 +39,7 @@ pub struct Called {
 /// What a call leaves of a real, and the settling that has begun with it.
 #[derive(Drop)]
 pub struct Made {
-    pub after: After,
+    pub after: Later,
     pub begun: Begun,
 }
 
@@ -85,7 +87,7 @@ fn begin_call(
     requires may { real_may_call (here_in known.now) real.old.core call.now ≡ true }
     ensures same { real.new.core ≡ real.old.core }
     ensures room { OnOk result (HasRoom real.new call.now) }
-    ensures state { IfOk result (λ m. m.after.state ≡ (with_deed (here_in known.now) real.old.core call.now).state) }
+    ensures state { IfOk result (λ m. with_later real.old.core.state m.after ≡ (with_deed (here_in known.now) real.old.core call.now).state) }
     ensures changed { IfOk result (λ m. m.after.changed ≡ shows (here_in known.now) real.old.core call.now) }
     ensures begun { let h = here_in known.now in let r = real.old.core in IfOk result (λ m. HasBegun h known.now.tree
         (executed h r call.now) (shows h r call.now) (parts_of places.old out.old) (parts_of places.new out.new) m.begun) }
@@ -97,7 +99,8 @@ fn begin_call(
         defs: &known.defs,
         ty: real.ty(),
         version: real.version_after(&after),
-        state: &after.state,
+        pos: after.pos,
+        props: after.props_over(real.state()),
     };
     let begun = begin(known, real, &of, after.changed, places, out)?;
     Ok(Made { after, begun })

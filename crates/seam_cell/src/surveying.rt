@@ -56,7 +56,8 @@ pub fn settle_again(known: &Known, real: Real, places: &mut Places, out: &mut Ou
         defs: &known.defs,
         ty: real.ty(),
         version: real.public_version(),
-        state: real.state(),
+        pos: real.state().pos,
+        props: &real.state().props,
     };
     let Ok(begun) = begin(known, &real, &of, false, places, out) else {
         return Tasked {

@@ -1,6 +1,7 @@
 //! Tasks about a real that is here: it settles, or executes a ready call and settles.
 
 ghost use Rattle.std.specs.Prelude.{◌≡◌, ◌<◌, ◌^◌, ℕ, true, false, is_some, IfOk, IfErr, IfSome, OnOk, OnErr, Some, option_map};
+ghost use Rattle.seam_defs.specs.Deeds.{with_later};
 ghost use Rattle.seam_defs.specs.Settings.{AreLegal};
 ghost use Rattle.seam_order.specs.Held.{OrderView};
 ghost use Rattle.seam_call.specs.declared.call.Call.{Call as AnyCall};
@@ -42,7 +43,7 @@ fn begin_ready(
     ensures same { real.new.core ≡ real.old.core }
     ensures room { OnOk result (HasSpare real.new) }
     ensures state { (o : ℕ × OrderView AnyCall) (k : AnyCall) → HasReady real.old.core o k →
-        IfOk result (λ m. m.after.state ≡ (with_deed (here_in known.now) real.old.core k).state) }
+        IfOk result (λ m. with_later real.old.core.state m.after ≡ (with_deed (here_in known.now) real.old.core k).state) }
     ensures changed { (o : ℕ × OrderView AnyCall) (k : AnyCall) → HasReady real.old.core o k →
         IfOk result (λ m. m.after.changed ≡ shows (here_in known.now) real.old.core k) }
     ensures begun { (o : ℕ × OrderView AnyCall) (k : AnyCall) → HasReady real.old.core o k →
@@ -57,7 +58,8 @@ fn begin_ready(
         defs: &known.defs,
         ty: real.ty(),
         version: real.version_after(&after),
-        state: &after.state,
+        pos: after.pos,
+        props: after.props_over(real.state()),
     };
     let begun = begin(known, real, &of, after.changed, places, out)?;
     Ok(Made { after, begun })

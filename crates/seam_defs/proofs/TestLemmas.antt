@@ -1,7 +1,7 @@
 -- The tests decide their relations.
 use Rattle.std.proofs.Common.{◌≡◌, ℕ, ◌≤◌, ℤ, ◌≤ℤ◌, Bool, true, false, not, ◌&&◌, T, eqb, ◌↔◌, List, [], ◌∷◌, length, map, refl, ap, ◌∙◌}
 use Rattle.std.proofs.Common.{IsTrue, Result, Ok, Err}
-use Rattle.std.specs.Prelude.{IfOk, OnOk}
+use Rattle.std.specs.Prelude.{IfOk}
 use Rattle.std.specs.Bool.{Decides}
 use Rattle.std.specs.Prelude.{int_le, nat_le}
 use Rattle.std.specs.List.{AllZip}
@@ -23,9 +23,10 @@ use Rattle.seam_defs.specs.declared.flags.Part.{Part}
 use Rattle.seam_defs.specs.declared.flags.Part.TheVariants as part
 use Rattle.seam_defs.specs.declared.types.Property.{Property}
 use Rattle.seam_defs.specs.declared.types.TypeDef.{TypeDef}
+use Rattle.seam_defs.specs.declared.states.Later.{Later}
 use Rattle.seam_defs.specs.declared.states.State.{State}
 use Rattle.seam_defs.specs.declared.states.Deed.{Deed}
-use Rattle.seam_defs.specs.Deeds.{properties_of, ghost_of, client_of, after, part_of_deed, SameShown, IsOfGroup}
+use Rattle.seam_defs.specs.Deeds.{properties_of, ghost_of, client_of, after, part_of_deed, SameShown, IsOfGroup, with_later}
 use Rattle.seam_defs.specs.Tests.{is_text, fits_value, fit_values, are_of_group, same_value, same_values, same_state, same_shown, changes}
 
 -- a test that is true exactly where a relation holds is the one that decides it
@@ -131,8 +132,8 @@ changed_is t s new d c h e =
     not_by false true h d = refl
     not_by false false h d = let f : false ≡ true = d.1 (h.0 refl) in cc
 
-pub changed_if_ok : {E : Type 0} (t : TypeDef) (s new : State) (d : Deed) (r : Result Bool E) →
-    IfOk r (λ c. (c ≡ false) ↔ SameShown t.properties (part_of_deed t d) s new) → OnOk r (new ≡ after t s d) →
-    IfOk r (λ c. c ≡ changes t s d)
-changed_if_ok t s new d (Ok c) h e = changed_is t s new d c h e
-changed_if_ok t s new d (Err x) h e = tt
+pub later_changes : {E : Type 0} (t : TypeDef) (s : State) (d : Deed) (r : Result Later E) →
+    IfOk r (λ l. with_later s l ≡ after t s d) →
+    IfOk r (λ l. (l.changed ≡ false) ↔ SameShown t.properties (part_of_deed t d) s (with_later s l)) → IfOk r (λ l. l.changed ≡ changes t s d)
+later_changes t s d (Ok l) is same = changed_is t s (with_later s l) d l.changed same is
+later_changes t s d (Err x) is same = tt

@@ -2,6 +2,7 @@
 use Rattle.std.specs.Prelude.{◌≡◌, ⊤, ℕ, ℤ, pos, ◌-◌, ◌<◌, ◌+ℤ◌, ◌-ℤ◌, List, ◌∷◌, ◌++◌, length, map, filter, fold, slice_index_or}
 use Rattle.std.specs.Prelude.{slice_set, take}
 use Rattle.std.specs.List.{AllZip, zip, flat_map}
+use Rattle.std.specs.Option.{unwrap_or}
 use Rattle.std.specs.Int.{int_min, int_max}
 use Rattle.seam_value.specs.Types.{least, greatest}
 use Rattle.seam_value.specs.Values.{Fits, text_of}
@@ -19,6 +20,7 @@ use Rattle.seam_defs.specs.declared.types.TypeDef.{TypeDef}
 use Rattle.seam_defs.specs.declared.states.Deed.{Deed}
 use Rattle.seam_defs.specs.declared.states.Deed.TheVariants.{Move, Method}
 use Rattle.seam_defs.specs.declared.states.State.{State}
+use Rattle.seam_defs.specs.declared.states.Later.{Later}
 use Rattle.seam_defs.specs.Groups.{in_group, held_by}
 use Rattle.seam_defs.specs.declared.flags.Part.{Part}
 use Rattle.seam_defs.specs.declared.flags.Part.TheVariants as part
@@ -125,6 +127,10 @@ abbrev pub after : TypeDef → State → Deed → State
 after t s (Move p) = record { pos = p; props = s.props }
 after t s (Method m args) =
     record { pos = s.pos; props = after_body t.properties (held_by (method_of t m).part) args (method_of t m).body s.props }
+
+-- a state with what a deed left of it: other values only where it says so
+abbrev pub with_later : State → Later → State
+with_later s l = record { pos = l.pos; props = unwrap_or l.props s.props }
 
 -- the part that a deed is done on: a move is for the cell part
 abbrev pub part_of_deed : TypeDef → Deed → Part

@@ -5,10 +5,12 @@ ghost use Rattle.seam_defs.specs.Types.{IsType, IsMethod};
 ghost use Rattle.seam_defs.specs.Tests.{changes};
 ghost use Rattle.seam_defs.specs.Deeds.{nearest as nearest_number, number_of, operand_value, operated, target, operand, place_of, type_at};
 ghost use Rattle.seam_defs.specs.Deeds.{after_with, after_body, after, part_of_deed, projected, SameShown, IsOfGroup, TakesArgs};
-ghost use Rattle.seam_defs.specs.Deeds.{FitsDeed};
+ghost use Rattle.seam_defs.specs.Deeds.{FitsDeed, with_later};
 
 use crate::groups::OfGroup;
-use crate::{Deed, Group, Method, Operand, Operation, Part, Property, Props, State, TypeDef};
+use crate::{
+    Deed, Group, Later, Method, Operand, Operation, Part, Property, Props, State, TypeDef,
+};
 use seam_value::{Value, ValueType};
 use std::alloc::{AllocError, Global};
 
@@ -70,6 +72,18 @@ impl TypeDef {
         ensures kept { FitsDeed self.now deed.now → let group = held_by (part_of_deed self.now deed.now) in
             IsOfGroup self.now.properties group state.old.props → IsOfGroup self.now.properties group state.new.props }
     {
+        let later = self.perform(state, deed)?;
+        let changed = later.changed;
+        state.advance(later);
+        Ok(changed)
+    }
+
+    /// What a deed leaves of a state, and whether what others may see of the part differs there; the state itself stays as it is.
+    pub fn later(&self, state: &State, deed: &Deed) -> Result<Later, AllocError>
+        requires { IsType self.now }
+        ensures after { IfOk result (λ l. with_later state.now l ≡ after self.now state.now deed.now) }
+        ensures changed { IfOk result (λ l. l.changed ≡ changes self.now state.now deed.now) }
+    {
         self.perform(state, deed)
     }
 
@@ -79,37 +93,41 @@ impl TypeDef {
         ensures after { IfOk result (λ r. r.0 ≡ after self.now state.now deed.now) }
         ensures changed { IfOk result (λ r. r.1 ≡ changes self.now state.now deed.now) }
     {
-        let mut later = state.copy()?;
-        let changed = self.apply(&mut later, deed)?;
-        Ok((later, changed))
+        let later = self.later(state, deed)?;
+        let changed = later.changed;
+        Ok((later.over(state)?, changed))
     }
 
-    // What `apply` does, without its test.
-    fn perform(&self, state: &mut State, deed: &Deed) -> Result<bool, AllocError>
+    // What `later` gives, without its test.
+    fn perform(&self, state: &State, deed: &Deed) -> Result<Later, AllocError>
         requires { IsType self.now }
-        ensures ok { OnOk result (state.new ≡ after self.now state.old deed.now) }
-        ensures changed { IfOk result (λ c. (c ≡ false)
-            ↔ SameShown self.now.properties (part_of_deed self.now deed.now) state.old state.new) }
-        ensures err { OnErr result (state.new ≡ state.old) }
-        ensures kept { FitsDeed self.now deed.now → let group = held_by (part_of_deed self.now deed.now) in
-            IsOfGroup self.now.properties group state.old.props → IsOfGroup self.now.properties group state.new.props }
+        ensures after { IfOk result (λ l. with_later state.now l ≡ after self.now state.now deed.now) }
+        ensures changed { IfOk result (λ l. (l.changed ≡ false)
+            ↔ SameShown self.now.properties (part_of_deed self.now deed.now) state.now (with_later state.now l)) }
+        ensures kept { IfOk result (λ l. FitsDeed self.now deed.now → let group = held_by (part_of_deed self.now deed.now) in
+            IsOfGroup self.now.properties group state.now.props → IsOfGroup self.now.properties group (with_later state.now l).props) }
     {
         match deed {
-            Deed::Move(to) => {
-                let changed = state.pos != *to;
-                state.pos = *to;
-                Ok(changed)
-            }
+            Deed::Move(to) => Ok(Later {
+                pos: *to,
+                props: None,
+                changed: state.pos != *to,
+            }),
             Deed::Method(number, args) => match self.method(*number) {
                 Some(method) => {
-                    run(
-                        self.properties.as_slice(),
-                        method,
-                        args.values(),
-                        &mut state.props,
-                    )
+                    let properties = self.properties.as_slice();
+                    let (props, changed) = run(properties, method, args.values(), &state.props)?;
+                    Ok(Later {
+                        pos: state.pos,
+                        props: Some(props),
+                        changed,
+                    })
                 }
-                None => Ok(false),
+                None => Ok(Later {
+                    pos: state.pos,
+                    props: None,
+                    changed: false,
+                }),
             },
         }
     }
@@ -120,22 +138,20 @@ fn run(
     properties: &[Property],
     method: &Method,
     args: &[Value],
-    props: &mut Props,
-) -> Result<bool, AllocError>
+    props: &Props,
+) -> Result<(Props, bool), AllocError>
     requires { IsMethod properties.now method.now }
-    ensures kept { TakesArgs method.now.args args.now → IsOfGroup properties.now (held_by method.now.part) props.old →
-        IsOfGroup properties.now (held_by method.now.part) props.new }
-    ensures ok { OnOk result (props.new ≡ after_body properties.now (held_by method.now.part) args.now method.now.body props.old) }
-    ensures changed { IfOk result (λ c. (c ≡ false)
-        ↔ (projected properties.now (held_by method.now.part) (shown_by method.now.part) props.old
-        ≡ projected properties.now (held_by method.now.part) (shown_by method.now.part) props.new)) }
-    ensures err { OnErr result (props.new ≡ props.old) }
+    ensures kept { IfOk result (λ r. TakesArgs method.now.args args.now → IsOfGroup properties.now (held_by method.now.part) props.now →
+        IsOfGroup properties.now (held_by method.now.part) r.0) }
+    ensures after { IfOk result (λ r. r.0 ≡ after_body properties.now (held_by method.now.part) args.now method.now.body props.now) }
+    ensures changed { IfOk result (λ r. (r.1 ≡ false)
+        ↔ (projected properties.now (held_by method.now.part) (shown_by method.now.part) props.now
+        ≡ projected properties.now (held_by method.now.part) (shown_by method.now.part) r.0)) }
 {
     let mut later = props.values().copy(*method.body.allocator())?;
     operate_all(properties, method, args, &mut later)?;
     let same = are_same(properties, method.part, props, &later);
-    *props = Props::of(later)?;
-    Ok(!same)
+    Ok((Props::of(later)?, !same))
 }
 
 // Does the operations of a method's body, from left to right, on the values of its part.

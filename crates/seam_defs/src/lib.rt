@@ -35,5 +35,5 @@ pub use names::is_name;
 pub use property_name::PropertyName;
 pub use props::Props;
 pub use settings::{LARGEST_SIZE, LONGEST_DISTANCE, Settings};
-pub use states::{Args, Deed, State};
+pub use states::{Args, Deed, Later, State};
 pub use types::{Method, Operand, Operation, Property, TypeDef};

@@ -59,6 +59,12 @@ impl Props {
         })
     }
 
+    /// Lets the values go. Where no other copy shares them, as mostly, that takes no locked instruction, as the drop of a shared
+    /// pointer does.
+    pub(crate) fn release(self) {
+        let _ = Arc::try_unwrap(self.values);
+    }
+
     /// The values.
     pub(crate) fn values(&self) -> KeptValues<'_>
         ensures values { values_left result ≡ self.now }

@@ -1,4 +1,5 @@
 ghost use Rattle.std.specs.Prelude.{◌≡◌, IfOk};
+ghost use Rattle.seam_defs.specs.Deeds.{with_later};
 
 use crate::Props;
 use crate::props::KeptValues;
@@ -6,6 +7,7 @@ use seam_geo::Pos;
 use seam_value::Value;
 use std::alloc::AllocError;
 use std::marker::Model;
+use std::mem;
 
 /// The arguments of a call.
 #[derive(Debug, Drop)]
@@ -69,5 +71,51 @@ impl State {
             pos: self.pos,
             props: self.props.copy()?,
         })
+    }
+
+    /// Takes what a deed left of it.
+    pub fn advance(&mut self, later: Later)
+        ensures { self.new ≡ with_later self.old later }
+    {
+        self.pos = later.pos;
+        if let Some(props) = later.props {
+            mem::replace(&mut self.props, props).release();
+        }
+    }
+}
+
+/// What a deed leaves of a state: its position, and its values where the deed is not one that leaves all of them as they are. So no
+/// values are copied, nor counted once more, where an entity moves.
+#[derive(Debug, Drop)]
+pub struct Later {
+    pub pos: Pos,
+    pub props: Option<Props>,
+    /// Whether what others may see of the part differs.
+    pub changed: bool,
+}
+
+impl Later {
+    /// The values that it leaves of a state.
+    pub fn props_over<'a>(&'a self, state: &'a State) -> &'a Props
+        ensures { result.now ≡ (with_later state.now self.now).props }
+    {
+        match &self.props {
+            Some(props) => props,
+            None => &state.props,
+        }
+    }
+
+    /// The state that it leaves of one.
+    pub fn over(self, state: &State) -> Result<State, AllocError>
+        ensures { IfOk result (λ s. s ≡ with_later state.now self) }
+    {
+        let Later { pos, props, .. } = self;
+        match props {
+            Some(props) => Ok(State { pos, props }),
+            None => Ok(State {
+                pos,
+                props: state.props.copy()?,
+            }),
+        }
     }
 }

@@ -4,6 +4,8 @@ use Rattle.std.specs.Ordering.{nat_cmp, match_ordering}
 use Rattle.std.specs.FinSet as set
 use Rattle.seam_defs.specs.declared.types.TypeDef.{TypeDef}
 use Rattle.seam_defs.specs.declared.settings.Settings.{Settings}
+use Rattle.seam_defs.specs.declared.states.Later.{Later}
+use Rattle.seam_defs.specs.Deeds.{with_later}
 use Rattle.seam_order.specs.Held.{OrderView}
 use Rattle.seam_order.specs.Offers.{next_item}
 use Rattle.seam_call.specs.declared.call.Call.{Call}
@@ -13,7 +15,6 @@ use Rattle.seam_entity.specs.Reals.{RealView, RoomyReal}
 use Rattle.seam_entity.specs.Here.{Here}
 use Rattle.seam_entity.specs.Calls.{ready_order}
 use Rattle.seam_entity.specs.Executing.{executed, with_offer, shows, public_after}
-use Rattle.seam_entity.specs.declared.real.After.{After}
 use Rattle.seam_entity.specs.declared.real.Did.{Did}
 use Rattle.seam_entity.specs.declared.real.Did.TheVariants.{Done, Held, Stale}
 
@@ -21,12 +22,13 @@ use Rattle.seam_entity.specs.declared.real.Did.TheVariants.{Done, Held, Stale}
 abbrev pub node_with : List TypeDef → ℕ → Settings → Here
 node_with defs me settings = record { me = me; defs = defs; settings = settings }
 
--- the real with the state that a call left, and one version more
-abbrev pub advanced : RealView → After → RealView
-advanced r a = record r { state = a.state; version = r.version + 1; public = public_after a.changed (r.version + 1) r.public }
+-- the real with what a call left of its state, and one version more
+abbrev pub advanced : RealView → Later → RealView
+advanced r a =
+    record r { state = with_later r.state a; version = r.version + 1; public = public_after a.changed (r.version + 1) r.public }
 
 -- the same, with one done call more
-abbrev pub with_after : RealView → After → Call → RealView
+abbrev pub with_after : RealView → Later → Call → RealView
 with_after r a k = record (advanced r a) { done = r.done ++ k ∷ [] }
 
 -- the call comes back, is executed or is held, as its number is below the one whose turn it is, that number or above it

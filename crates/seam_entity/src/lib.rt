@@ -24,7 +24,7 @@ pub use message::{Msg, Parcel};
 pub use numbers::{is_small, may_rise};
 pub use observed::Observed;
 pub use orders::Orders;
-pub use real::{After, Did, Real, ghost_copy};
+pub use real::{Did, Real, ghost_copy};
 pub use room::reserve_one;
 pub use seam_memory::NoMemoryFor;
 pub use witness::Witness;

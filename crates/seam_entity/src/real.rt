@@ -3,7 +3,7 @@
 ghost use Rattle.std.specs.Prelude.{◌≡◌, ◌≤◌, ◌<◌, ◌^◌, ◌==◌, ℕ, IfOk, IfErr, OnOk, OnErr, [], true, false};
 ghost use Rattle.std.specs.Prelude.{is_some, None, Some, option_map};
 ghost use Rattle.std.specs.FinSet as set;
-ghost use Rattle.seam_defs.specs.Deeds.{after as after_deed, own_of};
+ghost use Rattle.seam_defs.specs.Deeds.{after as after_deed, own_of, with_later};
 ghost use Rattle.seam_defs.specs.Tests.{changes};
 ghost use Rattle.seam_defs.specs.Types.{type_of};
 ghost use Rattle.seam_defs.specs.declared.settings.Settings.{Settings as AllSettings};
@@ -29,7 +29,7 @@ use crate::orders::Orders;
 use crate::room::reserve_one;
 use crate::witness::Witness;
 use seam_call::{Call, GhostCopy, Sender};
-use seam_defs::{Deed, Defs, Group, Settings, State};
+use seam_defs::{Deed, Defs, Group, Later, Props, Settings, State};
 use seam_geo::Pos;
 use seam_memory::NoMemoryFor;
 use seam_order::Offer;
@@ -46,13 +46,6 @@ pub enum Did {
     Held,
     /// It came late, and comes back.
     Stale(Call),
-}
-
-/// The state that a call will leave, and whether others may see the change.
-#[derive(Drop)]
-pub struct After {
-    pub state: State,
-    pub changed: bool,
 }
 
 #[derive(Drop)]
@@ -118,39 +111,33 @@ fn public_after(changed: bool, version: u64, public: u64) -> u64
     if changed { version } else { public }
 }
 
-/// What the ghosts are told of an entity of that type, public version and state.
+/// What the ghosts are told of an entity of that type and public version, at that position and with these values.
 pub fn ghost_copy(
     defs: &Defs,
     ty: u16,
     version: u64,
-    state: &State,
+    pos: Pos,
+    props: &Props,
 ) -> Result<GhostCopy, AllocError>
     ensures { (me : ℕ) (settings : AllSettings) →
-        IfOk result (λ c. c ≡ copy_with (node_with defs.now me settings) ty version state.now) }
+        IfOk result (λ c. c ≡ copy_with (node_with defs.now me settings) ty version (record { pos = pos; props = props.now })) }
 {
     let props = defs
         .type_at(ty)
-        .project_group(Group::Real, &state.props, Group::Ghost)?;
+        .project_group(Group::Real, props, Group::Ghost)?;
     Ok(GhostCopy {
         ty,
         version,
-        state: State {
-            pos: state.pos,
-            props,
-        },
+        state: State { pos, props },
     })
 }
 
-// What a deed will make of a state.
-fn look_ahead(defs: &Defs, ty: u16, state: &State, deed: &Deed) -> Result<After, AllocError>
-    ensures state { IfOk result (λ a. a.state ≡ after_deed (type_of defs.now ty) state.now deed.now) }
+// What a deed will leave of a state.
+fn look_ahead(defs: &Defs, ty: u16, state: &State, deed: &Deed) -> Result<Later, AllocError>
+    ensures state { IfOk result (λ a. with_later state.now a ≡ after_deed (type_of defs.now ty) state.now deed.now) }
     ensures changed { IfOk result (λ a. a.changed ≡ changes (type_of defs.now ty) state.now deed.now) }
 {
-    let (later, changed) = defs.type_at(ty).state_after(state, deed)?;
-    Ok(After {
-        state: later,
-        changed,
-    })
+    defs.type_at(ty).later(state, deed)
 }
 
 impl Real {
@@ -275,22 +262,13 @@ impl Real {
             defs,
             self.body.ty,
             self.body.public_version,
-            &self.body.state,
+            self.body.state.pos,
+            &self.body.state.props,
         )
     }
 
-    /// What its ghosts are told of it after a call of which `prepare` or `prepare_ready` said this.
-    pub fn copy_after(&self, defs: &Defs, after: &After) -> Result<GhostCopy, AllocError>
-        requires { self.now.core.version < 2 ^ 62 }
-        ensures { (me : ℕ) (settings : AllSettings) (call : CallData) →
-            IfOk result (λ c. c ≡ copy_of_real (node_with defs.now me settings) (with_after self.now.core after.now call)) }
-    {
-        let version = self.version_after(after);
-        ghost_copy(defs, self.body.ty, version, &after.state)
-    }
-
-    /// The version of the last change that others may see, after such a call.
-    pub fn version_after(&self, after: &After) -> u64
+    /// The version of the last change that others may see, after a call of which `prepare` or `prepare_ready` said this.
+    pub fn version_after(&self, after: &Later) -> u64
         requires { self.now.core.version < 2 ^ 62 }
         ensures { (call : CallData) → result ≡ (with_after self.now.core after.now call).public }
     {
@@ -380,12 +358,12 @@ impl Real {
         self.body.orders.holds(sender, number)
     }
 
-    /// The state that a call whose turn it is will leave, and whether others may see the change. There is room for the call from
+    /// What a call whose turn it is will leave of the state, and whether others may see the change. There is room for the call from
     /// then on.
-    pub fn prepare(&mut self, defs: &Defs, call: &Call) -> Result<After, AllocError>
+    pub fn prepare(&mut self, defs: &Defs, call: &Call) -> Result<Later, AllocError>
         ensures same { self.new.core ≡ self.old.core }
         ensures state { (me : ℕ) (settings : AllSettings) →
-            IfOk result (λ a. a.state ≡ (with_deed (node_with defs.now me settings) self.old.core call.now).state) }
+            IfOk result (λ a. with_later self.old.core.state a ≡ (with_deed (node_with defs.now me settings) self.old.core call.now).state) }
         ensures changed { (me : ℕ) (settings : AllSettings) →
             IfOk result (λ a. a.changed ≡ shows (node_with defs.now me settings) self.old.core call.now) }
         ensures room { OnOk result (HasRoom self.new call.now) }
@@ -404,7 +382,7 @@ impl Real {
     }
 
     /// Executes a call whose turn it is, from what `prepare` said of it. It needs no memory, and cannot fail.
-    pub fn execute_after(&mut self, call: Call, after: After)
+    pub fn execute_after(&mut self, call: Call, after: Later)
         requires from_one { 1 ≤ call.number }
         requires small { call.number < 2 ^ 62 }
         requires version { self.old.core.version < 2 ^ 62 }
@@ -421,17 +399,18 @@ impl Real {
         }
     }
 
-    // Takes the state after a call, one version more.
-    fn advance(&mut self, after: After)
+    // Takes what a call left of the state, one version more.
+    fn advance(&mut self, after: Later)
         requires { self.old.core.version < 2 ^ 62 }
         ensures core { self.new.core ≡ advanced self.old.core after }
         ensures spare { self.new.spare ≡ self.old.spare }
         ensures senders { self.new.senders ≡ self.old.senders }
     {
-        self.body.state = after.state;
+        let changed = after.changed;
+        self.body.state.advance(after);
         self.body.version += 1;
         self.body.public_version = public_after(
-            after.changed,
+            changed,
             self.body.version,
             self.body.public_version,
         );
@@ -518,13 +497,13 @@ impl Real {
         self.body.orders.is_ready()
     }
 
-    /// The state that the ready call of its least sender that has one will leave, and whether others may see the change. There is
+    /// What the ready call of its least sender that has one will leave of the state, and whether others may see the change. There is
     /// room for the call from then on.
-    pub fn prepare_ready(&mut self, defs: &Defs) -> Result<After, AllocError>
+    pub fn prepare_ready(&mut self, defs: &Defs) -> Result<Later, AllocError>
         requires { has_ready self.old.core.orders ≡ true }
         ensures same { self.new.core ≡ self.old.core }
         ensures state { (me : ℕ) (settings : AllSettings) (o : ℕ × OrderView CallData) (k : CallData) → HasReady self.old.core o k →
-            IfOk result (λ a. a.state ≡ (with_deed (node_with defs.now me settings) self.old.core k).state) }
+            IfOk result (λ a. with_later self.old.core.state a ≡ (with_deed (node_with defs.now me settings) self.old.core k).state) }
         ensures changed { (me : ℕ) (settings : AllSettings) (o : ℕ × OrderView CallData) (k : CallData) → HasReady self.old.core o k →
             IfOk result (λ a. a.changed ≡ shows (node_with defs.now me settings) self.old.core k) }
         ensures room { OnOk result (HasSpare self.new) }
@@ -537,7 +516,7 @@ impl Real {
     }
 
     /// Executes that call, from what `prepare_ready` said of it. It needs no memory, and cannot fail.
-    pub fn execute_ready_after(&mut self, after: After)
+    pub fn execute_ready_after(&mut self, after: Later)
         requires ready { has_ready self.old.core.orders ≡ true }
         requires version { self.old.core.version < 2 ^ 62 }
         requires room { HasSpare self.old }

@@ -8,9 +8,15 @@ use Rattle.seam_entity.specs.Here.{Here}
 use Rattle.seam_entity.specs.Executing.{copy_of_real}
 use Rattle.seam_entity.specs.declared.message.Msg.{Msg}
 use Rattle.seam_entity.specs.declared.message.Msg.TheVariants.{GhostSet, GhostDrop}
+use Rattle.seam_defs.specs.declared.states.State.{State}
+use Rattle.seam_parts.specs.declared.news.Subject.{Subject}
 use Rattle.seam_parts.specs.declared.news.Telling.{Telling}
 use Rattle.seam_parts.specs.declared.news.Told.{Told}
 use Rattle.seam_parts.specs.declared.news.Told.TheVariants.{Nothing, Set, Drop}
+
+-- the state of the real of which is told
+abbrev pub state_of : Subject → State
+state_of of = record { pos = of.pos; props = of.props.now }
 
 -- what a cell is told, by whether it is a haunt now, was one, and others may see a change
 abbrev pub word_at : Bool → Bool → Bool → Told

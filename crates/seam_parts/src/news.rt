@@ -5,11 +5,12 @@ ghost use Rattle.std.specs.FinSet as set;
 ghost use Rattle.seam_defs.specs.declared.settings.Settings.{Settings as AllSettings};
 ghost use Rattle.seam_entity.specs.Executing.{copy_with};
 ghost use Rattle.seam_entity.specs.Preparing.{node_with};
-ghost use Rattle.seam_parts.specs.News.{word, said, listed, news};
+ghost use Rattle.seam_parts.specs.News.{state_of, word, said, listed, news};
 
 use seam_call::GhostCopy;
-use seam_defs::{Defs, State};
+use seam_defs::{Defs, Props};
 use seam_entity::{Msg, ghost_copy};
+use seam_geo::Pos;
 use seam_machine::Out;
 use seam_tree::CellSet;
 use std::alloc::AllocError;
@@ -35,22 +36,23 @@ pub struct Telling {
     pub beat: u64,
 }
 
-/// The real of which is told: its type, its public version and its state.
+/// The real of which is told: its type, its public version, where it is and its values.
 #[derive(Drop)]
 pub struct Subject<'a> {
     pub defs: &'a Defs,
     pub ty: u16,
     pub version: u64,
-    pub state: &'a State,
+    pub pos: Pos,
+    pub props: &'a Props,
 }
 
 impl Subject<'_> {
     /// What its ghosts hold.
     pub fn copy(&self) -> Result<GhostCopy, AllocError>
         ensures { (me : ℕ) (settings : AllSettings) →
-            IfOk result (λ c. c ≡ copy_with (node_with self.now.defs.now me settings) self.now.ty self.now.version self.now.state.now) }
+            IfOk result (λ c. c ≡ copy_with (node_with self.now.defs.now me settings) self.now.ty self.now.version (state_of self.now)) }
     {
-        ghost_copy(self.defs, self.ty, self.version, self.state)
+        ghost_copy(self.defs, self.ty, self.version, self.pos, self.props)
     }
 }
 
@@ -72,7 +74,7 @@ fn word(t: &Telling, k: u8) -> Told
 // Tells the cell what it is told. If allocation fails, nothing was sent.
 fn tell_cell(t: &Telling, of: &Subject<'_>, k: u8, out: &mut Out<Msg>) -> Result<(), AllocError>
     ensures ok { (me : ℕ) (settings : AllSettings) →
-        let copy = copy_with (node_with of.now.defs.now me settings) of.now.ty of.now.version of.now.state.now in
+        let copy = copy_with (node_with of.now.defs.now me settings) of.now.ty of.now.version (state_of of.now) in
         OnOk result (out.new.items ≡ out.old.items ++ listed (said t.now copy k (word t.now k))) }
     ensures err { OnErr result (out.new.items ≡ out.old.items) }
 {
@@ -103,7 +105,7 @@ fn are_none(haunts: &CellSet, old: &CellSet) -> bool
 /// Tells the cells, in rising number. If allocation fails, some may have been told.
 pub fn tell(t: &Telling, of: &Subject<'_>, out: &mut Out<Msg>) -> Result<(), AllocError>
     ensures ok { (me : ℕ) (settings : AllSettings) → OnOk result (out.new.items ≡ out.old.items
-        ++ news t.now (copy_with (node_with of.now.defs.now me settings) of.now.ty of.now.version of.now.state.now) 16) }
+        ++ news t.now (copy_with (node_with of.now.defs.now me settings) of.now.ty of.now.version (state_of of.now)) 16) }
     ensures kept { take (length out.old.items) out.new.items ≡ out.old.items }
 {
     // Most reals have and had few haunts, in the first cells: what is left of both sets tells when all were told.

@@ -17,7 +17,7 @@ ghost use Rattle.seam_entity.specs.Preparing.{node_with};
 ghost use Rattle.seam_steps.specs.Settle.{home_after, haunts_at, copy_if, settled};
 ghost use Rattle.seam_entity.specs.Here.{Here, cell_count};
 ghost use Rattle.seam_entity.specs.Reals.{RealView};
-ghost use Rattle.seam_parts.specs.News.{news};
+ghost use Rattle.seam_parts.specs.News.{state_of, news};
 ghost use Rattle.seam_parts.specs.Settling.{former, staying, HasRoomFor, IsGone, IsAtRest};
 ghost use Rattle.seam_parts.specs.Kept.{here_in};
 ghost use Rattle.seam_parts.specs.Stepping.{telling_at, heard, IsLater, HasBegun, IsDone, PartsView, parts_of, slot_in, core_of};
@@ -97,7 +97,7 @@ pub fn make_plan(me: u8, settings: &Settings, tree: &Tree, old: CellSet, pos: Po
 // What the cell's own book takes.
 fn own_copy(t: &Telling, of: &Subject<'_>) -> Result<Option<GhostCopy>, AllocError>
     ensures { (me : ℕ) (settings : AllSettings) → IfOk result (λ o. o ≡ copy_if (set.contains t.now.haunts t.now.me)
-        (copy_with (node_with of.now.defs.now me settings) of.now.ty of.now.version of.now.state.now)) }
+        (copy_with (node_with of.now.defs.now me settings) of.now.ty of.now.version (state_of of.now))) }
 {
     if !t.haunts.holds(t.me) {
         return Ok(None);
@@ -187,9 +187,9 @@ fn tell_all(
     out: &mut Out<Msg>,
 ) -> Result<(), AllocError>
     ensures sent { (me : ℕ) (settings : AllSettings) → OnOk result (out.new.items ≡ out.old.items
-        ++ news t.now (copy_with (node_with of.now.defs.now me settings) of.now.ty of.now.version of.now.state.now) 16) }
+        ++ news t.now (copy_with (node_with of.now.defs.now me settings) of.now.ty of.now.version (state_of of.now)) 16) }
     ensures ghosts { (me : ℕ) (settings : AllSettings) → OnOk result (places.new.copies.ghosts
-        ≡ heard t.now (copy_with (node_with of.now.defs.now me settings) of.now.ty of.now.version of.now.state.now) places.old.copies.ghosts) }
+        ≡ heard t.now (copy_with (node_with of.now.defs.now me settings) of.now.ty of.now.version (state_of of.now)) places.old.copies.ghosts) }
     ensures room { OnOk result (HasRoomFor places.new.nexts.room out.new.spare t.now) }
     ensures kept { take (length out.old.items) out.new.items ≡ out.old.items }
     ensures nexts { places.new.nexts.items ≡ places.old.nexts.items }
@@ -217,18 +217,18 @@ pub fn begin(
     out: &mut Out<Msg>,
 ) -> Result<Begun, AllocError>
     requires me { known.now.me < cell_count }
-    requires inside { IsInSpace known.now.tree of.now.state.now.pos }
+    requires inside { IsInSpace known.now.tree of.now.pos }
     requires legal { AreLegal known.now.settings }
     requires beat { real.now.core.beat < 2 ^ 62 }
     requires defs { of.now.defs.now ≡ known.now.defs }
     ensures begun { (later : RealView) → IsLater real.now.core later → later.ty ≡ of.now.ty → later.public ≡ of.now.version →
-        later.state ≡ of.now.state.now → IfOk result (HasBegun (here_in known.now) known.now.tree later changed
+        later.state ≡ state_of of.now → IfOk result (HasBegun (here_in known.now) known.now.tree later changed
         (parts_of places.old out.old) (parts_of places.new out.new)) }
     ensures entity { IfOk result (λ b. b.telling.entity ≡ real.now.core.entity) }
     ensures room { IfOk result (λ b. HasRoomFor places.new.nexts.room out.new.spare b.telling) }
     ensures err { OnErr result (parts_of places.new out.new ≡ parts_of places.old out.old) }
 {
-    let telling = tell_from(known, real, of.state.pos, changed);
+    let telling = tell_from(known, real, of.pos, changed);
     let start = out.len();
     match tell_all(&telling, of, places, out) {
         Ok(()) => Ok(Begun {

@@ -8,6 +8,6 @@ use Rattle.seam_defs.proofs.deeds.run.Goals as goal
 pub returns-clause-kept : goal.returns-clause-kept
 returns-clause-kept c takes of =
     let m = c.args.method.now in
-    let done : c.in_ok-props.field-0 ≡ after_body c.args.properties.now (held_by m.part) c.args.args.now m.body c.args.props.now =
-    grind (arith, common_steps, c.in_ok-props.ensures, c.in_ok-operate_all.ensures, c.in_ok-later.ensures, c.deref_mut.ensures) in
+    let done : c.in_ok-of.field-0 ≡ after_body c.args.properties.now (held_by m.part) c.args.args.now m.body c.args.props.now =
+    grind (arith, common_steps, c.in_ok-of.ensures, c.in_ok-operate_all.ensures, c.in_ok-later.ensures, c.deref_mut.ensures) in
     rw done (method-keeps c.args.properties.now m c.args.args.now takes c.requires c.args.props.now of)

@@ -4,7 +4,7 @@ use Rattle.std.specs.FinSet as set
 use Rattle.seam_defs.specs.Settings.{standard}
 use Rattle.seam_entity.specs.Executing.{copy_with}
 use Rattle.seam_entity.specs.Preparing.{node_with}
-use Rattle.seam_parts.specs.News.{word, said, listed, news}
+use Rattle.seam_parts.specs.News.{state_of, word, said, listed, news}
 use Rattle.seam_parts.proofs.NewsLemmas.{news_more, news_same, news_end, left_later, left_without, left_none}
 use Rattle.seam_parts.proofs.news.tell.Goals as goal
 use Rattle.seam_parts.proofs.news.tell.Goals.{then-holds+in_ok-tell_cell, else-holds+else-holds-2}
@@ -25,7 +25,7 @@ returns-then-are_none-clause-ok c me settings =
     let t = c.args.t.now in
     let k = c.loop-k.k in
     let none = c.are_none.ensures.0 c.if-are_none.true in
-    let g = copy_with (node_with of.defs.now me settings) of.ty of.version of.state.now in
+    let g = copy_with (node_with of.defs.now me settings) of.ty of.version (state_of of) in
     c.loop-k.invariant.told me settings
     ∙ ap (λ l. c.args.out.now.items ++ l)
     (sym (news_end t g k (16 - k) (left_none c.loop-k.haunts c.loop-k.old t k c.loop-k.invariant.left none.0 none.1))
@@ -50,7 +50,7 @@ loop-k-preserved c =
       | then-holds+in_ok-tell_cell w ↦ record {
         told =
             λ me settings.
-            let g = copy_with (node_with of.defs.now me settings) of.ty of.version of.state.now in
+            let g = copy_with (node_with of.defs.now me settings) of.ty of.version (state_of of) in
             let one = listed (said t g k (word t k)) in
             ap (λ o. o.items) w.out-is ∙ w.in_ok-tell_cell.ensures.ok me settings
             ∙ (ap (λ l. l ++ one) (c.loop-k.invariant.told me settings)
@@ -65,7 +65,7 @@ loop-k-preserved c =
       | else-holds+else-holds-2 w ↦ record {
         told =
             λ me settings.
-            let g = copy_with (node_with of.defs.now me settings) of.ty of.version of.state.now in
+            let g = copy_with (node_with of.defs.now me settings) of.ty of.version (state_of of) in
             let away = sym here.0 ∙ (sym c.holds.ensures.value ∙ w.if-holds.false) in
             let was = sym here.1 ∙ (sym w.holds-else-holds.ensures.value ∙ w.if-holds-2.false) in
             ap (λ o. o.items) w.out-is
@@ -81,7 +81,7 @@ pub returns-clause-ok : goal.returns-clause-ok
 returns-clause-ok c me settings =
     let of = c.args.of.now in
     c.loop-k.invariant.told me settings
-    ∙ ap (λ n. c.args.out.now.items ++ news c.args.t.now (copy_with (node_with of.defs.now me settings) of.ty of.version of.state.now) n)
+    ∙ ap (λ n. c.args.out.now.items ++ news c.args.t.now (copy_with (node_with of.defs.now me settings) of.ty of.version (state_of of)) n)
     (let end : c.loop-k.k ≡ 16 = omega (arith, c.loop-k-test.false, c.loop-k.auto.k-end) in end)
 
 pub returns-clause-kept : goal.returns-clause-kept

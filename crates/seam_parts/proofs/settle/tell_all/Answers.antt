@@ -5,6 +5,7 @@ use Rattle.seam_ghosts.specs.Book.{ghost_after}
 use Rattle.seam_entity.specs.Executing.{copy_with}
 use Rattle.seam_entity.specs.Preparing.{node_with}
 use Rattle.seam_steps.specs.Maps.{set_at}
+use Rattle.seam_parts.specs.News.{state_of}
 use Rattle.seam_parts.proofs.SettleLemmas.{other_test, heard_away}
 use Rattle.seam_parts.proofs.settle.tell_all.Goals as goal
 
@@ -17,7 +18,7 @@ returns-clause-ghosts c me settings =
     let t = c.args.t.now in
     let of = c.args.of.now in
     let ghosts = c.args.places.now.copies.ghosts in
-    let copy = copy_with (node_with of.defs.now me settings) of.ty of.version of.state.now in
+    let copy = copy_with (node_with of.defs.now me settings) of.ty of.version (state_of of) in
     on_ok_weaker c.tell_own.result
     (λ e. e
     ∙ (ap (λ o. set_at ghosts t.entity (ghost_after (table.get ghosts t.entity) (record { beat = t.beat; copy = o })))
