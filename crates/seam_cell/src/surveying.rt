@@ -52,12 +52,13 @@ pub fn settle_again(known: &Known, real: Real, places: &mut Places, out: &mut Ou
     ensures err { OnErr result.result (option_map core_of result.left ≡ Some real.core) }
     ensures err_parts { OnErr result.result (parts_of places.new out.new ≡ parts_of places.old out.old) }
 {
+    let state = real.state();
     let of = Subject {
         defs: &known.defs,
         ty: real.ty(),
         version: real.public_version(),
-        pos: real.state().pos,
-        props: &real.state().props,
+        pos: state.pos,
+        props: &state.props,
     };
     let Ok(begun) = begin(known, &real, &of, false, places, out) else {
         return Tasked {

@@ -67,7 +67,7 @@ fn is_done(alloc: Global, real: &mut Real, defs: &Defs, told: Told) -> Result<bo
 fn prepared(alloc: Global, real: &mut Real, defs: &Defs, told: Told) -> Result<(bool, bool), Fail> {
     let call = call(alloc, defs, told)?;
     let after = real.prepare(defs, &call)?;
-    let left = after.state.props.at(0) == Some(&Value::Number(70));
+    let left = after.props_over(real.state()).at(0) == Some(&Value::Number(70));
     Ok((after.changed, left))
 }
 
@@ -80,7 +80,7 @@ fn copied(real: &Real, defs: &Defs) -> Result<(u64, bool), AllocError> {
     ))
 }
 
-// Executes the ready call where there is one; whether others will have seen the change, and the copy of 75 of the first property.
+// Executes the ready call where there is one; whether others see the change, and whether it was to leave 75 of the first property.
 fn execute_ready(real: &mut Real, defs: &Defs) -> Result<(bool, bool), Fail> {
     if !real.is_ready() {
         Err("no ready call")?;
@@ -89,8 +89,8 @@ fn execute_ready(real: &mut Real, defs: &Defs) -> Result<(bool, bool), Fail> {
         Err("a great version")?;
     }
     let after = real.prepare_ready(defs)?;
-    let copy = real.copy_after(defs, &after)?;
-    let healed = copy.version == 2 && copy.state.props.at(0) == Some(&Value::Number(75));
+    let later = after.props_over(real.state()).at(0);
+    let healed = real.version_after(&after) == 2 && later == Some(&Value::Number(75));
     Ok((real.execute_ready(defs)?, healed))
 }
 

@@ -8,4 +8,4 @@ returns-clause-done c =
     let r = c.args.real.core in
     c.settle_real.ensures.done (here_in c.args.known.now) c.args.known.now.tree false r (parts_of c.args.places.now c.args.out.now)
     (c.in-Ok.ensures.begun r (record { entity = refl; haunts = refl; beat = refl }) (sym c.ty.ensures)
-    (sym c.public_version.ensures) (sym c.state.ensures))
+    (sym c.public_version.ensures) (sym c.state-state.ensures))

@@ -1,4 +1,5 @@
 use Rattle.std.proofs.Common.{sym, ap, subst, ◌∙◌}
+use Rattle.std.specs.Option.{unwrap_or}
 use Rattle.seam_tree.specs.Division.{IsInSpace}
 use Rattle.seam_entity.specs.Executing.{executed_ready}
 use Rattle.seam_parts.specs.Kept.{here_in}
@@ -30,10 +31,12 @@ returns-clause-begun c o call is =
     let state = c.in_ok-after.ensures.state k.me k.settings o call is in
     let changed = c.in_ok-after.ensures.changed k.me k.settings o call is in
     let same = c.prepare_ready.ensures.same in
+    let of = c.in_ok-after.after in
+    let props = c.props_over.ensures ∙ ap (λ s. unwrap_or of.props s.props) (c.state.ensures ∙ ap (λ x. x.state) same) in
     let before = parts_of c.args.places.now c.args.out.now in
     let after = parts_of c.begin.new.places c.begin.new.out in
     subst (λ b. HasBegun (here_in k) k.tree (executed_ready (here_in k) r o call) b before after c.in_ok-begun.begun) changed
     (c.in_ok-begun.ensures.begun (executed_ready (here_in k) r o call) (ready_later (here_in k) r q o call same)
     (sym (c.ty.ensures ∙ ap (λ x. x.ty) same))
     (sym (c.version_after.ensures call ∙ ap (λ x. x.public) (after_is (here_in k) r q c.in_ok-after.after call same state changed)))
-    (sym state))
+    (sym state ∙ (λ i. record { pos = of.pos; props = sym props i })))
