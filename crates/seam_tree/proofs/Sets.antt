@@ -1,126 +1,129 @@
--- Sets of cells and writes to their marks.
-use Rattle.std.proofs.Common.{◌≡◌, ◌<◌, ◌≤◌, ℕ, zero, suc, ◌+◌, ◌==◌, Bool, true, false, ◌||◌, ◌&&◌, not, cond, List, [], ◌∷◌, length, set}
-use Rattle.std.proofs.Common.{get_or, nat_lt, refl, sym, ap, ◌∙◌, arith, inl, inr, get_or-set_other}
-use Rattle.std.specs.Prelude.{IsTrue}
+-- Sets of cells and writes to their digits.
+use Rattle.std.proofs.Common.{◌≡◌, ◌<◌, ◌≤◌, ℕ, ◌+◌, ◌-◌, ◌*◌, ◌/◌, ◌%◌, ◌^◌, ◌==◌, Bool, true, false, ◌||◌, ◌&&◌, not, IsTrue}
+use Rattle.std.proofs.Common.{sym, ap, ◌∙◌, arith, inl, inr}
 use Rattle.std.specs.Cmp.{nat_cmp_total, unsigned_tied}
-use Rattle.std.specs.Cmp.Lexicographic.{pointwise}
-use Rattle.std.proofs.Math.Bool.{beq, or-true}
+use Rattle.std.specs.Int.{bit_at, bit_not, w16}
+use Rattle.std.specs.Int.RustNames.{bit_and, bit_or}
+use Rattle.std.specs.Ordering.{nat_cmp}
+use Rattle.std.proofs.lemmas.Bool.{both_ways, cases_eq, cases_lt}
 use Rattle.std.proofs.lemmas.Bool.Decides.{nat_tests}
-use Rattle.std.proofs.lemmas.Grind.{common_steps}
+use Rattle.std.proofs.lemmas.Nat.{shr-shr, or_lt, and_le_l}
+use Rattle.std.proofs.lemmas.Nat.Bits.{bit_at-lt, bit_at-zero, bit_at_above, same_from_bits}
+use Rattle.std.proofs.lemmas.Nat.Bits.{bit_at_set_same, bit_at_set_other, bit_at_clear_same, bit_at_clear_other}
 use Rattle.std.specs.FinSet as cells
-use Rattle.seam_tree.proofs.Steps.{same_or_not}
-use Rattle.seam_tree.specs.Marks.{marked_from}
+use Rattle.seam_tree.specs.Marks.{marked}
 use Rattle.seam_tree.specs.Inverse.{contains_marked, contains_insert_nat}
 
-pub contains_marks : (marks : List Bool) (k : ℕ) → cells.contains (marked_from 0 marks) k ≡ get_or marks k false
-contains_marks marks k = let e : k ≡ 0 + k = omega arith in ap (cells.contains (marked_from 0 marks)) e ∙ contains_marked 0 marks k
+-- where no digit is 1, no cell is in the set
+pub marked_none : marked 0 ≡ cells.empty
+marked_none =
+    cells.same_set nat_cmp_total cells.nat_cmp-IsAntisymmetric _ _ (λ q.
+    contains_marked 0 (omega arith) q ∙ ap (λ d. d == 1) (bit_at-zero q) ∙ sym (cells.contains-empty nat_cmp q))
 
--- marks that a test finds equal
-pub same_marks : (xs ys : List Bool) → IsTrue (pointwise beq xs ys) → xs ≡ ys
-same_marks [] [] h = refl
-same_marks [] (y ∷ ys) h = cc
-same_marks (x ∷ xs) [] h = cc
-same_marks (true ∷ xs) (true ∷ ys) h = ap (λ l. true ∷ l) (same_marks xs ys h)
-same_marks (true ∷ xs) (false ∷ ys) h = cc
-same_marks (false ∷ xs) (true ∷ ys) h = cc
-same_marks (false ∷ xs) (false ∷ ys) h = ap (λ l. false ∷ l) (same_marks xs ys h)
+-- the digits from `count` on
+bit_at_shifted : (n count i : ℕ) → bit_at (n / 2 ^ count) i ≡ bit_at n (count + i)
+bit_at_shifted n count i = ap (λ x. x % 2) (shr-shr n count i)
 
--- and the test finds equal marks equal
-pub marks_are_same : (xs ys : List Bool) → xs ≡ ys → IsTrue (pointwise beq xs ys)
-marks_are_same [] [] same = refl
-marks_are_same [] (y ∷ ys) same = cc
-marks_are_same (x ∷ xs) [] same = cc
-marks_are_same (true ∷ xs) (true ∷ ys) same = marks_are_same xs ys (cc)
-marks_are_same (true ∷ xs) (false ∷ ys) same = cc
-marks_are_same (false ∷ xs) (true ∷ ys) same = cc
-marks_are_same (false ∷ xs) (false ∷ ys) same = marks_are_same xs ys (cc)
+module _ (digits : ℕ) (fits : digits < 2 ^ 16) where
+  abbrev IsMarked : ℕ → Type 0
+  IsMarked k = IsTrue (cells.contains (marked digits) k)
 
-pub get_or_past : (marks : List Bool) (k : ℕ) → length marks ≤ k → get_or marks k false ≡ false
-get_or_past [] k past = refl
-get_or_past (m ∷ marks) zero past = absurd (omega arith)
-get_or_past (m ∷ marks) (suc k) past = get_or_past marks k (omega arith)
+  one_where_marked : (k : ℕ) → IsMarked k → bit_at digits k ≡ 1
+  one_where_marked k there =
+      let is : (bit_at digits k == 1) ≡ true = sym (contains_marked digits fits k) ∙ there in
+      grind (arith, nat_tests, is)
 
--- a number marked is within the list
-pub marked_within : (marks : List Bool) (k : ℕ) → get_or marks k false ≡ true → k < length marks
-marked_within [] k marked = cc
-marked_within (m ∷ marks) zero marked = omega arith
-marked_within (m ∷ marks) (suc k) marked = let next : k < length marks = marked_within marks k marked in omega (arith, next)
+  zero_where_not : (k : ℕ) → (IsMarked k → ⊥) → bit_at digits k ≡ 0
+  zero_where_not k gone = elim (cases_eq (bit_at digits k) 1) [
+    | inl one ↦ absurd (gone (contains_marked digits fits k ∙ grind (arith, nat_tests, one)))
+    | inr other ↦ omega (arith, bit_at-lt digits k, other)
+  ]
 
-get_or_set_mark : (marks : List Bool) (k : ℕ) (mark : Bool) (q : ℕ) → k < length marks →
-    get_or (set marks k mark) q false ≡ cond (q == k) mark (get_or marks q false)
-get_or_set_mark marks k mark q within =
-    elim (same_or_not q k) [
-      | inl e ↦ let same : get_or (set marks k mark) q false ≡ mark = grind (arith, common_steps) in grind (arith, nat_tests, same)
-      | inr other ↦ let same : get_or (set marks k mark) q false ≡ get_or marks q false = get_or-set_other marks k q mark false other in
+  -- no number from 16 on is in the set
+  pub marked_past : (k : ℕ) → 16 ≤ k → cells.contains (marked digits) k ≡ false
+  marked_past k past =
+      let none : bit_at digits k ≡ 0 = bit_at_above digits 16 k fits past in
+      contains_marked digits fits k ∙ grind (arith, nat_tests, none)
+
+  pub marked_small : (k : ℕ) → IsMarked k → k < 16
+  marked_small k there = elim (cases_lt k 16) [ inl below ↦ below | inr past ↦ absurd (both_ways _ (marked_past k past) there) ]
+
+  -- all its numbers are below the count if and only if no digit from there on is 1
+  pub below_by_shifted : (count : ℕ) → digits / 2 ^ count ≡ 0 → (k : ℕ) → IsMarked k → k < count
+  below_by_shifted count none k there = elim (cases_lt k count) [
+    | inl below ↦ below
+    | inr past ↦
+        let from : k ≡ count + (k - count) = omega arith in
+        let zero_there : bit_at digits k ≡ 0 =
+        ap (bit_at digits) from
+        ∙ sym (bit_at_shifted digits count (k - count))
+        ∙ ap (λ n. bit_at n (k - count)) none
+        ∙ bit_at-zero (k - count) in
+        absurd (omega (arith, zero_there, one_where_marked k there))
+  ]
+
+  pub shifted_by_below : (count : ℕ) → ((k : ℕ) → IsMarked k → k < count) → digits / 2 ^ count ≡ 0
+  shifted_by_below count below =
+      same_from_bits (digits / 2 ^ count) 0 (λ i.
+      bit_at_shifted digits count i
+      ∙ zero_where_not (count + i) (λ there. omega (arith, below (count + i) there))
+      ∙ sym (bit_at-zero i))
+
+  -- the digit for k was written
+  module _ (k : ℕ) (within : k < 16) where
+    abbrev set_digits : ℕ
+    set_digits = bit_or digits (1 * 2 ^ k % 2 ^ 16)
+
+    abbrev cleared_digits : ℕ
+    cleared_digits = bit_and digits (bit_not w16 (1 * 2 ^ k % 2 ^ 16))
+
+    set_fits : set_digits < 2 ^ 16
+    set_fits = or_lt 16 digits (1 * 2 ^ k % 2 ^ 16) fits (omega arith)
+
+    cleared_fits : cleared_digits < 2 ^ 16
+    cleared_fits = omega (arith, fits, and_le_l digits (bit_not w16 (1 * 2 ^ k % 2 ^ 16)))
+
+    set_at : (q : ℕ) → (bit_at set_digits q == 1) ≡ ((q == k) || (bit_at digits q == 1))
+    set_at q = elim (cases_eq q k) [
+      | inl e ↦
+          let one : bit_at set_digits q ≡ 1 = ap (bit_at set_digits) e ∙ bit_at_set_same w16 digits k within in
+          grind (arith, nat_tests, one)
+      | inr other ↦
+          let same : bit_at set_digits q ≡ bit_at digits q = bit_at_set_other w16 digits k within q other in
           grind (arith, nat_tests, same)
     ]
 
-cond_or : (b c : Bool) → cond b true c ≡ (b || c)
-cond_or true c = refl
-cond_or false c = refl
-
-cond_and : (b c : Bool) → cond b false c ≡ (not b && c)
-cond_and true c = refl
-cond_and false c = refl
-
--- a mark set puts the number into the set
-pub marked_set_true : (marks : List Bool) (k : ℕ) → k < length marks →
-    marked_from 0 (set marks k true) ≡ cells.insert (marked_from 0 marks) k
-marked_set_true marks k within =
-    cells.same_set nat_cmp_total cells.nat_cmp-IsAntisymmetric _ _ (λ q.
-    contains_marks (set marks k true) q
-    ∙ get_or_set_mark marks k true q within
-    ∙ cond_or (q == k) (get_or marks q false)
-    ∙ ap (λ (b : Bool). (q == k) || b) (sym (contains_marks marks q))
-    ∙ sym (contains_insert_nat (marked_from 0 marks) k q))
-
--- a mark cleared takes it out
-pub marked_set_false : (marks : List Bool) (k : ℕ) → k < length marks →
-    marked_from 0 (set marks k false) ≡ cells.remove (marked_from 0 marks) k
-marked_set_false marks k within =
-    cells.same_set nat_cmp_total cells.nat_cmp-IsAntisymmetric _ _ (λ q.
-    contains_marks (set marks k false) q
-    ∙ get_or_set_mark marks k false q within
-    ∙ cond_and (q == k) (get_or marks q false)
-    ∙ ap (λ (b : Bool). not (q == k) && b) (sym (contains_marks marks q))
-    ∙ ap (λ (b : Bool). not b && cells.contains (marked_from 0 marks) q) (sym (unsigned_tied q k))
-    ∙ sym (cells.contains-remove nat_cmp_total (marked_from 0 marks) k q))
-
--- ---- a bound on all numbers marked
-
-both : (a b : Bool) → (a && b) ≡ true → (a ≡ true) × (b ≡ true)
-both true true h = (refl, refl)
-both true false h = cc
-both false b h = cc
-
-module _ (count : ℕ) (marks : List Bool) where
-  -- the k-th number is below the count, or not marked
-  abbrev is_below_or_out : ℕ → Bool
-  is_below_or_out k = nat_lt k count || not (get_or marks k false)
-
-  -- so are the first n
-  abbrev pub are_below_or_out : ℕ → Bool
-  are_below_or_out zero = true
-  are_below_or_out (suc n) = are_below_or_out n && is_below_or_out n
-
-  below_by : (b : Bool) (k : ℕ) → (nat_lt k count || not b) ≡ true → b ≡ true → k < count
-  below_by true k passes marked = grind (arith, nat_tests)
-  below_by false k passes marked = cc
-
-  passes_by : (b : Bool) (k : ℕ) → (b ≡ true → k < count) → (nat_lt k count || not b) ≡ true
-  passes_by true k below = let l : k < count = below refl in grind (arith, nat_tests)
-  passes_by false k below = or-true (nat_lt k count)
-
-  pub below_where_marked : (n k : ℕ) → are_below_or_out n ≡ true → k < n → get_or marks k false ≡ true → k < count
-  below_where_marked zero k all within marked = absurd (omega arith)
-  below_where_marked (suc n) k all within marked =
-      let halves = both (are_below_or_out n) (is_below_or_out n) all in
-      elim (same_or_not k n) [
-        | inl e ↦ below_by (get_or marks k false) k (ap is_below_or_out e ∙ halves.1) marked
-        | inr other ↦ below_where_marked n k halves.0 (omega (arith, other)) marked
+    cleared_at : (q : ℕ) → (bit_at cleared_digits q == 1) ≡ (not (q == k) && (bit_at digits q == 1))
+    cleared_at q = elim (cases_eq q k) [
+      | inl e ↦
+          let none : bit_at cleared_digits q ≡ 0 = ap (bit_at cleared_digits) e ∙ bit_at_clear_same w16 digits k within in
+          grind (arith, nat_tests, none)
+      | inr other ↦ elim (cases_lt q 16) [
+        | inl low ↦
+            let same : bit_at cleared_digits q ≡ bit_at digits q = bit_at_clear_other w16 digits k within q low other in
+            grind (arith, nat_tests, same)
+        | inr past ↦
+            let none : bit_at cleared_digits q ≡ 0 = bit_at_above cleared_digits 16 q cleared_fits past in
+            let was_none : bit_at digits q ≡ 0 = bit_at_above digits 16 q fits past in
+            grind (arith, nat_tests, none, was_none)
       ]
+    ]
 
-  pub are_below_where_marked : (n : ℕ) → ((k : ℕ) → get_or marks k false ≡ true → k < count) → are_below_or_out n ≡ true
-  are_below_where_marked zero below = refl
-  are_below_where_marked (suc n) below =
-      ap (λ b. b && is_below_or_out n) (are_below_where_marked n below) ∙ passes_by (get_or marks n false) n (below n)
+    -- a digit set puts the number into the set
+    pub marked_set : marked set_digits ≡ cells.insert (marked digits) k
+    marked_set =
+        cells.same_set nat_cmp_total cells.nat_cmp-IsAntisymmetric _ _ (λ q.
+        contains_marked set_digits set_fits q
+        ∙ set_at q
+        ∙ ap (λ (b : Bool). (q == k) || b) (sym (contains_marked digits fits q))
+        ∙ sym (contains_insert_nat (marked digits) k q))
+
+    -- a digit cleared takes it out
+    pub marked_cleared : marked cleared_digits ≡ cells.remove (marked digits) k
+    marked_cleared =
+        cells.same_set nat_cmp_total cells.nat_cmp-IsAntisymmetric _ _ (λ q.
+        contains_marked cleared_digits cleared_fits q
+        ∙ cleared_at q
+        ∙ ap (λ (b : Bool). not (q == k) && b) (sym (contains_marked digits fits q))
+        ∙ ap (λ (b : Bool). not b && cells.contains (marked digits) q) (sym (unsigned_tied q k))
+        ∙ sym (cells.contains-remove nat_cmp_total (marked digits) k q))

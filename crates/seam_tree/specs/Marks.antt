@@ -1,15 +1,15 @@
--- A set of cells as marks, one for each number.
-use Rattle.std.specs.Prelude.{ℕ, zero, suc, Bool, true, false, List, [], ◌∷◌}
+-- A set of cells as a number, which has a binary digit for each cell, the least first.
+use Rattle.std.specs.Prelude.{ℕ, zero, suc, ◌+◌, ◌^◌, ◌==◌, if◌then◌else◌}
+use Rattle.std.specs.Int.{bit_at}
+use Rattle.std.specs.List.{range_with_len}
 use Rattle.std.specs.FinSet as set
 use Rattle.seam_tree.specs.Cells.{Cells}
 
--- the numbers from `first` on at whose place in the list there is `true`
-abbrev pub marked_from : ℕ → List Bool → Cells
-marked_from first [] = set.empty
-marked_from first (true ∷ marks) = set.insert (marked_from (suc first) marks) first
-marked_from first (false ∷ marks) = marked_from (suc first) marks
+-- the numbers below 16 whose digit is 1
+unfoldable pub marked : ℕ → Cells
+marked digits = set.retain (set.from_list (range_with_len 0 16)) (λ k. bit_at digits k == 1)
 
--- for each of `count` numbers from `first` on, whether it is in the set
-abbrev pub marks_from : Cells → ℕ → ℕ → List Bool
-marks_from s first zero = []
-marks_from s first (suc count) = set.contains s first ∷ marks_from s (suc first) count
+-- the number whose digits are 1 for the members below `count`, and 0 for all others
+unfoldable pub digits_of : Cells → ℕ → ℕ
+digits_of s zero = 0
+digits_of s (suc k) = (if set.contains s k then 2 ^ k else 0) + digits_of s k

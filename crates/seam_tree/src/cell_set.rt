@@ -6,28 +6,29 @@ use std::marker::Model;
 /// A set of cell numbers, each from 0 to 15, copied by value.
 #[derive(Clone, Copy, Debug)]
 pub struct CellSet {
-    marks: [bool; 16],
+    // a binary digit for each cell, the least first
+    digits: u16,
 }
 
 impl Model for CellSet {
-    ghost use Rattle.std.specs.Prelude.{◌≡◌, length};
+    ghost use Rattle.std.specs.Prelude.{◌<◌, ◌^◌};
     ghost use Rattle.std.specs.FinSet as set;
     ghost use Rattle.std.specs.Coded.{coded_ℕ};
     ghost use Rattle.seam_tree.specs.Cells.{Cells};
-    ghost use Rattle.seam_tree.specs.Marks.{marked_from, marks_from};
-    ghost use Rattle.seam_tree.specs.Inverse.{marks_marked};
+    ghost use Rattle.seam_tree.specs.Marks.{marked, digits_of};
+    ghost use Rattle.seam_tree.specs.Inverse.{digits_of_marked};
 
     ghost Value = { Cells };
 
     ghost coded = { set.code coded_ℕ };
 
-    ghost view = { λ a. marked_from 0 a.marks };
+    ghost view = { λ a. marked a.digits };
 
-    ghost invariant = { λ a. length a.marks ≡ 16 };
+    ghost invariant = { λ a. a.digits < 2 ^ 16 };
 
-    ghost inverse = { λ s. record { marks = marks_from s 0 16 } };
+    ghost inverse = { λ s. record { digits = digits_of s 16 } };
 
-    ghost inverse_ok = { λ a h. λ i. record { marks = marks_marked a.marks h i } };
+    ghost inverse_ok = { λ a h. λ i. record { digits = digits_of_marked a.digits h i } };
 }
 
 impl CellSet {
@@ -35,7 +36,7 @@ impl CellSet {
     pub fn none() -> CellSet
         ensures { result ≡ set.empty }
     {
-        CellSet { marks: [false; 16] }
+        CellSet { digits: 0 }
     }
 
     /// Whether the cell is in the set.
@@ -43,14 +44,14 @@ impl CellSet {
         ensures value { result ≡ set.contains self.now cell }
         ensures small { IsTrue result → cell < 16 }
     {
-        cell < 16 && self.marks[usize::from(cell)]
+        cell < 16 && (self.digits >> cell) & 1 == 1
     }
 
     /// Whether both sets have the same cells.
     pub fn is(&self, other: &CellSet) -> bool
         ensures { IsTrue result ↔ (self.now ≡ other.now) }
     {
-        self.marks == other.marks
+        self.digits == other.digits
     }
 
     /// Whether all its cells have numbers below this one.
@@ -58,12 +59,8 @@ impl CellSet {
         ensures below { IsTrue result ↔ ((k : ℕ) → IsTrue (set.contains self.now k) → k < count) }
         ensures small { (k : ℕ) → IsTrue (set.contains self.now k) → k < 16 }
     {
-        let mut below = true;
-        // No mark ends the loop, and `|` tries both its sides, so that all marks are tried at once.
-        for k in 0..16 {
-            below &= (k < count) | !self.marks[usize::from(k)];
-        }
-        below
+        // No shift is by 16 or more.
+        count >= 16 || self.digits >> count == 0
     }
 
     /// The set with the cell.
@@ -71,9 +68,9 @@ impl CellSet {
         requires { cell < 16 }
         ensures { result ≡ set.insert self cell }
     {
-        let mut marks = self.marks;
-        marks[usize::from(cell)] = true;
-        CellSet { marks }
+        CellSet {
+            digits: self.digits | 1 << cell,
+        }
     }
 
     /// The set without the cell.
@@ -81,8 +78,8 @@ impl CellSet {
         requires { cell < 16 }
         ensures { result ≡ set.remove self cell }
     {
-        let mut marks = self.marks;
-        marks[usize::from(cell)] = false;
-        CellSet { marks }
+        CellSet {
+            digits: self.digits & !(1 << cell),
+        }
     }
 }

@@ -1,27 +1,26 @@
-use Rattle.std.proofs.Common.{◌≡◌, ◌<◌, ℕ, true, false, sym, ap, ◌∙◌, arith, get_or}
-use Rattle.std.specs.FinSet as set
-use Rattle.seam_tree.specs.Cells.{Cells}
-use Rattle.seam_tree.proofs.Sets.{contains_marks, marked_within, are_below_or_out, below_where_marked, are_below_where_marked}
+use Rattle.std.proofs.Common.{◌<◌, sym, arith, eq-eqb, eqb-true}
+use Rattle.std.proofs.lemmas.Bool.{le-leb}
+use Rattle.seam_tree.proofs.Sets.{marked_small, below_by_shifted, shifted_by_below}
 use Rattle.seam_tree.proofs.cell_set.CellSet.are_below.Goals as goal
 
-pub returns-clause-below : goal.returns-clause-below
-returns-clause-below c =
-    let marks = c.self.inside.marks in
-    let told : (k : ℕ) → set.contains c.args.self.now k ≡ get_or marks k false =
-    λ k. ap (λ (s : Cells). set.contains s k) (sym c.self.view_is) ∙ contains_marks marks k in
-    let within : (k : ℕ) → get_or marks k false ≡ true → k < 16 =
-    λ k marked. omega (arith, marked_within marks k marked, c.self.invariant) in
-    let end : c.loop-k.k ≡ 16 = omega (arith, c.loop-k-test.false, c.loop-k.auto.k-end) in
-    let all : c.loop-k.below ≡ are_below_or_out c.args.count marks 16 =
-    c.loop-k.invariant ∙ ap (are_below_or_out c.args.count marks) end in (
-      (λ below k has. let marked = sym (told k) ∙ has in
-          below_where_marked c.args.count marks 16 k (sym all ∙ below) (within k marked) marked),
-      (λ below. all ∙ are_below_where_marked c.args.count marks 16 (λ k marked. below k (told k ∙ marked))),
+pub returns-then-count-ge16-clause-small : goal.returns-then-count-ge16-clause-small
+returns-then-count-ge16-clause-small c = rw (sym c.self.view_is) (marked_small c.self.inside.digits c.self.invariant)
+
+pub returns-then-count-ge16-clause-below : goal.returns-then-count-ge16-clause-below
+returns-then-count-ge16-clause-below c = (
+  λ _ k there.
+      let small : k < 16 = returns-then-count-ge16-clause-small c k there in
+      omega (arith, small, c.if-count-ge16.true),
+  λ _. le-leb 16 c.args.count c.if-count-ge16.true,
+)
+
+pub returns-else-count-ge16-clause-below : goal.returns-else-count-ge16-clause-below
+returns-else-count-ge16-clause-below c =
+    let digits = c.self.inside.digits in
+    rw (sym c.self.view_is) (
+      λ none. below_by_shifted digits c.self.invariant c.args.count (eqb-true _ 0 none),
+      λ below. eq-eqb _ 0 (shifted_by_below digits c.self.invariant c.args.count below),
     )
 
-pub returns-clause-small : goal.returns-clause-small
-returns-clause-small c = λ k has.
-    let marks = c.self.inside.marks in
-    let marked : get_or marks k false ≡ true =
-    sym (contains_marks marks k) ∙ (ap (λ (s : Cells). set.contains s k) c.self.view_is ∙ has) in
-    omega (arith, marked_within marks k marked, c.self.invariant)
+pub returns-else-count-ge16-clause-small : goal.returns-else-count-ge16-clause-small
+returns-else-count-ge16-clause-small c = rw (sym c.self.view_is) (marked_small c.self.inside.digits c.self.invariant)

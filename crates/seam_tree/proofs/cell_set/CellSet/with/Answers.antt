@@ -1,12 +1,10 @@
-use Rattle.std.proofs.Common.{ap, ◌∙◌, arith, ℕ, true, set}
+use Rattle.std.proofs.Common.{ap, ◌∙◌}
 use Rattle.std.specs.FinSet as cells
 use Rattle.seam_tree.specs.Cells.{Cells}
-use Rattle.seam_tree.specs.Marks.{marked_from}
-use Rattle.seam_tree.proofs.Sets.{marked_set_true}
+use Rattle.seam_tree.proofs.Sets.{marked_set}
 use Rattle.seam_tree.proofs.cell_set.CellSet.with.Goals as goal
 
 pub returns : goal.returns
 returns c =
-    ap (λ (k : ℕ). marked_from 0 (set c.self.inside.marks k true)) c.from.ensures
-    ∙ marked_set_true c.self.inside.marks c.args.cell (omega (arith, c.self.invariant))
+    marked_set c.self.inside.digits c.self.invariant c.args.cell c.requires
     ∙ ap (λ (s : Cells). cells.insert s c.args.cell) c.self.view_is
