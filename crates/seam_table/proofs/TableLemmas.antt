@@ -1,6 +1,6 @@
 -- What a table answers, by what its entries hold.
 use Rattle.std.proofs.Common.{◌≡◌, ℕ, Bool, true, false, not, cond, ◌||◌, ◌&&◌, List, [], ◌∷◌, Option, None, Some, refl, nat_eq}
-use Rattle.std.proofs.Common.{sym, ap, ◌∙◌, arith, is_some}
+use Rattle.std.proofs.Common.{sym, ap, subst, ◌∙◌, arith, is_some, position, slice_get, option_map, unwrap_or}
 use Rattle.std.specs.Option.{option_flatten, IfSome}
 use Rattle.std.specs.Ordering.{nat_cmp, eq_by_cmp, is_eq}
 use Rattle.std.specs.Cmp.{nat_cmp_total}
@@ -12,9 +12,14 @@ use Rattle.std.proofs.lemmas.Map.{lookup-none}
 use Rattle.std.proofs.lemmas.Map.Entries.{none_past_head}
 use Rattle.std.proofs.lemmas.Map.Keys.{IsDistinct-tail}
 use Rattle.std.proofs.lemmas.Map.Made.{is_some-lookup}
+use Rattle.std.proofs.lemmas.Map.Entries.{lookup_from_place}
+use Rattle.std.proofs.lemmas.Option.{slice_get-map, slice_get-get_or}
+use Rattle.std.proofs.lemmas.List.Quantifiers.{position-Some}
 use Rattle.std.proofs.lemmas.Bool.Decides.{nat_tests}
 use Rattle.std.specs.FinMap as map
 use Rattle.std.specs.FinSet as set
+use Rattle.indexmap.specs.IndexMap.{IndexMap, keys, with_value_at}
+use Rattle.indexmap.proofs.CallerLemmas.{keys-with_value_at, updates-with_value_at}
 use Rattle.seam_table.specs.Tables.{TableView, with_item, without_item, without_room}
 use Rattle.seam_table.specs.Entries.{kept_before, kept, table_of, Writes}
 
@@ -168,13 +173,21 @@ module _ {T : Type 0} (old new : List (ℕ × Option T)) where
         (λ t. there ∙ ap (λ k. lookup (nat_eq k) old) (sym (number_is e q t))))
 
     -- room made where there was none leaves the items
-    pub items-reserved : (e : ℕ) → lookup (nat_eq e) old ≡ None → Writes e None old new → (table_of new).items ≡ (table_of old).items
+    items-reserved : (e : ℕ) → lookup (nat_eq e) old ≡ None → Writes e None old new → (table_of new).items ≡ (table_of old).items
     items-reserved e none h =
         map.same_map nat_cmp_total map.nat_cmp-IsAntisymmetric _ _ (λ q.
         item-slot new q n
         ∙ ap option_flatten (h q)
         ∙ same_or_none (nat_eq e q) (lookup (nat_eq q) old) (λ t. ap (λ k. lookup (nat_eq k) old) (number_is e q t) ∙ none)
         ∙ sym (item-slot old q d))
+
+    -- an entry made without an item, where there was none, leaves the items
+    pub items-made : (e : ℕ) → Writes e (unwrap_or (lookup (nat_eq e) old) None) old new → (table_of new).items ≡ (table_of old).items
+    items-made e = by (lookup (nat_eq e) old) refl
+      where
+        by : (o : Option (Option T)) → lookup (nat_eq e) old ≡ o → Writes e (unwrap_or o None) old new → (table_of new).items ≡ (table_of old).items
+        by None is h = items-reserved e is h
+        by (Some slot) is h = ap (λ w. w.items) (table-rewritten e slot (sym is) h)
 
 -- ---- an item out, with its room or without
 
@@ -244,3 +257,61 @@ module _ {T : Type 0} (ss : List (ℕ × Option T)) (e : ℕ) (d : IsDistinct na
   -- a table without an entry of the number is the table without its item, and without room for it
   pub table-absent : table_of ss ≡ without_item (table_of ss) e
   table-absent = λ i. record { items = items-absent i; room = (table_of ss).room }
+
+  pub room-absent : table_of ss ≡ without_room (table_of ss) e
+  room-absent =
+      table-removed ss ss e d d (λ q.
+      none_or (nat_eq e q) (lookup (nat_eq q) ss) (λ t. ap (λ k. lookup (nat_eq k) ss) (number_is e q t) ∙ none))
+
+-- ---- an entry by its place
+
+-- the number that a search finds is there
+pub number_found : (n : ℕ) (ks : List ℕ) (i : ℕ) → position (nat_eq n) ks ≡ Some i → slice_get ks i ≡ Some n
+number_found n ks i found =
+    let h = position-Some (nat_eq n) ks i n found in slice_get-get_or ks i n h.0 ∙ ap Some (number_is n _ h.1)
+
+-- a table whose entry of the number is at the place
+module _ {T S : Type 0} (m : IndexMap ℕ (Option T) S) {v : TableView T} (is : table_of m.entries ≡ v) (d : IsDistinct nat_eq (keys_of m.entries))
+    (i : ℕ) {n k : ℕ} {slot : Option T} (number : slice_get (keys m) i ≡ Some n) (at : slice_get m.entries i ≡ Some (k, slot)) where
+  same_key : k ≡ n
+  same_key = let same : Some k ≡ Some n = sym (slice_get-map (λ e. e.0) m.entries i ∙ ap (option_map (λ e. e.0)) at) ∙ number in cc
+
+  entry_at : slice_get m.entries i ≡ Some (n, slot)
+  entry_at = at ∙ ap (λ x. Some (x, slot)) same_key
+
+  slot_at : Some slot ≡ lookup (nat_eq n) m.entries
+  slot_at = sym (lookup_from_place nat_eq_equiv m.entries i n slot d entry_at)
+
+  written_at : (w : Option T) → Writes n w m.entries (with_value_at m i w).entries
+  written_at w = (updates-with_value_at m i w nat_eq_equiv d n slot entry_at).0
+
+  pub distinct_at : (w : Option T) → IsDistinct nat_eq (keys_of (with_value_at m i w).entries)
+  distinct_at w = subst (IsDistinct nat_eq) (sym (keys-with_value_at m i w)) d
+
+  pub item_at : slot ≡ map.get v.items n
+  item_at = ap option_flatten slot_at ∙ sym (item-slot m.entries n d) ∙ ap (λ w. map.get w.items n) is
+
+  -- the table where an item is written there, or none, or what was there
+  pub put_at : (item : T) → table_of (with_value_at m i (Some item)).entries ≡ with_item v n item
+  put_at item =
+      table-written m.entries (with_value_at m i (Some item)).entries d (distinct_at (Some item)) n item (written_at (Some item))
+      ∙ ap (λ w. with_item w n item) is
+
+  pub emptied_at : table_of (with_value_at m i None).entries ≡ without_item v n
+  emptied_at =
+      table-emptied m.entries (with_value_at m i None).entries n d (distinct_at None) (sym (ap is_some slot_at)) (written_at None)
+      ∙ ap (λ w. without_item w n) is
+
+  pub same_at : table_of (with_value_at m i slot).entries ≡ v
+  same_at = table-rewritten m.entries (with_value_at m i slot).entries d (distinct_at slot) n slot slot_at (written_at slot) ∙ is
+
+  pub room_at : {X : Type 0} (w : Option T) (o : Option X) → IfSome o (λ _. set.contains (table_of (with_value_at m i w).entries).room n ≡ true)
+  room_at w o =
+      room_of_entry (with_value_at m i w).entries n w o (entry_written m.entries (with_value_at m i w).entries n w (written_at w))
+
+  -- the table where the entry is taken away
+  pub removed_at : (new : IndexMap ℕ (Option T) S) → IsDistinct nat_eq (keys_of new.entries) →
+      ((q : ℕ) → lookup (nat_eq q) new.entries ≡ cond (nat_eq k q) None (lookup (nat_eq q) m.entries)) → table_of new.entries ≡ without_room v n
+  removed_at new distinct h =
+      table-removed m.entries new.entries n d distinct (λ q. h q ∙ ap (λ x. cond (nat_eq x q) None (lookup (nat_eq q) m.entries)) same_key)
+      ∙ ap (λ w. without_room w n) is

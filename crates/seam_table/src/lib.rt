@@ -10,7 +10,8 @@
 #![tactic(auto)]
 
 ghost use Rattle.std.specs.Prelude.{◌≡◌, ℕ, Bool, Some, find, true, false, OnOk, OnErr, IfOk, IfErr, IfSome};
-ghost use Rattle.std.specs.Prelude.{None, nat_eq, is_some, option_map, option_copied, map as each};
+ghost use Rattle.std.specs.Prelude.{None, nat_eq, is_some, option_map, option_copied, slice_get, unwrap_or, map as each, IfNone, ◌<◌};
+ghost use Rattle.indexmap.specs.IndexMap.{keys, get, index_map_len, IsUnique, IsUnchanged, Updates};
 ghost use Rattle.std.specs.Option.{option_flatten};
 ghost use Rattle.std.specs.List.{filter, IsDistinct};
 ghost use Rattle.std.specs.Map.{keys_of};
@@ -33,6 +34,8 @@ use std::marker::Model;
 pub struct Table<T> {
     // An entry without an item is room for one.
     entries: IndexMap<u32, Option<T>>,
+    // Where the entry that was found last is, as a guess at the next: see `place_of`.
+    last: usize,
 }
 
 impl<T> Model for Table<T> {
@@ -63,6 +66,7 @@ impl<T: Drop> Table<T> {
     {
         Table {
             entries: IndexMap::new(alloc),
+            last: 0,
         }
     }
 
@@ -82,10 +86,9 @@ impl<T: Drop> Table<T> {
         ensures* writes_back { sem 𝓛 (LendsIf (the_row T.row) T.row self.entry result (with_item self.old n) self.old) }
         ensures item { option_copied_mut result ≡ map.get self.old.items n }
     {
-        match self.entries.get_mut(&n) {
-            Some(slot) => slot.as_mut(),
-            None => None,
-        }
+        let place = place_of(&self.entries, &mut self.last, n)?;
+        let (_, slot) = self.entries.pair_mut(place);
+        slot.as_mut()
     }
 
     /// Whether there is room for an item of the number.
@@ -103,13 +106,11 @@ impl<T: Drop> Table<T> {
         ensures err { OnErr result (self.new.room ≡ self.old.room) }
         ensures err_only_first { OnErr result (set.contains self.old.room n ≡ false) }
     {
-        if self.has_room(n) {
-            return Ok(());
-        }
-        match self.entries.insert(n, None) {
-            Ok(_) => return Ok(()),
-            Err(_) => return Err(AllocError),
-        }
+        // A new entry goes last.
+        let place = self.entries.len();
+        make_entry(&mut self.entries, n)?;
+        self.last = place;
+        Ok(())
     }
 
     /// Puts the item in place of the one that the number had, if any, and gives that one.
@@ -140,10 +141,11 @@ impl<T: Drop> Table<T> {
         ensures after { self.new ≡ with_item self.old n item }
         ensures room { self.new.room ≡ self.old.room }
     {
-        let Ok(old) = self.put(n, item) else {
+        let Some(place) = place_of(&self.entries, &mut self.last, n) else {
             unreachable!()
         };
-        old
+        let (_, slot) = self.entries.pair_mut(place);
+        slot.replace(item)
     }
 
     /// Gives the item of the number, which has none from then on. The room stays, so that the item, changed, can be put again.
@@ -152,7 +154,9 @@ impl<T: Drop> Table<T> {
         ensures after { self.new ≡ without_item self.old n }
         ensures room { IfSome result (λ _. set.contains self.new.room n ≡ true) }
     {
-        empty_entry(&mut self.entries, n)
+        let place = place_of(&self.entries, &mut self.last, n)?;
+        let (_, slot) = self.entries.pair_mut(place);
+        slot.take()
     }
 
     /// Gives the item of the number, which has none from then on, and gives back the room.
@@ -160,7 +164,11 @@ impl<T: Drop> Table<T> {
         ensures item { result ≡ map.get self.old.items n }
         ensures after { self.new ≡ without_room self.old n }
     {
-        self.entries.swap_remove(&n).flatten()
+        let place = place_of(&self.entries, &mut self.last, n)?;
+        let Some((_, slot)) = self.entries.swap_remove_index(place) else {
+            unreachable!()
+        };
+        slot
     }
 
     /// Changes each item where it lies.
@@ -183,6 +191,34 @@ impl<T: Drop> Table<T> {
     }
 }
 
+// The index of the number's entry. It is sought only where the entry that was found last is another's: since that is tested each time, no
+// value of `last` makes an answer wrong.
+fn place_of<T>(entries: &IndexMap<u32, Option<T>>, last: &mut usize, n: u32) -> Option<usize>
+    ensures there { IfSome result (λ i. slice_get (keys entries.now) i ≡ Some n) }
+    ensures within { IfSome result (λ i. i < index_map_len entries.now) }
+    ensures none { IfNone result (get nat_eq entries.now n ≡ None) }
+{
+    if let Some((number, _)) = entries.get_index(*last) {
+        if *number == n {
+            return Some(*last);
+        }
+    }
+    let place = entries.get_index_of(&n)?;
+    *last = place;
+    Some(place)
+}
+
+// Makes an entry for the number, without an item, where it has none.
+fn make_entry<T: Drop>(entries: &mut IndexMap<u32, Option<T>>, n: u32) -> Result<(), AllocError>
+    ensures ok { OnOk result (Updates nat_eq entries.old entries.new n (Some (unwrap_or (get nat_eq entries.old n) None))) }
+    ensures err { OnErr result (IsUnchanged entries.old entries.new) }
+    ensures absent { OnErr result (get nat_eq entries.old n ≡ None) }
+    ensures unique { IsUnique nat_eq entries.old → IsUnique nat_eq entries.new }
+{
+    entries.entry(n)?.or_insert(None);
+    Ok(())
+}
+
 // The numbers of the entries that have an item, as they lie.
 fn kept_numbers<T>(
     entries: &IndexMap<u32, Option<T>>,
@@ -197,20 +233,6 @@ fn kept_numbers<T>(
         }
     }
     Ok(numbers)
-}
-
-// Leaves the entry of the number without an item.
-fn empty_entry<T: Drop>(entries: &mut IndexMap<u32, Option<T>>, n: u32) -> Option<T>
-    requires { IsDistinct nat_eq (keys_of entries.old.entries) }
-    ensures item { result ≡ map.get (table_of entries.old.entries).items n }
-    ensures after { table_of entries.new.entries ≡ without_item (table_of entries.old.entries) n }
-    ensures room { IfSome result (λ _. set.contains (table_of entries.new.entries).room n ≡ true) }
-    ensures numbers { keys_of entries.new.entries ≡ keys_of entries.old.entries }
-{
-    match entries.get_mut(&n) {
-        Some(slot) => slot.take(),
-        None => None,
-    }
 }
 
 // Changes the entry's item, if it has one.
