@@ -194,3 +194,47 @@ module _ {P : Type 0} (beats : TableView ℕ) (copies : TableView P) (e known : 
   pub is_book_over : (t : Bool) (beat : ℕ) (p : P) → IsBook beats copies → IsBook (with_item beats e (over t beat)) (copied_over t p)
   is_book_over true beat p book = book_put beats copies e beat p book
   is_book_over false beat p book = is_book_same book
+
+  abbrev dropped_over : Bool → TableView P
+  dropped_over t = if t then without_room copies e else copies
+
+  pub book_dropped_over : (t : Bool) (beat : ℕ) → book_of (with_item beats e (over t beat)) (dropped_over t)
+      ≡ (if t then with_ghost (book_of beats copies) e (record { beat = beat; copy = None }) else book_of beats copies)
+  book_dropped_over true beat = book_without_copy beats copies e beat
+  book_dropped_over false beat = book_same
+
+  pub is_book_dropped_over : (t : Bool) (beat : ℕ) → IsBook beats copies → IsBook (with_item beats e (over t beat)) (dropped_over t)
+  is_book_dropped_over true beat book = book_dropped beats copies e beat book
+  is_book_dropped_over false beat book = is_book_same book
+
+-- ---- a beat without a copy, written where none is known
+
+module _ {P : Type 0} (beats : TableView ℕ) (copies : TableView P) (e : ℕ) (first : map.get beats.items e ≡ None) (book : IsBook beats copies) where
+  pub no_beat : beat_in (map.get (joined beats.items copies.items) e) ≡ 0
+  no_beat = beat_joined beats.items copies.items e ∙ ap (λ b. unwrap_or b 0) first
+
+  no_copy : map.get copies.items e ≡ None
+  no_copy = by (map.get copies.items e) refl
+    where
+      by : (o : Option P) → map.get copies.items e ≡ o → o ≡ None
+      by None is = refl
+      by (Some p) is = absurd (false≢true (sym (ap is_some first) ∙ book.beat e (ap is_some is)))
+
+  no_copy_stays : (q : ℕ) → map.get copies.items q ≡ cond (eq_by_cmp nat_cmp q e) None (map.get copies.items q)
+  no_copy_stays q = by (eq_by_cmp nat_cmp q e) refl
+    where
+      by : (t : Bool) → eq_by_cmp nat_cmp q e ≡ t → map.get copies.items q ≡ cond t None (map.get copies.items q)
+      by true is = ap (map.get copies.items) (sym (key_is q e is)) ∙ no_copy
+      by false is = refl
+
+  pub book_noted : (t : Bool) (beat : ℕ) → book_of (if t then with_item beats e beat else beats) copies
+      ≡ (if t then with_ghost (book_of beats copies) e (record { beat = beat; copy = None }) else book_of beats copies)
+  book_noted true beat =
+      let ghosts = joined_after beats.items copies.items copies.items e beat None no_copy_stays in λ i. record { ghosts = ghosts i }
+  book_noted false beat = refl
+
+  pub is_book_noted : (t : Bool) (beat : ℕ) → IsBook (if t then with_item beats e beat else beats) copies
+  is_book_noted true beat = record {
+    beat = beat_after beats.items copies.items copies.items e beat None book.beat no_copy_stays;
+  }
+  is_book_noted false beat = book

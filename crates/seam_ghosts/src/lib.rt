@@ -9,7 +9,7 @@ ghost use Rattle.std.specs.Prelude.{max, nat_lt, if◌then◌else◌, ◌≡◌,
 ghost use Rattle.std.specs.Prelude.{option_copied, Some, None};
 ghost use Rattle.std.specs.Map.{keys_of};
 ghost use Rattle.std.specs.FinMap as map;
-ghost use Rattle.seam_table.specs.Tables.{with_item};
+ghost use Rattle.seam_table.specs.Tables.{with_item, without_room};
 ghost use Rattle.seam_ghosts.specs.declared.Ghost.{Ghost};
 ghost use Rattle.seam_ghosts.specs.Joined.{book_of, IsBook};
 ghost use Rattle.seam_ghosts.specs.Book.{BookView, beat_of, copy_of, copies, answer, after_message, ghost_after};
@@ -108,14 +108,7 @@ impl<P: Drop> GhostBook<P> {
         // Without memory nothing has changed.
         ensures err { OnErr result (self.new ≡ self.old) }
     {
-        if self.beat(e) >= beat {
-            return Ok(Kept::Ignored);
-        }
-        let Ok(_) = self.beats.put(e, beat) else {
-            return Err(AllocError);
-        };
-        let _ = self.copies.remove(e);
-        Ok(Kept::Taken)
+        drop_at(&mut self.beats, &mut self.copies, e, beat)
     }
 
     /// The entities that have copies, in rising number.
@@ -195,6 +188,55 @@ fn set_copy<P: Drop>(
     match beats.get_mut(e) {
         Some(known) => write_over(known, copies, e, beat, copy),
         None => write_first(beats, copies, e, beat, copy),
+    }
+}
+
+// Drops the copy and writes its beat over the beat that is known, where that is lower.
+fn drop_over<P: Drop>(known: &mut u64, copies: &mut Table<P>, e: u32, beat: u64) -> Kept
+    ensures answer { result ≡ answer known.old beat }
+    ensures beat { known.new ≡ (if nat_lt known.old beat then beat else known.old) }
+    ensures after { copies.new ≡ (if nat_lt known.old beat then without_room copies.old e else copies.old) }
+{
+    if *known >= beat {
+        return Kept::Ignored;
+    }
+    let _ = copies.remove(e);
+    *known = beat;
+    Kept::Taken
+}
+
+// Writes the beat where none is known, so that there is no copy.
+fn note_first(beats: &mut Table<u64>, e: u32, beat: u64) -> Result<Kept, AllocError>
+    ensures answer { IfOk result (λ k. k ≡ answer 0 beat) }
+    ensures after { OnOk result (beats.new ≡ (if nat_lt 0 beat then with_item beats.old e beat else beats.old)) }
+    ensures err { OnErr result (beats.new ≡ beats.old) }
+{
+    if beat == 0 {
+        return Ok(Kept::Ignored);
+    }
+    let Ok(_) = beats.put(e, beat) else {
+        return Err(AllocError);
+    };
+    Ok(Kept::Taken)
+}
+
+// Drops the copy at its beat, where a lower beat is known or none. A beat that is known is found and written by one search.
+fn drop_at<P: Drop>(
+    beats: &mut Table<u64>,
+    copies: &mut Table<P>,
+    e: u32,
+    beat: u64,
+) -> Result<Kept, AllocError>
+    requires { IsBook beats.old copies.old }
+    ensures answer { IfOk result (λ k. k ≡ answer (beat_of (book_of beats.old copies.old) e) beat) }
+    ensures after { OnOk result (book_of beats.new copies.new
+        ≡ after_message (book_of beats.old copies.old) e (record { beat = beat; copy = None })) }
+    ensures book { IsBook beats.new copies.new }
+    ensures err { OnErr result (book_of beats.new copies.new ≡ book_of beats.old copies.old) }
+{
+    match beats.get_mut(e) {
+        Some(known) => Ok(drop_over(known, copies, e, beat)),
+        None => note_first(beats, e, beat),
     }
 }
 
