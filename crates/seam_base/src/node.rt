@@ -22,7 +22,7 @@ use crate::known::Known;
 use crate::orders::execute;
 use crate::part::BasePart;
 use crate::parts::Parts;
-use crate::routes::{CELLS, Route, gives_way};
+use crate::routes::{CELLS, Route, renew};
 use seam_call::{Call, Order, Update};
 use seam_defs::{Defs, MOST_BASE_NODES, Settings};
 use seam_entity::Msg;
@@ -186,9 +186,10 @@ impl Base {
         ensures { self.new ≡ (unless_stray (stray_current new (table.get self.old.routes e)) self.old
             (sends_none (current self.old e new (table.get self.old.routes e)))).state }
     {
-        if gives_way(self.routes.get(e), new) {
-            let _old = self.routes.put_reserved(e, new);
-        }
+        let Some(route) = self.routes.get_mut(e) else {
+            return;
+        };
+        renew(route, new);
     }
 
     // Base call: it is taken out of its message. If allocation fails, it is put back.

@@ -1,7 +1,6 @@
 //! The routes of a base node: the cell where each entity's real was when it had that generation.
 
-ghost use Rattle.std.specs.Prelude.{◌≡◌, option_copied};
-ghost use Rattle.std.specs.FinMap as table;
+ghost use Rattle.std.specs.Prelude.{◌≡◌, Some, if◌then◌else◌};
 ghost use Rattle.seam_base.specs.Routes.{gives_way as route_gives_way};
 
 use seam_entity::is_small;
@@ -27,14 +26,18 @@ impl Model for Route {
     ghost inverse = { λ v. record { cell = v.cell; generation = v.generation } };
 }
 
-/// Whether the route gives way to a new one: that is no stray one, and of a greater generation.
-pub fn gives_way(route: Option<&Route>, new: Route) -> bool
-    ensures { result ≡ route_gives_way (option_copied route.entry) new }
+// Whether the route gives way to a new one: that is no stray one, and of a greater generation.
+fn gives_way(route: &Route, new: Route) -> bool
+    ensures { result ≡ route_gives_way (Some route.now) new }
 {
-    match route {
-        Some(route) => {
-            new.cell < CELLS && (is_small(new.generation) && route.generation < new.generation)
-        }
-        None => false,
+    new.cell < CELLS && (is_small(new.generation) && route.generation < new.generation)
+}
+
+/// Puts the new route in place of the one that it finds, where that one gives way.
+pub fn renew(route: &mut Route, new: Route)
+    ensures { route.new ≡ (if route_gives_way (Some route.old) new then new else route.old) }
+{
+    if gives_way(route, new) {
+        *route = new;
     }
 }
