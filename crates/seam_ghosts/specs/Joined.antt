@@ -1,22 +1,31 @@
--- How a table of beats and a table of copies are a book.
-use Rattle.std.specs.Prelude.{◌≡◌, ℕ, true, map as each}
+-- How a table of what is known and a table of copies are a book.
+use Rattle.std.specs.Prelude.{◌≡◌, ℕ, Bool, false, Option, None, Some, map as each}
 use Rattle.std.specs.Ordering.{nat_cmp}
 use Rattle.std.specs.FinMap as map
 use Rattle.seam_table.specs.Tables.{TableView}
 use Rattle.seam_ghosts.specs.declared.Ghost.{Ghost}
+use Rattle.seam_ghosts.specs.declared.Known.{Known}
 use Rattle.seam_ghosts.specs.Book.{BookView}
 
--- the ghost of an entity with its beat
-abbrev pub ghost_at : {P : Type 0} → map.FinMap nat_cmp P → ℕ × ℕ → ℕ × Ghost P
-ghost_at copies b = (b.0, record { beat = b.1; copy = map.get copies b.0 })
+abbrev pub noted : ℕ → Bool → Known
+noted beat has_copy = record { beat = beat; has_copy = has_copy }
 
--- the ghosts of the entities that have a beat
-abbrev pub joined : {P : Type 0} → map.FinMap nat_cmp ℕ → map.FinMap nat_cmp P → map.FinMap nat_cmp (Ghost P)
+-- the ghost of an entity of which this is known
+abbrev pub ghost_at : {P : Type 0} → map.FinMap nat_cmp P → ℕ × Known → ℕ × Ghost P
+ghost_at copies k = (k.0, record { beat = k.1.beat; copy = map.get copies k.0 })
+
+-- the ghosts of the entities that are known
+abbrev pub joined : {P : Type 0} → map.FinMap nat_cmp Known → map.FinMap nat_cmp P → map.FinMap nat_cmp (Ghost P)
 joined beats copies = map.from_entries (each (ghost_at copies) (map.entries beats))
 
-abbrev pub book_of : {P : Type 0} → TableView ℕ → TableView P → BookView P
+abbrev pub book_of : {P : Type 0} → TableView Known → TableView P → BookView P
 book_of beats copies = record { ghosts = joined beats.items copies.items }
 
--- what has a copy has a beat
-pub record IsBook {P : Type 0} (beats : TableView ℕ) (copies : TableView P) : Type 0 where
-  pub beat : (e : ℕ) → map.contains_key copies.items e ≡ true → map.contains_key beats.items e ≡ true
+-- whether a copy is known of
+abbrev pub has_copy_in : Option Known → Bool
+has_copy_in None = false
+has_copy_in (Some k) = k.has_copy
+
+-- there are just the copies that are known of
+pub record IsBook {P : Type 0} (beats : TableView Known) (copies : TableView P) : Type 0 where
+  pub copy : (e : ℕ) → map.contains_key copies.items e ≡ has_copy_in (map.get beats.items e)

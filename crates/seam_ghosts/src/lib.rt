@@ -5,13 +5,13 @@
 //! ghosts of the BigWorld Server Overview; the beats are of the kind of Lamport's clocks, 1978.)
 #![tactic(auto)]
 
-ghost use Rattle.std.specs.Prelude.{max, nat_lt, if◌then◌else◌, ◌≡◌, ◌≤◌, ◌≢◌, ℕ, IfOk, IfErr, OnOk, OnErr};
+ghost use Rattle.std.specs.Prelude.{true, false, max, nat_lt, if◌then◌else◌, ◌≡◌, ◌≤◌, ◌≢◌, ℕ, IfOk, IfErr, OnOk, OnErr};
 ghost use Rattle.std.specs.Prelude.{option_copied, Some, None};
 ghost use Rattle.std.specs.Map.{keys_of};
 ghost use Rattle.std.specs.FinMap as map;
-ghost use Rattle.seam_table.specs.Tables.{with_item, without_room};
+ghost use Rattle.seam_table.specs.Tables.{with_item};
 ghost use Rattle.seam_ghosts.specs.declared.Ghost.{Ghost};
-ghost use Rattle.seam_ghosts.specs.Joined.{book_of, IsBook};
+ghost use Rattle.seam_ghosts.specs.Joined.{book_of, noted, IsBook};
 ghost use Rattle.seam_ghosts.specs.Book.{BookView, beat_of, copy_of, copies, answer, after_message, ghost_after};
 
 pub use seam_memory::NoMemoryFor;
@@ -35,13 +35,20 @@ pub struct Ghost<P> {
     pub copy: Option<P>,
 }
 
+/// What is known of an entity beside its copy: the greatest beat that came for it, and whether there is a copy.
+#[derive(Clone, Copy, Debug, PartialEq, Eq)]
+pub struct Known {
+    beat: u64,
+    has_copy: bool,
+}
+
 /// The copies of entities, each under the greatest beat that came for it.
 ///
 /// Contracts see the ghost of each entity.
 #[derive(Drop)]
 pub struct GhostBook<P> {
-    // The greatest beat of each entity that a message came for.
-    beats: Table<u64>,
+    // What is known of each entity that a message came for. A copy is sought only where there is one.
+    beats: Table<Known>,
     // The copies that are there, in a table of their own, so that a list of them does not pass entities that have only a beat.
     copies: Table<P>,
 }
@@ -75,7 +82,7 @@ impl<P: Drop> GhostBook<P> {
         ensures { result ≡ beat_of self.now e }
     {
         match self.beats.get(e) {
-            Some(beat) => *beat,
+            Some(known) => known.beat,
             None => 0,
         }
     }
@@ -121,29 +128,32 @@ impl<P: Drop> GhostBook<P> {
 
 // Writes the copy and its beat over the beat that is known, where that is lower.
 fn write_over<P: Drop>(
-    known: &mut u64,
+    known: &mut Known,
     copies: &mut Table<P>,
     e: u32,
     beat: u64,
     copy: P,
 ) -> Result<Kept, NoMemoryFor<P>>
-    ensures answer { IfOk result (λ k. k ≡ answer known.old beat) }
-    ensures beat { OnOk result (known.new ≡ (if nat_lt known.old beat then beat else known.old)) }
-    ensures after { OnOk result (copies.new ≡ (if nat_lt known.old beat then with_item copies.old e copy else copies.old)) }
+    ensures answer { IfOk result (λ k. k ≡ answer known.old.beat beat) }
+    ensures known { OnOk result (known.new ≡ (if nat_lt known.old.beat beat then noted beat true else known.old)) }
+    ensures after { OnOk result (copies.new ≡ (if nat_lt known.old.beat beat then with_item copies.old e copy else copies.old)) }
     ensures err { OnErr result ((known.new ≡ known.old) × (copies.new ≡ copies.old)) }
     ensures err_item { IfErr result (λ r. r.item ≡ copy) }
 {
-    if beat <= *known {
+    if beat <= known.beat {
         return Ok(Kept::Ignored);
     }
     copies.put(e, copy)?;
-    *known = beat;
+    *known = Known {
+        beat,
+        has_copy: true,
+    };
     Ok(Kept::Taken)
 }
 
 // Writes the copy and its beat where no beat is known.
 fn write_first<P: Drop>(
-    beats: &mut Table<u64>,
+    beats: &mut Table<Known>,
     copies: &mut Table<P>,
     e: u32,
     beat: u64,
@@ -165,13 +175,17 @@ fn write_first<P: Drop>(
         return Err(NoMemoryFor { item: copy });
     };
     copies.put(e, copy)?;
-    let _ = beats.put_reserved(e, beat);
+    let known = Known {
+        beat,
+        has_copy: true,
+    };
+    let _ = beats.put_reserved(e, known);
     Ok(Kept::Taken)
 }
 
 // Writes the copy and its beat, where a lower beat is known or none. A beat that is known is found and written by one search.
 fn set_copy<P: Drop>(
-    beats: &mut Table<u64>,
+    beats: &mut Table<Known>,
     copies: &mut Table<P>,
     e: u32,
     beat: u64,
@@ -192,29 +206,39 @@ fn set_copy<P: Drop>(
 }
 
 // Drops the copy and writes its beat over the beat that is known, where that is lower.
-fn drop_over<P: Drop>(known: &mut u64, copies: &mut Table<P>, e: u32, beat: u64) -> Kept
-    ensures answer { result ≡ answer known.old beat }
-    ensures beat { known.new ≡ (if nat_lt known.old beat then beat else known.old) }
-    ensures after { copies.new ≡ (if nat_lt known.old beat then without_room copies.old e else copies.old) }
+fn drop_over<P: Drop>(known: &mut Known, copies: &mut Table<P>, e: u32, beat: u64) -> Kept
+    requires { map.contains_key copies.old.items e ≡ known.old.has_copy }
+    ensures answer { result ≡ answer known.old.beat beat }
+    ensures known { known.new ≡ (if nat_lt known.old.beat beat then noted beat false else known.old) }
+    ensures after { copies.new.items ≡ (if nat_lt known.old.beat beat then map.remove copies.old.items e else copies.old.items) }
 {
-    if *known >= beat {
+    if known.beat >= beat {
         return Kept::Ignored;
     }
-    let _ = copies.remove(e);
-    *known = beat;
+    if known.has_copy {
+        let _ = copies.remove(e);
+    }
+    *known = Known {
+        beat,
+        has_copy: false,
+    };
     Kept::Taken
 }
 
-// Writes the beat where none is known, so that there is no copy.
-fn note_first(beats: &mut Table<u64>, e: u32, beat: u64) -> Result<Kept, AllocError>
+// Notes the beat where none is known, so that there is no copy.
+fn note_first(beats: &mut Table<Known>, e: u32, beat: u64) -> Result<Kept, AllocError>
     ensures answer { IfOk result (λ k. k ≡ answer 0 beat) }
-    ensures after { OnOk result (beats.new ≡ (if nat_lt 0 beat then with_item beats.old e beat else beats.old)) }
+    ensures after { OnOk result (beats.new ≡ (if nat_lt 0 beat then with_item beats.old e (noted beat false) else beats.old)) }
     ensures err { OnErr result (beats.new ≡ beats.old) }
 {
     if beat == 0 {
         return Ok(Kept::Ignored);
     }
-    let Ok(_) = beats.put(e, beat) else {
+    let known = Known {
+        beat,
+        has_copy: false,
+    };
+    let Ok(_) = beats.put(e, known) else {
         return Err(AllocError);
     };
     Ok(Kept::Taken)
@@ -222,7 +246,7 @@ fn note_first(beats: &mut Table<u64>, e: u32, beat: u64) -> Result<Kept, AllocEr
 
 // Drops the copy at its beat, where a lower beat is known or none. A beat that is known is found and written by one search.
 fn drop_at<P: Drop>(
-    beats: &mut Table<u64>,
+    beats: &mut Table<Known>,
     copies: &mut Table<P>,
     e: u32,
     beat: u64,

@@ -185,7 +185,8 @@ module _ {T : Type 0} (old new : List (ℕ × Option T)) where
     pub items-made : (e : ℕ) → Writes e (unwrap_or (lookup (nat_eq e) old) None) old new → (table_of new).items ≡ (table_of old).items
     items-made e = by (lookup (nat_eq e) old) refl
       where
-        by : (o : Option (Option T)) → lookup (nat_eq e) old ≡ o → Writes e (unwrap_or o None) old new → (table_of new).items ≡ (table_of old).items
+        by : (o : Option (Option T)) → lookup (nat_eq e) old ≡ o → Writes e (unwrap_or o None) old new →
+            (table_of new).items ≡ (table_of old).items
         by None is h = items-reserved e is h
         by (Some slot) is h = ap (λ w. w.items) (table-rewritten e slot (sym is) h)
 
@@ -271,8 +272,9 @@ number_found n ks i found =
     let h = position-Some (nat_eq n) ks i n found in slice_get-get_or ks i n h.0 ∙ ap Some (number_is n _ h.1)
 
 -- a table whose entry of the number is at the place
-module _ {T S : Type 0} (m : IndexMap ℕ (Option T) S) {v : TableView T} (is : table_of m.entries ≡ v) (d : IsDistinct nat_eq (keys_of m.entries))
-    (i : ℕ) {n k : ℕ} {slot : Option T} (number : slice_get (keys m) i ≡ Some n) (at : slice_get m.entries i ≡ Some (k, slot)) where
+module _ {T S : Type 0} (m : IndexMap ℕ (Option T) S) {v : TableView T} (is : table_of m.entries ≡ v)
+    (d : IsDistinct nat_eq (keys_of m.entries)) (i : ℕ) {n k : ℕ} {slot : Option T} (number : slice_get (keys m) i ≡ Some n)
+    (at : slice_get m.entries i ≡ Some (k, slot)) where
   same_key : k ≡ n
   same_key = let same : Some k ≡ Some n = sym (slice_get-map (λ e. e.0) m.entries i ∙ ap (option_map (λ e. e.0)) at) ∙ number in cc
 
@@ -305,13 +307,15 @@ module _ {T S : Type 0} (m : IndexMap ℕ (Option T) S) {v : TableView T} (is : 
   pub same_at : table_of (with_value_at m i slot).entries ≡ v
   same_at = table-rewritten m.entries (with_value_at m i slot).entries d (distinct_at slot) n slot slot_at (written_at slot) ∙ is
 
-  pub room_at : {X : Type 0} (w : Option T) (o : Option X) → IfSome o (λ _. set.contains (table_of (with_value_at m i w).entries).room n ≡ true)
+  pub room_at : {X : Type 0} (w : Option T) (o : Option X) →
+      IfSome o (λ _. set.contains (table_of (with_value_at m i w).entries).room n ≡ true)
   room_at w o =
       room_of_entry (with_value_at m i w).entries n w o (entry_written m.entries (with_value_at m i w).entries n w (written_at w))
 
   -- the table where the entry is taken away
   pub removed_at : (new : IndexMap ℕ (Option T) S) → IsDistinct nat_eq (keys_of new.entries) →
-      ((q : ℕ) → lookup (nat_eq q) new.entries ≡ cond (nat_eq k q) None (lookup (nat_eq q) m.entries)) → table_of new.entries ≡ without_room v n
+      ((q : ℕ) → lookup (nat_eq q) new.entries ≡ cond (nat_eq k q) None (lookup (nat_eq q) m.entries)) →
+      table_of new.entries ≡ without_room v n
   removed_at new distinct h =
       table-removed m.entries new.entries n d distinct (λ q. h q ∙ ap (λ x. cond (nat_eq x q) None (lookup (nat_eq q) m.entries)) same_key)
       ∙ ap (λ w. without_room w n) is

@@ -13,7 +13,8 @@ returns-in_err-place g c =
     ∙ sym (ap option_flatten c.in_err-place.ensures.none)
     ∙ sym (item-slot c.self.inside.entries.entries c.args.n c.self.invariant)
     ∙ ap (λ w. map.get w.items c.args.n) c.self.view_is in (
-      ap inr c.self.view_is ∙ ap (λ r. read_of (ghost_name_of r) (with_item c.args.self.now c.args.n) c.args.self.now) (sym c.from_residual.ensures),
+      ap inr c.self.view_is
+          ∙ ap (λ r. read_of (ghost_name_of r) (with_item c.args.self.now c.args.n) c.args.self.now) (sym c.from_residual.ensures),
       record { writes_back = tt; item = item },
     )
 

@@ -12,8 +12,8 @@ returns-in_err-make_entry-clause-err_only_first g c =
 
 pub returns-clause-same : goal.returns-clause-same
 returns-clause-same g c =
-    items-made c.self.inside.entries.entries c.make_entry.new.entries.entries c.self.invariant (c.make_entry.ensures.unique c.self.invariant)
-    c.args.n c.in_ok-make_entry.ensures.ok.0
+    items-made c.self.inside.entries.entries c.make_entry.new.entries.entries c.self.invariant
+    (c.make_entry.ensures.unique c.self.invariant) c.args.n c.in_ok-make_entry.ensures.ok.0
     ∙ ap (λ w. w.items) c.self.view_is
 
 pub returns-clause-room : goal.returns-clause-room
