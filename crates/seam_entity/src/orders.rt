@@ -66,8 +66,24 @@ fn place_of(entries: &[(Sender, InOrder<Call>)], rank: u64) -> usize
     entries.partition_point(|entry| entry.0.rank() < rank)
 }
 
-// Where the sender of that rank is, or where it would go.
+// Where the sender of that rank is, or where it would go. Most parts hear from one sender, so the first is asked first.
 fn search(entries: &[(Sender, InOrder<Call>)], rank: u64) -> Result<usize, usize>
+    requires { AreOrdered entries.now }
+    ensures found { IfOk result (IsAt entries.now rank) }
+    ensures absent { IfErr result (IsGap entries.now rank) }
+{
+    let Some(first) = entries.get(0) else {
+        return Err(0);
+    };
+    if first.0.rank() == rank {
+        return Ok(0);
+    }
+    search_all(entries, rank)
+}
+
+// The same among several senders.
+#[inline(never)]
+fn search_all(entries: &[(Sender, InOrder<Call>)], rank: u64) -> Result<usize, usize>
     requires { AreOrdered entries.now }
     ensures found { IfOk result (IsAt entries.now rank) }
     ensures absent { IfErr result (IsGap entries.now rank) }
@@ -112,14 +128,31 @@ fn make_place(entries: &mut Vec<(Sender, InOrder<Call>)>, sender: &Sender) -> Re
     ensures room { OnOk result (set.contains (view_of entries.new.items).senders (rank_of sender.now) ≡ true) }
     ensures ordered { AreOrdered entries.new.items }
 {
-    let Err(at) = search(entries, sender.rank()) else {
-        return Ok(());
-    };
+    match search(entries, sender.rank()) {
+        Ok(_) => Ok(()),
+        Err(at) => insert_sender(entries, at, sender),
+    }
+}
+
+// Makes a place for the order of a sender that has none.
+#[inline(never)]
+fn insert_sender(
+    entries: &mut Vec<(Sender, InOrder<Call>)>,
+    at: usize,
+    sender: &Sender,
+) -> Result<(), AllocError>
+    requires ordered { AreOrdered entries.old.items }
+    requires gap { IsGap entries.old.items (rank_of sender.now) at }
+    ensures same { (view_of entries.new.items).orders ≡ (view_of entries.old.items).orders }
+    ensures room { OnOk result (set.contains (view_of entries.new.items).senders (rank_of sender.now) ≡ true) }
+    ensures ordered { AreOrdered entries.new.items }
+{
     let alloc = *entries.allocator();
     insert(entries, at, (*sender, InOrder::new(alloc)))
 }
 
 // Offers the call to its sender's order, which has a place.
+#[inline(always)]
 fn offer_in(
     entries: &mut Vec<(Sender, InOrder<Call>)>,
     call: Call,
@@ -247,6 +280,7 @@ impl Orders {
     }
 
     /// Offers the call to its sender's order, which has a place. Only a call that is to be held takes memory.
+    #[inline(always)]
     pub fn offer(&mut self, call: Call) -> Result<Offer<Call>, NoMemoryFor<Call>>
         requires from_one { 1 ≤ call.number }
         requires small { call.number < 2 ^ 62 }

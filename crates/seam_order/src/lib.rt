@@ -85,15 +85,29 @@ impl<T> InOrder<T> {
         ensures err_item { IfErr result (λ e. e.item ≡ item) }
         ensures err_only_above { OnErr result (self.old.next < n) }
     {
-        if n < self.next {
-            return Ok(Offer::Stale(item));
-        }
         if n == self.next {
             self.next = n + 1;
             return Ok(Offer::Next(item));
         }
+        if n < self.next {
+            return Ok(Offer::Stale(item));
+        }
+        self.hold(n, item)?;
+        Ok(Offer::Held)
+    }
+
+    // Keeps an item that came early.
+    #[inline(never)]
+    fn hold(&mut self, n: u64, item: T) -> Result<(), NoMemoryFor<T>>
+        requires early { self.old.next < n }
+        requires small { n < 2 ^ 62 }
+        requires not_held { is_some (item_at n self.old.held) ≡ false }
+        ensures after { OnOk result (self.new ≡ after_offer self.old n item) }
+        ensures err { OnErr result (self.new ≡ self.old) }
+        ensures err_item { IfErr result (λ e. e.item ≡ item) }
+    {
         match self.held.insert(n, item) {
-            Ok(None) => return Ok(Offer::Held),
+            Ok(None) => return Ok(()),
             Ok(Some(_held)) => unreachable!(),
             Err(refused) => {
                 return Err(NoMemoryFor {

@@ -1,6 +1,6 @@
 use Rattle.std.proofs.Common.{sym, ltb-true, ◌∙◌}
 use Rattle.seam_entity.proofs.OrderLemmas.{gap_from}
-use Rattle.seam_entity.proofs.orders.search.Goals as goal
+use Rattle.seam_entity.proofs.orders.search_all.Goals as goal
 
 pub returns-else-rank-clause-absent : goal.returns-else-rank-clause-absent
 returns-else-rank-clause-absent c =
