@@ -173,6 +173,23 @@ none_out e (w ∷ ws) (suc at) o b a other =
     (none_out e ws at (sorted_tail nat_cmp w.entity (entities ws) o) (λ k d l h. b (suc k) d (omega arith) (omega (arith, h)))
     (λ k d l h. a (suc k) d (omega (arith, l)) (omega (arith, h))) (λ d lt. other d (omega (arith, lt))))
 
+-- nothing goes where the first that waits comes later
+pub later_out : (e : ℕ) (ws : List Entry) (i : ℕ) (d : Entry) → IsStrictlySortedBy nat_cmp (entities ws) → i ≡ passed ws →
+    i < length ws → e < (get_or ws i d).entity → waiting ws ≡ without e (waiting ws)
+later_out e [] i d o at lt later = refl
+later_out e (w ∷ ws) zero d o at lt later =
+    let here : nat_cmp e w.entity ≡ Less = grind (arith, nat_tests, later) in
+    sym (none_goes e (waiting (w ∷ ws)) (all_waiting _ (w ∷ ws)
+    (here, all_greater e w.entity (entities ws) later (sorted_head nat_cmp w.entity (entities ws) o))))
+later_out e (w ∷ ws) (suc i) d o at lt later =
+    by (λ a. later_out e ws i d (sorted_tail nat_cmp w.entity (entities ws) o) a (omega (arith, lt)) later) w.waits at
+  where
+    by : (i ≡ passed ws → waiting ws ≡ without e (waiting ws)) → (b : Bool) → suc i ≡ cond b 0 (passed ws + 1) →
+        entities (cond b (w ∷ filter (λ v. v.waits) ws) (filter (λ v. v.waits) ws))
+        ≡ without e (entities (cond b (w ∷ filter (λ v. v.waits) ws) (filter (λ v. v.waits) ws)))
+    by rest true a = absurd (omega (arith, a))
+    by rest false a = rest (omega (arith, a))
+
 -- ---- the queue after that
 
 pub passed_more : (ws : List Entry) (i : ℕ) (x : Entry) → x.waits ≡ false → passed ws ≤ passed (set ws i x)

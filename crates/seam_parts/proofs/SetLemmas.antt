@@ -1,9 +1,9 @@
 -- Ordered sets as the standard library keeps them.
-use Rattle.std.proofs.Common.{◌≡◌, ℕ, Bool, true, false, cond, not, eqb, List, [], ◌∷◌, refl, sym, ap, ◌∙◌, subst, arith}
+use Rattle.std.proofs.Common.{◌≡◌, ℕ, Bool, true, false, ◌||◌, cond, not, eqb, List, [], ◌∷◌, refl, sym, ap, ◌∙◌, subst, arith}
 use Rattle.std.proofs.Common.{IfSome, IfNone, Option, None, Some}
 use Rattle.std.specs.Ordering.{nat_cmp, is_eq, match_ordering}
 use Rattle.std.specs.declared.cmp.Ordering.TheVariants.{Less}
-use Rattle.std.specs.List.{AllByRecursion}
+use Rattle.std.specs.List.{AllByRecursion, list_any}
 use Rattle.std.specs.List.Sorted.{IsStrictlySortedBy}
 use Rattle.std.specs.Set.{remove_key}
 use Rattle.std.specs.BTreeSet.{insert_key}
@@ -53,6 +53,17 @@ pub removed : (e : ℕ) (xs : List ℕ) → IsStrictlySortedBy nat_cmp xs → re
 removed e [] o = refl
 removed e (x ∷ xs) o =
     removed_step e x xs (is_eq (nat_cmp e x)) refl (sorted_head nat_cmp x xs o) (removed e xs (sorted_tail nat_cmp x xs o))
+
+-- nothing goes where the number is missing
+pub missing_goes : (e : ℕ) (xs : List ℕ) → list_any (is_at (nat_cmp e)) xs ≡ false → without e xs ≡ xs
+missing_goes e [] none = refl
+missing_goes e (x ∷ xs) none = by (is_eq (nat_cmp e x)) refl (missing_goes e xs) none
+  where
+    by : (b : Bool) → is_eq (nat_cmp e x) ≡ b → (list_any (is_at (nat_cmp e)) xs ≡ false → without e xs ≡ xs) →
+        (b || list_any (is_at (nat_cmp e)) xs) ≡ false → without e (x ∷ xs) ≡ x ∷ xs
+    by true is more h = cc
+    by false is more h =
+        ap (λ b. cond (not b) (x ∷ without e xs) (without e xs)) (other_number e x is) ∙ ap (λ l. x ∷ l) (more h)
 
 -- the first of a list, taken off it
 pub first_taken : (o : Option ℕ) (old new : List ℕ) (e : ℕ) → IfSome o (λ x. old ≡ x ∷ new) → IfNone o (old ≡ []) → Some e ≡ first_of old →

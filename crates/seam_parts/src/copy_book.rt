@@ -15,8 +15,7 @@ use seam_range::{Place, RangeList};
 use std::alloc::{AllocError, Global};
 use std::marker::Model;
 
-/// The cell's own book of ghosts. Contracts see it as the book; where the copies are is kept beside it from a `locate` on, as long as
-/// that pays.
+/// The cell's own book of ghosts. Contracts see it as the book; where the copies are is kept beside it as long as that pays.
 #[derive(Drop)]
 pub struct CopyBook {
     book: GhostBook<GhostCopy>,
@@ -139,17 +138,16 @@ impl CopyBook {
         places_of(alloc, &self.book)
     }
 
-    /// Keeps where the copies are from now on, where there is memory for that, and as long as they do not change much more often than
-    /// it is asked for. This is for speed alone, and no contract sees it.
+    /// It is asked where the copies are. Once it was asked several times this is kept, where there is memory for that, and as long as
+    /// they do not change much more often than it is asked. This is for speed alone, and no contract sees it.
     pub fn locate(&mut self, alloc: Global)
         ensures { self.new ≡ self.old }
     {
-        if self.spots.list.is_none() {
+        if self.spots.ask() {
             if let Ok(spots) = spots_of(alloc, &self.book) {
                 self.spots = spots;
             }
         }
-        self.spots.renew();
     }
 
     /// Where the copies of other entities are, and at which version; or none, as no contract says whether it is kept.

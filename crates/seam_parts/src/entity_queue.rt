@@ -183,6 +183,19 @@ impl EntityQueue {
     pub fn remove(&mut self, e: u32)
         ensures { self.new ≡ without e self.old }
     {
+        // Most often none waits any more, or only later ones do.
+        let Some(first) = self.entries.get(self.place) else {
+            return;
+        };
+        if first.entity <= e {
+            self.remove_late(e);
+        }
+    }
+
+    // The same by a search.
+    fn remove_late(&mut self, e: u32)
+        ensures { self.new ≡ without e self.old }
+    {
         let at = count_below(&self.entries, e);
         let Some(entry) = self.entries.get_mut(at) else {
             return;

@@ -44,6 +44,16 @@ fn put(numbers: &mut BTreeSet<u32>, e: u32) -> Result<(), AllocError>
     }
 }
 
+// Takes the number out.
+#[inline(never)]
+fn drop_number(numbers: &mut BTreeSet<u32>, e: u32)
+    requires { IsStrictlySortedBy nat_cmp numbers.old.keys }
+    ensures removed { numbers.new.keys ≡ without e numbers.old.keys }
+    ensures rising { IsStrictlySortedBy nat_cmp numbers.new.keys }
+{
+    let _ = numbers.remove(&e);
+}
+
 impl EntitySet {
     /// No entity.
     pub fn new(alloc: Global) -> Self
@@ -101,9 +111,10 @@ impl EntitySet {
             Some(other) => if other == e {
                 self.one = None;
             },
-            None => {
-                let _ = self.numbers.remove(&e);
-            }
+            // Mostly the entity is not there, and a search alone costs less than a removal.
+            None => if self.numbers.contains(&e) {
+                drop_number(&mut self.numbers, e);
+            },
         }
     }
 

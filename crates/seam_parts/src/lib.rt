@@ -1,7 +1,7 @@
 //! The parts of a cell, and how a real settles among them.
 //!
 //! Which reals have a ready call, which have a witness, and which are to settle or to look are ordered sets, so that no step searches
-//! all reals; where reals and copies are is kept for looks, from the first one on. Settling first does all that may want memory, the
+//! all reals; where reals and copies are is kept for looks, where there are many. Settling first does all that may want memory, the
 //! last of which is what the own book hears; what comes then cannot fail. Of `proofs/`, `SetLemmas`, `MarkLemmas` and `RealLemmas`
 //! (what the marks of reals are after a change), `NewsLemmas` (what haunts are told), `SettleLemmas` (what settling leaves) and
 //! `SpotLemmas` (lists of all places) are for callers.

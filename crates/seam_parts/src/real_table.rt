@@ -14,7 +14,7 @@ use seam_table::Table;
 use std::alloc::{AllocError, Global};
 use std::marker::Model;
 
-/// The reals by entity. Contracts see them as a table; where they are is kept beside it from a `locate` on, as long as that pays.
+/// The reals by entity. Contracts see them as a table; where they are is kept beside it as long as that pays.
 #[derive(Drop)]
 pub struct RealTable {
     items: Table<Parcel>,
@@ -162,17 +162,16 @@ impl RealTable {
         places_of(alloc, &self.items)
     }
 
-    /// Keeps where the reals are from now on, where there is memory for that, and as long as they do not change much more often than
-    /// it is asked for. This is for speed alone, and no contract sees it.
+    /// It is asked where the reals are. Once it was asked several times this is kept, where there is memory for that, and as long as
+    /// they do not change much more often than it is asked. This is for speed alone, and no contract sees it.
     pub fn locate(&mut self, alloc: Global)
         ensures { self.new ≡ self.old }
     {
-        if self.spots.list.is_none() {
+        if self.spots.ask() {
             if let Ok(spots) = spots_of(alloc, &self.items) {
                 self.spots = spots;
             }
         }
-        self.spots.renew();
     }
 
     /// Where the reals of other entities are, and at which public version; or none, as no contract says whether it is kept.

@@ -10,10 +10,13 @@ ghost use Rattle.seam_parts.specs.Spots.{is_none_else_out, still_out, AreNoted, 
 use seam_range::{Place, RangeList};
 use std::alloc::{AllocError, Global};
 
+// To make a list, and to keep it for as many changes as it has entities, takes about as much as so many walks over all.
+const WALKS: usize = 8;
+
 /// A list of entities with their places, if it is kept. An entity that is taken out to change is still in the list: it is out.
 ///
-/// A list that changed much more often, since it was asked for last, than it has entities is given up: it takes less to make it anew
-/// once it is asked for again. When that is so is a matter of speed alone, and no contract tells it.
+/// A list is made once it was asked for several times. One that changed much more often, since it was asked for last, than it has
+/// entities is given up: it takes less to make it anew. When that is so is a matter of speed alone, and no contract tells it.
 #[derive(Drop)]
 pub struct Spots {
     pub list: Option<RangeList>,
@@ -21,6 +24,8 @@ pub struct Spots {
     // How many entities the list had when it was made, and how many more changes it is kept for.
     size: usize,
     left: usize,
+    // How often it was asked for since it was given up.
+    asked: usize,
 }
 
 impl Spots {
@@ -34,6 +39,7 @@ impl Spots {
             out: None,
             size: 0,
             left: 0,
+            asked: 0,
         }
     }
 
@@ -51,16 +57,26 @@ impl Spots {
             list: Some(list),
             out: None,
             size: places.len(),
-            left: 0,
+            left: places.len().saturating_mul(2),
+            asked: 0,
         })
     }
 
-    /// The list is asked for: from now on it is kept for twice as many changes as it had entities when it was made.
-    pub fn renew(&mut self)
+    /// The list is asked for; whether it is to be made. One that is there is kept from now on for twice as many changes as it had
+    /// entities when it was made.
+    pub fn ask(&mut self) -> bool
         ensures list { self.new.list ≡ self.old.list }
         ensures out { self.new.out ≡ self.old.out }
     {
-        self.left = self.size.saturating_mul(2);
+        if self.list.is_some() {
+            self.left = self.size.saturating_mul(2);
+            return false;
+        }
+        if self.asked < WALKS {
+            self.asked += 1;
+            return false;
+        }
+        true
     }
 }
 
@@ -120,12 +136,35 @@ pub fn note(spots: &mut Spots, e: u32, p: Place)
     ensures { (before after : ℕ → Option AnyPlace) → AreKeptNoted spots.old before → IsChanged before after e (Some p) →
         AreKeptNoted spots.new after }
 {
+    // In a cell in which nobody looks, as in most, none is kept.
+    if spots.list.is_some() {
+        note_kept(spots, e, p);
+    }
+}
+
+// The same where a list is kept.
+#[inline(never)]
+fn note_kept(spots: &mut Spots, e: u32, p: Place)
+    ensures { (before after : ℕ → Option AnyPlace) → AreKeptNoted spots.old before → IsChanged before after e (Some p) →
+        AreKeptNoted spots.new after }
+{
     set(&mut spots.list, &mut spots.left, e, p);
     spots.out = still_out(spots.out, e);
 }
 
 /// Notes that the entity is nowhere, where a list is kept.
 pub fn forget(spots: &mut Spots, e: u32)
+    ensures { (before after : ℕ → Option AnyPlace) → AreKeptNoted spots.old before → IsChanged before after e None →
+        AreKeptNoted spots.new after }
+{
+    if spots.list.is_some() {
+        forget_kept(spots, e);
+    }
+}
+
+// The same where a list is kept.
+#[inline(never)]
+fn forget_kept(spots: &mut Spots, e: u32)
     ensures { (before after : ℕ → Option AnyPlace) → AreKeptNoted spots.old before → IsChanged before after e None →
         AreKeptNoted spots.new after }
 {
@@ -138,6 +177,9 @@ pub fn let_out(spots: &mut Spots, e: u32)
     ensures { (before after : ℕ → Option AnyPlace) → AreKeptNoted spots.old before → IsChanged before after e None →
         AreKeptNoted spots.new after }
 {
+    if spots.list.is_none() {
+        return;
+    }
     if is_none_else_out(spots.out, e) {
         spots.out = Some(e);
         return;

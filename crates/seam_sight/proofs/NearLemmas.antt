@@ -25,6 +25,7 @@ use Rattle.seam_parts.specs.Spots.{AreNoted, place_of_real, place_of_copy, real_
 use Rattle.seam_parts.proofs.SpotLemmas.{real_list, reals_rise, copy_list, copies_list_rise}
 use Rattle.seam_sight.specs.Looking.{seen_if}
 use Rattle.seam_sight.specs.Near.{seen_at_place, is_other, without_reals, merged, is_near, HasNear, seen_of_entity}
+use Rattle.seam_sight.specs.Near.{place_within, AreNear}
 use Rattle.seam_sight.proofs.Merges.{rising_merged, find_merged, same_places}
 
 -- ---- what is known, by places
@@ -155,31 +156,47 @@ module _ (d : CellView) (own : ℕ) (t : Seen → Bool) (reals copies : List (�
 within_near : (radius hysteresis reach a : ℕ) → reach ≡ radius + hysteresis → nat_le a reach ≡ not (nat_lt (radius + hysteresis) a)
 within_near radius hysteresis reach a is = grind (arith, nat_tests, is)
 
+module _ (p : Pos) (d own : ℕ) (place : ℕ → Option Place) where
+  passing_within : (q : ℕ) (o : Option Place) → passing (λ e. is_within p d e.1) q o ≡ place_within p d o
+  passing_within q None = refl
+  passing_within q (Some x) = refl
+
+  -- those of a list that is kept
+  pub listed_near : (l : Places) → AreNoted l (Some own) place → AreNear p d own place (within l p d)
+  listed_near l are = record {
+    rising = sorted_filter (λ e. is_within p d e.1) (table.entries l) (table.entries_sorted l);
+    others = λ q apart.
+        find_filter (λ e. is_within p d e.1) q (table.entries l) (table.entries_sorted l)
+        ∙ (passing_within q (table.find nat_cmp q (table.entries l))
+        ∙ ap (place_within p d) (sym (table.get-entries l q) ∙ are q apart));
+  }
+
+  -- those of all
+  pub walked_near : (xs : List (ℕ × Place)) → T (is_sorted nat_cmp xs) → ((q : ℕ) → table.find nat_cmp q xs ≡ place q) →
+      AreNear p d own place (filter (λ e. is_within p d e.1) xs)
+  walked_near xs rising are = record {
+    rising = sorted_filter (λ e. is_within p d e.1) xs rising;
+    others = λ q apart.
+        find_filter (λ e. is_within p d e.1) q xs rising
+        ∙ (passing_within q (table.find nat_cmp q xs) ∙ ap (place_within p d) (are q));
+  }
+
 module _ (r : Replica) (p : Pos) (reach : ℕ) (is_reach : reach ≡ r.radius + r.hysteresis) where
   test_is : (q : ℕ) (x : Place) → is_within p reach x ≡ is_near r p (seen_at_place (q, x))
   test_is q x = within_near r.radius r.hysteresis reach (distance p x.pos) is_reach
 
-  passing_is : (q : ℕ) (o : Option Place) → passing (λ e. is_within p reach e.1) q o ≡ passing (λ x. is_near r p (seen_at_place x)) q o
-  passing_is q None = refl
-  passing_is q (Some x) = ap (λ b. cond b (Some x) None) (test_is q x)
+  within_is : (q : ℕ) (o : Option Place) → place_within p reach o ≡ passing (λ x. is_near r p (seen_at_place x)) q o
+  within_is q None = refl
+  within_is q (Some x) = ap (λ b. cond b (Some x) None) (test_is q x)
 
-  within_rises : (l : Places) → T (is_sorted nat_cmp (within l p reach))
-  within_rises l = sorted_filter (λ e. is_within p reach e.1) (table.entries l) (table.entries_sorted l)
-
-  found_within : (own : ℕ) (l : Places) (place : ℕ → Option Place) → AreNoted l (Some own) place → (q : ℕ) → eqb own q ≡ false →
-      table.find nat_cmp q (within l p reach) ≡ passing (λ x. is_near r p (seen_at_place x)) q (place q)
-  found_within own l place are q apart =
-      find_filter (λ e. is_within p reach e.1) q (table.entries l) (table.entries_sorted l)
-      ∙ (passing_is q (table.find nat_cmp q (table.entries l))
-      ∙ ap (passing (λ x. is_near r p (seen_at_place x)) q) (sym (table.get-entries l q) ∙ are q apart))
-
-  pub near_are : (d : CellView) (own : ℕ) (reals copies : Places) → AreNoted reals (Some own) (real_places d.reals) →
-      AreNoted copies (Some own) (copy_places d.ghosts) →
-      map seen_at_place (filter (is_other own) (merged (within reals p reach) (without_reals d.reals (within copies p reach))))
+  pub near_are : (d : CellView) (own : ℕ) (reals copies : List (ℕ × Place)) → AreNear p reach own (real_places d.reals) reals →
+      AreNear p reach own (copy_places d.ghosts) copies →
+      map seen_at_place (filter (is_other own) (merged reals (without_reals d.reals copies)))
       ≡ filter (is_near r p) (map seen_as (known_to d own))
   near_are d own reals copies reals_are copies_are =
-      joined_are d own (is_near r p) (within reals p reach) (within copies p reach) (within_rises reals) (within_rises copies)
-      (found_within own reals (real_places d.reals) reals_are) (found_within own copies (copy_places d.ghosts) copies_are)
+      joined_are d own (is_near r p) reals copies reals_are.rising copies_are.rising
+      (λ q apart. reals_are.others q apart ∙ within_is q (real_places d.reals q))
+      (λ q apart. copies_are.others q apart ∙ within_is q (copy_places d.ghosts q))
 
 all_kept : (xs : List Seen) → filter (λ _. true) xs ≡ xs
 all_kept [] = refl

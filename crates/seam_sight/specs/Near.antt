@@ -1,9 +1,12 @@
 -- What is near a witness, as the lists of places give it, and what it decides.
-use Rattle.std.specs.Prelude.{◌≡◌, ℕ, Bool, true, false, not, is_some, nat_lt, List, [], ◌∷◌, filter, Option, None, Some}
+use Rattle.std.specs.Prelude.{◌≡◌, ℕ, Bool, true, false, not, is_some, nat_eq, nat_lt, List, [], ◌∷◌, filter, Option, None, Some}
+use Rattle.std.specs.Prelude.{T, if◌then◌else◌}
 use Rattle.std.specs.Ordering.{nat_cmp, match_ordering}
 use Rattle.std.specs.FinMap as table
+use Rattle.std.specs.FinMap.Entries.{is_sorted}
 use Rattle.seam_geo.specs.declared.pos.Pos.{Pos}
 use Rattle.seam_range.specs.declared.Place.{Place}
+use Rattle.seam_range.specs.Places.{is_within}
 use Rattle.seam_call.specs.declared.shown.GhostCopy.{GhostCopy}
 use Rattle.seam_view.specs.declared.Seen.{Seen}
 use Rattle.seam_view.specs.declared.Look.{Look}
@@ -45,6 +48,16 @@ merged_with x rest (y ∷ ys) = match_ordering (nat_cmp x.0 y.0) (x ∷ rest (y 
 abbrev pub merged : List (ℕ × Place) → List (ℕ × Place) → List (ℕ × Place)
 merged [] ys = ys
 merged (x ∷ xs) ys = merged_with x (merged xs) ys
+
+-- the place, if it is at distance at most d from a position
+abbrev pub place_within : Pos → ℕ → Option Place → Option Place
+place_within p d None = None
+place_within p d (Some x) = if is_within p d x then Some x else None
+
+-- a list, in rising number, of just the places at distance at most d from a position; of entity `own` it says nothing
+pub record AreNear (p : Pos) (d own : ℕ) (place : ℕ → Option Place) (xs : List (ℕ × Place)) : Type 0 where
+  pub rising : T (is_sorted nat_cmp xs)
+  pub others : (q : ℕ) → nat_eq own q ≡ false → table.find nat_cmp q xs ≡ place_within p d (place q)
 
 -- ---- what it decides
 

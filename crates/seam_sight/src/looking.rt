@@ -404,7 +404,7 @@ fn look_around(
     result
 }
 
-/// Look task: the first entity of the look list is taken off it, and its witness looks. From the first look on it is kept where the
+/// Look task: the first entity of the look list is taken off it, and its witness looks. Where many look, it is kept where the
 /// reals and the copies are, so that a look goes over those that are near alone.
 pub fn look_task(
     alloc: Global,

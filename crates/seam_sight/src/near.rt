@@ -13,9 +13,12 @@ ghost use Rattle.seam_known.specs.Knowing.{known_at};
 ghost use Rattle.seam_parts.specs.Kept.{here_in};
 ghost use Rattle.seam_sight.specs.Looking.{seeing};
 ghost use Rattle.seam_sight.specs.Near.{seen_at_place, is_other, without_reals, merged, is_near, HasNear, was_newer, is_early, seen_of_entity};
+ghost use Rattle.seam_sight.specs.Near.{AreNear};
+ghost use Rattle.seam_range.specs.Places.{is_within};
+ghost use Rattle.seam_parts.specs.Spots.{real_places, copy_places};
 
 use crate::looking::{Sight, see, seen_copy, seen_real};
-use seam_geo::Pos;
+use seam_geo::{Pos, dist};
 use seam_parts::RealTable;
 use seam_range::Place;
 use seam_view::{Look, Seen, View};
@@ -102,6 +105,14 @@ fn without_reals(reals: &RealTable, mut entities: Vec<(u32, Place)>) -> Vec<(u32
     entities
 }
 
+// Those at distance at most d from the position.
+fn those_within(mut places: Vec<(u32, Place)>, p: Pos, d: u32) -> Vec<(u32, Place)>
+    ensures { result.items ≡ filter (λ e. is_within p d e.1) places.items }
+{
+    places.retain(|(_, place)| dist(p, place.pos) <= d);
+    places
+}
+
 // Whether a greater version was shown than is known.
 fn was_newer(shown: Option<u64>, seen: Option<Seen>) -> bool
     ensures { result ≡ was_newer shown seen }
@@ -171,7 +182,41 @@ impl Sight<'_> {
         Ok(seen)
     }
 
-    // What is near; none where it is not kept where reals and copies are.
+    // The reals that are near, of which the own one is or is not one. Where no list is kept, all are looked at.
+    fn near_reals(
+        &self,
+        own: Pos,
+        reach: u32,
+        expected: usize,
+    ) -> Result<Vec<(u32, Place)>, AllocError>
+        ensures { IfOk result (λ v. AreNear own reach self.now.own (real_places self.now.reals.now.items) v.items) }
+    {
+        let Some(list) = self.reals.spots_beside(self.own) else {
+            let all = self.reals.places(self.alloc)?;
+            return Ok(those_within(all, own, reach));
+        };
+        let near = list.within(own, reach, expected)?;
+        Ok(near)
+    }
+
+    // The copies that are near, found in the same way.
+    fn near_copies(
+        &self,
+        own: Pos,
+        reach: u32,
+        expected: usize,
+    ) -> Result<Vec<(u32, Place)>, AllocError>
+        ensures { IfOk result (λ v. AreNear own reach self.now.own (copy_places self.now.copies.now.ghosts) v.items) }
+    {
+        let Some(list) = self.copies.spots_beside(self.own) else {
+            let all = self.copies.places(self.alloc)?;
+            return Ok(those_within(all, own, reach));
+        };
+        let near = list.within(own, reach, expected)?;
+        Ok(near)
+    }
+
+    // What is near; none where no number holds how far that is.
     fn near(&self, own: Pos, view: &View) -> Result<Option<Vec<Seen>>, AllocError>
         ensures { (c : CellView) → let d = seeing c (here_in self.now.known.now) self.now.reals.now.items self.now.copies.now.ghosts in
             IfOk result (λ o. IfSome o (λ v. v.items
@@ -180,16 +225,10 @@ impl Sight<'_> {
         let Some(reach) = view.reach() else {
             return Ok(None);
         };
-        let Some(reals) = self.reals.spots_beside(self.own) else {
-            return Ok(None);
-        };
-        let Some(copies) = self.copies.spots_beside(self.own) else {
-            return Ok(None);
-        };
         // About as many as were near at the last look, of reals and copies alike.
         let expected = view.len() / 2;
-        let near_reals = reals.within(own, reach, expected)?;
-        let near_copies = copies.within(own, reach, expected)?;
+        let near_reals = self.near_reals(own, reach, expected)?;
+        let near_copies = self.near_copies(own, reach, expected)?;
         let seen = self.joined(&near_reals, near_copies)?;
         Ok(Some(seen))
     }

@@ -1,4 +1,4 @@
-use Rattle.std.proofs.Common.{ℕ, not, is_some, rules}
+use Rattle.std.proofs.Common.{not, is_some, rules}
 use Rattle.std.proofs.lemmas.Fn.{filter_same}
 use Rattle.std.specs.FinMap as table
 use Rattle.seam_sight.proofs.near.without_reals.Goals as goal

@@ -1,14 +1,21 @@
 use Rattle.std.proofs.Common.{Some, ap, sym, ◌∙◌}
 use Rattle.seam_steps.specs.Cells.{without}
 use Rattle.seam_parts.specs.Sets.{members}
-use Rattle.seam_parts.proofs.SetLemmas.{removed, alone_goes, another_stays}
+use Rattle.seam_parts.proofs.SetLemmas.{alone_goes, another_stays, missing_goes}
 use Rattle.seam_parts.proofs.entity_set.EntitySet.remove.Goals as goal
 
-pub returns-in-None : goal.returns-in-None
-returns-in-None c =
-    ap (λ o. members o c.remove.new.self.keys) c.in-None.is
-    ∙ (c.remove.ensures.keys
-    ∙ (removed c.args.e c.self.inside.numbers.keys c.self.invariant.rising
+pub returns-then-contains : goal.returns-then-contains
+returns-then-contains c =
+    ap (λ o. members o c.drop_number.new.numbers.keys) c.in-None.is
+    ∙ (c.drop_number.ensures.removed
+    ∙ (sym (ap (λ o. without c.args.e (members o c.self.inside.numbers.keys)) c.in-None.is) ∙ ap (without c.args.e) c.self.view_is))
+
+pub returns-else-contains : goal.returns-else-contains
+returns-else-contains c =
+    let none = missing_goes c.args.e c.self.inside.numbers.keys (sym c.contains.ensures ∙ c.if-contains.false) in
+    sym c.self.view_is
+    ∙ (ap (λ o. members o c.self.inside.numbers.keys) c.in-None.is
+    ∙ (sym none
     ∙ (sym (ap (λ o. without c.args.e (members o c.self.inside.numbers.keys)) c.in-None.is) ∙ ap (without c.args.e) c.self.view_is)))
 
 pub returns-then-other-e : goal.returns-then-other-e

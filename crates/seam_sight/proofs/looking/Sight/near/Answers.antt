@@ -1,4 +1,4 @@
-use Rattle.std.proofs.Common.{◌∙◌, map}
+use Rattle.std.proofs.Common.{ap, ◌∙◌, map}
 use Rattle.std.specs.List.{filter}
 use Rattle.seam_steps.specs.Cells.{CellView}
 use Rattle.seam_parts.specs.Kept.{here_in}
@@ -11,9 +11,8 @@ pub returns : goal.returns
 returns c = λ k.
     let d : CellView = seeing k (here_in c.args.self.now.known.now) c.args.self.now.reals.now.items c.args.self.now.copies.now.ghosts in
     let own = c.args.self.now.own in
-    let reals = c.deref.ensures.value ∙ c.in_ok-near_reals.ensures in
-    let copies = c.in_ok-near_copies.ensures in
     c.in_ok-seen.ensures
-    ∙ ((λ i. map seen_at_place (filter (is_other own) (merged (reals i) (without_reals d.reals (copies i)))))
-    ∙ near_are c.args.view.now.core c.args.own c.in-Some.reach c.in-Some.ensures.sum d own c.in-Some-spots_beside.reals.now
-    c.in-Some-spots_beside-2.copies.now c.in-Some-spots_beside.ensures c.in-Some-spots_beside-2.ensures)
+    ∙ (ap (λ l. map seen_at_place (filter (is_other own) (merged l (without_reals d.reals c.in_ok-near_copies.near_copies.items))))
+    c.deref.ensures.value
+    ∙ near_are c.args.view.now.core c.args.own c.in-Some.reach c.in-Some.ensures.sum d own c.in_ok-near_reals.near_reals.items
+    c.in_ok-near_copies.near_copies.items c.in_ok-near_reals.ensures c.in_ok-near_copies.ensures)

@@ -1,6 +1,6 @@
 use Rattle.std.proofs.Common.{None}
 use Rattle.seam_parts.proofs.SpotLemmas.{noted_after}
-use Rattle.seam_parts.proofs.spots.forget.Goals as goal
+use Rattle.seam_parts.proofs.spots.forget_kept.Goals as goal
 
 pub returns : goal.returns
 returns c before after are changed =

@@ -1,6 +1,6 @@
 use Rattle.std.proofs.Common.{Some}
 use Rattle.seam_parts.proofs.SpotLemmas.{noted_after}
-use Rattle.seam_parts.proofs.spots.note.Goals as goal
+use Rattle.seam_parts.proofs.spots.note_kept.Goals as goal
 
 pub returns : goal.returns
 returns c before after are changed =
