@@ -89,10 +89,6 @@ same_room w v q (Some x) h e = sym (ap (λ u. set.contains u.room q) h) ∙ e
 
 -- ---- an entry more, or an entry written
 
-pub none_of : {G : Type 0} (o : Option G) → is_some o ≡ false → o ≡ None
-none_of None h = refl
-none_of (Some x) h = cc
-
 cond_flat : {G : Type 0} (b : Bool) (x : Option G) (r : Option (Option G)) →
     option_flatten (cond b (Some x) r) ≡ cond b x (option_flatten r)
 cond_flat true x r = refl
@@ -116,20 +112,20 @@ as_it_was true s r h = h refl
 as_it_was false s r h = refl
 
 -- room that is there already
-pub room_inserted : (room : set.FinSet nat_cmp) (e : ℕ) → set.contains room e ≡ true → set.insert room e ≡ room
+room_inserted : (room : set.FinSet nat_cmp) (e : ℕ) → set.contains room e ≡ true → set.insert room e ≡ room
 room_inserted room e there =
     set.same_set nat_cmp_total set.nat_cmp-IsAntisymmetric _ _ (λ q.
     set.contains-insert nat_cmp_total room e q
     ∙ sym (or_same (eq_by_cmp nat_cmp q e) (set.contains room q) (λ t. ap (set.contains room) (sym (key_is q e t)) ∙ there)))
 
-pub room-there : {T : Type 0} (ss : List (ℕ × Option T)) (e : ℕ) → is_some (lookup (nat_eq e) ss) ≡ true →
+room-there : {T : Type 0} (ss : List (ℕ × Option T)) (e : ℕ) → is_some (lookup (nat_eq e) ss) ≡ true →
     (table_of ss).room ≡ set.insert (table_of ss).room e
 room-there ss e there = sym (room_inserted (table_of ss).room e (room-slot ss e ∙ there))
 
 -- two tables whose entries answer the same
 module _ {T : Type 0} (old new : List (ℕ × Option T)) where
   -- the entry of the number is there after it was written
-  pub entry_written : (e : ℕ) (slot : Option T) → Writes e slot old new → Some slot ≡ lookup (nat_eq e) new
+  entry_written : (e : ℕ) (slot : Option T) → Writes e slot old new → Some slot ≡ lookup (nat_eq e) new
   entry_written e slot h = sym (h e ∙ ap (λ b. cond b (Some slot) (lookup (nat_eq e) old)) (nat_eq_equiv.refl e))
 
   pub room-written : (e : ℕ) (slot : Option T) → Writes e slot old new → (table_of new).room ≡ set.insert (table_of old).room e
@@ -167,7 +163,7 @@ module _ {T : Type 0} (old new : List (ℕ × Option T)) where
         λ i. record { items = a i; room = b i }
 
     -- an entry written as it was leaves the table
-    pub table-rewritten : (e : ℕ) (slot : Option T) → Some slot ≡ lookup (nat_eq e) old → Writes e slot old new → table_of new ≡ table_of old
+    table-rewritten : (e : ℕ) (slot : Option T) → Some slot ≡ lookup (nat_eq e) old → Writes e slot old new → table_of new ≡ table_of old
     table-rewritten e slot there h =
         same_table (λ q. h q ∙ as_it_was (nat_eq e q) (Some slot) (lookup (nat_eq q) old)
         (λ t. there ∙ ap (λ k. lookup (nat_eq k) old) (sym (number_is e q t))))
@@ -225,14 +221,14 @@ module _ {T : Type 0} (old new : List (ℕ × Option T)) (e : ℕ) (d : IsDistin
       by false x r none = refl
 
   -- the entry that was there has no item now
-  pub table-emptied : is_some (lookup (nat_eq e) old) ≡ true → Writes e None old new → table_of new ≡ without_item (table_of old) e
+  table-emptied : is_some (lookup (nat_eq e) old) ≡ true → Writes e None old new → table_of new ≡ without_item (table_of old) e
   table-emptied there h =
       let a = without (Some None) refl h in
       let b = room-written old new e None h ∙ sym (room-there old e there) in
       λ i. record { items = a i; room = b i }
 
   -- the entry is gone
-  pub table-removed : ((q : ℕ) → lookup (nat_eq q) new ≡ cond (nat_eq e q) None (lookup (nat_eq q) old)) → table_of new ≡ without_room (table_of old) e
+  table-removed : ((q : ℕ) → lookup (nat_eq q) new ≡ cond (nat_eq e q) None (lookup (nat_eq q) old)) → table_of new ≡ without_room (table_of old) e
   table-removed h =
       let a = without None refl h in
       let b =

@@ -3,8 +3,8 @@
 //! Contracts see a table as a finite map, and beside it the numbers for which there is room. A call that is to change several tables, or
 //! all or none of them, makes room first and changes what cannot fail then.
 //!
-//! An item is found by the hash of its number. [`Table::numbers`] gathers and sorts the numbers of all, for a walk over the items in
-//! rising number. [`Table::change_each`] changes all items where they lie.
+//! An item is found by the hash of its number, and the one that was found last where it lies. [`Table::numbers`] gathers and sorts the
+//! numbers of all, for a walk over the items in rising number. [`Table::change_each`] changes all items where they lie.
 //!
 //! Of `proofs/`, `Found` (what a search of a table's entries finds) and `Changed` (what a table has after `change_each`) are for callers.
 #![tactic(auto)]
@@ -34,7 +34,7 @@ use std::marker::Model;
 pub struct Table<T> {
     // An entry without an item is room for one.
     entries: IndexMap<u32, Option<T>>,
-    // Where the entry that was found last is, as a guess at the next: see `place_of`.
+    // Where the entry that was found last is. The next call is often for the same number: see `place_of`.
     last: usize,
 }
 
@@ -191,8 +191,8 @@ impl<T: Drop> Table<T> {
     }
 }
 
-// The index of the number's entry. It is sought only where the entry that was found last is another's: since that is tested each time, no
-// value of `last` makes an answer wrong.
+// The index of the number's entry. It is sought only where `last` is not that entry's: since this is tested each time, no value of `last`
+// makes an answer wrong.
 fn place_of<T>(entries: &IndexMap<u32, Option<T>>, last: &mut usize, n: u32) -> Option<usize>
     ensures there { IfSome result (λ i. slice_get (keys entries.now) i ≡ Some n) }
     ensures within { IfSome result (λ i. i < index_map_len entries.now) }
