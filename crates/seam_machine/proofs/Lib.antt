@@ -1,3 +1,4 @@
+pub mod Ahead
 pub mod Digits
 pub mod Counting
 pub mod Flats

@@ -1,6 +1,8 @@
 -- The parts of a net, and the net that they are the parts of.
-use Rattle.std.proofs.Common.{◌≡◌, ℕ, ◌+◌, ◌*◌, ◌<◌, List, [], length, get_or, sym, ap, ◌∙◌, subst, arith}
+use Rattle.std.proofs.Common.{◌≡◌, ℕ, ◌+◌, ◌*◌, ◌<◌, List, [], length, get_or, sym, ap, ◌∙◌, subst, arith, replicate}
 use Rattle.std.specs.List.{All}
+use Rattle.std.proofs.lemmas.List.{length-replicate}
+use Rattle.std.proofs.lemmas.List.Elements.{All-replicate}
 use Rattle.seam_machine.specs.Views.{NetView, PartsView}
 use Rattle.seam_machine.specs.Nets.{link, flat, AreParts}
 use Rattle.seam_machine.specs.Inside.{IsNet}
@@ -37,3 +39,9 @@ net_of_rows nodes rows rows' n many few count wide same = record {
   few = few;
   square = rw same (record { rows = count ∙ many; links = subst (λ k. All (λ r. length r ≡ k) rows) many wide });
 }
+
+pub net_of_empty : {N M : Type 0} (nodes : List N) (rows : List (List (List M))) (n : ℕ) → n ≡ length nodes → length nodes < 256 →
+    rows ≡ replicate n (replicate n []) → IsNet (record { nodes = nodes; rows = rows })
+net_of_empty nodes rows n many few same =
+    net_of_rows nodes (replicate n (replicate n [])) rows n many few (length-replicate n (replicate n []))
+    (All-replicate (λ r. length r ≡ n) n (replicate n []) (length-replicate n [])) same

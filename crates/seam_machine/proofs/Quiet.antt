@@ -1,12 +1,13 @@
 -- A quiet net: every link is empty and no node has a task.
 use Rattle.std.proofs.Common.{◌≡◌, ℕ, zero, suc, ◌<◌, ◌≤◌, Bool, true, false, List, [], ◌∷◌, length, Option, None, Some, refl, sym, ap, ◌∙◌}
 use Rattle.std.proofs.Common.{arith, inl, inr}
-use Rattle.std.specs.Prelude.{slice_get, map, option_map}
+use Rattle.std.specs.Prelude.{slice_get, map, option_map, IfSome, IfNone}
 use Rattle.std.proofs.lemmas.Bool.{cases_lt}
 use Rattle.std.proofs.lemmas.Option.{slice_get-map, slice_get_past}
 use Rattle.seam_machine.specs.Views.{NetView}
 use Rattle.seam_machine.specs.Nets.{link, letter, input_from, is_ready, enabled, IsQuiet, IsSquare}
 use Rattle.seam_machine.specs.Events.{EachNode, EachLink}
+use Rattle.seam_machine.specs.Inside.{has_task}
 use Rattle.seam_machine.specs.declared.machines.Event.{Event}
 use Rattle.seam_machine.specs.declared.machines.Input.TheVariants.{Task}
 use Rattle.seam_machine.specs.Orders.{IsBefore, IsBeforeBy}
@@ -95,3 +96,37 @@ module _ {N M : Type 0} (has_work : N → Bool) (w : NetView N M) where
         | inl within ↦ no_message q b (empty q b within)
         | inr past ↦ no_node (record { node = q; from = Some b }) past
       ]
+
+  -- a message that waits for a node
+  ready_by : (o : Option N) (s : N) (a : ℕ) (l : List M) → o ≡ Some s → 0 < length l → is_ready has_work o (letter a l) ≡ true
+  ready_by o s a [] h some = absurd (omega (arith, some))
+  ready_by o s a (m ∷ ms) h some = rw h refl
+
+  -- a node to which a link holds a message is fed one
+  pub sender_enabled : (k : ℕ) (from : Option ℕ) → k < length w.nodes → IfSome from (λ a. 0 < length (link w.rows a k)) →
+      IfNone from ((a : ℕ) → link w.rows a k ≡ []) → (((a : ℕ) → link w.rows a k ≡ []) → ⊥) →
+      enabled has_work w (record { node = k; from = from }) ≡ true
+  sender_enabled k None lt some none busy = absurd (busy none)
+  sender_enabled k (Some a) lt some none busy =
+      let s = some_at w.nodes k lt in
+      ready_by (slice_get w.nodes k) s.0 a (link w.rows a k) s.1 some
+
+  -- none comes before the first message to the lowest node
+  pub sender_first : (k : ℕ) (from : Option ℕ) → ((j a : ℕ) → j < k → link w.rows a j ≡ []) →
+      IfSome from (λ a. (c : ℕ) → c < a → link w.rows c k ≡ []) → IfNone from ((a : ℕ) → link w.rows a k ≡ []) →
+      (((a : ℕ) → link w.rows a k ≡ []) → ⊥) → (d : Event) → IsBefore d (record { node = k; from = from }) → enabled has_work w d ≡ false
+  sender_first k None lower first none busy d before = absurd (busy none)
+  sender_first k (Some a) lower first none busy d before = by d.node d.from before
+    where
+      by : (q : ℕ) (from : Option ℕ) → IsBeforeBy q from k (Some a) → enabled has_work w (record { node = q; from = from }) ≡ false
+      by q None before = absurd before
+      by q (Some b) (inl lt) = no_message q b (lower q b lt)
+      by q (Some b) (inr h) = no_message q b (ap (link w.rows b) h.0 ∙ first b h.1)
+
+  task_by : (o : Option N) → has_task has_work o ≡ true → is_ready {M = M} has_work o (Some Task) ≡ true
+  task_by None h = cc
+  task_by (Some s) h = h
+
+  -- a node whose task is there is fed it
+  pub task_enabled : (k : ℕ) → has_task has_work (slice_get w.nodes k) ≡ true → enabled has_work w (record { node = k; from = None }) ≡ true
+  task_enabled k h = task_by (slice_get w.nodes k) h

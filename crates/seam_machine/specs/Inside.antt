@@ -8,6 +8,7 @@ use Rattle.seam_machine.specs.Sends.{AllBelow}
 use Rattle.seam_machine.specs.Nets.{link, letter, input_from, row_less, rows_after_feeding, put_all, send_all, IsSquare}
 use Rattle.seam_machine.specs.Totals.{total}
 use Rattle.seam_machine.specs.declared.machines.Input.{Input}
+use Rattle.seam_machine.specs.declared.machines.Input.TheVariants.{Task, From}
 
 -- the links, and whether none of their messages waits for room
 pub record LinksView (M : Type 0) : Type 0 where
@@ -49,6 +50,36 @@ pub record Delivers {M : Type 0} (row : List (List M)) (items : List (ℕ × M))
   pub counts : (b : ℕ)
       → slice_index_or busy' b 0 + filled (slice_index_or row b []) ≡ slice_index_or busy b 0 + filled (slice_index_or row' b [])
   pub fits : CountsFit busy' row'
+
+-- what a node sent last and no link holds yet: the item that a node is fed before all others, where there is one, and the others
+abbrev pub waits : {M : Type 0} → Option ℕ → Input M → List (ℕ × M) → List (ℕ × M)
+waits None i others = others
+waits (Some to) Task others = others
+waits (Some to) (From a m) others = (to, m) ∷ others
+
+-- a node that is fed before all others is fed an item
+abbrev pub HasInput : {M : Type 0} → Option ℕ → Input M → Type 0
+HasInput None i = Unit {0}
+HasInput (Some to) Task = ⊥
+HasInput (Some to) (From a m) = Unit {0}
+
+-- an item that node `to` is fed before all others waits alone, and no node up to `to` is marked as one with messages in links
+pub record IsFirst {M : Type 0} (a to sender : ℕ) (others : List (ℕ × M)) (words : List ℕ) : Type 0 where
+  pub sent_by : a ≡ sender
+  pub alone : others ≡ []
+  pub unmarked : (b : ℕ) → b ≤ to → is_marked words b ≡ false
+
+-- the same, where there is such an item
+abbrev pub IsAhead : {M : Type 0} → Option ℕ → Input M → ℕ → List (ℕ × M) → List ℕ → Type 0
+IsAhead None i sender others words = Unit {0}
+IsAhead (Some to) Task sender others words = ⊥
+IsAhead (Some to) (From a m) sender others words = IsFirst a to sender others words
+
+-- the event feeds that item
+abbrev pub IsFed : {M : Type 0} → Option ℕ → Input M → ℕ → Option ℕ → Type 0
+IsFed None i node from = ⊥
+IsFed (Some to) Task node from = ⊥
+IsFed (Some to) (From a m) node from = (node ≡ to) × (from ≡ Some a)
 
 -- at most 255 nodes, a link for each pair, a count of filled links for each node, and what waits goes from a node to nodes
 pub record IsLinks {M : Type 0} (rows : List (List (List M))) (busy : List ℕ) (sender : ℕ) (out : List (ℕ × M)) : Type 0 where

@@ -17,6 +17,7 @@ mod marks;
 mod nets;
 mod rows;
 mod sends;
+mod sent;
 
 pub use laws::{
     a_node_put_back_changes_nothing, an_event_leaves_the_others, parts_are_the_net, quiet_is_empty,

@@ -11,6 +11,7 @@ use crate::machines::{Event, Input, Machine};
 use crate::marks::Marks;
 use crate::rows::Row;
 use crate::sends::Out;
+use crate::sent::Sent;
 use std::alloc::{AllocError, Global};
 use std::marker::Model;
 
@@ -30,24 +31,24 @@ struct Kept {
 pub struct Links<T> {
     rows: Vec<Row<T>>,
     kept: Kept,
-    // What node `sender` sent last and no link had room for yet.
-    out: Out<T>,
-    sender: usize,
+    // What was sent last and no link holds yet.
+    sent: Sent<T>,
 }
 
 impl<T> Model for Links<T> {
     ghost use Rattle.seam_machine.specs.Nets.{send_all};
-    ghost use Rattle.seam_machine.specs.Inside.{LinksView, IsLinks, AreCounted, StartsAt, is_empty};
+    ghost use Rattle.seam_machine.specs.Inside.{LinksView, IsLinks, AreCounted, StartsAt, IsAhead, is_empty, waits};
 
     ghost Value = { LinksView T };
 
     ghost view = { λ l. record {
-      rows = send_all l.rows.items l.sender l.out.items;
-      clear = is_empty l.out.items;
+      rows = send_all l.rows.items l.sent.sender (waits l.sent.target l.sent.ahead l.sent.out.items);
+      clear = is_empty (waits l.sent.target l.sent.ahead l.sent.out.items);
     } };
 
-    ghost invariant = { λ l. IsLinks l.rows.items l.kept.busy.items l.sender l.out.items
-        × StartsAt l.kept.starts.items l.rows.items × AreCounted l.kept.waiting.words l.kept.busy.items };
+    ghost invariant = { λ l. IsLinks l.rows.items l.kept.busy.items l.sent.sender (waits l.sent.target l.sent.ahead l.sent.out.items)
+        × StartsAt l.kept.starts.items l.rows.items × AreCounted l.kept.waiting.words l.kept.busy.items
+        × IsAhead l.sent.target l.sent.ahead l.sent.sender l.sent.out.items l.kept.waiting.words };
 }
 
 impl Kept {
@@ -209,7 +210,7 @@ fn deliver<T>(
     Ok(())
 }
 
-impl<T> Links<T> {
+impl<T: Drop> Links<T> {
     /// How many messages the link holds.
     pub fn waiting(&self, from: usize, to: u8) -> usize
         ensures { result ≡ length (link self.now.rows from to) }
@@ -219,8 +220,8 @@ impl<T> Links<T> {
         }
         let row = &self.rows[from];
         let held = row.len(to as usize);
-        if from == self.sender {
-            return held + self.out.count_to(to);
+        if from == self.sent.sender {
+            return held + self.sent.count_to(to);
         }
         held
     }
@@ -237,20 +238,33 @@ impl<T> Links<T> {
         if i < held {
             return row.get(to as usize, i);
         }
-        if from == self.sender {
-            return self.out.item_to(to, i - held);
+        if from == self.sent.sender {
+            return self.sent.item_to(to, i - held);
         }
         None
     }
 
-    /// Whether no message waits for room.
+    /// The node that is fed before all others what waits outside of the links, and who sent it.
+    pub fn first_ahead(&self) -> Option<(u8, u8)>
+        ensures some { IfSome result (λ p. 0 < length (link self.now.rows p.1 p.0)) }
+        ensures within { IfSome result (λ p. p.0 < length self.now.rows) }
+        ensures first { IfSome result (λ p. (j a : ℕ) → j < p.0 → link self.now.rows a j ≡ []) }
+        ensures first_from { IfSome result (λ p. (c : ℕ) → c < p.1 → link self.now.rows c p.0 ≡ []) }
+    {
+        match (self.sent.target, &self.sent.ahead) {
+            (Some(target), Input::From(from, _)) => Some((target, *from)),
+            _ => None,
+        }
+    }
+
+    /// Whether no message waits outside of the links.
     pub fn is_clear(&self) -> bool
         ensures { result ≡ self.now.clear }
     {
-        self.out.is_empty()
+        self.sent.is_empty()
     }
 
-    /// The first node to which a link holds a message, where no message waits for room.
+    /// The first node to which a link holds a message, where no message waits outside of the links.
     pub fn first_busy(&self) -> Option<u8>
         requires clear { self.now.clear ≡ true }
         ensures within { IfSome result (λ k. k < length self.now.rows) }
@@ -261,7 +275,7 @@ impl<T> Links<T> {
         self.kept.waiting.first()
     }
 
-    /// The least node whose link to that node holds a message, where no message waits for room.
+    /// The least node whose link to that node holds a message, where no message waits outside of the links.
     pub fn first_sender(&self, to: u8) -> Option<u8>
         requires clear { self.now.clear ≡ true }
         requires is_node { to < length self.now.rows }
@@ -280,7 +294,7 @@ impl<T> Links<T> {
         ensures first { IfSome result (λ a. (c : ℕ) → c < a → link self.now.rows c to ≡ []) }
         ensures none { IfNone result ((a : ℕ) → link self.now.rows a to ≡ []) }
     {
-        if self.out.is_empty() && (to as usize) < self.rows.len() {
+        if self.sent.is_empty() && (to as usize) < self.rows.len() {
             return self.first_sender(to);
         }
         for a in 0..self.rows.len() {
@@ -297,7 +311,7 @@ impl<T> Links<T> {
         ensures rows { self.new.rows ≡ self.old.rows }
         ensures ok { OnOk result (self.new.clear ≡ true) }
     {
-        if self.out.is_empty() {
+        if self.sent.is_empty() {
             return Ok(());
         }
         self.settle_all()
@@ -310,8 +324,20 @@ impl<T> Links<T> {
         ensures rows { self.new.rows ≡ self.old.rows }
         ensures ok { OnOk result (self.new.clear ≡ true) }
     {
-        let row = &mut self.rows[self.sender];
-        deliver(row, &mut self.kept, &mut self.out, self.sender as u8)
+        let sender = self.sent.sender;
+        self.sent.rejoin()?;
+        let row = &mut self.rows[sender];
+        deliver(row, &mut self.kept, &mut self.sent.out, sender as u8)
+    }
+
+    #[inline(always)]
+    // Takes what the last step sent as what is fed before all else, or moves it to the links.
+    fn send(&mut self)
+        ensures { self.new.rows ≡ self.old.rows }
+    {
+        if !self.sent.take_ahead(&self.kept.waiting) {
+            let _ = self.settle();
+        }
     }
 
     // Feeds the first message of the link to its node.
@@ -332,14 +358,14 @@ impl<T> Links<T> {
     {
         let at = to as usize;
         let row = &mut self.rows[from as usize];
-        match row.serve(alloc, from, at, node, &mut self.out) {
+        match row.serve(alloc, from, at, node, &mut self.sent.out) {
             Err(refused) => return Err(refused),
             Ok(()) => {}
         }
         let left = row.link_len(at);
         lower(&mut self.kept, &self.rows, to, left);
-        self.sender = at;
-        let _ = self.settle();
+        self.sent.sender = at;
+        self.send();
         Ok(())
     }
 
@@ -361,10 +387,10 @@ impl<T> Links<T> {
     {
         node.known();
         let mut task = Input::Task;
-        match node.step(alloc, &mut task, &mut self.out) {
+        match node.step(alloc, &mut task, &mut self.sent.out) {
             Ok(()) => {
-                self.sender = at as usize;
-                let _ = self.settle();
+                self.sent.sender = at as usize;
+                self.send();
                 return Ok(());
             }
             Err(_) => return Err(AllocError),
@@ -378,7 +404,6 @@ impl<T> Links<T> {
         event: Event,
         node: &mut M,
     ) -> Result<(), AllocError>
-        requires clear { self.old.clear ≡ true }
         requires is_node { event.node < length self.old.rows }
         requires ready { is_ready M.has_work (Some node.old) (input_from self.old.rows event.node event.from) ≡ true }
         requires peers { M.peer_count node.old ≡ length self.old.rows }
@@ -387,6 +412,12 @@ impl<T> Links<T> {
         ensures err_node { OnErr result (node.new ≡ node.old) }
         ensures same_peers { M.peer_count node.new ≡ M.peer_count node.old }
     {
+        if self.sent.is_next(event) {
+            self.sent.serve(alloc, node)?;
+            self.send();
+            return Ok(());
+        }
+        self.settle()?;
         match event.from {
             Some(from) => self.serve(alloc, from, event.node, node),
             None => self.work(alloc, event.node, node),
@@ -412,8 +443,7 @@ impl<T: Drop> Links<T> {
                 starts,
                 waiting,
             },
-            out: Out::new(alloc),
-            sender: 0,
+            sent: Sent::none(alloc),
         })
     }
 
@@ -425,8 +455,7 @@ impl<T: Drop> Links<T> {
         let Links {
             rows,
             kept: _,
-            out: _,
-            sender: _,
+            sent: _,
         } = self;
         rows
     }

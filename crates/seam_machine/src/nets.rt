@@ -252,7 +252,14 @@ impl<M: Machine> Net<M> {
         ensures first { IfSome result (λ e. (d : Event) → IsBefore d e → enabled M.has_work self.now d ≡ false) }
         ensures none { IfNone result (IsQuiet M.has_work self.now) }
     {
-        if !self.asked || !self.links.is_clear() {
+        if !self.asked {
+            return self.next_unasked();
+        }
+        if let Some((node, from)) = self.links.first_ahead() {
+            let from = Some(from);
+            return Some(Event { node, from });
+        }
+        if !self.links.is_clear() {
             return self.next_unasked();
         }
         if let Some(node) = self.links.first_busy() {
@@ -282,7 +289,6 @@ impl<M: Machine> Net<M> {
         ensures err { OnErr result (self.new ≡ self.old) }
         ensures peers { ArePeers M.peer_count self.new }
     {
-        self.links.settle()?;
         ask(&self.nodes, &mut self.tasks, &mut self.asked);
         let at = event.node as usize;
         let node = &mut self.nodes[at];
