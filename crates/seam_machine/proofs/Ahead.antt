@@ -1,5 +1,6 @@
 -- The item that waits alone and is fed before all others.
-use Rattle.std.proofs.Common.{◌≡◌, ◌≢◌, ℕ, ◌<◌, ◌≤◌, List, [], ◌∷◌, ◌++◌, length, Option, None, Some, get_or, set, drop, cond, refl, sym, ap, ◌∙◌, subst, arith}
+use Rattle.std.proofs.Common.{◌≡◌, ◌≢◌, ℕ, ◌<◌, ◌≤◌, List, [], ◌∷◌, ◌++◌, length, Option, None, Some, get_or}
+use Rattle.std.proofs.Common.{set, drop, cond, refl, sym, ap, ◌∙◌, subst, arith}
 use Rattle.std.proofs.lemmas.List.{set-set, set-get_or, get_or-set_same, append-nil}
 use Rattle.std.proofs.lemmas.List.Elements.{All-head}
 use Rattle.seam_machine.specs.Sends.{items_to, AllBelow}

@@ -330,8 +330,8 @@ impl<T: Drop> Links<T> {
         deliver(row, &mut self.kept, &mut self.sent.out, sender as u8)
     }
 
-    #[inline(always)]
     // Takes what the last step sent as what is fed before all else, or moves it to the links.
+    #[inline(always)]
     fn send(&mut self)
         ensures { self.new.rows ≡ self.old.rows }
     {
@@ -398,6 +398,8 @@ impl<T: Drop> Links<T> {
     }
 
     /// Feeds the node what the event feeds it.
+    // Inlined, as `Net::step` is: which event is next is known there.
+    #[inline(always)]
     pub fn feed<M: Machine<Msg = T>>(
         &mut self,
         alloc: Global,

@@ -17,10 +17,11 @@ returns-in-Some-From-clause-some g c =
 pub returns-in-Some-From-clause-within : goal.returns-in-Some-From-clause-within
 returns-in-Some-From-clause-within g c =
     let n = c.self.inside in
+    let out = waits n.sent.target n.sent.ahead n.sent.out.items in
     let f = c.in-Some-From in
     let there = target_in n.rows.items n.kept.busy.items n.kept.waiting.words n.sent.sender n.sent.target n.sent.ahead n.sent.out.items
     c.self.invariant.0 c.self.invariant.2 c.self.invariant.3 f.target f.from f.field-1-1 f.is-0 f.is-1 in
-    let sent = length-set n.rows.items n.sent.sender (put_all (get_or n.rows.items n.sent.sender []) (waits n.sent.target n.sent.ahead n.sent.out.items)) in
+    let sent = length-set n.rows.items n.sent.sender (put_all (get_or n.rows.items n.sent.sender []) out) in
     let all = ap (λ w. length w.rows) c.self.view_is in
     omega (arith, there, sent, all)
 

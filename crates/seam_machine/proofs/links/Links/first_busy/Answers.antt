@@ -20,7 +20,8 @@ none_then (Some k) p f = p
 many : (g : _) (c : After-first g) → length c.args.self.now.rows ≡ length c.self.inside.kept.busy.items
 many g c =
     let n = c.self.inside in
-    let sent = length-set n.rows.items n.sent.sender (put_all (get_or n.rows.items n.sent.sender []) (waits n.sent.target n.sent.ahead n.sent.out.items)) in
+    let out = waits n.sent.target n.sent.ahead n.sent.out.items in
+    let sent = length-set n.rows.items n.sent.sender (put_all (get_or n.rows.items n.sent.sender []) out) in
     let rows = ap (λ w. length w.rows) c.self.view_is in
     omega (arith, sent, rows, c.self.invariant.0.busy_len)
 
@@ -28,10 +29,11 @@ empty_there : (g : _) (c : After-first g) (k a : ℕ) → k < length c.args.self
     link c.args.self.now.rows a k ≡ []
 empty_there g c k a lt gone =
     let n = c.self.inside in
+    let out = waits n.sent.target n.sent.ahead n.sent.out.items in
     ap (λ w. link w.rows a k) (sym c.self.view_is)
-    ∙ idle n.rows.items n.kept.busy.items n.sent.sender (waits n.sent.target n.sent.ahead n.sent.out.items) c.self.invariant.0 k (omega (arith, lt, many g c))
+    ∙ idle n.rows.items n.kept.busy.items n.sent.sender out c.self.invariant.0 k (omega (arith, lt, many g c))
     (marked_none n.kept.waiting.words n.kept.busy.items c.self.invariant.2 k gone)
-    (none_sent k (waits n.sent.target n.sent.ahead n.sent.out.items) (ap (λ l. l.clear) c.self.view_is ∙ c.requires.clear)) a
+    (none_sent k out (ap (λ l. l.clear) c.self.view_is ∙ c.requires.clear)) a
 
 pub returns-clause-within : goal.returns-clause-within
 returns-clause-within g c =
@@ -53,11 +55,12 @@ returns-clause-none g c = none_then c.first.result c.first.ensures.none (λ none
 pub returns-clause-busy : goal.returns-clause-busy
 returns-clause-busy g c =
     let n = c.self.inside in
+    let out = waits n.sent.target n.sent.ahead n.sent.out.items in
     IfSome_then c.first.result c.first.ensures.some (λ k there none.
     let w = n.kept.waiting.words in
     let busy = n.kept.busy.items in
     let some = marked_some w busy c.self.invariant.2 k there in
     let within = marked_within w busy c.self.invariant.2 k there in
-    let zero = (idle_back n.rows.items busy n.sent.sender (waits n.sent.target n.sent.ahead n.sent.out.items) c.self.invariant.0 k within
+    let zero = (idle_back n.rows.items busy n.sent.sender out c.self.invariant.0 k within
     (λ a. ap (λ w. link w.rows a k) c.self.view_is ∙ none a)).0 in
     omega (arith, some, zero))

@@ -11,7 +11,8 @@ use Rattle.seam_machine.proofs.links.Links.settle_all.Goals.{After-self, In_ok-r
 sender_in : (g : _) (c : After-self g) → c.self.inside.sent.sender < length c.self.inside.rows.items
 sender_in g c =
     let n = c.self.inside in
-    sender_within n.rows.items n.kept.busy.items n.sent.sender (waits n.sent.target n.sent.ahead n.sent.out.items) c.self.invariant.0
+    let out = waits n.sent.target n.sent.ahead n.sent.out.items in
+    sender_within n.rows.items n.kept.busy.items n.sent.sender out c.self.invariant.0
     (ap (λ l. l.clear) c.self.view_is ∙ c.requires)
 
 -- what waits is all among what goes to links
