@@ -8,13 +8,18 @@ ghost use Rattle.seam_value.specs.Numerals.{is_digit, IsNumeral, SplitsSign, sig
 ghost use Rattle.seam_value.specs.Texts.{spelled_byte, quoted, IsShortText};
 ghost use Rattle.seam_value.specs.Values.{Fits, text_of, number_text};
 ghost use Rattle.seam_value.specs.Causes.{Refuses};
+ghost use Rattle.seam_value.specs.declared.reading.TheConstants.{FEW_DIGITS};
 
 use crate::{ShortText, Value, ValueError, ValueType};
 use std::alloc::{AllocError, Global};
 
+// The number of this many digits is below 2^64, whatever they are.
+const FEW_DIGITS: usize = 19;
+
 impl Value {
     /// The value of type `t` that the bytes spell, else the first cause why there is none: `NotNumber` or `OutOfRange` at
     /// a number type, `BadString` or `TooLong` at the text type, `NoMemory` only there.
+    #[inline]
     pub fn parse(alloc: Global, bytes: &[u8], t: ValueType) -> Result<Value, ValueError>
         ensures value { IfOk result (λ v. Fits v t × (text_of v ≡ bytes.now)) }
         ensures cause { IfErr result (Refuses bytes.now t) }
@@ -93,6 +98,35 @@ fn number_of_digits(bytes: &[u8]) -> Option<u64>
     ensures { MatchOption result (list_all is_digit bytes.now ≡ true → 2 ^ 64 ≤ digits_value 10 bytes.now)
         (λ n. (list_all is_digit bytes.now ≡ true) × (n ≡ digits_value 10 bytes.now)) }
 {
+    if bytes.len() <= FEW_DIGITS {
+        number_of_few_digits(bytes)
+    } else {
+        number_of_many_digits(bytes)
+    }
+}
+
+// The number of so few digits that it is below 2^64 whatever they are, and no step has to be tested.
+fn number_of_few_digits(bytes: &[u8]) -> Option<u64>
+    requires { length bytes.now ≤ FEW_DIGITS }
+    ensures { MatchOption result (list_all is_digit bytes.now ≢ true)
+        (λ n. (list_all is_digit bytes.now ≡ true) × (n ≡ digits_value 10 bytes.now)) }
+{
+    let mut number: u64 = 0;
+    for byte in bytes {
+        if !is_digit(*byte) {
+            return None;
+        }
+        number = number * 10 + u64::from(*byte - b'0');
+    }
+    Some(number)
+}
+
+// Out of line, since few words are so long.
+#[inline(never)]
+fn number_of_many_digits(bytes: &[u8]) -> Option<u64>
+    ensures { MatchOption result (list_all is_digit bytes.now ≡ true → 2 ^ 64 ≤ digits_value 10 bytes.now)
+        (λ n. (list_all is_digit bytes.now ≡ true) × (n ≡ digits_value 10 bytes.now)) }
+{
     let mut number: u64 = 0;
     for byte in bytes {
         number = with_digit(number, *byte)?;
@@ -132,7 +166,8 @@ fn in_range(number: i128, t: ValueType) -> Result<i128, ValueError>
     }
 }
 
-// The text that the bytes spell in quotes.
+// The text that the bytes spell in quotes. Out of line, so that the reading of a number is short enough to be in place.
+#[inline(never)]
 fn read_text(alloc: Global, bytes: &[u8]) -> Result<ShortText, ValueError>
     ensures value { IfOk result (λ s. IsShortText s × (quoted s ≡ bytes.now)) }
     ensures cause { IfErr result (Refuses bytes.now ValueType.Text) }

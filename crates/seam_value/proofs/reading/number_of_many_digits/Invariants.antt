@@ -2,7 +2,7 @@ use Rattle.std.proofs.Common.{◌≡◌, take, true}
 use Rattle.std.specs.List.{list_all}
 use Rattle.std.specs.Str.Parse.{digits_value}
 use Rattle.seam_value.specs.Numerals.{is_digit}
-use Rattle.seam_value.proofs.reading.number_of_digits.Given as goal
+use Rattle.seam_value.proofs.reading.number_of_many_digits.Given as goal
 
 abbrev pub invariant-loop-byte : goal.invariant-loop-byte
 invariant-loop-byte l = record {

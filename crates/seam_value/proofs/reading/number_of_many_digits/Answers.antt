@@ -3,7 +3,7 @@ use Rattle.std.specs.List.{list_all}
 use Rattle.std.specs.Str.Parse.{digits_value}
 use Rattle.seam_value.specs.Numerals.{is_digit}
 use Rattle.seam_value.proofs.Magnitudes.{digit_at, with_next, at_least, all_next}
-use Rattle.seam_value.proofs.reading.number_of_digits.Goals as goal
+use Rattle.seam_value.proofs.reading.number_of_many_digits.Goals as goal
 
 pub returns-in_err-number : goal.returns-in_err-number
 returns-in_err-number c =
