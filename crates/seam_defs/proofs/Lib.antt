@@ -1,3 +1,4 @@
+pub mod ByteOrder
 pub mod NameSearch
 pub mod Numbers
 pub mod Saturation

@@ -84,9 +84,16 @@ impl Defs {
     }
 }
 
-// How a name compares with the one that is sought, in byte order.
+// How a name compares with the one that is sought, in byte order. Names are short and soon differ, so that the bytes one by one cost
+// less than a call to compare slices.
 pub(crate) fn order(name: &ShortText, sought: &[u8]) -> Ordering
     ensures { result ≡ slice_cmp nat_cmp name.now sought.now }
 {
-    name.bytes().cmp(sought)
+    let name = name.bytes();
+    for i in 0..name.len().min(sought.len()) {
+        if name[i] != sought[i] {
+            return name[i].cmp(&sought[i]);
+        }
+    }
+    name.len().cmp(&sought.len())
 }
