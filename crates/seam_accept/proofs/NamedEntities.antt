@@ -1,9 +1,17 @@
 -- What is kept of entities by their names.
-use Rattle.std.proofs.Common.{◌≡◌, ◌≢◌, ℕ, Bool, true, false, cond, List, refl, sym, ◌∙◌, ap, subst, Option, Some, None, arith}
-use Rattle.std.specs.Prelude.{MatchOption, ◌&&◌, ◌||◌, not, is_some, IsSome, eqb}
+use Rattle.std.proofs.Common.{◌≡◌, ◌≢◌, ℕ, zero, suc, Bool, true, false, cond, List, [], ◌∷◌, map, slice_get, refl, sym, ◌∙◌, ap, subst}
+use Rattle.std.proofs.Common.{Option, Some, None, arith, eqb-true}
+use Rattle.std.specs.Prelude.{MatchOption, IfSome, ◌&&◌, ◌||◌, not, is_some, IsSome, eqb}
+use Rattle.std.specs.Option.{option_map}
+use Rattle.std.specs.Map.{lookup_key}
+use Rattle.std.specs.Cmp.{nat_eq_equiv}
+use Rattle.std.proofs.lemmas.Map.Made.{lookup_key_passes}
+use Rattle.std.proofs.lemmas.Map.Entries.{hash_map_get_place}
+use Rattle.std.proofs.lemmas.Option.{slice_get-map}
 use Rattle.std.specs.Ordering.{nat_cmp}
 use Rattle.std.specs.BTreeMap.{is_at}
-use Rattle.indexmap.specs.IndexMap.{IndexMap, get, WritesThrough}
+use Rattle.indexmap.specs.IndexMap.{IndexMap, get, set_value_at, IsUnique, WritesThrough}
+use Rattle.indexmap.proofs.CallerLemmas.{index_map_len-with_value_at, updates-with_value_at}
 use Rattle.std.proofs.lemmas.Map.Steps.{set_value_same}
 use Rattle.std.proofs.lemmas.Bool.Decides.{nat_tests}
 use Rattle.seam_value.specs.NumberWords.{IsWhole}
@@ -15,7 +23,8 @@ use Rattle.seam_transcript.specs.Book.{Book, entries, created_as, live_as, destr
 use Rattle.seam_transcript.specs.declared.verdict.Entry.TheVariants as entry
 use Rattle.seam_transcript.proofs.BookEntries.{same}
 use Rattle.seam_accept.proofs.Books.{any_with, created_with, or_false, or_none}
-use Rattle.seam_accept.specs.Entities.{EntitiesRefine, EntityRefines, IsUnknown, IsLive, LivesAlone, entity_at}
+use Rattle.seam_accept.specs.Entities.{EntitiesRefine, EntityRefines, IsUnknown, IsLive, IsPlaceOf, LivesAlone, ChangesOne}
+use Rattle.seam_accept.specs.Entities.{entity_at}
 use Rattle.seam_accept.specs.declared.entity.Entity.{Entity}
 
 -- another number is not the one that is asked for
@@ -83,6 +92,45 @@ pub given_back : {S : Type 0} (m n : IndexMap ℕ Entity S) (e : ℕ) (v w : Ent
     Some v ≡ get eqb m e → w ≡ v → n.entries ≡ m.entries
 given_back m n e v w writes found same =
     writes.0 ∙ set_value_same (eqb e) m.entries w (sym (ap (λ (x : Entity). Some x) same ∙ found))
+
+-- what `get_full` found
+pub place_found : (entities : List (ℕ × Entity)) (e place key : ℕ) (v : Entity) → Some key ≡ lookup_key (eqb e) entities →
+    slice_get entities place ≡ Some (key, v) → IsPlaceOf entities e place
+place_found entities e place key v keyed at =
+    let same : e ≡ key = eqb-true e key (lookup_key_passes (eqb e) entities key (sym keyed)) in
+    record { entity = v; at = at ∙ ap (λ (k : ℕ). Some (k, v)) (sym same) }
+
+-- what `get_index_mut` lends at the place of an entity is the entity
+pub lent_at_place : (entities : List (ℕ × Entity)) (e place : ℕ) (v : Entity) (is : IsPlaceOf entities e place) →
+    Some v ≡ slice_get (map (λ p. p.1) entities) place → v ≡ is.entity
+lent_at_place entities e place v is lent =
+    let same : Some v ≡ Some is.entity =
+    lent ∙ slice_get-map (λ p. p.1) entities place ∙ ap (option_map (λ (p : ℕ × Entity). p.1)) is.at in
+    cc
+
+-- it was given back as it was
+pub back_at_place : (entities : List (ℕ × Entity)) (place e : ℕ) (v : Entity) → slice_get entities place ≡ Some (e, v) →
+    set_value_at entities place v ≡ entities
+back_at_place [] place e v at = refl
+back_at_place (x ∷ xs) zero e v at =
+    let same : x ≡ (e, v) = cc in
+    ap (λ (w : Entity). (x.0, w) ∷ xs) (sym (ap (λ (y : ℕ × Entity). y.1) same))
+back_at_place (x ∷ xs) (suc place) e v at = ap (λ (ys : List (ℕ × Entity)). x ∷ ys) (back_at_place xs place e v at)
+
+-- or was changed
+pub changed_at_place : {S : Type 0} (m : IndexMap ℕ Entity S) (e place : ℕ) (w : Entity) (Changes : Entity → Entity → Type 0)
+    (is : IsPlaceOf m.entries e place) → IsUnique eqb m → Changes is.entity w →
+    ChangesOne m.entries (set_value_at m.entries place w) e Changes
+changed_at_place m e place w Changes is unique changes =
+    let found = hash_map_get_place nat_eq_equiv m place e is.entity unique is.at in
+    let updates = updates-with_value_at m place w nat_eq_equiv unique e is.entity is.at in
+    record {
+      count = index_map_len-with_value_at m place w;
+      here = subst (λ (o : Option Entity).
+          IfSome o (λ v. (x : Entity) × (entity_at (set_value_at m.entries place w) e ≡ Some x) × Changes v x))
+          (sym found) (w, updates.1, changes);
+      others = λ other ne. updates.2 other (apart e other ne);
+    }
 
 -- a live entity is there
 pub live_is_there : (b : Book) (entities : List (ℕ × Entity)) (e : ℕ) → EntitiesRefine b entities → IsSome (live_as b e) →

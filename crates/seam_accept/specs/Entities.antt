@@ -1,5 +1,5 @@
 -- What is kept of entities, beside the book of a transcript.
-use Rattle.std.specs.Prelude.{◌≡◌, ◌≢◌, ⊤, ℕ, ◌+◌, Bool, false, not, cond, ◌&&◌, eqb, map, List, [], length}
+use Rattle.std.specs.Prelude.{◌≡◌, ◌≢◌, ⊤, ℕ, ◌+◌, Bool, false, not, cond, ◌&&◌, eqb, map, List, [], length, slice_get}
 use Rattle.std.specs.Prelude.{Option, None, Some, MatchOption, IfSome, IsSome}
 use Rattle.std.specs.Borrow.{Bor}
 use Rattle.std.specs.Map.{lookup}
@@ -52,6 +52,11 @@ pub record IsUnknown (b : Book) (e : ℕ) : Type 0 where
 -- the entity of a number among entities by number
 abbrev pub entity_at : List (ℕ × Entity) → ℕ → Option Entity
 entity_at entities e = lookup (eqb e) entities
+
+-- the place of an entity among entities
+pub record IsPlaceOf (entities : List (ℕ × Entity)) (e place : ℕ) : Type 0 where
+  pub entity : Entity
+  pub at : slice_get entities place ≡ Some (e, entity)
 
 -- the entities are those of the book
 pub record EntitiesRefine (b : Book) (entities : List (ℕ × Entity)) : Type 0 where

@@ -7,7 +7,7 @@ ghost use Rattle.seam_transcript.specs.Book.{Book as Books, empty_book, open_lin
 ghost use Rattle.seam_transcript.specs.Book.{created_as, live_as};
 ghost use Rattle.seam_defs.specs.declared.limits.TheConstants.{MOST_BASE_NODES};
 ghost use Rattle.seam_accept.specs.Commands.{command_of};
-ghost use Rattle.seam_accept.specs.Entities.{IsNextCall, LivesAlone};
+ghost use Rattle.seam_accept.specs.Entities.{IsNextCall, IsPlaceOf, LivesAlone};
 ghost use Rattle.seam_accept.specs.Judging.{Refuses};
 ghost use Rattle.seam_accept.specs.Batches.{batch_of, passes_to, node_of as node_of_sender};
 ghost use Rattle.seam_accept.specs.BookView.{counted};
@@ -148,8 +148,8 @@ impl Book {
             }
             Form::Call(words) => {
                 let (entities, clients) = (&self.entities, &self.clients);
-                let call = judge_call(self.alloc, &self.header, entities, clients, words)?;
-                self.add_call(call)?;
+                let (place, call) = judge_call(self.alloc, &self.header, entities, clients, words)?;
+                self.add_call(place, call)?;
             }
             Form::Sync => return Ok(Accepted::Synced),
             Form::Client(word) => {
@@ -182,14 +182,15 @@ impl Book {
         Ok(())
     }
 
-    // Keeps a call.
-    fn add_call(&mut self, call: Call) -> Result<(), AllocError>
+    // Keeps a call to the entity at a place.
+    fn add_call(&mut self, place: usize, call: Call) -> Result<(), AllocError>
+        requires { IsPlaceOf self.old.entities call.entity place }
         ensures kept { OnOk result ((h : Headers) (b : Books) → Refines h b self.old → IsNextCall b call
             → Refines h (with_entry b (Entry.Called call)) (counted self.new)) }
         ensures unchanged { OnErr result (self.new ≡ self.old) }
     {
         self.orders.reserve(1)?;
-        keep_last(&mut self.entities, &call)?;
+        keep_last(&mut self.entities, place, &call)?;
         let node = node_of(call.sender, self.header.settings.bases);
         self.orders.push_reserved((node, order(call)));
         Ok(())

@@ -217,7 +217,7 @@ fn read_command<'a, 'b>(first: &[u8], rest: &'b [&'a [u8]]) -> Option<Command<'a
 {
     if is_call(first) {
         read_call(rest)
-    } else if first == b"move".as_slice() {
+    } else if is_move(first) {
         read_move(rest)
     } else if first == b"create".as_slice() {
         read_create(rest)
@@ -240,11 +240,17 @@ fn read_command<'a, 'b>(first: &[u8], rest: &'b [&'a [u8]]) -> Option<Command<'a
     }
 }
 
-// Most lines are calls, so this name is compared in place, without a call to compare slices.
+// Most lines are calls or moves, so these names are compared in place, without a call to compare slices.
 fn is_call(word: &[u8]) -> bool
     ensures { IsTrue result ↔ word.now ≡ codes "call" }
 {
     matches!(word, b"call")
+}
+
+fn is_move(word: &[u8]) -> bool
+    ensures { IsTrue result ↔ word.now ≡ codes "move" }
+{
+    matches!(word, b"move")
 }
 
 // The words after `sync`.

@@ -4,7 +4,7 @@ ghost use Rattle.seam_call.specs.Senders.{IsSender};
 ghost use Rattle.seam_call.specs.declared.sender.Sender.{Sender as Senders};
 ghost use Rattle.seam_defs.specs.declared.flags.Part.{Part as Parts};
 ghost use Rattle.seam_accept.specs.Last.{number_of};
-ghost use Rattle.seam_accept.specs.Entities.{last_of, Remembers, ChangesOne, Dies, KeepsLast};
+ghost use Rattle.seam_accept.specs.Entities.{last_of, IsPlaceOf, Remembers, ChangesOne, Dies, KeepsLast};
 
 use crate::count::next_count;
 use crate::last::LastCalls;
@@ -69,13 +69,18 @@ pub fn keep_destroyed(entities: &mut IndexMap<u32, Entity>, entity: u32)
     found.live = false;
 }
 
-/// Keeps the number of a call as that of its sender's last one.
-pub fn keep_last(entities: &mut IndexMap<u32, Entity>, call: &Call) -> Result<(), AllocError>
+/// Keeps the number of a call to the entity at a place as that of its sender's last one.
+pub fn keep_last(
+    entities: &mut IndexMap<u32, Entity>,
+    place: usize,
+    call: &Call,
+) -> Result<(), AllocError>
+    requires { IsPlaceOf entities.old.entries call.now.entity place }
     ensures kept { OnOk result (KeepsLast entities.old.entries entities.new.entries call.now) }
     ensures unchanged { OnErr result (entities.new.entries ≡ entities.old.entries) }
 {
-    let Some(called) = entities.get_mut(&call.entity) else {
-        return Ok(());
+    let Some(called) = entities.get_index_mut(place) else {
+        unreachable!()
     };
     called.keep_last(call.part, call.sender, call.number)
 }

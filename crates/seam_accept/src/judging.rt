@@ -5,7 +5,7 @@ ghost use Rattle.seam_transcript.specs.Language.{Client, Destroy};
 ghost use Rattle.seam_transcript.specs.Book.{Book, tree_of};
 ghost use Rattle.seam_transcript.specs.Judging.{HoldsAgainst, IsFirst};
 ghost use Rattle.seam_accept.specs.Commands.{create_of, call_of, cut_of, shift_of};
-ghost use Rattle.seam_accept.specs.Entities.{EntitiesRefine, ClientsRefine};
+ghost use Rattle.seam_accept.specs.Entities.{EntitiesRefine, ClientsRefine, IsPlaceOf};
 ghost use Rattle.seam_accept.specs.Judging.{Judged, Refuses};
 
 use crate::answers::Refusal;
@@ -144,16 +144,17 @@ pub fn make_shift(tree: &mut Tree, words: &ShiftWords) -> Result<(), Cause>
     }
 }
 
-/// The call that a `call` or a `move` makes.
+/// The call that a `call` or a `move` makes, and the place of its entity.
 pub fn judge_call(
     alloc: Global,
     header: &Header,
     entities: &IndexMap<u32, Entity>,
     clients: &BTreeSet<u32>,
     words: &CallWords,
-) -> Result<Call, Refusal>
-    ensures judged { IfOk result (λ call. (b : Book) → EntitiesRefine b entities.now.entries → ClientsRefine b clients.now.keys
-        → Judged header.now b (call_of words.now) (Some (Entry.Called call))) }
+) -> Result<(usize, Call), Refusal>
+    ensures judged { IfOk result (λ r. (b : Book) → EntitiesRefine b entities.now.entries → ClientsRefine b clients.now.keys
+        → Judged header.now b (call_of words.now) (Some (Entry.Called r.1))) }
+    ensures place { IfOk result (λ r. IsPlaceOf entities.now.entries r.1.entity r.0) }
     ensures refused { IfErr result (λ r. (b : Book) → EntitiesRefine b entities.now.entries → ClientsRefine b clients.now.keys
         → Refuses header.now b (call_of words.now) r) }
 {
@@ -163,7 +164,7 @@ pub fn judge_call(
     let Some(sender) = sender_named(header, clients, words.sender_name) else {
         return Err(Refusal::Cause(Cause::NoSender));
     };
-    let Some(called) = live_entity(entities, entity) else {
+    let Some((place, called)) = live_entity(entities, entity) else {
         return Err(Refusal::Cause(Cause::Dead));
     };
     header.defs.known();
@@ -172,11 +173,12 @@ pub fn judge_call(
     let deed = deed_named(alloc, header, &asked, t, &words.deed)?;
     let part = t.part_of(&deed);
     let number = called.next_number(part, asked.sender)?;
-    Ok(Call {
+    let call = Call {
         entity,
         part,
         sender: asked.sender,
         number,
         deed,
-    })
+    };
+    Ok((place, call))
 }

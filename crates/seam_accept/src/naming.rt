@@ -1,5 +1,5 @@
 // What words name.
-ghost use Rattle.std.specs.Prelude.{◌≡◌, ◌≢◌, ◌<◌, ◌≤◌, ◌↔◌, ℕ, List, IsTrue, None, Some, MatchOption};
+ghost use Rattle.std.specs.Prelude.{◌≡◌, ◌≢◌, ◌<◌, ◌≤◌, ◌↔◌, ℕ, List, IsTrue, None, Some, IfSome, MatchOption};
 ghost use Rattle.seam_value.specs.NumberWords.{SpellsNumber};
 ghost use Rattle.seam_geo.specs.declared.pos.Pos.{Pos as Positions};
 ghost use Rattle.seam_defs.specs.Types.{IsType};
@@ -8,7 +8,7 @@ ghost use Rattle.seam_transcript.specs.Language.{sender_text, axis_text};
 ghost use Rattle.seam_tree.specs.declared.boundary.Axis.{Axis as Axes};
 ghost use Rattle.seam_call.specs.declared.sender.Sender.{Sender as Senders};
 ghost use Rattle.seam_transcript.specs.Book.{Book, has_client, live_as};
-ghost use Rattle.seam_accept.specs.Entities.{EntitiesRefine, ClientsRefine, IsLive};
+ghost use Rattle.seam_accept.specs.Entities.{EntitiesRefine, ClientsRefine, IsLive, IsPlaceOf};
 ghost use Rattle.seam_transcript.specs.Judging.{NamesSender, NamesType, NamesMethod, SpellsPosition};
 
 use crate::command::PlaceWords;
@@ -75,12 +75,20 @@ fn client_named(clients: &BTreeSet<u32>, name: &[u8]) -> Option<u32>
     }
 }
 
-/// The live entity of this number.
-pub fn live_entity(entities: &IndexMap<u32, Entity>, entity: u32) -> Option<&Entity>
-    ensures { (b : Book) → EntitiesRefine b entities.now.entries → MatchOption result (live_as b entity ≡ None) (IsLive b entity) }
+/// The live entity of this number, and its place among the entities.
+pub fn live_entity(entities: &IndexMap<u32, Entity>, entity: u32) -> Option<(usize, &Entity)>
+    ensures live { (b : Book) → EntitiesRefine b entities.now.entries → MatchOption result (live_as b entity ≡ None)
+        (λ found. IsLive b entity found.1) }
+    ensures place { IfSome result (λ found. IsPlaceOf entities.now.entries entity found.0) }
 {
-    match entities.get(&entity) {
-        Some(found) => { if found.live { Some(found) } else { None } }
+    match entities.get_full(&entity) {
+        Some((place, _, found)) => {
+            if found.live {
+                Some((place, found))
+            } else {
+                None
+            }
+        }
         None => None,
     }
 }

@@ -14,12 +14,12 @@ returns-in_err-deed-clause-refused c =
     rw (p.1, p.2) (λ b was clients.
     let h = c.args.header.now in
     let who = c.in-Some-sender_named.sender in
-    let at = c.in-Some-live_entity.ensures b was in
+    let at = c.in-Some-live_entity.ensures.live b was in
     let t : c.type_at-t.result.now ≡ type_of h.defs at.refines.made.ty =
     c.type_at-t.ensures.value ∙ ap (type_of h.defs) at.refines.ty in
     no_deed_first h b c.args.words.now.sender_name.now c.args.words.now.entity.now who c.in-Some.entity at.refines.made
-    (record { number = c.in-Some.ensures; sender = c.in-Some-sender_named.ensures b c.args.entities.now.entries was clients }) at.lives c.args.words.now.deed
-    c.in_err-deed.field-0.0
+    (record { number = c.in-Some.ensures; sender = c.in-Some-sender_named.ensures b c.args.entities.now.entries was clients })
+    at.lives c.args.words.now.deed c.in_err-deed.field-0.0
     (subst (λ (x : TypeDef). NoDeed h who c.in-Some.entity c.args.words.now.deed x c.in_err-deed.field-0.0) t c.in_err-deed.ensures.none))
 
 pub returns-clause-judged : goal.returns-clause-judged
@@ -27,7 +27,7 @@ returns-clause-judged c = λ b was clients.
     let h = c.args.header.now in
     let who = c.in-Some-sender_named.sender in
     let names = c.in-Some-sender_named.ensures b c.args.entities.now.entries was clients in
-    let at = c.in-Some-live_entity.ensures b was in
+    let at = c.in-Some-live_entity.ensures.live b was in
     let t : c.type_at-t.result.now ≡ type_of h.defs at.refines.made.ty =
     c.type_at-t.ensures.value ∙ ap (type_of h.defs) at.refines.ty in
     let accepts =

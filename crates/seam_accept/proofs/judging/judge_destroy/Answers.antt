@@ -3,7 +3,7 @@ use Rattle.seam_accept.proofs.judging.judge_destroy.Goals as goal
 
 pub returns-in-Some-live_entity-clause-judged : goal.returns-in-Some-live_entity-clause-judged
 returns-in-Some-live_entity-clause-judged c = λ h b was.
-    let at = c.in-Some-live_entity.ensures b was in (
+    let at = c.in-Some-live_entity.ensures.live b was in (
       destroy_accepted h b c.args.word.now c.in-Some.entity c.in-Some.ensures at.refines.made at.lives,
       is_some_of b c.in-Some.entity at.refines.made at.lives,
     )

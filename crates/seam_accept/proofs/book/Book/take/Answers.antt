@@ -71,7 +71,7 @@ returns-in_ok-add_create-in-Create-clause-accepted c = λ h b was.
 pub returns-in_ok-add_call-in-Call-clause-accepted : goal.returns-in_ok-add_call-in-Call-clause-accepted
 returns-in_ok-add_call-in-Call-clause-accepted c = λ h b was.
     let is = subst (Refines h b) (sym c.self-in-Call.view_is) was in
-    let j = judged_as h _ b _ _ _ is.header c.in-Call.is (c.in_ok-call-in-Call.ensures.judged b is.entities is.clients) in
+    let j = judged_as h _ b _ _ _ is.header c.in-Call.is (c.in_ok-place-in-Call.ensures.judged b is.entities is.clients) in
     (_, j.0, c.in_ok-add_call-in-Call.ensures.kept h b was j.1)
 
 pub returns-in_ok-add_client-in-Client-clause-accepted : goal.returns-in_ok-add_client-in-Client-clause-accepted
