@@ -39,6 +39,7 @@ impl Pending {
 
     /// Adds a piece of text. Where the piece has no room beside what was gathered, that is written first; and a piece that has
     /// no room by itself is written at once.
+    #[inline]
     pub fn push<K: Sink>(&mut self, piece: &[u8], out: &mut K) -> Result<(), Failed>
         ensures prints { (sink : SinkState) (text : List ℕ) → Printed sink (K.state out.old) self.old text →
             MatchResult result
@@ -50,6 +51,18 @@ impl Pending {
         if piece.is_empty() {
             return Ok(());
         }
+        self.push_some(piece, out)
+    }
+
+    // Out of line, so that an empty piece costs no more than its test.
+    #[inline(never)]
+    fn push_some<K: Sink>(&mut self, piece: &[u8], out: &mut K) -> Result<(), Failed>
+        ensures prints { (sink : SinkState) (text : List ℕ) → Printed sink (K.state out.old) self.old text →
+            MatchResult result
+            (λ _. Printed sink (K.state out.new) self.new (text ++ piece.now))
+            (λ _. FailedWithin sink (K.state out.new) (text ++ piece.now)) }
+        ensures later { (K.state out.old).faults ≤ (K.state out.new).faults }
+    {
         if piece.len() <= MOST_PENDING - self.text.len() {
             self.gather(piece);
             return Ok(());

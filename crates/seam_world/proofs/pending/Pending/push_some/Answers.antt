@@ -1,5 +1,5 @@
 use Rattle.seam_world.proofs.PrintLemmas.{failed_before_piece}
-use Rattle.seam_world.proofs.pending.Pending.push.Goals as goal
+use Rattle.seam_world.proofs.pending.Pending.push_some.Goals as goal
 
 pub returns-in-Err-clause-prints : goal.returns-in-Err-clause-prints
 returns-in-Err-clause-prints g c = λ sink text p.
