@@ -163,6 +163,10 @@ fn push_haunts(out: &mut Vec<u8>, entity: u32, real: &Real) -> Result<(), AllocE
     ensures { OnOk result (out.new.items ≡ out.old.items ++ flat_map ghost_text (flat_map (haunt_line entity real.now.core) cell_numbers)) }
 {
     let (version, haunts) = (real.public_version(), real.haunts());
+    // Most reals have no ghosts.
+    if haunts.is(&CellSet::none()) {
+        return Ok(());
+    }
     for cell in 0..MOST_CELLS as u8 {
         push_haunt(out, entity, version, haunts, cell)?;
     }
