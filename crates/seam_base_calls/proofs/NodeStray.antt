@@ -1,16 +1,15 @@
 -- What is not stray about an entity is not stray to the base node, by its own tests.
-use Rattle.std.proofs.Common.{◌≡◌, ℕ, Bool, true, false, ◌&&◌, is_none, List, ◌∷◌, Option, None, Some, refl, sym, ap, ◌∙◌, subst}
+use Rattle.std.proofs.Common.{◌≡◌, ℕ, ◌&&◌, is_none, Some, refl, sym, ap, ◌∙◌}
 use Rattle.std.specs.Prelude.{slice_get}
 use Rattle.std.specs.FinMap as table
-use Rattle.seam_machine.specs.Nets.{link}
 use Rattle.seam_flows.specs.Flows.{letters_of, more_letter, slot_at}
 use Rattle.seam_call.specs.declared.order.Order.{Order}
 use Rattle.seam_call.specs.declared.order.Order.TheVariants as order
 use Rattle.seam_entity.specs.declared.message.Msg.{Msg}
 use Rattle.seam_entity.specs.declared.message.Msg.TheVariants.{Call, BaseCall, Hand, Current, GhostSet, GhostDrop, Tick, Reap, Update}
 use Rattle.seam_steps.specs.CellCases.{about}
-use Rattle.seam_steps.specs.Bases.{BaseView, PartView}
-use Rattle.seam_steps.specs.BaseCases.{may_execute, is_stray, stray_order, stray_base_call, stray_current, stray_update, is_base_node_of}
+use Rattle.seam_steps.specs.Bases.{BaseView}
+use Rattle.seam_steps.specs.BaseCases.{is_stray, stray_order, stray_base_call, stray_current, stray_update, is_base_node_of}
 use Rattle.seam_steps.specs.Nodes.{World}
 use Rattle.seam_steps.specs.Nodes.NodeView.{Base}
 use Rattle.seam_ones.specs.Frames.{Frame, here_at, IsInFrame}

@@ -47,7 +47,7 @@ use Rattle.seam_ones.proofs.Sparing.{items_all}
 use Rattle.seam_base_calls.specs.WitnessMoves.{sent_of, sent_by}
 use Rattle.seam_base_calls.specs.Clients.{EachReal, HasToldAtMost}
 use Rattle.seam_base_calls.proofs.BaseSilent.{sees_no_real, numbered_unreal, base_silent}
-use Rattle.seam_base_calls.proofs.WitnessKept.{OfReal, none_carried, each_weaker}
+use Rattle.seam_base_calls.proofs.WitnessKept.{OfReal, none_carried, each_weaker, ByWitness}
 use Rattle.seam_base_calls.specs.Telling.{most_entities, HasFewEntities, IsFewView, SeesFew, looks_left, most_shown}
 use Rattle.seam_base_calls.proofs.Below.{AllBelow, known_to_below, known_to_few, view_few, few_after_looks, looks_few, mapped_few}
 use Rattle.seam_base_calls.proofs.Absent.{absent_happens}
@@ -59,9 +59,8 @@ no_real = record { sets = λ e n c. refl; drops = λ e n. refl }
 
 -- ---- where the entry is not taken, each real has the witness that it had
 
-module _ (P : RealView → Type 0) (by_witness : (r q : RealView) → q.witness ≡ r.witness → P r → P q) (f : Frame) (e k : ℕ) (s : Has)
-    (i : Option Msg) (t : Has) (sent : List (ℕ × Msg)) (here : (r : RealView) → real_in s ≡ Some r → P r)
-    (comes : (r : RealView) → i ≡ Some (Hand r) → P r) where
+module _ (P : RealView → Type 0) (by_witness : ByWitness P) (f : Frame) (e k : ℕ) (s : Has) (i : Option Msg) (t : Has)
+    (sent : List (ℕ × Msg)) (here : (r : RealView) → real_in s ≡ Some r → P r) (comes : (r : RealView) → i ≡ Some (Hand r) → P r) where
   record Holds : Type 0 where
     slot : (r : RealView) → real_in t ≡ Some r → P r
     sends : AllByRecursion (λ p. OfReal P p.1) sent
@@ -167,6 +166,90 @@ module _ (f : Frame) (e : ℕ) (w : World) (v : Event) (o : Occurs w v) (q : IsI
         fact,
       )
 
+-- ---- what is true of each real by its witness stays true, if it is true of one whose witness looked
+
+-- the entity's witness in the cell looked
+abbrev pub Looked : (e : ℕ) (w : World) (v : Event) → Occurs w v → CellView → Type 0
+Looked e w v o c =
+    LooksAt (base_of c.here e) e c.here (known_to c e) (has_of e o.node).cell (has_of e (node_steps o.node o.input).state).cell
+    (concerning e (node_steps o.node o.input).sent)
+
+module _ (f : Frame) (e : ℕ) (w : World) (v : Event) (o : Occurs w v) (frame : IsInFrame f w) (P : RealView → Type 0)
+    (by_witness : ByWitness P) (each : EachReal e P w) where
+  abbrev then : World
+  then = happens node_steps w v
+
+  -- by what the node does with the witness
+  module _ (Fact : Has → Option Msg → Has → List (ℕ × Msg) → Type 0)
+      (g : Goes (λ k s i t out. (m : MovesTo f e k s i t out) × Fact s i t m.sent) (entity_flow e w) (entity_flow e then)) where
+    each_then : ((r : RealView) → real_in ((entity_flow e then).slot g.k) ≡ Some r → P r) →
+        AllByRecursion (λ p. OfReal P p.1) g.moves.0.sent → EachReal e P then
+    each_then slot sends = record {
+      cells = slots_kept (λ k s. (r : RealView) → real_in s ≡ Some r → P r) g each.cells slot;
+      hands =
+          letters_kept (λ a k m. OfReal P m) g each.hands
+          (λ j. subst (AllByRecursion (OfReal P)) (sym (g.moves.0.items j)) (items_all (OfReal P) j g.moves.0.sent sends));
+    }
+
+  abbrev IsStill : Has → Option Msg → Has → List (ℕ × Msg) → Type 0
+  IsStill s i t sent = (real_in t ≡ real_in s) × (sent ≡ [])
+
+  still_each : IsStill (has_of e o.node) (letter_in (mine e) o.input) (has_of e (node_steps o.node o.input).state)
+      (concerning e (node_steps o.node o.input).sent) → EachReal e P then
+  still_each fact =
+      let g = event_fact f e w v o frame IsStill fact in
+      each_then IsStill g (λ r has. each.cells g.k r (sym g.moves.1.0 ∙ has))
+      (subst (AllByRecursion (λ p. OfReal P p.1)) (sym g.moves.1.1) tt)
+
+  abbrev IsNotTaken : Has → Option Msg → Has → List (ℕ × Msg) → Type 0
+  IsNotTaken s i t sent = NotTaken s.cell i t.cell
+
+  elsewhere_each : NotTaken (has_of e o.node).cell (letter_in (mine e) o.input) (has_of e (node_steps o.node o.input).state).cell →
+      EachReal e P then
+  elsewhere_each fact =
+      let g = event_fact f e w v o frame IsNotTaken fact in
+      let held =
+      moves_hold P by_witness f e g.k ((entity_flow e w).slot g.k) (comes g.input) ((entity_flow e then).slot g.k) g.moves.0.sent
+      (each.cells g.k) (λ r is. (came (λ a k m. OfReal P m) g (Hand r) is each.hands).1 r refl) g.moves.1 g.moves.0.moves in
+      each_then IsNotTaken g held.slot held.sends
+
+  module _ (at : Here) (known : List Known) where
+    abbrev IsLook : Has → Option Msg → Has → List (ℕ × Msg) → Type 0
+    IsLook s i t sent = (l : LooksAt (base_of at e) e at known s.cell t.cell sent) × P (looked_at at known l.real l.witness)
+
+    looks_each : IsLook (has_of e o.node) (letter_in (mine e) o.input) (has_of e (node_steps o.node o.input).state)
+        (concerning e (node_steps o.node o.input).sent) → EachReal e P then
+    looks_each fact =
+        let g = event_fact f e w v o frame IsLook fact in
+        let l : LooksAt (base_of at e) e at known ((entity_flow e w).slot g.k).cell ((entity_flow e then).slot g.k).cell g.moves.0.sent =
+        g.moves.1.0 in
+        each_then IsLook g
+        (λ r has. let one : looked_at at known l.real l.witness ≡ r = let z = sym l.is ∙ has in cc in subst P one g.moves.1.1)
+        (none_carried P g.moves.0.sent
+        (subst (IsSilent real_of) (sym l.tells) (numbered_unreal (base_of at e) e l.witness.sent _)))
+
+  module _ (look : (c : CellView) → o.node ≡ Cell c → (l : Looked e w v o c) → P (looked_at c.here (known_to c e) l.real l.witness)) where
+    each_by : (n : NodeView) → o.node ≡ n → EachReal e P then
+    each_by (Base n) is =
+        elsewhere_each
+        (subst (λ s. NotTaken (has_of e s).cell (letter_in (mine e) o.input) (has_of e (node_steps s o.input).state).cell) (sym is)
+        (as_often refl))
+    each_by (Cell c) is =
+        let node : IsNode (Cell c) = subst IsNode is (frame.sound.states v.node o.node o.is_node) in
+        by
+        (subst (λ s. Look e c.here (known_to c e) (has_of e s).cell (letter_in (mine e) o.input)
+        (has_of e (node_steps s o.input).state).cell (concerning e (node_steps s o.input).sent)) (sym is)
+        (cell_looks c node.keys e o.input))
+      where
+        by : Look e c.here (known_to c e) (has_of e o.node).cell (letter_in (mine e) o.input)
+            (has_of e (node_steps o.node o.input).state).cell (concerning e (node_steps o.node o.input).sent) → EachReal e P then
+        by (still same none) = still_each (same, none)
+        by (elsewhere not) = elsewhere_each not
+        by (looks l) = looks_each c.here (known_to c e) (l, look c is l)
+
+    pub each_looked : EachReal e P then
+    each_looked = each_by o.node refl
+
 -- ---- how much a look tells
 
 module _ (h : Here) (r : RealView) (w : WitnessView) (known : List Known) where
@@ -195,7 +278,7 @@ module _ (f : Frame) (most : cells_of f.tree ≤ cell_count) (e b : ℕ) where
     sees : SeesFew r
     told : sent_by r + most_shown * n ≤ b
 
-  within_by : (n : ℕ) (r q : RealView) → q.witness ≡ r.witness → IsWithin n r → IsWithin n q
+  within_by : (n : ℕ) → ByWitness (IsWithin n)
   within_by n r q same h = record {
     sees = λ x seen. h.sees x (sym same ∙ seen);
     told = let is = ap sent_of same in let few = h.told in omega (arith, is, few);
@@ -240,62 +323,6 @@ module _ (f : Frame) (most : cells_of f.tree ≤ cell_count) (e b : ℕ) where
     weaker : EachReal e (IsWithin left) w
     weaker = each_weaker (IsWithin (looks_left e w)) (IsWithin left) e w (fewer_left left (looks_left e w) no_more) h.each
 
-    -- ---- by what the node does with the witness
-
-    module _ (Fact : Has → Option Msg → Has → List (ℕ × Msg) → Type 0)
-        (g : Goes (λ k s i t out. (m : MovesTo f e k s i t out) × Fact s i t m.sent) (entity_flow e w) (entity_flow e next)) where
-      keeps_each : ((r : RealView) → real_in ((entity_flow e next).slot g.k) ≡ Some r → IsWithin left r) →
-          AllByRecursion (λ p. OfReal (IsWithin left) p.1) g.moves.0.sent → EachReal e (IsWithin left) next
-      keeps_each slot sends = record {
-        cells = slots_kept (λ k s. (r : RealView) → real_in s ≡ Some r → IsWithin left r) g weaker.cells slot;
-        hands =
-            letters_kept (λ a k m. OfReal (IsWithin left) m) g weaker.hands
-            (λ j. subst (AllByRecursion (OfReal (IsWithin left))) (sym (g.moves.0.items j))
-            (items_all (OfReal (IsWithin left)) j g.moves.0.sent sends));
-      }
-
-    abbrev IsStill : Has → Option Msg → Has → List (ℕ × Msg) → Type 0
-    IsStill s i t sent = (real_in t ≡ real_in s) × (sent ≡ [])
-
-    still_each : IsStill (has_of e o.node) (letter_in (mine e) o.input) (has_of e (node_steps o.node o.input).state)
-        (concerning e (node_steps o.node o.input).sent) → EachReal e (IsWithin left) next
-    still_each fact =
-        let g = event_fact f e w v o h.frame IsStill fact in
-        keeps_each IsStill g (λ r has. weaker.cells g.k r (sym g.moves.1.0 ∙ has))
-        (subst (AllByRecursion (λ p. OfReal (IsWithin left) p.1)) (sym g.moves.1.1) tt)
-
-    abbrev IsNotTaken : Has → Option Msg → Has → List (ℕ × Msg) → Type 0
-    IsNotTaken s i t sent = NotTaken s.cell i t.cell
-
-    elsewhere_each : NotTaken (has_of e o.node).cell (letter_in (mine e) o.input) (has_of e (node_steps o.node o.input).state).cell →
-        EachReal e (IsWithin left) next
-    elsewhere_each fact =
-        let g = event_fact f e w v o h.frame IsNotTaken fact in
-        let held =
-        moves_hold (IsWithin left) (within_by left) f e g.k ((entity_flow e w).slot g.k) (comes g.input) ((entity_flow e next).slot g.k)
-        g.moves.0.sent (weaker.cells g.k)
-        (λ r is. (came (λ a k m. OfReal (IsWithin left) m) g (Hand r) is weaker.hands).1 r refl) g.moves.1 g.moves.0.moves in
-        keeps_each IsNotTaken g held.slot held.sends
-
-    module _ (j : ℕ) (at : Here) (known : List Known) (below : AllBelow known) (few : length known ≤ most_entities)
-        (less : left + 1 ≤ looks_left e w) where
-      abbrev IsLook : Has → Option Msg → Has → List (ℕ × Msg) → Type 0
-      IsLook s i t sent = LooksAt j e at known s.cell t.cell sent
-
-      looks_each : LooksAt j e at known (has_of e o.node).cell (has_of e (node_steps o.node o.input).state).cell
-          (concerning e (node_steps o.node o.input).sent) → EachReal e (IsWithin left) next
-      looks_each fact =
-          let g = event_fact f e w v o h.frame IsLook fact in
-          let l : LooksAt j e at known ((entity_flow e w).slot g.k).cell ((entity_flow e next).slot g.k).cell g.moves.0.sent = g.moves.1 in
-          let new = within_look at known below few l.real l.witness l.seen left (looks_left e w) less (h.each.cells g.k l.real l.was) in
-          keeps_each IsLook g
-          (λ r has.
-          let one : looked_at at known l.real l.witness ≡ r = let z = sym l.is ∙ has in cc in
-          subst (IsWithin left) one new)
-          (none_carried (IsWithin left) g.moves.0.sent (subst (IsSilent real_of) (sym l.tells) (numbered_unreal j e l.witness.sent _)))
-
-    -- ---- the node
-
     -- what a cell knows has a number below the bound
     real_below : (c : CellView) → slice_get w.nodes v.node ≡ Some (Cell c) → (x : ℕ) (r : RealView) → table.get c.reals x ≡ Some r →
         x < most_entities
@@ -315,44 +342,21 @@ module _ (f : Frame) (most : cells_of f.tree ≤ cell_count) (e b : ℕ) where
           absurd (let z = sym (ap (λ n. copy_in (slot_at (has_of x) has_none n).cell.slot.ghost) (sym at) ∙ none.copy) ∙ has in cc)
     ]
 
-    each_by : (n : NodeView) → o.node ≡ n → EachReal e (IsWithin left) next
-    each_by (Base n) is =
-        elsewhere_each
-        (subst (λ s. NotTaken (has_of e s).cell (letter_in (mine e) o.input) (has_of e (node_steps s o.input).state).cell) (sym is)
-        (as_often refl))
-    each_by (Cell c) is =
+    looked : (c : CellView) → o.node ≡ Cell c → (l : Looked e w v o c) → IsWithin left (looked_at c.here (known_to c e) l.real l.witness)
+    looked c is l =
         let there = o.is_node ∙ ap Some is in
-        let node : IsNode (Cell c) = subst IsNode is (h.frame.sound.states v.node o.node o.is_node) in
-        look_by c is (known_to_below c (real_below c there) (copy_below c there) e)
-        (known_to_few c (real_below c there) (copy_below c there) e)
-        (cell_looks c node.keys e o.input)
-      where
-        look_by : (c : CellView) → o.node ≡ Cell c → AllBelow (known_to c e) → length (known_to c e) ≤ most_entities →
-            Look e c.here (known_to c e) (has_of e (Cell c)).cell (letter_in (mine e) o.input)
-            (has_of e (node_steps (Cell c) o.input).state).cell (concerning e (node_steps (Cell c) o.input).sent) →
-            EachReal e (IsWithin left) next
-        look_by c is below few (still same none) =
-            still_each
-            (subst (λ s. IsStill (has_of e s) (letter_in (mine e) o.input) (has_of e (node_steps s o.input).state)
-            (concerning e (node_steps s o.input).sent)) (sym is) (same, none))
-        look_by c is below few (elsewhere not) =
-            elsewhere_each
-            (subst (λ s. NotTaken (has_of e s).cell (letter_in (mine e) o.input) (has_of e (node_steps s o.input).state).cell) (sym is) not)
-        look_by c is below few (looks l) =
-            let its : LooksAt (base_of c.here e) e c.here (known_to c e) (has_of e o.node).cell
-            (has_of e (node_steps o.node o.input).state).cell (concerning e (node_steps o.node o.input).sent) =
-            subst (λ s. LooksAt (base_of c.here e) e c.here (known_to c e) (has_of e s).cell (has_of e (node_steps s o.input).state).cell
-            (concerning e (node_steps s o.input).sent)) (sym is) l in
-            let less =
-            looks_left_falls f most e w v o h.frame (base_of c.here e) c.here (known_to c e)
-            (ap (λ s. (has_of e s).base.orders) is) (ap (λ s. (has_of e (node_steps s o.input).state).base.orders) is) its in
-            looks_each (base_of c.here e) c.here (known_to c e) below few less its
+        let less =
+        looks_left_falls f most e w v o h.frame (base_of c.here e) c.here (known_to c e) (ap (λ s. (has_of e s).base.orders) is)
+        (ap (λ s. (has_of e (node_steps s o.input).state).base.orders) is) l in
+        within_look c.here (known_to c e) (known_to_below c (real_below c there) (copy_below c there) e)
+        (known_to_few c (real_below c there) (copy_below c there) e) l.real l.witness l.seen left (looks_left e w) less
+        (h.each.cells v.node l.real (ap (λ n. real_in (slot_at (has_of e) has_none n)) o.is_node ∙ l.was))
 
     within_happens : Within next
     within_happens = record {
       frame = frame_happens f w v o h.frame;
       few = λ x le. absent_happens f x w v o h.frame (h.few x le);
-      each = each_by o.node refl;
+      each = each_looked f e w v o h.frame (IsWithin left) (within_by left) weaker looked;
     }
 
   within_more : (w : World) (v : Event) → Within w → enabled node_has_work w v ≡ true → Within (happens node_steps w v)

@@ -5,7 +5,8 @@
 //! only entities that are somewhere, and the number of each is below a bound (`specs/Telling`).
 //!
 //! Of `proofs/`, `Below` (lists of entities below the bound), `Absent` (no other entity comes), `Looking` (what a step does with a
-//! witness), `LooksLeft` (how often it may look), `Telling` (what it told) and `Silent` (when it tells nothing) are for callers.
+//! witness), `LooksLeft` (how often it may look), `Telling` (what stays true of a real where its witness looks, and what it told) and
+//! `Silent` (when it tells nothing) are for callers.
 
 ghost use Rattle.std.specs.Prelude.{◌≡◌, ℕ, ◌+◌, ◌*◌, List};
 ghost use Rattle.seam_machine.specs.Nets.{LeadsTo};

@@ -371,7 +371,7 @@ module _ (f : Frame) (u : World) (between : IsBetweenRounds f u) (parts : HasPar
         calm_leads f between.frame u between e home r here false (looking.small f u between r) (look_loaded u) v vs
         (looking.calm f u between e home r here) run
 
-    looks_given : IsGiven f u between parts small (ordered_at tick) in_looks look_cells look_parts v vs run e 48
+    looks_given : IsGiven f u between parts small (ordered_at tick) in_looks look_cells look_parts v vs run e 16
     looks_given = record {
       orders = λ k s at. look_given e f k cell_count s (quiet_tasks node_has_work u between.quiet k s at);
       left =
@@ -382,7 +382,7 @@ module _ (f : Frame) (u : World) (between : IsBetweenRounds f u) (parts : HasPar
 
     pub look_settles : HasSettledPart f e r.ty v
     look_settles =
-        settles f u between parts small (ordered_at tick) in_looks look_cells look_parts v vs run e home r here 48 looks_given
+        settles f u between parts small (ordered_at tick) in_looks look_cells look_parts v vs run e home r here 16 looks_given
         (looking.calm f u between e home r here)
 
     look_settled : (k : ℕ) (q : RealView) → real_in ((entity_flow e v).slot k) ≡ Some q → HasSettledPart f e q.ty v
@@ -392,29 +392,29 @@ module _ (f : Frame) (u : World) (between : IsBetweenRounds f u) (parts : HasPar
     pub look_finds : (a k : ℕ) (m : UpdateData) (ms : List Msg) → (entity_flow e v).mail a k ≡ Update m ∷ ms →
         FindsClient f e k ((entity_flow e v).slot k).base m
     look_finds =
-        finds_it f u between parts small (ordered_at tick) in_looks look_cells look_parts v vs run e home r here 48 looks_given
+        finds_it f u between parts small (ordered_at tick) in_looks look_cells look_parts v vs run e home r here 16 looks_given
         (looking.calm f u between e home r here)
 
     -- its client has numbers for all that its witness tells
     pub look_numbers : HasNumbers e (sent_by r + most_told) (look_loaded u) v
     look_numbers =
-        numbers f u between parts small (ordered_at tick) in_looks look_cells look_parts v vs run e home r here 48 looks_given
+        numbers f u between parts small (ordered_at tick) in_looks look_cells look_parts v vs run e home r here 16 looks_given
         (looking.calm f u between e home r here)
 
     pub look_serves : IsServed f e r.ty v
     look_serves =
-        serves f u between parts small (ordered_at tick) in_looks look_cells look_parts v vs run e home r here 48 looks_given
+        serves f u between parts small (ordered_at tick) in_looks look_cells look_parts v vs run e home r here 16 looks_given
         (looking.calm f u between e home r here)
 
     look_are : IsQuiet node_has_work v → (k : ℕ) (q : RealView) → real_in ((entity_flow e v).slot k) ≡ Some q → (p : PartView) →
         ((entity_flow e v).slot (home_of f e)).base.part ≡ Some p → AreFor q.witness p.proxy p.version
     look_are quiet =
-        are_for f u between parts small (ordered_at tick) in_looks look_cells look_parts v vs run e home r here 48 looks_given
+        are_for f u between parts small (ordered_at tick) in_looks look_cells look_parts v vs run e home r here 16 looks_given
         (looking.calm f u between e home r here) looks_framed quiet
 
     look_sees : (k : ℕ) (q : RealView) → real_in ((entity_flow e v).slot k) ≡ Some q → SeesFew q
     look_sees =
-        sees_few f u between parts small (ordered_at tick) in_looks look_cells look_parts v vs run e home r here 48 looks_given
+        sees_few f u between parts small (ordered_at tick) in_looks look_cells look_parts v vs run e home r here 16 looks_given
         (looking.calm f u between e home r here)
 
   look_by : (P : ℕ → ℕ → RealView → Type 0) → ((e home : ℕ) (r : RealView) → real_in ((entity_flow e u).slot home) ≡ Some r →

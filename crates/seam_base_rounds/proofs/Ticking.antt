@@ -151,7 +151,7 @@ node_ticks e n = ticks_of (has_of e n).base.orders
 module _ (e : ℕ) where
   -- in nodes that are not about to look
   nodes_look : (ns : List NodeView) → ((k : ℕ) (t : NodeView) → slice_get ns k ≡ Some t → (has_of e t).cell.looks ≡ 0) →
-      total (node_looks e) ns ≡ 16 * total (node_ticks e) ns
+      3 * total (node_looks e) ns ≡ 16 * total (λ t. 3 * node_ticks e t) ns
   nodes_look [] none = refl
   nodes_look (n ∷ ns) none =
       let here = none 0 n refl in
@@ -162,13 +162,13 @@ module _ (e : ℕ) where
   few_looks : (os : List (ℕ × Order)) (w : World) →
       ((k : ℕ) (t : NodeView) → slice_get w.nodes k ≡ Some t →
       ((has_of e t).cell.looks ≡ 0) × (node_ticks e t ≤ length (items_to k os))) →
-      ((a k : ℕ) → link w.rows a k ≡ []) → looks_left e w ≤ 48 * length os
+      ((a k : ℕ) → link w.rows a k ≡ []) → looks_left e w ≤ 16 * length os
   few_looks os w each links =
       let looks = nodes_look w.nodes (λ k t at. (each k t at).0) in
-      let sum = sum_most 0 0 os (node_ticks e) 0 w.nodes (λ j t at.
+      let sum = sum_most 0 0 os (λ t. 3 * node_ticks e t) 0 w.nodes (λ j t at.
       let same : j ≡ j + 0 = omega arith in
       let few = (each j t at).1 in
-      subst (λ i. node_ticks e t ≤ most 0 0 os i) same (omega (arith, few))) in
+      subst (λ i. 3 * node_ticks e t ≤ most 0 0 os i) same (omega (arith, few))) in
       let all = from_all os in
       let none = rows_none (mine_looks e) w.rows links in
       let past : cond {A = ℕ} (nat_lt 0 0) 0 0 ≡ 0 = refl in
@@ -251,9 +251,9 @@ module _ (f : Frame) (w : World) (b : Batch) (between : IsBetweenRounds f w) (fi
       ],
     )
 
-    pub looks_loaded : looks_left e (loaded w b) ≤ 48 * length b.orders
+    pub looks_loaded : looks_left e (loaded w b) ≤ 16 * length b.orders
     looks_loaded =
-        subst (λ v. looks_left e v ≤ 48 * length b.orders) (sym (loaded_is w b))
+        subst (λ v. looks_left e v ≤ 16 * length b.orders) (sym (loaded_is w b))
         (few_looks e b.orders (with_nodes w (node_loaded b))
         (λ k t at.
         let s = node_there (slice_get w.nodes k) (node_loaded b) t (sym (slice_get-map (node_loaded b) w.nodes k) ∙ at) in
@@ -294,7 +294,7 @@ module _ (f : Frame) (u : World) (between : IsBetweenRounds f u) (had : HasParts
 
   pub looks_turned : (e : ℕ) (os : List (ℕ × Order)) →
       ((k : ℕ) (s : NodeView) → slice_get u.nodes k ≡ Some s → node_ticks e (turn s) ≤ length (items_to k os)) →
-      looks_left e (with_nodes u turn) ≤ 48 * length os
+      looks_left e (with_nodes u turn) ≤ 16 * length os
   looks_turned e os few =
       few_looks e os (with_nodes u turn)
       (λ k t at.

@@ -1,8 +1,4 @@
-mod Had
 mod Naming
-mod Burdens
 mod LookCounts
-mod LooksLeft
-mod Untaken
 mod Telling
 mod Rounds

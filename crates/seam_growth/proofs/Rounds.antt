@@ -20,23 +20,22 @@ use Rattle.seam_rounds.specs.Between.{framed, numbers_of}
 use Rattle.seam_rounds.proofs.Framing.{in_frame}
 use Rattle.seam_rounds.proofs.Going.{frame_loaded}
 use Rattle.seam_rounds.proofs.Loaded.{no_mail, real_loaded}
-use Rattle.seam_rounds.proofs.Room.{real_room}
+use Rattle.seam_rounds.proofs.Room.{no_held, weighs, real_room}
 use Rattle.seam_rounds.proofs.Shape.{Somewhere, Nowhere, search_real}
 use Rattle.seam_base_calls.specs.WitnessMoves.{sent_of, sent_by}
 use Rattle.seam_base_calls.specs.Clients.{HasToldAtMost}
 use Rattle.seam_base_rounds.specs.Parts.{MayBeLoaded}
+use Rattle.seam_base_rounds.proofs.Ticking.{looks_loaded}
 use Rattle.seam_copies.specs.Copies.{AreCopiesBetweenRounds}
 use Rattle.seam_copies.specs.Places.{GoesThroughRound, WasThere}
 use Rattle.seam_measure.specs.Looking.{LooksAmong, LooksFit, Always}
+use Rattle.seam_measure.proofs.There.{had_loaded}
 use Rattle.seam_shown.specs.Phases.{having_looked, looked_by}
 use Rattle.seam_shown.proofs.Reaping.{stays}
 use Rattle.seam_shown.proofs.Round.{called_between}
 use Rattle.seam_shown.proofs.ShownOnce.{cell_at}
 use Rattle.seam_growth.specs.Most.{AreAtMost}
-use Rattle.seam_growth.proofs.Had.{had_loaded}
-use Rattle.seam_growth.proofs.Burdens.{weighs}
 use Rattle.seam_growth.proofs.LookCounts.{tells_few}
-use Rattle.seam_growth.proofs.LooksLeft.{looks_few}
 use Rattle.seam_growth.proofs.Telling.{tells_at_most}
 
 module _ (f : Frame) (w : World) (b : Batch) (may : MayBeLoaded f w b) where
@@ -63,10 +62,12 @@ module _ (f : Frame) (w : World) (b : Batch) (may : MayBeLoaded f w b) where
         Somewhere e start ⊎ Nowhere e start → numbers_of q ≤ n + (3 * length b.orders + 2)
     calls_by n low e k q at (inl p) =
         let first = numbers_loaded n low e p.0 p.1 p.2 in
-        let load = weighs f w b may.between may.fits e p.0 p.1 (real_loaded f w b may.between may.fits e p.0 p.1 p.2) in
+        let loaded = real_loaded f w b may.between may.fits e p.0 p.1 p.2 in
+        let none = no_held p.1.orders loaded.settled.none_held in
+        let load = weighs f w b may.between may.fits e p.0 p.1 loaded in
         let less = burden_leads g e start round.called round.call_events (in_frame f w b may.between may.fits) round.calls in
         let its = real_room e round.called k q at in
-        omega (arith, first, load, less, its)
+        omega (arith, first, none, load, less, its)
     calls_by n low e k q at (inr none) =
         let gone = gone_leads g (frame_loaded f w b may.between may.fits) e start round.called round.call_events
         (in_frame f w b may.between may.fits)
@@ -116,7 +117,7 @@ module _ (f : Frame) (w : World) (b : Batch) (may : MayBeLoaded f w b) where
         told_called k q at =
             let all = (tells_at_most g may.fits.tree.cells_to us ws few start among e n (in_frame f w b may.between may.fits) told_first
             round.called round.call_events round.calls).cells k q at in
-            let left = mul-le-mul_left lines (looks_few f w b may.between may.fits e) in
+            let left = mul-le-mul_left lines (looks_loaded f w b may.between may.fits may.parts may.brings e) in
             omega (arith, all, left)
 
         -- one look more

@@ -56,7 +56,7 @@ use Rattle.seam_measure.proofs.LookStarts.{in_cell, round_is_bounded}
 
 -- ---- what each real has, each real of a loaded world has
 
-module _ (P : RealView → Type 0) (new : (x : RealView) → x.witness ≡ None → P x)
+module _ (P : RealView → Type 0) (new : (h : Here) (x : Create) → P (created h x.entity x.ty x.pos))
     (joins : (h : Here) (r : RealView) → P r → P (with_witness h r)) (begins : (r : RealView) → P r → P (real_begins r)) (e : ℕ) where
   abbrev Had : Option RealView → Type 0
   Had o = (r : RealView) → o ≡ Some r → P r
@@ -85,7 +85,7 @@ module _ (P : RealView → Type 0) (new : (x : RealView) → x.witness ≡ None 
           let one : Option RealView = Some (created c.here x.entity x.ty x.pos) in
           subst Had (sym (get-set_at c.reals x.entity e one))
           (set_had c.reals x.entity one (eq_by_cmp nat_cmp e x.entity) refl
-          (λ is. this_has (created c.here x.entity x.ty x.pos) (new (created c.here x.entity x.ty x.pos) refl)) h)
+          (λ is. this_has (created c.here x.entity x.ty x.pos) (new c.here x)) h)
       by false = h
 
   joined_had : (q : ℕ) (n : NodeView) → Any q → HadAt n → HadAt (attached q n)
@@ -122,7 +122,7 @@ module _ (P : RealView → Type 0) (new : (x : RealView) → x.witness ≡ None 
   had_by b None h = h
   had_by b (Some n) h = node_had b n h
 
-  had_loaded : (w : World) (b : Batch) (k : ℕ) → Had (real_in ((entity_flow e w).slot k)) →
+  pub had_loaded : (w : World) (b : Batch) (k : ℕ) → Had (real_in ((entity_flow e w).slot k)) →
       Had (real_in ((entity_flow e (loaded w b)).slot k))
   had_loaded w b k h =
       subst (λ s. Had (real_in s)) (sym (slot_is w b e k)) (had_by b (slice_get w.nodes k) h)
@@ -259,7 +259,7 @@ module _ (f : Frame) (w : World) (b : Batch) (may : MayBeLoaded f w b) (copies :
 
   sees_start : (e k : ℕ) (r : RealView) → real_in ((entity_flow e start).slot k) ≡ Some r → SeesThere r
   sees_start e k =
-      had_loaded SeesThere (λ x none y has. absurd (let z = sym none ∙ has in cc))
+      had_loaded SeesThere (λ h x y has. absurd (let z = has in cc))
       (λ h r old. nothing_seen h r) (λ r old. old) e w b k (λ r at. sees e k r at)
 
   among_loaded : LooksAmong us (λ k. ws) start

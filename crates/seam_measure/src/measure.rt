@@ -12,7 +12,7 @@
 //!
 //! Crates above cite these modules of `proofs`: `NetWeights` (an event and a run), `QuietWeights` (a quiet world), `Ordered` (orders only
 //! go), `Batched` (calls on their way were ordered), `HandOvers` (how often a real is handed over), `Among` and `There` (what there is to
-//! look at).
+//! look at; what each real had, each real of a loaded world has).
 
 ghost use Rattle.std.specs.Prelude.{◌≡◌, ℕ, ◌+◌, ◌*◌, ◌≤◌, true, false, List, [], length};
 ghost use Rattle.std.specs.List.{AllByRecursion, range_with_len};

@@ -253,9 +253,6 @@ module _ (f : Frame) (w : World) (b : Batch) (between : IsBetweenRounds f w) (fi
   abbrev after : ℕ → Has
   after k = (entity_flow e (loaded w b)).slot k
 
-  few_of : real_burden r < 2 ^ 61
-  few_of = let none = no_held r.orders its.settled.none_held in let few = its.small in omega (arith, none, few)
-
   abbrev most_of : ℕ
   most_of = real_burden r + 2
 
@@ -300,8 +297,8 @@ module _ (f : Frame) (w : World) (b : Batch) (between : IsBetweenRounds f w) (fi
       omega (arith, real, orders)
 
   -- its numbers are not much more than those of the real
-  pub few_more : burden e (loaded w b) < 2 ^ 61 + 2 ^ 20
-  few_more =
+  pub weighs : burden e (loaded w b) ≤ real_burden r + (3 * length b.orders + 2)
+  weighs =
       let nodes : List NodeView = map (node_loaded b) w.nodes in
       let sum = sum_most home most_of b.orders (node_burden e) 0 nodes (λ j t at.
       let s = node_there (slice_get w.nodes j) (node_loaded b) t (sym (slice_get-map (node_loaded b) w.nodes j) ∙ at) in
@@ -312,9 +309,14 @@ module _ (f : Frame) (w : World) (b : Batch) (between : IsBetweenRounds f w) (fi
       let links = rows_none (mine_burden e) w.rows (quiet_links node_has_work w between.nodes.sound.square between.quiet) in
       let is = ap (burden e) (loaded_is w b) in
       let past : cond {A = ℕ} (nat_lt home 0) 0 most_of ≡ most_of = ap (λ c. cond {A = ℕ} c 0 most_of) (none_below home) in
-      let few = few_of in
+      omega (arith, sum, all, links, is, past)
+
+  pub few_more : burden e (loaded w b) < 2 ^ 61 + 2 ^ 20
+  few_more =
+      let none = no_held r.orders its.settled.none_held in
+      let few = its.small in
       let short = fits.few in
-      omega (arith, sum, all, links, is, past, few, short)
+      omega (arith, weighs, none, few, short)
 
   pub room : burden e (loaded w b) + 1 < limit
   room = let few = few_more in omega (arith, few)
