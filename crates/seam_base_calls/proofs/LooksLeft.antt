@@ -11,13 +11,10 @@ use Rattle.seam_machine.specs.Totals.{total}
 use Rattle.seam_machine.specs.Events.{Occurs}
 use Rattle.seam_machine.specs.declared.machines.Event.{Event}
 use Rattle.seam_runs.specs.Sums.{weight_or}
-use Rattle.seam_runs.specs.Weights.{sent_weight}
 use Rattle.seam_runs.proofs.Soundness.{sound_sends}
 use Rattle.seam_runs.proofs.Weighing.{weight_moves}
 use Rattle.seam_flows.specs.Flows.{letter_in}
 use Rattle.seam_flows.specs.Sent.{IsSilent}
-use Rattle.seam_call.specs.declared.order.Order.{Order}
-use Rattle.seam_call.specs.declared.order.Order.TheVariants as order
 use Rattle.seam_call.specs.declared.shown.Shown.{Shown}
 use Rattle.seam_entity.specs.Reals.{RealView}
 use Rattle.seam_entity.specs.declared.message.Msg.{Msg}
@@ -30,14 +27,14 @@ use Rattle.seam_steps.specs.BaseCases.{tick_to}
 use Rattle.seam_steps.specs.Looks.{Known, numbered}
 use Rattle.seam_steps.specs.Nodes.{World, node_steps}
 use Rattle.seam_ones.specs.Frames.{Frame, here_at, IsInFrame}
-use Rattle.seam_ones.specs.Sights.{Has, AtCell, AtBase, kept_if, mine, concerns, concerning, has_of}
+use Rattle.seam_ones.specs.Sights.{Has, AtCell, AtBase, mine, concerning, has_of}
 use Rattle.seam_ones.specs.CellMoves as move
 use Rattle.seam_ones.specs.CellMoves.{unlisted_if, Does, Acts, surveys, calls, readies, CellMoves, looks_after_tick, has_witness}
-use Rattle.seam_ones.specs.BaseMoves as base_move
 use Rattle.seam_ones.specs.BaseMoves.{BaseMoves}
 use Rattle.seam_ones.specs.Moves.{Moves, at_a_cell, at_a_base}
 use Rattle.seam_ones.proofs.Classify.{node_laws, node_moves}
-use Rattle.seam_ones.proofs.Easing.{event_eases}
+use Rattle.seam_ones.proofs.Easing.{sent_is, event_eases}
+use Rattle.seam_ones.proofs.Paying.{OrdersPay, base_paid}
 use Rattle.seam_ones.proofs.Plain.{ghosts_silent, drops_silent, mapped_silent}
 use Rattle.seam_base_calls.specs.Clients.{tick_in}
 use Rattle.seam_base_calls.proofs.NoLooks.{no_tick}
@@ -141,59 +138,25 @@ module _ (f : Frame) (e k : ℕ) (s : Has) (i : Option Msg) (t : Has) (sent : Li
         cell_step _ (record { slot = s.cell.slot; survey = s.cell.survey; looks = n }) d (omega (arith, at)) tt
     cell_eases (move.stuck r h has ready may d) = cell_step _ s.cell d (omega arith) tt
 
-  module _ (cells : ℕ) (most : cells ≤ cell_count) (same : t.cell ≡ s.cell) where
-    base_by : (b : AtBase) → t.base ≡ b → (l : List (ℕ × Msg)) → sent ≡ l →
-        total order_looks b.orders + sent_looks l ≤ total order_looks s.base.orders → Eased
-    base_by b is l z less =
-        let orders = ap (λ (x : AtBase). total order_looks x.orders) is in
-        let looks = ap (λ (c : AtCell). c.looks) same in
-        let sends = ap sent_looks z in
-        omega (arith, orders, looks, sends, less)
-
-    gone : (o : Order) (os : List Order) → s.base.orders ≡ o ∷ os → total order_looks s.base.orders ≡ order_looks o + total order_looks os
-    gone o os at = ap (total order_looks) at
-
-    base_eases : BaseMoves (here_at f k) cells e s.base i t.base sent → Eased
-    base_eases (base_move.rests n a z) = base_by s.base a [] z (omega arith)
-    base_eases (base_move.strays m n b a z) = base_by s.base a [] z (omega arith)
-    base_eases (base_move.reroutes new r n has b a z) = base_by _ a [] z (omega arith)
-    base_eases (base_move.offers c p n own has may a z) = base_by _ a [] z (omega arith)
-    base_eases (base_move.updates u n own b a z) = base_by _ a [] z (omega arith)
-    base_eases (base_move.orders_call c os r n at own has a z) =
-        let less = gone (order.Cell c) os at in base_by _ a _ z (omega (arith, less))
-    base_eases (base_move.orders_base_call c os n at own b a z) =
-        let less = gone (order.Base c) os at in base_by _ a _ z (omega (arith, less))
-    base_eases (base_move.offers_own c os p n at own b has may a z) =
-        let less = gone (order.Base c) os at in base_by _ a [] z (omega (arith, less))
-    base_eases (base_move.orders_tick os n at a z) =
-        let less = gone order.Tick os at in
-        let many = ticks_weigh (range_with_len 0 cells) in
-        let len = length-range_with_len 0 cells in
-        base_by _ a _ z (omega (arith, less, many, len, most))
-    base_eases (base_move.orders_reap os r n at has a z) =
-        let less = gone (order.Reap e) os at in base_by _ a _ z (omega (arith, less))
-    base_eases (base_move.stuck_order o os n at b a z) = base_by s.base a [] z (omega arith)
-    base_eases (base_move.executes p o c n has may at item a z) = base_by _ a [] z (omega arith)
-    base_eases (base_move.stuck_part p n has v may a z) = base_by s.base a [] z (omega arith)
-    base_eases (base_move.shows p n has v may a z) = base_by _ a [] z (omega arith)
-    base_eases (base_move.stuck_client p n has v may a z) = base_by s.base a [] z (omega arith)
+  base_eases : (cells : ℕ) → cells ≤ cell_count → t.cell ≡ s.cell → BaseMoves (here_at f k) cells e s.base i t.base sent → Eased
+  base_eases cells most same m =
+      let many = ticks_weigh (range_with_len 0 cells) in
+      let len = length-range_with_len 0 cells in
+      let pays : OrdersPay order_looks letter_looks cells = record {
+        calls = λ c. omega arith;
+        base_calls = λ c. omega arith;
+        ticks = omega (arith, many, len, most);
+        reaps = λ e. omega arith;
+      } in
+      let paid = base_paid order_looks letter_looks cells pays (here_at f k) e s.base i t.base sent m in
+      let looks = ap (λ (c : AtCell). c.looks) same in
+      omega (arith, looks, paid)
 
   move_eases : cells_of f.tree ≤ cell_count → Moves f e k s i t sent → Eased
   move_eases most (at_a_cell low m same) = cell_eases same m
   move_eases most (at_a_base high m same) = base_eases _ most same m
 
 -- ---- an event
-
--- what is sent weighs what of it concerns the entity does
-sent_by : (e : ℕ) (p : ℕ × Msg) (ps : List (ℕ × Msg)) (b : Bool) →
-    sent_weight (mine_looks e) ps ≡ sent_looks (concerning e ps) →
-    weight_or letter_looks (kept_if b p.1) + sent_weight (mine_looks e) ps ≡ sent_looks (cond b (p ∷ concerning e ps) (concerning e ps))
-sent_by e p ps true h = omega (arith, h)
-sent_by e p ps false h = omega (arith, h)
-
-sent_is : (e : ℕ) (ps : List (ℕ × Msg)) → sent_weight (mine_looks e) ps ≡ sent_looks (concerning e ps)
-sent_is e [] = refl
-sent_is e (p ∷ ps) = sent_by e p ps (concerns e p.1) (sent_is e ps)
 
 module _ (f : Frame) (most : cells_of f.tree ≤ cell_count) (e : ℕ) (w : World) (v : Event) (o : Occurs w v) (q : IsInFrame f w) where
   abbrev s : Has
@@ -217,7 +180,7 @@ module _ (f : Frame) (most : cells_of f.tree ≤ cell_count) (e : ℕ) (w : Worl
       LooksAt b e h known s.cell t.cell sent → looks_left e (happens node_steps w v) + 1 ≤ looks_left e w
   looks_left_falls b h known none_was none_is l =
       let a = weight_moves (node_looks e) (mine_looks e) node_steps w v o q.sound.square (sound_sends node_laws w v o q.sound) in
-      let sends = sent_is e (node_steps o.node o.input).sent in
+      let sends = sent_is letter_looks e (node_steps o.node o.input).sent in
       let nothing = ap sent_looks l.tells ∙ numbered_light b e l.witness.sent _ in
       let taken = l.taken in
       let was = ap (total order_looks) none_was in

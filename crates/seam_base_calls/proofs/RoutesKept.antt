@@ -26,7 +26,7 @@ use Rattle.seam_base_calls.specs.Strays.{IsBaseNumber, IsForNode, HasRoutes}
 use Rattle.seam_base_calls.proofs.PartKept.{targets_all}
 use Rattle.seam_base_calls.proofs.RightNodes.{sends_right}
 
-abbrev HasRoute : AtBase → Type 0
+abbrev pub HasRoute : AtBase → Type 0
 HasRoute b = (r : RouteView) × (b.route ≡ Some r)
 
 -- a route stays one
@@ -51,7 +51,7 @@ module _ (h : Here) (cells e : ℕ) (s : AtBase) (i : Option Msg) (t : AtBase) (
   route_stays (move.shows p n has v may a z) r = kept (ap (λ b. b.route) a) r
   route_stays (move.stuck_client p n has v may a z) r = kept (ap (λ b. b.route) a) r
 
-route_moves : (f : Frame) (e k : ℕ) (s : Has) (i : Option Msg) (t : Has) (sent : List (ℕ × Msg)) → Moves f e k s i t sent →
+pub route_moves : (f : Frame) (e k : ℕ) (s : Has) (i : Option Msg) (t : Has) (sent : List (ℕ × Msg)) → Moves f e k s i t sent →
     HasRoute s.base → HasRoute t.base
 route_moves f e k s i t sent (at_a_cell low m same) r = (r.0, ap (λ b. b.route) same ∙ r.1)
 route_moves f e k s i t sent (at_a_base high m same) r = route_stays (here_at f k) _ e s.base i t.base sent m r

@@ -15,9 +15,10 @@
 //!
 //! Of `proofs/`, `PartSteps` (each move is one of a base part's), `BaseRuns` (an event), `AloneRuns` and `ClientLeads` (a list of
 //! events, without and with a client), `ClientRuns` (what an update finds), `BaseQuiet` (what a quiet world has left), `RightNodes` (where
-//! messages go), `StrayRuns` (routes, and that nothing is stray), `Reaped` (after a reap), `ClientTold` (what a step does with a client's
-//! updates), `WitnessSteps` and `WitnessKept` (what a step does with a witness, and what stays true of it), `NoLooks` (no ticks),
-//! `BaseSilent` (what base nodes do not send) and `ExampleClient` (the examples, and that loads make them) are for callers.
+//! messages go), `RoutesKept` (a route stays one), `StrayRuns` (routes, and that nothing is stray), `Reaped` (after a reap), `ClientTold`
+//! (what a step does with a client's updates), `WitnessSteps` and `WitnessKept` (what a step does with a witness, and what stays true of
+//! it), `NoLooks` (no ticks), `BaseSilent` (what base nodes do not send) and `ExampleClient` (the examples, and that loads make them) are
+//! for callers.
 
 ghost use Rattle.std.specs.Prelude.{◌≡◌, ℕ, ◌<◌, ◌≤◌, List, [], ◌∷◌, length, true, None, Some, is_some, slice_get};
 ghost use Rattle.std.specs.FinMap as table;

@@ -1,14 +1,8 @@
 -- A message to a cell is never stray, nor a task of one: for an entity that no one reaps, in a round.
-use Rattle.std.proofs.Common.{◌≡◌, ℕ, ◌<◌, ◌⊎◌, Bool, true, false, not, ◌&&◌, ◌||◌, nat_lt, is_some, List, [], ◌∷◌, length, Option}
+use Rattle.std.proofs.Common.{◌≡◌, ℕ, ◌<◌, ◌⊎◌, Bool, true, false, not, ◌&&◌, ◌||◌, is_some, List, ◌∷◌, length, Option}
 use Rattle.std.proofs.Common.{None, Some, refl, ap, ◌∙◌, arith, inl, inr}
 use Rattle.std.specs.Prelude.{slice_get}
-use Rattle.std.specs.List.{list_all}
-use Rattle.std.specs.FinSet as set
 use Rattle.std.proofs.lemmas.Bool.{eq-eqb}
-use Rattle.std.proofs.lemmas.Bool.Decides.{nat_tests}
-use Rattle.seam_tree.specs.Division.{cells_of}
-use Rattle.seam_defs.specs.declared.flags.Group.TheVariants as group
-use Rattle.seam_defs.proofs.TestLemmas.{of_group-Decides}
 use Rattle.seam_machine.specs.Nets.{link, letter}
 use Rattle.seam_machine.specs.Events.{Occurs}
 use Rattle.seam_machine.specs.declared.machines.Input.TheVariants.{From}
@@ -18,10 +12,10 @@ use Rattle.seam_entity.specs.Reals.{RealView}
 use Rattle.seam_entity.specs.declared.message.Msg.{Msg}
 use Rattle.seam_entity.specs.declared.message.Msg.TheVariants.{Call, BaseCall, Hand, Current, GhostSet, GhostDrop, Tick, Reap, Update}
 use Rattle.seam_entity.specs.Numbers.{limit, is_small}
-use Rattle.seam_entity.specs.Here.{cell_count, cell_numbers, properties}
+use Rattle.seam_entity.specs.Here.{cell_count}
 use Rattle.seam_entity.specs.Executing.{fits_copy, may_call}
 use Rattle.seam_steps.specs.Slots.{NextPlace}
-use Rattle.seam_steps.specs.CellCases.{about, is_stray, stray_call, stray_hand, haunts_cell, is_cell_if, may_come}
+use Rattle.seam_steps.specs.CellCases.{about, is_stray, stray_call, stray_hand, may_come}
 use Rattle.seam_steps.specs.Nodes.{NodeView, World}
 use Rattle.seam_ones.specs.Frames.{Frame, here_at}
 use Rattle.seam_ones.specs.Sights.{Has, concerned, kept_if, mine, entity_flow}
@@ -29,6 +23,7 @@ use Rattle.seam_ones.specs.Fits.{RealFits}
 use Rattle.seam_ones.specs.Burdens.{real_burden}
 use Rattle.seam_ones.specs.Ones.{real_in, reaped_by}
 use Rattle.seam_ones.proofs.Holds.{all_two}
+use Rattle.seam_ones.proofs.OneReal.{may_land}
 use Rattle.seam_ones.specs.CellTurns.{FindsTurn}
 use Rattle.seam_copies.proofs.Sending.{FitsNode}
 
@@ -53,36 +48,6 @@ abbrev pub feeds : (w : World) (a k : ℕ) (s : NodeView) (m : Msg) (ms : List M
     Occurs w (record { node = k; from = Some a })
 feeds w a k s m ms node at =
     record { node = s; input = From a m; is_node = node; is_fed = ap (letter a) at }
-
--- ---- a real that fits may come
-
-below_is : (a b : ℕ) → a < b → nat_lt a b ≡ true
-below_is a b lt = grind (arith, nat_tests)
-
-haunt_by : (f : Frame) (r : RealView) (j : ℕ) (b : Bool) → set.contains r.haunts j ≡ b →
-    ((j : ℕ) → set.contains r.haunts j ≡ true → j < cells_of f.tree) → is_cell_if b f.tree j ≡ true
-haunt_by f r j true is low = below_is j (cells_of f.tree) (low j is)
-haunt_by f r j false is low = refl
-
-haunts_in : (f : Frame) (r : RealView) → ((j : ℕ) → set.contains r.haunts j ≡ true → j < cells_of f.tree) → (js : List ℕ) →
-    list_all (haunts_cell f.tree r) js ≡ true
-haunts_in f r low [] = refl
-haunts_in f r low (j ∷ js) =
-    all_two (haunts_cell f.tree r j) (list_all (haunts_cell f.tree r) js) (haunt_by f r j (set.contains r.haunts j) refl low)
-    (haunts_in f r low js)
-
-may_land : (f : Frame) (e ty k : ℕ) (r : RealView) → ty < length f.defs → RealFits f e ty k r → real_burden r < limit →
-    may_come (here_at f k) f.tree r ≡ true
-may_land f e ty k r known is few =
-    let ps = properties (here_at f k) r.ty in
-    let type = is.type in
-    let a : r.ty < length f.defs = omega (arith, type, known) in
-    let values = (of_group-Decides ps group.Real r.state.props).1 is.values in
-    let fits = all_two _ _ (below_is r.ty (length f.defs) a) (all_two _ _ values (all_two _ _ is.inside is.held)) in
-    let tree = all_two _ _ (below_is k (cells_of f.tree) is.home) (haunts_in f r is.haunts cell_numbers) in
-    let small = all_two _ _ (below_is r.beat limit (omega (arith, few)))
-    (all_two _ _ (below_is r.generation limit (omega (arith, few))) (below_is r.version limit (omega (arith, few)))) in
-    all_two _ _ fits (all_two _ _ tree small)
 
 -- ---- by kinds
 

@@ -8,19 +8,15 @@ use Rattle.seam_machine.specs.Nets.{happens, AllEnabled}
 use Rattle.seam_machine.specs.Events.{Occurs}
 use Rattle.seam_machine.specs.Totals.{total}
 use Rattle.seam_machine.specs.declared.machines.Event.{Event}
-use Rattle.seam_machine.specs.declared.machines.Input.{Input}
-use Rattle.seam_machine.specs.declared.machines.Input.TheVariants.{Task, From}
 use Rattle.seam_machine.proofs.Occurring.{occurs, node_here}
 use Rattle.seam_machine.proofs.Totals.{total-push}
 use Rattle.seam_runs.specs.Sums.{weight_or}
-use Rattle.seam_runs.specs.Weights.{weight, input_weight, sent_weight}
+use Rattle.seam_runs.specs.Weights.{weight}
 use Rattle.seam_runs.proofs.Soundness.{sound_sends}
 use Rattle.seam_runs.proofs.Weighing.{weight_moves}
 use Rattle.seam_flows.specs.Flows.{letter_in, slot_at}
 use Rattle.seam_flows.specs.Sent.{IsSilent}
 use Rattle.seam_call.specs.Senders.{rank_of}
-use Rattle.seam_call.specs.declared.order.Order.{Order}
-use Rattle.seam_call.specs.declared.order.Order.TheVariants as order
 use Rattle.seam_entity.specs.Reals.{RealView}
 use Rattle.seam_entity.specs.declared.message.Msg.{Msg}
 use Rattle.seam_entity.specs.declared.message.Msg.TheVariants.{Call, BaseCall, Hand, Current, GhostSet, GhostDrop, Tick, Reap, Update}
@@ -34,15 +30,16 @@ use Rattle.seam_steps.specs.Looks.{shown_of, looks_with}
 use Rattle.seam_steps.specs.BaseCases.{tick_to}
 use Rattle.seam_steps.specs.Nodes.{NodeView, World, node_steps, node_has_work}
 use Rattle.seam_ones.specs.Frames.{Frame, here_at, IsInFrame}
-use Rattle.seam_ones.specs.Sights.{Has, AtCell, AtBase, concerns, kept_if, mine, concerning, has_of, has_none, entity_flow}
+use Rattle.seam_ones.specs.Sights.{Has, AtCell, AtBase, mine, concerning, has_of, has_none, entity_flow}
 use Rattle.seam_ones.specs.CellMoves as move
 use Rattle.seam_ones.specs.CellMoves.{unlisted_if, Does, Acts, surveys, calls, readies, CellMoves}
-use Rattle.seam_ones.specs.BaseMoves as base_move
 use Rattle.seam_ones.specs.BaseMoves.{BaseMoves}
 use Rattle.seam_ones.specs.Moves.{Moves, at_a_cell, at_a_base}
 use Rattle.seam_ones.proofs.Classify.{node_laws, node_moves, frame_happens}
 use Rattle.seam_ones.specs.Burdens.{held_in}
 use Rattle.seam_ones.specs.Ones.{real_in, IsSpared}
+use Rattle.seam_ones.proofs.Easing.{sent_is as all_sent, input_is}
+use Rattle.seam_ones.proofs.Paying.{OrdersPay, base_paid}
 use Rattle.seam_ones.proofs.Plain.{SeesNoGhost, ghosts_silent, mapped_silent, numbered_silent}
 use Rattle.seam_ones.proofs.HeldCounts.{turn_counts, early_counts, taken_counts}
 use Rattle.seam_ones.proofs.OneReal.{calm_of, spared_happens}
@@ -270,54 +267,21 @@ module _ (f : Frame) (e k : ℕ) (s : Has) (i : Option Msg) (t : Has) (sent : Li
 
   -- ---- a base node: orders may go, and what was ordered is sent
 
-  base_by : (rest more : ℕ) → t.cell ≡ s.cell → orders_left t ≡ rest → sent_left sent ≡ more → rest + more ≤ orders_left s → Lowers
-  base_by rest more same o x le =
+  base_lowers : (cells : ℕ) → BaseMoves (here_at f k) cells e s.base i t.base sent → t.cell ≡ s.cell → Lowers
+  base_lowers cells m same =
+      let none =
+      light_sent (map tick_to (range_with_len 0 cells)) (mapped_silent heavy tick_to (λ j. refl) (range_with_len 0 cells)) in
+      let pays : OrdersPay one_if_cell letter_left cells = record {
+        calls = λ c. omega arith;
+        base_calls = λ c. omega arith;
+        ticks = omega (arith, none);
+        reaps = λ e. omega arith;
+      } in
+      let paid = base_paid one_if_cell letter_left cells pays (here_at f k) e s.base i t.base sent m in
       let a = ap (λ (c : AtCell). weight_or real_left c.slot.real) same in
       let b = ap (λ (c : AtCell). c.survey) same in
       let g = ap (gone_by (real_in s)) (ap (λ (c : AtCell). c.slot.real) same) ∙ gone_same (real_in s) in
-      omega (arith, a, b, o, x, le, g)
-
-  order_is : (b : AtBase) → t.base ≡ b → orders_left t ≡ total one_if_cell b.orders
-  order_is b h = ap (λ (x : AtBase). total one_if_cell x.orders) h
-
-  first_is : (o : Order) (os : List Order) → s.base.orders ≡ o ∷ os → orders_left s ≡ one_if_cell o + total one_if_cell os
-  first_is o os at = ap (total one_if_cell) at
-
-  same_by : (b : AtBase) → b.orders ≡ s.base.orders → t.base ≡ b → sent ≡ [] → t.cell ≡ s.cell → Lowers
-  same_by b keeps a z same =
-      let o = order_is b a in
-      let kept = ap (total one_if_cell) keeps in
-      base_by (orders_left s) 0 same (o ∙ kept) (ap sent_left z) (omega arith)
-
-  base_lowers : (cells : ℕ) → BaseMoves (here_at f k) cells e s.base i t.base sent → t.cell ≡ s.cell → Lowers
-  base_lowers cells (base_move.rests n a z) same = same_by s.base refl a z same
-  base_lowers cells (base_move.strays m n b a z) same = same_by s.base refl a z same
-  base_lowers cells (base_move.reroutes new r n has b a z) same = same_by _ refl a z same
-  base_lowers cells (base_move.offers c p n is has may a z) same = same_by _ refl a z same
-  base_lowers cells (base_move.updates u n is b a z) same = same_by _ refl a z same
-  base_lowers cells (base_move.orders_call c os r n at is has a z) same =
-      let le = first_is (order.Cell c) os at in
-      base_by (total one_if_cell os) 1 same (order_is _ a) (ap sent_left z) (omega (arith, le))
-  base_lowers cells (base_move.orders_base_call c os n at is b a z) same =
-      let le = first_is (order.Base c) os at in
-      base_by (total one_if_cell os) 0 same (order_is _ a) (ap sent_left z) (omega (arith, le))
-  base_lowers cells (base_move.offers_own c os p n at is b has may a z) same =
-      let le = first_is (order.Base c) os at in
-      base_by (total one_if_cell os) 0 same (order_is _ a) (ap sent_left z) (omega (arith, le))
-  base_lowers cells (base_move.orders_tick os n at a z) same =
-      let le = first_is order.Tick os at in
-      base_by (total one_if_cell os) 0 same (order_is _ a)
-      (ap sent_left z ∙ light_sent (map tick_to (range_with_len 0 cells))
-      (mapped_silent heavy tick_to (λ j. refl) (range_with_len 0 cells)))
-      (omega (arith, le))
-  base_lowers cells (base_move.orders_reap os r n at has a z) same =
-      let le = first_is (order.Reap e) os at in
-      base_by (total one_if_cell os) 0 same (order_is _ a) (ap sent_left z) (omega (arith, le))
-  base_lowers cells (base_move.stuck_order o os n at b a z) same = same_by s.base refl a z same
-  base_lowers cells (base_move.executes p o c n has may at item a z) same = same_by _ refl a z same
-  base_lowers cells (base_move.stuck_part p n has is may a z) same = same_by s.base refl a z same
-  base_lowers cells (base_move.shows p n has is may a z) same = same_by _ refl a z same
-  base_lowers cells (base_move.stuck_client p n has is may a z) same = same_by s.base refl a z same
+      omega (arith, a, b, g, paid)
 
   pub move_lowers : Moves f e k s i t sent → Lowers
   move_lowers (at_a_cell low m same) = cell_lowers m same
@@ -336,26 +300,13 @@ module _ (e : ℕ) where
   abbrev pub left : World → ℕ
   left w = weight node_left mine_left w
 
-  sent_by : (p : ℕ × Msg) (ps : List (ℕ × Msg)) (b : Bool) → total (λ p. mine_left p.0 p.1) ps ≡ sent_left (concerning e ps) →
-      weight_or letter_left (kept_if b p.1) + total (λ p. mine_left p.0 p.1) ps ≡ sent_left (cond b (p ∷ concerning e ps) (concerning e ps))
-  sent_by p ps true h = omega (arith, h)
-  sent_by p ps false h = omega (arith, h)
-
-  sent_is_left : (ps : List (ℕ × Msg)) → sent_weight mine_left ps ≡ sent_left (concerning e ps)
-  sent_is_left [] = refl
-  sent_is_left (p ∷ ps) = sent_by p ps (concerns e p.1) (sent_is_left ps)
-
-  input_is_left : (k : ℕ) (i : Input Msg) → input_weight mine_left k i ≡ weight_or letter_left (letter_in (mine e) i)
-  input_is_left k Task = refl
-  input_is_left k (From a m) = refl
-
   -- an event that hands the real over lowers it, and none raises it
   hands_lower : (f : Frame) (w : World) (v : Event) (o : Occurs w v) → IsInFrame f w → IsSpared e w →
       left (happens node_steps w v) + cond {A = ℕ} (hands_over e w v) 1 0 ≤ left w
   hands_lower f w v o q spared =
       let a = weight_moves node_left mine_left node_steps w v o q.sound.square (sound_sends node_laws w v o q.sound) in
-      let b = sent_is_left (node_steps o.node o.input).sent in
-      let c = input_is_left v.node o.input in
+      let b = all_sent letter_left e (node_steps o.node o.input).sent in
+      let c = input_is letter_left e v.node o.input in
       let low =
       move_lowers f e v.node (has_of e o.node) (letter_in (mine e) o.input) (has_of e (node_steps o.node o.input).state)
       (concerning e (node_steps o.node o.input).sent) (calm_of f e w v o q spared)

@@ -46,6 +46,7 @@ use Rattle.seam_rounds.proofs.Shape.{Somewhere, Nowhere, search_real}
 use Rattle.seam_copies.specs.Copies.{AreCopiesBetweenRounds}
 use Rattle.seam_copies.proofs.Loading.{home_loaded}
 use Rattle.seam_copies.proofs.Rounding.{loaded_copied}
+use Rattle.seam_base_calls.proofs.WitnessKept.{all_weaker}
 use Rattle.seam_base_rounds.specs.Parts.{MayBeLoaded}
 use Rattle.seam_base_rounds.proofs.Attaching.{sees_loaded}
 use Rattle.seam_measure.specs.Looking.{is_among, AllAmong, LooksAmong, SeesWhatIsThere}
@@ -204,6 +205,42 @@ seers_many : (s : NodeView) → length (seers_of s) ≡ witnesses_at s
 seers_many (Cell c) = refl
 seers_many (Base b) = refl
 
+-- ---- a loaded world, by a list that has the entities of its reals
+
+module _ (f : Frame) (w : World) (b : Batch) (may : MayBeLoaded f w b) (copies : AreCopiesBetweenRounds f w) (us ws : List ℕ)
+    (named : (e : ℕ) → Somewhere e (loaded w b) → is_among us e ≡ true) where
+  nobody : (e : ℕ) → Nowhere e (loaded w b) → holders (loaded w b) e ≡ 0
+  nobody e n =
+      none_counts (loaded w b) e
+      (record { slots = n; mail = λ x y. ap (letters_of real_of) (no_mail f w b may.between may.fits e x y) })
+
+  copy_named : (k : ℕ) (c : CellView) → slice_get (loaded w b).nodes k ≡ Some (Cell c) → (e : ℕ) (x : GhostCopy) →
+      copy_in (table.get c.ghosts e) ≡ Some x → Somewhere e (loaded w b) ⊎ Nowhere e (loaded w b) → is_among us e ≡ true
+  copy_named k c node e x there (inl p) = named e p
+  copy_named k c node e x there (inr n) =
+      let low = ((in_frame f w b may.between may.fits).nodes k (Cell c) node).low in
+      let none = (loaded_copied f w b may.between may.fits copies).none e (nobody e n) k low in
+      let is = ap (λ o. copy_in (slot_at (has_of e) has_none o).cell.slot.ghost) node ∙ there in
+      absurd (let z = sym none ∙ is in cc)
+
+  all_named : (ps : List (ℕ × ℕ)) → AllByRecursion (λ p. holders (loaded w b) p.0 ≡ 1) ps → AllAmong us (keys_of ps)
+  all_named [] h = tt
+  all_named (p ∷ ps) h = (named p.0 (home_loaded f w b may.between may.fits p.0 h.0), all_named ps h.1)
+
+  pub among_named : SeesWhatIsThere (loaded w b) →
+      ((k : ℕ) (c : CellView) → slice_get (loaded w b).nodes k ≡ Some (Cell c) → (e : ℕ) (r : RealView) (x : WitnessView) →
+      table.get c.reals e ≡ Some r → r.witness ≡ Some x → is_among ws e ≡ true) → LooksAmong us (λ k. ws) (loaded w b)
+  among_named sees witnesses = record {
+    reals = λ k c node e r at. named e (k, r, ap (λ o. real_in (slot_at (has_of e) has_none o)) node ∙ at);
+    copies = λ k c node e x there. copy_named k c node e x there (search_real e (loaded w b));
+    views = λ k c node e r x at has.
+        let here = ap (λ o. real_in (slot_at (has_of e) has_none o)) node ∙ at in (
+          (sees_loaded f w b may.between may.fits may.parts e k r here x has).view,
+          all_named x.view.entries (sees e k r here x has),
+        );
+    witnesses = witnesses;
+  }
+
 -- ---- a loaded world
 
 module _ (f : Frame) (w : World) (b : Batch) (may : MayBeLoaded f w b) (copies : AreCopiesBetweenRounds f w)
@@ -226,27 +263,6 @@ module _ (f : Frame) (w : World) (b : Batch) (may : MayBeLoaded f w b) (copies :
   there_named : (e : ℕ) → Somewhere e start → is_among us e ≡ true
   there_named e p = let cell = in_cell start e p.0 p.1 p.2 in real_named p.0 cell.0 cell.1 e p.1 cell.2
 
-  nobody : (e : ℕ) → Nowhere e start → holders start e ≡ 0
-  nobody e n =
-      none_counts start e
-      (record { slots = n; mail = λ x y. ap (letters_of real_of) (no_mail f w b may.between may.fits e x y) })
-
-  copy_named : (k : ℕ) (c : CellView) → slice_get start.nodes k ≡ Some (Cell c) → (e : ℕ) (x : GhostCopy) →
-      copy_in (table.get c.ghosts e) ≡ Some x → Somewhere e start ⊎ Nowhere e start → is_among us e ≡ true
-  copy_named k c node e x there (inl p) = there_named e p
-  copy_named k c node e x there (inr n) =
-      let low = ((in_frame f w b may.between may.fits).nodes k (Cell c) node).low in
-      let none = (loaded_copied f w b may.between may.fits copies).none e (nobody e n) k low in
-      let is = ap (λ o. copy_in (slot_at (has_of e) has_none o).cell.slot.ghost) node ∙ there in
-      absurd (let z = sym none ∙ is in cc)
-
-  all_named : (ps : List (ℕ × ℕ)) → AllByRecursion (λ p. holders w p.0 ≡ 1) ps → AllAmong us (keys_of ps)
-  all_named [] h = tt
-  all_named (p ∷ ps) h = (
-    there_named p.0 (home_loaded f w b may.between may.fits p.0 (holds_kept f w b may.between may.fits p.0 h.0)),
-    all_named ps h.1,
-  )
-
   abbrev SeesThere : RealView → Type 0
   SeesThere r = (x : WitnessView) → r.witness ≡ Some x → AllByRecursion (λ p. holders w p.0 ≡ 1) x.view.entries
 
@@ -257,24 +273,19 @@ module _ (f : Frame) (w : World) (b : Batch) (may : MayBeLoaded f w b) (copies :
   nothing_seen : (h : Here) (r : RealView) → SeesThere (with_witness h r)
   nothing_seen h r y has = subst SeesIn has tt
 
-  sees_start : (e k : ℕ) (r : RealView) → real_in ((entity_flow e start).slot k) ≡ Some r → SeesThere r
-  sees_start e k =
-      had_loaded SeesThere (λ h x y has. absurd (let z = has in cc))
-      (λ h r old. nothing_seen h r) (λ r old. old) e w b k (λ r at. sees e k r at)
+  sees_start : SeesWhatIsThere start
+  sees_start e k r here x has =
+      all_weaker (λ p. holders w p.0 ≡ 1) (λ p. holders start p.0 ≡ 1) x.view.entries
+      (λ p h. holds_kept f w b may.between may.fits p.0 h)
+      (had_loaded SeesThere (λ h x y has. absurd (let z = has in cc)) (λ h r old. nothing_seen h r) (λ r old. old) e w b k
+      (λ r at. sees e k r at) r here x has)
 
   among_loaded : LooksAmong us (λ k. ws) start
-  among_loaded = record {
-    reals = real_named;
-    copies = λ k c node e x there. copy_named k c node e x there (search_real e start);
-    views = λ k c node e r x at has.
-        let here = ap (λ o. real_in (slot_at (has_of e) has_none o)) node ∙ at in (
-          (sees_loaded f w b may.between may.fits may.parts e k r here x has).view,
-          all_named x.view.entries (sees_start e k r here x has),
-        );
-    witnesses = λ k c node e r x at has.
-        number_at seers_of e start.nodes k (Cell c) node
-        (passing_has has_witness e r (table.entries c.reals) (sym (table.get-entries c.reals e) ∙ at) (ap is_some has));
-  }
+  among_loaded =
+      among_named f w b may copies us ws there_named sees_start
+      (λ k c node e r x at has.
+      number_at seers_of e start.nodes k (Cell c) node
+      (passing_has has_witness e r (table.entries c.reals) (sym (table.get-entries c.reals e) ∙ at) (ap is_some has)))
 
   pub round_ends_by_records : HoldsNothing w → (v : World) (es : List Event) → LeadsTo node_has_work node_steps start es v →
       length es

@@ -8,8 +8,6 @@ use Rattle.seam_machine.specs.Totals.{total}
 use Rattle.seam_machine.proofs.Totals.{total-push}
 use Rattle.seam_runs.specs.Sums.{weight_or}
 use Rattle.seam_flows.specs.Sent.{IsSilent}
-use Rattle.seam_call.specs.declared.order.Order.{Order}
-use Rattle.seam_call.specs.declared.order.Order.TheVariants as order
 use Rattle.seam_entity.specs.Reals.{RealView}
 use Rattle.seam_entity.specs.declared.message.Msg.{Msg}
 use Rattle.seam_entity.specs.declared.message.Msg.TheVariants.{Call, BaseCall, Hand, Current, GhostSet, GhostDrop, Tick, Reap, Update}
@@ -22,14 +20,14 @@ use Rattle.seam_steps.specs.CellCases.{current_to}
 use Rattle.seam_steps.specs.Looks.{shown_of, looks_with}
 use Rattle.seam_steps.specs.BaseCases.{tick_to}
 use Rattle.seam_ones.specs.Frames.{Frame, here_at}
-use Rattle.seam_ones.specs.Sights.{Has, AtCell, AtBase}
+use Rattle.seam_ones.specs.Sights.{Has, AtCell}
 use Rattle.seam_ones.specs.CellMoves as move
 use Rattle.seam_ones.specs.CellMoves.{unlisted_if, Does, Acts, surveys, calls, readies, CellMoves}
-use Rattle.seam_ones.specs.BaseMoves as base_move
 use Rattle.seam_ones.specs.BaseMoves.{BaseMoves}
 use Rattle.seam_ones.specs.Moves.{Moves, at_a_cell, at_a_base}
 use Rattle.seam_ones.specs.Burdens.{held_in, real_burden, order_burden, letter_burden, has_burden}
 use Rattle.seam_ones.proofs.Plain.{SeesNoGhost, ghosts_silent, drops_silent, mapped_silent, numbered_silent}
+use Rattle.seam_ones.proofs.Paying.{OrdersPay, base_paid}
 use Rattle.seam_ones.proofs.HeldCounts.{turn_counts, early_counts, taken_counts}
 
 -- eyes that see what weighs something
@@ -237,53 +235,20 @@ module _ (f : Frame) (e k : ℕ) (s : Has) (i : Option Msg) (t : Has) (sent : Li
 
   -- ---- a base node: orders may go, and what was ordered is sent
 
-  base_by : (rest more : ℕ) → t.cell ≡ s.cell → orders_of t ≡ rest → sent_burden sent ≡ more → rest + more ≤ orders_of s → Eased
-  base_by rest more same o g le =
+  base_eased : (cells : ℕ) → BaseMoves (here_at f k) cells e s.base i t.base sent → t.cell ≡ s.cell → Eased
+  base_eased cells m same =
+      let none =
+      light_sent (map tick_to (range_with_len 0 cells)) (mapped_silent heavy tick_to (λ j. refl) (range_with_len 0 cells)) in
+      let pays : OrdersPay order_burden letter_burden cells = record {
+        calls = λ c. omega arith;
+        base_calls = λ c. omega arith;
+        ticks = omega (arith, none);
+        reaps = λ e. omega arith;
+      } in
+      let paid = base_paid order_burden letter_burden cells pays (here_at f k) e s.base i t.base sent m in
       let a = ap (λ c. weight_or real_burden c.slot.real) same in
       let b = ap (λ c. c.survey) same in
-      omega (arith, a, b, o, g, le)
-
-  order_is : (b : AtBase) → t.base ≡ b → orders_of t ≡ total order_burden b.orders
-  order_is b h = ap (λ x. total order_burden x.orders) h
-
-  first_is : (o : Order) (os : List Order) → s.base.orders ≡ o ∷ os → orders_of s ≡ order_burden o + total order_burden os
-  first_is o os at = ap (total order_burden) at
-
-  same_by : (b : AtBase) → b.orders ≡ s.base.orders → t.base ≡ b → sent ≡ [] → t.cell ≡ s.cell → Eased
-  same_by b keeps a z same =
-      let o = order_is b a in
-      let kept = ap (total order_burden) keeps in
-      base_by (orders_of s) 0 same (o ∙ kept) (ap sent_burden z) (omega arith)
-
-  base_eased : (cells : ℕ) → BaseMoves (here_at f k) cells e s.base i t.base sent → t.cell ≡ s.cell → Eased
-  base_eased cells (base_move.rests n a z) same = same_by s.base refl a z same
-  base_eased cells (base_move.strays m n b a z) same = same_by s.base refl a z same
-  base_eased cells (base_move.reroutes new r n has b a z) same = same_by _ refl a z same
-  base_eased cells (base_move.offers c p n is has may a z) same = same_by _ refl a z same
-  base_eased cells (base_move.updates u n is b a z) same = same_by _ refl a z same
-  base_eased cells (base_move.orders_call c os r n at is has a z) same =
-      let le = first_is (order.Cell c) os at in
-      base_by (total order_burden os) 3 same (order_is _ a) (ap sent_burden z) (omega (arith, le))
-  base_eased cells (base_move.orders_base_call c os n at is b a z) same =
-      let le = first_is (order.Base c) os at in
-      base_by (total order_burden os) 0 same (order_is _ a) (ap sent_burden z) (omega (arith, le))
-  base_eased cells (base_move.offers_own c os p n at is b has may a z) same =
-      let le = first_is (order.Base c) os at in
-      base_by (total order_burden os) 0 same (order_is _ a) (ap sent_burden z) (omega (arith, le))
-  base_eased cells (base_move.orders_tick os n at a z) same =
-      let le = first_is order.Tick os at in
-      base_by (total order_burden os) 0 same (order_is _ a)
-      (ap sent_burden z ∙ light_sent (map tick_to (range_with_len 0 cells))
-      (mapped_silent heavy tick_to (λ j. refl) (range_with_len 0 cells)))
-      (omega (arith, le))
-  base_eased cells (base_move.orders_reap os r n at has a z) same =
-      let le = first_is (order.Reap e) os at in
-      base_by (total order_burden os) 1 same (order_is _ a) (ap sent_burden z) (omega (arith, le))
-  base_eased cells (base_move.stuck_order o os n at b a z) same = same_by s.base refl a z same
-  base_eased cells (base_move.executes p o c n has may at item a z) same = same_by _ refl a z same
-  base_eased cells (base_move.stuck_part p n has is may a z) same = same_by s.base refl a z same
-  base_eased cells (base_move.shows p n has is may a z) same = same_by _ refl a z same
-  base_eased cells (base_move.stuck_client p n has is may a z) same = same_by s.base refl a z same
+      omega (arith, a, b, paid)
 
   -- no move raises it
   pub eased : Moves f e k s i t sent → Eased

@@ -26,10 +26,7 @@ use Rattle.seam_ones.proofs.Burdening.{eased}
 
 -- ---- numbers of what a node has of an entity and of messages about it, in a world
 
-module _ (F : Has → ℕ) (G : Msg → ℕ) (e : ℕ) where
-  abbrev node_weight : NodeView → ℕ
-  node_weight n = F (has_of e n)
-
+module _ (G : Msg → ℕ) (e : ℕ) where
   abbrev mine_weight : ℕ → Msg → ℕ
   mine_weight k m = weight_or G (mine e m)
 
@@ -41,23 +38,29 @@ module _ (F : Has → ℕ) (G : Msg → ℕ) (e : ℕ) where
   sent_by p ps true h = omega (arith, h)
   sent_by p ps false h = omega (arith, h)
 
-  sent_is : (ps : List (ℕ × Msg)) → sent_weight mine_weight ps ≡ sent_weighs (concerning e ps)
+  -- what is sent weighs what of it concerns the entity does
+  pub sent_is : (ps : List (ℕ × Msg)) → sent_weight mine_weight ps ≡ sent_weighs (concerning e ps)
   sent_is [] = refl
   sent_is (p ∷ ps) = sent_by p ps (concerns e p.1) (sent_is ps)
 
-  input_is : (k : ℕ) (i : Input Msg) → input_weight mine_weight k i ≡ weight_or G (letter_in (mine e) i)
+  -- and so does what is fed
+  pub input_is : (k : ℕ) (i : Input Msg) → input_weight mine_weight k i ≡ weight_or G (letter_in (mine e) i)
   input_is k Task = refl
   input_is k (From a m) = refl
 
+module _ (F : Has → ℕ) (G : Msg → ℕ) (e : ℕ) where
+  abbrev node_weight : NodeView → ℕ
+  node_weight n = F (has_of e n)
+
   -- where a step does not raise them, the event does not
   pub event_eases : (f : Frame) (w : World) (v : Event) (o : Occurs w v) → IsInFrame f w →
-      F (has_of e (node_steps o.node o.input).state) + sent_weighs (concerning e (node_steps o.node o.input).sent)
+      F (has_of e (node_steps o.node o.input).state) + sent_weighs G e (concerning e (node_steps o.node o.input).sent)
       ≤ F (has_of e o.node) + weight_or G (letter_in (mine e) o.input) →
-      weight node_weight mine_weight (happens node_steps w v) ≤ weight node_weight mine_weight w
+      weight node_weight (mine_weight G e) (happens node_steps w v) ≤ weight node_weight (mine_weight G e) w
   event_eases f w v o q less =
-      let a = weight_moves node_weight mine_weight node_steps w v o q.sound.square (sound_sends node_laws w v o q.sound) in
-      let b = sent_is (node_steps o.node o.input).sent in
-      let c = input_is v.node o.input in
+      let a = weight_moves node_weight (mine_weight G e) node_steps w v o q.sound.square (sound_sends node_laws w v o q.sound) in
+      let b = sent_is G e (node_steps o.node o.input).sent in
+      let c = input_is G e v.node o.input in
       omega (arith, a, b, c, less)
 
 -- what no event raises, no list of events does
@@ -93,7 +96,7 @@ module _ (f : Frame) (e : ℕ) (w : World) (v : Event) (o : Occurs w v) (q : IsI
   pub came_small : burden e w < limit → (r : RealView) → letter_in (mine e) o.input ≡ Some (Hand r) → real_burden r < limit
   came_small few r is =
       let a = weight_bounds (node_burden e) (mine_burden e) w v o in
-      let b = input_is has_burden letter_burden e v.node o.input in
+      let b = input_is letter_burden e v.node o.input in
       let c = ap (weight_or letter_burden) is in
       omega (arith, a, b, c, few)
 
@@ -102,7 +105,7 @@ module _ (f : Frame) (e : ℕ) (w : World) (v : Event) (o : Occurs w v) (q : IsI
       letter_in (mine e) o.input ≡ Some (Reap e) → real_burden r + 1 < limit
   reaped_small few r has is =
       let a = weight_bounds (node_burden e) (mine_burden e) w v o in
-      let b = input_is has_burden letter_burden e v.node o.input in
+      let b = input_is letter_burden e v.node o.input in
       let c = ap (weight_or letter_burden) is in
       let d = ap (weight_or real_burden) has in
       omega (arith, a, b, c, d, few)

@@ -16,7 +16,6 @@ use Rattle.seam_ones.specs.Frames.{Frame}
 use Rattle.seam_ones.specs.Sights.{Has, entity_flow}
 use Rattle.seam_ones.specs.Ones.{IsSpared, IsFrame, HasOne}
 use Rattle.seam_ones.proofs.OneReal.{goes, room, one_happens, calm_of, spared_happens}
-use Rattle.seam_ones.proofs.Holds.{both}
 use Rattle.seam_ones.specs.Ways.{is_visited, follow, NamesVisited, AllLead}
 use Rattle.seam_ones.proofs.WayMoves.{leads}
 use Rattle.seam_ones.proofs.Leading.{lead_goes}

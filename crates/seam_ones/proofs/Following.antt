@@ -1,5 +1,5 @@
 -- Calls that follow: lists of letters joined and parted.
-use Rattle.std.proofs.Common.{◌≡◌, Bool, true, false, not, ◌&&◌, ◌||◌, List, [], ◌∷◌, ◌++◌, refl, subst}
+use Rattle.std.proofs.Common.{◌≡◌, Bool, true, false, not, ◌||◌, List, [], ◌∷◌, ◌++◌, refl, subst}
 use Rattle.seam_entity.specs.declared.message.Msg.{Msg}
 use Rattle.seam_ones.proofs.Holds.{both, all_two as two}
 use Rattle.seam_ones.specs.Ways.{is_call, is_hand, has_hand, follow}

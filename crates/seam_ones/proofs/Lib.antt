@@ -12,6 +12,7 @@ pub mod Plain
 pub mod Replaying
 pub mod Handling
 pub mod HeldCounts
+pub mod Paying
 pub mod Burdening
 pub mod Easing
 pub mod Sparing

@@ -56,7 +56,7 @@ haunts_in f r low (j ∷ js) =
     (haunts_in f r low js)
 
 module _ (f : Frame) (e ty k : ℕ) where
-  may_land : (r : RealView) → ty < length f.defs → RealFits f e ty k r → real_burden r < limit → may_come (here_at f k) f.tree r ≡ true
+  pub may_land : (r : RealView) → ty < length f.defs → RealFits f e ty k r → real_burden r < limit → may_come (here_at f k) f.tree r ≡ true
   may_land r known is few =
       let ps = properties (here_at f k) r.ty in
       let type = is.type in

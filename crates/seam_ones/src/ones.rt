@@ -8,10 +8,10 @@
 //! that no step raises and that has versions, beats and generations in it, so that they stay small (`specs/Burdens`).
 //!
 //! Crates above cite these modules of `proofs`: `OneReal` (an event and a list of events), `Counting` (holders and the one place),
-//! `Gone` (a Reap, and an entity that no one has), `Easing` (what is yet to do after an event), `Handling` and `RealsKept` (what each
-//! move does with the real), `Replaying` (the calls that it executed), `Sparing` (an entity that no one reaps), `ExampleMet` (the
-//! example, node by node), `Plain` (sends that some eyes do not see), `HeldCounts` (held calls after an offer) and `Holds` (that they
-//! all pass a test, and what two tests pass).
+//! `Gone` (a Reap, and an entity that no one has), `Easing` (what is yet to do after an event), `Paying` (orders that weigh no less than
+//! what is sent for them), `Handling` and `RealsKept` (what each move does with the real), `Replaying` (the calls that it executed),
+//! `Sparing` (an entity that no one reaps), `ExampleMet` (the example, node by node), `Plain` (sends that some eyes do not see),
+//! `HeldCounts` (held calls after an offer) and `Holds` (that they all pass a test, and what two tests pass).
 
 ghost use Rattle.std.specs.Prelude.{◌≡◌, ℕ, ◌<◌, ◌≤◌, List, length, Some};
 ghost use Rattle.seam_machine.specs.Nets.{happens, run, AllEnabled, LeadsTo};

@@ -6,12 +6,11 @@ use Rattle.std.specs.FinMap as table
 use Rattle.std.proofs.lemmas.Bool.{cases_eq, eqb-true}
 use Rattle.seam_machine.specs.Nets.{link, letter, input_from, happens}
 use Rattle.seam_machine.specs.Events.{Occurs}
-use Rattle.seam_machine.specs.Totals.{total}
 use Rattle.seam_machine.specs.declared.machines.Input.{Input}
 use Rattle.seam_machine.specs.declared.machines.Input.TheVariants.{Task, From}
 use Rattle.seam_machine.specs.declared.machines.Event.{Event}
 use Rattle.seam_runs.specs.Sums.{weight_or}
-use Rattle.seam_runs.specs.Weights.{input_weight, sent_weight}
+use Rattle.seam_runs.specs.Weights.{input_weight}
 use Rattle.seam_runs.proofs.Soundness.{sound_sends}
 use Rattle.seam_runs.proofs.Weighing.{weight_moves, weight_bounds}
 use Rattle.seam_flows.specs.Flows.{Flow, Goes, comes, letter_in, letters_of, more_letter, slot_at}
@@ -29,25 +28,12 @@ use Rattle.seam_ones.specs.Sights.{Has, concerns, kept_if, mine, concerning, has
 use Rattle.seam_ones.specs.Moves.{MovesTo}
 use Rattle.seam_ones.proofs.Classify.{node_laws, node_moves, frame_happens, event_moves_with}
 use Rattle.seam_ones.specs.Ones.{real_in}
+use Rattle.seam_ones.proofs.Easing.{sent_is, input_is}
 use Rattle.seam_rounds.proofs.Shape.{items_each}
 use Rattle.seam_rounds.proofs.Calm.{IsCalmAt, IsCalmTo, letter_reaps, node_reaps, mine_reaps, reaps_of, one_if, IsCalm}
 use Rattle.seam_rounds.proofs.CalmMoves.{sent_reaps, Calmed, stays, ends, Comes, calmed}
 
 -- ---- weights
-
-sent_by : (e : ℕ) (p : ℕ × Msg) (ps : List (ℕ × Msg)) (b : Bool) → total (λ p. mine_reaps e p.0 p.1) ps ≡ sent_reaps (concerning e ps) →
-    weight_or letter_reaps (kept_if b p.1) + total (λ p. mine_reaps e p.0 p.1) ps
-    ≡ sent_reaps (cond b (p ∷ concerning e ps) (concerning e ps))
-sent_by e p ps true h = omega (arith, h)
-sent_by e p ps false h = omega (arith, h)
-
-sent_is : (e : ℕ) (ps : List (ℕ × Msg)) → sent_weight (mine_reaps e) ps ≡ sent_reaps (concerning e ps)
-sent_is e [] = refl
-sent_is e (p ∷ ps) = sent_by e p ps (concerns e p.1) (sent_is e ps)
-
-input_is : (e k : ℕ) (i : Input Msg) → input_weight (mine_reaps e) k i ≡ weight_or letter_reaps (letter_in (mine e) i)
-input_is e k Task = refl
-input_is e k (From a m) = refl
 
 light_by : (b : Bool) (m : Msg) → letter_reaps m ≡ 0 → weight_or letter_reaps (kept_if b m) ≡ 0
 light_by true m h = h
@@ -116,7 +102,7 @@ module _ (f : Frame) (e home : ℕ) (r : RealView) (low : home < cell_count) (no
     reap_waits : (x : ℕ) → fed ≡ Some (Reap x) → 1 ≤ reaps_of e w
     reap_waits x is =
         let a = weight_bounds (node_reaps e) (mine_reaps e) w v o in
-        let b = input_is e v.node o.input in
+        let b = input_is letter_reaps e v.node o.input in
         let d = ap (weight_or letter_reaps) is in
         omega (arith, a, b, d)
 
@@ -195,7 +181,7 @@ module _ (f : Frame) (e home : ℕ) (r : RealView) (low : home < cell_count) (no
     weighs =
         let a = weight_moves (node_reaps e) (mine_reaps e) node_steps w v o c.frame.sound.square
         (sound_sends node_laws w v o c.frame.sound) in
-        let b = sent_is e (node_steps o.node o.input).sent in
+        let b = sent_is letter_reaps e (node_steps o.node o.input).sent in
         let d = weighs_by node_what in
         omega (arith, a, b, d)
 
@@ -230,7 +216,7 @@ module _ (f : Frame) (e home : ℕ) (r : RealView) (low : home < cell_count) (no
         omega (arith, a, b, same, had)
     reaps_by (dead is gone) =
         let a = weighs in
-        let b = input_is e v.node o.input ∙ ap (weight_or letter_reaps) is in
+        let b = input_is letter_reaps e v.node o.input ∙ ap (weight_or letter_reaps) is in
         let q = waits_by told (real_in (flow.slot home)) (reaps_of e w) (reap_waits e is) c.reaps in
         let zero = ap (λ x. cond {A = ℕ} x (one_if (real_in ((entity_flow e next).slot home))) 0) q.2 ∙ ap one_if gone in
         let one = q.3 in

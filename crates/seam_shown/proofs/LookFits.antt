@@ -9,23 +9,19 @@ use Rattle.seam_runs.proofs.Runs.{leads_keeps}
 use Rattle.seam_flows.specs.Flows.{comes, slot_at}
 use Rattle.seam_flows.proofs.Following.{slots_kept}
 use Rattle.seam_call.specs.declared.order.Order.TheVariants as order
-use Rattle.seam_entity.specs.declared.message.Msg.{Msg}
-use Rattle.seam_entity.specs.Here.{Here}
 use Rattle.seam_entity.specs.Reals.{RealView, WitnessView}
-use Rattle.seam_steps.specs.Bases.{BaseView, RouteView}
+use Rattle.seam_steps.specs.Bases.{BaseView}
 use Rattle.seam_steps.specs.Cells.{CellView}
 use Rattle.seam_steps.specs.Nodes.{NodeView, World, node_steps, node_has_work}
 use Rattle.seam_steps.specs.Nodes.NodeView.{Cell, Base}
 use Rattle.seam_steps.specs.Loads.{order_if, ordered_at, look_loaded}
-use Rattle.seam_ones.specs.Frames.{Frame, here_at, IsInFrame}
-use Rattle.seam_ones.specs.Sights.{Has, AtBase, has_of, has_none, entity_flow}
-use Rattle.seam_ones.specs.BaseMoves as move
-use Rattle.seam_ones.specs.BaseMoves.{BaseMoves}
-use Rattle.seam_ones.specs.Moves.{Moves, at_a_cell, at_a_base}
+use Rattle.seam_ones.specs.Frames.{Frame, IsInFrame}
+use Rattle.seam_ones.specs.Sights.{has_of, has_none, entity_flow}
 use Rattle.seam_ones.proofs.Classify.{event_moves, frame_happens}
 use Rattle.seam_ones.specs.Ones.{real_in}
 use Rattle.seam_rounds.specs.Between.{IsBetweenRounds}
 use Rattle.seam_rounds.proofs.Giving.{look_framed}
+use Rattle.seam_base_calls.proofs.RoutesKept.{HasRoute, route_moves}
 use Rattle.seam_copies.specs.Places.{WasThere}
 use Rattle.seam_replica.specs.Clients.{ClientReplica, after_all_shown}
 use Rattle.seam_replica.specs.Looks.{one_look}
@@ -36,35 +32,6 @@ use Rattle.seam_shown.proofs.LookRuns.{tick_order}
 use Rattle.seam_shown.proofs.LookEnds.{looked}
 
 -- ---- a route stays one
-
-abbrev HasRoute : AtBase → Type 0
-HasRoute b = (r : RouteView) × (b.route ≡ Some r)
-
-module _ (h : Here) (cells e : ℕ) (s : AtBase) (i : Option Msg) (t : AtBase) (sent : List (ℕ × Msg)) where
-  kept : t.route ≡ s.route → HasRoute s → HasRoute t
-  kept is r = (r.0, is ∙ r.1)
-
-  route_stays : BaseMoves h cells e s i t sent → HasRoute s → HasRoute t
-  route_stays (move.rests n a z) r = kept (ap (λ b. b.route) a) r
-  route_stays (move.strays m n b a z) r = kept (ap (λ b. b.route) a) r
-  route_stays (move.reroutes new x n has b a z) r = (_, ap (λ b. b.route) a)
-  route_stays (move.offers c p n own has may a z) r = kept (ap (λ b. b.route) a) r
-  route_stays (move.updates u n own b a z) r = kept (ap (λ b. b.route) a) r
-  route_stays (move.orders_call c os x n at own has a z) r = kept (ap (λ b. b.route) a) r
-  route_stays (move.orders_base_call c os n at own b a z) r = kept (ap (λ b. b.route) a) r
-  route_stays (move.offers_own c os p n at own b has may a z) r = kept (ap (λ b. b.route) a) r
-  route_stays (move.orders_tick os n at a z) r = kept (ap (λ b. b.route) a) r
-  route_stays (move.orders_reap os x n at has a z) r = kept (ap (λ b. b.route) a) r
-  route_stays (move.stuck_order o os n at b a z) r = kept (ap (λ b. b.route) a) r
-  route_stays (move.executes p o c n has may at item a z) r = kept (ap (λ b. b.route) a) r
-  route_stays (move.stuck_part p n has v may a z) r = kept (ap (λ b. b.route) a) r
-  route_stays (move.shows p n has v may a z) r = kept (ap (λ b. b.route) a) r
-  route_stays (move.stuck_client p n has v may a z) r = kept (ap (λ b. b.route) a) r
-
-route_moves : (f : Frame) (e k : ℕ) (s : Has) (i : Option Msg) (t : Has) (sent : List (ℕ × Msg)) → Moves f e k s i t sent →
-    HasRoute s.base → HasRoute t.base
-route_moves f e k s i t sent (at_a_cell low m same) r = (r.0, ap (λ b. b.route) same ∙ r.1)
-route_moves f e k s i t sent (at_a_base high m same) r = route_stays (here_at f k) _ e s.base i t.base sent m r
 
 module _ (f : Frame) (u : World) (x : ℕ) where
   -- each node that had a route in u has one

@@ -1,4 +1,4 @@
-use Rattle.std.proofs.Common.{◌≡◌, ℕ, ◌<◌, ◌≤◌, ◌⊎◌, true, inl, inr, Some, ap, ◌∙◌, arith}
+use Rattle.std.proofs.Common.{◌≡◌, ℕ, ◌<◌, true, inl, inr, Some, ap, ◌∙◌, arith}
 use Rattle.std.specs.FinSet as set
 use Rattle.seam_tree.specs.Division.{cells_of}
 use Rattle.seam_entity.specs.Here.{cell_count}
