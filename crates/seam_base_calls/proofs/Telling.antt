@@ -176,14 +176,14 @@ Looked e w v o c =
 
 module _ (f : Frame) (e : ℕ) (w : World) (v : Event) (o : Occurs w v) (frame : IsInFrame f w) (P : RealView → Type 0)
     (by_witness : ByWitness P) (each : EachReal e P w) where
-  abbrev then : World
-  then = happens node_steps w v
+  abbrev after : World
+  after = happens node_steps w v
 
   -- by what the node does with the witness
   module _ (Fact : Has → Option Msg → Has → List (ℕ × Msg) → Type 0)
-      (g : Goes (λ k s i t out. (m : MovesTo f e k s i t out) × Fact s i t m.sent) (entity_flow e w) (entity_flow e then)) where
-    each_then : ((r : RealView) → real_in ((entity_flow e then).slot g.k) ≡ Some r → P r) →
-        AllByRecursion (λ p. OfReal P p.1) g.moves.0.sent → EachReal e P then
+      (g : Goes (λ k s i t out. (m : MovesTo f e k s i t out) × Fact s i t m.sent) (entity_flow e w) (entity_flow e after)) where
+    each_then : ((r : RealView) → real_in ((entity_flow e after).slot g.k) ≡ Some r → P r) →
+        AllByRecursion (λ p. OfReal P p.1) g.moves.0.sent → EachReal e P after
     each_then slot sends = record {
       cells = slots_kept (λ k s. (r : RealView) → real_in s ≡ Some r → P r) g each.cells slot;
       hands =
@@ -195,7 +195,7 @@ module _ (f : Frame) (e : ℕ) (w : World) (v : Event) (o : Occurs w v) (frame :
   IsStill s i t sent = (real_in t ≡ real_in s) × (sent ≡ [])
 
   still_each : IsStill (has_of e o.node) (letter_in (mine e) o.input) (has_of e (node_steps o.node o.input).state)
-      (concerning e (node_steps o.node o.input).sent) → EachReal e P then
+      (concerning e (node_steps o.node o.input).sent) → EachReal e P after
   still_each fact =
       let g = event_fact f e w v o frame IsStill fact in
       each_then IsStill g (λ r has. each.cells g.k r (sym g.moves.1.0 ∙ has))
@@ -205,11 +205,11 @@ module _ (f : Frame) (e : ℕ) (w : World) (v : Event) (o : Occurs w v) (frame :
   IsNotTaken s i t sent = NotTaken s.cell i t.cell
 
   elsewhere_each : NotTaken (has_of e o.node).cell (letter_in (mine e) o.input) (has_of e (node_steps o.node o.input).state).cell →
-      EachReal e P then
+      EachReal e P after
   elsewhere_each fact =
       let g = event_fact f e w v o frame IsNotTaken fact in
       let held =
-      moves_hold P by_witness f e g.k ((entity_flow e w).slot g.k) (comes g.input) ((entity_flow e then).slot g.k) g.moves.0.sent
+      moves_hold P by_witness f e g.k ((entity_flow e w).slot g.k) (comes g.input) ((entity_flow e after).slot g.k) g.moves.0.sent
       (each.cells g.k) (λ r is. (came (λ a k m. OfReal P m) g (Hand r) is each.hands).1 r refl) g.moves.1 g.moves.0.moves in
       each_then IsNotTaken g held.slot held.sends
 
@@ -218,10 +218,10 @@ module _ (f : Frame) (e : ℕ) (w : World) (v : Event) (o : Occurs w v) (frame :
     IsLook s i t sent = (l : LooksAt (base_of at e) e at known s.cell t.cell sent) × P (looked_at at known l.real l.witness)
 
     looks_each : IsLook (has_of e o.node) (letter_in (mine e) o.input) (has_of e (node_steps o.node o.input).state)
-        (concerning e (node_steps o.node o.input).sent) → EachReal e P then
+        (concerning e (node_steps o.node o.input).sent) → EachReal e P after
     looks_each fact =
         let g = event_fact f e w v o frame IsLook fact in
-        let l : LooksAt (base_of at e) e at known ((entity_flow e w).slot g.k).cell ((entity_flow e then).slot g.k).cell g.moves.0.sent =
+        let l : LooksAt (base_of at e) e at known ((entity_flow e w).slot g.k).cell ((entity_flow e after).slot g.k).cell g.moves.0.sent =
         g.moves.1.0 in
         each_then IsLook g
         (λ r has. let one : looked_at at known l.real l.witness ≡ r = let z = sym l.is ∙ has in cc in subst P one g.moves.1.1)
@@ -229,7 +229,7 @@ module _ (f : Frame) (e : ℕ) (w : World) (v : Event) (o : Occurs w v) (frame :
         (subst (IsSilent real_of) (sym l.tells) (numbered_unreal (base_of at e) e l.witness.sent _)))
 
   module _ (look : (c : CellView) → o.node ≡ Cell c → (l : Looked e w v o c) → P (looked_at c.here (known_to c e) l.real l.witness)) where
-    each_by : (n : NodeView) → o.node ≡ n → EachReal e P then
+    each_by : (n : NodeView) → o.node ≡ n → EachReal e P after
     each_by (Base n) is =
         elsewhere_each
         (subst (λ s. NotTaken (has_of e s).cell (letter_in (mine e) o.input) (has_of e (node_steps s o.input).state).cell) (sym is)
@@ -242,12 +242,12 @@ module _ (f : Frame) (e : ℕ) (w : World) (v : Event) (o : Occurs w v) (frame :
         (cell_looks c node.keys e o.input))
       where
         by : Look e c.here (known_to c e) (has_of e o.node).cell (letter_in (mine e) o.input)
-            (has_of e (node_steps o.node o.input).state).cell (concerning e (node_steps o.node o.input).sent) → EachReal e P then
+            (has_of e (node_steps o.node o.input).state).cell (concerning e (node_steps o.node o.input).sent) → EachReal e P after
         by (still same none) = still_each (same, none)
         by (elsewhere not) = elsewhere_each not
         by (looks l) = looks_each c.here (known_to c e) (l, look c is l)
 
-    pub each_looked : EachReal e P then
+    pub each_looked : EachReal e P after
     each_looked = each_by o.node refl
 
 -- ---- how much a look tells

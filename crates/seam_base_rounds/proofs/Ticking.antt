@@ -118,7 +118,7 @@ idle_looks e (Base n) h = refl
 
 -- ---- how often a witness is to look, by the orders
 
-abbrev pub order_ticks : Order → ℕ
+abbrev order_ticks : Order → ℕ
 order_ticks (order.Cell c) = 0
 order_ticks (order.Base c) = 0
 order_ticks order.Tick = 1
