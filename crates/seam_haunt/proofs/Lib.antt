@@ -1,3 +1,4 @@
 pub mod Chosen
 pub mod Around
 pub mod Settling
+mod Resting

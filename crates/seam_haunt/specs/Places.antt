@@ -51,3 +51,13 @@ IsPlaceAfter d t was start path after =
 abbrev pub last_of : Pos → List Pos → Pos
 last_of start [] = start
 last_of start (p ∷ path) = last_of p path
+
+-- the place needs no settling at the position: the home is near enough; a cell with a ghost is another one of the tree, and not too
+-- far; and each other cell that is near has one
+pub record IsAtRest (d : Distances) (t : Division) (place : Place) (p : Pos) : Type 0 where
+  pub home : distance_to_cell t place.home p ≤ d.kept
+  pub there : (cell : ℕ) → IsTrue (set.contains place.ghosts cell) → cell < cells_of t
+  pub away : (cell : ℕ) → IsTrue (set.contains place.ghosts cell) → cell ≢ place.home
+  pub not_far : (cell : ℕ) → IsTrue (set.contains place.ghosts cell) → distance_to_cell t cell p ≤ d.far
+  pub near : (cell : ℕ) → cell < cells_of t → cell ≢ place.home → distance_to_cell t cell p ≤ d.near →
+      IsTrue (set.contains place.ghosts cell)

@@ -16,7 +16,7 @@ ghost use Rattle.seam_haunt.specs.Haunts.{haunts_of, is_close, IsHaunt};
 
 mod laws;
 
-pub use laws::places_are_settled;
+pub use laws::{a_place_at_rest_stays, places_are_settled};
 use seam_geo::{Pos, Rect};
 use seam_tree::{CellSet, Tree};
 
