@@ -1,11 +1,13 @@
 -- One real: each live entity has exactly one, at every step of a round.
-use Rattle.std.specs.Prelude.{◌≡◌, ℕ, List, Some}
+use Rattle.std.specs.Prelude.{◌≡◌, ℕ, List, Some, if◌then◌else◌}
+use Rattle.std.specs.List.{AllByRecursion}
 use Rattle.seam_machine.specs.Nets.{LeadsTo}
 use Rattle.seam_machine.specs.declared.machines.Event.{Event}
 use Rattle.seam_call.specs.declared.create.Create.{Create}
 use Rattle.seam_steps.specs.Holders.{holders}
 use Rattle.seam_steps.specs.Loads.{loaded, reaps_loaded, look_loaded}
 use Rattle.seam_steps.specs.Nodes.{World, node_steps, node_has_work}
+use Rattle.seam_rounds.specs.Rounds.{reap_comes}
 use Rattle.seam_copies.specs.Places.{GoesThroughRound}
 use Rattle.seam_toml.specs.declared.header.Header.{Header}
 use Rattle.seam_transcript.specs.Book.{live_as}
@@ -17,10 +19,19 @@ use Rattle.seam_rules.specs.Standing.{Standing}
 abbrev pub KeepsOneReal : World → ℕ → Type 0
 KeepsOneReal w e = (es : List Event) (v : World) → LeadsTo node_has_work node_steps w es v → holders v e ≡ 1
 
+-- or none
+abbrev pub KeepsNoReal : World → ℕ → Type 0
+KeepsNoReal w e = (es : List Event) (v : World) → LeadsTo node_has_work node_steps w es v → holders v e ≡ 0
+
 -- While the round of the standing s is played from w to v, each live entity has one real: as the calls happen, each that lived when the
--- round began or that it makes; as the dead are reaped and the witnesses look, each that lives on. So it is after each event of the round,
+-- round began or that it makes; as the dead are reaped and the witnesses look, each that lives on; one that
+-- dies has it until its Reap comes, and none from then on. So it is after each event of the round,
 -- and would be in any other order of events.
 pub record HasOneReal (h : Header) (s : Standing) (w v : World) (round : GoesThroughRound w (batch_of h s.book) v) : Type 0 where
   pub calls : (e : ℕ) (made : Create) → IsPresent s.book e made → KeepsOneReal (loaded w (batch_of h s.book)) e
   pub reaps : (e : ℕ) (made : Create) → live_as s.book e ≡ Some made → KeepsOneReal (reaps_loaded round.called round.gone) e
+  pub until : (e : ℕ) (made : Create) → IsPresent s.book e made → (es : List Event) (u : World) →
+      LeadsTo node_has_work node_steps (reaps_loaded round.called round.gone) es u →
+      holders u e ≡ (if reap_comes e (reaps_loaded round.called round.gone) es then 0 else 1)
+  pub gone : AllByRecursion (KeepsNoReal (look_loaded round.reaped)) round.gone
   pub looks : (e : ℕ) (made : Create) → live_as s.book e ≡ Some made → KeepsOneReal (look_loaded round.reaped) e

@@ -117,6 +117,7 @@ pub fn each_entity_has_one_real_through_a_round()
         (round : GoesThroughRound w (batch_of h s.book) v) → HasEnded h s.book w v round → HasOneReal h s w v round }
 {
     seam_ones::holders_are_at_one_place();
+    seam_rounds::reaps_end_reals();
     seam_laws::calls_obey_the_laws();
     seam_laws::reaps_obey_the_laws();
     seam_laws::looks_obey_the_laws();

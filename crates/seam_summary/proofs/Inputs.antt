@@ -24,9 +24,9 @@ use Rattle.seam_transcript.proofs.HeaderLemmas.{header_is_one}
 use Rattle.seam_transcript.proofs.OneSender.{accepted_is_own}
 use Rattle.seam_transcript.proofs.Verdicts.{verdict_is_one_of}
 use Rattle.seam_rules.specs.Standing.{Standing, after_header, with_line, with_book}
-use Rattle.seam_rules.specs.Transcript.{Piece, EndsRound, Follows, Step, EndsInput}
+use Rattle.seam_rules.specs.Transcript.{Piece, EndsRound, Follows, Step, EndsInput, PrintAll}
 use Rattle.seam_summary.specs.declared.totals.Sums.{Sums}
-use Rattle.seam_summary.specs.Summary.{all_sums, PrintAll, AsksForNeither, however}
+use Rattle.seam_summary.specs.Summary.{all_sums, AsksForNeither}
 use Rattle.seam_summary.proofs.Pieces.{sums_of_append}
 use Rattle.seam_summary.proofs.Moved.{held_at}
 use Rattle.seam_summary.proofs.Rounds.{same_sums, book_left, left_same}
@@ -90,9 +90,9 @@ module _ (h : Header) (one : ℕ → Sender) where
     left : v ≡ held_at t places
     still : IsStill one t.book
 
-  rounds_agree : (s t v : Standing) (places : ℕ → Place) (ps qs : List Piece) → IsStill one s.book → EndsRound however h s ps t →
-      EndsRound however h (held_at s places) qs v → Agree ps qs t v
-  rounds_agree s t v places ps qs was (r, j, is, x, _) (q, k, is', y, _) = record {
+  rounds_agree : (s t v : Standing) (places : ℕ → Place) (ps qs : List Piece) → IsStill one s.book → EndsRound h s ps t →
+      EndsRound h (held_at s places) qs v → Agree ps qs t v
+  rounds_agree s t v places ps qs was (r, j, is, x) (q, k, is', y) = record {
     sums =
         ap all_sums is
         ∙ ap (λ (n : Sums). n ∷ []) (same_sums h one s t v places r q x y was.own was.none was.still) ∙ sym (ap all_sums is');
@@ -112,15 +112,15 @@ module _ (h : Header) (one : ℕ → Sender) where
   }
 
   keeps_agree : (full : Bool) (s t v : Standing) (places : ℕ → Place) (ps qs : List Piece) → IsStill one s.book →
-      MatchBool full (EndsRound however h s ps t) ((ps ≡ []) × (t ≡ s)) →
-      MatchBool full (EndsRound however h (held_at s places) qs v) ((qs ≡ []) × (v ≡ held_at s places)) → Agree ps qs t v
+      MatchBool full (EndsRound h s ps t) ((ps ≡ []) × (t ≡ s)) →
+      MatchBool full (EndsRound h (held_at s places) qs v) ((qs ≡ []) × (v ≡ held_at s places)) → Agree ps qs t v
   keeps_agree true s t v places ps qs was x y = rounds_agree s t v places ps qs was x y
   keeps_agree false s t v places ps qs was x y =
       nothing_agrees s t v places ps qs was (ap all_sums x.0) (ap all_sums y.0) x.1 y.1
 
   follows_agree : (s t v : Standing) (places : ℕ → Place) (line : Line) (w : Verdict) (ps qs : List Piece) → CallIsFrom one line →
-      AsksForNeither line → IsStill one s.book → Judges h s.book line w → Follows however h (with_line s) w ps t
-      → Follows however h (with_line (held_at s places)) w qs v → Agree ps qs t v
+      AsksForNeither line → IsStill one s.book → Judges h s.book line w → Follows h (with_line s) w ps t
+      → Follows h (with_line (held_at s places)) w qs v → Agree ps qs t v
   follows_agree s t v places line verdict.Skipped ps qs names asks was judged x y =
       nothing_agrees (with_line s) t v places ps qs was (ap all_sums x.0) (ap all_sums y.0) x.1 y.1
   follows_agree s t v places line (verdict.Refused c) ps qs names asks was judged x y =
@@ -131,15 +131,15 @@ module _ (h : Header) (one : ℕ → Sender) where
   follows_agree s t v places line verdict.Synced ps qs names asks was judged x y = rounds_agree (with_line s) t v places ps qs was x y
 
   step_agrees : (s t v : Standing) (places : ℕ → Place) (line : Line) (ps qs : List Piece) → AreDefs h.defs → CallIsFrom one line →
-      AsksForNeither line → IsStill one s.book → Step however h s line ps t → Step however h (held_at s places) line qs v → Agree ps qs t v
+      AsksForNeither line → IsStill one s.book → Step h s line ps t → Step h (held_at s places) line qs v → Agree ps qs t v
   step_agrees s t v places line ps qs are names asks was (w, judged, x) (w', judged', y) =
       let verdict : w ≡ w' = verdict_is_one_of h s.book line w w' are judged judged' in
       follows_agree s t v places line w ps qs names asks was judged x
-      (subst (λ (k : Verdict). Follows however h (with_line (held_at s places)) k qs v) (sym verdict) y)
+      (subst (λ (k : Verdict). Follows h (with_line (held_at s places)) k qs v) (sym verdict) y)
 
   runs_agree : (lines : List Line) (s t v : Standing) (places : ℕ → Place) (ps qs : List Piece) → AreDefs h.defs →
-      All (CallIsFrom one) lines → All AsksForNeither lines → IsStill one s.book → Run (Step however h) s lines ps t
-      → Run (Step however h) (held_at s places) lines qs v → Agree ps qs t v
+      All (CallIsFrom one) lines → All AsksForNeither lines → IsStill one s.book → Run (Step h) s lines ps t
+      → Run (Step h) (held_at s places) lines qs v → Agree ps qs t v
   runs_agree [] s t v places ps qs are names asks was x y =
       nothing_agrees s t v places ps qs was (ap all_sums x.0) (ap all_sums y.0) x.1 y.1
   runs_agree (line ∷ lines) s t v places ps qs are names asks was (a, b, mid, is, step, rest) (c, d, mid', is', step', rest') =
@@ -148,7 +148,7 @@ module _ (h : Header) (one : ℕ → Sender) where
       step step' in
       let others =
       runs_agree lines mid t v first.places b d are (All-tail (CallIsFrom one) line lines names) (All-tail AsksForNeither line lines asks)
-      first.still rest (subst (λ (k : Standing). Run (Step however h) k lines d v) first.left rest') in
+      first.still rest (subst (λ (k : Standing). Run (Step h) k lines d v) first.left rest') in
       record {
         sums =
             ap all_sums is ∙ sums_of_append a b ∙ (λ i. first.sums i ++ others.sums i) ∙ sym (ap all_sums is' ∙ sums_of_append c d);
@@ -158,8 +158,8 @@ module _ (h : Header) (one : ℕ → Sender) where
       }
 
   last_agrees : (none : Bool) (s : Standing) (places : ℕ → Place) (ps qs : List Piece) → IsStill one s.book →
-      MatchBool none (ps ≡ []) ((t : Standing) × EndsRound however h s ps t) →
-      MatchBool none (qs ≡ []) ((t : Standing) × EndsRound however h (held_at s places) qs t) → all_sums ps ≡ all_sums qs
+      MatchBool none (ps ≡ []) ((t : Standing) × EndsRound h s ps t) →
+      MatchBool none (qs ≡ []) ((t : Standing) × EndsRound h (held_at s places) qs t) → all_sums ps ≡ all_sums qs
   last_agrees true s places ps qs was x y = ap all_sums (x ∙ sym y)
   last_agrees false s places ps qs was x y = (rounds_agree s x.0 y.0 places ps qs was x.1 y.1).sums
 
@@ -175,21 +175,21 @@ after_the_header : (P : Line → Type 0) (h : Header) (lines rest : List Line) (
 after_the_header P h lines rest n all begins =
     All-tail P separator rest (All_after P begins.head (separator ∷ rest) (subst (All P) begins.whole all))
 
-pub sums_are_one : (one : ℕ → Sender) (lines : List Line) (ps qs : List Piece) → All (CallIsFrom one) lines →
-    All AsksForNeither lines → PrintAll lines ps → PrintAll lines qs → all_sums ps ≡ all_sums qs
-sums_are_one one lines ps qs names asks (h, a, b, t, prints, ends, is) (k, c, d, v, prints', ends', is') =
+pub sums_are_one : (one : ℕ → Sender) (lines : List Line) (h k : Header) (ps qs : List Piece) → All (CallIsFrom one) lines →
+    All AsksForNeither lines → PrintAll lines h ps → PrintAll lines k qs → all_sums ps ≡ all_sums qs
+sums_are_one one lines h k ps qs names asks (a, b, t, prints, ends, is) (c, d, v, prints', ends', is') =
     let same = header_is_one lines h k prints.count prints'.count prints.rest prints'.rest prints.header prints'.header in
-    let run' : Run (Step however h) (after_header h prints.count) prints.rest c v =
-    subst (λ (ls : List Line). Run (Step however h) (after_header h prints.count) ls c v) (sym same.2)
-    (subst (λ (n : ℕ). Run (Step however h) (after_header h n) prints'.rest c v) (sym same.1)
-    (subst (λ (j : Header). Run (Step however j) (after_header j prints'.count) prints'.rest c v) (sym same.0) prints'.run)) in
+    let run' : Run (Step h) (after_header h prints.count) prints.rest c v =
+    subst (λ (ls : List Line). Run (Step h) (after_header h prints.count) ls c v) (sym same.2)
+    (subst (λ (n : ℕ). Run (Step h) (after_header h n) prints'.rest c v) (sym same.1)
+    (subst (λ (j : Header). Run (Step j) (after_header j prints'.count) prints'.rest c v) (sym same.0) prints'.run)) in
     let start = after_header h prints.count in
     let run =
     runs_agree h one prints.rest start t v start.places a c (reads_defs prints.header.text h prints.header.reads)
     (after_the_header (CallIsFrom one) h lines prints.rest prints.count names prints.header)
     (after_the_header AsksForNeither h lines prints.rest prints.count asks prints.header)
     (record { own = All-nil (IsFrom one); none = refl; still = refl }) prints.run run' in
-    let ends_here : EndsInput however h (held_at t run.places) d =
-    subst (λ (s : Standing). EndsInput however h s d) run.left (subst (λ (j : Header). EndsInput however j v d) (sym same.0) ends') in
+    let ends_here : EndsInput h (held_at t run.places) d =
+    subst (λ (s : Standing). EndsInput h s d) run.left (subst (λ (j : Header). EndsInput j v d) (sym same.0) ends') in
     let last = last_agrees h one (open_lines t.book == 0) t run.places b d run.still ends ends_here in
     ap all_sums is ∙ sums_of_append a b ∙ (λ i. run.sums i ++ last i) ∙ sym (ap all_sums is' ∙ sums_of_append c d)

@@ -5,6 +5,5 @@ mod Inputs
 mod Moved
 pub mod Pieces
 mod Plain
-pub mod Played
 mod Rounds
 mod Storm

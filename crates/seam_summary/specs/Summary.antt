@@ -1,5 +1,5 @@
 -- The summary of a run: one line in place of all that is printed.
-use Rattle.std.specs.Prelude.{◌≡◌, ⊤, ℕ, ℤ, pos, ◌+ℤ◌, List, [], ◌∷◌, ◌++◌, length, map, fold, filter_map, codes, Option, None, Some}
+use Rattle.std.specs.Prelude.{◌≡◌, ℕ, ℤ, pos, ◌+ℤ◌, List, [], ◌∷◌, ◌++◌, length, map, fold, filter_map, codes, Option, None, Some}
 use Rattle.std.specs.List.{sum_by}
 use Rattle.seam_io.specs.Lines.{Line}
 use Rattle.seam_value.specs.Values.{text_of}
@@ -14,7 +14,7 @@ use Rattle.seam_transcript.specs.Round.{HomeLine}
 use Rattle.seam_transcript.specs.Texts.{field}
 use Rattle.seam_rules.specs.Standing.{Standing}
 use Rattle.seam_rules.specs.Lines.{RoundData}
-use Rattle.seam_rules.specs.Transcript.{Piece, Refusal, Ended, Play, PrintLines, EndsInput}
+use Rattle.seam_rules.specs.Transcript.{Piece, Refusal, Ended}
 use Rattle.seam_summary.specs.declared.totals.Sums.{Sums}
 use Rattle.seam_summary.specs.declared.totals.Totals.{Totals}
 
@@ -32,7 +32,7 @@ sums_of r = record { did = length r.did; shown = length r.shown; hp = fold (λ n
 
 abbrev pub round_of : Piece → Option RoundData
 round_of (Refusal line c) = None
-round_of (Ended s r j) = Some r
+round_of (Ended s r j t) = Some r
 
 -- of each round that ended, in order
 abbrev pub all_sums : List Piece → List Sums
@@ -55,19 +55,6 @@ totals_text n t =
 
 abbrev pub summary_text : (n : ℕ) → List Piece → List ℕ
 summary_text n pieces = totals_text n (totals_of (all_sums pieces))
-
--- all pieces that are printed for an input, by its end, with rounds that are played so
-abbrev pub PrintAllBy : Play → List Line → List Piece → Type 0
-PrintAllBy IsPlayed lines pieces =
-    (h : Header) × (first last : List Piece) × (t : Standing) × PrintLines IsPlayed lines h first t × EndsInput IsPlayed h t last
-    × (pieces ≡ first ++ last)
-
--- however its rounds are played
-abbrev pub however : Play
-however h s r j t = ⊤
-
-abbrev pub PrintAll : List Line → List Piece → Type 0
-PrintAll lines pieces = PrintAllBy however lines pieces
 
 -- the line asks neither for a tick nor for a balance
 abbrev pub AsksForNeither : Line → Type 0

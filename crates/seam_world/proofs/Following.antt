@@ -15,18 +15,17 @@ use Rattle.seam_transcript.specs.declared.verdict.Verdict.TheVariants as verdict
 use Rattle.seam_transcript.specs.declared.limits.TheConstants.{MOST_LINES}
 use Rattle.seam_rules.specs.Standing.{Standing, with_line, with_book}
 use Rattle.seam_rules.specs.Lines.{RoundData}
-use Rattle.seam_rules.specs.Transcript.{Piece, Refusal, Ended, played_text}
-use Rattle.seam_world.specs.Transcripts.{EndsRound}
+use Rattle.seam_rules.specs.Transcript.{Piece, Refusal, Ended, played_text, EndsRound}
 use Rattle.seam_world.specs.Output.{round_output, refusal_output, output_of}
 use Rattle.seam_world.specs.declared.round.Output.{Output}
 use Rattle.seam_world.specs.declared.round.Output.TheVariants as output
 use Rattle.seam_world.specs.Following.{RoundEnds, LineFollowed, LineRead, InputEnded}
 
-one_piece : (o : Output) (defs : List TypeDef) (s : Standing) (r : RoundData) (j : Journal) →
-    output_of o defs (Ended s r j ∷ []) ≡ round_output o defs r j
-one_piece output.Rounds defs s r j = append-nil (played_text false defs r j)
-one_piece output.TracedRounds defs s r j = append-nil (played_text true defs r j)
-one_piece output.Sums defs s r j = refl
+one_piece : (o : Output) (defs : List TypeDef) (s : Standing) (r : RoundData) (j : Journal) (t : Standing) →
+    output_of o defs (Ended s r j t ∷ []) ≡ round_output o defs r j
+one_piece output.Rounds defs s r j t = append-nil (played_text false defs r j)
+one_piece output.TracedRounds defs s r j t = append-nil (played_text true defs r j)
+one_piece output.Sums defs s r j t = refl
 
 one_refusal : (o : Output) (defs : List TypeDef) (line : ℕ) (c : Cause) → output_of o defs (Refusal line c ∷ []) ≡ refusal_output o line c
 one_refusal output.Rounds defs line c = append-nil (refusal line c)
@@ -54,10 +53,10 @@ module _ (o : Output) (h : Header) (t : Standing) where
   synced line refines text steps judges ends = record {
     verdict = verdict.Synced;
     judges = judges;
-    pieces = Ended t ends.round steps ∷ [];
+    pieces = Ended t ends.round steps ends.next ∷ [];
     next = ends.next;
-    follows = (ends.round, steps, refl, ends.legal, ends.played);
-    whole = ends.whole ∙ sym (one_piece o h.defs t ends.round steps);
+    follows = (ends.round, steps, refl, ends.legal);
+    whole = ends.whole ∙ sym (one_piece o h.defs t ends.round steps ends.next);
     stepped = refl;
     after = ends.after;
   }
@@ -69,7 +68,7 @@ module _ (o : Output) (h : Header) (t : Standing) where
   kept_last line x refines text steps judges full ends =
       let at : Standing = with_book t (with_entry t.book x) in
       let test : (open_lines at.book == MOST_LINES) ≡ true = grind (arith, common_steps, full) in
-      let pieces : List Piece = Ended at ends.round steps ∷ [] in
+      let pieces : List Piece = Ended at ends.round steps ends.next ∷ [] in
       record {
         verdict = verdict.Accepted x;
         judges = judges;
@@ -77,8 +76,8 @@ module _ (o : Output) (h : Header) (t : Standing) where
         next = ends.next;
         follows =
             subst (λ (b : Bool). MatchBool b (EndsRound h at pieces ends.next) ((pieces ≡ []) × (ends.next ≡ at))) (sym test)
-            (ends.round, steps, refl, ends.legal, ends.played);
-        whole = ends.whole ∙ sym (one_piece o h.defs at ends.round steps);
+            (ends.round, steps, refl, ends.legal);
+        whole = ends.whole ∙ sym (one_piece o h.defs at ends.round steps ends.next);
         stepped = refl;
         after = ends.after;
       }
@@ -131,13 +130,13 @@ module _ (o : Output) (h : Header) (t : Standing) where
       RoundEnds o h t refines text steps → InputEnded o h t counts text (steps ∷ [])
   last_round counts refines text steps count some ends =
       let test : (open_lines t.book == 0) ≡ false = grind (arith, common_steps, some) in
-      let pieces : List Piece = Ended t ends.round steps ∷ [] in
+      let pieces : List Piece = Ended t ends.round steps ends.next ∷ [] in
       record {
         pieces = pieces;
         ends =
             subst (λ (b : Bool). MatchBool b (pieces ≡ []) ((next : Standing) × EndsRound h t pieces next)) (sym test)
-            (ends.next, (ends.round, steps, refl, ends.legal, ends.played));
-        whole = ends.whole ∙ sym (one_piece o h.defs t ends.round steps);
+            (ends.next, (ends.round, steps, refl, ends.legal));
+        whole = ends.whole ∙ sym (one_piece o h.defs t ends.round steps ends.next);
         stepped = refl;
         counted = count pieces ends.next ends.after;
       }

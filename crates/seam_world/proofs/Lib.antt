@@ -10,3 +10,4 @@ mod RunLemmas
 mod HeaderRuns
 mod Completing
 mod StormRuns
+mod Worlds

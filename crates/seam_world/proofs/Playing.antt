@@ -18,18 +18,18 @@ use Rattle.seam_rules.specs.Texts.{traced_text, journal_text}
 use Rattle.seam_rules.specs.Transcript.{played_text}
 use Rattle.seam_played.specs.Beside.{StandsBeside}
 use Rattle.seam_played.specs.Playing.{IsPlayed}
-use Rattle.seam_quiet.specs.Rounds.{StandsFor}
+use Rattle.seam_quiet.specs.Rounds.{StandsFor, IsWithinTable}
 use Rattle.seam_world.specs.Transcripts.{HasSteps}
 use Rattle.seam_world.specs.Rounds.{start_text}
 
 -- the phases of the round of the batch that a standing's open lines bring make a played round, whose calls ended in the world u, and whose
 -- steps the journal has
 pub played_so : (h : Header) (s : Standing) (tree : Division) (w v u : World) (given : Batch) (j : Journal) → StandsBeside h s tree w →
-    given ≡ batch_of h s.book → (x : StandsFor w given j v) × (x.round.called ≡ u) → (made live : List Create) →
+    given ≡ batch_of h s.book → (x : StandsFor w given j v) × (x.round.called ≡ u) × IsWithinTable w given j x.round.reaped → (made live : List Create) →
     Lists (created_as s.book) made → Lists (live_as s.book) live →
-    (p : IsPlayed h s tree w v) × (p.round.called ≡ u) × HasSteps p.round j
+    (p : IsPlayed h s tree w v) × (p.round.called ≡ u) × HasSteps p.round j × IsWithinTable w (batch_of h s.book) j p.round.reaped
 played_so h s tree w v u given j beside is stood made live made_listed live_listed =
-    let x = subst (λ b. (x : StandsFor w b j v) × (x.round.called ≡ u)) is stood in (
+    let x = subst (λ b. (x : StandsFor w b j v) × (x.round.called ≡ u) × IsWithinTable w b j x.round.reaped) is stood in (
       record {
         beside = beside;
         round = x.0.round;
@@ -41,6 +41,7 @@ played_so h s tree w v u given j beside is stood made live made_listed live_list
       },
       x.1,
       record { calls = sym x.0.calls; reaps = sym x.0.reaps; looks = sym x.0.looks },
+      x.2,
     )
 
 -- ---- the text of a round, appended part by part

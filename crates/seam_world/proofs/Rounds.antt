@@ -1,4 +1,5 @@
 -- What a played round leaves.
+use Rattle.std.proofs.lemmas.Option.{same_Some}
 use Rattle.std.proofs.Common.{◌≡◌, ℕ, ◌+◌, ◌<◌, Bool, true, false, List, [], ◌∷◌, Option, None, Some, map, refl, sym, ap, ◌∙◌, subst, arith}
 use Rattle.std.specs.Prelude.{IsTrue, IsFalse}
 use Rattle.seam_geo.specs.declared.pos.Pos.{Pos}
@@ -17,6 +18,8 @@ use Rattle.seam_rules.specs.Standing.{Standing}
 use Rattle.seam_rules.specs.Transcript.{Ended}
 use Rattle.seam_summary.specs.declared.totals.Sums.{Sums}
 use Rattle.seam_summary.specs.declared.totals.Totals.{Totals}
+use Rattle.seam_accept.specs.Batches.{batch_of}
+use Rattle.seam_quiet.specs.Rounds.{IsWithinTable}
 use Rattle.seam_played.specs.Playing.{IsPlayed, data_of, standing_of}
 use Rattle.seam_course.specs.Course.{GoesOn}
 use Rattle.seam_course.specs.OneReal.{HasOneReal}
@@ -24,7 +27,6 @@ use Rattle.seam_course.specs.Radius.{ClientsSeeAll}
 use Rattle.seam_print.specs.Residents.{AreResidents}
 use Rattle.seam_print.specs.declared.residents.Resident.{Resident}
 use Rattle.seam_world.specs.Transcripts.{Plays, HasSteps}
-use Rattle.seam_world.specs.Transcripts.IsWorldOf.{plays}
 use Rattle.seam_world.specs.Rounds.{IsBalancedBy, HasPlayed}
 use Rattle.seam_world.specs.Output.{AddsSums, Counts, round_output, sums_if}
 use Rattle.seam_world.specs.Script.{IsReady, Refines}
@@ -63,26 +65,30 @@ module _ (h : Header) (t : Standing) (tree : Division) (w v : World) (p : IsPlay
   right_by true is kept balanced bounds by = subst IsRight (sym by.1) (balanced is by.0 by.3 by.4 by.2)
   right_by false is kept balanced bounds by = subst IsRight (sym by) (kept is)
 
-  pub plays_so : (j : Journal) → HasSteps p.round j → (bounds : Option Division) → Plays h t w v (printed bounds) j (next bounds)
-  plays_so j steps bounds = record {
+  pub plays_so : (j : Journal) → HasSteps p.round j → IsWithinTable w (batch_of h t.book) j p.round.reaped → HasOneReal h t w v p.round →
+      (bounds : Option Division) → ClientsSeeAll h t (printed bounds) (next bounds) → Plays h t w (printed bounds) j (next bounds) v
+  plays_so j steps within one_real bounds sees_all = record {
     round = p.round;
     ended = p.ended;
     steps = steps;
+    within = within;
     made = p.made;
     made_listed = p.made_listed;
     live = p.live;
     live_listed = p.live_listed;
     prints = refl;
     leaves = refl;
+    one_real = one_real;
+    sees_all = sees_all;
   }
 
 -- ---- what is summed up of it
 
-counted : (o : Output) (s : Standing) (r : RoundData) (j : Journal) (old new : Totals) (sums : Option Sums) → AddsSums old sums new →
-    sums ≡ sums_if o r → Counts o old new (Ended s r j ∷ [])
-counted output.Rounds s r j old new sums adds is = added_none old new (subst (λ x. AddsSums old x new) is adds)
-counted output.TracedRounds s r j old new sums adds is = added_none old new (subst (λ x. AddsSums old x new) is adds)
-counted output.Sums s r j old new sums adds is = subst (λ x. AddsSums old x new) is adds
+counted : (o : Output) (s : Standing) (r : RoundData) (j : Journal) (t : Standing) (old new : Totals) (sums : Option Sums) → AddsSums old sums new →
+    sums ≡ sums_if o r → Counts o old new (Ended s r j t ∷ [])
+counted output.Rounds s r j t old new sums adds is = added_none old new (subst (λ x. AddsSums old x new) is adds)
+counted output.TracedRounds s r j t old new sums adds is = added_none old new (subst (λ x. AddsSums old x new) is adds)
+counted output.Sums s r j t old new sums adds is = subst (λ x. AddsSums old x new) is adds
 
 -- ---- the script after it
 
@@ -104,23 +110,15 @@ module _ (o : Output) (h : Header) (t : Standing) (old new : Script) (ready : Is
       new.round ≡ old.round + 1 → HoldsBook h after.book new.book → AddsSums old.totals left.sums new.totals →
       RoundEnds o h t (Refines o h old new)
       (round_output o h.defs (printed h t ready.has.tree ready.has.world left.world p left.bounds) left.journal) left.journal
-  unfolding plays_so
   round_ended kept balanced one_real sees_all header world live line round book adds =
       let right =
       right_by h t ready.has.tree ready.has.world left.world p (has_balance t.book) refl kept balanced left.bounds has.bounds in
-      let so = plays_so h t ready.has.tree ready.has.world left.world p left.journal has.steps left.bounds in
+      let so =
+      plays_so h t ready.has.tree ready.has.world left.world p left.journal has.steps has.within one_real left.bounds (sees_all _ after) in
       record {
         round = printed h t ready.has.tree ready.has.world left.world p left.bounds;
         next = after;
         legal = right.0;
-        played = record {
-          before = ready.has.world;
-          after = left.world;
-          of_standing = ready.has.of_standing;
-          plays_ = so;
-          one_real = one_real;
-          sees_all = sees_all _ after;
-        };
         whole = refl;
         after = (
           record {
@@ -128,7 +126,6 @@ module _ (o : Output) (h : Header) (t : Standing) (old new : Script) (ready : Is
               header = header ∙ ready.has.header;
               world = left.world;
               is = world;
-              of_standing = plays t after ready.has.world left.world _ left.journal ready.has.of_standing so;
               tree = tree_of t.book;
               goes_on = right.1;
               residents =
@@ -142,6 +139,16 @@ module _ (o : Output) (h : Header) (t : Standing) (old new : Script) (ready : Is
             below_most =
                 next_book (λ b. open_lines b < MOST_LINES) (with_round_ended t.book) (omega arith) (λ u. omega arith) left.bounds;
           },
-          counted o t _ left.journal old.totals new.totals left.sums adds has.sums,
+          counted o t _ left.journal after old.totals new.totals left.sums adds has.sums,
+          λ w of_old. (
+            left.world,
+            world,
+            (
+              left.world,
+              subst (λ u. Plays h t u (printed h t ready.has.tree ready.has.world left.world p left.bounds) left.journal after left.world)
+                  (same_Some ready.has.world w (sym ready.has.is ∙ of_old)) so,
+              refl,
+            ),
+          ),
         );
       }

@@ -6,6 +6,9 @@ use Rattle.std.proofs.lemmas.List.Concat.{flat_map-append}
 use Rattle.std.proofs.lemmas.List.Elements.{filter_map-append}
 use Rattle.std.specs.Prelude.{MatchOption, ◌⊎◌}
 use Rattle.std.specs.Io.KnownBytes.{Appends}
+use Rattle.std.proofs.lemmas.Option.{same_Some}
+use Rattle.seam_steps.specs.Nodes.{World}
+use Rattle.seam_steps.specs.Loads.{opened}
 use Rattle.seam_io.specs.Causes.{Rose}
 use Rattle.seam_io.specs.States.{SourceState, SinkState}
 use Rattle.seam_io.specs.Lines.{Line, whole_lines_of}
@@ -13,17 +16,17 @@ use Rattle.seam_io.specs.Reading.{Reader, Reading, IsExact}
 use Rattle.seam_io.specs.declared.lines.Next.TheVariants as next
 use Rattle.seam_toml.specs.declared.header.Header.{Header}
 use Rattle.seam_rules.specs.Standing.{after_header}
-use Rattle.seam_rules.specs.Transcript.{Piece, journals_of, journal_of}
+use Rattle.seam_rules.specs.Transcript.{Piece, Step, PrintLines, PrintAll, journals_of, journal_of}
 use Rattle.seam_summary.specs.Summary.{totals_of}
 use Rattle.seam_summary.specs.declared.totals.Totals.{Totals}
 use Rattle.seam_transcript.proofs.RunLemmas.{run_with_line}
 use Rattle.seam_transcript.proofs.HeaderLemmas.{header_of_append}
-use Rattle.seam_world.specs.Transcripts.{Step, PrintLines, IsOpen, IsEnded}
+use Rattle.seam_world.specs.Transcripts.{PlayRounds, WerePlayed, IsOpen, IsEnded}
 use Rattle.seam_world.specs.Following.{LineRead, InputEnded}
 use Rattle.seam_world.specs.Output.{Counts, output_of, piece_output, sums_for, text_output}
 use Rattle.seam_world.specs.declared.round.Output.{Output}
 use Rattle.seam_world.specs.declared.round.Output.TheVariants as output
-use Rattle.seam_world.specs.Script.{ScriptRefines, Refines}
+use Rattle.seam_world.specs.Script.{ScriptRefines, Refines, PlaysOn}
 use Rattle.seam_world.specs.Storm.{StormEnds, TellsOfStorm}
 use Rattle.seam_world.specs.Status.{IsRunEnd}
 use Rattle.seam_watch.specs.Watching.{Told, after_all}
@@ -36,6 +39,7 @@ use Rattle.seam_world.specs.declared.script.Script.{Script}
 use Rattle.seam_world.specs.declared.status.Status.{Status}
 use Rattle.seam_world.specs.declared.status.Status.TheVariants as status
 use Rattle.seam_world.proofs.Counting.{counted_after}
+use Rattle.seam_world.proofs.Worlds.{played_then}
 use Rattle.seam_world.proofs.Prefixes.{are_first, within_limit}
 use Rattle.seam_world.proofs.PrintLemmas.{nothing_printed}
 use Rattle.seam_world.proofs.HeaderRuns.{nothing_judged}
@@ -107,6 +111,7 @@ module _ (o : Output) (began : SourceState) (sink : SinkState) (told : Told) (no
     watched = g.watched;
     run = g.run;
     refines = g.refines;
+    played = g.played;
     counted = g.counted;
   }
 
@@ -114,7 +119,7 @@ module _ (o : Output) (began : SourceState) (sink : SinkState) (told : Told) (no
   so_far = record { count = g.count; rest = g.rest; header = g.begins; run = g.run }
 
   open_so_far : OpenAs o g.read text steps
-  open_so_far = inr (g.header, g.pieces, g.standing, so_far, refl, refl)
+  open_so_far = inr (g.header, g.pieces, g.standing, so_far, (g.refines.has.world, g.played), refl, refl)
 
   -- the sink failed before the next line was read
   pub failed_before : (totals : Totals) → FailedWithin sink is (output_of o g.header.defs g.pieces) →
@@ -145,6 +150,14 @@ module _ (o : Output) (began : SourceState) (sink : SinkState) (told : Told) (no
     told_no_more : has ≡ had → has ≡ after_all the_space steps told
     told_no_more same = same ∙ g.watched
 
+    -- the world of the script played these rounds too
+    played_more : (pieces : List Piece) (left : Option World) (v : World) → left ≡ Some v → PlaysOn g.header script.world left pieces →
+        PlayRounds g.header (opened g.header.defs g.header.settings) (g.pieces ++ pieces) v
+    played_more pieces left v is on =
+        let (next, left_is, played) = on g.refines.has.world g.refines.has.is in
+        played_then g.header (opened g.header.defs g.header.settings) g.refines.has.world v g.pieces pieces g.played
+        (subst (λ (u : World). PlayRounds g.header g.refines.has.world pieces u) (same_Some next v (sym left_is ∙ is)) played)
+
     going_on : (line : Line) (got piece pending' : List ℕ) (more : List Journal) (new : Script) →
         Reading began later after (g.given ++ got) (g.read ++ line ∷ []) →
         LineRead o g.header g.standing line (Refines o g.header script new) piece more → Printed sink is pending' (text ++ piece)
@@ -168,6 +181,7 @@ module _ (o : Output) (began : SourceState) (sink : SinkState) (told : Told) (no
       run = run_with_line (Step g.header) (after_header g.header g.count) g.rest g.pieces g.standing line taken.pieces taken.next g.run
           taken.step;
       refines = taken.after.0;
+      played = played_more taken.pieces new.world taken.after.0.has.world taken.after.0.has.is taken.after.2;
       counted = counted_after o g.pieces taken.pieces script.totals new.totals g.counted taken.after.1;
     }
 
@@ -185,22 +199,28 @@ module _ (o : Output) (began : SourceState) (sink : SinkState) (told : Told) (no
         run = run_with_line (Step g.header) (after_header g.header g.count) g.rest g.pieces g.standing line taken.pieces taken.next g.run
             taken.step;
       },
+      (
+        taken.after.0.has.world,
+        played_more taken.pieces new.world taken.after.0.has.world taken.after.0.has.is taken.after.2,
+      ),
       ap (λ (x : List ℕ). text ++ x) taken.whole ∙ sym (text_with taken.pieces),
       ap (λ (js : List Journal). steps ++ js) taken.stepped ∙ sym (steps_with taken.pieces),
     )
 
-    ended : (piece : List ℕ) (more : List Journal) → InputEnded o g.header g.standing (Counts o script.totals totals) piece more →
+    -- what is given of the end, and the world that the script is left with
+    abbrev Left : Option World → List Piece → Type 0
+    Left left pieces = Counts o script.totals totals pieces × PlaysOn g.header script.world left pieces
+
+    ended : (left : Option World) (piece : List ℕ) (more : List Journal) → InputEnded o g.header g.standing (Left left) piece more →
         EndedAs o totals g.read (text ++ piece) (steps ++ more)
-    ended piece more l = (
+    ended left piece more l = (
       g.header,
-      g.pieces,
-      l.pieces,
-      g.standing,
-      so_far,
-      l.ends,
+      g.pieces ++ l.pieces,
+      (g.pieces, l.pieces, g.standing, so_far, l.ends, refl),
+      let (v, is, played) = l.counted.1 g.refines.has.world g.refines.has.is in (v, played_more l.pieces left v is l.counted.1),
       ap (λ (x : List ℕ). text ++ x) l.whole ∙ sym (text_with l.pieces),
       ap (λ (js : List Journal). steps ++ js) l.stepped ∙ sym (steps_with l.pieces),
-      counted_after o g.pieces l.pieces script.totals totals g.counted l.counted,
+      counted_after o g.pieces l.pieces script.totals totals g.counted l.counted.0,
     )
 
     first_so_far : (got : List ℕ) (more : List Line) → Reading began later after (g.given ++ got) (g.read ++ more) →
@@ -249,33 +269,33 @@ module _ (o : Output) (began : SourceState) (sink : SinkState) (told : Told) (no
         let at = r.ended end.0 in
         (at.1, at.0, end.1)
 
-    pub done : (got : List ℕ) → Reading began later after (g.given ++ got) (g.read ++ []) → IsExact next.End after (g.given ++ got) g.read
-        → Prints (InputEnded o g.header g.standing (Counts o script.totals totals)) sink is [] (output_of o g.header.defs g.pieces) had has None →
+    pub done : (left : Option World) (got : List ℕ) → Reading began later after (g.given ++ got) (g.read ++ []) → IsExact next.End after (g.given ++ got) g.read
+        → Prints (InputEnded o g.header g.standing (Left left)) sink is [] (output_of o g.header.defs g.pieces) had has None →
         Stopped o totals status.Done began later sink is told has
-    done got r exact (piece, more, ends, p, given) =
+    done left got r exact (piece, more, ends, p, given) =
         let at = r.ended (exact.ended.0 refl).0 in
         let count = r.count in
         let low = at.2 in
         let bound = most in
         all_written o totals began later after sink is told has status.Done (g.given ++ got) _ (text ++ piece) (steps ++ more) r most p
-        (told_so_far more given) (λ e. cc) tt (omega arith, g.read, all_of got r exact, ended piece more ends)
+        (told_so_far more given) (λ e. cc) tt (omega arith, g.read, all_of got r exact, ended left piece more ends)
 
-    pub last_printed : (got : List ℕ) (st : Status) → Reading began later after (g.given ++ got) (g.read ++ []) →
+    pub last_printed : (left : Option World) (got : List ℕ) (st : Status) → Reading began later after (g.given ++ got) (g.read ++ []) →
         IsExact next.End after (g.given ++ got) g.read
-        → Prints (InputEnded o g.header g.standing (Counts o script.totals totals)) sink is [] (output_of o g.header.defs g.pieces) had has (Some st) →
+        → Prints (InputEnded o g.header g.standing (Left left)) sink is [] (output_of o g.header.defs g.pieces) had has (Some st) →
         Stopped o totals st began later sink is told has
-    last_printed got status.NoMemory r exact p = no_memory got [] r p.0 p.1
-    last_printed got status.WriteFault r exact (inl f) =
+    last_printed left got status.NoMemory r exact p = no_memory got [] r p.0 p.1
+    last_printed left got status.WriteFault r exact (inl f) =
         sink_failed o totals began later after sink is told has (g.given ++ got) _ text steps r most f.0 (told_no_more f.1)
         (first_so_far got [] r)
-    last_printed got status.WriteFault r exact (inr (piece, more, ends, f, given)) =
+    last_printed left got status.WriteFault r exact (inr (piece, more, ends, f, given)) =
         sink_failed o totals began later after sink is told has (g.given ++ got) _ (text ++ piece) (steps ++ more) r most f
-        (told_so_far more given) (g.read, inr (all_of got r exact, ended piece more ends))
-    last_printed got status.Done r exact p = absurd p
-    last_printed got status.Usage r exact p = absurd p
-    last_printed got (status.BadHeader k) r exact p = absurd p
-    last_printed got status.ReadFault r exact p = absurd p
-    last_printed got status.Limit r exact p = absurd p
+        (told_so_far more given) (g.read, inr (all_of got r exact, ended left piece more ends))
+    last_printed left got status.Done r exact p = absurd p
+    last_printed left got status.Usage r exact p = absurd p
+    last_printed left got (status.BadHeader k) r exact p = absurd p
+    last_printed left got status.ReadFault r exact p = absurd p
+    last_printed left got status.Limit r exact p = absurd p
 
     whole_open : (got : List ℕ) → whole_lines_of (g.given ++ got) ≡ g.read → OpenAs o (whole_lines_of (g.given ++ got)) text steps
     whole_open got e = subst (λ (x : List Line). OpenAs o x text steps) (sym e) open_so_far
@@ -317,9 +337,9 @@ module _ (o : Output) (began : SourceState) (sink : SinkState) (told : Told) (no
 -- the run goes on after the header
 pub after_a_header : (o : Output) (began now : SourceState) (reader : Reader) (sink : SinkState) (told : Told) (h : Header) (count : ℕ)
     (pending : List ℕ) (script : Script) → HasHeader began now reader h count → pending ≡ [] →
-    ScriptRefines h (after_header h count) script → script.totals ≡ totals_of [] →
+    ScriptRefines h (after_header h count) script → script.totals ≡ totals_of [] → script.world ≡ Some (opened h.defs h.settings) →
     Going o began now reader sink sink told told pending script
-after_a_header o began now reader sink told h count pending script has none refines totals = record {
+after_a_header o began now reader sink told h count pending script has none refines totals world = record {
   header = h;
   count = count;
   given = has.given;
@@ -334,6 +354,7 @@ after_a_header o began now reader sink told h count pending script has none refi
   watched = told_nothing the_space told;
   run = (refl, refl);
   refines = refines;
+  played = same_Some refines.has.world (opened h.defs h.settings) (sym refines.has.is ∙ world);
   counted = totals ∙ sym (ap totals_of (nothing_for o));
 }
   where
@@ -365,10 +386,10 @@ tells_of_text : (traced : Bool) (totals : Totals) (st : Status) (old new : Sourc
     Tells (IsOpen traced) (IsEnded traced) st old new given t js
 tells_of_text true totals st old new given t js =
     tells_others (OpenAs output.TracedRounds) (EndedAs output.TracedRounds totals) (IsOpen true) (IsEnded true) (λ ls t js x. x)
-    (λ ls t js x. (x.0, x.1, x.2, x.3, x.4, x.5, x.6, x.7)) old new given t js st
+    (λ ls t js x. (x.0, x.1, x.2, x.3, x.4, x.5)) old new given t js st
 tells_of_text false totals st old new given t js =
     tells_others (OpenAs output.Rounds) (EndedAs output.Rounds totals) (IsOpen false) (IsEnded false) (λ ls t js x. x)
-    (λ ls t js x. (x.0, x.1, x.2, x.3, x.4, x.5, x.6, x.7)) old new given t js st
+    (λ ls t js x. (x.0, x.1, x.2, x.3, x.4, x.5)) old new given t js st
 
 -- the fault line begins with what was there before
 from_start : (st : Status) (old mid new : SinkState) (tail : List ℕ) → old.faults ≤ mid.faults → HasFaultLine st mid new tail →

@@ -27,7 +27,6 @@ use Rattle.seam_course.specs.Counts.{MayEnd, most_lines}
 use Rattle.seam_course.specs.Course.{GoesOn}
 use Rattle.seam_print.specs.Residents.{AreResidents}
 use Rattle.seam_print.specs.declared.residents.Resident.{Resident}
-use Rattle.seam_world.specs.Transcripts.IsWorldOf.{opens, reads, accepts}
 use Rattle.seam_world.specs.Rounds.{HasPlayed}
 use Rattle.seam_world.specs.declared.round.Played.{Played}
 use Rattle.seam_world.specs.Output.{refusal_output}
@@ -37,6 +36,7 @@ use Rattle.seam_world.specs.Following.{LineRead}
 use Rattle.seam_world.specs.declared.script.Script.{Script}
 use Rattle.seam_world.proofs.Counting.{refusal_counted}
 use Rattle.seam_world.proofs.Following.{refused}
+use Rattle.seam_world.proofs.Worlds.{refusal_played}
 
 -- where a script begins
 pub script_begins : (h : Header) (count : ℕ) (s : Script) → count ≤ most_lines → s.header ≡ h → s.line ≡ count → s.round ≡ 0 →
@@ -48,7 +48,6 @@ script_begins h count s few header line round book w is made goes_on residents =
     header = header;
     world = opened h.defs h.settings;
     is = is ∙ ap (λ u. Some u) made;
-    of_standing = opens count;
     tree = one_cell h.settings.size;
     goes_on = goes_on;
     residents = residents;
@@ -67,7 +66,6 @@ same_world h t old new was header world residents round = record {
   header = header ∙ was.header;
   world = was.world;
   is = world ∙ was.is;
-  of_standing = was.of_standing;
   tree = was.tree;
   goes_on = was.goes_on;
   residents = subst (AreResidents (as_begun t.book)) (sym residents) was.residents;
@@ -89,7 +87,6 @@ module _ (h : Header) (t : Standing) where
     header = was.header;
     world = was.world;
     is = was.is;
-    of_standing = reads t was.world was.of_standing;
     tree = was.tree;
     goes_on = goes was.tree was.world was.goes_on;
     residents = was.residents;
@@ -113,6 +110,7 @@ module _ (h : Header) (t : Standing) where
           below_most = was.below_most;
         },
         refusal_counted o (t.lines + 1) c old.totals new.totals totals,
+        refusal_played h old.world new.world (t.lines + 1) c world,
       ))
 
   -- the book answered a line that the script has counted
@@ -185,7 +183,6 @@ module _ (h : Header) (t : Standing) where
       header = was.has.header;
       world = was.has.world;
       is = was.has.is;
-      of_standing = accepts (with_line t) was.has.world x (reads t was.has.world was.has.of_standing);
       tree = was.has.tree;
       goes_on = goes was.has.tree was.has.world x was.has.goes_on (line, was.answered.1);
       residents = was.has.residents;

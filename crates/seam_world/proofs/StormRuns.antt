@@ -12,12 +12,11 @@ use Rattle.seam_transcript.proofs.HeaderLemmas.{await_at_first}
 use Rattle.seam_watch.specs.Watching.{Told}
 use Rattle.seam_watch.specs.declared.journal.Journal.{Journal}
 use Rattle.seam_watch.proofs.Told.{told_nothing}
-use Rattle.seam_rules.specs.Transcript.{Piece, text_of}
+use Rattle.seam_rules.specs.Transcript.{Piece, PrintAll, text_of}
 use Rattle.seam_summary.specs.Summary.{totals_text}
 use Rattle.seam_summary.specs.declared.totals.Totals.{Totals}
 use Rattle.seam_summary.proofs.Beginning.{storm_begins, storm_is_short}
 use Rattle.seam_world.specs.Ends.{IsPrefix, IsProperPrefix, IsSoFar, MayComplete, the_space}
-use Rattle.seam_world.specs.Transcripts.{PrintLines}
 use Rattle.seam_world.specs.Output.{output_of}
 use Rattle.seam_world.specs.Storm.{IsSummary, ArePlayed}
 use Rattle.seam_world.specs.Histories.{OpenAs, EndedAs, Stopped, StormStopped}
@@ -34,11 +33,11 @@ nothing_given defs (p ∷ ps) = nothing_given defs ps
 
 none_while_open : (lines : List Line) (text : List ℕ) (steps : List Journal) → OpenAs output.Sums lines text steps → text ≡ []
 none_while_open lines text steps (inl (none, none', awaits)) = none
-none_while_open lines text steps (inr (h, pieces, t, prints, is, are)) = is ∙ nothing_given h.defs pieces
+none_while_open lines text steps (inr (h, pieces, t, prints, played, is, are)) = is ∙ nothing_given h.defs pieces
 
 none_at_the_end : (totals : Totals) (lines : List Line) (text : List ℕ) (steps : List Journal) → EndedAs output.Sums totals lines text steps →
     text ≡ []
-none_at_the_end totals lines text steps (h, pieces, last, t, prints, ends, is, are, counted) = is ∙ nothing_given h.defs (pieces ++ last)
+none_at_the_end totals lines text steps (h, pieces, prints, played, is, are, counted) = is ∙ nothing_given h.defs pieces
 
 no_proper_prefix : (text : List ℕ) → IsProperPrefix text [] → ⊥
 no_proper_prefix [] (next, more, is) = cc
@@ -56,8 +55,8 @@ no_failure totals old new given text whole steps proper (read, inr (all, ended))
 played_so_far : (lines : ℕ) (read : List Line) (text : List ℕ) (steps : List Journal) → IsPrefix read (lines_of (text_of_storm lines)) →
     OpenAs output.Sums read text steps → ArePlayed lines steps
 played_so_far lines read text steps first (inl (none, none', awaits)) = ([], inr (read, first, inl (refl, none', awaits)))
-played_so_far lines read text steps first (inr (h, pieces, t, prints, is, are)) =
-    (text_of false h.defs pieces, inr (read, first, inr (h, pieces, t, prints, refl, are)))
+played_so_far lines read text steps first (inr (h, pieces, t, prints, played, is, are)) =
+    (text_of false h.defs pieces, inr (read, first, inr (h, pieces, t, prints, played, refl, are)))
 
 -- a sink of which nothing is asked
 nowhere : SinkState
@@ -138,10 +137,12 @@ module _ (lines : ℕ) (few : lines ≤ 1000000) (old new : SourceState) (begins
 
       is_summary : IsSummary lines summary s.steps
       is_summary =
-          let (low, read, all, (h, pieces, last, t, prints, ends, is, are, counted)) = s.tells in
+          let (low, read, all, (h, pieces, prints, played, is, are, counted)) = s.tells in
           let input = sym (all_lines old new (text_of_storm lines) s.given read begins s.took all) in (
-            pieces ++ last,
-            (h, pieces, last, t, subst (λ (ls : List Line). PrintLines ls h pieces t) input prints, ends, refl),
+            h,
+            pieces,
+            subst (λ (ls : List Line). PrintAll ls h pieces) input prints,
+            played,
             ap (totals_text lines) counted,
             are,
           )

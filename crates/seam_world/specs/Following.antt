@@ -9,8 +9,7 @@ use Rattle.seam_transcript.specs.declared.verdict.Verdict.{Verdict}
 use Rattle.seam_rules.specs.Standing.{Standing}
 use Rattle.seam_rules.specs.Lines.{RoundData}
 use Rattle.seam_rules.specs.Round.{IsRound}
-use Rattle.seam_rules.specs.Transcript.{Piece, Ended, journals_of}
-use Rattle.seam_world.specs.Transcripts.{WasPlayed, Follows, Step, EndsInput}
+use Rattle.seam_rules.specs.Transcript.{Piece, Ended, journals_of, Follows, Step, EndsInput}
 use Rattle.seam_world.specs.Output.{round_output, output_of}
 use Rattle.seam_world.specs.declared.round.Output.{Output}
 
@@ -20,9 +19,8 @@ module _ (output : Output) (h : Header) (t : Standing) where
     pub round : RoundData
     pub next : Standing
     pub legal : IsRound h t round next
-    pub played : WasPlayed h t round steps next
     pub whole : text ≡ round_output output h.defs round steps
-    pub after : refines (Ended t round steps ∷ []) next
+    pub after : refines (Ended t round steps next ∷ []) next
 
   -- what a line that the standing has counted asks for was done, with this text and these steps
   pub record LineFollowed (line : Line) (refines : List Piece → Standing → Type 0) (text : List ℕ) (steps : List Journal) : Type 0 where

@@ -9,12 +9,13 @@ use Rattle.seam_toml.specs.declared.header.Header.{Header}
 use Rattle.seam_transcript.specs.Header.{AreHeaderLines, BeginWithHeader, AwaitHeader}
 use Rattle.seam_transcript.specs.Run.{Run}
 use Rattle.seam_rules.specs.Standing.{Standing, after_header}
-use Rattle.seam_rules.specs.Transcript.{Piece, journals_of}
+use Rattle.seam_rules.specs.Transcript.{Piece, journals_of, Step, PrintLines, PrintAll}
 use Rattle.seam_watch.specs.Watching.{Told, after_all}
 use Rattle.seam_watch.specs.declared.journal.Journal.{Journal}
 use Rattle.seam_summary.specs.Summary.{totals_of}
 use Rattle.seam_summary.specs.declared.totals.Totals.{Totals}
-use Rattle.seam_world.specs.Transcripts.{Step, PrintLines, EndsInput}
+use Rattle.seam_steps.specs.Loads.{opened}
+use Rattle.seam_world.specs.Transcripts.{PlayRounds, WerePlayed}
 use Rattle.seam_world.specs.Output.{output_of, sums_for}
 use Rattle.seam_world.specs.Storm.{TellsOfStorm}
 use Rattle.seam_world.specs.declared.round.Output.{Output}
@@ -61,21 +62,21 @@ pub record Going (output : Output) (began now : SourceState) (reader : Reader) (
   pub watched : told' ≡ after_all the_space (journals_of pieces) told
   pub run : Run (Step header) (after_header header count) rest pieces standing
   pub refines : ScriptRefines header standing script
+  pub played : PlayRounds header (opened header.defs header.settings) pieces refines.has.world
   pub counted : script.totals ≡ totals_of (sums_for output pieces)
 
 -- an open transcript of lines, by what the run gives of it
 abbrev pub OpenAs : Output → List Line → List ℕ → List Journal → Type 0
 OpenAs output lines text steps =
     ((text ≡ []) × (steps ≡ []) × AwaitHeader lines)
-    ⊎ ((h : Header) × (pieces : List Piece) × (t : Standing) × PrintLines lines h pieces t
+    ⊎ ((h : Header) × (pieces : List Piece) × (t : Standing) × PrintLines lines h pieces t × WerePlayed h pieces
     × (text ≡ output_of output h.defs pieces) × (steps ≡ journals_of pieces))
 
 -- an ended transcript of all lines, by what the run gives of it, with what is summed up
 abbrev pub EndedAs : Output → Totals → List Line → List ℕ → List Journal → Type 0
 EndedAs output totals lines text steps =
-    (h : Header) × (pieces last : List Piece) × (t : Standing) × PrintLines lines h pieces t × EndsInput h t last
-    × (text ≡ output_of output h.defs (pieces ++ last)) × (steps ≡ journals_of (pieces ++ last))
-    × (totals ≡ totals_of (sums_for output (pieces ++ last)))
+    (h : Header) × (pieces : List Piece) × PrintAll lines h pieces × WerePlayed h pieces
+    × (text ≡ output_of output h.defs pieces) × (steps ≡ journals_of pieces) × (totals ≡ totals_of (sums_for output pieces))
 
 -- The run has ended with this status and these totals, but for the fault line.
 pub record Stopped (output : Output) (totals : Totals) (ended : Status) (began now : SourceState) (sink now' : SinkState) (told told' : Told) : Type 0 where

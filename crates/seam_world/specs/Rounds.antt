@@ -11,6 +11,8 @@ use Rattle.seam_transcript.specs.Texts.{number_text}
 use Rattle.seam_rules.specs.Texts.{journal_text}
 use Rattle.seam_rules.specs.Lines.{RoundData}
 use Rattle.seam_watch.specs.declared.journal.Journal.{Journal}
+use Rattle.seam_accept.specs.Batches.{batch_of}
+use Rattle.seam_quiet.specs.Rounds.{IsWithinTable}
 use Rattle.seam_played.specs.Playing.{IsPlayed, data_of}
 use Rattle.seam_defs.specs.declared.types.TypeDef.{TypeDef}
 use Rattle.seam_print.specs.Residents.{AreResidents}
@@ -45,6 +47,7 @@ pub record HasPlayed (output : Output) (h : Header) (s : Standing) (tree : Divis
     (residents : List Resident) (before text : List ℕ) : Type 0 where
   pub played : IsPlayed h s tree w left.world
   pub steps : HasSteps played.round left.journal
+  pub within : IsWithinTable w (batch_of h s.book) left.journal played.round.reaped
   pub whole : text ≡ before ++ round_output output h.defs (data_of h s tree w left.world played left.bounds) left.journal
   pub sums : left.sums ≡ sums_if output (data_of h s tree w left.world played left.bounds)
   pub bounds : IsBalancedBy (has_balance s.book) (tree_of s.book)

@@ -6,9 +6,10 @@ use Rattle.seam_io.specs.Lines.{Line, lines_of}
 use Rattle.seam_storm.specs.Storm.{text_of_storm}
 use Rattle.seam_watch.specs.Watching.{Told, after_all}
 use Rattle.seam_watch.specs.declared.journal.Journal.{Journal}
-use Rattle.seam_rules.specs.Transcript.{Piece, journals_of}
-use Rattle.seam_summary.specs.Summary.{PrintAllBy, summary_text}
-use Rattle.seam_world.specs.Transcripts.{WasPlayed, IsOpen}
+use Rattle.seam_toml.specs.declared.header.Header.{Header}
+use Rattle.seam_rules.specs.Transcript.{Piece, PrintAll, journals_of}
+use Rattle.seam_summary.specs.Summary.{summary_text}
+use Rattle.seam_world.specs.Transcripts.{WerePlayed, IsOpen}
 use Rattle.seam_world.specs.Ends.{IsPrefix, IsProperPrefix, HasFaultLine, the_space}
 use Rattle.seam_world.specs.declared.status.Status.{Status}
 use Rattle.seam_world.specs.declared.status.Status.TheVariants as status
@@ -21,7 +22,8 @@ module _ (lines : ℕ) where
   -- the summary of all that is printed for the input, and the steps of its rounds
   abbrev pub IsSummary : List ℕ → List Journal → Type 0
   IsSummary text steps =
-      (pieces : List Piece) × PrintAllBy WasPlayed input pieces × (text ≡ summary_text lines pieces) × (steps ≡ journals_of pieces)
+      (h : Header) × (pieces : List Piece) × PrintAll input h pieces × WerePlayed h pieces
+      × (text ≡ summary_text lines pieces) × (steps ≡ journals_of pieces)
 
   -- the steps of the rounds of the input, or of its first lines
   abbrev pub ArePlayed : List Journal → Type 0

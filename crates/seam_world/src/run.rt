@@ -12,8 +12,8 @@ ghost use Rattle.seam_course.specs.Counts.{most_lines};
 ghost use Rattle.seam_world.specs.Transcripts.{IsOpen, IsEnded};
 ghost use Rattle.seam_world.specs.Status.{IsRunEnd, IsHeaderCause, refusal_of};
 ghost use Rattle.seam_world.specs.Following.{LineRead, InputEnded};
-ghost use Rattle.seam_world.specs.Script.{ScriptRefines, Refines};
-ghost use Rattle.seam_world.specs.Output.{Counts, text_output};
+ghost use Rattle.seam_world.specs.Script.{ScriptRefines, Refines, Gives};
+ghost use Rattle.seam_world.specs.Output.{text_output};
 ghost use Rattle.seam_world.specs.Storm.{StormEnds};
 ghost use Rattle.seam_world.specs.declared.round.Output.{Output as OutputOf};
 ghost use Rattle.seam_summary.specs.declared.totals.Totals.{Totals as TotalsOf};
@@ -401,7 +401,7 @@ impl Runner {
         requires ready { (h : Headers) × (t : Standing) × ScriptRefines h t self.old.script }
         ensures { (h : Headers) (t : Standing) (sink : SinkState) (text : List ℕ) → ScriptRefines h t self.old.script →
             Printed sink (K.state out.old) self.old.pending text →
-            Prints (InputEnded playing.now.output h t (Counts playing.now.output self.old.script.totals self.new.script.totals)) sink (K.state out.new) [] text (W.told watch.old) (W.told watch.new) result }
+            Prints (InputEnded playing.now.output h t (Gives playing.now.output h self.old.script self.new.script)) sink (K.state out.new) [] text (W.told watch.old) (W.told watch.new) result }
     {
         self.text.clear();
         match self.script.finish(rt, playing, &mut self.text) {

@@ -1,5 +1,5 @@
 // A script, line by line.
-ghost use Rattle.std.specs.Prelude.{◌≡◌, ◌≤◌, ◌++◌, List, [], ℕ, length, OnOk, IfOk};
+ghost use Rattle.std.specs.Prelude.{◌≡◌, ◌≤◌, ◌++◌, List, [], ℕ, Some, length, OnOk, IfOk};
 ghost use Rattle.std.specs.Option.{option_to_list};
 ghost use Rattle.seam_io.specs.Lines.{Line as Lines, Content, Long};
 ghost use Rattle.seam_defs.specs.Settings.{AreLegal};
@@ -7,13 +7,14 @@ ghost use Rattle.seam_defs.specs.Types.{AreDefs};
 ghost use Rattle.seam_toml.specs.declared.header.Header.{Header as Headers};
 ghost use Rattle.seam_transcript.specs.Book.{Book as Books};
 ghost use Rattle.seam_accept.specs.Refines.{Refines as HoldsBook};
+ghost use Rattle.seam_steps.specs.Loads.{opened};
 ghost use Rattle.seam_rules.specs.Standing.{Standing, after_header, with_line};
 ghost use Rattle.seam_course.specs.Counts.{most_lines};
 ghost use Rattle.seam_world.specs.Following.{RoundEnds, LineFollowed, LineRead, InputEnded};
 ghost use Rattle.seam_rules.specs.Round.{with_bounds};
 ghost use Rattle.seam_summary.specs.Summary.{totals_of};
-ghost use Rattle.seam_world.specs.Script.{IsReady, ScriptRefines, Refines, HasAccepted};
-ghost use Rattle.seam_world.specs.Output.{AddsSums, Counts, refusal_output};
+ghost use Rattle.seam_world.specs.Script.{IsReady, ScriptRefines, Refines, Gives, HasAccepted};
+ghost use Rattle.seam_world.specs.Output.{AddsSums, refusal_output};
 
 use crate::count::next_count;
 use crate::round::{Output, Playing, play};
@@ -56,6 +57,7 @@ impl Script {
         requires few { lines ≤ most_lines }
         ensures refines { IfOk result (ScriptRefines header (after_header header lines)) }
         ensures totals { IfOk result (λ s. s.totals ≡ totals_of []) }
+        ensures world { IfOk result (λ s. s.world ≡ Some (opened header.defs header.settings)) }
     {
         seam_course::a_course_begins_and_goes_on();
         Ok(Script {
@@ -190,7 +192,7 @@ impl Script {
     ) -> Result<Option<Journal>, AllocError>
         requires refines { (h : Headers) × (t : Standing) × ScriptRefines h t self.old }
         ensures { IfOk result (λ ended. (h : Headers) (t : Standing) → ScriptRefines h t self.old
-            → (text : List ℕ) × InputEnded playing.now.output h t (Counts playing.now.output self.old.totals self.new.totals) text
+            → (text : List ℕ) × InputEnded playing.now.output h t (Gives playing.now.output h self.old self.new) text
             (option_to_list ended) × (out.new.items ≡ out.old.items ++ text)) }
     {
         seam_course::a_round_may_be_run();

@@ -3,7 +3,7 @@ use Rattle.std.specs.List.{AllByRecursion, filter_map}
 use Rattle.std.proofs.lemmas.Bool.{eq-eqb}
 use Rattle.seam_call.specs.declared.create.Create.{Create}
 use Rattle.seam_steps.specs.Holders.{holders}
-use Rattle.seam_steps.specs.Loads.{loaded}
+use Rattle.seam_steps.specs.Loads.{loaded, look_loaded}
 use Rattle.seam_rounds.specs.Between.{framed}
 use Rattle.seam_shown.specs.Clients.{clients_loaded, clients_shown}
 use Rattle.seam_transcript.specs.Book.{live_as}
@@ -14,6 +14,7 @@ use Rattle.seam_batches.proofs.Present.{live_is_present, undestroyed, undestroye
 use Rattle.seam_rules.specs.Standing.{replica_of}
 use Rattle.seam_legal.specs.Going.{frame_of}
 use Rattle.seam_played.specs.Beside.{may_play}
+use Rattle.seam_course.specs.OneReal.{KeepsNoReal}
 use Rattle.seam_course.proofs.each_entity_has_one_real_through_a_round.Goals as goal
 
 pub returns : goal.returns
@@ -48,6 +49,14 @@ returns c h s tree w g end v round ended =
       reaps = λ e made lives es x run.
           (c.reaps_obey_the_laws.ensures.laws framed_ then round.called called round.gone round.may es x run).one_real e
           (called_one e made lives) (spared e made lives);
+      until = λ e made present es x run.
+          c.reaps_end_reals.ensures.counts framed_ round.called called.records.reals round.gone round.may es x run e
+          ((obeys round.call_events round.called round.calls).one_real e (loaded_one e made present));
+      gone =
+          all_turn (λ e. holders round.reaped e ≡ 0) (KeepsNoReal (look_loaded round.reaped))
+          (λ e none es x run. (c.looks_obey_the_laws.ensures.laws framed_ then round.reaped reaped es x run).no_other e none) round.gone
+          (c.reaps_obey_the_laws.ensures.gone framed_ then round.called called round.gone round.may round.reap_events round.reaped
+          round.reaps round.reaps_done).reals;
       looks = λ e made lives es x run.
           (c.looks_obey_the_laws.ensures.laws framed_ then round.reaped reaped es x run).one_real e
           ((c.reaps_obey_the_laws.ensures.laws framed_ then round.called called round.gone round.may round.reap_events round.reaped

@@ -36,7 +36,7 @@ returns g c = λ h s tree beside brings header number present.
     let made = c.entities_can_be_listed.ensures.made s.book in
     let live = c.entities_can_be_listed.ensures.live s.book in
     let p =
-    played_so h s tree g.from.world v c.in_ok-called.called.world b c.in_ok-ended.ended.journal beside brings (run.0, run.1) made.0 live.0
+    played_so h s tree g.from.world v c.in_ok-called.called.world b c.in_ok-ended.ended.journal beside brings run made.0 live.0
     made.1 live.1 in
     let bounds = c.in_ok-bounds.bounds in
     let same_defs = ap (λ (k : Headers). k.defs) header in
@@ -55,6 +55,7 @@ returns g c = λ h s tree beside brings header number present.
     record {
       played = p.0;
       steps = p.2;
+      within = p.3;
       whole = given.1;
       sums = given.0;
       bounds =

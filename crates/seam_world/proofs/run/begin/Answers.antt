@@ -38,5 +38,5 @@ returns-clause-began g c =
         c.in-Ok-new-2.ensures.refines,
       ),
       λ output sink told. after_a_header output _ _ _ sink told _ _ _ _ has c.in-Ok.ensures c.in-Ok-new-2.ensures.refines
-          c.in-Ok-new-2.ensures.totals,
+          c.in-Ok-new-2.ensures.totals c.in-Ok-new-2.ensures.world,
     )

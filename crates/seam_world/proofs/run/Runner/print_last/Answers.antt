@@ -1,7 +1,7 @@
 use Rattle.std.proofs.Common.{[], ◌≡◌, refl, subst, sym}
 use Rattle.std.specs.Option.{option_to_list}
 use Rattle.seam_world.specs.Following.{InputEnded}
-use Rattle.seam_world.specs.Output.{Counts}
+use Rattle.seam_world.specs.Script.{Gives}
 use Rattle.seam_world.proofs.PrintLemmas.{cleared_first, gathered_prints, nothing_prints}
 use Rattle.seam_world.proofs.run.Runner.print_last.Goals as goal
 
@@ -10,11 +10,11 @@ returns-in-Ok g c = λ h t sink text refines printed.
     let ended = c.in-Ok.ensures h t refines in
     let steps = option_to_list c.in-Ok.ended in
     let output = c.args.playing.now.output in
-    let was = c.args.self.now.script.totals in
+    let was = c.args.self.now.script in
     let piece : c.finish.new.out.items ≡ ended.0 = cleared_first _ _ _ ended.0 refl ended.2 c.clear.ensures.items in
     gathered_prints _ c.finish.new.out.items steps sink _ _ text _ _ c.show_last.result
-    (subst (λ now. InputEnded output h t (Counts output was now.totals) c.finish.new.out.items steps) (sym c.show_last.ensures.script)
-    (subst (λ xs. InputEnded output h t (Counts output was c.finish.new.self.totals) xs steps) (sym piece) ended.1))
+    (subst (λ now. InputEnded output h t (Gives output h was now) c.finish.new.out.items steps) (sym c.show_last.ensures.script)
+    (subst (λ xs. InputEnded output h t (Gives output h was c.finish.new.self) xs steps) (sym piece) ended.1))
     (c.show_last.ensures.prints sink text printed)
 
 pub returns-in-Err : goal.returns-in-Err

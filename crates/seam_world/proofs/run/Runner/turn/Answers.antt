@@ -23,14 +23,14 @@ pub returns-in-None-clause-history : goal.returns-in-None-clause-history
 returns-in-None-clause-history g c = λ began sink told was.
     let h = with_printed _ began sink told _ _ _ _ _ _ _ was _ (c.in-Ok.ensures.prints sink _ was.printed) in
     let r = c.in-End.ensures.reads began h.given h.read h.reading in
-    done _ began sink told _ _ _ _ _ _ _ h _ _ c.next.ensures.limit _ _ r.0 r.1 r.2
+    done _ began sink told _ _ _ _ _ _ _ h _ _ c.next.ensures.limit _ _ c.print_last.new.self.script.world r.0 r.1 r.2
     (c.in-None.ensures h.header h.standing sink _ h.refines h.printed)
 
 pub returns-in-Some-clause-history : goal.returns-in-Some-clause-history
 returns-in-Some-clause-history g c = λ began sink told was.
     let h = with_printed _ began sink told _ _ _ _ _ _ _ was _ (c.in-Ok.ensures.prints sink _ was.printed) in
     let r = c.in-End.ensures.reads began h.given h.read h.reading in
-    last_printed _ began sink told _ _ _ _ _ _ _ h _ _ c.next.ensures.limit _ _ r.0 c.in-Some.status r.1 r.2
+    last_printed _ began sink told _ _ _ _ _ _ _ h _ _ c.next.ensures.limit _ _ c.print_last.new.self.script.world r.0 c.in-Some.status r.1 r.2
     (c.in-Some.ensures h.header h.standing sink _ h.refines h.printed)
 
 pub returns-in-ReadFault-clause-history : goal.returns-in-ReadFault-clause-history

@@ -1,8 +1,8 @@
 use Rattle.std.proofs.Common.{◌≢◌, [], refl, sym, ◌∙◌, append-nil}
 use Rattle.seam_transcript.specs.Book.{open_lines}
-use Rattle.seam_world.specs.Output.{Counts}
-use Rattle.seam_world.specs.Script.{Refines}
+use Rattle.seam_world.specs.Script.{Gives, Refines}
 use Rattle.seam_world.proofs.Counting.{no_pieces_counted}
+use Rattle.seam_world.proofs.Worlds.{none_played}
 use Rattle.seam_world.proofs.Following.{last_round, nothing_open}
 use Rattle.seam_world.proofs.ScriptLemmas.{open_ready}
 use Rattle.seam_world.proofs.script.Script.finish.Goals as goal
@@ -11,8 +11,8 @@ pub returns-then-count-eq0 : goal.returns-then-count-eq0
 returns-then-count-eq0 g c =
     λ h t was. (
       [],
-      nothing_open c.args.playing.now.output h t (Counts c.args.playing.now.output c.args.self.now.totals c.args.self.now.totals)
-          (no_pieces_counted c.args.playing.now.output _ _ refl) (sym (c.count.ensures h t.book was.book) ∙ c.if-count-eq0.true),
+      nothing_open c.args.playing.now.output h t (Gives c.args.playing.now.output h c.args.self.now c.args.self.now)
+          (no_pieces_counted c.args.playing.now.output _ _ refl, none_played h _ _ refl) (sym (c.count.ensures h t.book was.book) ∙ c.if-count-eq0.true),
       sym (append-nil c.args.out.now.items),
     )
 
@@ -33,7 +33,7 @@ returns g c = λ h t was.
     let e = c.in_ok-end_round.ensures h t (open_ready h t c.args.self.now was (c.a_round_may_be_run.ensures.some h t) some) in
     let output = c.args.playing.now.output in (
       e.0,
-      last_round output h t (Counts output c.args.self.now.totals c.end_round.new.self.totals)
-          (Refines output h c.args.self.now c.end_round.new.self) e.0 _ (λ pieces next after. after.1) some e.1,
+      last_round output h t (Gives output h c.args.self.now c.end_round.new.self)
+          (Refines output h c.args.self.now c.end_round.new.self) e.0 _ (λ pieces next after. (after.1, after.2)) some e.1,
       e.2,
     )

@@ -5,6 +5,7 @@ use Rattle.seam_rules.specs.Standing.{with_line, with_book}
 use Rattle.seam_accept.specs.declared.answers.Accepted.{Accepted}
 use Rattle.seam_world.specs.Script.{HasAccepted, Refines}
 use Rattle.seam_world.proofs.Counting.{no_pieces_counted}
+use Rattle.seam_world.proofs.Worlds.{none_played}
 use Rattle.seam_world.proofs.Following.{skipped, synced, kept_last, kept_open}
 use Rattle.seam_world.proofs.ScriptLemmas.{skipped_refines, sync_ready, full_may_end, sync_may_end, kept_ready, kept_refines}
 use Rattle.seam_world.proofs.script.Script.follow.Goals as goal
@@ -59,6 +60,7 @@ returns-else-count-eq-MOST_LINES g c = λ h t line accepted.
           (Refines c.args.playing.now.output h c.args.self.now c.args.self.now) was.answered.1 open_ (
             kept_refines h t (c.a_course_begins_and_goes_on.ensures.entry h t) line c.args.self.now was open_,
             no_pieces_counted c.args.playing.now.output _ _ refl,
+            none_played h _ _ refl,
           ),
       sym (append-nil c.args.out.now.items),
     )
@@ -82,6 +84,7 @@ returns-in-Skipped g c = λ h t line accepted.
           was.answered.0 (
             skipped_refines h t (c.a_course_begins_and_goes_on.ensures.line h t) line c.args.self.now was,
             no_pieces_counted c.args.playing.now.output _ _ refl,
+            none_played h _ _ refl,
           ),
       sym (append-nil c.args.out.now.items),
     )
