@@ -1,13 +1,1 @@
-mod Counting
-mod Following
-mod Rounds
-mod Playing
-mod ScriptLemmas
-mod Results
-mod Prefixes
-mod PrintLemmas
-mod RunLemmas
-mod HeaderRuns
-mod Completing
-mod StormRuns
-mod Worlds
+mod EndLemmas

@@ -1,6 +1,6 @@
 use Rattle.std.proofs.Common.{inl, inr}
 use Rattle.std.specs.Prelude.{◌⊎◌}
-use Rattle.seam_world.proofs.RunLemmas.{ends_as_asked, ends_unasked, completes_as_asked}
+use Rattle.seam_world.proofs.EndLemmas.{ends_as_asked, ends_unasked, completes_as_asked}
 use Rattle.seam_world.proofs.run.run_seamless.Goals as goal
 
 pub returns-clause-ends : goal.returns-clause-ends

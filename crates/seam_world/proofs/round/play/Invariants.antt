@@ -1,4 +1,0 @@
-use Rattle.seam_world.proofs.round.play.Given as goal
-
-abbrev pub ghost-run_ends : goal.ghost-run_ends
-ghost-run_ends g a = g.from

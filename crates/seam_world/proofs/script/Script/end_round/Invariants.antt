@@ -1,4 +1,0 @@
-use Rattle.seam_world.proofs.script.Script.end_round.Given as goal
-
-abbrev pub ghost-play : goal.ghost-play
-ghost-play g a = record { world = a.world; batch = a.batch }

@@ -1,0 +1,3 @@
+mod RunLemmas
+pub mod HeaderRuns
+pub mod StormRuns

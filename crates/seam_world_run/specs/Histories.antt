@@ -1,0 +1,103 @@
+-- What has happened since a run began: the functions of this crate speak of it.
+use Rattle.std.specs.Prelude.{◌≡◌, ℕ, ◌+◌, ◌≤◌, List, [], ◌∷◌, ◌++◌, length, ◌⊎◌, Option, None, Some, Result, Ok, Err}
+use Rattle.std.specs.Io.KnownBytes.{Consumes, Appends}
+use Rattle.seam_io.specs.Causes.{Rose}
+use Rattle.seam_io.specs.States.{SourceState, SinkState}
+use Rattle.seam_io.specs.Lines.{Line}
+use Rattle.seam_io.specs.Reading.{Reader, Reading}
+use Rattle.seam_toml.specs.declared.header.Header.{Header}
+use Rattle.seam_transcript.specs.Header.{AreHeaderLines, BeginWithHeader, AwaitHeader}
+use Rattle.seam_transcript.specs.Run.{Run}
+use Rattle.seam_rules.specs.Standing.{Standing, after_header}
+use Rattle.seam_rules.specs.Transcript.{Piece, journals_of, Step, PrintLines, PrintAll}
+use Rattle.seam_watch.specs.Watching.{Told, after_all}
+use Rattle.seam_watch.specs.declared.journal.Journal.{Journal}
+use Rattle.seam_summary.specs.Summary.{totals_of}
+use Rattle.seam_summary.specs.declared.totals.Totals.{Totals}
+use Rattle.seam_steps.specs.Loads.{opened}
+use Rattle.seam_world_rounds.specs.Transcripts.{PlayRounds, WerePlayed}
+use Rattle.seam_world_rounds.specs.Output.{output_of, sums_for}
+use Rattle.seam_world_rounds.specs.declared.round.Output.{Output}
+use Rattle.seam_world_rounds.specs.Script.{ScriptRefines}
+use Rattle.seam_world_ends.specs.Status.{IsRunEnd}
+use Rattle.seam_world_ends.specs.Ends.{Tells, most_bytes, the_space}
+use Rattle.seam_world_ends.specs.Printing.{Printed}
+use Rattle.seam_world_rounds.specs.declared.script.Script.{Script}
+use Rattle.seam_world_ends.specs.declared.status.Status.{Status}
+use Rattle.seam_world_ends.specs.declared.status.Status.TheVariants as status
+
+-- The header goes on: since the source was at `began`, the reader gave these lines, which come before a header's end and make this
+-- text, and no other.
+pub record InHeader (began now : SourceState) (reader : Reader) (text : List ℕ) (read : List Line) : Type 0 where
+  pub given : List ℕ
+  pub are : AreHeaderLines read text
+  pub reading : Reading began now reader given read
+  pub limit : reader.limit ≡ most_bytes
+
+-- A header of so many lines was accepted: since the source was at `began`, the reader gave its lines and no other.
+pub record HasHeader (began now : SourceState) (reader : Reader) (h : Header) (count : ℕ) : Type 0 where
+  pub given : List ℕ
+  pub read : List Line
+  pub begins : BeginWithHeader read h count []
+  pub reading : Reading began now reader given read
+  pub limit : reader.limit ≡ most_bytes
+
+-- The run goes on: since the source was at `began`, the sink at `sink` and the watch at `told`, the reader gave a header and the lines
+-- `rest`, whose text was printed and is written but for its end `pending`, the watch was told the steps of their rounds, and the script
+-- refines the standing after them and counts what was printed.
+pub record Going (output : Output) (began now : SourceState) (reader : Reader) (sink now' : SinkState) (told told' : Told)
+    (pending : List ℕ) (script : Script) : Type 0 where
+  pub header : Header
+  pub count : ℕ
+  pub given : List ℕ
+  pub read : List Line
+  pub rest : List Line
+  pub pieces : List Piece
+  pub standing : Standing
+  pub begins : BeginWithHeader read header count rest
+  pub reading : Reading began now reader given read
+  pub limit : reader.limit ≡ most_bytes
+  pub printed : Printed sink now' pending (output_of output header.defs pieces)
+  pub watched : told' ≡ after_all the_space (journals_of pieces) told
+  pub run : Run (Step header) (after_header header count) rest pieces standing
+  pub refines : ScriptRefines header standing script
+  pub played : PlayRounds header (opened header.defs header.settings) pieces refines.has.world
+  pub counted : script.totals ≡ totals_of (sums_for output pieces)
+
+-- an open transcript of lines, by what the run gives of it
+abbrev pub OpenAs : Output → List Line → List ℕ → List Journal → Type 0
+OpenAs output lines text steps =
+    ((text ≡ []) × (steps ≡ []) × AwaitHeader lines)
+    ⊎ ((h : Header) × (pieces : List Piece) × (t : Standing) × PrintLines lines h pieces t × WerePlayed h pieces
+    × (text ≡ output_of output h.defs pieces) × (steps ≡ journals_of pieces))
+
+-- an ended transcript of all lines, by what the run gives of it, with what is summed up
+abbrev pub EndedAs : Output → Totals → List Line → List ℕ → List Journal → Type 0
+EndedAs output totals lines text steps =
+    (h : Header) × (pieces : List Piece) × PrintAll lines h pieces × WerePlayed h pieces
+    × (text ≡ output_of output h.defs pieces) × (steps ≡ journals_of pieces) × (totals ≡ totals_of (sums_for output pieces))
+
+-- The run has ended with this status and these totals, but for the fault line.
+pub record Stopped (output : Output) (totals : Totals) (ended : Status) (began now : SourceState) (sink now' : SinkState) (told told' : Told) : Type 0 where
+  pub given : List ℕ
+  pub text : List ℕ
+  pub steps : List Journal
+  pub took : Consumes began.left now.left given
+  pub most : length given ≤ most_bytes
+  pub writing : Appends sink.written now'.written text
+  pub later : sink.faults ≤ now'.faults
+  pub failed : ended ≡ status.WriteFault → Rose sink.faults now'.faults
+  pub allowed : IsRunEnd ended
+  pub tells : Tells (OpenAs output) (EndedAs output totals) ended began now given text steps
+  pub watched : told' ≡ after_all the_space steps told
+
+-- The run has ended with this status before anything was printed.
+abbrev pub StoppedFirst : Status → SourceState → SourceState → Type 0
+StoppedFirst s began now =
+    (output : Output) (totals : Totals) (sink : SinkState) (told : Told) → Stopped output totals s began now sink sink told told
+
+-- What came of the next line of a header, after these: it goes on, or the line ended it, or the run stopped.
+abbrev pub HeaderLineRead : SourceState → SourceState → Reader → List ℕ → List Line → Result (Option Header) Status → Type 0
+HeaderLineRead began now reader text read (Ok None) = (line : Line) × InHeader began now reader text (read ++ line ∷ [])
+HeaderLineRead began now reader text read (Ok (Some h)) = HasHeader began now reader h (length read + 1)
+HeaderLineRead began now reader text read (Err s) = StoppedFirst s began now

@@ -1,0 +1,78 @@
+// A generated input, of which nothing but the summary is written.
+ghost use Rattle.std.specs.Prelude.{◌≡◌, ◌≢◌, ◌⊎◌, MatchBool};
+ghost use Rattle.seam_args.specs.Words.{IsUpTo};
+ghost use Rattle.seam_args.specs.declared.TheConstants.{LONGEST_STORM};
+ghost use Rattle.seam_summary.specs.Summary.{totals_text};
+ghost use Rattle.seam_world_run.specs.Storm.{StormStopped};
+ghost use Rattle.seam_world_ends.specs.Printing.{StopsBy};
+
+use crate::run::run_body;
+use seam_io::{Sink, write_whole};
+use seam_quiet::Workers;
+use seam_storm::StormSource;
+use seam_summary::Totals;
+use seam_watch::Watch;
+use seam_workers::Gate;
+use seam_world_ends::Status;
+use seam_world_rounds::{Output, Playing};
+use std::alloc::Global;
+use std::sync::Wait;
+use std::thread::Threads;
+
+/// Runs the generated input of so many lines, and writes its summary. The fault line is the caller's to write.
+pub fn run_storm<K: Sink, G: Gate + Sync, W: Watch, R: Threads + Wait + Sync>(
+    rt: &R,
+    alloc: Global,
+    lines: u32,
+    workers: Workers<G>,
+    out: &mut K,
+    watch: &mut W,
+) -> Status
+    requires { IsUpTo LONGEST_STORM lines }
+    ensures { StormStopped lines result (K.state out.old) (K.state out.new) (W.told watch.old) (W.told watch.new) }
+{
+    let mut input = match StormSource::new(alloc, lines) {
+        Ok(input) => input,
+        Err(_) => return Status::NoMemory,
+    };
+    let playing = Playing {
+        workers,
+        output: Output::Sums,
+    };
+    let (status, totals) = run_body(rt, alloc, &playing, &mut input, out, watch);
+    if !is_done(status) {
+        return status;
+    }
+    write_summary(alloc, lines, &totals, out)
+}
+
+fn is_done(status: Status) -> bool
+    ensures { MatchBool result (status ≡ Status.Done) (status ≢ Status.Done) }
+{
+    match status {
+        Status::Done => true,
+        _ => false,
+    }
+}
+
+// Writes the summary of so many lines.
+fn write_summary<K: Sink>(alloc: Global, lines: u32, totals: &Totals, out: &mut K) -> Status
+    ensures { ((result ≡ Status.NoMemory) × (K.state out.new ≡ K.state out.old))
+        ⊎ StopsBy Status.Done (K.state out.old) (K.state out.new) (totals_text lines totals.now) result }
+{
+    let mut text = Vec::new(alloc);
+    match totals.write(lines, &mut text) {
+        Ok(()) => write_text(&text, out),
+        Err(_) => Status::NoMemory,
+    }
+}
+
+// Writes a text, as much of it as the sink accepts.
+fn write_text<K: Sink>(text: &[u8], out: &mut K) -> Status
+    ensures { StopsBy Status.Done (K.state out.old) (K.state out.new) text.now result }
+{
+    match write_whole(out, text) {
+        Ok(()) => Status::Done,
+        Err(_) => Status::WriteFault,
+    }
+}
