@@ -1,27 +1,19 @@
 // The deeds that words ask of an entity.
-ghost use Rattle.std.specs.Prelude.{◌≡◌, ◌≢◌, ◌<◌, ℕ, List, IfOk, IfErr, MatchBool, length};
+ghost use Rattle.std.specs.Prelude.{◌≡◌, ◌≢◌, ◌<◌, ℕ, List, IfOk, IfErr, length};
 ghost use Rattle.seam_value.specs.Values.{Fits, text_of};
 ghost use Rattle.seam_value.specs.declared.values.Value.{Value as Values};
 ghost use Rattle.seam_defs.specs.Types.{IsType, method_of};
-ghost use Rattle.seam_transcript.specs.Judging.{SpellsArgs, NamesDeed, NamesMove, MayCall, MayMove};
+ghost use Rattle.seam_transcript.specs.Judging.{SpellsArgs, NamesDeed, NamesMove, MayMove};
 ghost use Rattle.seam_accept.specs.Commands.{texts_of};
 ghost use Rattle.seam_accept.specs.Judging.{Asks, MayAsk, NoMethod, NoMove, NoDeed, IsIllTyped};
 
 use crate::answers::Refusal;
 use crate::command::{DeedWords, MethodWords, PlaceWords};
 use crate::naming::{method_named, position_named};
-use seam_call::Sender;
-use seam_defs::{Args, Deed, Method, Part, TypeDef};
-use seam_transcript::{Cause, Header};
+use seam_defs::{Args, Deed, Method, TypeDef};
+use seam_transcript::{Asked, Cause, Header, may_call, may_move};
 use seam_value::{Value, ValueError, ValueType};
 use std::alloc::Global;
-
-/// Who asks which entity for a deed.
-#[derive(Clone, Copy)]
-pub struct Asked {
-    pub sender: Sender,
-    pub entity: u32,
-}
 
 /// The deed that words ask of an entity of a type.
 pub fn deed_named(
@@ -54,29 +46,6 @@ fn move_deed(header: &Header, asked: &Asked, words: &PlaceWords) -> Result<Deed,
     match position_named(header, words) {
         Some(to) => Ok(Deed::Move(to)),
         None => Err(Refusal::Cause(Cause::IllTyped)),
-    }
-}
-
-// Whether the sender may move the entity.
-fn may_move(asked: &Asked) -> bool
-    ensures { MatchBool result (MayMove asked.now.sender asked.now.entity) (¬ (MayMove asked.now.sender asked.now.entity)) }
-{
-    match asked.sender {
-        Sender::Base(_) => true,
-        Sender::Client(own) => own == asked.entity,
-    }
-}
-
-// Whether the sender may call a method of the entity.
-fn may_call(asked: &Asked, method: &Method) -> bool
-    ensures { MatchBool result (MayCall asked.now.sender asked.now.entity method.now)
-        (¬ (MayCall asked.now.sender asked.now.entity method.now)) }
-{
-    match asked.sender {
-        Sender::Base(_) => true,
-        Sender::Client(own) => {
-            method.exposed && (matches!(method.part, Part::Cell) || own == asked.entity)
-        }
     }
 }
 

@@ -10,13 +10,13 @@ ghost use Rattle.seam_accept.specs.Judging.{Judged, Refuses};
 
 use crate::answers::Refusal;
 use crate::command::{CallWords, CreateWords, CutWords, ShiftWords};
-use crate::deeds::{Asked, deed_named};
+use crate::deeds::deed_named;
 use crate::entity::Entity;
 use crate::naming::{axis_named, live_entity, sender_named, type_named};
 use indexmap::IndexMap;
 use seam_call::{Call, Create};
 use seam_geo::Pos;
-use seam_transcript::{Cause, Entry, Header, MOST_CLIENTS, MOST_ENTITIES};
+use seam_transcript::{Asked, Cause, Entry, Header, MOST_CLIENTS, MOST_ENTITIES};
 use seam_tree::Tree;
 use seam_value::{positive_number, whole_number};
 use std::alloc::Global;
