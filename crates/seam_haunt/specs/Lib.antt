@@ -1,2 +1,3 @@
 pub mod Haunts
 pub mod Places
+pub mod Telling

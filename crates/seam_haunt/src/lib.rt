@@ -1,5 +1,6 @@
 //! Which cells have a ghost of a real: those near enough, and those that had one and are not yet far (BigWorld Server
-//! Overview, ghost entities). And the place of an entity: its home, and the cells with a ghost of it.
+//! Overview, ghost entities). And the place of an entity: its home, and the cells with a ghost of it; and what
+//! each cell is told of a real that settles.
 //!
 //! Of `proofs/`, `Chosen` (which numbers of a range are in a set that was chosen by a test) and `Settling` (what settling makes of a place,
 //! and of one that is settled already) are for callers.
@@ -15,10 +16,12 @@ ghost use Rattle.seam_haunt.specs.Places.{Place, home_at, settled};
 ghost use Rattle.seam_haunt.specs.Haunts.{haunts_of, is_close, IsHaunt};
 
 mod laws;
+mod telling;
 
 pub use laws::{a_place_at_rest_stays, places_are_settled};
 use seam_geo::{Pos, Rect};
 use seam_tree::{CellSet, Tree};
+pub use telling::{Telling, Told, word};
 
 /// The haunts of a real at a position, of which `home` is the cell: the other cells at distance at most `near`, and those
 /// of the former haunts `old`, again without the home, at distance at most `far`.

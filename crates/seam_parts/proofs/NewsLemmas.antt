@@ -13,9 +13,10 @@ use Rattle.seam_call.specs.declared.shown.GhostCopy.{GhostCopy}
 use Rattle.seam_entity.specs.Reals.{RealView}
 use Rattle.seam_entity.specs.Here.{Here, cell_numbers}
 use Rattle.seam_steps.specs.Settle.{told, told_unless, ghost_message, ghost_messages}
-use Rattle.seam_parts.specs.declared.news.Telling.{Telling}
-use Rattle.seam_parts.specs.declared.news.Told.TheVariants.{Nothing}
-use Rattle.seam_parts.specs.News.{word_at, word, said, listed, told_by, news, Tells}
+use Rattle.seam_haunt.specs.declared.telling.Telling.{Telling}
+use Rattle.seam_haunt.specs.declared.telling.Told.TheVariants.{Nothing}
+use Rattle.seam_haunt.specs.Telling.{word_at, word}
+use Rattle.seam_parts.specs.News.{said, listed, told_by, news, Tells}
 
 pub range_more : (a n : ℕ) → range_with_len a (suc n) ≡ range_with_len a n ++ (a + n) ∷ []
 range_more a zero = ap (λ k. k ∷ []) (let e : a ≡ a + zero = omega arith in e)

@@ -25,7 +25,7 @@ use Rattle.seam_steps.specs.Slots.{Slot}
 use Rattle.seam_steps.specs.Settle.{beat_after, home_after, haunts_at, told, told_unless, ghost_message}
 use Rattle.seam_steps.specs.Settle.{ghost_messages, copy_if, stayed, gone_to, settled_by, settled}
 use Rattle.seam_steps.proofs.Slots.{set_at-same}
-use Rattle.seam_parts.specs.declared.news.Telling.{Telling}
+use Rattle.seam_haunt.specs.declared.telling.Telling.{Telling}
 use Rattle.seam_parts.specs.declared.settle.Begun.{Begun}
 use Rattle.seam_parts.specs.News.{Tells, news}
 use Rattle.seam_parts.specs.Settling.{former, staying, going, IsGone, IsAtRest}

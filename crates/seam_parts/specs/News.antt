@@ -1,7 +1,6 @@
 -- What the haunts of a real are told, cell by cell.
-use Rattle.std.specs.Prelude.{◌≡◌, ℕ, ◌+◌, Bool, true, false, ◌||◌, ◌==◌, List, [], ◌∷◌, filter_map, Option, None, Some, if◌then◌else◌}
+use Rattle.std.specs.Prelude.{◌≡◌, ℕ, ◌+◌, List, [], ◌∷◌, filter_map, Option, None, Some}
 use Rattle.std.specs.List.{range_with_len}
-use Rattle.std.specs.FinSet as set
 use Rattle.seam_call.specs.declared.shown.GhostCopy.{GhostCopy}
 use Rattle.seam_entity.specs.Reals.{RealView}
 use Rattle.seam_entity.specs.Here.{Here}
@@ -10,25 +9,14 @@ use Rattle.seam_entity.specs.declared.message.Msg.{Msg}
 use Rattle.seam_entity.specs.declared.message.Msg.TheVariants.{GhostSet, GhostDrop}
 use Rattle.seam_defs.specs.declared.states.State.{State}
 use Rattle.seam_parts.specs.declared.news.Subject.{Subject}
-use Rattle.seam_parts.specs.declared.news.Telling.{Telling}
-use Rattle.seam_parts.specs.declared.news.Told.{Told}
-use Rattle.seam_parts.specs.declared.news.Told.TheVariants.{Nothing, Set, Drop}
+use Rattle.seam_haunt.specs.Telling.{word}
+use Rattle.seam_haunt.specs.declared.telling.Telling.{Telling}
+use Rattle.seam_haunt.specs.declared.telling.Told.{Told}
+use Rattle.seam_haunt.specs.declared.telling.Told.TheVariants.{Nothing, Set, Drop}
 
 -- the state of the real of which is told
 abbrev pub state_of : Subject → State
 state_of of = record { pos = of.pos; props = of.props.now }
-
--- what a cell is told, by whether it is a haunt now, was one, and others may see a change
-abbrev pub word_at : Bool → Bool → Bool → Told
-word_at true true true = Set
-word_at true true false = Nothing
-word_at true false changed = Set
-word_at false true changed = Drop
-word_at false false changed = Nothing
-
--- neither the cell itself nor the home is told
-abbrev pub word : Telling → ℕ → Told
-word t k = if (k == t.me) || (k == t.home) then Nothing else word_at (set.contains t.haunts k) (set.contains t.old k) t.changed
 
 abbrev pub said : Telling → GhostCopy → ℕ → Told → Option (ℕ × Msg)
 said t g k Nothing = None

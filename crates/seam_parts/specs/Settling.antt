@@ -13,7 +13,7 @@ use Rattle.seam_entity.specs.Executing.{settled_to}
 use Rattle.seam_steps.specs.Maps.{Map}
 use Rattle.seam_steps.specs.Slots.{NextPlace}
 use Rattle.seam_steps.specs.Settle.{home_after, haunts_at}
-use Rattle.seam_parts.specs.declared.news.Telling.{Telling}
+use Rattle.seam_haunt.specs.declared.telling.Telling.{Telling}
 use Rattle.seam_parts.specs.declared.settle.Begun.{Begun}
 
 -- at a hand-over the cell counts as a former haunt

@@ -16,7 +16,7 @@ use Rattle.seam_steps.specs.Maps.{Map, set_at, has_any}
 use Rattle.seam_steps.specs.Slots.{Slot, NextPlace, SlotStep, slot_after}
 use Rattle.seam_steps.specs.Settle.{home_after, haunts_at, ghost_messages, copy_if}
 use Rattle.seam_steps.specs.Cells.{without}
-use Rattle.seam_parts.specs.declared.news.Telling.{Telling}
+use Rattle.seam_haunt.specs.declared.telling.Telling.{Telling}
 use Rattle.seam_parts.specs.declared.places.Places.{Places}
 use Rattle.seam_parts.specs.declared.settle.Begun.{Begun}
 use Rattle.seam_parts.specs.Settling.{former}

@@ -25,7 +25,7 @@ pub use entity_queue::{EntityQueue, EntityRow};
 pub use entity_set::EntitySet;
 pub use known::Known;
 pub use lists::{Lists, unlist};
-pub use news::{Subject, Telling, Told};
+pub use news::Subject;
 pub use next::Next;
 pub use places::Places;
 pub use real_table::RealTable;

@@ -5,36 +5,17 @@ ghost use Rattle.std.specs.FinSet as set;
 ghost use Rattle.seam_defs.specs.declared.settings.Settings.{Settings as AllSettings};
 ghost use Rattle.seam_entity.specs.Executing.{copy_with};
 ghost use Rattle.seam_entity.specs.Preparing.{node_with};
-ghost use Rattle.seam_parts.specs.News.{state_of, word, said, listed, news};
+ghost use Rattle.seam_haunt.specs.Telling.{word};
+ghost use Rattle.seam_parts.specs.News.{state_of, said, listed, news};
 
 use seam_call::GhostCopy;
 use seam_defs::{Defs, Props};
 use seam_entity::{Msg, ghost_copy};
 use seam_geo::Pos;
+use seam_haunt::{Telling, Told, word};
 use seam_machine::Out;
 use seam_tree::CellSet;
 use std::alloc::AllocError;
-
-/// What a cell is told of a real.
-#[derive(Clone, Copy, Debug, PartialEq, Eq)]
-pub enum Told {
-    Nothing,
-    Set,
-    Drop,
-}
-
-/// Which cell tells of which real at which beat; where the real's home is from then on, which haunts it had and has, and whether
-/// others may see a change.
-#[derive(Clone, Copy, Debug)]
-pub struct Telling {
-    pub me: u8,
-    pub home: u8,
-    pub old: CellSet,
-    pub haunts: CellSet,
-    pub changed: bool,
-    pub entity: u32,
-    pub beat: u64,
-}
 
 /// The real of which is told: its type, its public version, where it is and its values.
 #[derive(Drop)]
@@ -53,21 +34,6 @@ impl Subject<'_> {
             IfOk result (λ c. c ≡ copy_with (node_with self.now.defs.now me settings) self.now.ty self.now.version (state_of self.now)) }
     {
         ghost_copy(self.defs, self.ty, self.version, self.pos, self.props)
-    }
-}
-
-// What the cell is told.
-fn word(t: &Telling, k: u8) -> Told
-    ensures { result ≡ word t.now k }
-{
-    if k == t.me || k == t.home {
-        return Told::Nothing;
-    }
-    match (t.haunts.holds(k), t.old.holds(k)) {
-        (true, true) => if t.changed { Told::Set } else { Told::Nothing },
-        (true, false) => Told::Set,
-        (false, true) => Told::Drop,
-        (false, false) => Told::Nothing,
     }
 }
 

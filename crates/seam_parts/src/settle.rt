@@ -24,14 +24,14 @@ ghost use Rattle.seam_parts.specs.Stepping.{telling_at, heard, IsLater, HasBegun
 
 use crate::copy_book::CopyBook;
 use crate::known::Known;
-use crate::news::{Subject, Telling, tell};
+use crate::news::{Subject, tell};
 use crate::next::Next;
 use crate::places::Places;
 use seam_call::GhostCopy;
 use seam_defs::Settings;
 use seam_entity::{Msg, Parcel, Real};
 use seam_geo::Pos;
-use seam_haunt::haunts_after;
+use seam_haunt::{Telling, haunts_after};
 use seam_machine::Out;
 use seam_table::Table;
 use seam_tree::{CellSet, Tree};

@@ -4,7 +4,8 @@ use Rattle.std.specs.FinSet as set
 use Rattle.seam_defs.specs.Settings.{standard}
 use Rattle.seam_entity.specs.Executing.{copy_with}
 use Rattle.seam_entity.specs.Preparing.{node_with}
-use Rattle.seam_parts.specs.News.{state_of, word, said, listed, news}
+use Rattle.seam_haunt.specs.Telling.{word}
+use Rattle.seam_parts.specs.News.{state_of, said, listed, news}
 use Rattle.seam_parts.proofs.NewsLemmas.{news_more, news_same, news_end, left_later, left_without, left_none}
 use Rattle.seam_parts.proofs.news.tell.Goals as goal
 use Rattle.seam_parts.proofs.news.tell.Goals.{then-holds+in_ok-tell_cell, else-holds+else-holds-2}
