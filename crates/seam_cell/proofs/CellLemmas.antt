@@ -1,7 +1,7 @@
 -- Cells after what they hear of ghosts, and a cell without entities.
 use Rattle.std.proofs.Common.{◌≡◌, ◌<◌, ℕ, Bool, true, false, not, ◌&&◌, List, [], ◌∷◌, length, Option, None, Some}
 use Rattle.std.proofs.Common.{refl, sym, ap}
-use Rattle.std.proofs.Common.{◌∙◌, arith, map, Bor, option_copied, is_some}
+use Rattle.std.proofs.Common.{◌∙◌, arith, map, is_some}
 use Rattle.std.specs.List.{filter}
 use Rattle.std.specs.Ordering.{nat_cmp}
 use Rattle.std.specs.FinMap as table
@@ -26,10 +26,6 @@ use Rattle.seam_parts.specs.declared.reals.Reals.{Reals}
 use Rattle.seam_parts.specs.declared.places.Places.{Places}
 use Rattle.seam_parts.specs.declared.lists.Lists.{Lists}
 use Rattle.seam_parts.specs.Kept.{marked, AreWhole}
-
-pub none_there : {X : Type 0} (o : Option (Bor X)) (p : Option X) → option_copied o ≡ p → is_some o ≡ false → p ≡ None
-none_there None p e t = sym e
-none_there (Some x) p e t = cc
 
 pub third_decides : (a b c : Bool) → a ≡ true → b ≡ true → not c ≡ not (a && (b && c))
 third_decides true true c e f = refl

@@ -1,9 +1,2 @@
-pub mod KeptLemmas
 pub mod LoadLemmas
-pub mod RoundLemmas
 pub mod CellLemmas
-pub mod StepLemmas
-pub mod CallLemmas
-pub mod ReadyLemmas
-pub mod ArriveLemmas
-pub mod SurveyLemmas

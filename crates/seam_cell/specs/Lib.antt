@@ -1,5 +1,1 @@
-pub mod Calling
 pub mod Machines
-pub mod Arriving
-pub mod Beginning
-pub mod Surveying

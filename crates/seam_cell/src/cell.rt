@@ -17,18 +17,16 @@ ghost use Rattle.seam_steps.specs.Loads.{empty_cell, real_if, attached, cell_beg
 ghost use Rattle.seam_steps.specs.Maps.{set_at, has_any};
 ghost use Rattle.seam_steps.specs.Nodes.NodeView.{Cell as CellNode};
 ghost use Rattle.seam_entity.specs.Preparing.{node_with};
-ghost use Rattle.seam_cell.specs.Calling.{is_called, IsTurn, may_run};
+ghost use Rattle.seam_cell_cases.specs.Calling.{is_called, IsTurn, may_run};
 ghost use Rattle.seam_call.specs.declared.call.Call.{Call as AnyCall};
 ghost use Rattle.seam_call.specs.declared.shown.GhostCopy.{GhostCopy as AnyCopy};
 ghost use Rattle.seam_entity.specs.Reals.{RealView};
 
-use crate::arriving::arrive;
-use crate::calls::{Turn, execute_turn, hold, may_call, may_execute};
-use crate::loads::{Making, begin_round, give_witness, make_real};
-use crate::reaping::reap;
-use crate::surveying::survey_task;
-use crate::tasks::execute_ready;
 use seam_call::{Call, GhostCopy};
+use seam_cell_cases::{
+    Making, Turn, arrive, begin_round, execute_ready, execute_turn, give_witness, hold, make_real,
+    may_call, may_execute, reap, survey_task,
+};
 use seam_defs::{Defs, Settings};
 use seam_entity::{Msg, Parcel, fits_copy, is_small};
 use seam_ghosts::GhostBook;

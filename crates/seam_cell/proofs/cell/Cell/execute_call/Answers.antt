@@ -5,9 +5,9 @@ use Rattle.seam_entity.specs.declared.message.Msg.TheVariants.{Call}
 use Rattle.seam_steps.specs.Maps.{set_at}
 use Rattle.seam_steps.specs.Cells.{cell_steps}
 use Rattle.seam_parts.specs.Kept.{AreWhole}
-use Rattle.seam_cell.specs.Calling.{is_called, IsTurn}
+use Rattle.seam_cell_cases.specs.Calling.{is_called, IsTurn}
 use Rattle.seam_parts.specs.Stepping.{core_of}
-use Rattle.seam_cell.proofs.StepLemmas.{by_result, both_err, whole_after, whole_again, undone, turn_left}
+use Rattle.seam_cell_cases.proofs.StepLemmas.{by_result, both_err, whole_after, whole_again, undone, turn_left}
 use Rattle.seam_sight.proofs.ToldLemmas.{none_told}
 use Rattle.seam_cell.proofs.cell.Cell.execute_call.Goals as goal
 

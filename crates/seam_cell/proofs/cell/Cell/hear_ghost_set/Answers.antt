@@ -5,7 +5,8 @@ use Rattle.seam_entity.specs.declared.message.Msg.TheVariants.{GhostSet}
 use Rattle.seam_steps.specs.CellCases.{stray_ghost_set}
 use Rattle.seam_steps.specs.Cells.{cell_steps}
 use Rattle.seam_cell.specs.contracts.cell.Cell.{the_view}
-use Rattle.seam_cell.proofs.CellLemmas.{none_there, ghost_set_here, stray_set}
+use Rattle.seam_cell.proofs.CellLemmas.{ghost_set_here, stray_set}
+use Rattle.seam_cell_cases.proofs.Lookups.{none_there}
 use Rattle.seam_cell.proofs.cell.Cell.hear_ghost_set.Goals as goal
 
 pub returns-then-is_stray_set-clause-state : goal.returns-then-is_stray_set-clause-state

@@ -5,8 +5,8 @@ use Rattle.seam_machine.specs.declared.machines.Input.TheVariants.{From}
 use Rattle.seam_entity.specs.declared.message.Msg.TheVariants.{Call}
 use Rattle.seam_steps.specs.Cells.{cell_steps}
 use Rattle.seam_parts.specs.Kept.{AreWhole}
-use Rattle.seam_cell.specs.Calling.{is_called, IsTurn}
-use Rattle.seam_cell.proofs.StepLemmas.{by_result, whole_after, whole_again, held_sends, held_left, held_not}
+use Rattle.seam_cell_cases.specs.Calling.{is_called, IsTurn}
+use Rattle.seam_cell_cases.proofs.StepLemmas.{by_result, whole_after, whole_again, held_sends, held_left, held_not}
 use Rattle.seam_sight.proofs.ToldLemmas.{none_told}
 use Rattle.seam_cell.proofs.cell.Cell.hold_call.Goals as goal
 

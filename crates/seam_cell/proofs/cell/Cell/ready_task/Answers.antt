@@ -1,6 +1,6 @@
 use Rattle.std.proofs.Common.{◌≡◌, None, Some, ap, sym, option_copied, ◌∙◌}
 use Rattle.std.specs.FinMap as table
-use Rattle.seam_cell.proofs.StepLemmas.{ready_at, runs}
+use Rattle.seam_cell_cases.proofs.StepLemmas.{ready_at, runs}
 use Rattle.seam_cell.proofs.cell.Cell.ready_task.Goals as goal
 
 pub unreachable-requires : goal.unreachable-requires

@@ -1,4 +1,0 @@
-use Rattle.seam_cell.proofs.calls.hold.Goals as goal
-
-pub returns-in-Ok-clause-after : goal.returns-in-Ok-clause-after
-returns-in-Ok-clause-after c = c.in-Ok.ensures.after c.args.known.now.me c.args.known.now.settings

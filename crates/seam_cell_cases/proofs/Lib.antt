@@ -1,0 +1,8 @@
+pub mod Lookups
+pub mod KeptLemmas
+mod RoundLemmas
+pub mod StepLemmas
+mod CallLemmas
+mod ReadyLemmas
+mod ArriveLemmas
+mod SurveyLemmas

@@ -1,0 +1,42 @@
+use Rattle.std.proofs.Common.{sym, ap, subst, ◌∙◌}
+use Rattle.std.specs.Option.{unwrap_or}
+use Rattle.seam_tree.specs.Division.{IsInSpace}
+use Rattle.seam_entity.specs.Executing.{executed_ready}
+use Rattle.seam_parts.specs.Kept.{here_in}
+use Rattle.seam_parts.specs.Stepping.{HasBegun, parts_of}
+use Rattle.seam_cell_cases.proofs.KeptLemmas.{ready_there}
+use Rattle.seam_cell_cases.proofs.CallLemmas.{after_is}
+use Rattle.seam_cell_cases.proofs.ReadyLemmas.{readied, ready_later}
+use Rattle.seam_cell_cases.proofs.tasks.begin_ready.Goals as goal
+
+pub begin-requires-clause-inside : goal.begin-requires-clause-inside
+begin-requires-clause-inside c =
+    let k = c.args.known.now in
+    let r = c.args.real.now.core in
+    let task = readied r c.requires.ready in
+    let there = ready_there (here_in k) k.tree c.requires.size r task.order task.call task.is.order task.is.call c.requires.there in
+    subst (λ s. IsInSpace k.tree s.pos) (sym (c.in_ok-after.ensures.state k.me k.settings task.order task.call task.is)) there.inside
+
+pub returns-clause-state : goal.returns-clause-state
+returns-clause-state c = c.in_ok-after.ensures.state c.args.known.now.me c.args.known.now.settings
+
+pub returns-clause-changed : goal.returns-clause-changed
+returns-clause-changed c = c.in_ok-after.ensures.changed c.args.known.now.me c.args.known.now.settings
+
+pub returns-clause-begun : goal.returns-clause-begun
+returns-clause-begun c o call is =
+    let k = c.args.known.now in
+    let r = c.args.real.now.core in
+    let q = c.prepare_ready.new.self.core in
+    let state = c.in_ok-after.ensures.state k.me k.settings o call is in
+    let changed = c.in_ok-after.ensures.changed k.me k.settings o call is in
+    let same = c.prepare_ready.ensures.same in
+    let of = c.in_ok-after.after in
+    let props = c.props_over.ensures ∙ ap (λ s. unwrap_or of.props s.props) (c.state.ensures ∙ ap (λ x. x.state) same) in
+    let before = parts_of c.args.places.now c.args.out.now in
+    let after = parts_of c.begin.new.places c.begin.new.out in
+    subst (λ b. HasBegun (here_in k) k.tree (executed_ready (here_in k) r o call) b before after c.in_ok-begun.begun) changed
+    (c.in_ok-begun.ensures.begun (executed_ready (here_in k) r o call) (ready_later (here_in k) r q o call same)
+    (sym (c.ty.ensures ∙ ap (λ x. x.ty) same))
+    (sym (c.version_after.ensures call ∙ ap (λ x. x.public) (after_is (here_in k) r q c.in_ok-after.after call same state changed)))
+    (sym state ∙ (λ i. record { pos = of.pos; props = sym props i })))

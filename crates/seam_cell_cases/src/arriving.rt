@@ -1,0 +1,150 @@
+//! A real comes to a cell.
+
+ghost use Rattle.std.specs.Prelude.{◌≡◌, ℕ, ◌<◌, ◌≤◌, ◌++◌, is_some, None, IfErr, OnOk, OnErr, map};
+ghost use Rattle.std.specs.List.{list_all, range_with_len};
+ghost use Rattle.std.specs.FinMap as table;
+ghost use Rattle.seam_ghosts.specs.Book.{ghost_after};
+ghost use Rattle.seam_machine.specs.declared.machines.Input.TheVariants.{From};
+ghost use Rattle.seam_defs.specs.declared.limits.TheConstants.{MOST_BASE_NODES};
+ghost use Rattle.seam_entity.specs.Here.{cell_numbers};
+ghost use Rattle.seam_entity.specs.declared.message.Msg.TheVariants as msg;
+ghost use Rattle.seam_steps.specs.Maps.{set_at};
+ghost use Rattle.seam_steps.specs.CellCases.{may_come as real_may_come, is_in_tree as real_is_in_tree};
+ghost use Rattle.seam_steps.specs.CellCases.{has_small_numbers as numbers_are_small};
+ghost use Rattle.seam_steps.specs.CellCases.{currents};
+ghost use Rattle.seam_steps.specs.Cells.{cell_steps};
+ghost use Rattle.seam_parts.specs.Kept.{here_in, cell_of, AreKept, IsOpen};
+ghost use Rattle.seam_cell_cases.specs.Arriving.{current_of, is_cell_in};
+ghost use Rattle.seam_parts.specs.declared.lists.Lists.{Lists as AnyLists};
+
+use seam_entity::{Msg, Parcel, Real, is_small};
+use seam_machine::Out;
+use seam_memory::NoMemoryFor;
+use seam_parts::{CopyBook, Known, Next, Places, Reals, close, make_place, put_in};
+use seam_table::Table;
+use seam_tree::{CellSet, MOST_CELLS, Tree};
+use std::alloc::AllocError;
+
+// Whether all cells of the set are in the tree, whose cells have the least numbers.
+fn are_cells(tree: &Tree, haunts: CellSet) -> bool
+    ensures { result ≡ list_all (is_cell_in haunts tree.now) cell_numbers }
+{
+    haunts.are_below(tree.cells())
+}
+
+// Whether this cell and the real's haunts are cells of the tree.
+fn is_in_tree(known: &Known, real: &Real) -> bool
+    ensures { result ≡ real_is_in_tree (here_in known.now) known.now.tree real.now.core }
+{
+    known.me < known.tree.cells() && are_cells(&known.tree, real.haunts())
+}
+
+// Whether beat, generation and version are small.
+fn has_small_numbers(real: &Real) -> bool
+    ensures { result ≡ numbers_are_small real.now.core }
+{
+    is_small(real.beat()) && (is_small(real.generation()) && is_small(real.version()))
+}
+
+// Whether the real fits, its haunts and this cell are in the tree, and its numbers are small.
+fn may_come(known: &Known, real: &Real) -> bool
+    ensures { result ≡ real_may_come (here_in known.now) known.now.tree real.now.core }
+{
+    real.fits(&known.defs, &known.settings) && (is_in_tree(known, real) && has_small_numbers(real))
+}
+
+// Makes room for the real, and for what is told of it, and drops the own book's copy. If allocation fails, nothing has changed.
+fn make_way(
+    known: &Known,
+    real: &Real,
+    reals: &mut Reals,
+    copies: &mut CopyBook,
+    out: &mut Out<Msg>,
+) -> Result<(), AllocError>
+    requires gone { table.get reals.old.items.items real.now.core.entity ≡ None }
+    requires marks { AreKept reals.old }
+    ensures same_reals { reals.new.items.items ≡ reals.old.items.items }
+    ensures same_out { out.new.items ≡ out.old.items }
+    ensures open { OnOk result (IsOpen reals.new real.now.core.entity (is_some real.now.core.witness)) }
+    ensures ghosts { OnOk result (copies.new.ghosts ≡ set_at copies.old.ghosts real.now.core.entity
+        (ghost_after (table.get copies.old.ghosts real.now.core.entity) (record { beat = real.now.core.beat; copy = None }))) }
+    ensures spare { OnOk result (known.now.settings.bases ≤ out.new.spare) }
+    ensures err_ghosts { OnErr result (copies.new.ghosts ≡ copies.old.ghosts) }
+    ensures err_marks { OnErr result (AreKept reals.new) }
+{
+    let e = real.entity();
+    out.reserve(known.settings.bases as usize)?;
+    make_place(reals, e, real.has_witness())?;
+    if let Err(error) = copies.drop_copy(e, real.beat()) {
+        close(reals, e);
+        return Err(error);
+    }
+    Ok(())
+}
+
+// Tells each base node, in rising number, that the entity's real is here, in room that was made before.
+fn tell_bases(known: &Known, e: u32, generation: u64, out: &mut Out<Msg>)
+    requires most { known.now.settings.bases ≤ MOST_BASE_NODES }
+    requires room { known.now.settings.bases ≤ out.old.spare }
+    ensures { out.new.items ≡ out.old.items ++ map (current_of e known.now.me generation) (range_with_len 16 known.now.settings.bases) }
+{
+    for k in 0..known.settings.bases as u8 {
+        out.send(MOST_CELLS as u8 + k, Msg::Current(e, known.me, generation));
+    }
+}
+
+// Puts the real in its place: its next place goes, and the base nodes are told. It takes no memory.
+fn settle_in(
+    known: &Known,
+    real: Real,
+    reals: &mut Reals,
+    nexts: &mut Table<Next>,
+    out: &mut Out<Msg>,
+)
+    requires most { known.now.settings.bases ≤ MOST_BASE_NODES }
+    requires open { IsOpen reals.old real.core.entity (is_some real.core.witness) }
+    requires spare { known.now.settings.bases ≤ out.old.spare }
+    ensures reals { reals.new.items.items ≡ table.insert reals.old.items.items real.core.entity real.core }
+    ensures nexts { nexts.new.items ≡ table.remove nexts.old.items real.core.entity }
+    ensures sent { out.new.items ≡ out.old.items ++ currents (here_in known.now) real.core }
+    ensures marks { AreKept reals.new }
+{
+    let e = real.entity();
+    let _next = nexts.remove(e);
+    tell_bases(known, e, real.generation(), out);
+    put_in(reals, e, real);
+}
+
+/// Hand-over comes: the real is put in its place, with the calls that it holds, its witness and its haunts; its next place goes, the
+/// own book drops the copy at the real's beat, and every base node is told.
+pub fn arrive(
+    known: &Known,
+    parcel: Parcel,
+    reals: &mut Reals,
+    places: &mut Places,
+    out: &mut Out<Msg>,
+) -> Result<(), NoMemoryFor<Parcel>>
+    requires marks { AreKept reals.old }
+    requires most { known.now.settings.bases ≤ MOST_BASE_NODES }
+    ensures state { (l : AnyLists) (from : ℕ) → OnOk result (cell_of known.now reals.new places.new l
+        ≡ (cell_steps (cell_of known.now reals.old places.old l) (From from (msg.Hand parcel))).state) }
+    ensures sent { (l : AnyLists) (from : ℕ) → OnOk result (out.new.items ≡ out.old.items
+        ++ (cell_steps (cell_of known.now reals.old places.old l) (From from (msg.Hand parcel))).sent) }
+    ensures err { (l : AnyLists) → OnErr result (cell_of known.now reals.new places.new l ≡ cell_of known.now reals.old places.old l) }
+    ensures err_out { OnErr result (out.new.items ≡ out.old.items) }
+    ensures err_item { IfErr result (λ r. r.item ≡ parcel) }
+    ensures marks { AreKept reals.new }
+{
+    if reals.items.get(parcel.real.entity()).is_some() {
+        return Ok(());
+    }
+    if !may_come(known, &parcel.real) {
+        return Ok(());
+    }
+    if make_way(known, &parcel.real, reals, &mut places.copies, out).is_err() {
+        return Err(NoMemoryFor { item: parcel });
+    }
+    let Parcel { real } = parcel;
+    settle_in(known, real, reals, &mut places.nexts, out);
+    Ok(())
+}

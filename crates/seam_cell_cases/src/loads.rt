@@ -1,0 +1,104 @@
+//! What the loads do to the reals of a cell.
+
+ghost use Rattle.std.specs.Prelude.{◌≡◌, [], OnOk, OnErr, IfOk, None};
+ghost use Rattle.std.specs.FinMap as table;
+ghost use Rattle.seam_entity.specs.Executing.{created, real_begins};
+ghost use Rattle.seam_entity.specs.Looks.{with_witness};
+ghost use Rattle.seam_steps.specs.Maps.{each_value};
+ghost use Rattle.seam_parts.specs.Kept.{here_in, AreKept};
+ghost use Rattle.seam_cell_cases.specs.Beginning.{changed_at};
+
+use seam_entity::{Real, Witness};
+use seam_geo::Pos;
+use seam_parts::{EntityQueue, EntityRow, Known, RealTable, Reals, make_place, put_in, take_out};
+use std::alloc::{AllocError, Global};
+
+/// A real that is to be made.
+#[derive(Clone, Copy, Debug)]
+pub struct Making {
+    pub entity: u32,
+    pub ty: u16,
+    pub pos: Pos,
+}
+
+/// Makes the real of an entity of which none is here.
+pub fn make_real(
+    alloc: Global,
+    known: &Known,
+    making: Making,
+    reals: &mut Reals,
+) -> Result<(), AllocError>
+    requires gone { table.get reals.old.items.items making.entity ≡ None }
+    requires kept { AreKept reals.old }
+    ensures after { OnOk result (reals.new.items.items ≡ table.insert reals.old.items.items making.entity
+        (created (here_in known.now) making.entity making.ty making.pos)) }
+    ensures err { OnErr result (reals.new.items.items ≡ reals.old.items.items) }
+    ensures kept { AreKept reals.new }
+{
+    let e = making.entity;
+    let real = Real::create(alloc, &known.defs, e, making.ty, making.pos)?;
+    make_place(reals, e, false)?;
+    put_in(reals, e, real);
+    Ok(())
+}
+
+/// Gives the entity's real, if it is here, a witness that has told nothing.
+pub fn give_witness(
+    alloc: Global,
+    known: &Known,
+    e: u32,
+    reals: &mut Reals,
+) -> Result<(), AllocError>
+    requires { AreKept reals.old }
+    ensures after { OnOk result (reals.new.items.items ≡ changed_at (with_witness (here_in known.now)) reals.old.items.items e) }
+    ensures err { OnErr result (reals.new.items.items ≡ reals.old.items.items) }
+    ensures kept { AreKept reals.new }
+{
+    if reals.items.get(e).is_none() {
+        return Ok(());
+    }
+    let witness = Witness::new(alloc, &known.settings)?;
+    let mut real = take_out(reals, e)?;
+    if let Err(error) = reals.witnesses.insert(e) {
+        put_in(reals, e, real);
+        return Err(error);
+    }
+    real.put_witness(witness);
+    put_in(reals, e, real);
+    Ok(())
+}
+
+// The entities of all reals, in a row that has none yet.
+fn all_entities(
+    alloc: Global,
+    mut all: EntityRow,
+    items: &RealTable,
+) -> Result<EntityRow, AllocError>
+    requires { all ≡ [] }
+    ensures { IfOk result (λ s. s ≡ table.keys items.now.items) }
+{
+    let entities = items.entities(alloc)?;
+    for e in &entities {
+        all.push(*e)?;
+    }
+    Ok(all)
+}
+
+/// Begins a round, in which no real has done anything yet and all are to settle.
+pub fn begin_round(
+    alloc: Global,
+    reals: &mut Reals,
+    survey: &mut EntityQueue,
+) -> Result<(), AllocError>
+    requires { AreKept reals.old }
+    ensures reals { OnOk result (reals.new.items.items ≡ each_value real_begins reals.old.items.items) }
+    ensures survey { OnOk result (survey.new ≡ table.keys reals.old.items.items) }
+    ensures kept { AreKept reals.new }
+    ensures err { OnErr result (reals.new.items.items ≡ reals.old.items.items) }
+    ensures err_survey { OnErr result (survey.new ≡ survey.old) }
+{
+    let all = all_entities(alloc, survey.spare(), &reals.items)?;
+    reals.items.start_round();
+    *survey = EntityQueue::of(all);
+    Ok(())
+}
